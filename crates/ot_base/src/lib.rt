@@ -2,11 +2,17 @@
 #![tactic(auto)]
 
 mod memory;
+mod names;
 mod options;
 mod place;
 mod row;
+mod text;
+mod warning;
 
 pub use memory::NoMemory;
+pub use names::Names;
 pub use options::Options;
 pub use place::Place;
 pub use row::{PlacedRow, Row};
+pub use text::{Escaped, PlaceText, RowLine, RowWords, WarningLine, row_text, warning_text};
+pub use warning::Warning;

@@ -1,0 +1,3 @@
+pub mod PlaceText
+pub mod RowText
+pub mod WarningText
