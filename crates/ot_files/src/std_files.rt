@@ -1,0 +1,74 @@
+//! The files of the system: the trusted edge.
+ghost use Rattle.std.specs.Prelude.{◌≡◌, ◌≤◌, None};
+ghost use Rattle.ot_files.specs.Causes.{raised};
+
+use crate::access::{FileError, Files};
+use std::fs;
+use std::io::{ErrorKind, Read};
+use std::marker::Model;
+use std::rt::Files as SystemFiles;
+
+/// The files of the system that a runtime reaches. They tell no content, and count each call that
+/// fails; a file that is missing or too long is no failure.
+#[derive(Drop)]
+pub struct StdFiles<R> {
+    runtime: R,
+    faults: u64,
+}
+
+impl<R> Model for StdFiles<R> {
+    ghost use Rattle.std.specs.Prelude.{ℕ};
+
+    ghost Value = { ℕ };
+
+    ghost view = { λ s. s.faults };
+}
+
+impl<R: SystemFiles> StdFiles<R> {
+    /// The files that the runtime reaches, with no fault so far.
+    pub fn new(runtime: R) -> StdFiles<R>
+        ensures { result ≡ 0 }
+    {
+        StdFiles { runtime, faults: 0 }
+    }
+
+    fn fault(&mut self) -> FileError
+        ensures answer { result ≡ FileError.Failed }
+        ensures counted { self.new ≡ raised self.old }
+        ensures later { self.old ≤ self.new }
+    {
+        self.faults = self.faults.saturating_add(1);
+        FileError::Failed
+    }
+}
+
+impl<R: SystemFiles> Files for StdFiles<R> {
+    ghost content = { λ _. None };
+
+    ghost faults = { λ s. s };
+
+    fn read(&mut self, name: &str, limit: u64, into: &mut Vec<u8>) -> Result<(), FileError> {
+        into.clear();
+        let file = match fs::open(&self.runtime, name) {
+            Ok(file) => file,
+            Err(e) if e.kind() == ErrorKind::NotFound => return Err(FileError::Missing),
+            Err(_) => return Err(self.fault()),
+        };
+        let read = file.take(limit.saturating_add(1)).read_to_end(into);
+        let error = match read {
+            Ok(_) if into.len() as u64 <= limit => return Ok(()),
+            Ok(_) => FileError::TooLong { limit },
+            Err(e) if e.kind() == ErrorKind::OutOfMemory => FileError::NoMemory,
+            Err(_) => self.fault(),
+        };
+        into.clear();
+        Err(error)
+    }
+
+    fn write(&mut self, name: &str, bytes: &[u8]) -> Result<(), FileError> {
+        match fs::write(&self.runtime, name, bytes) {
+            Ok(()) => Ok(()),
+            Err(_) => Err(self.fault()),
+        }
+    }
+}
