@@ -1,0 +1,11 @@
+pub mod Address
+pub mod Region
+pub mod Frame
+pub mod Effect
+pub mod State
+pub mod Order
+pub mod Move
+pub mod Row
+pub mod Rules
+pub mod Sound
+pub mod Worked
