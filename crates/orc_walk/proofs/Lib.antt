@@ -1,0 +1,4 @@
+pub mod LastRow
+pub mod WalkLaws
+pub mod OneSection
+pub mod AmongOthers

@@ -1,0 +1,6 @@
+pub mod Fields
+pub mod Placement
+pub mod Lookup
+pub mod Walk
+pub mod Laws
+pub mod Worked
