@@ -1,0 +1,11 @@
+pub mod Program
+pub mod Machine
+pub mod Step
+pub mod Run
+pub mod MayReturn
+pub mod Kept
+pub mod Broken
+pub mod Rows
+pub mod IsProgram
+pub mod Law
+pub mod Worked
