@@ -1,0 +1,203 @@
+ghost use Rattle.std.specs.Prelude.{◌≡◌};
+ghost use Rattle.x86_map.specs.Form.{
+  allows,
+  accepts,
+  is_in_mode,
+  is_within,
+  takes,
+  has_modrm,
+  imm_len,
+  shape_of,
+  look_form,
+};
+
+use crate::prefixes::Prefixes;
+use crate::shape::{Look, Shape, Write};
+
+/// What the mod field of a ModRM byte may be.
+#[derive(Clone, Copy)]
+pub enum Mode {
+    /// Memory or a register (E in appendix A).
+    Either,
+    /// Memory alone: mod 0, 1 or 2 (M).
+    Memory,
+    /// A register alone: mod 3 (R).
+    Register,
+}
+
+/// Which ModRM bytes follow an opcode.
+#[derive(Clone, Copy)]
+pub enum Operand {
+    /// No ModRM byte follows.
+    NoModrm,
+    /// Those of this mode with a reg field from `first` to `last` (/digit in the SDM).
+    Digits { mode: Mode, first: u8, last: u8 },
+    /// The bytes from `first` to `last`.
+    Bytes { first: u8, last: u8 },
+}
+
+/// The immediate, by the SDM's letters; a relative displacement counts as one.
+#[derive(Clone, Copy)]
+pub enum Immediate {
+    /// None.
+    NoImmediate,
+    /// One byte.
+    Ib,
+    /// Two bytes.
+    Iw,
+    /// Two bytes and one more, of ENTER.
+    IwIb,
+    /// Two bytes under 66 without REX.W, else four.
+    Iz,
+    /// Eight bytes under REX.W, else as Iz.
+    Iv,
+    /// The eight bytes of an address.
+    Moffs,
+}
+
+/// Whether a prefix may stand before an opcode.
+#[derive(Clone, Copy)]
+pub enum Rule {
+    /// It may.
+    May,
+    /// It has to.
+    Must,
+    /// It may not.
+    MustNot,
+}
+
+/// Which prefixes an opcode asks for and refuses. All others may stand.
+#[derive(Clone, Copy)]
+pub struct Rules {
+    /// 66.
+    pub opsize: Rule,
+    /// 67.
+    pub addrsize: Rule,
+    /// F3.
+    pub rep: Rule,
+    /// F2.
+    pub repne: Rule,
+    /// REX.B.
+    pub rex_b: Rule,
+}
+
+/// The form of the instructions that an opcode begins.
+#[derive(Clone, Copy)]
+pub struct Form {
+    /// Which ModRM bytes follow.
+    pub operand: Operand,
+    /// The immediate.
+    pub immediate: Immediate,
+    /// Whether the written registers are byte registers.
+    pub byte: bool,
+    /// Which register is written.
+    pub write: Write,
+    /// Under which prefixes.
+    pub rules: Rules,
+}
+
+impl Rule {
+    fn allows(self, present: bool) -> bool
+        ensures { result ≡ allows self present }
+    {
+        match self {
+            Rule::May => true,
+            Rule::Must => present,
+            Rule::MustNot => !present,
+        }
+    }
+}
+
+impl Rules {
+    fn accept(&self, p: &Prefixes) -> bool
+        ensures { result ≡ accepts self.now p.now }
+    {
+        self.opsize.allows(p.opsize)
+            && self.addrsize.allows(p.addrsize)
+            && self.rep.allows(p.rep)
+            && self.repne.allows(p.repne)
+            && self.rex_b.allows(p.rex_b())
+    }
+}
+
+impl Mode {
+    fn holds(self, modrm_mod: u8) -> bool
+        ensures { result ≡ is_in_mode self modrm_mod }
+    {
+        match self {
+            Mode::Either => true,
+            Mode::Memory => modrm_mod < 3,
+            Mode::Register => modrm_mod == 3,
+        }
+    }
+}
+
+impl Operand {
+    fn has_modrm(self) -> bool
+        ensures { result ≡ has_modrm self }
+    {
+        match self {
+            Operand::NoModrm => false,
+            Operand::Digits { .. } | Operand::Bytes { .. } => true,
+        }
+    }
+
+    fn takes(self, modrm: u8) -> bool
+        ensures { result ≡ takes self modrm }
+    {
+        match self {
+            Operand::NoModrm => false,
+            Operand::Digits { mode, first, last } => {
+                let reg = modrm / 8 % 8;
+                mode.holds(modrm / 64) && first <= reg && reg <= last
+            }
+            Operand::Bytes { first, last } => first <= modrm && modrm <= last,
+        }
+    }
+}
+
+impl Immediate {
+    fn len(self, p: &Prefixes) -> u8
+        ensures { result ≡ imm_len self p.now }
+    {
+        match self {
+            Immediate::NoImmediate => 0,
+            Immediate::Ib => 1,
+            Immediate::Iw => 2,
+            Immediate::IwIb => 3,
+            Immediate::Iz => if p.opsize && !p.rex_w() { 2 } else { 4 },
+            Immediate::Iv if p.rex_w() => 8,
+            Immediate::Iv => if p.opsize { 2 } else { 4 },
+            Immediate::Moffs => 8,
+        }
+    }
+}
+
+impl Form {
+    fn shape(&self, p: &Prefixes) -> Shape
+        ensures { result ≡ shape_of self.now p.now }
+    {
+        Shape {
+            modrm: self.operand.has_modrm(),
+            imm: self.immediate.len(p),
+            byte: self.byte,
+            write: self.write,
+        }
+    }
+
+    /// What this form says of the prefixes, and of a ModRM byte where one is given.
+    #[tactic(auto, unfolding(crate::specs::Form::look_form))]
+    pub(crate) fn look(&self, p: &Prefixes, modrm: Option<u8>) -> Look
+        ensures { result ≡ look_form self.now p.now modrm }
+    {
+        if !self.rules.accept(p) {
+            return Look::Refused;
+        }
+        match modrm {
+            None if self.operand.has_modrm() => Look::NeedModrm,
+            None => Look::Fits(self.shape(p)),
+            Some(modrm) if self.operand.takes(modrm) => Look::Fits(self.shape(p)),
+            Some(_) => Look::Refused,
+        }
+    }
+}

@@ -1,0 +1,19 @@
+//! The opcode map of x86-64 in 64-bit mode: which opcodes, ModRM bytes and prefixes go together, how long the
+//! immediate is and which register is written (Intel SDM, volume 2, chapter 2 and appendix A). It has the
+//! general-purpose and system instructions; the vector instructions are left out.
+#![tactic(auto)]
+
+mod form;
+mod group;
+mod one_byte;
+mod opcode_map;
+mod prefixes;
+mod shape;
+mod three_byte;
+mod two_byte;
+mod words;
+
+pub use form::{Form, Immediate, Mode, Operand, Rule, Rules};
+pub use opcode_map::{accepts_some, lookup};
+pub use prefixes::Prefixes;
+pub use shape::{Look, Shape, Write};

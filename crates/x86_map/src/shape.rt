@@ -1,0 +1,38 @@
+/// Which general register an instruction writes, beside what it does to the stack.
+#[derive(Clone, Copy, Debug, PartialEq, Eq)]
+pub enum Write {
+    /// None.
+    Nothing,
+    /// The rm field's register, where mod is 3.
+    Rm,
+    /// The reg field's register.
+    Reg,
+    /// The registers of both fields.
+    Both,
+    /// The register in the low three bits of the opcode.
+    Opcode,
+}
+
+/// What follows the opcode, and what is written.
+#[derive(Clone, Copy, Debug, PartialEq, Eq)]
+pub struct Shape {
+    /// Whether a ModRM byte follows the opcode.
+    pub modrm: bool,
+    /// How many bytes the immediate has, or the address of A0 to A3.
+    pub imm: u8,
+    /// Whether the written registers are byte registers: there the numbers 4 to 7 without a REX are AH, CH, DH and BH.
+    pub byte: bool,
+    /// Which register is written.
+    pub write: Write,
+}
+
+/// What the opcode map says of prefixes and an opcode, and of a ModRM byte where one is given.
+#[derive(Clone, Copy, Debug, PartialEq, Eq)]
+pub enum Look {
+    /// No instruction has them.
+    Refused,
+    /// A ModRM byte follows, which wasn't given.
+    NeedModrm,
+    /// Instructions have them, all of this shape.
+    Fits(Shape),
+}
