@@ -1,3 +1,6 @@
+pub mod ListsFault
+pub mod NameLists
+pub mod NamesFile
 pub mod PlaceText
 pub mod RowText
 pub mod WarningText

@@ -1,7 +1,9 @@
 //! Places, rows and options: the words that every other crate speaks in.
 #![tactic(auto)]
 
+mod lists;
 mod memory;
+mod name_set;
 mod names;
 mod options;
 mod place;
@@ -9,6 +11,7 @@ mod row;
 mod text;
 mod warning;
 
+pub use lists::{Lists, ListsFault, ListsWhy};
 pub use memory::NoMemory;
 pub use names::Names;
 pub use options::Options;
