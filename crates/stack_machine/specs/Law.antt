@@ -1,7 +1,8 @@
 -- The unwinding law: an accepted program's stack can be told at every point of every run.
-use Rattle.std.specs.Prelude.{◌≡◌, ℕ, ◌⊎◌, true, false, List, [], ◌∷◌, Option, Some, None, IfSome, MatchBool}
+use Rattle.std.specs.Prelude.{◌≡◌, ℕ, ◌⊎◌, true, false, List, [], ◌∷◌, Option, Some, None, IfSome, MatchBool, All, ◌≤◌}
 use Rattle.machine_ops.specs.declared.state.State.{State}
 use Rattle.machine_ops.specs.Address.{down}
+use Rattle.machine_ops.specs.Region.{hi_of}
 use Rattle.machine_ops.specs.Frame.{Slot, is_of_call, Frame, Mark, listed, AreKept, LieAbove, with_top_slot}
 use Rattle.machine_ops.specs.State.{ended_by, MeansTop}
 use Rattle.stack_machine.specs.Program.{Program, IsPoint, is_call}
@@ -16,6 +17,7 @@ use Rattle.stack_machine.specs.IsProgram.{IsProgram}
 -- state, or one over saved registers, means rsp, rbp and the top frame; and the frames that a walk is
 -- to find have their protected slots, at or above rsp, with their values.
 pub record HasRunInvariant (p : Program) (s : Standing) : Type 0 where
+  pub point : IsPoint p s.point
   pub state : State
   pub kept : Kept p s.point state
   pub ended : s.ended ≡ ended_by state
@@ -82,8 +84,10 @@ AreFrames p bases standing (f ∷ fs) =
     (IsOutermostFrame p bases f fs × (f.call ≡ None))
     ⊎ ((call : ℕ) × (f.call ≡ Some call) × IsInnerFrame p bases standing call f fs × AreFrames p bases call fs)
 
+-- the frames and the mark are in order, and no frame ends above the stack
 pub record HasFrameInvariant (p : Program) (bases : Bases) (s : Standing) : Type 0 where
   pub frames : AreFrames p bases s.point s.core.shadow
+  pub below_hi : All (λ f. f.cfa ≤ hi_of s.core.region) s.core.shadow
   pub mark : AreMarksKept p s.mark s.core.shadow
 
 -- what holds of a state of a run: both invariants, and its stack isn't wrecked

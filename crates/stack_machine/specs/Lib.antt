@@ -1,5 +1,6 @@
 pub mod Program
 pub mod Machine
+pub mod Hint
 pub mod Step
 pub mod Run
 pub mod MayReturn

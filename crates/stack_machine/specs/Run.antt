@@ -11,7 +11,8 @@ use Rattle.machine_ops.specs.Frame.{Slot, Unsaved, is_of_call, Frame}
 use Rattle.machine_ops.specs.Effect.{Core, IsInStack}
 use Rattle.stack_machine.specs.Program.{Program, IsPoint, Site, in_site, entry_points}
 use Rattle.stack_machine.specs.Machine.{Bases, IsOutside, Standing, Machine, Wrecked, At}
-use Rattle.stack_machine.specs.Step.{Lands, Step}
+use Rattle.stack_machine.specs.Hint.{Lands}
+use Rattle.stack_machine.specs.Step.{Step}
 
 -- a frame that was there at the start
 abbrev pub outermost : ℕ → ℕ → ℕ → Slot → Bool → Frame

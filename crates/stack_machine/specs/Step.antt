@@ -1,23 +1,21 @@
 -- The steps of the stack machine. Where more than one line fits, each is a possible step: an
 -- alternatives site may be in any of its variants, a static branch or an exception entry may be taken
 -- or not, an indirect branch may go to any of its targets, and an interrupt may come anywhere.
-use Rattle.std.specs.Prelude.{◌≡◌, ◌≢◌, ℕ, ◌+◌, ◌-◌, ◌%◌, ◌⊎◌, Bool, true, false, not, List, [], ◌∷◌, Option, Some, None, Contains, IsTrue, pos, if◌then◌else◌}
+use Rattle.std.specs.Prelude.{◌≡◌, ◌≢◌, ℕ, ◌+◌, ◌-◌, ◌%◌, ◌⊎◌, Bool, true, false, not, List, [], ◌∷◌, Some, None, Contains, IsTrue, pos}
 use Rattle.machine_ops.specs.declared.op.Op.TheVariants.{RetImm, Iret}
 use Rattle.machine_ops.specs.declared.flow.EdgeKind.{EdgeKind}
 use Rattle.machine_ops.specs.declared.flow.EdgeKind.TheVariants.{Fixup, Sibling}
 use Rattle.machine_ops.specs.declared.flow.Role.{Role}
 use Rattle.machine_ops.specs.declared.flow.Role.TheVariants.{CallIn, CallEither, CallOut, CallAny, Return, JumpOut, JumpAny}
-use Rattle.machine_ops.specs.declared.state.State.{State}
-use Rattle.machine_ops.specs.declared.state.State.TheVariants.{Live, Ended, Regs}
-use Rattle.machine_ops.specs.declared.state.HintState.{HintState}
-use Rattle.machine_ops.specs.declared.state.HintState.TheVariants.{Set, Save, Restore}
-use Rattle.machine_ops.specs.Address.{up, down, shifted}
+use Rattle.machine_ops.specs.declared.state.State.TheVariants.{Regs}
+use Rattle.machine_ops.specs.declared.state.HintState.TheVariants.{Set}
+use Rattle.machine_ops.specs.Address.{up, down}
 use Rattle.machine_ops.specs.Region.{Region, Reads, WritesOnly, WritesWord, Stores}
-use Rattle.machine_ops.specs.Frame.{Slot, Unsaved, PartialAt, FullAt, is_of_call, Frame, Mark, top_slot, protected_addresses, listed, AreKept, with_top_slot}
+use Rattle.machine_ops.specs.Frame.{Unsaved, PartialAt, is_of_call, Frame, protected_addresses}
 use Rattle.machine_ops.specs.Effect.{Core, StoresOrdinarily, Effect}
-use Rattle.machine_ops.specs.State.{MeansTop}
 use Rattle.stack_machine.specs.Program.{Program, IsPoint, Site, in_site, entry_points, edge, is_local}
 use Rattle.stack_machine.specs.Machine.{Bases, Standing, Machine, Wrecked, At, point_address, return_address}
+use Rattle.stack_machine.specs.Hint.{Lands}
 
 -- the end of the stack and the mark stay
 pub record SameLevel (before after : Standing) : Type 0 where
@@ -222,58 +220,6 @@ pub record ReturnsFromInterrupt (p : Program) (s t : Standing) : Type 0 where
   pub core : t.core ≡ record s.core { rsp = frame.cfa; ac = frame.ac; shadow = below }
   pub ended : t.ended ≡ frame.ended_caller
   pub mark : t.mark ≡ frame.mark_caller
-
--- True hints. The frames that a walk is to find keep their protected slots.
-abbrev pub KeepsSlots : Standing → Type 0
-KeepsSlots s = AreKept s.core.rsp s.core.region (listed s.ended s.core.shadow)
-
--- the top frame is an interrupt's
-abbrev pub IsInInterrupt : List Frame → Type 0
-IsInInterrupt [] = ⊥
-IsInInterrupt (f ∷ fs) = is_of_call f.slot ≡ false
-
--- where a hint says that saved registers stand
-abbrev pub hinted_slot : Bool → ℕ → Slot
-hinted_slot full address = if full then FullAt address else PartialAt address
-
--- what rsp, rbp, the top frame's slot and the end of the stack are here
-abbrev pub mark_at : Standing → Mark
-mark_at s = record { point = s.point; rsp = s.core.rsp; rbp = s.core.rbp; slot = top_slot s.core.shadow; ended = s.ended }
-
--- a hint's state is true where it is what rsp, rbp and the frames mean; of saved registers, with the
--- top frame's slot set where the hint says
-abbrev pub SetsState : State → Standing → Standing → Type 0
-SetsState (Live depth fp bp) s t =
-    (t ≡ record s { ended = None }) × MeansTop (Live depth fp bp) s.core.rsp s.core.rbp s.core.shadow × KeepsSlots t
-SetsState (Ended kind) s t = t ≡ record s { ended = Some kind }
-SetsState (Regs full depth) s t =
-    (t ≡ record s { core = record s.core { shadow = with_top_slot (λ _. hinted_slot full (shifted s.core.rsp depth)) s.core.shadow }; ended = None })
-    × IsInInterrupt s.core.shadow
-    × MeansTop (Regs full depth) t.core.rsp t.core.rbp t.core.shadow
-    × KeepsSlots t
-
--- a RESTORE is true where the last SAVE is the one that it means, and rsp, rbp and the top frame's
--- slot are what they were there
-pub record Restores (save : Option ℕ) (s t : Standing) : Type 0 where
-  pub mark : Mark
-  pub last : s.mark ≡ Some mark
-  pub meant : save ≡ Some mark.point
-  pub rsp : s.core.rsp ≡ mark.rsp
-  pub rbp : s.core.rbp ≡ mark.rbp
-  pub slot : top_slot s.core.shadow ≡ mark.slot
-  pub after : t ≡ record s { ended = mark.ended }
-  pub slots : KeepsSlots t
-
--- The machine has come to a point, and the hint there, if there is one, is true and does its work:
--- from the state before the hint to the one after it.
-abbrev pub Hinted : Option HintState → Option ℕ → Standing → Standing → Type 0
-Hinted None save s t = t ≡ s
-Hinted (Some (Set state)) save s t = SetsState state s t
-Hinted (Some Save) save s t = t ≡ record s { mark = Some (mark_at s) }
-Hinted (Some Restore) save s t = Restores save s t
-
-abbrev pub Lands : Program → Standing → Standing → Type 0
-Lands p s t = Hinted (p.hint s.point) (p.save_of s.point) s t
 
 -- A step of the machine. A far branch or a system call has no step but those of its exception entries
 -- and of interrupts, and nor has a return from an interrupt where the stack has ended. After a return
