@@ -1,0 +1,11 @@
+//! How the stack moves: the state before an instruction, and the state that the instruction leaves.
+#![tactic(auto)]
+
+mod live;
+mod moves;
+mod numbers;
+mod regs;
+mod rules;
+
+pub use machine_ops::{BpHome, Depth, EndKind, HintState, State};
+pub use moves::{initial, step};

@@ -1,0 +1,209 @@
+//! The moves of a live state.
+
+ghost use Rattle.std.specs.Prelude.{◌≡◌};
+ghost use Rattle.machine_ops.specs.Move.{floor_of, raise, pop_at, push_bp, pop_bp, align, rsp_from_bp, bp_from_rsp, store_bp, load_bp, leave, lose_bp, move_live};
+
+use crate::numbers::{in_range, is_same, minus, number_of, plus, to, to_live};
+use crate::rules::{BP_CLOBBERED, SLOT_DROPPED, SP_LOST, SP_WRITTEN};
+use machine_ops::{BpHome, Depth, Op, State};
+
+/// Where the return address stands: this many bytes below the frame's top.
+const RETURN_ADDRESS: i64 = 8;
+
+/// The lowest place where rbp is saved: right below the return address.
+const FIRST_SLOT: i64 = 16;
+
+/// The lowest depth that leaves everything that is still needed at or above rsp.
+fn floor(bp: BpHome) -> i64
+    ensures { result ≡ floor_of bp }
+{
+    match bp {
+        BpHome::Same => RETURN_ADDRESS,
+        BpHome::Saved(o) => o,
+    }
+}
+
+/// rsp rises by `by` bytes, or falls, where that is negative.
+fn raise(by: i64, depth: Depth, fp: Option<i64>, bp: BpHome) -> Result<State, u8>
+    ensures { result ≡ raise by depth fp bp }
+{
+    let left = minus(number_of(depth), by);
+    if left < i128::from(floor(bp)) {
+        return match (depth, bp) {
+            (Depth::Known(_), BpHome::Saved(_)) => Err(SLOT_DROPPED),
+            _ => Err(SP_LOST),
+        };
+    }
+    to_live(depth, left, fp, bp)
+}
+
+/// rbp is popped from `n` bytes below the frame's top, where it is saved `o` bytes below it.
+fn pop_at(n: i64, o: i64) -> Result<State, u8>
+    ensures { result ≡ pop_at n o }
+{
+    let left = minus(n, 8);
+    let bp = if n == o {
+        BpHome::Same
+    } else if i128::from(o) <= left {
+        BpHome::Saved(o)
+    } else {
+        return Err(SLOT_DROPPED);
+    };
+    to_live(Depth::Known(n), left, None, bp)
+}
+
+/// rbp is pushed.
+fn push_bp(depth: Depth, fp: Option<i64>, bp: BpHome) -> Result<State, u8>
+    ensures { result ≡ push_bp depth fp bp }
+{
+    let deeper = plus(number_of(depth), 8);
+    let bp = match bp {
+        BpHome::Same => BpHome::Saved(in_range(deeper)?),
+        BpHome::Saved(o) => BpHome::Saved(o),
+    };
+    to_live(depth, deeper, fp, bp)
+}
+
+/// rbp is popped.
+fn pop_bp(depth: Depth, bp: BpHome) -> Result<State, u8>
+    ensures { result ≡ pop_bp depth bp }
+{
+    match (bp, depth) {
+        (BpHome::Same, _) => Err(BP_CLOBBERED),
+        (BpHome::Saved(_), Depth::AtLeast(_)) => Err(SP_LOST),
+        (BpHome::Saved(o), Depth::Known(n)) => pop_at(n, o),
+    }
+}
+
+/// rsp is masked.
+fn align(depth: Depth, fp: Option<i64>, bp: BpHome) -> Result<State, u8>
+    ensures { result ≡ align depth fp bp }
+{
+    match fp {
+        None => Err(SP_LOST),
+        Some(_) => to(State::Live {
+            depth: Depth::AtLeast(number_of(depth)),
+            fp,
+            bp,
+        }),
+    }
+}
+
+/// rsp is set to rbp plus `by`.
+fn rsp_from_bp(by: i64, fp: Option<i64>, bp: BpHome) -> Result<State, u8>
+    ensures { result ≡ rsp_from_bp by fp bp }
+{
+    let Some(m) = fp else {
+        return Err(SP_LOST);
+    };
+    let left = minus(m, by);
+    if left < i128::from(floor(bp)) {
+        return Err(SLOT_DROPPED);
+    }
+    to_live(Depth::Known(m), left, fp, bp)
+}
+
+/// rbp is set to rsp plus `by`.
+fn bp_from_rsp(by: i64, depth: Depth, bp: BpHome) -> Result<State, u8>
+    ensures { result ≡ bp_from_rsp by depth bp }
+{
+    match (bp, depth) {
+        (BpHome::Same, _) => Err(BP_CLOBBERED),
+        (BpHome::Saved(_), Depth::AtLeast(_)) => Err(SP_LOST),
+        (BpHome::Saved(_), Depth::Known(n)) => {
+            let pointer = in_range(minus(n, by))?;
+            to(State::Live {
+                depth,
+                fp: Some(pointer),
+                bp,
+            })
+        }
+    }
+}
+
+/// rbp is stored at rsp plus `at`: it is saved there, where that lies between rsp and the return
+/// address.
+fn store_bp(at: i64, depth: Depth, fp: Option<i64>, bp: BpHome) -> Result<State, u8>
+    ensures { result ≡ store_bp at depth fp bp }
+{
+    let slot = minus(number_of(depth), at);
+    match bp {
+        BpHome::Same if i128::from(FIRST_SLOT) <= slot && slot <= i128::from(number_of(depth)) => {
+            let bp = BpHome::Saved(in_range(slot)?);
+            to(State::Live { depth, fp, bp })
+        }
+        _ => to(State::Live { depth, fp, bp }),
+    }
+}
+
+/// rbp is loaded from rsp plus `at`: the caller's comes back, where that is its slot.
+fn load_bp(at: i64, depth: Depth, bp: BpHome) -> Result<State, u8>
+    ensures { result ≡ load_bp at depth bp }
+{
+    match (bp, depth) {
+        (BpHome::Same, _) => Err(BP_CLOBBERED),
+        (BpHome::Saved(_), Depth::AtLeast(_)) => Err(SP_LOST),
+        (BpHome::Saved(o), Depth::Known(n)) => {
+            if is_same(minus(n, at), o) {
+                to(State::Live {
+                    depth,
+                    fp: None,
+                    bp: BpHome::Same,
+                })
+            } else {
+                to(State::Live {
+                    depth,
+                    fp: None,
+                    bp,
+                })
+            }
+        }
+    }
+}
+
+/// rsp is set to rbp, then rbp is popped.
+fn leave(fp: Option<i64>, bp: BpHome) -> Result<State, u8>
+    ensures { result ≡ leave fp bp }
+{
+    match fp {
+        None => Err(SP_LOST),
+        Some(m) => pop_at(m, floor(bp)),
+    }
+}
+
+/// rbp is written in another way.
+fn lose_bp(depth: Depth, bp: BpHome) -> Result<State, u8>
+    ensures { result ≡ lose_bp depth bp }
+{
+    match (bp, depth) {
+        (BpHome::Same, _) => Err(BP_CLOBBERED),
+        (BpHome::Saved(_), Depth::AtLeast(_)) => Err(SP_LOST),
+        (BpHome::Saved(_), Depth::Known(_)) => to(State::Live {
+            depth,
+            fp: None,
+            bp,
+        }),
+    }
+}
+
+/// The live state after an operation.
+pub fn step_live(depth: Depth, fp: Option<i64>, bp: BpHome, op: Op) -> Result<State, u8>
+    ensures { result ≡ move_live depth fp bp op }
+{
+    match op {
+        Op::Push => to_live(depth, plus(number_of(depth), 8), fp, bp),
+        Op::PushBp => push_bp(depth, fp, bp),
+        Op::Pop | Op::Popf => raise(8, depth, fp, bp),
+        Op::AddSp { by } => raise(by, depth, fp, bp),
+        Op::PopBp => pop_bp(depth, bp),
+        Op::AndSp { .. } => align(depth, fp, bp),
+        Op::LeaSpBp { by } => rsp_from_bp(by, fp, bp),
+        Op::LeaBpSp { by } => bp_from_rsp(by, depth, bp),
+        Op::StoreBp { at } => store_bp(at, depth, fp, bp),
+        Op::LoadBp { at } => load_bp(at, depth, bp),
+        Op::Leave => leave(fp, bp),
+        Op::BpOther => lose_bp(depth, bp),
+        Op::SpOther => Err(SP_WRITTEN),
+        _ => to(State::Live { depth, fp, bp }),
+    }
+}

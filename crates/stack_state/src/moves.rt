@@ -1,0 +1,34 @@
+ghost use Rattle.std.specs.Prelude.{◌≡◌};
+ghost use Rattle.machine_ops.specs.State.{initial};
+ghost use Rattle.machine_ops.specs.Move.{move};
+
+use crate::live::step_live;
+use crate::regs::step_regs;
+use machine_ops::{BpHome, Depth, Op, State};
+
+/// The state at a function's entry: the return address was just pushed, so rsp is 8 bytes below the
+/// frame's top, and rbp is the caller's.
+pub fn initial() -> State
+    ensures { result ≡ initial }
+{
+    State::Live {
+        depth: Depth::Known(8),
+        fp: None,
+        bp: BpHome::Same,
+    }
+}
+
+/// The state after an operation, from the state before it. All numbers are bytes.
+///
+/// A refusal is the number of the rule that the operation breaks: 7 an unsupported write of rsp, 8
+/// rbp written before it is saved, 9 the stack pointer lost, 10 an offset beyond a gigabyte, 11 the
+/// saved slot dropped. An ended stack stays so.
+pub fn step(state: State, op: Op) -> Result<State, u8>
+    ensures { result ≡ move state op }
+{
+    match state {
+        State::Live { depth, fp, bp } => step_live(depth, fp, bp, op),
+        State::Ended(kind) => Ok(State::Ended(kind)),
+        State::Regs { full, depth } => step_regs(full, depth, op),
+    }
+}
