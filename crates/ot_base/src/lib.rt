@@ -19,3 +19,6 @@ pub use place::Place;
 pub use row::{PlacedRow, Row};
 pub use text::{Escaped, PlaceText, RowLine, RowWords, WarningLine, row_text, warning_text};
 pub use warning::Warning;
+
+#[cfg(test)]
+mod tests;
