@@ -23,30 +23,31 @@ keeps_owner Table = true
 keeps_owner Sibling = false
 
 pub record IsProgram (p : Program) : Type 0 where
-  -- edges lead to points, control arrives at points, and points follow points
-  pub edges : (q : ℕ) (e : Edge) → Contains (p.goes q) e → IsPoint p e.to
+  -- edges lead to points, control arrives at points, points follow points, and a RESTORE means a point
+  pub edges : (q : ℕ) (e : Edge) → IsPoint p q → Contains (p.goes q) e → IsPoint p e.to
   pub arrivals : (place : Place) (q : ℕ) → Contains (p.arrive place) q → IsPoint p q
-  pub followers : (q r : ℕ) → Contains (p.after q) r → IsPoint p r
+  pub followers : (q r : ℕ) → IsPoint p q → Contains (p.after q) r → IsPoint p r
+  pub saves : (q r : ℕ) → IsPoint p q → p.save_of q ≡ Some r → IsPoint p r
   -- all points of one owner are checked or none is, and points without owner are
   pub owners : (q r : ℕ) → IsPoint p q → IsPoint p r → p.owner q ≡ p.owner r → p.unchecked q ≡ p.unchecked r
-  pub unowned : (q : ℕ) → p.owner q ≡ None → p.unchecked q ≡ false
+  pub unowned : (q : ℕ) → IsPoint p q → p.owner q ≡ None → p.unchecked q ≡ false
   -- no entry is in an unchecked function, and calls inside the program go to entries
   pub entries_checked : (entry q : ℕ) → Contains p.entries entry → Contains (entry_points p entry) q → p.unchecked q ≡ false
-  pub calls_entry : (q entry : ℕ) → p.role q ≡ CallIn entry → Contains p.entries entry
-  pub calls_weak_entry : (q entry sym : ℕ) → p.role q ≡ CallEither entry sym → Contains p.entries entry
+  pub calls_entry : (q entry : ℕ) → IsPoint p q → p.role q ≡ CallIn entry → Contains p.entries entry
+  pub calls_weak_entry : (q entry sym : ℕ) → IsPoint p q → p.role q ≡ CallEither entry sym → Contains p.entries entry
   -- branches, fixups and tables stay with their owner, and tail calls go to entries
-  pub same_owner : (q : ℕ) (e : Edge) → Contains (p.goes q) e → IsTrue (keeps_owner e.kind) → p.owner e.to ≡ p.owner q
-  pub siblings : (q r : ℕ) → Contains (p.goes q) (edge r Sibling) → (entry : ℕ) × Contains p.entries entry × Contains (entry_points p entry) r
+  pub same_owner : (q : ℕ) (e : Edge) → IsPoint p q → Contains (p.goes q) e → IsTrue (keeps_owner e.kind) → p.owner e.to ≡ p.owner q
+  pub siblings : (q r : ℕ) → IsPoint p q → Contains (p.goes q) (edge r Sibling) → (entry : ℕ) × Contains p.entries entry × Contains (entry_points p entry) r
   -- the role of a call is that of a call instruction; the points that follow one which execution passes
   -- are its next points; a return that drops bytes is a return
-  pub calls : (q : ℕ) → is_call (p.role q) ≡ true → is_call_op (p.insn q).op ≡ true
+  pub calls : (q : ℕ) → IsPoint p q → is_call (p.role q) ≡ true → is_call_op (p.insn q).op ≡ true
   pub call_next : (q r : ℕ) → IsPoint p q → p.unchecked q ≡ false → is_call (p.role q) ≡ true → p.dead_end q ≡ false → Contains (p.after q) r → Contains (p.goes q) (edge r Next)
-  pub returns : (q : ℕ) → (p.insn q).op ≡ RetImm → p.role q ≡ Return
+  pub returns : (q : ℕ) → IsPoint p q → (p.insn q).op ≡ RetImm → p.role q ≡ Return
   -- numbers in operations have 64 bits, and states that hints set are consistent
-  pub numbers : (q : ℕ) → HasSignedNumber (p.insn q).op
-  pub hints : (q : ℕ) (s : State) → p.hint q ≡ Some (Set s) → IsConsistent s
+  pub numbers : (q : ℕ) → IsPoint p q → HasSignedNumber (p.insn q).op
+  pub hints : (q : ℕ) (s : State) → IsPoint p q → p.hint q ≡ Some (Set s) → IsConsistent s
   -- `may_return` tells the least set
-  pub may_return : (q : ℕ) → (p.may_return q ≡ true) ↔ MayReturn p q
+  pub may_return : (q : ℕ) → IsPoint p q → (p.may_return q ≡ true) ↔ MayReturn p q
 
 -- What the rows ask besides: how instructions lie in their sections and sites.
 pub record IsLaidOut (p : Program) : Type 0 where

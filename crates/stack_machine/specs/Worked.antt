@@ -1,6 +1,6 @@
 -- A worked program: one function, whose code is 55 48 89 E5 5D C3.
 --   point 0 at 0: push rbp;  point 1 at 1: mov rsp to rbp;  point 2 at 4: pop rbp;  point 3 at 5: ret
-use Rattle.std.specs.Prelude.{◌≡◌, ℕ, true, false, List, [], ◌∷◌, Option, Some, None, slice_index_or, filter, pos}
+use Rattle.std.specs.Prelude.{◌≡◌, ℕ, true, false, List, [], ◌∷◌, Option, Some, None, slice_index_or, filter, replicate, pos}
 use Rattle.ot_base.specs.declared.place.Place.{Place}
 use Rattle.machine_ops.specs.declared.op.Op.{Op}
 use Rattle.machine_ops.specs.declared.op.Op.TheVariants.{PushBp, LeaBpSp, PopBp, Ret}
@@ -13,10 +13,12 @@ use Rattle.machine_ops.specs.declared.state.EndKind.{EndKind}
 use Rattle.machine_ops.specs.declared.state.EndKind.TheVariants.{EndOfStack}
 use Rattle.machine_ops.specs.declared.state.State.TheVariants.{Live}
 use Rattle.machine_ops.specs.Region.{Region, word_at}
-use Rattle.machine_ops.specs.Frame.{SavedAt, FullAt, PartialAt, Frame, listed, end_of, protected, popped_slot}
+use Rattle.machine_ops.specs.Frame.{Slot, Unsaved, SavedAt, FullAt, PartialAt, Frame, listed, end_of, protected, popped_slot}
 use Rattle.machine_ops.specs.State.{initial}
 use Rattle.machine_ops.specs.Row.{zero_row, row_of}
 use Rattle.stack_machine.specs.Program.{Program, edge, same_place}
+use Rattle.stack_machine.specs.Machine.{Standing, At}
+use Rattle.stack_machine.specs.Run.{outermost, Run}
 use Rattle.stack_machine.specs.Kept.{state_at}
 use Rattle.stack_machine.specs.Rows.{rows_of, placed}
 
@@ -102,3 +104,21 @@ pub record HasWorkedFrames : Type 0 where
   pub partly_outside : word_at stack 0x8009 ≡ None
   -- a pt_regs whose bp was popped is partial from then on
   pub popped_regs : popped_slot 0x8020 (FullAt 0x8000) ≡ PartialAt 0x8080
+
+-- The program is called from outside with rsp at 0x8008 in a stack of sixteen zero bytes: where it
+-- stands at its entry, and after its push.
+abbrev pub zeros : Region
+zeros = record { lo = 0x8000; bytes = replicate 16 0 }
+
+abbrev pub caller : Slot → Frame
+caller slot = outermost 0 0x8010 0 slot false
+
+abbrev pub at_entry : Standing
+at_entry = record { point = 0; core = record { rsp = 0x8008; rbp = 0; region = zeros; ac = false; shadow = caller Unsaved ∷ [] }; ended = None; mark = None }
+
+abbrev pub after_push : Standing
+after_push = record { point = 1; core = record { rsp = 0x8000; rbp = 0; region = zeros; ac = false; shadow = caller (SavedAt 0x8000) ∷ [] }; ended = None; mark = None }
+
+-- there is a run that stands after the push
+abbrev pub HasWorkedRun : Type 0
+HasWorkedRun = Run framed (λ _. 0x1000) (At after_push)

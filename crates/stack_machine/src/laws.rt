@@ -1,7 +1,7 @@
 //! What holds of the definitions of this crate.
 
 ghost use Rattle.stack_machine.specs.Kept.{KeptIsOne, KeptStays};
-ghost use Rattle.stack_machine.specs.Worked.{HasWorkedFrames, HasWorkedRows, HasWorkedStates};
+ghost use Rattle.stack_machine.specs.Worked.{HasWorkedFrames, HasWorkedRows, HasWorkedRun, HasWorkedStates};
 
 /// A point keeps the state that it was first given.
 pub fn kept_stays()
@@ -26,4 +26,9 @@ pub fn worked_rows()
 /// Frames, their protected slots, and the words of a small stack.
 pub fn worked_frames()
     ensures { HasWorkedFrames }
+{}
+
+/// A run of that function: it starts, and steps.
+pub fn worked_run()
+    ensures { HasWorkedRun }
 {}
