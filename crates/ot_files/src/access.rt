@@ -3,7 +3,7 @@ ghost use Rattle.std.specs.Prelude.{◌≡◌, ℕ, ◌≤◌, ◌⊎◌, [], le
 ghost use Rattle.ot_files.specs.Causes.{Rose};
 ghost use Rattle.ot_files.specs.Content.{Content, reading, Answers, writing, ChangesAtMost, IsLimit};
 
-use std::alloc::{AllocError, AllocFailed};
+use std::alloc::AllocError;
 use thiserror::Error;
 
 /// Why a file was not read or written.
@@ -30,17 +30,6 @@ impl From<AllocError> for FileError {
     ghost from_gives = { λ _ e. e ≡ NoMemory };
 
     fn from(_error: AllocError) -> FileError {
-        FileError::NoMemory
-    }
-}
-
-impl<T: Drop> From<AllocFailed<T>> for FileError {
-    ghost use Rattle.std.specs.Prelude.{◌≡◌};
-    ghost use Rattle.ot_files.specs.declared.access.FileError.TheVariants.{NoMemory};
-
-    ghost from_gives = { λ _ e. e ≡ NoMemory };
-
-    fn from(_error: AllocFailed<T>) -> FileError {
         FileError::NoMemory
     }
 }

@@ -1,4 +1,4 @@
-//! Whole lines over any output, and whole files over any files.
+//! Whole lines over any output.
 ghost use Rattle.std.specs.Prelude.{◌≡◌, ◌≤◌, OnOk, OnErr, IsErrOf};
 ghost use Rattle.ot_files.specs.Causes.{Rose};
 ghost use Rattle.ot_files.specs.Output.{appending, AppendsPrefix};
