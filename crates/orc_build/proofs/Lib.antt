@@ -1,0 +1,2 @@
+pub mod StraightLemmas
+pub mod RowsLemmas
