@@ -1,0 +1,41 @@
+#!/usr/bin/env bash
+# Checks a real object with the built program: one leaf function, made by the system's assembler and passed
+# through `ld -r`, which gives its section a symbol. The tables are then read by `readelf`.
+# Skipped where a tool is missing.
+set -eu
+cd "$(dirname "$0")/.."
+for tool in as ld readelf; do
+    command -v "$tool" >/dev/null || { echo "real object: skipped, no $tool"; exit 0; }
+done
+folder=$(mktemp -d)
+trap 'rm -rf "$folder"' EXIT
+
+cat >"$folder/leaf.s" <<'S'
+	.text
+	.globl	leaf
+	.type	leaf, @function
+leaf:
+	push	%rbx
+	push	%rsi
+	nop
+	pop	%rsi
+	pop	%rbx
+	ret
+	.size	leaf, .-leaf
+S
+as -o "$folder/assembled.o" "$folder/leaf.s"
+ld -r -o "$folder/leaf.o" "$folder/assembled.o"
+
+objtool() { (cd crates/objtool && rt run -- "$@"); }
+objtool check "$folder/leaf.o" "$folder/checked.o"
+
+sections=$(readelf -SW "$folder/checked.o")
+for section in .orc_unwind .orc_unwind_ip .rela.orc_unwind_ip; do
+    grep -q " $section " <<<"$sections" || { echo "real object: no section $section"; exit 1; }
+done
+rows=$(readelf -x .orc_unwind "$folder/checked.o" | awk '/^  0x/ { for (i = 2; i <= 5 && $i ~ /^[0-9a-f]+$/; i++) printf "%s", $i }')
+wanted=080000000502100000000502180000000502100000000502080000000502000000000000
+[ "$rows" = "$wanted" ] || { echo "real object: the rows are $rows"; exit 1; }
+places=$(readelf -rW "$folder/checked.o" | awk '/R_X86_64_PC32/ { print $NF }' | tr '\n' ' ')
+[ "$places" = "0 1 2 4 5 6 " ] || { echo "real object: the rows lie at $places"; exit 1; }
+echo "real object: one leaf function checked, six rows as expected"
