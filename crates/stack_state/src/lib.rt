@@ -1,6 +1,7 @@
 //! How the stack moves: the state before an instruction, and the state that the instruction leaves.
 #![tactic(auto)]
 
+pub mod laws;
 mod live;
 mod moves;
 mod numbers;

@@ -1,0 +1,17 @@
+pub mod Addresses
+pub mod Consistent
+pub mod Depths
+pub mod LiveMoves
+pub mod LiveSlots
+pub mod LiveSound
+pub mod LiveStores
+pub mod Memory
+pub mod Outcomes
+pub mod Pushes
+pub mod RegsOutcomes
+pub mod RegsSound
+pub mod Results
+pub mod Scenes
+pub mod Slots
+pub mod Sound
+pub mod Words

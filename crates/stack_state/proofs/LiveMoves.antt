@@ -1,0 +1,151 @@
+-- The moves of a live state are sound: those that leave the top frame's slot alone.
+use Rattle.std.proofs.Common.{◌≡◌, ℕ, ◌≤◌, List, ◌∷◌, ℤ, pos, neg_ℤ, ◌+ℤ◌, ◌-ℤ◌, ◌≤ℤ◌, arith, refl, sym, subst, ◌∙◌}
+use Rattle.std.specs.Prelude.{Option, Some, None, IfSome, Ok, int_lt, bit_and}
+use Rattle.std.proofs.lemmas.Int.{ints}
+use Rattle.machine_ops.specs.declared.state.Depth.{Depth}
+use Rattle.machine_ops.specs.declared.state.Depth.TheVariants.{Known, AtLeast}
+use Rattle.machine_ops.specs.declared.state.BpHome.{BpHome}
+use Rattle.machine_ops.specs.declared.state.BpHome.TheVariants.{Same, Saved}
+use Rattle.machine_ops.specs.declared.state.State.{State}
+use Rattle.machine_ops.specs.declared.state.State.TheVariants.{Live}
+use Rattle.machine_ops.specs.Address.{shifted}
+use Rattle.machine_ops.specs.Region.{hi_of}
+use Rattle.machine_ops.specs.Frame.{Slot, Frame, listed}
+use Rattle.machine_ops.specs.Effect.{Core}
+use Rattle.machine_ops.specs.State.{depth_of, with_depth, IsConsistentLive, MeansDepth, MeansHome, MeansLive}
+use Rattle.machine_ops.specs.Move.{to, raise, floor_of, align, rsp_from_bp, bp_from_rsp, lose_bp}
+use Rattle.stack_state.proofs.Addresses.{IsNear}
+use Rattle.stack_state.proofs.Depths.{place_moved, depth_moved, depth_masked}
+use Rattle.stack_state.proofs.Outcomes.{within, near_depth, EachHeld}
+use Rattle.stack_state.proofs.Results.{unless_then, refused_then}
+use Rattle.stack_state.proofs.Scenes.{Scene, Arrives, arrive, same_frame}
+
+-- memory as a move that leaves the frames alone leaves it
+pub record Steady (before after : Core) (f : Frame) (below : List Frame) : Type 0 where
+  pub frames : after.shadow ≡ before.shadow
+  pub top : hi_of after.region ≡ hi_of before.region
+  pub held : EachHeld after.region (f ∷ listed f.ended_caller below)
+
+-- the pointer and the home, where rbp stays
+fp_stays : (fp : Option ℤ) (was now cfa : ℕ) → now ≡ was → IfSome fp (λ m. was ≡ shifted cfa (neg_ℤ m)) → IfSome fp (λ m. now ≡ shifted cfa (neg_ℤ m))
+fp_stays None was now cfa e h = tt
+fp_stays (Some m) was now cfa e h = e ∙ h
+
+home_stays : (home : BpHome) (was now cfa bp : ℕ) (slot : Slot) → now ≡ was → MeansHome home was cfa bp slot → MeansHome home now cfa bp slot
+home_stays Same was now cfa bp slot e h = (h.0, e ∙ h.1)
+home_stays (Saved o) was now cfa bp slot e h = h
+
+-- the state stays
+pub stay_sound : (depth : Depth) (fp : Option ℤ) (home : BpHome) (before after : Core) (f : Frame) (below : List Frame) (t : State)
+    → Scene (Live depth fp home) before after f below → Steady before after f below → after.rsp ≡ before.rsp → after.rbp ≡ before.rbp
+    → to (Live depth fp home) ≡ Ok t → Arrives t after f below
+stay_sound depth fp home before after f below t scene steady rsp rbp e =
+    let m : MeansLive depth fp home before.rsp before.rbp f = scene.told.means in
+    arrive (Live depth fp home) t after f below
+    (λ near c. same_frame (Live depth fp home) before after f below scene depth fp home c near steady.frames steady.top steady.held
+    (subst (λ (x : ℕ). MeansDepth depth x f.cfa) (sym rsp) m.depth)
+    (fp_stays fp before.rbp after.rbp f.cfa rbp m.fp)
+    (home_stays home before.rbp after.rbp f.cfa f.bp f.slot rbp m.bp))
+    e
+
+consistent_is_deep : (depth : Depth) (fp : Option ℤ) (home : BpHome) → IsConsistentLive depth fp home → pos 0 ≤ℤ depth_of depth
+consistent_is_deep depth fp Same c = let low : pos 8 ≤ℤ depth_of depth = c.same refl in omega (arith, ints)
+consistent_is_deep depth fp (Saved o) c =
+    let bounds : (pos 16 ≤ℤ o) × (o ≤ℤ depth_of depth) = c.saved o refl in
+    omega (arith, ints, bounds.0, bounds.1)
+
+depth_of-with_depth : (depth : Depth) (m : ℤ) → depth_of (with_depth depth m) ≡ m
+depth_of-with_depth (Known n) m = refl
+depth_of-with_depth (AtLeast n) m = refl
+
+-- rsp moves by k
+pub shift_sound : (k m : ℤ) (depth : Depth) (fp : Option ℤ) (home : BpHome) (before after : Core) (f : Frame) (below : List Frame) (t : State)
+    → Scene (Live depth fp home) before after f below → Steady before after f below → after.rsp ≡ shifted before.rsp k → after.rbp ≡ before.rbp
+    → m +ℤ k ≡ depth_of depth → to (Live (with_depth depth m) fp home) ≡ Ok t → Arrives t after f below
+shift_sound k m depth fp home before after f below t scene steady rsp rbp sum e =
+    let means : MeansLive depth fp home before.rsp before.rbp f = scene.told.means in
+    let top : f.cfa ≤ hi_of after.region = omega (arith, steady.top, scene.told.top) in
+    arrive (Live (with_depth depth m) fp home) t after f below
+    (λ near c.
+    let is_m : depth_of (with_depth depth m) ≡ m = depth_of-with_depth depth m in
+    let near_m : IsNear m = subst IsNear is_m (near_depth (with_depth depth m) fp home near) in
+    let low : pos 0 ≤ℤ m = subst (λ (x : ℤ). pos 0 ≤ℤ x) is_m (consistent_is_deep (with_depth depth m) fp home c) in
+    same_frame (Live depth fp home) before after f below scene (with_depth depth m) fp home c near steady.frames steady.top steady.held
+    (depth_moved depth before.rsp after.rsp f.cfa k m means.depth rsp sum (within after f.cfa scene.last top) near_m low (consistent_is_deep depth fp home scene.consistent))
+    (fp_stays fp before.rbp after.rbp f.cfa rbp means.fp)
+    (home_stays home before.rbp after.rbp f.cfa f.bp f.slot rbp means.bp))
+    e
+
+pub raise_sound : (k : ℤ) (depth : Depth) (fp : Option ℤ) (home : BpHome) (before after : Core) (f : Frame) (below : List Frame) (t : State)
+    → Scene (Live depth fp home) before after f below → Steady before after f below → after.rsp ≡ shifted before.rsp k → after.rbp ≡ before.rbp
+    → raise k depth fp home ≡ Ok t → Arrives t after f below
+raise_sound k depth fp Same before after f below t scene steady rsp rbp e =
+    unless_then (Arrives t after f below) (int_lt (depth_of depth -ℤ k) (pos 8)) 9 _ t
+    (λ high d. shift_sound k (depth_of depth -ℤ k) depth fp Same before after f below t scene steady rsp rbp (omega (arith, ints)) d) e
+raise_sound k (AtLeast n) fp (Saved o) before after f below t scene steady rsp rbp e =
+    unless_then (Arrives t after f below) (int_lt (n -ℤ k) o) 9 _ t
+    (λ high d. shift_sound k (n -ℤ k) (AtLeast n) fp (Saved o) before after f below t scene steady rsp rbp (omega (arith, ints)) d) e
+raise_sound k (Known n) fp (Saved o) before after f below t scene steady rsp rbp e =
+    unless_then (Arrives t after f below) (int_lt (n -ℤ k) o) 11 _ t
+    (λ high d. shift_sound k (n -ℤ k) (Known n) fp (Saved o) before after f below t scene steady rsp rbp (omega (arith, ints)) d) e
+
+-- rsp is masked
+pub align_sound : (mask : ℕ) (depth : Depth) (fp : Option ℤ) (home : BpHome) (before after : Core) (f : Frame) (below : List Frame) (t : State)
+    → Scene (Live depth fp home) before after f below → Steady before after f below → after.rsp ≡ bit_and before.rsp mask → after.rbp ≡ before.rbp
+    → align depth fp home ≡ Ok t → Arrives t after f below
+align_sound mask depth None home before after f below t scene steady rsp rbp e = refused_then (Arrives t after f below) 9 t e
+align_sound mask depth (Some m) home before after f below t scene steady rsp rbp e =
+    let means : MeansLive depth (Some m) home before.rsp before.rbp f = scene.told.means in
+    arrive (Live (AtLeast (depth_of depth)) (Some m) home) t after f below
+    (λ near c.
+    let close : IsNear (depth_of depth) = near_depth (AtLeast (depth_of depth)) (Some m) home near in
+    same_frame (Live depth (Some m) home) before after f below scene (AtLeast (depth_of depth)) (Some m) home c near steady.frames steady.top steady.held
+    (subst (λ (x : ℕ). (pos x +ℤ depth_of depth) ≤ℤ pos f.cfa) (sym rsp)
+    (depth_masked depth before.rsp f.cfa mask means.depth (within before f.cfa scene.first scene.told.top) close))
+    (fp_stays (Some m) before.rbp after.rbp f.cfa rbp means.fp)
+    (home_stays home before.rbp after.rbp f.cfa f.bp f.slot rbp means.bp))
+    e
+
+-- rsp is set from rbp
+pub rsp_from_bp_sound : (k : ℤ) (depth : Depth) (fp : Option ℤ) (home : BpHome) (before after : Core) (f : Frame) (below : List Frame) (t : State)
+    → Scene (Live depth fp home) before after f below → Steady before after f below → after.rsp ≡ shifted before.rbp k → after.rbp ≡ before.rbp
+    → rsp_from_bp k fp home ≡ Ok t → Arrives t after f below
+rsp_from_bp_sound k depth None home before after f below t scene steady rsp rbp e = refused_then (Arrives t after f below) 9 t e
+rsp_from_bp_sound k depth (Some m) home before after f below t scene steady rsp rbp e =
+    let means : MeansLive depth (Some m) home before.rsp before.rbp f = scene.told.means in
+    unless_then (Arrives t after f below) (int_lt (m -ℤ k) (floor_of home)) 11 _ t
+    (λ high d. arrive (Live (Known (m -ℤ k)) (Some m) home) t after f below
+    (λ near c. same_frame (Live depth (Some m) home) before after f below scene (Known (m -ℤ k)) (Some m) home c near steady.frames steady.top steady.held
+    (place_moved before.rbp after.rsp f.cfa k m (m -ℤ k) means.fp rsp (omega (arith, ints)))
+    (fp_stays (Some m) before.rbp after.rbp f.cfa rbp means.fp)
+    (home_stays home before.rbp after.rbp f.cfa f.bp f.slot rbp means.bp))
+    d)
+    e
+
+-- rbp is set from rsp
+pub bp_from_rsp_sound : (k : ℤ) (depth : Depth) (fp : Option ℤ) (home : BpHome) (before after : Core) (f : Frame) (below : List Frame) (t : State)
+    → Scene (Live depth fp home) before after f below → Steady before after f below → after.rsp ≡ before.rsp → after.rbp ≡ shifted before.rsp k
+    → bp_from_rsp k depth home ≡ Ok t → Arrives t after f below
+bp_from_rsp_sound k depth fp Same before after f below t scene steady rsp rbp e = refused_then (Arrives t after f below) 8 t e
+bp_from_rsp_sound k (AtLeast n) fp (Saved o) before after f below t scene steady rsp rbp e = refused_then (Arrives t after f below) 9 t e
+bp_from_rsp_sound k (Known n) fp (Saved o) before after f below t scene steady rsp rbp e =
+    let means : MeansLive (Known n) fp (Saved o) before.rsp before.rbp f = scene.told.means in
+    arrive (Live (Known n) (Some (n -ℤ k)) (Saved o)) t after f below
+    (λ near c. same_frame (Live (Known n) fp (Saved o)) before after f below scene (Known n) (Some (n -ℤ k)) (Saved o) c near steady.frames steady.top steady.held
+    (rsp ∙ means.depth)
+    (place_moved before.rsp after.rbp f.cfa k n (n -ℤ k) means.depth rbp (omega (arith, ints)))
+    means.bp)
+    e
+
+-- rbp is lost
+pub lose_bp_sound : (depth : Depth) (fp : Option ℤ) (home : BpHome) (before after : Core) (f : Frame) (below : List Frame) (t : State)
+    → Scene (Live depth fp home) before after f below → Steady before after f below → after.rsp ≡ before.rsp
+    → lose_bp depth home ≡ Ok t → Arrives t after f below
+lose_bp_sound depth fp Same before after f below t scene steady rsp e = refused_then (Arrives t after f below) 8 t e
+lose_bp_sound (AtLeast n) fp (Saved o) before after f below t scene steady rsp e = refused_then (Arrives t after f below) 9 t e
+lose_bp_sound (Known n) fp (Saved o) before after f below t scene steady rsp e =
+    let means : MeansLive (Known n) fp (Saved o) before.rsp before.rbp f = scene.told.means in
+    arrive (Live (Known n) None (Saved o)) t after f below
+    (λ near c. same_frame (Live (Known n) fp (Saved o)) before after f below scene (Known n) None (Saved o) c near steady.frames steady.top steady.held
+    (rsp ∙ means.depth) tt means.bp)
+    e

@@ -1,0 +1,14 @@
+//! What holds of each move.
+
+ghost use Rattle.machine_ops.specs.Sound.{MoveIsConsistent, MoveIsSound};
+
+/// A move is sound: from registers and memory that a consistent state tells of, each effect of the
+/// operation that stays in the stack ends in ones that the moved state tells of.
+pub fn move_is_sound()
+    ensures { MoveIsSound }
+{}
+
+/// A move keeps states consistent, and ended ones ended.
+pub fn move_is_consistent()
+    ensures { MoveIsConsistent }
+{}
