@@ -1,0 +1,6 @@
+pub mod LeastBelow
+pub mod Found
+pub mod Linked
+pub mod Homes
+pub mod FirstFault
+pub mod Read

@@ -1,0 +1,39 @@
+-- What is lent of an object, as the values that it stands for.
+use Rattle.std.specs.Prelude.{◌≡◌, ◌≢◌, ◌≤◌, ◌+◌, ℕ, List, [], length, slice_range}
+use Rattle.elf_objects.specs.declared.section.Section.{Section}
+use Rattle.elf_objects.specs.declared.symbol.Symbol.{Symbol}
+use Rattle.elf_objects.specs.Elf.{SectionEntry, SymbolEntry}
+use Rattle.elf_objects.specs.Kind.{sht_null, sht_nobits}
+
+abbrev pub lent_section : Section → SectionEntry
+lent_section s = record {
+  name = s.name.now;
+  kind = s.kind;
+  flags = s.flags;
+  addr = s.addr;
+  offset = s.offset;
+  size = s.size;
+  link = s.link;
+  info = s.info;
+  align = s.align;
+  entsize = s.entsize;
+  body = s.body.now;
+}
+
+abbrev pub lent_symbol : Symbol → SymbolEntry
+lent_symbol s = record {
+  name = s.name.now;
+  bind = s.bind;
+  kind = s.kind;
+  other = s.other;
+  home = s.home;
+  value = s.value;
+  size = s.size;
+}
+
+-- the body of a section is its bytes of the file, unless its type has none there
+pub record IsSlice (bytes : List ℕ) (s : SectionEntry) : Type 0 where
+  pub inside : s.kind ≢ sht_null → s.kind ≢ sht_nobits → s.offset + s.size ≤ length bytes
+  pub body : s.kind ≢ sht_null → s.kind ≢ sht_nobits → s.body ≡ slice_range bytes s.offset (s.offset + s.size)
+  pub null : s.kind ≡ sht_null → s.body ≡ []
+  pub nobits : s.kind ≡ sht_nobits → s.body ≡ []

@@ -1,0 +1,14 @@
+pub mod Number
+pub mod Below
+pub mod Kind
+pub mod Header
+pub mod File
+pub mod Elf
+pub mod Table
+pub mod Contents
+pub mod Sections
+pub mod Symbols
+pub mod Object
+pub mod Found
+pub mod Lent
+pub mod Kept

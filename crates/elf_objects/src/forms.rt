@@ -1,0 +1,130 @@
+//! The header of each section is as its type asks for.
+
+ghost use Rattle.std.specs.Prelude.{◌≡◌, ◌<◌, ◌≤◌, ◌+◌, ◌↔◌, ◌≢◌, ℕ, IsTrue, IsFalse, IfErr, IfOk, OnOk, MatchResult, length};
+ghost use Rattle.elf_objects.specs.Below.{AllBelow, FirstBelow, least_below};
+ghost use Rattle.elf_objects.specs.File.{section_count, section_header, name_table};
+ghost use Rattle.elf_objects.specs.Header.{is_text_header};
+ghost use Rattle.elf_objects.specs.Kind.{sht_symtab, sht_symtab_shndx, sht_rela, sht_strtab, sht_rel};
+ghost use Rattle.elf_objects.specs.Sections.{HasBody, HasForm, HasKindForm, FormFault, HasEntries, IsPlain, IsSymbolTable, IsIndexTable, IsRelocTable, IsStringTable, IsFirstOfKind};
+ghost use Rattle.elf_objects.specs.Table.{first_of_kind, is_kind, symbol_table, index_table};
+ghost use Rattle.elf_objects.specs.Found.{AreTables};
+
+use crate::earliest::earliest;
+use crate::fault::ElfFault;
+use crate::header::SectionHeader;
+use crate::headers::Headers;
+use crate::kind::{SHF_COMPRESSED, SHT_REL, SHT_RELA, SHT_STRTAB, SHT_SYMTAB, SHT_SYMTAB_SHNDX};
+
+/// The symbol table and the table of section numbers, as far as they are found.
+#[derive(Clone, Copy)]
+pub(crate) struct Tables {
+    pub(crate) symbols: Option<u32>,
+    pub(crate) indices: Option<u32>,
+}
+
+fn has_entries(h: &SectionHeader, size: u64) -> bool
+    requires { 0 < size }
+    ensures { IsTrue result ↔ HasEntries h.now size }
+{
+    h.entsize == size && h.size % size == 0
+}
+
+fn is_plain(h: &SectionHeader) -> bool
+    ensures { IsTrue result ↔ IsPlain h.now }
+{
+    h.flags & SHF_COMPRESSED == 0
+}
+
+fn is_string_table(bytes: &[u8], h: &SectionHeader) -> bool
+    requires { h.now.offset + h.now.size ≤ length bytes.now }
+    ensures { IsTrue result ↔ IsStringTable bytes.now h.now }
+{
+    h.size != 0 && bytes[(h.offset + h.size - 1) as usize] == 0 && is_plain(h)
+}
+
+fn is_reloc_table(h: &SectionHeader) -> bool
+    ensures { IsTrue result ↔ IsRelocTable h.now }
+{
+    has_entries(h, 24) && is_plain(h)
+}
+
+/// Whether no section before this one has the type of a symbol table.
+fn is_first_symbol_table(headers: &Headers, tables: Tables, i: u32) -> bool
+    requires { AreTables headers.now.bytes.now i tables }
+    ensures { IsTrue result ↔ IsFirstOfKind headers.now.bytes.now sht_symtab i }
+{
+    tables.symbols.is_none()
+}
+
+/// The same for tables of section numbers.
+fn is_first_index_table(headers: &Headers, tables: Tables, i: u32) -> bool
+    requires { AreTables headers.now.bytes.now i tables }
+    ensures { IsTrue result ↔ IsFirstOfKind headers.now.bytes.now sht_symtab_shndx i }
+{
+    tables.indices.is_none()
+}
+
+/// Whether a section is as its type asks for, the names of sections aside.
+fn has_kind_form(headers: &Headers, tables: Tables, i: u32) -> bool
+    requires known { i < section_count headers.now.bytes.now }
+    requires seen { AreTables headers.now.bytes.now i tables }
+    requires bodies { HasBody headers.now.bytes.now i }
+    ensures { IsTrue result ↔ HasKindForm headers.now.bytes.now i }
+{
+    let h = headers.get(i);
+    match h.kind {
+        SHT_SYMTAB => {
+            is_first_symbol_table(headers, tables, i) && has_entries(&h, 24) && is_plain(&h)
+        }
+        SHT_SYMTAB_SHNDX => {
+            is_first_index_table(headers, tables, i) && has_entries(&h, 4) && is_plain(&h)
+        }
+        SHT_RELA => is_reloc_table(&h),
+        SHT_STRTAB => is_string_table(headers.bytes, &h),
+        SHT_REL => false,
+        _ => !h.is_text() || is_plain(&h),
+    }
+}
+
+/// Whether a section is as its type asks for.
+fn has_form(headers: &Headers, tables: Tables, i: u32) -> bool
+    requires known { i < section_count headers.now.bytes.now }
+    requires seen { AreTables headers.now.bytes.now i tables }
+    requires bodies { HasBody headers.now.bytes.now i }
+    ensures { IsTrue result ↔ HasForm headers.now.bytes.now i }
+{
+    has_kind_form(headers, tables, i) && (i != headers.names || headers.get(i).kind == SHT_STRTAB)
+}
+
+/// The tables with a section more, where it is the first of its type.
+fn with_section(headers: &Headers, tables: Tables, i: u32) -> Tables
+    requires known { i < section_count headers.now.bytes.now }
+    requires seen { AreTables headers.now.bytes.now i tables }
+    ensures { AreTables headers.now.bytes.now (i + 1) result }
+{
+    let kind = headers.get(i).kind;
+    Tables {
+        symbols: earliest(tables.symbols, kind == SHT_SYMTAB, i),
+        indices: earliest(tables.indices, kind == SHT_SYMTAB_SHNDX, i),
+    }
+}
+
+/// The special tables, or the first section that is not as its type asks for.
+pub(crate) fn check_forms(headers: &Headers) -> Result<Tables, ElfFault>
+    requires { AllBelow (HasBody headers.now.bytes.now) (section_count headers.now.bytes.now) }
+    ensures ok { OnOk result (AllBelow (HasForm headers.now.bytes.now) (section_count headers.now.bytes.now)) }
+    ensures found { IfOk result (AreTables headers.now.bytes.now (section_count headers.now.bytes.now)) }
+    ensures err { IfErr result (FirstBelow (HasForm headers.now.bytes.now) (FormFault headers.now.bytes.now) (section_count headers.now.bytes.now)) }
+{
+    let mut tables = Tables {
+        symbols: None,
+        indices: None,
+    };
+    for i in 0..headers.count {
+        if !has_form(headers, tables, i) {
+            return Err(ElfFault::BadTable { sec: i });
+        }
+        tables = with_section(headers, tables, i);
+    }
+    Ok(tables)
+}

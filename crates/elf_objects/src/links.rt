@@ -1,0 +1,114 @@
+//! What `sh_link` and `sh_info` of a section name is there.
+
+ghost use Rattle.std.specs.Prelude.{◌≡◌, ◌<◌, ◌≤◌, ◌+◌, ◌↔◌, ◌≢◌, ℕ, Some, None, IsTrue, IsFalse, IfErr, IfOk, OnOk, length, get_or, if◌then◌else◌};
+ghost use Rattle.elf_objects.specs.Below.{AllBelow, FirstBelow, least_below};
+ghost use Rattle.elf_objects.specs.File.{section_count, section_header};
+ghost use Rattle.elf_objects.specs.Found.{AreRelas};
+ghost use Rattle.elf_objects.specs.Kind.{sht_symtab, sht_symtab_shndx, sht_rela, sht_strtab, sht_group};
+ghost use Rattle.elf_objects.specs.Object.{Refuses};
+ghost use Rattle.elf_objects.specs.Sections.{HasLinks, LinkFault, LinksSymbols, LinksIndices, LinksRelocs, LinksGroup, NamesStrings, IsBoundary, IsFirstRelaOf, link_of};
+ghost use Rattle.elf_objects.specs.Table.{symbol_table, symbol_count, is_rela_of};
+
+use crate::earliest::{earliest, nothing};
+use crate::fault::ElfFault;
+use crate::headers::Headers;
+use crate::kind::{SHT_GROUP, SHT_RELA, SHT_STRTAB, SHT_SYMTAB, SHT_SYMTAB_SHNDX};
+use crate::symbols::Symbols;
+use std::alloc::Global;
+
+/// Whether an index is that of a string table.
+fn names_strings(headers: &Headers, i: u32) -> bool
+    ensures { IsTrue result ↔ NamesStrings headers.now.bytes.now i }
+{
+    i < headers.count && headers.get(i).kind == SHT_STRTAB
+}
+
+/// Whether `sh_info` of a symbol table is from 1 to the number of symbols, or 0 where there are none.
+fn is_boundary(count: u64, info: u32) -> bool
+    ensures { IsTrue result ↔ IsBoundary count info }
+{
+    u64::from(info) <= count && (info >= 1 || count == 0)
+}
+
+/// Whether an index is that of the symbol table.
+fn names_symbols(symbols: &Symbols, i: u32) -> bool
+    ensures { IsTrue result ↔ (symbol_table symbols.now.headers.bytes.now ≡ Some i) }
+{
+    match symbols.table {
+        Some(table) => table == i,
+        None => false,
+    }
+}
+
+/// Whether `sh_link` of a section of relocations is the symbol table, or 0 where there is none.
+fn links_symbols(symbols: &Symbols, link: u32) -> bool
+    ensures { IsTrue result ↔ (link_of (symbol_table symbols.now.headers.bytes.now) ≡ link) }
+{
+    match symbols.table {
+        Some(table) => table == link,
+        None => link == 0,
+    }
+}
+
+/// Whether no section of relocations before this one is of the section `s`.
+fn is_first_rela_of(headers: &Headers, relas: &[Option<u32>], s: u32, i: u32) -> bool
+    requires seen { AreRelas headers.now.bytes.now i relas.now }
+    requires known { s < section_count headers.now.bytes.now }
+    ensures { IsTrue result ↔ IsFirstRelaOf headers.now.bytes.now s i }
+{
+    relas[s as usize].is_none()
+}
+
+/// Whether the links of a section are as its type asks for.
+fn has_links(symbols: &Symbols, relas: &[Option<u32>], i: u32) -> bool
+    requires seen { AreRelas symbols.now.headers.bytes.now i relas.now }
+    requires known { i < section_count symbols.now.headers.bytes.now }
+    ensures { IsTrue result ↔ HasLinks symbols.now.headers.bytes.now i }
+{
+    let h = symbols.headers.get(i);
+    match h.kind {
+        SHT_SYMTAB => {
+            names_strings(&symbols.headers, h.link) && is_boundary(symbols.count, h.info)
+        }
+        SHT_SYMTAB_SHNDX => names_symbols(symbols, h.link) && h.size / 4 == symbols.count,
+        SHT_RELA => {
+            links_symbols(symbols, h.link)
+                && h.info >= 1
+                && h.info < symbols.headers.count
+                && is_first_rela_of(&symbols.headers, relas, h.info, i)
+        }
+        SHT_GROUP => names_symbols(symbols, h.link) && u64::from(h.info) < symbols.count,
+        _ => true,
+    }
+}
+
+/// Notes of which section a section has the relocations, where it has any.
+fn note_rela(headers: &Headers, relas: &mut Vec<Option<u32>>, i: u32)
+    requires seen { AreRelas headers.now.bytes.now i relas.old.items }
+    requires known { i < section_count headers.now.bytes.now }
+    requires links { HasLinks headers.now.bytes.now i }
+    ensures { AreRelas headers.now.bytes.now (i + 1) relas.new.items }
+{
+    let h = headers.get(i);
+    if h.kind == SHT_RELA {
+        let target = h.info as usize;
+        relas[target] = earliest(relas[target], true, i);
+    }
+}
+
+/// For each section the section with its relocations, or the first section whose links are not as its
+/// type asks for.
+pub(crate) fn check_links(alloc: Global, symbols: &Symbols) -> Result<Vec<Option<u32>>, ElfFault>
+    ensures ok { OnOk result (AllBelow (HasLinks symbols.now.headers.bytes.now) (section_count symbols.now.headers.bytes.now)) }
+    ensures found { IfOk result (λ relas. AreRelas symbols.now.headers.bytes.now (section_count symbols.now.headers.bytes.now) relas.items) }
+    ensures err { IfErr result (Refuses (FirstBelow (HasLinks symbols.now.headers.bytes.now) (LinkFault symbols.now.headers.bytes.now) (section_count symbols.now.headers.bytes.now))) }
+{
+    let mut relas = nothing(alloc, symbols.headers.count)?;
+    for i in 0..symbols.headers.count {
+        if !has_links(symbols, &relas, i) {
+            return Err(ElfFault::BadLink { sec: i });
+        }
+        note_rela(&symbols.headers, &mut relas, i);
+    }
+    Ok(relas)
+}

@@ -1,0 +1,65 @@
+//! The names of the sections begin in their table, and there is not too much text.
+
+ghost use Rattle.std.specs.Prelude.{◌≡◌, ◌<◌, ◌≤◌, ◌+◌, ℕ, MatchResult, IfErr, OnOk, length, map};
+ghost use Rattle.elf_objects.specs.Below.{AllBelow, FirstBelow};
+ghost use Rattle.elf_objects.specs.File.{section_count, section_header};
+ghost use Rattle.elf_objects.specs.Sections.{HasBody, HasName, NameFault, HasLittleText, IsMuchText, text_bytes, text_size};
+
+use crate::fault::{Counted, ElfFault, NameOf};
+use crate::header::SectionHeader;
+use crate::headers::Headers;
+
+/// Most bytes that the text sections may have together.
+const MAX_TEXT: u64 = 16_777_216;
+
+/// Whether the name of each section begins in the table of section names, in ascending order.
+pub(crate) fn check_names(headers: &Headers) -> Result<(), ElfFault>
+    ensures ok { OnOk result (AllBelow (HasName headers.now.bytes.now) (section_count headers.now.bytes.now)) }
+    ensures err { IfErr result (FirstBelow (HasName headers.now.bytes.now) (NameFault headers.now.bytes.now) (section_count headers.now.bytes.now)) }
+{
+    let table = headers.get(headers.names);
+    for i in 0..headers.count {
+        if u64::from(headers.get(i).name) >= table.size {
+            return Err(ElfFault::BadName {
+                what: NameOf::Section,
+                index: i,
+            });
+        }
+    }
+    Ok(())
+}
+
+/// The bytes of text in a section.
+fn size_of_text(h: &SectionHeader) -> u64
+    ensures { result ≡ text_size h.now }
+{
+    if h.is_text() { h.size } else { 0 }
+}
+
+/// The bytes of text in all sections.
+#[tactic(auto, unfolding(crate::specs::Sections::text_bytes))]
+fn count_text(headers: &Headers) -> u64
+    requires { AllBelow (HasBody headers.now.bytes.now) (section_count headers.now.bytes.now) }
+    ensures { result ≡ text_bytes headers.now.bytes.now }
+{
+    let mut total = 0;
+    for i in 0..headers.count {
+        total += size_of_text(&headers.get(i));
+    }
+    total
+}
+
+/// Whether there is not too much text.
+pub(crate) fn check_text(headers: &Headers) -> Result<(), ElfFault>
+    requires { AllBelow (HasBody headers.now.bytes.now) (section_count headers.now.bytes.now) }
+    ensures { MatchResult result (λ _. HasLittleText headers.now.bytes.now) (IsMuchText headers.now.bytes.now) }
+{
+    let count = count_text(headers);
+    if count > MAX_TEXT {
+        return Err(ElfFault::TooMany {
+            what: Counted::TextBytes,
+            count,
+        });
+    }
+    Ok(())
+}

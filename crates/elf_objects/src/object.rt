@@ -1,0 +1,223 @@
+//! A well-formed object.
+
+ghost use Rattle.std.specs.Prelude.{◌≡◌, ◌<◌, ◌≤◌, ◌+◌, ◌^◌, length, IfOk, IfErr, IsOkUnless};
+ghost use Rattle.elf_objects.specs.Object.{IsObject, IsWellFormed, FirstFault, Refuses};
+
+use crate::bodies::check_bodies;
+use crate::check_symbols::{check_symbol_count, check_symbols};
+use crate::fault::ElfFault;
+use crate::forms::check_forms;
+use crate::header::SectionHeader;
+use crate::headers::Headers;
+use crate::links::check_links;
+use crate::names::{check_names, check_text};
+use crate::relocs::{check_relocs, nth_reloc, rela_header};
+use crate::section::Section;
+use crate::slices::{slice_body, slice_string};
+use crate::symbol::{Reloc, Symbol};
+use crate::symbols::{Symbols, find_home};
+use std::alloc::Global;
+use std::marker::Model;
+
+/// A well-formed ELF-64 relocatable object for x86-64, read where its bytes lie.
+///
+/// Names and bodies that it lends are slices of the bytes that it was read from.
+#[derive(Drop)]
+pub struct Object<'a> {
+    symbols: Symbols<'a>,
+    symbol_count: u32,
+    names: SectionHeader,
+    strings: SectionHeader,
+    /// For each section the section with its relocations.
+    relas: Vec<Option<u32>>,
+    /// For each section the first symbol that stands for it.
+    section_symbols: Vec<Option<u32>>,
+}
+
+impl<'a> Model for Object<'a> {
+    ghost use Rattle.elf_objects.specs.Elf.{Elf};
+    ghost use Rattle.elf_objects.specs.Contents.{elf_of};
+    ghost use Rattle.elf_objects.specs.Kept.{IsKept};
+
+    ghost Value = { Elf };
+
+    ghost view = { λ o. elf_of o.symbols.headers.bytes.now };
+
+    ghost invariant = { λ o. IsKept o.symbols.headers.bytes.now o.symbol_count o.names o.strings o.relas.items o.section_symbols.items };
+}
+
+impl<'a> Object<'a> {
+    /// Reads an object, or tells the first fault of bytes that are none.
+    ///
+    /// # Errors
+    ///
+    /// The steps are those of `IsWellFormed`, in their order. The fault is that of the first step that
+    /// fails, at the lowest index where it goes over sections, symbols or relocations.
+    /// [`ElfFault::NoMemory`] may come at any file.
+    pub fn parse(alloc: Global, bytes: &'a [u8]) -> Result<Object<'a>, ElfFault>
+        requires { length bytes.now < 2 ^ 32 }
+        ensures ok { IfOk result (IsObject bytes.now) }
+        ensures err { IfErr result (Refuses (FirstFault bytes.now)) }
+        ensures only { IsWellFormed bytes.now → IsOkUnless result ElfFault.NoMemory }
+    {
+        let headers = Headers::find(bytes)?;
+        Object::read(alloc, headers)
+    }
+
+    /// Reads an object whose section header table was found.
+    fn read(alloc: Global, headers: Headers<'a>) -> Result<Object<'a>, ElfFault>
+        ensures ok { IfOk result (IsObject headers.entry.bytes.now) }
+        ensures err { IfErr result (Refuses (FirstFault headers.entry.bytes.now)) }
+    {
+        check_bodies(&headers)?;
+        let tables = check_forms(&headers)?;
+        let symbols = Symbols::new(headers, tables);
+        let relas = check_links(alloc, &symbols)?;
+        check_names(&symbols.headers)?;
+        let symbol_count = check_symbol_count(&symbols)?;
+        let section_symbols = check_symbols(alloc, &symbols, symbol_count)?;
+        check_relocs(&symbols)?;
+        check_text(&symbols.headers)?;
+        Ok(Object {
+            names: symbols.headers.get(symbols.headers.names),
+            strings: symbols.strings(),
+            symbols,
+            symbol_count,
+            relas,
+            section_symbols,
+        })
+    }
+}
+
+impl<'a> Object<'a> {
+    ghost use Rattle.std.specs.Prelude.{Some, slice_get};
+    ghost use Rattle.elf_objects.specs.Contents.{is_text, relocs_at, section_at, section_symbol_of, symbol_at};
+    ghost use Rattle.elf_objects.specs.Lent.{lent_section, lent_symbol, IsSlice};
+
+    /// The whole file.
+    pub fn bytes(&self) -> &'a [u8]
+        ensures value { result.now ≡ self.now.bytes }
+        ensures object { IsObject result.now self.now }
+    {
+        self.symbols.headers.bytes
+    }
+
+    /// `e_shoff`, in bytes.
+    pub fn headers_at(&self) -> u64
+        ensures { result ≡ self.now.headers_at }
+    {
+        self.symbols.headers.at
+    }
+
+    /// The index of the table of section names.
+    pub fn name_table(&self) -> u32
+        ensures value { result ≡ self.now.name_table }
+        ensures known { result < length self.now.sections }
+    {
+        self.symbols.headers.names
+    }
+
+    /// How many sections there are, that with the index 0 among them.
+    pub fn sections(&self) -> u32
+        ensures value { result ≡ length self.now.sections }
+        ensures few { result ≤ 262144 }
+    {
+        self.symbols.headers.count
+    }
+
+    /// The section with an index.
+    pub fn section(&self, i: u32) -> Section<'a>
+        requires { i < length self.now.sections }
+        ensures value { lent_section result ≡ section_at self.now i }
+        ensures slice { IsSlice self.now.bytes (lent_section result) }
+    {
+        let headers = &self.symbols.headers;
+        let h = headers.get(i);
+        let names = slice_body(headers.bytes, &self.names);
+        Section {
+            name: slice_string(names, h.name as usize),
+            kind: h.kind,
+            flags: h.flags,
+            addr: h.addr,
+            offset: h.offset,
+            size: h.size,
+            link: h.link,
+            info: h.info,
+            align: h.align,
+            entsize: h.entsize,
+            body: slice_body(headers.bytes, &h),
+        }
+    }
+
+    /// Whether a section has code: `SHT_PROGBITS` with `SHF_EXECINSTR`.
+    pub fn is_text(&self, sec: u32) -> bool
+        requires { sec < length self.now.sections }
+        ensures { result ≡ is_text (section_at self.now sec) }
+    {
+        self.symbols.headers.get(sec).is_text()
+    }
+
+    /// The index of the symbol table, where there is one.
+    pub fn symbol_table(&self) -> Option<u32>
+        ensures { result ≡ self.now.symbol_table }
+    {
+        self.symbols.table
+    }
+
+    /// How many symbols there are, the null symbol with the index 0 among them.
+    pub fn symbols(&self) -> u32
+        ensures value { result ≡ length self.now.symbols }
+        ensures few { result ≤ 4194304 }
+    {
+        self.symbol_count
+    }
+
+    /// The symbol with an index.
+    pub fn symbol(&self, k: u32) -> Symbol<'a>
+        requires { k < length self.now.symbols }
+        ensures { lent_symbol result ≡ symbol_at self.now k }
+    {
+        let raw = self.symbols.raw(k);
+        let Some(home) = find_home(&self.symbols, k) else {
+            unreachable!()
+        };
+        let strings = slice_body(self.symbols.headers.bytes, &self.strings);
+        Symbol {
+            name: slice_string(strings, raw.name as usize),
+            bind: raw.info / 16,
+            kind: raw.info % 16,
+            other: raw.other,
+            home,
+            value: raw.value,
+            size: raw.size,
+        }
+    }
+
+    /// The first symbol that stands for a section: its type is `STT_SECTION`, its home is the section, and
+    /// its value is 0.
+    pub fn section_symbol(&self, sec: u32) -> Option<u32>
+        requires { sec < length self.now.sections }
+        ensures { result ≡ section_symbol_of self.now sec }
+    {
+        self.section_symbols[sec as usize]
+    }
+
+    /// How many relocations a section has: the entries of the section of relocations whose `sh_info` it is.
+    pub fn relocs(&self, sec: u32) -> u32
+        requires { sec < length self.now.sections }
+        ensures { result ≡ length (relocs_at self.now sec) }
+    {
+        let rela = rela_header(&self.symbols.headers, &self.relas, sec);
+        (rela.size / 24) as u32
+    }
+
+    /// A relocation of a section, in the order of the file.
+    pub fn reloc(&self, sec: u32, i: u32) -> Reloc
+        requires known { sec < length self.now.sections }
+        requires inside { i < length (relocs_at self.now sec) }
+        ensures { slice_get (relocs_at self.now sec) i ≡ Some result }
+    {
+        let rela = rela_header(&self.symbols.headers, &self.relas, sec);
+        nth_reloc(self.symbols.headers.bytes, &rela, i)
+    }
+}
