@@ -1,0 +1,4 @@
+pub mod Layout
+pub mod New
+pub mod Object
+pub mod Added

@@ -1,0 +1,12 @@
+//! Writes relocatable ELF64 objects: an object read before, with sections added behind it.
+#![tactic(auto)]
+
+mod bytes;
+mod header;
+mod input;
+mod pieces;
+mod section;
+mod write;
+
+pub use section::NewSection;
+pub use write::append;
