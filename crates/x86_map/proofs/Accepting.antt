@@ -72,11 +72,11 @@ allows-not MustNot present not_it here = rw here
 abbrev Refuses : (Form → Bool) → Prefixes → Type 0
 Refuses test p = (form : Form) → test form ≡ true → look_form form p None ≡ Refused
 
-and_left : (a b : Bool) → (a && b) ≡ true → a ≡ true
+pub and_left : (a b : Bool) → (a && b) ≡ true → a ≡ true
 and_left true b h = refl
 and_left false b h = absurd cc
 
-and_right : (a b : Bool) → (a && b) ≡ true → b ≡ true
+pub and_right : (a b : Bool) → (a && b) ≡ true → b ≡ true
 and_right true b h = h
 and_right false b h = absurd cc
 
@@ -94,7 +94,7 @@ and_false : (a : Bool) → (a && false) ≡ false
 and_false true = refl
 and_false false = refl
 
-or_true : (a b : Bool) → (a || b) ≡ true → (a ≡ true) ⊎ (b ≡ true)
+pub or_true : (a b : Bool) → (a || b) ≡ true → (a ≡ true) ⊎ (b ≡ true)
 or_true true b h = inl refl
 or_true false b h = inr h
 
@@ -186,7 +186,7 @@ refused_3 p opcode fails =
       | inr has_f2 ↦ three_byte-refused_f2 p has_f3 has_f2 opcode
     ]
 
-one_to_three : (n : ℕ) → 0 < n → n < 4 → (n ≡ 1) ⊎ (n ≡ 2) ⊎ (n ≡ 3)
+pub one_to_three : (n : ℕ) → 0 < n → n < 4 → (n ≡ 1) ⊎ (n ≡ 2) ⊎ (n ≡ 3)
 one_to_three zero low high = absurd (omega arith)
 one_to_three (suc zero) low high = inl refl
 one_to_three (suc (suc zero)) low high = inr (inl refl)

@@ -68,7 +68,8 @@ fn stands(p: &Prefixes, map: u8) -> bool
 pub fn accepts_some(p: Prefixes, map: u8) -> bool
     requires first { 0 < map }
     requires last { map < 4 }
-    ensures { IsTrue result ↔ AcceptsSome p map }
+    ensures some { IsTrue result ↔ AcceptsSome p map }
+    ensures test { result ≡ stands p map }
 {
     stands(&p, map)
 }

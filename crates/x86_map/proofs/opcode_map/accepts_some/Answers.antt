@@ -1,5 +1,5 @@
 use Rattle.x86_map.proofs.Accepting.{stands_is}
 use Rattle.x86_map.proofs.opcode_map.accepts_some.Goals as goal
 
-pub returns : goal.returns
-returns c = rw c.stands.ensures (stands_is c.args.p c.args.map c.requires.first c.requires.last)
+pub returns-clause-some : goal.returns-clause-some
+returns-clause-some c = rw c.stands.ensures (stands_is c.args.p c.args.map c.requires.first c.requires.last)

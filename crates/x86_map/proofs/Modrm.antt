@@ -1,0 +1,199 @@
+-- An opcode has a ModRM byte under all the prefixes that it stands with, or under none.
+use Rattle.std.proofs.Common.{◌≡◌, ℕ, ◌+◌, ◌*◌, ◌<◌, Bool, true, false, cond, ltb, List, [], ◌∷◌, get_or, refl, sym, ap, ◌∙◌, arith, inl, inr}
+use Rattle.std.specs.Prelude.{◌&&◌, ◌||◌, not, Option, Some, None, map}
+use Rattle.std.specs.List.{list_all, range_with_len}
+use Rattle.std.proofs.lemmas.Bool.{ltb-true}
+use Rattle.std.proofs.lemmas.List.FromFn.{get_or-map-range_with_len}
+use Rattle.x86_map.specs.declared.prefixes.Prefixes.{Prefixes}
+use Rattle.x86_map.specs.declared.shape.Shape.{Shape}
+use Rattle.x86_map.specs.declared.shape.Look.{Look}
+use Rattle.x86_map.specs.declared.shape.Look.TheVariants.{Refused, NeedModrm, Fits}
+use Rattle.x86_map.specs.declared.form.Mode.TheVariants.{Either, Memory, Register}
+use Rattle.x86_map.specs.declared.form.Operand.{Operand}
+use Rattle.x86_map.specs.declared.form.Operand.TheVariants.{NoModrm, Digits, Bytes}
+use Rattle.x86_map.specs.declared.form.Form.{Form}
+use Rattle.x86_map.specs.Prefixes.{is_rex_valid}
+use Rattle.x86_map.specs.Form.{accepts, takes, has_modrm, shape_of, look_operand, look_form}
+use Rattle.x86_map.specs.OpcodeMap.{forms_at, look_forms, look}
+use Rattle.x86_map.proofs.Accepting.{and_left, and_right, or_true, one_to_three}
+
+-- ---- what is tested of the forms of each opcode
+
+-- a ModRM byte that the operand takes
+abbrev example : Operand → ℕ
+example NoModrm = 0
+example (Digits Either first last) = 8 * first
+example (Digits Memory first last) = 8 * first
+example (Digits Register first last) = 192 + 8 * first
+example (Bytes first last) = first
+
+abbrev takes_example : Form → Bool
+takes_example f = not (has_modrm f.operand) || (takes f.operand (example f.operand) && ltb (example f.operand) 256)
+
+abbrev all_with : List Form → Bool
+all_with forms = list_all (λ f. has_modrm f.operand) forms
+
+abbrev all_without : List Form → Bool
+all_without forms = list_all (λ f. not (has_modrm f.operand)) forms
+
+abbrev is_uniform : List Form → Bool
+is_uniform forms = (all_with forms || all_without forms) && list_all takes_example forms
+
+one_byte_uniform : map (λ o. is_uniform (forms_at 1 o)) (range_with_len 0 256) ≡ map (λ o. true) (range_with_len 0 256)
+unfolding forms_at
+one_byte_uniform = refl
+
+two_byte_uniform : map (λ o. is_uniform (forms_at 2 o)) (range_with_len 0 256) ≡ map (λ o. true) (range_with_len 0 256)
+unfolding forms_at
+two_byte_uniform = refl
+
+three_byte_uniform : map (λ o. is_uniform (forms_at 3 o)) (range_with_len 0 256) ≡ map (λ o. true) (range_with_len 0 256)
+unfolding forms_at
+three_byte_uniform = refl
+
+at_each : (test : ℕ → Bool) (opcode : ℕ) → opcode < 256 → map test (range_with_len 0 256) ≡ map (λ o. true) (range_with_len 0 256) → test opcode ≡ true
+at_each test opcode lt same =
+    sym (get_or-map-range_with_len test 0 256 opcode opcode false lt (omega arith))
+    ∙ ap (λ (bs : List Bool). get_or bs opcode false) same
+    ∙ get_or-map-range_with_len (λ o. true) 0 256 opcode opcode false lt (omega arith)
+
+uniform : (number opcode : ℕ) → 0 < number → number < 4 → opcode < 256 → is_uniform (forms_at number opcode) ≡ true
+uniform number opcode low high lt = elim (one_to_three number low high) [
+  | inl first ↦ rw first (at_each (λ o. is_uniform (forms_at 1 o)) opcode lt one_byte_uniform)
+  | inr (inl second) ↦ rw second (at_each (λ o. is_uniform (forms_at 2 o)) opcode lt two_byte_uniform)
+  | inr (inr third) ↦ rw third (at_each (λ o. is_uniform (forms_at 3 o)) opcode lt three_byte_uniform)
+]
+
+-- ---- one form
+
+refused_form : (f : Form) (p : Prefixes) (modrm : Option ℕ) → accepts f.rules p ≡ false → look_form f p modrm ≡ Refused
+unfolding look_form
+refused_form f p modrm refuses = rw refuses
+
+accepted_form : (f : Form) (p : Prefixes) (modrm : Option ℕ) → accepts f.rules p ≡ true → look_form f p modrm ≡ look_operand f.operand modrm (shape_of f p)
+unfolding look_form
+accepted_form f p modrm accept = rw accept
+
+need_operand : (o : Operand) (s : Shape) → has_modrm o ≡ true → look_operand o None s ≡ NeedModrm
+need_operand NoModrm s h = absurd cc
+need_operand (Digits mode first last) s h = refl
+need_operand (Bytes first last) s h = refl
+
+without_operand : (o : Operand) (s : Shape) (m : ℕ) → has_modrm o ≡ false → look_operand o (Some m) s ≡ Refused
+without_operand NoModrm s m h = refl
+without_operand (Digits mode first last) s m h = absurd cc
+without_operand (Bytes first last) s m h = absurd cc
+
+fits_operand : (o : Operand) (s : Shape) (m : ℕ) → takes o m ≡ true → look_operand o (Some m) s ≡ Fits s
+fits_operand NoModrm s m h = absurd cc
+fits_operand (Digits mode first last) s m h = rw h
+fits_operand (Bytes first last) s m h = rw h
+
+not_true : (b : Bool) → not b ≡ true → b ≡ false
+not_true true h = absurd cc
+not_true false h = refl
+
+-- ---- the forms of one opcode
+
+-- forms without a ModRM byte refuse each
+plain_operand : (o : Operand) (s : Shape) → has_modrm o ≡ false → look_operand o None s ≡ Fits s
+plain_operand NoModrm s h = refl
+plain_operand (Digits mode first last) s h = absurd cc
+plain_operand (Bytes first last) s h = absurd cc
+
+none_fits : (forms : List Form) (p : Prefixes) (m : ℕ) → all_without forms ≡ true → look_forms forms p (Some m) ≡ Refused
+none_fits [] p m h = refl
+none_fits (f ∷ forms) p m h =
+    let rest : look_forms forms p (Some m) ≡ Refused = none_fits forms p m (and_right (not (has_modrm f.operand)) (all_without forms) h) in
+    let without : has_modrm f.operand ≡ false = not_true (has_modrm f.operand) (and_left (not (has_modrm f.operand)) (all_without forms) h) in
+    let here : look_form f p (Some m) ≡ Refused = elim (accepts f.rules p) as (λ b. accepts f.rules p ≡ b → look_form f p (Some m) ≡ Refused) [
+      | true ↦ λ e. accepted_form f p (Some m) e ∙ without_operand f.operand (shape_of f p) m without
+      | false ↦ λ e. refused_form f p (Some m) e
+    ] refl in
+    rw (here, rest)
+
+-- forms with a ModRM byte ask for one where some byte fits
+asks : (forms : List Form) (p : Prefixes) (m : ℕ) (s : Shape) → all_with forms ≡ true → look_forms forms p (Some m) ≡ Fits s → look_forms forms p None ≡ NeedModrm
+asks [] p m s h fits = absurd cc
+asks (f ∷ forms) p m s h fits =
+    let has : has_modrm f.operand ≡ true = and_left (has_modrm f.operand) (all_with forms) h in
+    elim (accepts f.rules p) as (λ b. accepts f.rules p ≡ b → look_forms (f ∷ forms) p None ≡ NeedModrm) [
+      | true ↦ λ e. rw (accepted_form f p None e, need_operand f.operand (shape_of f p) has)
+      | false ↦ λ e. rw (refused_form f p None e) (asks forms p m s (and_right (has_modrm f.operand) (all_with forms) h) (rw (refused_form f p (Some m) e) at fits))
+    ] refl
+
+-- where a ModRM byte is asked for, some byte fits
+pub record SomeFits (look_at : ℕ → Look) : Type 0 where
+  pub modrm : ℕ
+  pub is_byte : modrm < 256
+  pub shape : Shape
+  pub fits : look_at modrm ≡ Fits shape
+
+some_fits : (forms : List Form) (p : Prefixes) → all_with forms ≡ true → list_all takes_example forms ≡ true → look_forms forms p None ≡ NeedModrm → SomeFits (λ m. look_forms forms p (Some m))
+some_fits [] p h examples asked = absurd cc
+some_fits (f ∷ forms) p h examples asked =
+    let has : has_modrm f.operand ≡ true = and_left (has_modrm f.operand) (all_with forms) h in
+    let example_of : takes_example f ≡ true = and_left (takes_example f) (list_all takes_example forms) examples in
+    let taken : (takes f.operand (example f.operand) && ltb (example f.operand) 256) ≡ true = rw has at example_of in
+    elim (accepts f.rules p) as (λ b. accepts f.rules p ≡ b → SomeFits (λ m. look_forms (f ∷ forms) p (Some m))) [
+      | true ↦ λ e. record {
+        modrm = example f.operand;
+        is_byte = ltb-true _ _ (and_right (takes f.operand (example f.operand)) (ltb (example f.operand) 256) taken);
+        shape = shape_of f p;
+        fits = rw (accepted_form f p (Some (example f.operand)) e, fits_operand f.operand (shape_of f p) (example f.operand) (and_left (takes f.operand (example f.operand)) (ltb (example f.operand) 256) taken)) refl;
+      }
+      | false ↦ λ e.
+          let rest = some_fits forms p (and_right (has_modrm f.operand) (all_with forms) h) (and_right (takes_example f) (list_all takes_example forms) examples) (rw (refused_form f p None e) at asked) in
+          record { modrm = rest.modrm; is_byte = rest.is_byte; shape = rest.shape; fits = rw (refused_form f p (Some rest.modrm) e) rest.fits }
+    ] refl
+
+without_asks : (forms : List Form) (p : Prefixes) → all_without forms ≡ true → look_forms forms p None ≡ NeedModrm → ⊥
+without_asks [] p h asked = cc
+without_asks (f ∷ forms) p h asked =
+    let without : has_modrm f.operand ≡ false = not_true (has_modrm f.operand) (and_left (not (has_modrm f.operand)) (all_without forms) h) in
+    elim (accepts f.rules p) as (λ b. accepts f.rules p ≡ b → ⊥) [
+      | true ↦ λ e. let fits : look_form f p None ≡ Fits (shape_of f p) = accepted_form f p None e ∙ plain_operand f.operand (shape_of f p) without in
+          let all : look_forms (f ∷ forms) p None ≡ Fits (shape_of f p) = rw fits in cc
+      | false ↦ λ e. without_asks forms p (and_right (not (has_modrm f.operand)) (all_without forms) h) (rw (refused_form f p None e) at asked)
+    ] refl
+
+-- ---- the map
+
+pub valid_rex-fits : (p : Prefixes) (number opcode : ℕ) (modrm : Option ℕ) (s : Shape) → look p number opcode modrm ≡ Fits s → is_rex_valid p.rex ≡ true
+unfolding look
+valid_rex-fits p number opcode modrm s h = elim (is_rex_valid p.rex) as (λ b. cond b (look_forms (forms_at number opcode) p modrm) Refused ≡ Fits s → b ≡ true) [
+  | true ↦ λ e. refl
+  | false ↦ λ e. absurd cc
+] h
+
+pub look-asks : (p : Prefixes) (number opcode m : ℕ) (s : Shape) → 0 < number → number < 4 → opcode < 256 → look p number opcode (Some m) ≡ Fits s → look p number opcode None ≡ NeedModrm
+unfolding look
+look-asks p number opcode m s low high lt fits =
+    let valid : is_rex_valid p.rex ≡ true = valid_rex-fits p number opcode (Some m) s fits in
+    let forms = forms_at number opcode in
+    let inside : look_forms forms p (Some m) ≡ Fits s = rw valid at fits in
+    let test = uniform number opcode low high lt in
+    rw valid (elim (or_true (all_with forms) (all_without forms) (and_left (all_with forms || all_without forms) (list_all takes_example forms) test)) [
+      | inl with_modrm ↦ asks forms p m s with_modrm inside
+      | inr without ↦ let never : look_forms forms p (Some m) ≡ Refused = none_fits forms p m without in absurd cc
+    ])
+
+inside-fits : (p : Prefixes) (number opcode m : ℕ) (s : Shape) → is_rex_valid p.rex ≡ true → look_forms (forms_at number opcode) p (Some m) ≡ Fits s → look p number opcode (Some m) ≡ Fits s
+unfolding look
+inside-fits p number opcode m s valid inside = rw valid inside
+
+pub look-some : (p : Prefixes) (number opcode : ℕ) → 0 < number → number < 4 → opcode < 256 → look p number opcode None ≡ NeedModrm → SomeFits (λ m. look p number opcode (Some m))
+unfolding look
+look-some p number opcode low high lt asked =
+    let valid : is_rex_valid p.rex ≡ true = elim (is_rex_valid p.rex) as (λ b. cond b (look_forms (forms_at number opcode) p None) Refused ≡ NeedModrm → b ≡ true) [
+      | true ↦ λ e. refl
+      | false ↦ λ e. absurd cc
+    ] asked in
+    let forms = forms_at number opcode in
+    let inside : look_forms forms p None ≡ NeedModrm = rw valid at asked in
+    let test = uniform number opcode low high lt in
+    elim (or_true (all_with forms) (all_without forms) (and_left (all_with forms || all_without forms) (list_all takes_example forms) test)) [
+      | inl with_modrm ↦ let some = some_fits forms p with_modrm (and_right (all_with forms || all_without forms) (list_all takes_example forms) test) inside in
+          record { modrm = some.modrm; is_byte = some.is_byte; shape = some.shape; fits = inside-fits p number opcode some.modrm some.shape valid some.fits }
+      | inr without ↦ absurd (without_asks forms p without inside)
+    ]
