@@ -1,1 +1,8 @@
 pub mod Leaf
+pub mod Fields
+pub mod Action
+pub mod Operation
+pub mod Prefix
+pub mod Spelling
+pub mod Reading
+pub mod Decoding

@@ -1,9 +1,19 @@
-//! One instruction of x86-64 code (Intel SDM, volume 2).
+//! One instruction of x86-64 code: its length, and what it does to rsp, rbp, the stack and the flow of control
+//! (Intel SDM, volume 2).
 #![tactic(auto)]
 
-ghost use Rattle.std.specs.Prelude.{◌≡◌, ◌<◌, ◌≤◌, length, slice_index, IfOk};
+ghost use Rattle.std.specs.Prelude.{◌≡◌, ◌<◌, ◌≤◌, ◌↔◌, ℕ, [], ◌∷◌, length, slice_index, IfOk};
 ghost use Rattle.x86_decode.specs.Leaf.{leaf_op};
+ghost use Rattle.x86_decode.specs.Spelling.{Spells};
+ghost use Rattle.x86_decode.specs.Decoding.{StandsInFront, EndsOutside, IsCut, IsTooLong, OneSpelling, decoded};
 
+mod action;
+mod fields;
+mod operation;
+mod prefix;
+mod reading;
+
+use crate::reading::{Stop, read};
 pub use machine_ops::{Insn, Op};
 
 /// Why no instruction stands at the front of the bytes.
@@ -17,8 +27,12 @@ pub enum DecodeFault {
     Long,
 }
 
-/// The instruction at the front of the bytes.
+/// The instruction at the front of the bytes. An instruction has at most 15 bytes.
 pub fn decode(bytes: &[u8]) -> Result<Insn, DecodeFault>
+    ensures ok { (insn : Insn) → (result ≡ Ok insn) ↔ StandsInFront bytes.now insn }
+    ensures outside { (seen : ℕ) → (result ≡ Err (DecodeFault.Outside seen)) ↔ EndsOutside bytes.now seen }
+    ensures cut { (have : ℕ) → (result ≡ Err (DecodeFault.Cut have)) ↔ IsCut bytes.now have }
+    ensures long { (result ≡ Err DecodeFault.Long) ↔ IsTooLong bytes.now }
     // A byte of a straight leaf function is an instruction of length 1.
     ensures leaf { (op : Op) → 0 < length bytes.now
         → leaf_op (slice_index bytes.now 0) ≡ Some op
@@ -27,13 +41,38 @@ pub fn decode(bytes: &[u8]) -> Result<Insn, DecodeFault>
     ensures within { IfOk result (λ insn.
         (0 < insn.len) × (insn.len ≤ 15) × (insn.len ≤ length bytes.now)) }
 {
-    let op = match bytes {
-        [] => return Err(DecodeFault::Cut { have: 0 }),
-        [0x50..=0x53 | 0x56 | 0x57, ..] => Op::Push,
-        [0x58..=0x5B | 0x5E | 0x5F, ..] => Op::Pop,
-        [0x90, ..] => Op::Nop,
-        [0xC3, ..] => Op::Ret,
-        [_, ..] => return Err(DecodeFault::Outside { seen: 1 }),
-    };
-    Ok(Insn { len: 1, op })
+    decode_front(bytes)
 }
+
+#[tactic(auto, unfolding(crate::specs::Decoding::decoded))]
+fn decode_front(bytes: &[u8]) -> Result<Insn, DecodeFault>
+    ensures { result ≡ decoded bytes.now }
+{
+    let front = if bytes.len() < MAX_LEN {
+        bytes
+    } else {
+        &bytes[..MAX_LEN]
+    };
+    match read(front) {
+        Ok(insn) => Ok(insn),
+        Err(Stop::Dead { seen }) => Err(DecodeFault::Outside { seen }),
+        Err(Stop::More) if bytes.len() < MAX_LEN => Err(DecodeFault::Cut {
+            have: bytes.len() as u8,
+        }),
+        Err(Stop::More) => Err(DecodeFault::Long),
+    }
+}
+
+/// How many bytes an instruction has at most.
+const MAX_LEN: usize = 15;
+
+/// No spelling is the front of another, and none spells two instructions: bytes that begin with a spelling begin with no
+/// other.
+pub fn one_spelling()
+    ensures { OneSpelling }
+{}
+
+/// Each byte of a straight leaf function spells its operation, alone.
+pub fn leaf_spellings()
+    ensures { (byte : ℕ) (op : Op) → leaf_op byte ≡ Some op → Spells (byte ∷ []) (record { len = 1; op = op }) }
+{}

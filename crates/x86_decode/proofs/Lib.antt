@@ -1,0 +1,12 @@
+pub mod Tables
+pub mod Front
+pub mod Languages
+pub mod Map
+pub mod Starts
+pub mod Verdicts
+pub mod Complete
+pub mod Spelled
+pub mod Parsed
+pub mod Fronts
+pub mod Decided
+pub mod LeafLaws

@@ -1,0 +1,117 @@
+-- What an instruction does to rsp (register 4), rbp (register 5), the stack and the flow of control.
+use Rattle.std.specs.Prelude.{ℕ, true, false, not, ◌&&◌, ◌||◌, ◌==◌, if◌then◌else◌, Option, Some, None, pos, neg_ℤ}
+use Rattle.machine_ops.specs.declared.op.Op.{Op}
+use Rattle.machine_ops.specs.declared.op.Op.TheVariants as ops
+use Rattle.x86_map.specs.Prefixes.{rex_w, rex_b}
+use Rattle.x86_decode.specs.declared.fields.Fields.{Fields}
+use Rattle.x86_decode.specs.declared.action.Action.{Action}
+use Rattle.x86_decode.specs.declared.action.Action.TheVariants.{Other, Exchange, NoOperation, Hint, PushRegister, Push, PopRegister, PopOperand, Pop, PopFlags, Arithmetic, Store, Load, LoadAddress, Enter, Leave, Call, ShortJump, Jump, ShortCondition, Condition, Return, ReturnImmediate, InterruptReturn, Far, Undefined, Breakpoint, Group5, Group7}
+use Rattle.x86_decode.specs.Fields.{modrm, is_register, digit, reg_register, rm_register, opcode_register, is_at_rsp, is_at_rbp, is_table_entry, writes}
+use Rattle.x86_decode.specs.Action.{action_of}
+
+-- All other instructions: by the registers that they write.
+abbrev pub written : Fields → Op
+written f = if writes f 4 then ops.SpOther else (if writes f 5 then ops.BpOther else ops.Plain)
+
+abbrev pub pushed : ℕ → Op
+pushed register = if register == 5 then ops.PushBp else ops.Push
+
+abbrev pub popped : ℕ → Op
+popped register = if register == 5 then ops.PopBp else (if register == 4 then ops.SpOther else ops.Pop)
+
+-- PUSH Ev, POP Ev
+unfoldable pub push_operand : Fields → Op
+push_operand f = if is_register f then pushed (rm_register f) else ops.Push
+
+unfoldable pub pop_operand : Fields → Op
+pop_operand f = if is_register f then popped (rm_register f) else ops.Pop
+
+-- ADD, SUB and AND of rsp and an immediate
+unfoldable pub arithmetic : Fields → Op
+arithmetic f =
+    if rex_w f.prefixes && is_register f && (rm_register f == 4) then
+    (if digit f == 0 then ops.AddSp f.immediate
+    else (if digit f == 5 then ops.AddSp (neg_ℤ f.immediate)
+    else (if digit f == 4 then ops.AndSp f.immediate else written f)))
+    else written f
+
+-- MOV of one register to another, by their numbers
+abbrev pub copied : ℕ → ℕ → Fields → Op
+copied to from f =
+    if (to == 4) && (from == 5) then ops.LeaSpBp (pos 0)
+    else (if (to == 5) && (from == 4) then ops.LeaBpSp (pos 0) else written f)
+
+-- MOV Ev, Gv
+unfoldable pub stored : Fields → Op
+stored f =
+    if not (rex_w f.prefixes) then written f
+    else (if is_register f then copied (rm_register f) (reg_register f) f
+    else (if is_at_rsp f && (reg_register f == 5) then ops.StoreBp f.displacement else written f))
+
+-- MOV Gv, Ev
+unfoldable pub loaded : Fields → Op
+loaded f =
+    if not (rex_w f.prefixes) then written f
+    else (if is_register f then copied (reg_register f) (rm_register f) f
+    else (if is_at_rsp f && (reg_register f == 5) then ops.LoadBp f.displacement else written f))
+
+-- LEA
+unfoldable pub address_loaded : Fields → Op
+address_loaded f =
+    if not (rex_w f.prefixes) then written f
+    else (if (reg_register f == 4) && is_at_rsp f then ops.AddSp f.displacement
+    else (if (reg_register f == 4) && is_at_rbp f then ops.LeaSpBp f.displacement
+    else (if (reg_register f == 5) && is_at_rsp f then ops.LeaBpSp f.displacement else written f)))
+
+-- the table of an indirect jump: where its address stands in the instruction
+unfoldable pub jump_table : Fields → Option ℕ
+jump_table f = if is_table_entry f then Some f.displacement_at else None
+
+-- INC, DEC; near CALL, far CALL, near JMP, far JMP, PUSH
+unfoldable pub group_5 : Fields → Op
+group_5 f =
+    if digit f == 2 then ops.CallInd
+    else (if (digit f == 3) || (digit f == 5) then ops.Switch
+    else (if digit f == 4 then ops.JmpInd (jump_table f)
+    else (if digit f == 6 then push_operand f else written f)))
+
+-- STAC and CLAC are among them
+unfoldable pub group_7 : Fields → Op
+group_7 f =
+    if modrm f == 0xCB then ops.Stac
+    else (if modrm f == 0xCA then ops.Clac else written f)
+
+unfoldable pub operation_by : Action → Fields → Op
+operation_by Other f = written f
+-- NOP is the exchange of rAX with itself
+operation_by Exchange f = if rex_b f.prefixes then written f else ops.Nop
+operation_by NoOperation f = ops.Nop
+operation_by Hint f = if (modrm f == 0xFA) || (modrm f == 0xFB) then ops.Endbr else written f
+operation_by PushRegister f = pushed (opcode_register f)
+operation_by Push f = ops.Push
+operation_by PopRegister f = popped (opcode_register f)
+operation_by PopOperand f = pop_operand f
+operation_by Pop f = ops.Pop
+operation_by PopFlags f = ops.Popf
+operation_by Arithmetic f = arithmetic f
+operation_by Store f = stored f
+operation_by Load f = loaded f
+operation_by LoadAddress f = address_loaded f
+operation_by Enter f = ops.SpOther
+operation_by Leave f = ops.Leave
+operation_by Call f = ops.Call f.immediate
+operation_by ShortJump f = ops.Jmp f.immediate false
+operation_by Jump f = ops.Jmp f.immediate true
+operation_by ShortCondition f = ops.Jcc f.immediate false
+operation_by Condition f = ops.Jcc f.immediate true
+operation_by Return f = ops.Ret
+operation_by ReturnImmediate f = ops.RetImm
+operation_by InterruptReturn f = if rex_w f.prefixes then ops.Iret else ops.Switch
+operation_by Far f = ops.Switch
+operation_by Undefined f = ops.Ud2
+operation_by Breakpoint f = ops.Int3
+operation_by Group5 f = group_5 f
+operation_by Group7 f = group_7 f
+
+unfoldable pub operation : Fields → Op
+operation f = operation_by (action_of f.map f.opcode) f

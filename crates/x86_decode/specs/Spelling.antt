@@ -1,0 +1,129 @@
+-- The spelling of an instruction: a whole byte string (SDM, volume 2, figure 2-1).
+use Rattle.std.specs.Prelude.{◌≡◌, ℕ, ◌+◌, ◌<◌, Bool, false, ◌&&◌, ◌||◌, ◌==◌, nat_lt, if◌then◌else◌, IsTrue, List, [], ◌∷◌, ◌++◌, length, Option, Some, None, is_some}
+use Rattle.std.specs.List.{AllByRecursion}
+use Rattle.machine_ops.specs.declared.insn.Insn.{Insn}
+use Rattle.x86_map.specs.declared.prefixes.Prefixes.{Prefixes}
+use Rattle.x86_map.specs.declared.shape.Shape.{Shape}
+use Rattle.x86_map.specs.declared.shape.Look.TheVariants.{Fits}
+use Rattle.x86_map.specs.Prefixes.{is_rex_valid}
+use Rattle.x86_map.specs.Form.{modrm_mod, modrm_rm}
+use Rattle.x86_map.specs.OpcodeMap.{look}
+use Rattle.x86_decode.specs.declared.fields.Fields.{Fields}
+use Rattle.x86_decode.specs.Prefix.{is_legacy, prefixes_of}
+use Rattle.x86_decode.specs.Fields.{sib_base, signed}
+use Rattle.x86_decode.specs.Operation.{operation}
+
+-- an opcode: one byte, 0F and a byte, or 0F 38 and a byte
+pub data Opcode : Type 0 where
+  one_byte : ℕ → Opcode
+  two_byte : ℕ → Opcode
+  three_byte : ℕ → Opcode
+
+-- what follows the opcode
+pub record Operands : Type 0 where
+  pub modrm : Option ℕ
+  pub sib : Option ℕ
+  pub displacement : List ℕ
+  pub immediate : List ℕ
+
+-- the parts of an instruction, in their order
+pub record Parts : Type 0 where
+  pub legacy : List ℕ
+  pub rex : Option ℕ
+  pub opcode : Opcode
+  pub operands : Operands
+
+-- ---- the bytes of the parts
+
+abbrev pub optional : Option ℕ → List ℕ
+optional None = []
+optional (Some byte) = byte ∷ []
+
+abbrev pub opcode_bytes : Opcode → List ℕ
+opcode_bytes (one_byte o) = o ∷ []
+opcode_bytes (two_byte o) = 0x0F ∷ o ∷ []
+opcode_bytes (three_byte o) = 0x0F ∷ 0x38 ∷ o ∷ []
+
+abbrev pub operand_bytes : Operands → List ℕ
+operand_bytes operands =
+    optional operands.modrm ++ (optional operands.sib ++ (operands.displacement ++ operands.immediate))
+
+abbrev pub bytes_of : Parts → List ℕ
+bytes_of parts =
+    parts.legacy ++ (optional parts.rex ++ (opcode_bytes parts.opcode ++ operand_bytes parts.operands))
+
+-- ---- which parts go together
+
+-- the opcode's place in the opcode map: which map, and which byte
+abbrev pub map_of : Opcode → ℕ
+map_of (one_byte o) = 1
+map_of (two_byte o) = 2
+map_of (three_byte o) = 3
+
+abbrev pub byte_of : Opcode → ℕ
+byte_of (one_byte o) = o
+byte_of (two_byte o) = o
+byte_of (three_byte o) = o
+
+-- a SIB byte stands behind a ModRM byte with rm 4 and a mod below 3
+abbrev pub has_sib : Option ℕ → Bool
+has_sib None = false
+has_sib (Some modrm) = nat_lt (modrm_mod modrm) 3 && (modrm_rm modrm == 4)
+
+abbrev pub has_base_5 : Option ℕ → Bool
+has_base_5 None = false
+has_base_5 (Some sib) = sib_base sib == 5
+
+-- mod 1: one byte. mod 2: four. mod 0: four with rm 5, which counts from rip, and with a SIB byte of base 5, which has
+-- no base then.
+abbrev pub displacement_len : Option ℕ → Option ℕ → ℕ
+displacement_len None sib = 0
+displacement_len (Some modrm) sib =
+    if modrm_mod modrm == 1 then 1
+    else (if modrm_mod modrm == 2 then 4
+    else (if (modrm_mod modrm == 0) && ((modrm_rm modrm == 5) || has_base_5 sib) then 4 else 0))
+
+-- these operands follow that opcode under those prefixes
+pub record Follow (p : Prefixes) (map opcode : ℕ) (operands : Operands) (shape : Shape) : Type 0 where
+  pub in_map : look p map opcode operands.modrm ≡ Fits shape
+  pub sib : is_some operands.sib ≡ has_sib operands.modrm
+  pub displacement : length operands.displacement ≡ displacement_len operands.modrm operands.sib
+  pub immediate : length operands.immediate ≡ shape.imm
+
+-- ---- what is spelled
+
+-- the fields of an instruction whose prefixes and opcode have so many bytes
+abbrev pub fields_of : Prefixes → ℕ → ℕ → ℕ → Operands → Shape → Fields
+fields_of p map opcode before operands shape = record {
+  prefixes = p;
+  map = map;
+  opcode = opcode;
+  modrm = operands.modrm;
+  sib = operands.sib;
+  shape = shape;
+  displacement = signed operands.displacement;
+  displacement_at = before + length (optional operands.modrm) + length (optional operands.sib);
+  immediate = signed operands.immediate;
+}
+
+-- The bytes, all of them, spell one instruction, of that length and operation.
+pub record Spells (bytes : List ℕ) (insn : Insn) : Type 0 where
+  pub parts : Parts
+  pub shape : Shape
+  pub in_order : bytes ≡ bytes_of parts
+  pub are_bytes : AllByRecursion (λ b. b < 256) bytes
+  pub legacy : AllByRecursion (λ b. IsTrue (is_legacy b)) parts.legacy
+  pub rex : IsTrue (is_rex_valid parts.rex)
+  pub operands : Follow (prefixes_of parts.legacy parts.rex) (map_of parts.opcode) (byte_of parts.opcode) parts.operands shape
+  pub len : insn.len ≡ length bytes
+  pub op : insn.op ≡ operation (fields_of (prefixes_of parts.legacy parts.rex) (map_of parts.opcode) (byte_of parts.opcode) (length parts.legacy + length (optional parts.rex) + length (opcode_bytes parts.opcode)) parts.operands shape)
+
+-- ---- the fronts of spellings
+
+-- more bytes make a spelling of these
+abbrev pub BeginsSpelling : List ℕ → Type 0
+BeginsSpelling front = (rest : List ℕ) × (insn : Insn) × (0 < length rest) × Spells (front ++ rest) insn
+
+-- these bytes are the front of no spelling, nor one themselves
+abbrev pub BeginsNone : List ℕ → Type 0
+BeginsNone front = (rest : List ℕ) (insn : Insn) → Spells (front ++ rest) insn → ⊥

@@ -1,0 +1,171 @@
+ghost use Rattle.std.specs.Prelude.{◌≡◌, ℕ};
+ghost use Rattle.x86_decode.specs.Fields.{
+  signed,
+  modrm,
+  sib,
+  is_register,
+  digit,
+  reg_register,
+  rm_register,
+  opcode_register,
+  extended,
+  is_plain_address,
+  is_at_rsp,
+  is_at_rbp,
+  is_table_entry,
+  writes,
+  writes_number,
+};
+
+use byteorder::{ByteOrder, LittleEndian};
+use x86_map::{Prefixes, Shape, Write};
+
+/// What an instruction's operation is made from.
+#[derive(Clone, Copy)]
+pub struct Fields {
+    /// The prefixes.
+    pub prefixes: Prefixes,
+    /// Which map the opcode is of: 1, 2 behind 0F, 3 behind 0F 38.
+    pub map: u8,
+    /// The opcode.
+    pub opcode: u8,
+    /// The ModRM byte.
+    pub modrm: Option<u8>,
+    /// The SIB byte.
+    pub sib: Option<u8>,
+    /// What the opcode map says of them.
+    pub shape: Shape,
+    /// The displacement, 0 where there is none.
+    pub displacement: i32,
+    /// Where the displacement stands in the instruction.
+    pub displacement_at: u8,
+    /// The immediate of one or four bytes, else 0.
+    pub immediate: i32,
+}
+
+/// The number in one or four bytes, with its sign; 0 for other lengths.
+pub(crate) fn signed_number(bytes: &[u8]) -> i32
+    ensures { result ≡ signed bytes.now }
+{
+    match bytes.len() {
+        1 => i32::from(bytes[0].cast_signed()),
+        4 => LittleEndian::read_i32(bytes),
+        _ => 0,
+    }
+}
+
+impl Fields {
+    pub(crate) fn modrm(&self) -> u8
+        ensures { result ≡ modrm self.now }
+    {
+        self.modrm.unwrap_or(0)
+    }
+
+    fn sib(&self) -> u8
+        ensures { result ≡ sib self.now }
+    {
+        self.sib.unwrap_or(0)
+    }
+
+    pub(crate) fn is_register(&self) -> bool
+        ensures { result ≡ is_register self.now }
+    {
+        self.modrm() / 64 == 3
+    }
+
+    pub(crate) fn digit(&self) -> u8
+        ensures { result ≡ digit self.now }
+    {
+        self.modrm() / 8 % 8
+    }
+
+    pub(crate) fn reg_register(&self) -> u8
+        ensures { result ≡ reg_register self.now }
+    {
+        extended(self.prefixes.rex_r(), self.digit())
+    }
+
+    pub(crate) fn rm_register(&self) -> u8
+        ensures { result ≡ rm_register self.now }
+    {
+        extended(self.prefixes.rex_b(), self.modrm() % 8)
+    }
+
+    pub(crate) fn opcode_register(&self) -> u8
+        ensures { result ≡ opcode_register self.now }
+    {
+        extended(self.prefixes.rex_b(), self.opcode % 8)
+    }
+
+    fn is_plain_address(&self) -> bool
+        ensures { result ≡ is_plain_address self.now }
+    {
+        !self.prefixes.addrsize && !self.prefixes.fs_gs
+    }
+
+    pub(crate) fn is_at_rsp(&self) -> bool
+        ensures { result ≡ is_at_rsp self.now }
+    {
+        let (modrm, sib) = (self.modrm(), self.sib());
+        modrm / 64 < 3
+            && modrm % 8 == 4
+            && sib % 8 == 4
+            && sib / 8 % 8 == 4
+            && !self.prefixes.rex_b()
+            && !self.prefixes.rex_x()
+            && self.is_plain_address()
+    }
+
+    pub(crate) fn is_at_rbp(&self) -> bool
+        ensures { result ≡ is_at_rbp self.now }
+    {
+        let modrm = self.modrm();
+        (modrm / 64 == 1 || modrm / 64 == 2)
+            && modrm % 8 == 5
+            && !self.prefixes.rex_b()
+            && self.is_plain_address()
+    }
+
+    pub(crate) fn is_table_entry(&self) -> bool
+        ensures { result ≡ is_table_entry self.now }
+    {
+        let (modrm, sib) = (self.modrm(), self.sib());
+        modrm / 64 == 0
+            && modrm % 8 == 4
+            && sib % 8 == 5
+            && sib / 64 == 3
+            && (sib / 8 % 8 != 4 || self.prefixes.rex_x())
+            && self.is_plain_address()
+    }
+
+    /// Whether it writes the register of this number, 4 or 5.
+    pub(crate) fn writes(&self, number: u8) -> bool
+        ensures { result ≡ writes self.now number }
+    {
+        !(self.shape.byte && self.prefixes.rex.is_none()) && self.writes_number(number)
+    }
+
+    fn writes_number(&self, number: u8) -> bool
+        ensures { result ≡ writes_number self.now.shape.write self.now number }
+    {
+        match self.shape.write {
+            Write::Nothing => false,
+            Write::Rm => self.is_register() && self.rm_register() == number,
+            Write::Reg => self.reg_register() == number,
+            Write::Both => {
+                self.reg_register() == number || self.is_register() && self.rm_register() == number
+            }
+            Write::Opcode => self.opcode_register() == number,
+        }
+    }
+}
+
+ghost use Rattle.std.specs.Prelude.{◌<◌};
+
+/// A register's number from its three bits and a bit of REX.
+fn extended(bit: bool, field: u8) -> u8
+    requires { field < 8 }
+    ensures { result ≡ extended bit field }
+{
+    if bit { field + 8 } else { field }
+}
