@@ -1,0 +1,17 @@
+pub mod Lists
+pub mod Same
+pub mod KeptStates
+pub mod Memory
+pub mod Numbers
+pub mod Shadow
+pub mod Frames
+pub mod Landing
+pub mod Edges
+pub mod GoesOn
+pub mod Passes
+pub mod Leaves
+pub mod Calls
+pub mod Backs
+pub mod Wrecks
+pub mod Starts
+pub mod Unwind
