@@ -10,3 +10,6 @@ mod rules;
 
 pub use machine_ops::{BpHome, Depth, EndKind, HintState, State};
 pub use moves::{initial, step};
+
+#[cfg(test)]
+mod tests;
