@@ -1,0 +1,4 @@
+pub mod SlotLemmas
+pub mod OneList
+pub mod ReadBack
+pub mod Held

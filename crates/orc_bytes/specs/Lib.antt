@@ -1,0 +1,4 @@
+pub mod RowBytes
+pub mod RelocBytes
+pub mod Sections
+pub mod Laws

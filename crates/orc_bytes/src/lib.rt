@@ -1,0 +1,12 @@
+//! The ORC sections of an object: rows to bytes (Linux 6.6, `orc_types.h`; ELF-64 gABI).
+#![tactic(auto)]
+
+mod bodies;
+mod laws;
+mod relocs;
+mod rows;
+mod worked;
+
+pub use bodies::{OrcSections, encode};
+pub use laws::{bodies_are_held, relocs_read_back, rows_are_determined};
+pub use worked::{worked_relocs, worked_rows};
