@@ -1,7 +1,7 @@
 -- Kept states: they are of checked points, consistent, and carried along edges.
 use Rattle.std.proofs.Common.{◌≡◌, ℕ, zero, suc, ◌⊎◌, Bool, true, false, if◌then◌else◌, List, [], ◌∷◌, Option, Some, None, Result, Ok, Err, ◌==◌, Contains, filter, option_and_then, refl, sym, ap, ◌∙◌, subst, inl, inr, arith}
 use Rattle.std.specs.List.{list_any}
-use Rattle.std.proofs.lemmas.Bool.{eq-eqb}
+use Rattle.std.proofs.lemmas.Bool.{eq-eqb, eqb-true}
 use Rattle.machine_ops.specs.declared.op.Op.{Op}
 use Rattle.machine_ops.specs.declared.flow.Edge.{Edge}
 use Rattle.machine_ops.specs.declared.flow.EdgeKind.{EdgeKind}
@@ -18,7 +18,7 @@ use Rattle.stack_machine.specs.IsProgram.{IsProgram}
 use Rattle.stack_machine.specs.Kept.{edges_of, moved, brought_along, Brings, brought_from, brought, is_entry_point, first_state, later_state, kept_or, state_at, Kept, is_free}
 use Rattle.stack_machine.specs.Broken.{IsAccepted, mismatch}
 use Rattle.stack_machine.proofs.KeptLemmas.{kept_is_one}
-use Rattle.unwinding.proofs.Lists.{here, there, cases, nowhere, in_filter, found, in_flat_map, from_flat_map, in_below, from_below}
+use Rattle.unwinding.proofs.Lists.{here, there, cases, nowhere, in_filter, from_filter, found, in_flat_map, from_flat_map, in_below, from_below}
 use Rattle.unwinding.proofs.Same.{state_stable}
 
 -- the least of a list is one of it
@@ -114,10 +114,15 @@ module _ (p : Program) where
   pub brings_along : (a : ℕ) (s : State) (e : Edge) (t : State) → Contains (edges_of p a) e → Contains (brought_along s (p.insn a).op e.kind) t → Brings p a s e.to t
   brings_along a s e t c d = in_flat_map (λ (e : Edge). brought_along s (p.insn a).op e.kind) (filter (λ (x : Edge). x.to == e.to) (edges_of p a)) e t (in_filter (λ (x : Edge). x.to == e.to) (edges_of p a) e c (eq-eqb e.to e.to refl)) d
 
-  brings_moves : (a q : ℕ) (s t : State) → Brings p a s q t → (s ≡ t) ⊎ (move s (p.insn a).op ≡ Ok t)
-  brings_moves a q s t c =
+  -- what is brought comes along an edge
+  pub brings_edge : (a q : ℕ) (s t : State) → Brings p a s q t → (e : Edge) × Contains (edges_of p a) e × (e.to ≡ q) × Contains (brought_along s (p.insn a).op e.kind) t
+  brings_edge a q s t c =
       let r = from_flat_map (λ (e : Edge). brought_along s (p.insn a).op e.kind) (filter (λ (x : Edge). x.to == q) (edges_of p a)) t c in
-      brought_moves s (p.insn a).op r.0.kind t r.2
+      let k = from_filter (λ (x : Edge). x.to == q) (edges_of p a) r.0 r.1 in
+      (r.0, k.0, eqb-true (r.0).to q k.1, r.2)
+
+  brings_moves : (a q : ℕ) (s t : State) → Brings p a s q t → (s ≡ t) ⊎ (move s (p.insn a).op ≡ Ok t)
+  brings_moves a q s t c = let r = brings_edge a q s t c in brought_moves s (p.insn a).op (r.0).kind t r.3
 
   -- a RESTORE has the state of its SAVE
   restore_later : (n q r : ℕ) (s : State) → p.hint q ≡ Some Restore → p.save_of q ≡ Some r → (if p.unchecked q then None else later_state p (state_at p n) q (p.hint q)) ≡ Some s → state_at p n r ≡ Some s

@@ -15,3 +15,5 @@ pub mod Backs
 pub mod Wrecks
 pub mod Starts
 pub mod Unwind
+pub mod WorkedProgram
+pub mod Unbalanced

@@ -2,6 +2,7 @@
 #![tactic(auto)]
 
 ghost use Rattle.stack_machine.specs.Law.{UnwindingLaw};
+ghost use Rattle.unwinding.specs.Worked.{UnwindsWorked, WrecksUnbalanced};
 
 use stack_state::laws::{move_is_consistent, move_is_sound};
 
@@ -14,3 +15,16 @@ pub fn unwinding_law()
     move_is_sound();
     move_is_consistent();
 }
+
+/// A function with a frame pointer meets every premise of the law, and each state of its runs is in
+/// order: here the one after its push.
+pub fn unwinds_worked()
+    ensures { UnwindsWorked }
+{
+    unwinding_law();
+}
+
+/// A function that returns without undoing its push is warned of, and a run of it is wrecked.
+pub fn wrecks_unbalanced()
+    ensures { WrecksUnbalanced }
+{}
