@@ -1,0 +1,4 @@
+pub mod CodeLemmas
+pub mod ListingLemmas
+pub mod QueryLemmas
+pub mod ReadLemmas

@@ -1,0 +1,84 @@
+-- What is known while a body is read, and what follows at its end.
+use Rattle.std.proofs.Common.{◌≡◌, ℕ, zero, suc, ◌+◌, ◌-◌, ◌<◌, ◌≤◌, ◌^◌, List, [], ◌∷◌, ◌++◌, length, drop, get_or, Result, Ok, Err, IsOk, All, arith, refl, sym, ap, ◌∙◌, subst, append_assoc, length-append, length-drop}
+use Rattle.std.specs.List.Sorted.{IsNonDecreasingBy}
+use Rattle.std.proofs.lemmas.List.Elements.{All-nil, All-push}
+use Rattle.std.proofs.lemmas.List.Sorted.{IsNonDecreasingBy-short, IsNonDecreasingBy-push}
+use Rattle.std.proofs.lemmas.List.{drop-drop, drop_all}
+use Rattle.machine_ops.specs.declared.insn.Insn.{Insn}
+use Rattle.x86_decode.specs.Decoding.{StandsInFront, decoded}
+use Rattle.x86_text.specs.declared.placed.PlacedInsn.{PlacedInsn}
+use Rattle.x86_text.specs.Code.{IsBoundary, start, behind, IsCode, code_from, code_of}
+use Rattle.x86_text.specs.Listed.{StandsIn, LeadsTo, IsListing}
+use Rattle.x86_text.proofs.CodeLemmas.{code_from_more}
+
+-- these are the instructions of the body up to an offset
+pub record IsReadTo (body : List ℕ) (code : List PlacedInsn) (off : ℕ) : Type 0 where
+  pub within : off ≤ length body
+  pub boundary : off < length body → IsBoundary body off
+  pub same : code ++ code_from 0 off (drop off body) ≡ code_of body
+  pub each : All (StandsIn body) code
+  pub leads : LeadsTo 0 code off
+  pub ascending : IsNonDecreasingBy (λ p. p.off) code
+  pub below : All (λ p. p.off < off) code
+  pub few : length code ≤ off
+
+LeadsTo-push : (from : ℕ) (code : List PlacedInsn) (p : PlacedInsn) → LeadsTo from code p.off → LeadsTo from (code ++ p ∷ []) (p.off + p.insn.len)
+LeadsTo-push from [] p at = (sym at, ap (λ o. o + p.insn.len) at)
+LeadsTo-push from (q ∷ code) p leads = (leads.0, LeadsTo-push (from + q.insn.len) code p leads.1)
+
+nothing_read : (body : List ℕ) → [] ++ code_from 0 0 (drop 0 body) ≡ code_of body
+unfolding code_of
+nothing_read body = refl
+
+-- nothing is read yet
+pub read_nothing : (body : List ℕ) → IsReadTo body [] 0
+read_nothing body = record {
+  within = omega arith;
+  boundary = λ some. start 0 refl some;
+  same = nothing_read body;
+  each = All-nil (StandsIn body);
+  leads = refl;
+  ascending = IsNonDecreasingBy-short (λ p. p.off) [] (omega arith);
+  below = All-nil (λ p. p.off < 0);
+  few = omega arith;
+}
+
+-- one more instruction is read
+pub read_more : (body : List ℕ) (code : List PlacedInsn) (off : ℕ) (insn : Insn) → IsReadTo body code off → off < length body → decoded (drop off body) ≡ Ok insn → StandsInFront (drop off body) insn → ((other : Insn) → StandsInFront (drop off body) other → other ≡ insn) → 0 < insn.len → insn.len ≤ length (drop off body) → IsReadTo body (code ++ record { off = off; insn = insn } ∷ []) (off + insn.len)
+read_more body code off insn read inside here stands only long fits =
+    let p : PlacedInsn = record { off = off; insn = insn } in
+    let left : 0 < length (drop off body) = simp length-drop (omega arith) in
+    let room : off + insn.len ≤ length body = omega (arith, simp length-drop at fits) in
+    let rest : drop insn.len (drop off body) ≡ drop (off + insn.len) body = drop-drop insn.len off body in
+    record {
+      within = room;
+      boundary = λ inside'. behind off (off + insn.len) insn (read.boundary inside) stands refl inside';
+      same =
+          append_assoc code (p ∷ []) (code_from 0 (off + insn.len) (drop (off + insn.len) body))
+          ∙ ap (λ bytes. code ++ p ∷ code_from 0 (off + insn.len) bytes) (sym rest)
+          ∙ ap (λ ps. code ++ ps) (sym (code_from_more off (drop off body) insn left here long))
+          ∙ read.same;
+      each = All-push (StandsIn body) code p read.each (record { boundary = read.boundary inside; stands = stands; only = only; within = room });
+      leads = LeadsTo-push 0 code p read.leads;
+      ascending = IsNonDecreasingBy-push (λ q. q.off) code p read.ascending (λ d some. let low : (get_or code (length code - 1) d).off < off = read.below (length code - 1) d (omega arith) in omega arith);
+      below = All-push (λ q. q.off < off + insn.len) code p (λ k d h. let low : (get_or code k d).off < off = read.below k d h in omega arith) (omega arith);
+      few = let n : length code ≤ off = read.few in omega (arith, length-append code (p ∷ []));
+    }
+
+-- all is read
+pub read_all : (body : List ℕ) (code : List PlacedInsn) (off : ℕ) → IsReadTo body code off → length body ≤ off → length body < 2 ^ 32 → IsListing body code
+read_all body code off read end small =
+    let n : length code ≤ off = read.few in
+    let m : off ≤ length body = read.within in
+    let whole : off ≡ length body = omega arith in
+    record {
+      same = sym (append-nil code) ∙ ap (λ bytes. code ++ code_from 0 off bytes) (sym (drop_all off body end)) ∙ read.same;
+      each = read.each;
+      whole = subst (LeadsTo 0 code) whole read.leads;
+      ascending = read.ascending;
+      few = omega arith;
+    }
+  where
+    append-nil : (ps : List PlacedInsn) → ps ++ [] ≡ ps
+    append-nil [] = refl
+    append-nil (q ∷ ps) = ap (λ (qs : List PlacedInsn). q ∷ qs) (append-nil ps)

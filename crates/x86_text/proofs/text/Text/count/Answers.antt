@@ -1,0 +1,14 @@
+use Rattle.std.proofs.Common.{◌≡◌, ℕ, List, map, Contains, ◌↔◌, ap, ◌∙◌, sym, subst}
+use Rattle.x86_text.specs.declared.placed.PlacedInsn.{PlacedInsn}
+use Rattle.x86_text.specs.Code.{IsBoundary, IsCode, code_of, offsets_of}
+use Rattle.x86_text.proofs.ListingLemmas.{boundaries_listed, listing_is_code}
+use Rattle.x86_text.proofs.text.Text.count.Goals as goal
+
+pub returns-clause-code : goal.returns-clause-code
+returns-clause-code c = subst IsCode c.self.view_is (listing_is_code c.self.inside.body.now c.self.inside.code.items c.self.invariant)
+
+pub returns-clause-boundaries : goal.returns-clause-boundaries
+returns-clause-boundaries c =
+    let listed : (off : ℕ) → IsBoundary c.self.inside.body.now off ↔ Contains (offsets_of c.self.inside.body.now) off = λ off.
+    subst (λ (code : List PlacedInsn). IsBoundary c.self.inside.body.now off ↔ Contains (map (λ p. p.off) code) off) c.self.invariant.same (boundaries_listed c.self.inside.body.now c.self.inside.code.items c.self.invariant off) in
+    subst (λ (body : List ℕ). (off : ℕ) → IsBoundary body off ↔ Contains (offsets_of body) off) c.self.view_is listed

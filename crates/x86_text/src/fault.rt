@@ -1,0 +1,46 @@
+use std::alloc::{AllocError, AllocFailed};
+use std::error::Error;
+use std::fmt;
+use x86_decode::DecodeFault;
+
+/// Why a body of code isn't read.
+#[derive(Clone, Copy, Debug, PartialEq, Eq)]
+pub enum TextFault {
+    /// No instruction stands at the first boundary that doesn't decode, `off` bytes from the start.
+    At { off: u64, why: DecodeFault },
+    /// Memory was wanted and not there.
+    NoMemory,
+}
+
+impl fmt::Display for TextFault {
+    fn fmt<W: fmt::Write>(&self, f: &mut fmt::Formatter<W>) -> fmt::Result {
+        match self {
+            TextFault::At { off, .. } => write!(f, "no instruction at 0x{off:x}"),
+            TextFault::NoMemory => write!(f, "no memory"),
+        }
+    }
+}
+
+impl Error for TextFault {}
+
+impl From<AllocError> for TextFault {
+    ghost use Rattle.std.specs.Prelude.{◌≡◌};
+    ghost use Rattle.x86_text.specs.declared.fault.TextFault.TheVariants.{NoMemory};
+
+    ghost from_gives = { λ _ fault. fault ≡ NoMemory };
+
+    fn from(_error: AllocError) -> TextFault {
+        TextFault::NoMemory
+    }
+}
+
+impl<T: Drop> From<AllocFailed<T>> for TextFault {
+    ghost use Rattle.std.specs.Prelude.{◌≡◌};
+    ghost use Rattle.x86_text.specs.declared.fault.TextFault.TheVariants.{NoMemory};
+
+    ghost from_gives = { λ _ fault. fault ≡ NoMemory };
+
+    fn from(_error: AllocFailed<T>) -> TextFault {
+        TextFault::NoMemory
+    }
+}

@@ -1,0 +1,15 @@
+//! The instructions of a body of x86-64 code, one behind the other from its first byte to its last.
+#![tactic(auto)]
+
+mod fault;
+mod placed;
+mod text;
+
+pub use fault::TextFault;
+pub use machine_ops::{Insn, Op};
+pub use placed::PlacedInsn;
+pub use text::Text;
+pub use x86_decode::DecodeFault;
+
+#[cfg(test)]
+mod tests;

@@ -1,0 +1,149 @@
+ghost use Rattle.std.specs.Prelude.{◌≡◌, ◌+◌, ◌<◌, ◌≤◌, ◌↔◌, ℕ, ⊤, length, drop, slice_get, slice_index_or, slice_range, Contains, IfOk, IfErr, OnOk, IfSome, IfNone, MatchOption};
+ghost use Rattle.std.specs.List.Sorted.{IsNonDecreasingBy};
+ghost use Rattle.x86_text.specs.Code.{code_of, insn_listed, offsets_of, IsBoundary, IsCode, IsNextBoundary, IsPreviousBoundary};
+ghost use Rattle.x86_text.specs.declared.placed.PlacedInsn.{PlacedInsn};
+ghost use Rattle.x86_text.specs.Refused.{IsTextFault};
+
+use crate::fault::TextFault;
+use crate::placed::PlacedInsn;
+use machine_ops::Insn;
+use std::alloc::Global;
+use std::marker::Model;
+use x86_decode::decode;
+
+/// A body of code, with its instructions. Contracts see it as the body.
+#[derive(Drop)]
+pub struct Text<'a> {
+    body: &'a [u8],
+    code: Vec<PlacedInsn>,
+}
+
+impl<'a> Model for Text<'a> {
+    ghost use Rattle.std.specs.Prelude.{ℕ, List};
+
+    ghost Value = { List ℕ };
+
+    ghost use Rattle.x86_text.specs.Listed.{IsListing};
+
+    ghost view = { λ t. t.body.now };
+
+    ghost invariant = { λ t. IsListing t.body.now t.code.items };
+}
+
+impl<'a> Text<'a> {
+    /// Reads a body of at most 16,777,216 bytes, from its first byte on without gaps.
+    pub fn read(alloc: Global, body: &'a [u8]) -> Result<Text<'a>, TextFault>
+        requires { length body.now ≤ 16_777_216 }
+        ensures ok { IfOk result (λ text. text ≡ body.now) }
+        ensures code { OnOk result (IsCode body.now) }
+        ensures fault { IfErr result (IsTextFault body.now) }
+    {
+        let mut code = Vec::new(alloc);
+        let mut off = 0usize;
+        while off < body.len() {
+            match decode(&body[off..]) {
+                Ok(insn) => {
+                    let placed = PlacedInsn {
+                        off: off as u64,
+                        insn,
+                    };
+                    code.push(placed)?;
+                    off += insn.len as usize;
+                }
+                Err(why) => {
+                    let off = off as u64;
+                    return Err(TextFault::At { off, why });
+                }
+            }
+        }
+        Ok(Text { body, code })
+    }
+
+    /// How many instructions it has.
+    pub fn count(&self) -> u32
+        ensures count { result ≡ length (code_of self.now) }
+        // An instruction begins at each boundary of the body, and nowhere else.
+        ensures code { IsCode self.now }
+        ensures boundaries { (off : ℕ) → IsBoundary self.now off ↔ Contains (offsets_of self.now) off }
+    {
+        self.code.len() as u32
+    }
+
+    /// The instruction with this number, and its offset.
+    pub fn insn(&self, i: u32) -> (u64, Insn)
+        requires { i < length (code_of self.now) }
+        ensures { slice_get (code_of self.now) i ≡ Some (record { off = result.0; insn = result.1 }) }
+    {
+        let PlacedInsn { off, insn } = self.code[i as usize];
+        (off, insn)
+    }
+
+    /// The instruction that begins at this offset.
+    pub fn insn_at(&self, off: u64) -> Option<Insn>
+        ensures { result ≡ insn_listed (code_of self.now) off }
+    {
+        let code = self.code.as_slice();
+        let place = count_below(code, off);
+        if place < code.len() && code[place].off == off {
+            Some(code[place].insn)
+        } else {
+            None
+        }
+    }
+
+    /// The bytes of the instruction with this number.
+    pub fn bytes_of(&self, i: u32) -> &'a [u8]
+        requires { i < length (code_of self.now) }
+        ensures { IfSome (slice_get (code_of self.now) i) (λ p. result.now ≡ slice_range self.now p.off (p.off + p.insn.len)) }
+    {
+        let PlacedInsn { off, insn } = self.code[i as usize];
+        let start = off as usize;
+        &self.body[start..start + insn.len as usize]
+    }
+
+    /// The least offset above this one at which an instruction begins.
+    pub fn next(&self, off: u64) -> Option<u64>
+        ensures { MatchOption result ((b : ℕ) → IsBoundary self.now b → b ≤ off) (IsNextBoundary self.now off) }
+    {
+        let code = self.code.as_slice();
+        let place = count_to(code, off);
+        if place < code.len() {
+            Some(code[place].off)
+        } else {
+            None
+        }
+    }
+
+    /// The greatest offset below this one at which an instruction begins.
+    pub fn prev(&self, off: u64) -> Option<u64>
+        ensures { MatchOption result ((b : ℕ) → IsBoundary self.now b → off ≤ b) (IsPreviousBoundary self.now off) }
+    {
+        let code = self.code.as_slice();
+        let place = count_below(code, off);
+        if place > 0 {
+            Some(code[place - 1].off)
+        } else {
+            None
+        }
+    }
+}
+
+/// How many of these begin below an offset.
+fn count_below(code: &[PlacedInsn], off: u64) -> usize
+    requires { IsNonDecreasingBy (λ p. p.off) code.now }
+    ensures within { result ≤ length code.now }
+    ensures below { (k : ℕ) (d : PlacedInsn) → k < result → (slice_index_or code.now k d).off < off }
+    ensures above { (k : ℕ) (d : PlacedInsn) → result ≤ k → k < length code.now → off ≤ (slice_index_or code.now k d).off }
+{
+    code.partition_point(|placed| placed.off < off)
+}
+
+/// How many of these begin at an offset or below.
+fn count_to(code: &[PlacedInsn], off: u64) -> usize
+    requires { IsNonDecreasingBy (λ p. p.off) code.now }
+    ensures within { result ≤ length code.now }
+    ensures below { (k : ℕ) (d : PlacedInsn) → k < result → (slice_index_or code.now k d).off ≤ off }
+    ensures above { (k : ℕ) (d : PlacedInsn) → result ≤ k → k < length code.now → off < (slice_index_or code.now k d).off }
+{
+    code.partition_point(|placed| placed.off <= off)
+}
