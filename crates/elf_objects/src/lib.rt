@@ -24,6 +24,9 @@ mod symbol;
 mod symbols;
 
 pub use fault::{Counted, ElfFault, NameOf};
-pub use object::Object;
+pub use object::{Object, Parsed};
 pub use section::Section;
 pub use symbol::{Home, Reloc, Symbol};
+
+#[cfg(test)]
+mod tests;

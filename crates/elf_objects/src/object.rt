@@ -16,6 +16,7 @@ use crate::section::Section;
 use crate::slices::{slice_body, slice_string};
 use crate::symbol::{Reloc, Symbol};
 use crate::symbols::{Symbols, find_home};
+use ot_base::Names;
 use std::alloc::Global;
 use std::marker::Model;
 
@@ -219,5 +220,32 @@ impl<'a> Object<'a> {
     {
         let rela = rela_header(&self.symbols.headers, &self.relas, sec);
         nth_reloc(self.symbols.headers.bytes, &rela, i)
+    }
+}
+
+/// A file that was read.
+pub type Parsed<'a> = Object<'a>;
+
+impl<'a> Names for Object<'a> {
+    ghost use Rattle.elf_objects.specs.Contents.{section_at, symbol_at};
+
+    ghost section_names = { λ o i. (section_at o i).name };
+
+    ghost symbol_names = { λ o k. (symbol_at o k).name };
+
+    fn section_name(&self, sec: u32) -> &[u8] {
+        if sec < self.sections() {
+            self.section(sec).name
+        } else {
+            &[]
+        }
+    }
+
+    fn symbol_name(&self, sym: u32) -> &[u8] {
+        if sym < self.symbols() {
+            self.symbol(sym).name
+        } else {
+            &[]
+        }
     }
 }
