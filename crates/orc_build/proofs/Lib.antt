@@ -1,2 +1,3 @@
 pub mod StraightLemmas
 pub mod RowsLemmas
+pub mod PlacedLemmas

@@ -74,7 +74,7 @@ both : (b x : Bool) → b && x ≡ true → (b ≡ true) × (x ≡ true)
 both true x h = (refl, h)
 both false x h = absurd (false≢true h)
 
-within : (n : ℕ) → nat_lt most_waiting n ≡ false → n ≤ most_waiting
+pub within : (n : ℕ) → nat_lt most_waiting n ≡ false → n ≤ most_waiting
 within n h = grind (arith, nat_tests)
 
 -- what the test lets through is straight code
@@ -101,7 +101,7 @@ sound n (Ret ∷ (op ∷ ops)) h = let g = guard _ _ h in let k = both (n == 0) 
 sound n (op ∷ ops) h = let g = guard _ _ h in absurd (false≢true g.1)
 
 -- an operation that is no return leads on to straight code
-less : (n m : ℕ) (op : Op) (ops : List Op) → is_ret op ≡ false → n + pushes (op ∷ []) ≡ m + pops (op ∷ []) → From n (op ∷ ops) → From m ops
+pub less : (n m : ℕ) (op : Op) (ops : List Op) → is_ret op ≡ false → n + pushes (op ∷ []) ≡ m + pops (op ∷ []) → From n (op ∷ ops) → From m ops
 less n m op ops r e f = record {
   some = nonempty ops f;
   each = λ i d h. f.each (suc i) d (omega arith);
@@ -115,7 +115,7 @@ less n m op ops r e f = record {
     nonempty [] f = absurd (no_return op r ((f.return_last 0).1 refl))
     nonempty (o ∷ ops) f = omega arith
 
-few : (n : ℕ) (op : Op) (ops : List Op) → From n (op ∷ ops) → nat_lt most_waiting n ≡ false
+pub few : (n : ℕ) (op : Op) (ops : List Op) → From n (op ∷ ops) → nat_lt most_waiting n ≡ false
 few n op ops f = let h : n ≤ most_waiting = omega (arith, f.no_overflow 0 (omega arith)) in grind (arith, nat_tests)
 
 passed : (b x : Bool) → b ≡ false → x ≡ true → cond b false x ≡ true

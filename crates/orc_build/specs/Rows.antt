@@ -1,5 +1,5 @@
 -- The rows of a section of straight code.
-use Rattle.std.specs.Prelude.{ℕ, ◌+◌, ◌-◌, ◌==◌, ◌&&◌, pos, Bool, false, List, [], ◌∷◌, ◌++◌, if◌then◌else◌, sum_by}
+use Rattle.std.specs.Prelude.{◌≡◌, ◌⊎◌, ◌<◌, ◌≤◌, ◌^◌, ℕ, ◌+◌, ◌-◌, ◌==◌, ◌&&◌, pos, Bool, false, List, [], ◌∷◌, ◌++◌, if◌then◌else◌, sum_by}
 use Rattle.std.specs.Ordering.{int_eq}
 use Rattle.std.specs.Bool.{beq}
 use Rattle.machine_ops.specs.declared.op.Op.{Op}
@@ -49,3 +49,13 @@ size_of insns = sum_by (λ insn. insn.len) insns
 abbrev pub straight_rows : ℕ → List Insn → List PlacedRow
 straight_rows sec insns =
     changes_from zero_row (rows_from sec 0 8 insns) ++ placed_at sec (size_of insns) zero_row ∷ []
+
+-- the row is that of a call's frame whose depth has 16 bits, or the zero row
+abbrev pub IsCallOrZero : Row → Type 0
+IsCallOrZero row = (row ≡ zero_row) ⊎ ((depth : ℕ) × (depth < 2 ^ 15) × (row ≡ call_row depth))
+
+-- The row lies in this section, at an offset up to this size.
+pub record IsRowIn (sec size : ℕ) (placed : PlacedRow) : Type 0 where
+  pub section : placed.place.sec ≡ sec
+  pub inside : placed.place.off ≤ size
+  pub row : IsCallOrZero placed.row

@@ -1,6 +1,6 @@
-ghost use Rattle.std.specs.Prelude.{◌≡◌, ◌^◌, ◌<◌, ◌≤◌, ◌+◌, ◌*◌, IfOk, [], ◌∷◌, true};
+ghost use Rattle.std.specs.Prelude.{◌≡◌, ◌^◌, ◌<◌, ◌≤◌, ◌+◌, ◌*◌, IfOk, All, [], ◌∷◌, true, length};
 ghost use Rattle.orc_build.specs.Straight.{IsStraight, is_pop, ops_of, pops, pushes};
-ghost use Rattle.orc_build.specs.Rows.{call_row, placed_at, size_of, straight_rows};
+ghost use Rattle.orc_build.specs.Rows.{call_row, placed_at, size_of, straight_rows, IsRowIn};
 
 use machine_ops::{Insn, Op};
 use ot_base::{NoMemory, Place, PlacedRow, Row};
@@ -58,6 +58,17 @@ fn placed(sec: u32, off: u64, row: Row) -> PlacedRow
 /// The rows of a section of straight code: one wherever the depth changes, and a zero row that
 /// ends the section. Their places are in section `sec`.
 pub fn straight_rows(alloc: Global, sec: u32, insns: &[Insn]) -> Result<Vec<PlacedRow>, NoMemory>
+    requires straight { IsStraight (ops_of insns.now) }
+    requires size { size_of insns.now < 2 ^ 64 }
+    ensures rows { IfOk result (λ rows. rows.items ≡ straight_rows sec insns.now) }
+    ensures each { IfOk result (λ rows. All (IsRowIn sec (size_of insns.now)) rows.items) }
+    ensures few { IfOk result (λ rows. length rows.items ≤ length insns.now + 1) }
+{
+    changes(alloc, sec, insns)
+}
+
+/// A row wherever the depth changes, and a zero row at the end.
+fn changes(alloc: Global, sec: u32, insns: &[Insn]) -> Result<Vec<PlacedRow>, NoMemory>
     requires straight { IsStraight (ops_of insns.now) }
     requires size { size_of insns.now < 2 ^ 64 }
     ensures { IfOk result (λ rows. rows.items ≡ straight_rows sec insns.now) }

@@ -1,7 +1,7 @@
 use Rattle.std.proofs.Common.{◌≡◌, ◌+◌, ◌*◌, ◌++◌, drop, take}
 use Rattle.orc_build.specs.Straight.{ops_of, pushes, pops}
 use Rattle.orc_build.specs.Rows.{changes_from, rows_from, size_of, zero_row}
-use Rattle.orc_build.proofs.rows.straight_rows.Given as goal
+use Rattle.orc_build.proofs.rows.changes.Given as goal
 
 -- the rows so far and those of the rest are those of all
 abbrev pub invariant-loop-insn : goal.invariant-loop-insn
