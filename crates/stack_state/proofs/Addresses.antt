@@ -1,10 +1,10 @@
 -- Sums on addresses, which wrap at 2^64, and the plain sums that they are within a region.
-use Rattle.std.proofs.Common.{◌≡◌, ℕ, ◌+◌, ◌-◌, ◌*◌, ◌/◌, ◌%◌, ◌^◌, ◌<◌, true, ℤ, pos, negsuc, neg_ℤ, ◌+ℤ◌, ◌≤ℤ◌, arith}
+use Rattle.std.proofs.Common.{◌≡◌, ℕ, ◌+◌, ◌-◌, ◌*◌, ◌/◌, ◌%◌, ◌^◌, ◌<◌, ◌≤◌, true, ℤ, pos, negsuc, neg_ℤ, ◌+ℤ◌, ◌≤ℤ◌, arith}
 use Rattle.std.specs.Prelude.{int_le}
 use Rattle.std.proofs.lemmas.Int.{ints}
-use Rattle.stack_state.proofs.Results.{and_true}
-use Rattle.machine_ops.specs.Address.{shifted}
+use Rattle.machine_ops.specs.Address.{up, down, shifted}
 use Rattle.machine_ops.specs.Move.{is_near}
+use Rattle.stack_state.proofs.Booleans.{and_true}
 
 -- x is a + k but for whole turns of 2^64
 pub record IsTurned (x a : ℕ) (k : ℤ) : Type 0 where
@@ -57,3 +57,10 @@ near_from n e =
 -- within a region and near, the sum is plain
 pub plain_below : (x a : ℕ) (n : ℤ) → IsTurned x a (neg_ℤ n) → IsNear n → x < 2 ^ 64 - 2 ^ 30 → a < 2 ^ 64 - 2 ^ 30 → pos x +ℤ n ≡ pos a
 plain_below x a n f near p q = omega (arith, ints)
+
+-- sums that don't wrap
+pub up_plain : (address n : ℕ) → address + n < 2 ^ 64 → up address n ≡ address + n
+up_plain address n short = omega arith
+
+pub down_plain : (address n : ℕ) → address < 2 ^ 64 → n ≤ address → down address n + n ≡ address
+down_plain address n short h = omega arith

@@ -13,7 +13,8 @@ use Rattle.machine_ops.specs.declared.state.State.TheVariants.{Live, Ended, Regs
 use Rattle.machine_ops.specs.State.{depth_of, with_depth, ended_by, IsConsistent, IsConsistentLive}
 use Rattle.machine_ops.specs.Move.{int_same, has_near_numbers, to, raise, pop_at, push_bp, pop_bp, align, rsp_from_bp, bp_from_rsp, store_bp, load_bp, leave, lose_bp, move_live, regs_floor, raise_regs, pop_bp_regs, lose_bp_regs, move_regs}
 use Rattle.machine_ops.specs.Sound.{MoveIsConsistent}
-use Rattle.stack_state.proofs.Results.{to_then, unless_then, pick_then, refused_then, and_true}
+use Rattle.stack_state.proofs.Booleans.{and_true}
+use Rattle.stack_state.proofs.Results.{to_then, unless_then, pick_then, refused_then}
 
 -- rbp is saved o bytes below the frame's top
 pub saved_known : (n o : ℤ) (fp : Option ℤ) → pos 16 ≤ℤ o → o ≤ℤ n → IsConsistentLive (Known n) fp (Saved o)

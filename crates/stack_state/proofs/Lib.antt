@@ -1,4 +1,5 @@
 pub mod Addresses
+pub mod Booleans
 pub mod Consistent
 pub mod Depths
 pub mod LiveMoves

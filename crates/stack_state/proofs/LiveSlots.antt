@@ -1,9 +1,9 @@
 -- The moves of a live state are sound: those that save rbp in the top frame or take it back.
-use Rattle.std.proofs.Common.{◌≡◌, inl, inr, ℕ, ◌+◌, ◌^◌, ◌≤◌, Bool, true, false, cond, List, [], ◌∷◌, ℤ, pos, negsuc, neg_ℤ, ◌+ℤ◌, ◌-ℤ◌, ◌≤ℤ◌, ◌<ℤ◌, arith, refl, sym, ap, subst, ◌∙◌}
+use Rattle.std.proofs.Common.{◌≡◌, ℕ, ◌+◌, ◌^◌, ◌≤◌, Bool, true, false, cond, List, [], ◌∷◌, ℤ, pos, negsuc, neg_ℤ, ◌+ℤ◌, ◌-ℤ◌, ◌≤ℤ◌, ◌<ℤ◌, arith, refl, sym, ap, subst, ◌∙◌}
 use Rattle.std.specs.Prelude.{Option, Some, None, IfSome, Ok, int_le, ◌==◌, FitsSigned}
 use Rattle.std.specs.Int.{w64}
 use Rattle.std.proofs.lemmas.Int.{ints}
-use Rattle.std.proofs.lemmas.Bool.{eqb-true, eq-eqb}
+use Rattle.std.proofs.lemmas.Bool.{eq-eqb}
 use Rattle.machine_ops.specs.declared.state.Depth.{Depth}
 use Rattle.machine_ops.specs.declared.state.Depth.TheVariants.{Known, AtLeast}
 use Rattle.machine_ops.specs.declared.state.BpHome.{BpHome}
@@ -17,6 +17,7 @@ use Rattle.machine_ops.specs.Effect.{Core}
 use Rattle.machine_ops.specs.State.{depth_of, IsConsistentLive, MeansDepth, MeansLive}
 use Rattle.machine_ops.specs.Move.{has_near_numbers, push_bp, pop_at, load_bp, int_same}
 use Rattle.stack_state.proofs.Addresses.{IsTurned, turned_from, IsNear}
+use Rattle.stack_state.proofs.Booleans.{if_true, if_false, other_not_same}
 use Rattle.stack_state.proofs.Consistent.{same_is_known, same_has_no_pointer, int_same_is, int_same_not}
 use Rattle.stack_state.proofs.Depths.{place_moved}
 use Rattle.stack_state.proofs.LiveMoves.{shift_sound}
@@ -26,18 +27,7 @@ use Rattle.stack_state.proofs.Pushes.{push_fits, pushed_held}
 use Rattle.stack_state.proofs.Results.{pick_then, refused_then}
 use Rattle.stack_state.proofs.Scenes.{Scene, Arrives, arrive, new_slot, slot_changed, slot_saved}
 use Rattle.stack_state.proofs.Slots.{one_slot, two_slots, first_slot, second_slot}
-use Rattle.stack_state.proofs.Words.{HasWord, true_or_false, read_held, written_word}
-
-pub other_not_same : (a b : ℕ) → (a ≡ b → ⊥) → (a == b) ≡ false
-other_not_same a b h = elim (true_or_false (a == b)) [ inl e ↦ absurd (h (eqb-true a b e)) | inr e ↦ e ]
-
-pub if_true : {A : Type 0} (b : Bool) (x y : A) → b ≡ true → cond b x y ≡ x
-if_true true x y e = refl
-if_true false x y e = absurd (cc)
-
-pub if_false : {A : Type 0} (b : Bool) (x y : A) → b ≡ false → cond b x y ≡ y
-if_false true x y e = absurd (cc)
-if_false false x y e = refl
+use Rattle.stack_state.proofs.Words.{HasWord, read_held, written_word}
 
 -- what a frame holds by its slot
 held_unsaved : (r : Region) (f : Frame) → Holds r (down f.cfa 8) f.ra → AllHeld r Unsaved f

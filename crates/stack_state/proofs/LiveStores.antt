@@ -17,13 +17,13 @@ use Rattle.machine_ops.specs.Frame.{Slot, Unsaved, Frame, Protected, protected_b
 use Rattle.machine_ops.specs.Effect.{Core, StoresOrdinarily, store_saves, is_unsaved}
 use Rattle.machine_ops.specs.State.{IsConsistentLive, MeansDepth, MeansLive}
 use Rattle.machine_ops.specs.Move.{has_near_numbers, to, store_bp}
-use Rattle.stack_state.proofs.Addresses.{IsNear, turned_from, plain_below}
+use Rattle.stack_state.proofs.Addresses.{IsNear, turned_from, plain_below, down_plain}
 use Rattle.stack_state.proofs.Consistent.{same_is_known}
 use Rattle.stack_state.proofs.Depths.{place_moved}
 use Rattle.stack_state.proofs.LiveMoves.{Steady, stay_sound}
 use Rattle.stack_state.proofs.LiveSlots.{saved_outcome, no_pointer}
 use Rattle.stack_state.proofs.Memory.{same_top, same_region_held, ordinary_held, beside_held}
-use Rattle.stack_state.proofs.Outcomes.{IsWithin, within, near_depth, down_plain, place_below, EachHeld, Outcome}
+use Rattle.stack_state.proofs.Outcomes.{IsWithin, within, near_depth, place_below, EachHeld, Outcome}
 use Rattle.stack_state.proofs.Results.{pick_then}
 use Rattle.stack_state.proofs.Scenes.{Scene, Arrives, arrive}
 use Rattle.stack_state.proofs.Slots.{Each, each_joined, one_slot}

@@ -9,15 +9,15 @@ use Rattle.machine_ops.specs.declared.state.BpHome.{BpHome}
 use Rattle.machine_ops.specs.declared.state.BpHome.TheVariants.{Same, Saved}
 use Rattle.machine_ops.specs.declared.state.State.{State}
 use Rattle.machine_ops.specs.declared.state.State.TheVariants.{Live}
-use Rattle.machine_ops.specs.Address.{up, down, shifted}
+use Rattle.machine_ops.specs.Address.{down, shifted}
 use Rattle.machine_ops.specs.Region.{Region, hi_of, Holds}
 use Rattle.machine_ops.specs.Frame.{Slot, Frame, Protected, protected_by, listed, LieAbove}
 use Rattle.machine_ops.specs.Effect.{Core, IsInStack}
 use Rattle.machine_ops.specs.State.{depth_of, IsConsistentLive, MeansDepth, MeansHome}
 use Rattle.machine_ops.specs.Move.{is_near, is_fp_near, is_home_near, has_near_numbers}
 use Rattle.machine_ops.specs.Sound.{IsTold, IsSameFrame}
-use Rattle.stack_state.proofs.Addresses.{IsTurned, turned_from, plain_below, IsNear, near_from}
-use Rattle.stack_state.proofs.Results.{and_true}
+use Rattle.stack_state.proofs.Addresses.{IsTurned, turned_from, plain_below, IsNear, near_from, down_plain}
+use Rattle.stack_state.proofs.Booleans.{and_true}
 use Rattle.stack_state.proofs.Slots.{Each, each_joined, each_top, each_below, one_slot, two_slots}
 
 -- the stack is still told of, with the frames below as they were
@@ -48,12 +48,6 @@ pub place_below : (cfa : ℕ) (o : ℤ) → cfa < 2 ^ 64 → pos 0 ≤ℤ o → 
 place_below cfa o short low high =
     let turned : IsTurned (shifted cfa (neg_ℤ o)) cfa (neg_ℤ o) = turned_from _ cfa (neg_ℤ o) refl in
     omega (arith, ints)
-
-pub down_plain : (address n : ℕ) → address < 2 ^ 64 → n ≤ address → down address n + n ≡ address
-down_plain address n short h = omega arith
-
-pub up_plain : (address n : ℕ) → address + n < 2 ^ 64 → up address n ≡ address + n
-up_plain address n short = omega arith
 
 pub near_depth : (depth : Depth) (fp : Option ℤ) (home : BpHome) → has_near_numbers (Live depth fp home) ≡ true → IsNear (depth_of depth)
 near_depth depth fp home e =

@@ -7,8 +7,8 @@ use Rattle.machine_ops.specs.Region.{hi_of, Holds}
 use Rattle.machine_ops.specs.Frame.{Slot, PartialAt, FullAt, Frame, Protected, listed, LieAbove}
 use Rattle.machine_ops.specs.Effect.{Core, IsInStack}
 use Rattle.machine_ops.specs.Move.{has_near_numbers}
-use Rattle.stack_state.proofs.Addresses.{turned_from, plain_below, IsNear, near_from}
-use Rattle.stack_state.proofs.Outcomes.{IsWithin, within, Outcome, AllAbove, AllHeld, EachHeld, lower_above, up_plain}
+use Rattle.stack_state.proofs.Addresses.{turned_from, plain_below, IsNear, near_from, up_plain}
+use Rattle.stack_state.proofs.Outcomes.{IsWithin, within, Outcome, AllAbove, AllHeld, EachHeld, lower_above}
 use Rattle.stack_state.proofs.Slots.{each_joined, two_slots, three_slots}
 
 -- rsp is d below the saved registers, plainly

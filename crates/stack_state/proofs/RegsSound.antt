@@ -14,14 +14,15 @@ use Rattle.machine_ops.specs.Frame.{Slot, PartialAt, FullAt, Frame, Protected, l
 use Rattle.machine_ops.specs.Effect.{Core, StoresOrdinarily, is_unsaved, store_saves, Effect}
 use Rattle.machine_ops.specs.State.{Means, MeansFull, MeansPartial}
 use Rattle.machine_ops.specs.Move.{has_near_numbers, to, int_same, regs_floor, raise_regs, pop_bp_regs, lose_bp_regs, move_regs}
-use Rattle.stack_state.proofs.Addresses.{shifted_from, plain_turned, IsNear, near_from}
+use Rattle.stack_state.proofs.Addresses.{shifted_from, plain_turned, IsNear, near_from, up_plain}
+use Rattle.stack_state.proofs.Booleans.{if_true, if_false, other_not_same}
 use Rattle.stack_state.proofs.Consistent.{int_same_is, int_same_not}
 use Rattle.stack_state.proofs.Depths.{place_moved}
 use Rattle.stack_state.proofs.LiveMoves.{Steady}
-use Rattle.stack_state.proofs.LiveSlots.{other_not_same, apart, if_true, if_false}
+use Rattle.stack_state.proofs.LiveSlots.{apart}
 use Rattle.stack_state.proofs.LiveStores.{steady_same, steady_ordinary, saved_saves_not, StoreEffect}
 use Rattle.stack_state.proofs.Memory.{same_top}
-use Rattle.stack_state.proofs.Outcomes.{Outcome, within, up_plain, EachHeld, AllHeld, held_at_top, held_lower}
+use Rattle.stack_state.proofs.Outcomes.{Outcome, within, EachHeld, AllHeld, held_at_top, held_lower}
 use Rattle.stack_state.proofs.Pushes.{pushed_held}
 use Rattle.stack_state.proofs.RegsOutcomes.{full_outcome, partial_outcome}
 use Rattle.stack_state.proofs.Results.{unless_then, pick_then, refused_then}

@@ -1,5 +1,5 @@
 -- What follows from a move that isn't refused.
-use Rattle.std.proofs.Common.{◌≡◌, ℕ, Bool, true, false, ◌&&◌, cond, refl, subst}
+use Rattle.std.proofs.Common.{◌≡◌, ℕ, Bool, true, false, cond, refl, subst}
 use Rattle.std.specs.Prelude.{Result, Ok, Err}
 use Rattle.machine_ops.specs.declared.state.State.{State}
 
@@ -23,7 +23,3 @@ pick_then P false q r t f g e = g refl e
 
 pub refused_then : (P : Type 0) (rule : ℕ) (t : State) → ◌≡◌ {A = Result State ℕ} (Err rule) (Ok t) → P
 refused_then P rule t e = absurd (cc)
-
-pub and_true : (a b : Bool) → (a && b) ≡ true → (a ≡ true) × (b ≡ true)
-and_true true b e = (refl, e)
-and_true false b e = absurd (cc)

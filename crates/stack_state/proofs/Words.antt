@@ -1,29 +1,14 @@
 -- Words of memory under writes.
-use Rattle.std.proofs.Common.{◌≡◌, ◌⊎◌, inl, inr, ℕ, ◌+◌, ◌-◌, ◌^◌, ◌<◌, ◌≤◌, Bool, true, false, ◌&&◌, cond, List, length, get_or, take, drop, arith, refl, sym, ap, ◌∙◌, length-drop}
+use Rattle.std.proofs.Common.{◌≡◌, ◌⊎◌, inl, inr, ℕ, ◌+◌, ◌-◌, ◌^◌, ◌<◌, ◌≤◌, true, false, List, length, get_or, take, drop, arith, refl, sym, ap, ◌∙◌, length-drop}
 use Rattle.std.specs.Prelude.{Option, Some, None, slice_get, nat_le}
 use Rattle.std.proofs.lemmas.List.{ext_get_or, get_or-take, get_or-drop, length-take}
 use Rattle.std.proofs.lemmas.Bool.{le-leb, leb-true}
 use Rattle.std.proofs.lemmas.Option.{unwrap_or-slice_get, MatchOption-at_some}
 use Rattle.std.specs.Option.{unwrap_or}
-use Rattle.stack_state.proofs.Results.{and_true}
 use Rattle.machine_ops.specs.Address.{up}
 use Rattle.machine_ops.specs.Region.{Region, hi_of, byte_at, little_endian, has_word, word_at, Reads, Holds, SameAddresses, WritesOnly, WritesWord}
-
-pub true_or_false : (b : Bool) → (b ≡ true) ⊎ (b ≡ false)
-true_or_false true = inl refl
-true_or_false false = inr refl
-
-if_true : {A : Type 0} (b : Bool) (x y : A) → b ≡ true → cond b x y ≡ x
-if_true true x y e = refl
-if_true false x y e = cc
-
-if_false : {A : Type 0} (b : Bool) (x y : A) → b ≡ false → cond b x y ≡ y
-if_false true x y e = cc
-if_false false x y e = refl
-
-both_true : (a b : Bool) → a ≡ true → b ≡ true → (a && b) ≡ true
-both_true true b e d = d
-both_true false b e d = e
+use Rattle.stack_state.proofs.Addresses.{up_plain}
+use Rattle.stack_state.proofs.Booleans.{true_or_false, if_true, if_false, both_true, and_true}
 
 -- the eight bytes from an address on lie in the region
 pub record HasWord (r : Region) (address : ℕ) : Type 0 where
@@ -84,9 +69,6 @@ same_word before after address s f =
           ∙ sym (word_inside before address holds)
       | inr fails ↦ word_outside after address (same_test ∙ fails) ∙ sym (word_outside before address fails)
     ]
-
-up_plain : (a n : ℕ) → a + n < 2 ^ 64 → up a n ≡ a + n
-up_plain a n h = omega arith
 
 -- a word beside a write that doesn't wrap stays
 pub spared_word : (start size : ℕ) (before after : Region) (address : ℕ) → WritesOnly start size before after
