@@ -1,6 +1,6 @@
 //! Rows to the bodies of the ORC sections.
 
-ghost use Rattle.std.specs.Prelude.{◌≡◌, ◌*◌, All, IfOk};
+ghost use Rattle.std.specs.Prelude.{◌≡◌, All, IfOk};
 ghost use Rattle.elf_objects.specs.Contents.{section_symbol_of};
 ghost use Rattle.orc_bytes.specs.Sections.{IsRowOf, row_section, ip_section, rela_section, slot};
 
@@ -35,7 +35,8 @@ pub fn encode(
     requires { All (IsRowOf object.now) rows.now }
     ensures orc { IfOk result (λ sections. sections.orc.items ≡ row_section rows.now) }
     ensures ip { IfOk result (λ sections. sections.ip.items ≡ ip_section rows.now) }
-    ensures rela { IfOk result (λ sections. sections.rela.items ≡ rela_section (section_symbol_of object.now) rows.now) }
+    ensures rela { IfOk result
+        (λ sections. sections.rela.items ≡ rela_section (section_symbol_of object.now) rows.now) }
 {
     let mut orc = Vec::new(alloc);
     let mut ip = Vec::new(alloc);

@@ -5,6 +5,8 @@ mod bodies;
 mod laws;
 mod relocs;
 mod rows;
+#[cfg(test)]
+mod tests;
 mod worked;
 
 pub use bodies::{OrcSections, encode};

@@ -10,7 +10,8 @@ ghost use Rattle.orc_bytes.specs.RelocBytes.{bytes_of_reloc};
 pub fn worked_rows()
     ensures entry { bytes_of_row (sp_row 8) ≡ 0x08 ∷ 0 ∷ 0 ∷ 0 ∷ 0x05 ∷ 0x02 ∷ [] }
     ensures saved { bytes_of_row (saved_row 16) ≡ 0x10 ∷ 0 ∷ 0xF0 ∷ 0xFF ∷ 0x15 ∷ 0x02 ∷ [] }
-    ensures frame_pointer { bytes_of_row frame_pointer_row ≡ 0x10 ∷ 0 ∷ 0xF0 ∷ 0xFF ∷ 0x14 ∷ 0x02 ∷ [] }
+    ensures frame_pointer { bytes_of_row frame_pointer_row
+        ≡ 0x10 ∷ 0 ∷ 0xF0 ∷ 0xFF ∷ 0x14 ∷ 0x02 ∷ [] }
     ensures full { bytes_of_row full_row ≡ 0 ∷ 0 ∷ 0 ∷ 0 ∷ 0x05 ∷ 0x0B ∷ [] }
     ensures partial { bytes_of_row (partial_row 8) ≡ 0x08 ∷ 0 ∷ 0 ∷ 0 ∷ 0x05 ∷ 0x0C ∷ [] }
     ensures end_of_stack { bytes_of_row end_row ≡ 0 ∷ 0 ∷ 0 ∷ 0 ∷ 0 ∷ 0x01 ∷ [] }
@@ -22,7 +23,9 @@ pub fn worked_rows()
 #[tactic(auto, unfolding(crate::specs::RelocBytes::bytes_of_reloc))]
 pub fn worked_relocs()
     ensures second { bytes_of_reloc (record { offset = 4; kind = 2; sym = 3; addend = pos 0x1B })
-        ≡ 4 ∷ 0 ∷ 0 ∷ 0 ∷ 0 ∷ 0 ∷ 0 ∷ 0 ∷ 2 ∷ 0 ∷ 0 ∷ 0 ∷ 3 ∷ 0 ∷ 0 ∷ 0 ∷ 0x1B ∷ 0 ∷ 0 ∷ 0 ∷ 0 ∷ 0 ∷ 0 ∷ 0 ∷ [] }
+        ≡ 4 ∷ 0 ∷ 0 ∷ 0 ∷ 0 ∷ 0 ∷ 0 ∷ 0 ∷ 2 ∷ 0 ∷ 0 ∷ 0 ∷ 3 ∷ 0 ∷ 0 ∷ 0 ∷ 0x1B ∷ 0 ∷ 0 ∷
+        0 ∷ 0 ∷ 0 ∷ 0 ∷ 0 ∷ [] }
     ensures negative { bytes_of_reloc (record { offset = 10; kind = 4; sym = 256; addend = negsuc 3 })
-        ≡ 10 ∷ 0 ∷ 0 ∷ 0 ∷ 0 ∷ 0 ∷ 0 ∷ 0 ∷ 4 ∷ 0 ∷ 0 ∷ 0 ∷ 0 ∷ 1 ∷ 0 ∷ 0 ∷ 0xFC ∷ 0xFF ∷ 0xFF ∷ 0xFF ∷ 0xFF ∷ 0xFF ∷ 0xFF ∷ 0xFF ∷ [] }
+        ≡ 10 ∷ 0 ∷ 0 ∷ 0 ∷ 0 ∷ 0 ∷ 0 ∷ 0 ∷ 4 ∷ 0 ∷ 0 ∷ 0 ∷ 0 ∷ 1 ∷ 0 ∷ 0 ∷ 0xFC ∷ 0xFF ∷
+        0xFF ∷ 0xFF ∷ 0xFF ∷ 0xFF ∷ 0xFF ∷ 0xFF ∷ [] }
 {}

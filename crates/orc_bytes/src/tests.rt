@@ -1,0 +1,139 @@
+//! The bodies for a small object, byte by byte.
+
+ghost use Rattle.std.specs.Prelude.{◌≡◌};
+ghost use Rattle.orc_bytes.specs.RowBytes.{IsRow};
+
+use crate::encode;
+use elf_objects::Object;
+use ot_base::{Place, PlacedRow, Row};
+use std::alloc::{AllocError, Global};
+use std::test::Fail;
+
+/// A section header; its address is 0 and its alignment 1.
+#[derive(Drop)]
+struct Header {
+    name: u32,
+    kind: u32,
+    flags: u64,
+    offset: u64,
+    size: u64,
+    link: u32,
+    info: u32,
+    entsize: u64,
+}
+
+fn push_header(out: &mut Vec<u8>, header: &Header) -> Result<(), AllocError> {
+    out.extend_from_slice(&header.name.to_le_bytes())?;
+    out.extend_from_slice(&header.kind.to_le_bytes())?;
+    out.extend_from_slice(&header.flags.to_le_bytes())?;
+    out.extend_from_slice(&[0; 8])?;
+    out.extend_from_slice(&header.offset.to_le_bytes())?;
+    out.extend_from_slice(&header.size.to_le_bytes())?;
+    out.extend_from_slice(&header.link.to_le_bytes())?;
+    out.extend_from_slice(&header.info.to_le_bytes())?;
+    out.extend_from_slice(&1u64.to_le_bytes())?;
+    out.extend_from_slice(&header.entsize.to_le_bytes())
+}
+
+fn push_file_header(out: &mut Vec<u8>) -> Result<(), AllocError> {
+    out.extend_from_slice(b"\x7FELF\x02\x01\x01\0\0\0\0\0\0\0\0\0")?;
+    out.extend_from_slice(b"\x01\0\x3E\0\x01\0\0\0")?;
+    out.extend_from_slice(&[0; 16])?;
+    out.extend_from_slice(&160u64.to_le_bytes())?;
+    out.extend_from_slice(b"\0\0\0\0\x40\0\0\0\0\0\x40\0\x05\0\x04\0")
+}
+
+/// Sections 1 to 4 are `.text` with `53 5B 90 C3`, `.symtab` with the section symbol of `.text`,
+/// `.strtab` and `.shstrtab`.
+fn small_object(alloc: Global) -> Result<Vec<u8>, AllocError> {
+    let mut out = Vec::new(alloc);
+    push_file_header(&mut out)?;
+    out.extend_from_slice(b"\x53\x5B\x90\xC3\0\0\0\0")?;
+    out.extend_from_slice(&[0; 24])?;
+    out.extend_from_slice(b"\0\0\0\0\x03\0\x01\0\0\0\0\0\0\0\0\0\0\0\0\0\0\0\0\0")?;
+    out.extend_from_slice(b"\0")?;
+    out.extend_from_slice(b"\0.text\0.symtab\0.strtab\0.shstrtab\0")?;
+    out.extend_from_slice(&[0; 6])?;
+    let table = [
+        (0, 0, 0, 0, 0, 0, 0, 0),
+        (1, 1, 6, 64, 4, 0, 0, 0),
+        (7, 2, 0, 72, 48, 3, 2, 24),
+        (15, 3, 0, 120, 1, 0, 0, 0),
+        (23, 3, 0, 121, 33, 0, 0, 0),
+    ];
+    for (name, kind, flags, offset, size, link, info, entsize) in table {
+        let header = Header {
+            name,
+            kind,
+            flags,
+            offset,
+            size,
+            link,
+            info,
+            entsize,
+        };
+        push_header(&mut out, &header)?;
+    }
+    Ok(out)
+}
+
+fn call_row(off: u64, sp_offset: i16) -> PlacedRow
+    ensures place { result.place ≡ record { sec = 1; off = off } }
+    ensures row { IsRow result.row }
+{
+    PlacedRow {
+        place: Place { sec: 1, off },
+        row: Row {
+            sp_offset,
+            bp_offset: 0,
+            sp_reg: 5,
+            bp_reg: 0,
+            kind: 2,
+            signal: false,
+        },
+    }
+}
+
+fn zero_row(off: u64) -> PlacedRow
+    ensures place { result.place ≡ record { sec = 1; off = off } }
+    ensures row { IsRow result.row }
+{
+    PlacedRow {
+        place: Place { sec: 1, off },
+        row: Row {
+            sp_offset: 0,
+            bp_offset: 0,
+            sp_reg: 0,
+            bp_reg: 0,
+            kind: 0,
+            signal: false,
+        },
+    }
+}
+
+#[test]
+fn push_and_pop(rt: HostRuntime) -> Result<(), Fail> {
+    let bytes = small_object(rt.alloc())?;
+    assert_eq!(rt; bytes.len(), 480);
+    let object = Object::parse(rt.alloc(), &bytes)?;
+    assert_eq!(rt; object.sections(), 5);
+    assert_eq!(rt; object.section(1).size, 4);
+    assert!(rt; object.is_text(1));
+    assert!(rt; object.section_symbol(1).is_some());
+    let rows = [call_row(0, 8), call_row(1, 16), call_row(2, 8), zero_row(4)];
+    let sections = encode(rt.alloc(), &object, &rows)?;
+    assert_eq!(rt;
+        sections.orc.as_slice(),
+        b"\x08\0\0\0\x05\x02\x10\0\0\0\x05\x02\x08\0\0\0\x05\x02\0\0\0\0\0\0".as_slice()
+    );
+    assert_eq!(rt; sections.ip.as_slice(), [0; 16].as_slice());
+    assert_eq!(rt;
+        sections.rela.as_slice(),
+        b"\0\0\0\0\0\0\0\0\x02\0\0\0\x01\0\0\0\0\0\0\0\0\0\0\0\
+          \x04\0\0\0\0\0\0\0\x02\0\0\0\x01\0\0\0\x01\0\0\0\0\0\0\0\
+          \x08\0\0\0\0\0\0\0\x02\0\0\0\x01\0\0\0\x02\0\0\0\0\0\0\0\
+          \x0C\0\0\0\0\0\0\0\x02\0\0\0\x01\0\0\0\x04\0\0\0\0\0\0\0"
+            .as_slice()
+    );
+    Ok(())
+}
