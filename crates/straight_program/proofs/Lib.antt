@@ -1,0 +1,4 @@
+pub mod Points
+pub mod Table
+pub mod Runs
+pub mod Unwind

@@ -1,0 +1,65 @@
+-- What holds of the program of straight code, of its rows, and of walks over its stack.
+use Rattle.std.specs.Prelude.{◌≡◌, ℕ, ◌^◌, ◌<◌, ◌≤◌, true, List, [], ◌∷◌, Some, None, map, All}
+use Rattle.machine_ops.specs.declared.insn.Insn.{Insn}
+use Rattle.machine_ops.specs.Region.{word_at}
+use Rattle.stack_machine.specs.Program.{TextSection}
+use Rattle.stack_machine.specs.Machine.{Bases, Standing, Machine, Wrecked, At, WalkedFrame, point_address, frames, frames_end}
+use Rattle.stack_machine.specs.Run.{Run}
+use Rattle.orc_walk.specs.declared.range.Range.{Range}
+use Rattle.orc_walk.specs.declared.frame.Regs.{Regs}
+use Rattle.orc_walk.specs.declared.frame.Frame.{Frame}
+use Rattle.orc_walk.specs.declared.frame.Stop.TheVariants.{Outside}
+use Rattle.orc_walk.specs.Placement.{IsPlacement, address_of, is_inside}
+use Rattle.orc_walk.specs.Placement as placement
+use Rattle.orc_walk.specs.Lookup.{find_row}
+use Rattle.orc_walk.specs.Walk.{Walks}
+use Rattle.orc_build.specs.Straight.{IsStraight, ops_of}
+use Rattle.orc_build.specs.Rows.{call_row, size_of, straight_rows}
+use Rattle.straight_program.specs.Program.{program_of, place_of, depth_before}
+
+-- straight code whose instructions, each of at least a byte, fill the section
+pub record IsStraightText (text : TextSection) (insns : List Insn) : Type 0 where
+  pub straight : IsStraight (ops_of insns)
+  pub lengths : All (λ insn. 1 ≤ insn.len) insns
+  pub size : text.size ≡ size_of insns
+  pub small : text.size < 2 ^ 63
+
+-- the section as one that is placed
+abbrev pub placed_section : TextSection → placement.TextSection
+placed_section text = record { sec = text.sec; size = text.size }
+
+-- wherever the section is placed, the row of each instruction is found at its address, which is inside
+abbrev pub StraightRowsAreFound : Type 0
+StraightRowsAreFound =
+    (text : TextSection) (insns : List Insn) (ranges : List Range)
+    → IsStraightText text insns → IsPlacement (placed_section text ∷ []) ranges
+    → (q address : ℕ) → q < (program_of text insns).count → address_of ranges (place_of text insns q) ≡ Some address
+    → (find_row (straight_rows text.sec insns) ranges address ≡ Some (call_row (depth_before insns q))) × (is_inside ranges address ≡ true)
+
+-- each range begins where the bases place its section
+abbrev pub BeginAt : Bases → List Range → Type 0
+BeginAt bases ranges = All (λ range. range.base ≡ bases range.sec) ranges
+
+-- a frame of the machine as one that a walk gives
+abbrev pub walk_frame : WalkedFrame → Frame
+walk_frame f = record { ra = f.ra; cfa = f.cfa; bp = f.bp }
+
+-- the registers where the machine stands
+abbrev pub registers_at : TextSection → List Insn → Bases → Standing → Regs
+registers_at text insns bases s =
+    record { ip = point_address (program_of text insns) bases s.point; sp = s.core.rsp; bp = s.core.rbp }
+
+-- The stack isn't wrecked, and the walk over the rows from the registers and the stack in memory gives
+-- exactly the machine's frames, and stops outside.
+abbrev pub Unwinds : TextSection → List Insn → Bases → List Range → Machine → Type 0
+Unwinds text insns bases ranges Wrecked = ⊥
+Unwinds text insns bases ranges (At s) =
+    Walks (straight_rows text.sec insns) ranges (λ address. word_at s.core.region address) (registers_at text insns bases s) (map walk_frame (frames s)) Outside
+    × (frames_end s ≡ None)
+
+-- wherever the section is placed, each state of each run unwinds
+abbrev pub StraightUnwinds : Type 0
+StraightUnwinds =
+    (text : TextSection) (insns : List Insn) (bases : Bases) (ranges : List Range)
+    → IsStraightText text insns → IsPlacement (placed_section text ∷ []) ranges → BeginAt bases ranges
+    → (m : Machine) → Run (program_of text insns) bases m → Unwinds text insns bases ranges m

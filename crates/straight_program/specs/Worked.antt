@@ -1,0 +1,63 @@
+-- A worked section: the code 53 5B 90 C3 (push rbx; pop rbx; nop; ret).
+use Rattle.std.specs.Prelude.{◌≡◌, true, false, List, [], ◌∷◌, Some, None, pos, ◌==◌, if◌then◌else◌}
+use Rattle.machine_ops.specs.declared.op.Op.TheVariants.{Push, Pop, Nop, Ret}
+use Rattle.machine_ops.specs.declared.insn.Insn.{Insn}
+use Rattle.machine_ops.specs.declared.flow.EdgeKind.TheVariants.{Next}
+use Rattle.machine_ops.specs.declared.flow.Role.TheVariants.{Plain, Return}
+use Rattle.machine_ops.specs.declared.state.Depth.TheVariants.{Known}
+use Rattle.machine_ops.specs.declared.state.BpHome.TheVariants.{Same}
+use Rattle.machine_ops.specs.declared.state.State.TheVariants.{Live}
+use Rattle.machine_ops.specs.State.{initial}
+use Rattle.stack_machine.specs.Program.{Program, TextSection, edge}
+use Rattle.stack_machine.specs.Kept.{state_at}
+use Rattle.orc_walk.specs.declared.range.Range.{Range}
+use Rattle.orc_walk.specs.declared.frame.Stop.TheVariants.{Outside}
+use Rattle.orc_walk.specs.Walk.{Memory, Walks}
+use Rattle.orc_build.specs.Rows.{call_row, zero_row, placed_at, straight_rows}
+use Rattle.straight_program.specs.Program.{program_of}
+
+abbrev pub insns : List Insn
+insns = record { len = 1; op = Push } ∷ record { len = 1; op = Pop } ∷ record { len = 1; op = Nop } ∷ record { len = 1; op = Ret } ∷ []
+
+abbrev pub text : TextSection
+text = record { sec = 1; size = 4 }
+
+abbrev pub program : Program
+program = program_of text insns
+
+pub record HasWorkedProgram : Type 0 where
+  pub count : program.count ≡ 4
+  pub place : program.place 2 ≡ record { sec = 1; off = 2 }
+  pub goes : program.goes 0 ≡ edge 1 Next ∷ []
+  pub goes_last : program.goes 3 ≡ []
+  pub role : program.role 2 ≡ Plain
+  pub role_last : program.role 3 ≡ Return
+  pub past_end : (program.marks 3).past_end ≡ false
+  pub arrive : program.arrive (record { sec = 1; off = 1 }) ≡ 1 ∷ []
+  pub arrive_elsewhere : program.arrive (record { sec = 2; off = 1 }) ≡ []
+  pub may_return : program.may_return 0 ≡ true
+  -- the states: initial, one push deep, and initial again
+  pub entry : state_at program 0 0 ≡ Some initial
+  pub pushed : state_at program 1 1 ≡ Some (Live (Known (pos 16)) None Same)
+  pub popped : state_at program 2 2 ≡ Some initial
+  -- code that ends without a return runs past its end
+  pub runs_out : ((program_of text (record { len = 4; op = Nop } ∷ [])).marks 0).past_end ≡ true
+
+-- its rows
+abbrev pub HasWorkedTable : Type 0
+HasWorkedTable =
+    straight_rows 1 insns
+    ≡ placed_at 1 0 (call_row 8) ∷ placed_at 1 1 (call_row 16) ∷ placed_at 1 2 (call_row 8) ∷ placed_at 1 4 zero_row ∷ []
+
+abbrev pub ranges : List Range
+ranges = record { sec = 1; base = 0x1000; size = 4 } ∷ []
+
+-- one word: a return address outside, which was pushed at 0x8008
+abbrev pub memory : Memory
+memory address = if address == 0x8008 then Some 0xA0000000 else None
+
+-- a walk from behind the push
+abbrev pub HasWorkedWalk : Type 0
+HasWorkedWalk =
+    Walks (straight_rows 1 insns) ranges memory (record { ip = 0x1001; sp = 0x8000; bp = 5 })
+    (record { ra = 0xA0000000; cfa = 0x8010; bp = 5 } ∷ []) Outside

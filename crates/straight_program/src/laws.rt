@@ -1,0 +1,41 @@
+//! What holds of the program of straight code, and of its rows.
+
+ghost use Rattle.straight_program.specs.Laws.{StraightRowsAreFound, StraightUnwinds};
+ghost use Rattle.straight_program.specs.Worked.{HasWorkedProgram, HasWorkedTable, HasWorkedWalk};
+
+use orc_walk::{one_section_has_one_range, row_is_found_among_others};
+use stack_state::laws::move_is_sound;
+
+/// Straight code unwinds: wherever its section is placed, no run's stack is wrecked, and at each state
+/// of each run the walk over the section's rows gives the frames of the machine and stops outside.
+pub fn straight_unwinds()
+    ensures { StraightUnwinds }
+{
+    move_is_sound();
+    one_section_has_one_range();
+    row_is_found_among_others();
+}
+
+/// Wherever the section is placed, the row of each instruction's depth is found at its address, and
+/// the address is inside.
+pub fn straight_rows_are_found()
+    ensures { StraightRowsAreFound }
+{
+    one_section_has_one_range();
+    row_is_found_among_others();
+}
+
+/// The program of `53 5B 90 C3`.
+pub fn worked_program()
+    ensures { HasWorkedProgram }
+{}
+
+/// Its rows.
+pub fn worked_table()
+    ensures { HasWorkedTable }
+{}
+
+/// A walk over them.
+pub fn worked_walk()
+    ensures { HasWorkedWalk }
+{}
