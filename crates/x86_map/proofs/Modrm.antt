@@ -1,6 +1,6 @@
 -- An opcode has a ModRM byte under all the prefixes that it stands with, or under none.
 use Rattle.std.proofs.Common.{◌≡◌, ℕ, ◌+◌, ◌*◌, ◌<◌, Bool, true, false, cond, ltb, List, [], ◌∷◌, get_or, refl, sym, ap, ◌∙◌, arith, inl, inr}
-use Rattle.std.specs.Prelude.{◌&&◌, ◌||◌, not, Option, Some, None, map}
+use Rattle.std.specs.Prelude.{◌&&◌, ◌||◌, ◌⊎◌, not, Option, Some, None, map}
 use Rattle.std.specs.List.{list_all, range_with_len}
 use Rattle.std.proofs.lemmas.Bool.{ltb-true}
 use Rattle.std.proofs.lemmas.List.FromFn.{get_or-map-range_with_len}
@@ -14,7 +14,7 @@ use Rattle.x86_map.specs.declared.form.Operand.TheVariants.{NoModrm, Digits, Byt
 use Rattle.x86_map.specs.declared.form.Form.{Form}
 use Rattle.x86_map.specs.Prefixes.{is_rex_valid}
 use Rattle.x86_map.specs.Form.{accepts, takes, has_modrm, shape_of, look_operand, look_form}
-use Rattle.x86_map.specs.OpcodeMap.{forms_at, look_forms, look}
+use Rattle.x86_map.specs.OpcodeMap.{forms_at, or_else, look_forms, look}
 use Rattle.x86_map.proofs.Accepting.{and_left, and_right, or_true, one_to_three}
 
 -- ---- what is tested of the forms of each opcode
@@ -197,3 +197,34 @@ look-some p number opcode low high lt asked =
           record { modrm = some.modrm; is_byte = some.is_byte; shape = some.shape; fits = inside-fits p number opcode some.modrm some.shape valid some.fits }
       | inr without ↦ absurd (without_asks forms p without inside)
     ]
+
+-- a ModRM byte that is there isn't asked for
+never_operand : (o : Operand) (s : Shape) (m : ℕ) → look_operand o (Some m) s ≡ NeedModrm → ⊥
+never_operand NoModrm s m h = cc
+never_operand (Digits mode first last) s m h = elim (takes (Digits mode first last) m) as (λ b. cond b (Fits s) Refused ≡ NeedModrm → ⊥) [ true ↦ λ e. cc | false ↦ λ e. cc ] h
+never_operand (Bytes first last) s m h = elim (takes (Bytes first last) m) as (λ b. cond b (Fits s) Refused ≡ NeedModrm → ⊥) [ true ↦ λ e. cc | false ↦ λ e. cc ] h
+
+never_form : (f : Form) (p : Prefixes) (m : ℕ) → look_form f p (Some m) ≡ NeedModrm → ⊥
+never_form f p m h = elim (accepts f.rules p) as (λ b. accepts f.rules p ≡ b → ⊥) [
+  | true ↦ λ e. never_operand f.operand (shape_of f p) m (sym (accepted_form f p (Some m) e) ∙ h)
+  | false ↦ λ e. let refused = refused_form f p (Some m) e in cc
+] refl
+
+or_else-asks : (a b : Look) → or_else a b ≡ NeedModrm → (a ≡ NeedModrm) ⊎ (b ≡ NeedModrm)
+or_else-asks Refused b h = inr h
+or_else-asks NeedModrm b h = inl refl
+or_else-asks (Fits s) b h = absurd cc
+
+never_forms : (forms : List Form) (p : Prefixes) (m : ℕ) → look_forms forms p (Some m) ≡ NeedModrm → ⊥
+never_forms [] p m h = cc
+never_forms (f ∷ forms) p m h = elim (or_else-asks (look_form f p (Some m)) (look_forms forms p (Some m)) h) [
+  | inl here ↦ never_form f p m here
+  | inr there ↦ never_forms forms p m there
+]
+
+pub look-never_asks : (p : Prefixes) (number opcode m : ℕ) → look p number opcode (Some m) ≡ NeedModrm → ⊥
+unfolding look
+look-never_asks p number opcode m h = elim (is_rex_valid p.rex) as (λ b. cond b (look_forms (forms_at number opcode) p (Some m)) Refused ≡ NeedModrm → ⊥) [
+  | true ↦ λ e. never_forms (forms_at number opcode) p m e
+  | false ↦ λ e. cc
+] h

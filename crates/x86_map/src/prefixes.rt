@@ -1,5 +1,5 @@
-ghost use Rattle.std.specs.Prelude.{◌≡◌};
-ghost use Rattle.x86_map.specs.Prefixes.{rex_w, rex_r, rex_x, rex_b, is_rex_valid};
+ghost use Rattle.std.specs.Prelude.{◌≡◌, ◌<◌};
+ghost use Rattle.x86_map.specs.Prefixes.{has_rex_bit, rex_w, rex_r, rex_x, rex_b, is_rex_valid};
 
 /// The prefixes of an instruction, as far as the opcode map asks for them (SDM, volume 2, section 2.1.1).
 /// The segment overrides of CS, DS, ES and SS change nothing in 64-bit mode and aren't here.
@@ -60,9 +60,6 @@ impl Prefixes {
         }
     }
 }
-
-ghost use Rattle.std.specs.Prelude.{◌<◌};
-ghost use Rattle.x86_map.specs.Prefixes.{has_rex_bit};
 
 fn has_bit(rex: Option<u8>, weight: u8) -> bool
     requires { 0 < weight }
