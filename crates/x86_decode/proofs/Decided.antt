@@ -27,7 +27,7 @@ bytes_left : (xs ys : List ℕ) → IsBytes (xs ++ ys) → IsBytes xs
 bytes_left [] ys h = tt
 bytes_left (x ∷ xs) ys h = (h.0, bytes_left xs ys h.1)
 
-bytes_both : (xs ys : List ℕ) → IsBytes xs → IsBytes ys → IsBytes (xs ++ ys)
+pub bytes_both : (xs ys : List ℕ) → IsBytes xs → IsBytes ys → IsBytes (xs ++ ys)
 bytes_both [] ys h k = k
 bytes_both (x ∷ xs) ys h k = (h.0, bytes_both xs ys h.1 k)
 

@@ -10,3 +10,4 @@ pub mod Parsed
 pub mod Fronts
 pub mod Decided
 pub mod LeafLaws
+pub mod Exact

@@ -6,3 +6,4 @@ pub mod Prefix
 pub mod Spelling
 pub mod Reading
 pub mod Decoding
+pub mod MapLaw

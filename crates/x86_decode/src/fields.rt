@@ -1,4 +1,4 @@
-ghost use Rattle.std.specs.Prelude.{◌≡◌, ℕ};
+ghost use Rattle.std.specs.Prelude.{◌≡◌, ◌<◌, ℕ};
 ghost use Rattle.x86_decode.specs.Fields.{
   signed,
   modrm,
@@ -159,8 +159,6 @@ impl Fields {
         }
     }
 }
-
-ghost use Rattle.std.specs.Prelude.{◌<◌};
 
 /// A register's number from its three bits and a bit of REX.
 fn extended(bit: bool, field: u8) -> u8

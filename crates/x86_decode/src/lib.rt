@@ -5,6 +5,7 @@
 ghost use Rattle.std.specs.Prelude.{◌≡◌, ◌<◌, ◌≤◌, ◌↔◌, ℕ, [], ◌∷◌, length, slice_index, IfOk};
 ghost use Rattle.x86_decode.specs.Leaf.{leaf_op};
 ghost use Rattle.x86_decode.specs.Spelling.{Spells};
+ghost use Rattle.x86_decode.specs.MapLaw.{MapIsExact};
 ghost use Rattle.x86_decode.specs.Decoding.{StandsInFront, EndsOutside, IsCut, IsTooLong, OneSpelling, decoded};
 
 mod action;
@@ -72,7 +73,16 @@ pub fn one_spelling()
     ensures { OneSpelling }
 {}
 
+/// What the opcode map answers, in terms of spellings: it fits exactly what is spelled, asks for a ModRM byte exactly
+/// where some spelling has one, and refuses exactly where there is none.
+pub fn map_is_exact()
+    ensures { MapIsExact }
+{}
+
 /// Each byte of a straight leaf function spells its operation, alone.
 pub fn leaf_spellings()
     ensures { (byte : ℕ) (op : Op) → leaf_op byte ≡ Some op → Spells (byte ∷ []) (record { len = 1; op = op }) }
 {}
+
+#[cfg(test)]
+mod tests;

@@ -1,7 +1,7 @@
 //! One instruction is read from the left, part by part.
 
 ghost use Rattle.std.specs.Prelude.{◌≡◌, ◌+◌, ◌≤◌, ◌<◌, ℕ, length, Some, None};
-ghost use Rattle.x86_decode.specs.Spelling.{has_sib, displacement_len};
+ghost use Rattle.x86_decode.specs.Spelling.{optional, has_sib, has_base_5, displacement_len};
 ghost use Rattle.x86_decode.specs.Reading.{
   finished,
   rest_at,
@@ -188,9 +188,6 @@ fn read_sib(opcode: Opcode, modrm: u8, shape: Shape, bytes: &[u8]) -> Result<Ins
     }
 }
 
-ghost use Rattle.std.specs.Prelude.{List};
-ghost use Rattle.x86_decode.specs.Spelling.{optional};
-
 #[tactic(auto, unfolding(crate::specs::Reading::rest_at))]
 fn read_rest(
     opcode: Opcode,
@@ -272,8 +269,6 @@ fn displacement_len(modrm: Option<u8>, sib: Option<u8>) -> usize
         _ => 0,
     }
 }
-
-ghost use Rattle.x86_decode.specs.Spelling.{has_base_5};
 
 fn has_base_5(sib: Option<u8>) -> bool
     ensures { result ≡ has_base_5 sib }
