@@ -1,0 +1,4 @@
+pub mod Known
+pub mod Slots
+pub mod Room
+pub mod Addable
