@@ -15,8 +15,8 @@ pub data IsBoundary (body : List ℕ) : ℕ → Type 0 where
 abbrev pub IsCode : List ℕ → Type 0
 IsCode body = (off : ℕ) → IsBoundary body off → (insn : Insn) × StandsInFront (drop off body) insn
 
--- an instruction that begins at this offset, and those behind it, which are asked for by how many of the following
--- bytes belong to it
+-- where decoding at this offset gives an instruction: it, and then the rest, which is told how many of the next bytes
+-- still belong to it
 abbrev pub with_rest : ℕ → Result Insn DecodeFault → (ℕ → List PlacedInsn) → List PlacedInsn
 with_rest off (Ok insn) rest = record { off = off; insn = insn } ∷ rest (insn.len - 1)
 with_rest off (Err why) rest = []

@@ -1,5 +1,6 @@
 ghost use Rattle.std.specs.Prelude.{◌≡◌, ◌+◌, ◌<◌, ◌≤◌, ◌↔◌, ℕ, ⊤, length, drop, slice_get, slice_index_or, slice_range, Contains, IfOk, IfErr, OnOk, IfSome, IfNone, MatchOption};
 ghost use Rattle.std.specs.List.Sorted.{IsNonDecreasingBy};
+ghost use Rattle.x86_decode.specs.Decoding.{StandsInFront};
 ghost use Rattle.x86_text.specs.Code.{code_of, insn_listed, offsets_of, IsBoundary, IsCode, IsNextBoundary, IsPreviousBoundary};
 ghost use Rattle.x86_text.specs.declared.placed.PlacedInsn.{PlacedInsn};
 ghost use Rattle.x86_text.specs.Refused.{IsTextFault};
@@ -72,7 +73,8 @@ impl<'a> Text<'a> {
     /// The instruction with this number, and its offset.
     pub fn insn(&self, i: u32) -> (u64, Insn)
         requires { i < length (code_of self.now) }
-        ensures { slice_get (code_of self.now) i ≡ Some (record { off = result.0; insn = result.1 }) }
+        ensures listed { slice_get (code_of self.now) i ≡ Some (record { off = result.0; insn = result.1 }) }
+        ensures stands { StandsInFront (drop result.0 self.now) result.1 }
     {
         let PlacedInsn { off, insn } = self.code[i as usize];
         (off, insn)
@@ -80,7 +82,9 @@ impl<'a> Text<'a> {
 
     /// The instruction that begins at this offset.
     pub fn insn_at(&self, off: u64) -> Option<Insn>
-        ensures { result ≡ insn_listed (code_of self.now) off }
+        ensures listed { result ≡ insn_listed (code_of self.now) off }
+        ensures found { IfSome result (λ insn. IsBoundary self.now off × StandsInFront (drop off self.now) insn) }
+        ensures absent { IfNone result (IsBoundary self.now off → ⊥) }
     {
         let code = self.code.as_slice();
         let place = count_below(code, off);

@@ -5,6 +5,7 @@ use Rattle.machine_ops.specs.declared.op.Op.TheVariants.{Plain}
 use Rattle.x86_text.specs.declared.placed.PlacedInsn.{PlacedInsn}
 use Rattle.x86_text.specs.Code.{code_of, insn_listed}
 use Rattle.x86_text.specs.Listed.{IsListing}
+use Rattle.x86_text.proofs.ListingLemmas.{listed_at}
 use Rattle.x86_text.proofs.QueryLemmas.{found_here, found_nowhere}
 use Rattle.x86_text.proofs.text.Text.insn_at.Goals as goal
 use Rattle.x86_text.proofs.text.Text.insn_at.Goals.{else-place-code-via-then-place-code+else-code-place, else-place-code-via-else-place-code}
@@ -21,20 +22,33 @@ nowhere code off n ascending below above here k d inside same =
     let rises : (get_or code n d).off ≤ (get_or code k d).off = ascending n k d later inside in
     here d there (omega arith)
 
-pub returns-then-code-place : goal.returns-then-code-place
-returns-then-code-place c =
+pub returns-then-code-place-clause-listed : goal.returns-then-code-place-clause-listed
+returns-then-code-place-clause-listed c =
     let same : c.as_slice-code.result.now ≡ code_of c.args.self.now = c.as_slice-code.ensures.value ∙ c.self.invariant.same ∙ ap code_of c.self.view_is in
     sym (found_here c.as_slice-code.result.now c.args.off c.count_below-place.result (record { off = 0; insn = record { len = 0; op = Plain } }) c.if-place-code.true c.count_below-place.ensures.below c.if-code-place.true)
     ∙ ap (λ code. insn_listed code c.args.off) same
 
-pub returns-else-place-code : goal.returns-else-place-code
-returns-else-place-code c =
-    let same : c.as_slice-code.result.now ≡ code_of c.args.self.now = c.as_slice-code.ensures.value ∙ c.self.invariant.same ∙ ap code_of c.self.view_is in
+-- none begins at the offset
+none_there : (c : goal.Joined-else-place-code) → (k : ℕ) (d : PlacedInsn) → k < length c.as_slice-code.result.now → (get_or c.as_slice-code.result.now k d).off ≢ c.args.off
+none_there c =
     let ascending : IsNonDecreasingBy (λ (p : PlacedInsn). p.off) c.as_slice-code.result.now = subst (IsNonDecreasingBy (λ (p : PlacedInsn). p.off)) (sym c.as_slice-code.ensures.value) c.self.invariant.ascending in
     let here : (d : PlacedInsn) → c.count_below-place.result < length c.as_slice-code.result.now → (get_or c.as_slice-code.result.now c.count_below-place.result d).off ≢ c.args.off = λ d there.
     elim c.else-place-code.branch [
       | else-place-code-via-then-place-code+else-code-place w ↦ λ is. w.if-code-place.false (ap (λ (p : PlacedInsn). p.off) (get_or_default c.as_slice-code.result.now c.count_below-place.result (record { off = 0; insn = record { len = 0; op = Plain } }) d there) ∙ is)
       | else-place-code-via-else-place-code w ↦ λ is. absurd (omega arith)
     ] in
-    sym (found_nowhere c.as_slice-code.result.now c.args.off (nowhere c.as_slice-code.result.now c.args.off c.count_below-place.result ascending c.count_below-place.ensures.below c.count_below-place.ensures.above here))
+    nowhere c.as_slice-code.result.now c.args.off c.count_below-place.result ascending c.count_below-place.ensures.below c.count_below-place.ensures.above here
+
+pub returns-else-place-code-clause-listed : goal.returns-else-place-code-clause-listed
+returns-else-place-code-clause-listed c =
+    let same : c.as_slice-code.result.now ≡ code_of c.args.self.now = c.as_slice-code.ensures.value ∙ c.self.invariant.same ∙ ap code_of c.self.view_is in
+    sym (found_nowhere c.as_slice-code.result.now c.args.off (none_there c))
     ∙ ap (λ code. insn_listed code c.args.off) same
+
+pub returns-else-place-code-clause-absent : goal.returns-else-place-code-clause-absent
+returns-else-place-code-clause-absent c = λ boundary.
+    let kept : IsListing c.self.inside.body.now c.as_slice-code.result.now = subst (IsListing c.self.inside.body.now) (sym c.as_slice-code.ensures.value) c.self.invariant in
+    let listing : IsListing c.args.self.now c.as_slice-code.result.now = subst (λ (body : List ℕ). IsListing body c.as_slice-code.result.now) c.self.view_is kept in
+    let at = listed_at c.args.self.now c.as_slice-code.result.now c.args.off listing boundary in
+    let nothing : PlacedInsn = record { off = 0; insn = record { len = 0; op = Plain } } in
+    none_there c at.0 nothing at.1.0 (at.1.1 nothing)
