@@ -2,3 +2,8 @@ pub mod Points
 pub mod Table
 pub mod Runs
 pub mod Unwind
+pub mod Fits
+pub mod KeptStates
+pub mod Laid
+pub mod Accepted
+pub mod WorkedRun

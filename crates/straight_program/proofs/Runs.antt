@@ -99,11 +99,13 @@ ready core f m held e = elim e [ inl a ↦ kind a | inr b ↦ elim b [ inl a ↦
     read : (word : ℕ) → Reads core.region core.rsp word → word ≢ f.ra → ⊥
     read word reads ne = ne (holds_reads core.region core.rsp f.ra word (subst (λ (x : ℕ). Holds core.region x f.ra) (sym m.depth) held) reads)
 
-no_ret_imm : (op : Op) → op ≡ RetImm → is_straight_op op ≡ true → ⊥
-no_ret_imm op e h = false≢true (sym (ap is_straight_op e) ∙ h)
+pub no_jump : (b : Bool) → cond b Return Plain ≡ JumpAny → ⊥
+no_jump true h = cc
+no_jump false h = cc
 
-no_iret : (op : Op) → op ≡ Iret → is_straight_op op ≡ true → ⊥
-no_iret op e h = false≢true (sym (ap is_straight_op e) ∙ h)
+-- another operation isn't straight code's
+pub no_other : (op other : Op) → is_straight_op other ≡ false → op ≡ other → is_straight_op op ≡ true → ⊥
+no_other op other f e h = false≢true (sym f ∙ ap is_straight_op (sym e) ∙ h)
 
 module _ (text : TextSection) (insns : List Insn) (fills : IsStraightText text insns) (bases : Bases) where
   -- the start: a call of the first instruction
@@ -144,7 +146,7 @@ module _ (text : TextSection) (insns : List Insn) (fills : IsStraightText text i
       small : (x hi : ℕ) → x ≤ hi → hi < 2 ^ 64 - 2 ^ 30 → x < 2 ^ 64
       small x hi a b = omega arith
 
-  -- what is tracked stays so without its mark
+  -- each start is tracked: only that of a call from outside is possible, since there is no hint
   start_tracked : (s : Standing) → Start (program_of text insns) bases s → IsInStack s.core → IsTracked text insns bases s
   start_tracked s (at_entry t s2 f entry c d called e from) stack =
       let arrived = subst (λ (n : ℕ). Contains (points_at text insns (place_of text insns n)) t.point) (sym (entry_is_first entry c)) d in
@@ -184,10 +186,6 @@ module _ (text : TextSection) (insns : List Insn) (fills : IsStraightText text i
   no_call_out true h = false≢true h
   no_call_out false h = false≢true h
 
-  no_jump : (b : Bool) → cond b Return Plain ≡ JumpAny → ⊥
-  no_jump true h = cc
-  no_jump false h = cc
-
   leaves_at_return : (b : Bool) → may_leave (program_of text insns) (cond b Return Plain) ≡ true → b ≡ true
   leaves_at_return true h = refl
   leaves_at_return false h = absurd (false≢true h)
@@ -196,7 +194,7 @@ module _ (text : TextSection) (insns : List Insn) (fills : IsStraightText text i
   not_tail q r (sibling x c) = let k : Sibling ≡ Next = only_next insns q r Sibling c in cc
   not_tail q r (indirect x entry h c d) = no_jump (returns_at insns q) h
 
-  not_out : (q : ℕ) (a b : Bool) → q < length insns → returns_at insns q ≡ a → goes_further insns q ≡ b → runs_out insns q ≡ false
+  pub not_out : (q : ℕ) (a b : Bool) → q < length insns → returns_at insns q ≡ a → goes_further insns q ≡ b → runs_out insns q ≡ false
   not_out q true b h e f = rw e refl
   not_out q false true h e f = rw (e, f) refl
   not_out q false false h e f = absurd (passes (omega (arith, ltb-false (q + 1) (length insns) f)))
@@ -210,8 +208,8 @@ module _ (text : TextSection) (insns : List Insn) (fills : IsStraightText text i
       let means = subst (λ (n : ℕ). MeansLive (Known (pos n)) None Same s.core.rsp s.core.rbp k.frame) (depth_last insns fills.straight s.point at) k.told.means in
       let held = ra_held s.core k.frame means.bp.0 k.told.kept in
       ready s.core k.frame means held.0 (subst (λ (fs : List Frame). MissesReturn s.core fs) k.told.frames misses)
-  not_wrecked s k (wrong_iret op live misses) = no_iret (insn_at insns s.point).op op (straight_at insns fills.straight s.point k.point)
-  not_wrecked s k (drops_bytes op) = no_ret_imm (insn_at insns s.point).op op (straight_at insns fills.straight s.point k.point)
+  not_wrecked s k (wrong_iret op live misses) = no_other (insn_at insns s.point).op Iret refl op (straight_at insns fills.straight s.point k.point)
+  not_wrecked s k (drops_bytes op) = no_other (insn_at insns s.point).op RetImm refl op (straight_at insns fills.straight s.point k.point)
   not_wrecked s k (bad_target h) = false≢true h
   not_wrecked s k (into_site h) = false≢true h
   not_wrecked s k (into_function h) = false≢true h
@@ -232,7 +230,7 @@ module _ (text : TextSection) (insns : List Insn) (fills : IsStraightText text i
   step_tracked sound m n k stack (tail_calls s t u g l) after = absurd (not_tail s.point t.point g.target)
   step_tracked sound m n k stack (wrecks s w) after = not_wrecked s k w
   step_tracked sound m n k stack (interrupted s t u g l) after = let h = g.gate.hint in absurd (let z : ⊥ = cc in z)
-  step_tracked sound m n k stack (irets s t g) after = absurd (no_iret (insn_at insns s.point).op g.iret (straight_at insns fills.straight s.point k.point))
+  step_tracked sound m n k stack (irets s t g) after = absurd (no_other (insn_at insns s.point).op Iret refl g.iret (straight_at insns fills.straight s.point k.point))
 
   pub run_tracked : MoveIsSound → (m : Machine) → Run (program_of text insns) bases m → IsMachineTracked text insns bases m × StaysInStack m
   run_tracked sound m (started s start stack) = (start_tracked s start stack, stack)

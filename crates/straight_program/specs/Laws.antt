@@ -1,28 +1,49 @@
 -- What holds of the program of straight code, of its rows, and of walks over its stack.
-use Rattle.std.specs.Prelude.{◌≡◌, ℕ, ◌^◌, ◌<◌, ◌≤◌, true, List, [], ◌∷◌, Some, None, map, All}
+use Rattle.std.specs.Prelude.{◌≡◌, ℕ, ◌<◌, ◌≤◌, true, List, [], ◌∷◌, Some, None, map, All}
+use Rattle.ot_base.specs.declared.row.PlacedRow.{PlacedRow}
 use Rattle.machine_ops.specs.declared.insn.Insn.{Insn}
+use Rattle.machine_ops.specs.declared.state.State.{State}
 use Rattle.machine_ops.specs.Region.{word_at}
+use Rattle.machine_ops.specs.Row.{has_16_bits}
 use Rattle.stack_machine.specs.Program.{TextSection}
 use Rattle.stack_machine.specs.Machine.{Bases, Standing, Machine, Wrecked, At, WalkedFrame, point_address, frames, frames_end}
 use Rattle.stack_machine.specs.Run.{Run}
+use Rattle.stack_machine.specs.Kept.{Kept}
+use Rattle.stack_machine.specs.Broken.{IsAccepted}
+use Rattle.stack_machine.specs.IsProgram.{IsProgram, IsLaidOut}
 use Rattle.orc_walk.specs.declared.range.Range.{Range}
 use Rattle.orc_walk.specs.declared.frame.Regs.{Regs}
 use Rattle.orc_walk.specs.declared.frame.Frame.{Frame}
 use Rattle.orc_walk.specs.declared.frame.Stop.TheVariants.{Outside}
+use Rattle.orc_walk.specs.Fields.{HasKnownFields}
 use Rattle.orc_walk.specs.Placement.{IsPlacement, address_of, is_inside}
 use Rattle.orc_walk.specs.Placement as placement
 use Rattle.orc_walk.specs.Lookup.{find_row}
 use Rattle.orc_walk.specs.Walk.{Walks}
 use Rattle.orc_build.specs.Straight.{IsStraight, ops_of}
 use Rattle.orc_build.specs.Rows.{call_row, size_of, straight_rows}
-use Rattle.straight_program.specs.Program.{program_of, place_of, depth_before}
+use Rattle.straight_program.specs.Program.{program_of, place_of, depth_before, state_before}
 
 -- straight code whose instructions, each of at least a byte, fill the section
 pub record IsStraightText (text : TextSection) (insns : List Insn) : Type 0 where
   pub straight : IsStraight (ops_of insns)
   pub lengths : All (λ insn. 1 ≤ insn.len) insns
   pub size : text.size ≡ size_of insns
-  pub small : text.size < 2 ^ 63
+
+-- it is a program, and laid out as one
+abbrev pub StraightIsProgram : Type 0
+StraightIsProgram = (text : TextSection) (insns : List Insn) → IsStraightText text insns → IsProgram (program_of text insns) × IsLaidOut (program_of text insns)
+
+-- before each instruction a state is kept, that of its depth, and no other
+abbrev pub StraightIsKept : Type 0
+StraightIsKept =
+    (text : TextSection) (insns : List Insn) → IsStraightText text insns
+    → (q : ℕ) → q < (program_of text insns).count
+    → Kept (program_of text insns) q (state_before insns q) × ((s : State) → Kept (program_of text insns) q s → s ≡ state_before insns q)
+
+-- no rule is broken
+abbrev pub StraightIsAccepted : Type 0
+StraightIsAccepted = (text : TextSection) (insns : List Insn) → IsStraightText text insns → IsAccepted (program_of text insns)
 
 -- the section as one that is placed
 abbrev pub placed_section : TextSection → placement.TextSection
@@ -35,6 +56,17 @@ StraightRowsAreFound =
     → IsStraightText text insns → IsPlacement (placed_section text ∷ []) ranges
     → (q address : ℕ) → q < (program_of text insns).count → address_of ranges (place_of text insns q) ≡ Some address
     → (find_row (straight_rows text.sec insns) ranges address ≡ Some (call_row (depth_before insns q))) × (is_inside ranges address ≡ true)
+
+-- a row of the section that the format can hold
+pub record IsRowOf (text : TextSection) (placed : PlacedRow) : Type 0 where
+  pub sec : placed.place.sec ≡ text.sec
+  pub off : placed.place.off ≤ text.size
+  pub fields : HasKnownFields placed.row
+  pub sp_offset : has_16_bits placed.row.sp_offset ≡ true
+  pub bp_offset : has_16_bits placed.row.bp_offset ≡ true
+
+abbrev pub StraightRowsFit : Type 0
+StraightRowsFit = (text : TextSection) (insns : List Insn) → IsStraightText text insns → All (IsRowOf text) (straight_rows text.sec insns)
 
 -- each range begins where the bases place its section
 abbrev pub BeginAt : Bases → List Range → Type 0

@@ -1,4 +1,4 @@
--- The program of a section of straight code, of which all is one function.
+-- The program of a section of straight code, which is one function.
 use Rattle.std.specs.Prelude.{ℕ, ◌+◌, ◌-◌, ◌*◌, Bool, false, ◌&&◌, not, List, [], ◌∷◌, Some, None, length, take, drop, map, filter, slice_index_or, nat_lt, ◌==◌, if◌then◌else◌, pos}
 use Rattle.std.specs.List.{list_any}
 use Rattle.ot_base.specs.declared.place.Place.{Place}
@@ -50,7 +50,8 @@ abbrev pub points_at : TextSection → List Insn → Place → List ℕ
 points_at text insns place = filter (λ q. same_place (place_of text insns q) place) (below (length insns))
 
 -- The program of these instructions, end to end from the start of the section: one function over the
--- whole section, entered at its first instruction.
+-- whole section, entered at its first instruction, with no symbol, hint or site but that. It takes each
+-- operation for one of straight code: none branches, calls or leaves but a return.
 abbrev pub program_of : TextSection → List Insn → Program
 program_of text insns = record {
   count = length insns;

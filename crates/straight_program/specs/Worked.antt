@@ -1,5 +1,5 @@
 -- A worked section: the code 53 5B 90 C3 (push rbx; pop rbx; nop; ret).
-use Rattle.std.specs.Prelude.{◌≡◌, true, false, List, [], ◌∷◌, Some, None, pos, ◌==◌, if◌then◌else◌}
+use Rattle.std.specs.Prelude.{ℕ, replicate, ◌≡◌, true, false, List, [], ◌∷◌, Some, None, pos, ◌==◌, if◌then◌else◌}
 use Rattle.machine_ops.specs.declared.op.Op.TheVariants.{Push, Pop, Nop, Ret}
 use Rattle.machine_ops.specs.declared.insn.Insn.{Insn}
 use Rattle.machine_ops.specs.declared.flow.EdgeKind.TheVariants.{Next}
@@ -14,7 +14,12 @@ use Rattle.orc_walk.specs.declared.range.Range.{Range}
 use Rattle.orc_walk.specs.declared.frame.Stop.TheVariants.{Outside}
 use Rattle.orc_walk.specs.Walk.{Memory, Walks}
 use Rattle.orc_build.specs.Rows.{call_row, zero_row, placed_at, straight_rows}
+use Rattle.machine_ops.specs.Frame.{Unsaved}
+use Rattle.stack_machine.specs.Machine.{Bases, Standing, At}
+use Rattle.stack_machine.specs.Run.{outermost, Run}
+use Rattle.orc_walk.specs.Placement.{IsPlacement}
 use Rattle.straight_program.specs.Program.{program_of}
+use Rattle.straight_program.specs.Laws.{IsStraightText, placed_section, BeginAt, Unwinds}
 
 abbrev pub insns : List Insn
 insns = record { len = 1; op = Push } ∷ record { len = 1; op = Pop } ∷ record { len = 1; op = Nop } ∷ record { len = 1; op = Ret } ∷ []
@@ -49,6 +54,10 @@ HasWorkedTable =
     straight_rows 1 insns
     ≡ placed_at 1 0 (call_row 8) ∷ placed_at 1 1 (call_row 16) ∷ placed_at 1 2 (call_row 8) ∷ placed_at 1 4 zero_row ∷ []
 
+-- it is placed at 0x1000
+abbrev pub base : Bases
+base _ = 0x1000
+
 abbrev pub ranges : List Range
 ranges = record { sec = 1; base = 0x1000; size = 4 } ∷ []
 
@@ -61,3 +70,22 @@ abbrev pub HasWorkedWalk : Type 0
 HasWorkedWalk =
     Walks (straight_rows 1 insns) ranges memory (record { ip = 0x1001; sp = 0x8000; bp = 5 })
     (record { ra = 0xA0000000; cfa = 0x8010; bp = 5 } ∷ []) Outside
+
+-- The section is called from outside in a stack of sixteen zero bytes: where the machine stands at a
+-- point, with this rsp.
+abbrev pub standing_at : ℕ → ℕ → Standing
+standing_at point rsp = record {
+  point = point;
+  core = record { rsp = rsp; rbp = 5; region = record { lo = 0x8000; bytes = replicate 16 0 }; ac = false; shadow = outermost 0 0x8010 5 Unsaved false ∷ [] };
+  ended = None;
+  mark = None;
+}
+
+-- It meets every premise of the law that straight code unwinds, so each state of its runs unwinds:
+-- here the one after its push, where rsp has come from 0x8008 to 0x8000.
+pub record HasWorkedRun : Type 0 where
+  pub fills : IsStraightText text insns
+  pub placed : IsPlacement (placed_section text ∷ []) ranges
+  pub begin : BeginAt base ranges
+  pub run : Run program base (At (standing_at 1 0x8000))
+  pub unwinds : Unwinds text insns base ranges (At (standing_at 1 0x8000))

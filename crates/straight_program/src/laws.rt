@@ -1,7 +1,7 @@
 //! What holds of the program of straight code, and of its rows.
 
-ghost use Rattle.straight_program.specs.Laws.{StraightRowsAreFound, StraightUnwinds};
-ghost use Rattle.straight_program.specs.Worked.{HasWorkedProgram, HasWorkedTable, HasWorkedWalk};
+ghost use Rattle.straight_program.specs.Laws.{StraightIsAccepted, StraightIsKept, StraightIsProgram, StraightRowsAreFound, StraightRowsFit, StraightUnwinds};
+ghost use Rattle.straight_program.specs.Worked.{HasWorkedProgram, HasWorkedRun, HasWorkedTable, HasWorkedWalk};
 
 use orc_walk::{one_section_has_one_range, row_is_found_among_others};
 use stack_state::laws::move_is_sound;
@@ -25,6 +25,26 @@ pub fn straight_rows_are_found()
     row_is_found_among_others();
 }
 
+/// The program of straight code is one, and is laid out as one.
+pub fn straight_is_program()
+    ensures { StraightIsProgram }
+{}
+
+/// Before each instruction the state of its depth is kept, and no other.
+pub fn straight_is_kept()
+    ensures { StraightIsKept }
+{}
+
+/// Straight code breaks no rule.
+pub fn straight_is_accepted()
+    ensures { StraightIsAccepted }
+{}
+
+/// The rows lie in the section or at its end, and the format can hold them.
+pub fn straight_rows_fit()
+    ensures { StraightRowsFit }
+{}
+
 /// The program of `53 5B 90 C3`.
 pub fn worked_program()
     ensures { HasWorkedProgram }
@@ -39,3 +59,10 @@ pub fn worked_table()
 pub fn worked_walk()
     ensures { HasWorkedWalk }
 {}
+
+/// A run of that code meets every premise of the law, and so it unwinds.
+pub fn worked_run()
+    ensures { HasWorkedRun }
+{
+    straight_unwinds();
+}
