@@ -3,6 +3,7 @@
 ghost use Rattle.std.specs.Prelude.{◌≡◌, IfOk};
 ghost use Rattle.elf_objects.specs.Object.{IsObject};
 ghost use Rattle.elf_write.specs.Object.{appended_to};
+ghost use Rattle.orc_bytes.specs.Sections.{HoldsOrc};
 ghost use Rattle.orc_output.specs.OrcOutput.{CanHaveOrc, orc_sections, with_orc_object};
 
 use crate::sections::{ip_section, orc_section, rela_section};
@@ -15,9 +16,9 @@ use std::alloc::Global;
 /// The file of an object with the ORC sections of these rows behind its own sections: `.orc_unwind`, `.orc_unwind_ip` and
 /// `.rela.orc_unwind_ip` (Linux 6.6, `orc-unwinder.rst`), laid out as [`append`] does.
 ///
-/// The rows stand there in their order. Each lies in a text section of the object that a section symbol stands for.
-/// `CanHaveOrc` says this, that the object has none of the three sections yet, and how large the object and the rows may
-/// be: the object at most 64 MiB, the rows at most 16,777,217.
+/// The result is a well-formed object, and its ORC sections are the rows in their order. Each row lies in a text section
+/// that a section symbol stands for. `CanHaveOrc` says this, that the object has none of the three sections yet, and how
+/// large it may be: at most 64 MiB and 262,141 sections, with at most 16,777,217 rows.
 ///
 /// # Errors
 ///
@@ -26,8 +27,9 @@ pub fn with_orc(alloc: Global, object: &Object<'_>, rows: &[PlacedRow]) -> Resul
     requires { CanHaveOrc object.now rows.now }
     ensures layout { IfOk result (λ file. file.items ≡ appended_to object.now (orc_sections object.now rows.now)) }
     ensures object { IfOk result (λ file. IsObject file.items (with_orc_object object.now rows.now)) }
+    ensures holds { IfOk result (λ _. HoldsOrc (with_orc_object object.now rows.now) rows.now) }
 {
-    // They are the bytes of a well-formed object, from which it follows that the sections may be added.
+    // That these are the bytes of a well-formed object shows that the sections may be added.
     let _bytes = object.bytes();
     let OrcSections { orc, ip, rela } = encode(alloc, object, rows)?;
     let sections = [
