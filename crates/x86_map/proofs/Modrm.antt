@@ -66,11 +66,11 @@ uniform number opcode low high lt = elim (one_to_three number low high) [
 
 -- ---- one form
 
-refused_form : (f : Form) (p : Prefixes) (modrm : Option ℕ) → accepts f.rules p ≡ false → look_form f p modrm ≡ Refused
+pub refused_form : (f : Form) (p : Prefixes) (modrm : Option ℕ) → accepts f.rules p ≡ false → look_form f p modrm ≡ Refused
 unfolding look_form
 refused_form f p modrm refuses = rw refuses
 
-accepted_form : (f : Form) (p : Prefixes) (modrm : Option ℕ) → accepts f.rules p ≡ true → look_form f p modrm ≡ look_operand f.operand modrm (shape_of f p)
+pub accepted_form : (f : Form) (p : Prefixes) (modrm : Option ℕ) → accepts f.rules p ≡ true → look_form f p modrm ≡ look_operand f.operand modrm (shape_of f p)
 unfolding look_form
 accepted_form f p modrm accept = rw accept
 

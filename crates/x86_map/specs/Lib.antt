@@ -6,3 +6,4 @@ pub mod TwoByte
 pub mod ThreeByte
 pub mod OpcodeMap
 pub mod Cells
+pub mod Apart

@@ -14,6 +14,6 @@ mod two_byte;
 mod words;
 
 pub use form::{Form, Immediate, Mode, Operand, Rule, Rules};
-pub use opcode_map::{accepts_some, lookup};
+pub use opcode_map::{accepts_some, forms_are_apart, lookup};
 pub use prefixes::Prefixes;
 pub use shape::{Look, Shape, Write};

@@ -1,5 +1,6 @@
 ghost use Rattle.std.specs.Prelude.{◌≡◌, ◌↔◌, ◌<◌, ℕ, IsTrue};
 ghost use Rattle.x86_map.specs.OpcodeMap.{forms_at, look_forms, look, stands, AcceptsSome};
+ghost use Rattle.x86_map.specs.Apart.{FormsAreApart};
 ghost use Rattle.x86_map.specs.Cells.{cell_forms};
 
 use crate::form::Form;
@@ -73,3 +74,9 @@ pub fn accepts_some(p: Prefixes, map: u8) -> bool
 {
     stands(&p, map)
 }
+
+/// The rows of the map are a set: no two forms of an opcode fit the same prefixes and the same ModRM byte, or none, so
+/// their order says nothing.
+pub fn forms_are_apart()
+    ensures { FormsAreApart }
+{}

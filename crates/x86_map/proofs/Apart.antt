@@ -1,0 +1,217 @@
+-- No two forms of an opcode fit at once.
+use Rattle.std.proofs.Common.{◌≡◌, ℕ, ◌+◌, ◌<◌, Bool, true, false, cond, List, [], ◌∷◌, get_or, length, refl, sym, ap, ◌∙◌, arith, inl, inr, zero, suc}
+use Rattle.std.specs.Prelude.{◌&&◌, ◌||◌, not, Option, Some, None, IfSome, map}
+use Rattle.std.specs.List.{list_all, range_with_len, AllByRecursion}
+use Rattle.std.proofs.lemmas.List.FromFn.{get_or-map-range_with_len, get_or-range_with_len, length-range_with_len}
+use Rattle.x86_map.specs.declared.prefixes.Prefixes.{Prefixes}
+use Rattle.x86_map.specs.declared.shape.Shape.{Shape}
+use Rattle.x86_map.specs.declared.shape.Look.TheVariants.{Refused, Fits}
+use Rattle.x86_map.specs.declared.form.Rule.{Rule}
+use Rattle.x86_map.specs.declared.form.Rule.TheVariants.{May, Must, MustNot}
+use Rattle.x86_map.specs.declared.form.Rules.{Rules}
+use Rattle.x86_map.specs.declared.form.Operand.{Operand}
+use Rattle.x86_map.specs.declared.form.Operand.TheVariants.{NoModrm, Digits, Bytes}
+use Rattle.x86_map.specs.declared.form.Form.{Form}
+use Rattle.x86_map.specs.Prefixes.{rex_b}
+use Rattle.x86_map.specs.Form.{allows, accepts, takes, has_modrm, shape_of, look_operand, look_form}
+use Rattle.x86_map.specs.OpcodeMap.{forms_at}
+use Rattle.x86_map.specs.Apart.{FitsOnce, FormsAreApart}
+use Rattle.x86_map.proofs.Accepting.{and_left, and_right, or_true, one_to_three}
+use Rattle.x86_map.proofs.Modrm.{refused_form, accepted_form}
+
+-- ---- rules that no prefixes meet both
+
+abbrev conflict : Rule → Rule → Bool
+conflict Must MustNot = true
+conflict Must May = false
+conflict Must Must = false
+conflict MustNot Must = true
+conflict MustNot May = false
+conflict MustNot MustNot = false
+conflict May r = false
+
+conflict-allows : (r q : Rule) (b : Bool) → conflict r q ≡ true → allows r b ≡ true → allows q b ≡ false
+conflict-allows Must MustNot b h a = rw a
+conflict-allows Must May b h a = absurd cc
+conflict-allows Must Must b h a = absurd cc
+conflict-allows MustNot Must true h a = absurd cc
+conflict-allows MustNot Must false h a = refl
+conflict-allows MustNot May b h a = absurd cc
+conflict-allows MustNot MustNot b h a = absurd cc
+conflict-allows May q b h a = absurd cc
+
+abbrev rules_apart : Rules → Rules → Bool
+rules_apart r q = conflict r.opsize q.opsize || (conflict r.rep q.rep || (conflict r.repne q.repne || conflict r.rex_b q.rex_b))
+
+record Accepted (r : Rules) (p : Prefixes) : Type 0 where
+  opsize : allows r.opsize p.opsize ≡ true
+  rep : allows r.rep p.rep ≡ true
+  repne : allows r.repne p.repne ≡ true
+  rex : allows r.rex_b (rex_b p) ≡ true
+
+accepted : (r : Rules) (p : Prefixes) → accepts r p ≡ true → Accepted r p
+accepted r p h =
+    let o = allows r.opsize p.opsize in
+    let a = allows r.addrsize p.addrsize in
+    let f = allows r.rep p.rep in
+    let n = allows r.repne p.repne in
+    let x = allows r.rex_b (rex_b p) in
+    let four = and_left (o && a && f && n) x h in
+    let three = and_left (o && a && f) n four in
+    let two = and_left (o && a) f three in
+    record { opsize = and_left o a two; rep = and_right (o && a) f three; repne = and_right (o && a && f) n four; rex = and_right (o && a && f && n) x h }
+
+-- of two such rules the second refuses what the first accepts
+refused_by_rules : (r q : Rules) (p : Prefixes) → rules_apart r q ≡ true → accepts r p ≡ true → accepts q p ≡ false
+refused_by_rules r q p apart h =
+    let a = accepted r p h in
+    elim (accepts q p) as (λ b. accepts q p ≡ b → b ≡ false) [
+      | false ↦ λ e. refl
+      | true ↦ λ e.
+          let c = accepted q p e in
+          elim (or_true (conflict r.opsize q.opsize) (conflict r.rep q.rep || (conflict r.repne q.repne || conflict r.rex_b q.rex_b)) apart) [
+            | inl k ↦ let no_opsize = conflict-allows r.opsize q.opsize p.opsize k a.opsize in absurd cc
+            | inr k ↦ elim (or_true (conflict r.rep q.rep) (conflict r.repne q.repne || conflict r.rex_b q.rex_b) k) [
+              | inl k ↦ let no_rep = conflict-allows r.rep q.rep p.rep k a.rep in absurd cc
+              | inr k ↦ elim (or_true (conflict r.repne q.repne) (conflict r.rex_b q.rex_b) k) [
+                | inl k ↦ let no_repne = conflict-allows r.repne q.repne p.repne k a.repne in absurd cc
+                | inr k ↦ let no_rex = conflict-allows r.rex_b q.rex_b (rex_b p) k a.rex in absurd cc
+              ]
+            ]
+          ]
+    ] refl
+
+-- ---- what is tested
+
+-- the operand takes the ModRM byte, or has none where there is none
+abbrev holds : Option ℕ → Operand → Bool
+holds None o = not (has_modrm o)
+holds (Some m) o = takes o m
+
+-- a form of this operand may answer otherwise than by refusing
+abbrev may_answer : Option ℕ → Operand → Bool
+may_answer None o = true
+may_answer (Some m) o = takes o m
+
+-- the forms that may answer are apart by their rules
+abbrev apart_from : Option ℕ → Form → List Form → Bool
+apart_from modrm f [] = true
+apart_from modrm f (g ∷ forms) = (not (may_answer modrm g.operand) || rules_apart f.rules g.rules) && apart_from modrm f forms
+
+abbrev all_apart : Option ℕ → List Form → Bool
+all_apart modrm [] = true
+all_apart modrm (f ∷ forms) = (not (holds modrm f.operand) || apart_from modrm f forms) && all_apart modrm forms
+
+abbrev are_apart : List Form → Bool
+are_apart [] = true
+are_apart (f ∷ []) = true
+are_apart (f ∷ g ∷ forms) = all_apart None (f ∷ g ∷ forms) && list_all (λ m. all_apart (Some m) (f ∷ g ∷ forms)) (range_with_len 0 256)
+
+one_byte_apart : map (λ o. are_apart (forms_at 1 o)) (range_with_len 0 256) ≡ map (λ o. true) (range_with_len 0 256)
+unfolding forms_at
+one_byte_apart = refl
+
+two_byte_apart : map (λ o. are_apart (forms_at 2 o)) (range_with_len 0 256) ≡ map (λ o. true) (range_with_len 0 256)
+unfolding forms_at
+two_byte_apart = refl
+
+three_byte_apart : map (λ o. are_apart (forms_at 3 o)) (range_with_len 0 256) ≡ map (λ o. true) (range_with_len 0 256)
+unfolding forms_at
+three_byte_apart = refl
+
+at_each : (test : ℕ → Bool) (opcode : ℕ) → opcode < 256 → map test (range_with_len 0 256) ≡ map (λ o. true) (range_with_len 0 256) → test opcode ≡ true
+at_each test opcode lt same =
+    sym (get_or-map-range_with_len test 0 256 opcode opcode false lt (omega arith))
+    ∙ ap (λ (bs : List Bool). get_or bs opcode false) same
+    ∙ get_or-map-range_with_len (λ o. true) 0 256 opcode opcode false lt (omega arith)
+
+apart_at : (number opcode : ℕ) → 0 < number → number < 4 → opcode < 256 → are_apart (forms_at number opcode) ≡ true
+apart_at number opcode low high lt = elim (one_to_three number low high) [
+  | inl first ↦ rw first (at_each (λ o. are_apart (forms_at 1 o)) opcode lt one_byte_apart)
+  | inr (inl second) ↦ rw second (at_each (λ o. are_apart (forms_at 2 o)) opcode lt two_byte_apart)
+  | inr (inr third) ↦ rw third (at_each (λ o. are_apart (forms_at 3 o)) opcode lt three_byte_apart)
+]
+
+-- ---- from the test to the forms
+
+not_true : (b : Bool) → not b ≡ true → b ≡ false
+not_true true h = absurd cc
+not_true false h = refl
+
+cond_fits : (b : Bool) (s t : Shape) → cond b (Fits s) Refused ≡ Fits t → b ≡ true
+cond_fits true s t h = refl
+cond_fits false s t h = absurd cc
+
+operand_holds : (o : Operand) (modrm : Option ℕ) (s t : Shape) → look_operand o modrm s ≡ Fits t → holds modrm o ≡ true
+operand_holds NoModrm None s t h = refl
+operand_holds NoModrm (Some m) s t h = absurd cc
+operand_holds (Digits mode first last) None s t h = absurd cc
+operand_holds (Digits mode first last) (Some m) s t h = cond_fits (takes (Digits mode first last) m) s t h
+operand_holds (Bytes first last) None s t h = absurd cc
+operand_holds (Bytes first last) (Some m) s t h = cond_fits (takes (Bytes first last) m) s t h
+
+operand_refuses : (o : Operand) (modrm : Option ℕ) (s : Shape) → may_answer modrm o ≡ false → look_operand o modrm s ≡ Refused
+operand_refuses o None s h = absurd cc
+operand_refuses NoModrm (Some m) s h = refl
+operand_refuses (Digits mode first last) (Some m) s h = rw h
+operand_refuses (Bytes first last) (Some m) s h = rw h
+
+record FormFits (f : Form) (p : Prefixes) (modrm : Option ℕ) : Type 0 where
+  accept : accepts f.rules p ≡ true
+  hold : holds modrm f.operand ≡ true
+
+form_fits : (f : Form) (p : Prefixes) (modrm : Option ℕ) (s : Shape) → look_form f p modrm ≡ Fits s → FormFits f p modrm
+form_fits f p modrm s h = elim (accepts f.rules p) as (λ b. accepts f.rules p ≡ b → FormFits f p modrm) [
+  | true ↦ λ e. record { accept = e; hold = operand_holds f.operand modrm (shape_of f p) s (sym (accepted_form f p modrm e) ∙ h) }
+  | false ↦ λ e. let refused = refused_form f p modrm e in absurd cc
+] refl
+
+form_refuses : (g : Form) (p : Prefixes) (modrm : Option ℕ) → may_answer modrm g.operand ≡ false → look_form g p modrm ≡ Refused
+form_refuses g p modrm h = elim (accepts g.rules p) as (λ b. accepts g.rules p ≡ b → look_form g p modrm ≡ Refused) [
+  | true ↦ λ e. accepted_form g p modrm e ∙ operand_refuses g.operand modrm (shape_of g p) h
+  | false ↦ λ e. refused_form g p modrm e
+] refl
+
+others_refuse : (modrm : Option ℕ) (f : Form) (forms : List Form) (p : Prefixes) → apart_from modrm f forms ≡ true → accepts f.rules p ≡ true → AllByRecursion (λ g. look_form g p modrm ≡ Refused) forms
+others_refuse modrm f [] p h accept = tt
+others_refuse modrm f (g ∷ forms) p h accept =
+    let here : look_form g p modrm ≡ Refused = elim (or_true (not (may_answer modrm g.operand)) (rules_apart f.rules g.rules) (and_left (not (may_answer modrm g.operand) || rules_apart f.rules g.rules) (apart_from modrm f forms) h)) [
+      | inl silent ↦ form_refuses g p modrm (not_true (may_answer modrm g.operand) silent)
+      | inr apart ↦ refused_form g p modrm (refused_by_rules f.rules g.rules p apart accept)
+    ] in
+    (here, others_refuse modrm f forms p (and_right (not (may_answer modrm g.operand) || rules_apart f.rules g.rules) (apart_from modrm f forms) h) accept)
+
+holds_then : (b c : Bool) → (not b || c) ≡ true → b ≡ true → c ≡ true
+holds_then true c h e = h
+holds_then false c h e = absurd cc
+
+fits_once : (modrm : Option ℕ) (forms : List Form) (p : Prefixes) → all_apart modrm forms ≡ true → FitsOnce p modrm forms
+fits_once modrm [] p h = tt
+fits_once modrm (f ∷ forms) p h = (
+  λ shape e.
+      let fits = form_fits f p modrm shape e in
+      others_refuse modrm f forms p (holds_then (holds modrm f.operand) (apart_from modrm f forms) (and_left (not (holds modrm f.operand) || apart_from modrm f forms) (all_apart modrm forms) h) fits.hold) fits.accept,
+  fits_once modrm forms p (and_right (not (holds modrm f.operand) || apart_from modrm f forms) (all_apart modrm forms) h),
+)
+
+list_all-at : (test : ℕ → Bool) (xs : List ℕ) (i : ℕ) → list_all test xs ≡ true → i < length xs → test (get_or xs i 0) ≡ true
+list_all-at test [] i h lt = absurd (omega arith)
+list_all-at test (x ∷ xs) zero h lt = and_left (test x) (list_all test xs) h
+list_all-at test (x ∷ xs) (suc i) h lt = list_all-at test xs i (and_right (test x) (list_all test xs) h) (omega arith)
+
+several_once : (modrm : Option ℕ) (forms : List Form) (p : Prefixes) → IfSome modrm (λ m. m < 256)
+    → (all_apart None forms && list_all (λ m. all_apart (Some m) forms) (range_with_len 0 256)) ≡ true → FitsOnce p modrm forms
+several_once None forms p byte h = fits_once None forms p (and_left (all_apart None forms) (list_all (λ m. all_apart (Some m) forms) (range_with_len 0 256)) h)
+several_once (Some m) forms p byte h =
+    let each = and_right (all_apart None forms) (list_all (λ m. all_apart (Some m) forms) (range_with_len 0 256)) h in
+    let in_range : m < length (range_with_len 0 256) = omega (arith, length-range_with_len 0 256, byte) in
+    let at : get_or (range_with_len 0 256) m 0 ≡ m = get_or-range_with_len 0 256 m 0 byte ∙ (let same : 0 + m ≡ m = omega arith in same) in
+    fits_once (Some m) forms p (rw at at (list_all-at (λ m. all_apart (Some m) forms) (range_with_len 0 256) m each in_range))
+
+once : (modrm : Option ℕ) (forms : List Form) (p : Prefixes) → IfSome modrm (λ m. m < 256) → are_apart forms ≡ true → FitsOnce p modrm forms
+once modrm [] p byte h = tt
+once modrm (f ∷ []) p byte h = (λ shape e. tt, tt)
+once modrm (f ∷ g ∷ forms) p byte h = several_once modrm (f ∷ g ∷ forms) p byte h
+
+pub forms-apart : FormsAreApart
+forms-apart p number opcode modrm low high lt byte = once modrm (forms_at number opcode) p byte (apart_at number opcode low high lt)
