@@ -19,3 +19,4 @@ pub mod WellFormed
 pub mod Says
 pub mod Reading
 pub mod Result
+pub mod Callers

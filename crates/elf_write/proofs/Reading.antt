@@ -46,7 +46,7 @@ old_section-names i count new k s x e =
     let c : eqb k i.name_table ≡ true = grind (arith, nat_tests) in
     rw (a, c) refl
 
-old_section-other : (i : Input) (count : ℕ) (new : List NewEntry) (k : ℕ) (s : SectionEntry) → k ≢ 0 → k ≢ i.name_table
+pub old_section-other : (i : Input) (count : ℕ) (new : List NewEntry) (k : ℕ) (s : SectionEntry) → k ≢ 0 → k ≢ i.name_table
     → old_section i count new (k, s) ≡ s
 old_section-other i count new k s x y =
     let a : eqb k 0 ≡ false = ne_eqb k 0 x in
@@ -155,7 +155,7 @@ least_below-is p n k h passes none =
     ap (least_below p) (sym e) ∙ least_below-stays p (suc k) k (n - suc k) here
 
 -- the new section has relocations for the section with a number
-abbrev for_section : ℕ → NewEntry → Bool
+abbrev pub for_section : ℕ → NewEntry → Bool
 for_section s e = (e.kind == sht_rela) && (e.info == s)
 
 -- no new section has any for it: they are those that it had

@@ -41,7 +41,7 @@ map-same f g n d same =
     fill_by_all g (map f (range_with_len 0 n)) n d (length-map-range_with_len f 0 n)
     (λ k h. get_or-map-range_with_len f 0 n k k d h (omega arith) ∙ same k h)
 
-entry_is : (b : List ℕ) (k : ℕ) → section_entry b k ≡ entry_of_header b (section_header b k)
+pub entry_is : (b : List ℕ) (k : ℕ) → section_entry b k ≡ entry_of_header b (section_header b k)
 unfolding section_entry
 entry_is b k = refl
 

@@ -6,6 +6,8 @@ mod header;
 mod input;
 mod pieces;
 mod section;
+#[cfg(test)]
+mod tests;
 mod write;
 
 pub use section::NewSection;
