@@ -4,3 +4,4 @@ pub mod Linked
 pub mod Homes
 pub mod FirstFault
 pub mod Read
+pub mod Crowding

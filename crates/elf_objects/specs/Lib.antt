@@ -12,3 +12,4 @@ pub mod Object
 pub mod Found
 pub mod Lent
 pub mod Kept
+pub mod Extents

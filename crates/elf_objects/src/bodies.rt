@@ -6,44 +6,15 @@ ghost use Rattle.elf_objects.specs.File.{section_count, section_header};
 ghost use Rattle.elf_objects.specs.Header.{has_body};
 ghost use Rattle.elf_objects.specs.Kind.{sht_null, sht_rela};
 ghost use Rattle.elf_objects.specs.Object.{Refuses};
-ghost use Rattle.elf_objects.specs.Sections.{HasBody, BodyFault, SharesByte, IsAlone, IsPlaced};
+ghost use Rattle.elf_objects.specs.Sections.{HasBody, BodyFault, IsAlone, IsPlaced};
+ghost use Rattle.elf_objects.specs.Extents.{TellsShared};
 
+use crate::extents::find_shared;
 use crate::fault::ElfFault;
 use crate::header::SectionHeader;
 use crate::headers::Headers;
 use crate::kind::{SHT_NULL, SHT_RELA};
-
-/// Whether a byte of the file belongs to the bodies of both.
-fn shares_byte(h: &SectionHeader, other: &SectionHeader) -> bool
-    ensures { IsTrue result ↔ SharesByte h.now other.now }
-{
-    let end = u128::from(h.offset) + u128::from(h.size);
-    let other_end = u128::from(other.offset) + u128::from(other.size);
-    h.has_body() && other.has_body() && u128::from(h.offset.max(other.offset)) < end.min(other_end)
-}
-
-/// Whether the bodies of two sections share a byte.
-fn share_byte(headers: &Headers, i: u32, k: u32) -> bool
-    requires first { i < section_count headers.now.bytes.now }
-    requires second { k < section_count headers.now.bytes.now }
-    ensures { IsTrue result ↔
-        SharesByte (section_header headers.now.bytes.now i) (section_header headers.now.bytes.now k) }
-{
-    shares_byte(&headers.get(i), &headers.get(k))
-}
-
-/// Whether the body of a section shares no byte with another.
-fn is_alone(headers: &Headers, i: u32) -> bool
-    requires { i < section_count headers.now.bytes.now }
-    ensures { IsTrue result ↔ IsAlone headers.now.bytes.now i }
-{
-    for k in 0..headers.count {
-        if k != i && share_byte(headers, i, k) {
-            return false;
-        }
-    }
-    true
-}
+use std::alloc::Global;
 
 /// Whether the body of a section lies in a file of this many bytes, behind the file header.
 fn is_placed(h: &SectionHeader, len: usize) -> bool
@@ -61,35 +32,38 @@ fn is_null_first(h: &SectionHeader, i: u32) -> bool
 }
 
 /// Whether the body of a section is in its place, and shares no byte with another where it may not.
-fn has_place(headers: &Headers, i: u32) -> bool
-    requires { i < section_count headers.now.bytes.now }
+fn has_place(headers: &Headers, shared: &[bool], i: u32) -> bool
+    requires known { i < section_count headers.now.bytes.now }
+    requires shared { TellsShared headers.now.bytes.now shared.now }
     ensures yes { IsTrue result → IsPlaced (length headers.now.bytes.now) (section_header headers.now.bytes.now i) × ((section_header headers.now.bytes.now i).kind ≡ sht_rela → IsAlone headers.now.bytes.now i) }
     ensures no { IsFalse result → ¬ HasBody headers.now.bytes.now i }
 {
     let h = headers.get(i);
-    is_placed(&h, headers.bytes.len()) && (h.kind != SHT_RELA || is_alone(headers, i))
+    is_placed(&h, headers.bytes.len()) && (h.kind != SHT_RELA || !shared[i as usize])
 }
 
-fn check_body(headers: &Headers, i: u32) -> Result<(), ElfFault>
-    requires { i < section_count headers.now.bytes.now }
+fn check_body(headers: &Headers, shared: &[bool], i: u32) -> Result<(), ElfFault>
+    requires known { i < section_count headers.now.bytes.now }
+    requires shared { TellsShared headers.now.bytes.now shared.now }
     ensures { MatchResult result (λ _. HasBody headers.now.bytes.now i) (BodyFault headers.now.bytes.now i) }
 {
     if !is_null_first(&headers.get(i), i) {
         return Err(ElfFault::BadTable { sec: 0 });
     }
-    if !has_place(headers, i) {
+    if !has_place(headers, shared, i) {
         return Err(ElfFault::BadRange { sec: i });
     }
     Ok(())
 }
 
 /// The same of each section, in ascending order.
-pub(crate) fn check_bodies(headers: &Headers) -> Result<(), ElfFault>
+pub(crate) fn check_bodies(alloc: Global, headers: &Headers) -> Result<(), ElfFault>
     ensures ok { OnOk result (AllBelow (HasBody headers.now.bytes.now) (section_count headers.now.bytes.now)) }
-    ensures err { IfErr result (FirstBelow (HasBody headers.now.bytes.now) (BodyFault headers.now.bytes.now) (section_count headers.now.bytes.now)) }
+    ensures err { IfErr result (Refuses (FirstBelow (HasBody headers.now.bytes.now) (BodyFault headers.now.bytes.now) (section_count headers.now.bytes.now))) }
 {
+    let shared = find_shared(alloc, headers)?;
     for i in 0..headers.count {
-        check_body(headers, i)?;
+        check_body(headers, &shared, i)?;
     }
     Ok(())
 }

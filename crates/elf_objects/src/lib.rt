@@ -8,6 +8,7 @@ mod bodies;
 mod check_symbols;
 mod earliest;
 mod entry;
+mod extents;
 mod fault;
 mod forms;
 mod header;

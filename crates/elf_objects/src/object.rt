@@ -70,7 +70,7 @@ impl<'a> Object<'a> {
         ensures ok { IfOk result (IsObject headers.entry.bytes.now) }
         ensures err { IfErr result (Refuses (FirstFault headers.entry.bytes.now)) }
     {
-        check_bodies(&headers)?;
+        check_bodies(alloc, &headers)?;
         let tables = check_forms(&headers)?;
         let symbols = Symbols::new(headers, tables);
         let relas = check_links(alloc, &symbols)?;

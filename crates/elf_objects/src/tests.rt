@@ -1,6 +1,6 @@
 //! Objects from outside, and what their reading answers.
 
-use crate::{Counted, ElfFault, Home, NameOf, Object, Reloc};
+use crate::{ElfFault, Home, NameOf, Object};
 use ot_base::Names;
 use std::alloc::Global;
 use std::process::Abort;
@@ -9,8 +9,8 @@ use std::test::Fail;
 mod built;
 mod leaf;
 mod plain;
+mod tables;
 
-use built::{Counts, Head, NULL, file};
 use leaf::LEAF;
 
 /// The fault of a file, or `None` of an object.
@@ -19,14 +19,19 @@ fn fault_of(rt: &impl Abort, alloc: Global, bytes: &[u8]) -> Option<ElfFault> {
     Object::parse(alloc, bytes).err()
 }
 
-/// The leaf object with other bytes at an offset.
-fn changed(alloc: Global, at: usize, bytes: &[u8]) -> Result<Vec<u8>, Fail> {
-    let mut all = LEAF.to_vec(alloc)?;
-    for (i, byte) in bytes.iter().enumerate() {
-        if let Some(place) = all.get_mut(at.wrapping_add(i)) {
-            *place = *byte;
+/// Puts other bytes at an offset.
+fn put(bytes: &mut Vec<u8>, at: usize, values: &[u8]) {
+    for (i, value) in values.iter().enumerate() {
+        if let Some(place) = bytes.get_mut(at.wrapping_add(i)) {
+            *place = *value;
         }
     }
+}
+
+/// The leaf object with other bytes at an offset.
+fn changed(alloc: Global, at: usize, values: &[u8]) -> Result<Vec<u8>, Fail> {
+    let mut all = LEAF.to_vec(alloc)?;
+    put(&mut all, at, values);
     Ok(all)
 }
 
