@@ -1,5 +1,5 @@
 -- How names, numbers and places are printed.
-use Rattle.std.specs.Prelude.{ℕ, suc, ℤ, pos, negsuc, ◌+◌, ◌/◌, ◌%◌, ◌==◌, Bool, false, ◌&&◌, not, nat_le, List, [], ◌∷◌, ◌++◌, codes, if◌then◌else◌}
+use Rattle.std.specs.Prelude.{ℕ, suc, ℤ, pos, negsuc, ◌/◌, ◌%◌, ◌==◌, Bool, false, ◌&&◌, not, nat_le, List, [], ◌∷◌, ◌++◌, codes, if◌then◌else◌}
 use Rattle.std.specs.List.{flat_map}
 use Rattle.std.specs.Fmt.{decimal, digits, digit_glyph}
 

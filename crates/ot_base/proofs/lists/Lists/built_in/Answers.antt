@@ -1,4 +1,3 @@
-use Rattle.std.proofs.Common.{◌≡◌, ℕ, Bool, List, arith, refl}
 use Rattle.ot_base.specs.NameLists.{built_in}
 use Rattle.ot_base.proofs.lists.Lists.built_in.Goals as goal
 

@@ -1,4 +1,4 @@
-use Rattle.std.proofs.Common.{◌≡◌, ℕ, ◌+◌, ◌<◌, ◌≤◌, List, [], ◌∷◌, ◌++◌, None, length, map, take, get_or, arith, sym, ap, ◌∙◌, subst, below_more}
+use Rattle.std.proofs.Common.{◌≡◌, ℕ, ◌+◌, ◌<◌, ◌≤◌, List, [], None, length, map, take, get_or, arith, sym, ap, ◌∙◌, subst, below_more}
 use Rattle.std.proofs.lemmas.List.{take_more, get_or-map, get_or_default, length-map}
 use Rattle.ot_base.specs.NamesFile.{line_fault, lines}
 use Rattle.ot_base.specs.NameLists.{with_line, with_lines}

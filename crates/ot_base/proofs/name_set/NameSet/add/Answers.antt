@@ -1,4 +1,4 @@
-use Rattle.std.proofs.Common.{◌≡◌, ℕ, List, map, sym, ap, ◌∙◌}
+use Rattle.std.proofs.Common.{map, ap, ◌∙◌}
 use Rattle.std.specs.FinSet.{insert, from_list}
 use Rattle.ot_base.proofs.NameSetLemmas.{set_insert}
 use Rattle.ot_base.proofs.name_set.NameSet.add.Goals as goal

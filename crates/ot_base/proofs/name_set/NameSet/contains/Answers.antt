@@ -1,4 +1,4 @@
-use Rattle.std.proofs.Common.{◌≡◌, ap, ◌∙◌}
+use Rattle.std.proofs.Common.{ap, ◌∙◌}
 use Rattle.std.specs.FinSet.{contains}
 use Rattle.ot_base.proofs.NameSetLemmas.{set_contains}
 use Rattle.ot_base.proofs.name_set.NameSet.contains.Goals as goal

@@ -1,4 +1,4 @@
-use Rattle.std.proofs.Common.{◌≡◌, ℕ, ◌∙◌, List, arith, [], get_or, ap, sym}
+use Rattle.std.proofs.Common.{ℕ, ◌∙◌, List, arith, [], get_or, ap, sym}
 use Rattle.std.specs.FinSet.{insert}
 use Rattle.ot_base.proofs.NameSetLemmas.{set_more}
 use Rattle.ot_base.proofs.name_set.NameSet.of.Goals as goal

@@ -1,9 +1,9 @@
 -- An escaped byte is a backslash and what `{:02x}` writes.
-use Rattle.std.proofs.Common.{◌≡◌, ℕ, ◌-◌, ◌^◌, ◌/◌, ◌%◌, false, List, [], ◌∷◌, Some, if◌then◌else◌, arith, ap, ◌∙◌, sym, subst}
+use Rattle.std.proofs.Common.{◌≡◌, ℕ, ◌-◌, ◌^◌, ◌/◌, ◌%◌, false, [], ◌∷◌, Some, if◌then◌else◌, arith, ap, ◌∙◌, sym, subst}
 use Rattle.std.specs.Option.{option_map}
 use Rattle.std.specs.Fmt.{DisplaysOnOk, digit_glyph, format_spec, padded_integral, styled_digits_output, ◌++?◌}
 use Rattle.std.proofs.lemmas.Fmt.{hex_byte}
-use Rattle.ot_base.specs.PlaceText.{escaped_byte, is_plain}
+use Rattle.ot_base.specs.PlaceText.{is_plain}
 use Rattle.ot_base.proofs.text.places.EscapedByteDisplay.fmt.Goals as goal
 
 pub returns-else-is_plain-clause-writes : goal.returns-else-is_plain-clause-writes
