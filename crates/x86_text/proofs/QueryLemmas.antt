@@ -1,11 +1,10 @@
 -- What halving finds among the instructions of a text.
-use Rattle.std.proofs.Common.{◌≡◌, ◌≢◌, ℕ, zero, suc, ◌+◌, ◌-◌, ◌<◌, ◌≤◌, Bool, true, false, cond, eqb, List, [], ◌∷◌, length, get_or, Option, Some, None, inl, inr, arith, refl, sym, ap, ◌∙◌, subst}
+use Rattle.std.proofs.Common.{◌≡◌, ◌≢◌, ℕ, zero, suc, ◌-◌, ◌<◌, ◌≤◌, false, cond, eqb, List, [], ◌∷◌, length, get_or, Some, None, inl, inr, arith, refl, ap, ◌∙◌, subst}
 use Rattle.std.proofs.lemmas.Bool.{eq-eqb}
 use Rattle.std.proofs.lemmas.Bool.Decides.{eqb_tells}
-use Rattle.machine_ops.specs.declared.insn.Insn.{Insn}
 use Rattle.x86_text.specs.declared.placed.PlacedInsn.{PlacedInsn}
 use Rattle.x86_text.specs.Code.{IsBoundary, IsNextBoundary, IsPreviousBoundary, insn_listed}
-use Rattle.x86_text.specs.Listed.{StandsIn, IsListing}
+use Rattle.x86_text.specs.Listed.{IsListing}
 use Rattle.x86_text.proofs.ListingLemmas.{listed_at}
 
 module _ (body : List ℕ) (code : List PlacedInsn) (off : ℕ) (listing : IsListing body code) where

@@ -1,5 +1,5 @@
 -- What is known while a body is read, and what follows at its end.
-use Rattle.std.proofs.Common.{◌≡◌, ℕ, zero, suc, ◌+◌, ◌-◌, ◌<◌, ◌≤◌, ◌^◌, List, [], ◌∷◌, ◌++◌, length, drop, get_or, Result, Ok, Err, IsOk, All, arith, refl, sym, ap, ◌∙◌, subst, append_assoc, length-append, length-drop}
+use Rattle.std.proofs.Common.{◌≡◌, ℕ, ◌+◌, ◌-◌, ◌<◌, ◌≤◌, ◌^◌, List, [], ◌∷◌, ◌++◌, length, drop, get_or, Ok, All, arith, refl, sym, ap, ◌∙◌, subst, append_assoc, length-append, length-drop}
 use Rattle.std.specs.List.Sorted.{IsNonDecreasingBy}
 use Rattle.std.proofs.lemmas.List.Elements.{All-nil, All-push}
 use Rattle.std.proofs.lemmas.List.Sorted.{IsNonDecreasingBy-short, IsNonDecreasingBy-push}
@@ -7,7 +7,7 @@ use Rattle.std.proofs.lemmas.List.{drop-drop, drop_all}
 use Rattle.machine_ops.specs.declared.insn.Insn.{Insn}
 use Rattle.x86_decode.specs.Decoding.{StandsInFront, decoded}
 use Rattle.x86_text.specs.declared.placed.PlacedInsn.{PlacedInsn}
-use Rattle.x86_text.specs.Code.{IsBoundary, start, behind, IsCode, code_from, code_of}
+use Rattle.x86_text.specs.Code.{IsBoundary, start, behind, code_from, code_of}
 use Rattle.x86_text.specs.Listed.{StandsIn, LeadsTo, IsListing}
 use Rattle.x86_text.proofs.CodeLemmas.{code_from_more}
 

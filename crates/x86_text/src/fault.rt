@@ -1,6 +1,4 @@
 use std::alloc::{AllocError, AllocFailed};
-use std::error::Error;
-use std::fmt;
 use x86_decode::DecodeFault;
 
 /// Why a body of code isn't read.
@@ -11,17 +9,6 @@ pub enum TextFault {
     /// Memory was wanted and not there.
     NoMemory,
 }
-
-impl fmt::Display for TextFault {
-    fn fmt<W: fmt::Write>(&self, f: &mut fmt::Formatter<W>) -> fmt::Result {
-        match self {
-            TextFault::At { off, .. } => write!(f, "no instruction at 0x{off:x}"),
-            TextFault::NoMemory => write!(f, "no memory"),
-        }
-    }
-}
-
-impl Error for TextFault {}
 
 impl From<AllocError> for TextFault {
     ghost use Rattle.std.specs.Prelude.{◌≡◌};

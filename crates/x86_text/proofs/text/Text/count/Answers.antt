@@ -1,6 +1,6 @@
-use Rattle.std.proofs.Common.{◌≡◌, ℕ, List, map, Contains, ◌↔◌, ap, ◌∙◌, sym, subst}
+use Rattle.std.proofs.Common.{ℕ, List, map, Contains, ◌↔◌, subst}
 use Rattle.x86_text.specs.declared.placed.PlacedInsn.{PlacedInsn}
-use Rattle.x86_text.specs.Code.{IsBoundary, IsCode, code_of, offsets_of}
+use Rattle.x86_text.specs.Code.{IsBoundary, IsCode, offsets_of}
 use Rattle.x86_text.proofs.ListingLemmas.{boundaries_listed, listing_is_code}
 use Rattle.x86_text.proofs.text.Text.count.Goals as goal
 

@@ -1,4 +1,4 @@
-use Rattle.std.proofs.Common.{ℕ, ◌<◌, List, length, get_or, ◌≤◌, arith, sym, subst}
+use Rattle.std.proofs.Common.{ℕ, List, arith, sym, subst}
 use Rattle.machine_ops.specs.declared.op.Op.TheVariants.{Plain}
 use Rattle.x86_text.specs.declared.placed.PlacedInsn.{PlacedInsn}
 use Rattle.x86_text.specs.Listed.{IsListing}
