@@ -106,7 +106,16 @@ fields_of p map opcode before operands shape = record {
   immediate = signed operands.immediate;
 }
 
--- The bytes, all of them, spell one instruction, of that length and operation.
+abbrev pub prefixes_in : Parts → Prefixes
+prefixes_in parts = prefixes_of parts.legacy parts.rex
+
+abbrev pub fields_in : Parts → Shape → Fields
+fields_in parts shape =
+    let before = length parts.legacy + length (optional parts.rex) + length (opcode_bytes parts.opcode) in
+    fields_of (prefixes_in parts) (map_of parts.opcode) (byte_of parts.opcode) before parts.operands shape
+
+-- The bytes, all of them, spell one instruction, of this length and operation: they are legacy prefixes in any number and
+-- order, at most one REX, an opcode of the map, and the operands that follow it there.
 pub record Spells (bytes : List ℕ) (insn : Insn) : Type 0 where
   pub parts : Parts
   pub shape : Shape
@@ -114,9 +123,9 @@ pub record Spells (bytes : List ℕ) (insn : Insn) : Type 0 where
   pub are_bytes : AllByRecursion (λ b. b < 256) bytes
   pub legacy : AllByRecursion (λ b. IsTrue (is_legacy b)) parts.legacy
   pub rex : IsTrue (is_rex_valid parts.rex)
-  pub operands : Follow (prefixes_of parts.legacy parts.rex) (map_of parts.opcode) (byte_of parts.opcode) parts.operands shape
+  pub operands : Follow (prefixes_in parts) (map_of parts.opcode) (byte_of parts.opcode) parts.operands shape
   pub len : insn.len ≡ length bytes
-  pub op : insn.op ≡ operation (fields_of (prefixes_of parts.legacy parts.rex) (map_of parts.opcode) (byte_of parts.opcode) (length parts.legacy + length (optional parts.rex) + length (opcode_bytes parts.opcode)) parts.operands shape)
+  pub op : insn.op ≡ operation (fields_in parts shape)
 
 -- ---- the fronts of spellings
 
