@@ -1,6 +1,6 @@
 -- The layout as its pieces are written, one after the other, and how long it is.
-use Rattle.std.proofs.Common.{◌≡◌, ℕ, ◌+◌, ◌-◌, ◌*◌, ◌/◌, ◌<◌, ◌≤◌, ◌^◌, List, [], ◌∷◌, ◌++◌, length, take, drop, map, refl, sym, ap, ◌∙◌, arith, length-append}
-use Rattle.std.proofs.lemmas.List.{append_assoc, length-map}
+use Rattle.std.proofs.Common.{◌≡◌, ℕ, ◌+◌, ◌*◌, ◌<◌, ◌≤◌, ◌^◌, List, [], ◌∷◌, ◌++◌, length, refl, sym, ap, ◌∙◌, arith, length-append}
+use Rattle.std.proofs.lemmas.List.{append_assoc}
 use Rattle.elf_write.specs.Layout.{NewEntry, Input, aligned, padded, laid_out, end_of, header_table, added_headers, new_names, bodies, encoded, written, count_of, short_count, long_count, all_names, pieces, names_place, headers_place, changed_input, changed_headers, all_headers, extended, appended}
 use Rattle.elf_write.proofs.Lists.{length-encoded, length-written}
 use Rattle.elf_write.proofs.Sizes.{length-laid_out, laid_out-append, length-padded, length-header_table, length-new_headers, le-end_of}

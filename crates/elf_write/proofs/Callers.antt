@@ -1,26 +1,25 @@
 -- What callers need: how long the file can get, that new relocations are free, and what the object with the new sections
 -- has at an index.
-use Rattle.std.proofs.Common.{◌≡◌, ◌≢◌, ◌⊎◌, inl, inr, ℕ, zero, suc, ◌+◌, ◌-◌, ◌*◌, ◌^◌, ◌<◌, ◌≤◌, List, [], ◌∷◌, ◌++◌, length, take, drop, get_or, map, Option, Some, None, true, false, not, eqb, refl, sym, ap, subst, ◌∙◌, arith, length-append}
+use Rattle.std.proofs.Common.{◌≡◌, ◌≢◌, inl, inr, ℕ, ◌+◌, ◌-◌, ◌*◌, ◌^◌, ◌<◌, ◌≤◌, List, [], ◌∷◌, ◌++◌, length, take, get_or, map, Some, None, true, false, not, eqb, refl, sym, ap, subst, ◌∙◌, arith, length-append}
 use Rattle.std.specs.Prelude.{All, AllPairs, bit_and, slice_get}
 use Rattle.std.specs.List.{enumerate_from, find, list_all, position_or_len, sum_by}
-use Rattle.std.proofs.lemmas.Bool.{cases_eq, cases_lt, ne_eqb}
+use Rattle.std.proofs.lemmas.Bool.{cases_lt}
 use Rattle.std.proofs.lemmas.Bool.Decides.{nat_tests}
-use Rattle.std.proofs.lemmas.List.{get_or-append_right, get_or-map, get_or_append_left, get_or_past, length-map}
+use Rattle.std.proofs.lemmas.List.{get_or-append_right, get_or-map, get_or_append_left, length-map}
 use Rattle.std.proofs.lemmas.List.Folds.{find_at}
 use Rattle.std.proofs.lemmas.List.FromFn.{get_or-enumerate_from, get_or-map-range_with_len, length-enumerate_from}
-use Rattle.std.proofs.lemmas.List.Sums.{AllPass-from_list_all, fails_before_first, passes_at_first, position_or_len_is, sum_by-cons}
+use Rattle.std.proofs.lemmas.List.Sums.{AllPass-from_list_all, passes_at_first, position_or_len_is, sum_by-cons}
 use Rattle.std.proofs.lemmas.List.Elements.{All-cons, All-nil}
 use Rattle.std.proofs.lemmas.Option.{slice_get-get_or, slice_get_past}
 use Rattle.elf_objects.specs.Contents.{elf_of, no_section, relocs_at, section_at, section_entry}
 use Rattle.elf_objects.specs.Elf.{Elf, SectionEntry}
-use Rattle.elf_objects.specs.File.{name_table, section_count, section_header}
+use Rattle.elf_objects.specs.File.{name_table, section_header}
 use Rattle.elf_objects.specs.Header.{has_body}
-use Rattle.elf_objects.specs.Kind.{sht_null, sht_progbits, sht_rela, sht_strtab, shf_execinstr}
+use Rattle.elf_objects.specs.Kind.{sht_progbits, sht_rela, shf_execinstr}
 use Rattle.elf_objects.specs.Object.{IsObject, IsWellFormed}
 use Rattle.elf_objects.specs.Table.{body_of, name_header}
-use Rattle.elf_objects.specs.declared.symbol.Reloc.{Reloc}
-use Rattle.elf_write.specs.Added.{AreApart, CanAdd, HasFields, IsPlain, extended_as, new_section, new_sections, object_with, old_section, relocs_in, relocs_with}
-use Rattle.elf_write.specs.Layout.{NewEntry, Input, aligned, all_names, bodies, end_of, extended, headers_place, long_count, names_place, new_names, pieces}
+use Rattle.elf_write.specs.Added.{AreApart, CanAdd, HasFields, IsPlain, new_section, new_sections, object_with, old_section, relocs_in, relocs_with}
+use Rattle.elf_write.specs.Layout.{NewEntry, Input, aligned, all_names, bodies, end_of, new_names}
 use Rattle.elf_write.specs.Object.{appended_to, input_of_object}
 use Rattle.elf_write.proofs.Build.{IsInput, length-extended}
 use Rattle.elf_write.proofs.Cases.{table_kind}

@@ -1,8 +1,7 @@
 -- The sections of the object with the new ones: section 0, the name table, the other old ones, the new ones.
-use Rattle.std.proofs.Common.{◌≡◌, ◌≢◌, ◌⊎◌, inl, inr, ℕ, ◌+◌, ◌-◌, ◌<◌, ◌≤◌, List, length, get_or, refl, sym, ap, ◌∙◌, arith}
+use Rattle.std.proofs.Common.{◌≡◌, ◌≢◌, inl, inr, ℕ, ◌+◌, ◌-◌, ◌<◌, ◌≤◌, List, length, refl, sym, ap, ◌∙◌, arith}
 use Rattle.std.proofs.lemmas.Bool.{cases_eq, cases_lt}
 use Rattle.elf_objects.specs.File.{name_table, section_count, section_header}
-use Rattle.elf_objects.specs.Header.{has_body}
 use Rattle.elf_objects.specs.Kind.{sht_null, sht_strtab}
 use Rattle.elf_objects.specs.Object.{IsWellFormed}
 use Rattle.elf_objects.specs.declared.header.SectionHeader.{SectionHeader}

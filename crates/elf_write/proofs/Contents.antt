@@ -1,34 +1,26 @@
 -- The symbols and relocations of the object with the new sections.
-use Rattle.std.proofs.Common.{◌≡◌, ◌≢◌, ◌⊎◌, inl, inr, ℕ, zero, suc, ◌+◌, ◌-◌, ◌*◌, ◌/◌, ◌%◌, ◌<◌, ◌≤◌, List, ◌++◌, length, take, drop, get_or, map, Bool, true, false, Option, Some, None, eqb, cond, refl, sym, ap, subst, ◌∙◌, arith}
-use Rattle.std.specs.Prelude.{All, AllPairs, IsSome, IsTrue, slice_index}
-use Rattle.std.specs.List.{range_with_len, sum_by}
-use Rattle.std.proofs.lemmas.Bool.{cases_eq, cases_lt, ne_eqb}
+use Rattle.std.proofs.Common.{◌≡◌, ◌≢◌, inl, inr, ℕ, ◌+◌, ◌*◌, ◌/◌, ◌<◌, ◌≤◌, List, ◌++◌, length, true, false, Option, Some, None, eqb, refl, sym, ap, subst, ◌∙◌, arith}
+use Rattle.std.specs.Prelude.{All, IsSome}
+use Rattle.std.proofs.lemmas.Bool.{cases_eq, ne_eqb}
 use Rattle.std.proofs.lemmas.Bool.Decides.{nat_tests}
-use Rattle.std.proofs.lemmas.List.{get_or-append_right, get_or-map, get_or_append_left, length-map}
-use Rattle.std.proofs.lemmas.List.FromFn.{get_or-map-range_with_len, length-map-range_with_len, sum_by-map-range_with_len_more}
-use Rattle.elf_objects.specs.Contents.{elf_of, section_entry, symbol_entry}
-use Rattle.elf_objects.specs.Elf.{Elf, SectionEntry, SymbolEntry}
+use Rattle.elf_objects.specs.Contents.{elf_of}
 use Rattle.elf_objects.specs.File.{name_table, section_count, section_header}
-use Rattle.elf_objects.specs.Header.{has_body, is_text_header, null_header}
+use Rattle.elf_objects.specs.Header.{has_body}
 use Rattle.elf_objects.specs.Number.{word}
-use Rattle.elf_objects.specs.Kind.{sht_null, sht_nobits, sht_strtab, sht_symtab, sht_symtab_shndx, sht_rela, shn_abs, shn_common, shn_loreserve, shn_xindex}
+use Rattle.elf_objects.specs.Kind.{sht_null, sht_nobits, sht_strtab, sht_symtab, sht_symtab_shndx, shn_abs, shn_common, shn_loreserve, shn_xindex}
 use Rattle.elf_objects.specs.Object.{IsWellFormed}
-use Rattle.elf_objects.specs.Sections.{HasLittleText, text_bytes, text_size}
-use Rattle.elf_objects.specs.Symbols.{HasHome, absolute, common, plain, extended, HasRelocs, IsReloc, IsRelocOf, IsSymbol}
-use Rattle.elf_objects.specs.Table.{body_of, first_of_kind, header_of, home_of, index_entry, index_header, index_table, is_kind, name_header, raw_symbol, raw_symbol_at, reloc_at, reloc_of, string_at, string_header, symbol_count, symbol_header, symbol_home, symbol_table}
+use Rattle.elf_objects.specs.Symbols.{HasHome, absolute, common, plain, extended, IsSymbol}
+use Rattle.elf_objects.specs.Table.{body_of, first_of_kind, header_of, home_of, index_entry, index_header, index_table, is_kind, raw_symbol, raw_symbol_at, string_at, string_header, symbol_count, symbol_header, symbol_home, symbol_table}
 use Rattle.elf_objects.specs.declared.header.SectionHeader.{SectionHeader}
 use Rattle.elf_objects.specs.declared.symbol.RawSymbol.{RawSymbol}
-use Rattle.elf_objects.specs.declared.symbol.Reloc.{Reloc}
 use Rattle.elf_objects.proofs.LeastBelow.{least_below-some}
-use Rattle.elf_write.specs.Added.{AreApart, IsAddable, IsRelocs, relocs_in, sizes}
-use Rattle.elf_write.specs.Layout.{NewEntry, header_for, new_names}
-use Rattle.elf_write.proofs.Cases.{Case, Keeps, added, case_of, first, first_kind, keeps, named, old, table, table_kind}
-use Rattle.elf_write.proofs.Facts.{Output, no_entry}
-use Rattle.elf_write.proofs.Forms.{NoTable, no_table, relocs_of_new}
-use Rattle.elf_write.proofs.Links.{length-sections, no_shndx, no_symtab, section-at, symbol_count-output, symbol_header-output, symbol_table-output}
-use Rattle.elf_write.proofs.Numbers.{reloc-same, symbol-same, word-same}
-use Rattle.elf_write.proofs.Parts.{part, part-part}
-use Rattle.elf_write.proofs.Special.{body_of-kept, first_of_kind-output, longer, names-output, plain-output, special-output, strings-last, strings-length}
+use Rattle.elf_write.specs.Added.{IsAddable}
+use Rattle.elf_write.specs.Layout.{NewEntry, new_names}
+use Rattle.elf_write.proofs.Cases.{first_kind}
+use Rattle.elf_write.proofs.Facts.{Output}
+use Rattle.elf_write.proofs.Links.{no_shndx, symbol_count-output, symbol_header-output}
+use Rattle.elf_write.proofs.Numbers.{symbol-same, word-same}
+use Rattle.elf_write.proofs.Special.{body_of-kept, first_of_kind-output, longer, names-output, special-output, strings-last, strings-length}
 use Rattle.elf_write.proofs.Strings.{string_at-longer}
 
 -- where the body of a special table lies

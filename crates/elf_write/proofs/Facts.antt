@@ -1,22 +1,22 @@
 -- All that the later proofs take of the bytes of the object with the new sections.
-use Rattle.std.proofs.Common.{◌≡◌, ◌≢◌, ◌⊎◌, inl, inr, ℕ, zero, suc, ◌+◌, ◌-◌, ◌*◌, ◌/◌, ◌^◌, ◌<◌, ◌≤◌, List, [], ◌∷◌, ◌++◌, length, take, drop, get_or, map, refl, sym, ap, subst, ◌∙◌, arith, length-append, length-drop}
+use Rattle.std.proofs.Common.{◌≡◌, ◌≢◌, inr, ℕ, ◌+◌, ◌*◌, ◌^◌, ◌<◌, ◌≤◌, List, [], ◌∷◌, ◌++◌, length, take, drop, get_or, refl, sym, ap, subst, ◌∙◌, arith, length-append}
 use Rattle.std.specs.Prelude.{All}
 use Rattle.std.proofs.lemmas.Bool.Decides.{nat_tests}
-use Rattle.std.proofs.lemmas.List.{append_assoc, drop_more, drop_at, drop-drop, length-take-le, length_push, map-append, take_all, take-append-drop, take_more, take-take}
+use Rattle.std.proofs.lemmas.List.{append_assoc, drop_more, map-append, take_all, take-append-drop, take_more, take-take}
 use Rattle.std.proofs.lemmas.List.Concat.{flat_map-append}
 use Rattle.elf_objects.specs.Number.{half}
 use Rattle.elf_objects.specs.Header.{header_at}
-use Rattle.elf_objects.specs.File.{headers_at, name_table, section_count, section_header, shstrndx}
+use Rattle.elf_objects.specs.File.{headers_at, name_table, section_count, section_header}
 use Rattle.elf_objects.specs.Table.{body_of, name_header}
 use Rattle.elf_objects.specs.declared.header.SectionHeader.{SectionHeader}
 use Rattle.elf_write.specs.Added.{HasFields}
-use Rattle.elf_write.specs.Layout.{NewEntry, Input, added_headers, aligned, all_headers, all_names, bodies, changed_input, end_of, extended, header_for, headers_place, laid_out, long_count, names_place, new_headers, new_names, pieces, short_count}
+use Rattle.elf_write.specs.Layout.{NewEntry, Input, added_headers, aligned, all_headers, all_names, bodies, changed_input, end_of, extended, header_for, headers_place, laid_out, long_count, names_place, new_names, pieces}
 use Rattle.elf_write.proofs.Parts.{part, part-piece}
 use Rattle.elf_write.proofs.Numbers.{half-same}
 use Rattle.elf_write.proofs.Sizes.{end_of-append, le-end_of}
 use Rattle.elf_write.proofs.Build.{length-changed_input}
 use Rattle.elf_write.proofs.Headers.{HasRoom, get_or-new_headers}
-use Rattle.elf_write.proofs.Output.{Base, Outside, Places, ends, headers_at-output, input_at, input_ok, part-input, places, shnum-output}
+use Rattle.elf_write.proofs.Output.{Base, Outside, ends, headers_at-output, input_at, input_ok, part-input, places, shnum-output}
 use Rattle.elf_write.proofs.Table.{first_header, names_header, new_header, old_header}
 
 -- a section, for where there is none

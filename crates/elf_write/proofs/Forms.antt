@@ -1,22 +1,19 @@
 -- The headers of the object with the new sections are as their types ask for.
-use Rattle.std.proofs.Common.{◌≡◌, ◌≢◌, ◌⊎◌, inl, inr, ℕ, ◌+◌, ◌-◌, ◌*◌, ◌%◌, ◌<◌, ◌≤◌, List, [], ◌++◌, length, take, drop, get_or, Bool, true, false, refl, sym, ap, subst, ◌∙◌, arith}
+use Rattle.std.proofs.Common.{◌≡◌, ◌≢◌, inl, inr, ℕ, ◌+◌, ◌-◌, ◌<◌, List, length, get_or, true, sym, ap, subst, ◌∙◌, arith}
 use Rattle.std.specs.Prelude.{All, IsTrue, bit_and, slice_index}
-use Rattle.std.proofs.lemmas.Bool.{cases_eq}
 use Rattle.std.proofs.lemmas.Bool.Decides.{nat_tests}
-use Rattle.std.proofs.lemmas.List.{get_or-drop, get_or-take}
 use Rattle.elf_objects.specs.Elf.{Elf}
 use Rattle.elf_objects.specs.File.{name_table, section_count, section_header}
 use Rattle.elf_objects.specs.Header.{has_body, is_text_header}
 use Rattle.elf_objects.specs.Kind.{sht_null, sht_progbits, sht_strtab, sht_symtab, sht_symtab_shndx, sht_rela, sht_rel, sht_group, shf_execinstr}
 use Rattle.elf_objects.specs.Object.{IsWellFormed}
-use Rattle.elf_objects.specs.Sections.{HasEntries, HasForm, HasKindForm, IsFirstOfKind, IsIndexTable, IsPlain, IsRelocTable, IsStringTable, IsSymbolTable}
+use Rattle.elf_objects.specs.Sections.{HasEntries, HasForm, HasKindForm, IsFirstOfKind, IsPlain, IsRelocTable, IsStringTable}
 use Rattle.elf_objects.specs.declared.header.SectionHeader.{SectionHeader}
 use Rattle.elf_write.specs.Added.{IsAddable, IsRelocs}
 use Rattle.elf_write.specs.Layout.{NewEntry, header_for}
-use Rattle.elf_write.proofs.Cases.{Case, Keeps, added, case_of, first, first_kind, keeps, named, old, table, table_kind}
+use Rattle.elf_write.proofs.Cases.{Case, added, case_of, first, first_kind, keeps, old, table, table_kind}
 use Rattle.elf_write.proofs.Facts.{Output, no_entry}
 use Rattle.elf_write.proofs.Numbers.{index-same}
-use Rattle.elf_write.proofs.Parts.{part}
 use Rattle.elf_write.proofs.Special.{index-in_part, longer}
 
 -- a section that may be added is no table but one of relocations, and no text

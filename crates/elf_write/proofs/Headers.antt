@@ -1,5 +1,5 @@
 -- Section headers are read back from their bytes.
-use Rattle.std.proofs.Common.{◌≡◌, ℕ, zero, suc, ◌+◌, ◌-◌, ◌*◌, ◌^◌, ◌<◌, ◌≤◌, List, [], ◌∷◌, ◌++◌, length, take, drop, get_or, map, refl, sym, ap, ◌∙◌, arith, length-append}
+use Rattle.std.proofs.Common.{◌≡◌, ℕ, zero, suc, ◌+◌, ◌*◌, ◌^◌, ◌<◌, List, [], ◌∷◌, ◌++◌, length, take, drop, get_or, refl, sym, ap, ◌∙◌, arith, length-append}
 use Rattle.std.proofs.lemmas.List.{append_assoc, append-nil, drop-drop, drop_at}
 use Rattle.elf_objects.specs.Number.{word, xword}
 use Rattle.elf_objects.specs.Header.{header_at}
@@ -7,7 +7,7 @@ use Rattle.elf_objects.specs.declared.header.SectionHeader.{SectionHeader}
 use Rattle.elf_write.specs.Layout.{NewEntry, aligned, bodies, encoded, end_of, header_bytes, header_for, header_table, new_headers, new_names}
 use Rattle.elf_write.proofs.Lists.{length-encoded}
 use Rattle.elf_write.proofs.Parts.{part, part-left, part-right, part-whole}
-use Rattle.elf_write.proofs.Numbers.{header-same, word-encoded, xword-encoded}
+use Rattle.elf_write.proofs.Numbers.{word-encoded, xword-encoded}
 use Rattle.elf_write.proofs.Sizes.{length-header_bytes}
 
 -- the fields have room for their numbers

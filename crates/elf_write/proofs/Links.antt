@@ -1,7 +1,6 @@
 -- What the headers of the object with the new sections name is there.
-use Rattle.std.proofs.Common.{◌≡◌, ◌≢◌, ◌⊎◌, inl, inr, ℕ, ◌+◌, ◌-◌, ◌*◌, ◌/◌, ◌<◌, ◌≤◌, List, ◌++◌, length, get_or, map, Option, Some, None, refl, sym, ap, subst, ◌∙◌, arith}
+use Rattle.std.proofs.Common.{◌≡◌, ◌≢◌, inl, inr, ℕ, ◌+◌, ◌-◌, ◌/◌, ◌<◌, List, ◌++◌, length, get_or, refl, sym, ap, subst, ◌∙◌, arith}
 use Rattle.std.specs.Prelude.{All, AllPairs}
-use Rattle.std.specs.List.{range_with_len}
 use Rattle.std.proofs.lemmas.Bool.{cases_lt}
 use Rattle.std.proofs.lemmas.List.FromFn.{get_or-map-range_with_len, length-map-range_with_len}
 use Rattle.elf_objects.specs.Contents.{elf_of, section_entry}
@@ -9,14 +8,14 @@ use Rattle.elf_objects.specs.Elf.{Elf, SectionEntry}
 use Rattle.elf_objects.specs.File.{name_table, section_count, section_header}
 use Rattle.elf_objects.specs.Kind.{sht_null, sht_strtab, sht_symtab, sht_symtab_shndx, sht_rela, sht_group}
 use Rattle.elf_objects.specs.Object.{IsWellFormed}
-use Rattle.elf_objects.specs.Sections.{HasLinks, HasName, IsBoundary, IsFirstRelaOf, LinksGroup, LinksIndices, LinksRelocs, LinksSymbols, NamesStrings, link_of}
-use Rattle.elf_objects.specs.Table.{body_of, header_of, name_header, string_header, symbol_count, symbol_header, symbol_table}
+use Rattle.elf_objects.specs.Sections.{HasLinks, HasName, IsBoundary, IsFirstRelaOf, LinksGroup, LinksIndices, LinksRelocs, LinksSymbols, link_of}
+use Rattle.elf_objects.specs.Table.{body_of, name_header, symbol_count, symbol_header, symbol_table}
 use Rattle.elf_objects.specs.declared.header.SectionHeader.{SectionHeader}
-use Rattle.elf_write.specs.Added.{AreApart, IsAddable, IsRelocs}
+use Rattle.elf_write.specs.Added.{AreApart, IsAddable}
 use Rattle.elf_write.specs.Layout.{NewEntry, header_for, new_names}
-use Rattle.elf_write.proofs.Cases.{Case, Keeps, added, case_of, first, first_kind, keeps, old, table, table_kind}
+use Rattle.elf_write.proofs.Cases.{Case, added, case_of, first, first_kind, keeps, old, table, table_kind}
 use Rattle.elf_write.proofs.Facts.{Output, no_entry}
-use Rattle.elf_write.proofs.Forms.{NoTable, no_table, relocs_of_new}
+use Rattle.elf_write.proofs.Forms.{no_table, relocs_of_new}
 use Rattle.elf_write.proofs.Special.{first_of_kind-output, longer, special-output}
 use Rattle.elf_write.proofs.Strings.{name-inside}
 

@@ -1,6 +1,6 @@
 -- Lists with a part written over.
-use Rattle.std.proofs.Common.{◌≡◌, ℕ, ◌+◌, ◌-◌, ◌<◌, ◌≤◌, List, ◌++◌, length, take, drop, refl, sym, ap, ◌∙◌, arith, rules, length-append, length-drop}
-use Rattle.std.proofs.lemmas.List.{append_assoc, drop-append-le, drop-take, drop_at, drop-drop, length-take-le, take-append-le, take_all, take-take, take_rest}
+use Rattle.std.proofs.Common.{◌≡◌, ℕ, ◌+◌, ◌-◌, ◌≤◌, List, ◌++◌, length, take, drop, refl, sym, ap, ◌∙◌, arith, rules, length-append, length-drop}
+use Rattle.std.proofs.lemmas.List.{append_assoc, drop-append-le, drop-take, length-take-le, take-append-le, take-take, take_rest}
 use Rattle.elf_write.specs.Layout.{written, encoded}
 use Rattle.byteorder.specs.Numbers.{length-bytes_low_first}
 

@@ -1,13 +1,11 @@
 -- What reads a number, a header, a symbol or a relocation depends on the bytes that it stands in.
-use Rattle.std.proofs.Common.{◌≡◌, ℕ, ◌+◌, ◌*◌, ◌^◌, ◌<◌, ◌≤◌, List, ◌++◌, length, take, drop, slice_index, get_or, refl, sym, ap, ◌∙◌, arith}
+use Rattle.std.proofs.Common.{◌≡◌, ℕ, ◌+◌, ◌^◌, ◌<◌, ◌≤◌, List, ◌++◌, drop, slice_index, get_or, refl, sym, ap, ◌∙◌, arith}
 use Rattle.byteorder.specs.Endian.{little_from}
 use Rattle.byteorder.specs.Numbers.{little_from-take, little_number-reads_back}
 use Rattle.elf_objects.specs.Number.{half, word, xword}
 use Rattle.elf_objects.specs.Header.{header_at}
 use Rattle.elf_objects.specs.Table.{raw_symbol_at, reloc_at}
-use Rattle.elf_objects.specs.declared.header.SectionHeader.{SectionHeader}
-use Rattle.elf_write.specs.Layout.{encoded, header_bytes}
-use Rattle.elf_write.proofs.Lists.{length-encoded}
+use Rattle.elf_write.specs.Layout.{encoded}
 use Rattle.elf_write.proofs.Parts.{part, part-part, index-part}
 
 same_number : (n a c : ℕ) (xs ys : List ℕ) → part a n xs ≡ part c n ys → little_from 0 n (drop a xs) ≡ little_from 0 n (drop c ys)

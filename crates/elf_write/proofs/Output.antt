@@ -1,19 +1,16 @@
 -- The headers of the object with the new sections, as they are read from its bytes.
-use Rattle.std.proofs.Common.{◌≡◌, ◌≢◌, ◌⊎◌, inl, inr, ℕ, zero, suc, ◌+◌, ◌-◌, ◌*◌, ◌/◌, ◌^◌, ◌<◌, ◌≤◌, List, [], ◌∷◌, ◌++◌, length, take, drop, get_or, map, refl, sym, ap, subst, ◌∙◌, arith, length-append, length-drop}
+use Rattle.std.proofs.Common.{◌≡◌, ◌⊎◌, inl, inr, ℕ, ◌+◌, ◌*◌, ◌/◌, ◌^◌, ◌<◌, ◌≤◌, List, [], ◌∷◌, ◌++◌, length, drop, sym, ap, subst, ◌∙◌, arith, length-drop}
 use Rattle.std.proofs.lemmas.Bool.Decides.{nat_tests}
-use Rattle.std.proofs.lemmas.List.{append_assoc, append-nil, length-take-le}
-use Rattle.elf_objects.specs.Number.{half, word, xword}
-use Rattle.elf_objects.specs.Header.{header_at}
-use Rattle.elf_objects.specs.File.{headers_at, name_table, section_count, section_header}
+use Rattle.std.proofs.lemmas.List.{append-nil, length-take-le}
+use Rattle.elf_objects.specs.Number.{half, xword}
+use Rattle.elf_objects.specs.File.{headers_at, name_table, section_count}
 use Rattle.elf_objects.specs.Table.{body_of, name_header}
-use Rattle.elf_objects.specs.declared.header.SectionHeader.{SectionHeader}
-use Rattle.elf_write.specs.Layout.{NewEntry, Input, added_headers, aligned, all_headers, all_names, bodies, changed_headers, changed_input, count_of, encoded, end_of, extended, header_bytes, header_table, headers_place, laid_out, long_count, names_place, new_headers, padded, pieces, short_count, written}
+use Rattle.elf_write.specs.Layout.{NewEntry, Input, all_headers, all_names, bodies, changed_input, count_of, encoded, extended, headers_place, names_place, pieces, short_count, written}
 use Rattle.elf_write.proofs.Lists.{length-encoded, length-written}
-use Rattle.elf_write.proofs.Parts.{part, part-before, part-behind, part-inside, part-laid_out, part-left, part-part, part-right, part-whole}
-use Rattle.elf_write.proofs.Numbers.{half-same, half-encoded, header-same, word-same, word-encoded, xword-same, xword-encoded}
-use Rattle.elf_write.proofs.Sizes.{laid_out-append, length-laid_out, length-padded, length-header_table, length-new_headers, le-end_of}
-use Rattle.elf_write.proofs.Build.{IsInput, length-changed_input, length-changed_headers, length-all_headers, length-extended}
-use Rattle.elf_write.proofs.Headers.{HasRoom, header-bytes, part-header_table}
+use Rattle.elf_write.proofs.Parts.{part, part-before, part-behind, part-inside, part-laid_out, part-whole}
+use Rattle.elf_write.proofs.Numbers.{half-same, half-encoded, xword-same, xword-encoded}
+use Rattle.elf_write.proofs.Sizes.{le-end_of}
+use Rattle.elf_write.proofs.Build.{IsInput, length-changed_input, length-extended}
 
 -- what the layout takes of the bytes of an object
 abbrev pub input_at : List ℕ → Input

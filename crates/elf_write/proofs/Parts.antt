@@ -1,6 +1,6 @@
 -- Parts of a list: so many items from a place on.
-use Rattle.std.proofs.Common.{◌≡◌, ℕ, ◌+◌, ◌-◌, ◌<◌, ◌≤◌, List, [], ◌∷◌, ◌++◌, length, take, drop, get_or, slice_index, replicate, refl, sym, ap, ◌∙◌, arith, length-append, length-drop}
-use Rattle.std.proofs.lemmas.List.{append_assoc, drop-append-le, drop-drop, drop-take, drop_at, get_or-drop, get_or-take, length-take-le, take-append-le, take-take, take_all}
+use Rattle.std.proofs.Common.{◌≡◌, ℕ, ◌+◌, ◌-◌, ◌≤◌, List, [], ◌∷◌, ◌++◌, length, take, drop, get_or, slice_index, replicate, refl, sym, ap, ◌∙◌, arith, length-append, length-drop}
+use Rattle.std.proofs.lemmas.List.{drop-append-le, drop-drop, drop-take, drop_at, get_or-drop, get_or-take, length-take-le, take-append-le, take-take, take_all}
 use Rattle.elf_write.specs.Layout.{aligned, end_of, laid_out, padded, written}
 use Rattle.elf_write.proofs.Sizes.{laid_out-append, length-laid_out, length-padded}
 

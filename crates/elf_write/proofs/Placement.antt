@@ -1,16 +1,15 @@
 -- The bodies of the object with the new sections lie in the file, and those of relocations share no byte with others.
-use Rattle.std.proofs.Common.{◌≡◌, ◌≢◌, ◌⊎◌, inl, inr, ℕ, ◌+◌, ◌-◌, ◌*◌, ◌<◌, ◌≤◌, List, length, get_or, true, false, refl, sym, ap, subst, ◌∙◌, arith}
-use Rattle.std.specs.Prelude.{IsTrue}
-use Rattle.std.proofs.lemmas.Bool.{cases_eq, cases_lt}
+use Rattle.std.proofs.Common.{◌≡◌, ◌≢◌, inl, inr, ℕ, ◌+◌, ◌<◌, ◌≤◌, List, length, get_or, true, sym, subst, ◌∙◌, arith}
+use Rattle.std.proofs.lemmas.Bool.{cases_lt}
 use Rattle.std.proofs.lemmas.Bool.Decides.{nat_tests}
 use Rattle.elf_objects.specs.File.{name_table, section_count, section_header}
 use Rattle.elf_objects.specs.Header.{has_body}
-use Rattle.elf_objects.specs.Kind.{sht_null, sht_rela, sht_strtab}
+use Rattle.elf_objects.specs.Kind.{sht_null, sht_rela}
 use Rattle.elf_objects.specs.Object.{IsWellFormed}
-use Rattle.elf_objects.specs.Sections.{HasBody, IsAlone, IsInside, IsPlaced, SharesByte}
+use Rattle.elf_objects.specs.Sections.{HasBody, IsInside, IsPlaced}
 use Rattle.elf_objects.specs.declared.header.SectionHeader.{SectionHeader}
 use Rattle.elf_write.specs.Layout.{NewEntry, header_for}
-use Rattle.elf_write.proofs.Cases.{Case, Keeps, added, case_of, first, first_kind, keeps, named, old, table, table_kind}
+use Rattle.elf_write.proofs.Cases.{Case, added, case_of, first, first_kind, keeps, old, table, table_kind}
 use Rattle.elf_write.proofs.Facts.{Output, no_entry}
 
 no_body : (h : SectionHeader) (x : ℕ) → h.kind ≡ sht_null → IsInside x h → ⊥

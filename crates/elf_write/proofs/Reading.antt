@@ -1,6 +1,6 @@
 -- The object with the new sections is read as the object and the new sections.
-use Rattle.std.proofs.Common.{◌≡◌, ◌≢◌, ◌⊎◌, inl, inr, ℕ, zero, suc, ◌+◌, ◌-◌, ◌*◌, ◌/◌, ◌<◌, ◌≤◌, List, [], ◌∷◌, ◌++◌, length, take, drop, get_or, map, Bool, true, false, Option, Some, None, eqb, cond, refl, sym, ap, subst, ◌∙◌, arith, length-append}
-use Rattle.std.specs.Prelude.{All, AllPairs, slice_get, ◌==◌, ◌&&◌}
+use Rattle.std.proofs.Common.{◌≡◌, ◌≢◌, inl, inr, ℕ, suc, ◌+◌, ◌-◌, ◌*◌, ◌/◌, ◌<◌, ◌≤◌, List, [], ◌∷◌, ◌++◌, length, get_or, map, Bool, true, false, Option, Some, None, eqb, refl, sym, ap, ◌∙◌, arith, length-append}
+use Rattle.std.specs.Prelude.{All, ◌==◌, ◌&&◌}
 use Rattle.std.specs.List.{enumerate_from, find, position_or_len, range_with_len}
 use Rattle.std.proofs.lemmas.Bool.{cases_eq, cases_lt, ne_eqb}
 use Rattle.std.proofs.lemmas.Bool.Decides.{nat_tests}
@@ -13,27 +13,24 @@ use Rattle.elf_objects.specs.Below.{least_below}
 use Rattle.elf_objects.specs.Contents.{elf_of, entry_of_symbol, relocs_at, relocs_of, section_entry, symbol_entry}
 use Rattle.elf_objects.specs.Elf.{Elf, SectionEntry, SymbolEntry}
 use Rattle.elf_objects.specs.File.{headers_at, name_table, section_count, section_header}
-use Rattle.elf_objects.specs.Header.{null_header}
-use Rattle.elf_objects.specs.Kind.{sht_null, sht_strtab, sht_rela}
+use Rattle.elf_objects.specs.Kind.{sht_rela}
 use Rattle.elf_objects.specs.Object.{IsWellFormed}
-use Rattle.elf_objects.specs.Table.{body_of, header_of, is_rela_of, name_header, raw_symbol, rela_of, reloc_at, reloc_of, string_at, string_header, symbol_count, symbol_header, symbol_home, symbol_table}
+use Rattle.elf_objects.specs.Table.{body_of, header_of, is_rela_of, raw_symbol, rela_of, reloc_at, reloc_of, string_at, string_header, symbol_count, symbol_header, symbol_home, symbol_table}
 use Rattle.elf_objects.specs.declared.header.SectionHeader.{SectionHeader}
-use Rattle.elf_objects.specs.declared.symbol.Home.{Home}
 use Rattle.elf_objects.specs.declared.symbol.RawSymbol.{RawSymbol}
 use Rattle.elf_objects.specs.declared.symbol.Reloc.{Reloc}
-use Rattle.elf_objects.proofs.LeastBelow.{least_below-none, least_below-some, least_below-stays, least_below-suc, none-least_below}
-use Rattle.elf_write.specs.Added.{IsAddable, IsRelocs, extended_as, extended_object, new_section, new_sections, old_section, relocs_in, relocs_with}
-use Rattle.elf_write.specs.Layout.{NewEntry, Input, aligned, all_names, bodies, end_of, extended, header_for, headers_place, long_count, names_place, new_names}
-use Rattle.elf_write.specs.Object.{input_of_object}
-use Rattle.elf_write.proofs.Cases.{Case, Keeps, added, case_of, first, first_kind, keeps, old, table, table_kind}
+use Rattle.elf_objects.proofs.LeastBelow.{least_below-some, least_below-stays, least_below-suc, none-least_below}
+use Rattle.elf_write.specs.Added.{IsAddable, extended_as, new_sections, old_section, relocs_in, relocs_with}
+use Rattle.elf_write.specs.Layout.{NewEntry, Input, all_names, end_of, extended, header_for, headers_place, long_count, names_place}
+use Rattle.elf_write.proofs.Cases.{keeps}
 use Rattle.elf_write.proofs.Contents.{raw_symbol-output, string-output, symbol_home-output, symbol_names}
 use Rattle.elf_write.proofs.Facts.{Output, name_of, no_entry, place_of}
-use Rattle.elf_write.proofs.Forms.{no_table, relocs_of_new}
+use Rattle.elf_write.proofs.Forms.{relocs_of_new}
 use Rattle.elf_write.proofs.Links.{length-sections, section-at, symbol_count-output, symbol_header-output, symbol_table-output}
 use Rattle.elf_write.proofs.Output.{input_at}
 use Rattle.elf_write.proofs.Relocations.{reloc-new, reloc-output}
 use Rattle.elf_write.proofs.Says.{entry_first, entry_names, entry_new, entry_old, get_or-new_sections, length-new_sections, map-same}
-use Rattle.elf_write.proofs.Special.{bool_cases, least_below-further, plain-output}
+use Rattle.elf_write.proofs.Special.{least_below-further, plain-output}
 
 -- the sections
 old_section-first : (i : Input) (count : ℕ) (new : List NewEntry) (s : SectionEntry) → old_section i count new (0, s) ≡ record s { size = long_count count }

@@ -1,28 +1,28 @@
 -- The relocations of the object with the new sections, and its text.
-use Rattle.std.proofs.Common.{◌≡◌, ◌≢◌, ◌⊎◌, inl, inr, ℕ, zero, suc, ◌+◌, ◌-◌, ◌*◌, ◌/◌, ◌<◌, ◌≤◌, List, ◌++◌, length, take, drop, get_or, map, Bool, true, false, Option, Some, None, eqb, cond, refl, sym, ap, subst, ◌∙◌, arith}
+use Rattle.std.proofs.Common.{◌≡◌, inl, inr, ℕ, zero, suc, ◌+◌, ◌-◌, ◌*◌, ◌/◌, ◌<◌, ◌≤◌, List, ◌++◌, length, get_or, map, refl, sym, ap, subst, ◌∙◌, arith}
 use Rattle.std.specs.Prelude.{All, IsTrue, slice_index}
 use Rattle.std.specs.List.{range_with_len, sum_by}
 use Rattle.std.proofs.lemmas.Bool.{cases_eq, cases_lt}
 use Rattle.std.proofs.lemmas.Bool.Decides.{nat_tests}
 use Rattle.std.proofs.lemmas.List.{get_or-append_right, get_or-map, get_or_append_left, length-map}
-use Rattle.std.proofs.lemmas.List.FromFn.{get_or-map-range_with_len, length-map-range_with_len, map-range_with_len_more, sum_by-map-range_with_len_more}
+use Rattle.std.proofs.lemmas.List.FromFn.{get_or-map-range_with_len, length-map-range_with_len, sum_by-map-range_with_len_more}
 use Rattle.elf_objects.specs.Contents.{elf_of, section_entry, symbol_entry}
-use Rattle.elf_objects.specs.Elf.{Elf, SectionEntry}
+use Rattle.elf_objects.specs.Elf.{SectionEntry}
 use Rattle.elf_objects.specs.File.{name_table, section_count, section_header}
 use Rattle.elf_objects.specs.Header.{is_text_header}
 use Rattle.elf_objects.specs.Kind.{sht_null, sht_progbits, sht_strtab, sht_rela}
 use Rattle.elf_objects.specs.Object.{IsWellFormed}
-use Rattle.elf_objects.specs.Sections.{HasLittleText, text_bytes, text_size}
-use Rattle.elf_objects.specs.Symbols.{HasRelocs, IsReloc, IsRelocOf, field_size, is_read}
+use Rattle.elf_objects.specs.Sections.{text_bytes, text_size}
+use Rattle.elf_objects.specs.Symbols.{HasRelocs, IsReloc, IsRelocOf}
 use Rattle.elf_objects.specs.Table.{reloc_at, reloc_of, symbol_count}
 use Rattle.elf_objects.specs.declared.header.SectionHeader.{SectionHeader}
 use Rattle.elf_objects.specs.declared.symbol.Reloc.{Reloc}
-use Rattle.elf_write.specs.Added.{IsAddable, IsRelocs, relocs_in, sizes}
+use Rattle.elf_write.specs.Added.{IsAddable, relocs_in, sizes}
 use Rattle.elf_write.specs.Layout.{NewEntry, header_for}
-use Rattle.elf_write.proofs.Cases.{Case, Keeps, added, case_of, first, first_kind, keeps, old, table, table_kind}
+use Rattle.elf_write.proofs.Cases.{first_kind, keeps, table_kind}
 use Rattle.elf_write.proofs.Contents.{Lies, grows, lies_at}
 use Rattle.elf_write.proofs.Facts.{Output, no_entry}
-use Rattle.elf_write.proofs.Forms.{NoTable, no_table, no_text, relocs_of_new}
+use Rattle.elf_write.proofs.Forms.{no_table, no_text, relocs_of_new}
 use Rattle.elf_write.proofs.Links.{length-sections, section-at, symbol_count-output}
 use Rattle.elf_write.proofs.Numbers.{reloc-same}
 use Rattle.elf_write.proofs.Parts.{part, part-part}

@@ -1,5 +1,5 @@
 -- The file that is written is that of the object with the new sections.
-use Rattle.std.proofs.Common.{◌≡◌, ℕ, ◌+◌, ◌-◌, ◌*◌, ◌<◌, ◌≤◌, ◌^◌, List, [], ◌∷◌, length, take, drop, map, refl, sym, ap, subst, ◌∙◌, arith, length-drop}
+use Rattle.std.proofs.Common.{◌≡◌, ℕ, ◌+◌, ◌-◌, ◌*◌, ◌<◌, ◌≤◌, ◌^◌, List, [], ◌∷◌, length, take, drop, refl, sym, ap, subst, ◌∙◌, arith, length-drop}
 use Rattle.std.proofs.lemmas.List.{length-take-le}
 use Rattle.std.specs.Prelude.{All, slice_range}
 use Rattle.elf_objects.specs.Contents.{elf_of, section_at}
@@ -7,7 +7,7 @@ use Rattle.elf_objects.specs.Elf.{Elf}
 use Rattle.elf_objects.specs.File.{section_count}
 use Rattle.elf_objects.specs.Object.{IsObject, IsWellFormed}
 use Rattle.elf_write.specs.Added.{CanAdd, HasFields, extended_as, object_with}
-use Rattle.elf_write.specs.Layout.{NewEntry, Input, appended, extended}
+use Rattle.elf_write.specs.Layout.{NewEntry, Input, extended}
 use Rattle.elf_write.specs.Object.{appended_to, input_of_object}
 use Rattle.elf_write.proofs.Cases.{named}
 use Rattle.elf_write.proofs.Facts.{output}

@@ -1,38 +1,27 @@
 -- What the object with the new sections says.
-use Rattle.std.proofs.Common.{◌≡◌, ◌≢◌, ◌⊎◌, inl, inr, ℕ, zero, suc, ◌+◌, ◌-◌, ◌*◌, ◌/◌, ◌<◌, ◌≤◌, List, [], ◌∷◌, ◌++◌, length, take, drop, get_or, map, Bool, true, false, Option, Some, None, eqb, cond, refl, sym, ap, subst, ◌∙◌, arith, length-append}
-use Rattle.std.specs.Prelude.{All, slice_get, slice_range, ◌&&◌}
-use Rattle.std.specs.List.{enumerate_from, find, position_or_len, range_with_len}
-use Rattle.std.proofs.lemmas.Bool.{cases_eq, cases_lt, ne_eqb}
+use Rattle.std.proofs.Common.{◌≡◌, ◌≢◌, inl, inr, ℕ, zero, suc, ◌+◌, ◌-◌, ◌*◌, ◌<◌, List, [], ◌∷◌, ◌++◌, length, take, get_or, map, refl, sym, ap, ◌∙◌, arith}
+use Rattle.std.specs.Prelude.{All}
+use Rattle.std.specs.List.{range_with_len}
+use Rattle.std.proofs.lemmas.Bool.{cases_eq}
 use Rattle.std.proofs.lemmas.Bool.Decides.{nat_tests}
-use Rattle.std.proofs.lemmas.List.{get_or-append_right, get_or-map, get_or_append_left, length-map}
-use Rattle.std.proofs.lemmas.List.Folds.{find_at}
-use Rattle.std.proofs.lemmas.List.FromFn.{fill_by_all, get_or-enumerate_from, get_or-map-range_with_len, length-enumerate_from, length-map-range_with_len}
-use Rattle.std.proofs.lemmas.List.Sums.{fails_before_first, passes_at_first}
-use Rattle.std.proofs.lemmas.Option.{slice_get-get_or, slice_get_past}
-use Rattle.elf_objects.specs.Below.{least_below}
-use Rattle.elf_objects.specs.Contents.{elf_of, entry_of_header, no_section, relocs_of, section_at, section_entry, symbol_entry}
-use Rattle.elf_objects.specs.Elf.{Elf, SectionEntry, SymbolEntry}
+use Rattle.std.proofs.lemmas.List.FromFn.{fill_by_all, get_or-map-range_with_len, length-map-range_with_len}
+use Rattle.elf_objects.specs.Contents.{elf_of, entry_of_header, no_section, section_at, section_entry}
+use Rattle.elf_objects.specs.Elf.{SectionEntry}
 use Rattle.elf_objects.specs.File.{headers_at, name_table, section_count, section_header}
 use Rattle.elf_objects.specs.Header.{has_body}
-use Rattle.elf_objects.specs.Kind.{sht_null, sht_nobits, sht_strtab, sht_rela}
+use Rattle.elf_objects.specs.Kind.{sht_null}
 use Rattle.elf_objects.specs.Object.{IsWellFormed}
-use Rattle.elf_objects.specs.Table.{body_of, header_of, is_rela_of, name_header, raw_symbol, rela_of, reloc_at, reloc_of, string_at, string_header, symbol_count, symbol_header, symbol_home, symbol_table}
+use Rattle.elf_objects.specs.Table.{body_of, name_header, string_at}
 use Rattle.elf_objects.specs.declared.header.SectionHeader.{SectionHeader}
-use Rattle.elf_objects.specs.declared.symbol.RawSymbol.{RawSymbol}
-use Rattle.elf_objects.specs.declared.symbol.Reloc.{Reloc}
-use Rattle.elf_objects.proofs.LeastBelow.{least_below-some, least_below-stays, least_below-suc, none-least_below}
-use Rattle.elf_write.specs.Added.{IsAddable, IsRelocs, extended_as, extended_object, new_section, new_sections, old_section, relocs_in, relocs_with}
-use Rattle.elf_write.specs.Layout.{NewEntry, Input, aligned, all_names, bodies, end_of, extended, header_for, headers_place, long_count, names_place, new_names}
+use Rattle.elf_write.specs.Added.{IsAddable, new_section, new_sections}
+use Rattle.elf_write.specs.Layout.{NewEntry, aligned, bodies, end_of, header_for, long_count, new_names}
 use Rattle.elf_write.specs.Object.{input_of_object}
-use Rattle.elf_write.proofs.Cases.{Case, Keeps, added, case_of, first, first_kind, keeps, old, table, table_kind}
-use Rattle.elf_write.proofs.Contents.{raw_symbol-output, string-output, symbol_home-output, symbol_names}
-use Rattle.elf_write.proofs.Facts.{Output, no_entry, place_of}
-use Rattle.elf_write.proofs.Forms.{no_table, relocs_of_new}
-use Rattle.elf_write.proofs.Links.{length-sections, section-at, symbol_count-output, symbol_header-output, symbol_table-output}
+use Rattle.elf_write.proofs.Cases.{first_kind, table_kind}
+use Rattle.elf_write.proofs.Contents.{string-output}
+use Rattle.elf_write.proofs.Facts.{Output, no_entry}
+use Rattle.elf_write.proofs.Links.{length-sections, section-at}
 use Rattle.elf_write.proofs.Output.{input_at}
-use Rattle.elf_write.proofs.Parts.{part}
-use Rattle.elf_write.proofs.Relocations.{reloc-new, reloc-output}
-use Rattle.elf_write.proofs.Special.{body_none, body_of-kept, body_range, bool_cases, least_below-further, names-output, plain-output}
+use Rattle.elf_write.proofs.Special.{body_none, body_of-kept, body_range, bool_cases, names-output}
 use Rattle.elf_write.proofs.Strings.{string_at-new}
 
 -- two functions that agree give the same list

@@ -1,7 +1,7 @@
 -- How long a layout is.
-use Rattle.std.proofs.Common.{◌≡◌, ℕ, suc, ◌+◌, ◌-◌, ◌*◌, ◌/◌, ◌<◌, ◌≤◌, List, [], ◌∷◌, ◌++◌, length, take, drop, get_or, map, replicate, refl, sym, ap, ◌∙◌, arith, length-append, length-drop}
-use Rattle.std.proofs.lemmas.List.{append_assoc, at_drop_more, length-replicate}
-use Rattle.elf_write.specs.Layout.{NewEntry, aligned, padded, laid_out, end_of, header_bytes, header_table, new_headers, new_names, bodies, encoded, written}
+use Rattle.std.proofs.Common.{◌≡◌, ℕ, suc, ◌+◌, ◌-◌, ◌*◌, ◌<◌, ◌≤◌, List, [], ◌∷◌, ◌++◌, length, drop, get_or, replicate, refl, ap, ◌∙◌, arith, length-append}
+use Rattle.std.proofs.lemmas.List.{at_drop_more, length-replicate}
+use Rattle.elf_write.specs.Layout.{NewEntry, aligned, padded, laid_out, end_of, header_bytes, header_table, new_headers, bodies}
 use Rattle.elf_objects.specs.declared.header.SectionHeader.{SectionHeader}
 use Rattle.elf_write.specs.declared.section.NewSection.{NewSection}
 use Rattle.elf_write.specs.New.{entries}

@@ -1,23 +1,22 @@
 -- The special tables of the object with the new sections are those that it had: the symbol table, the table of section
 -- numbers, the string tables.
-use Rattle.std.proofs.Common.{◌≡◌, ◌≢◌, ◌⊎◌, inl, inr, ℕ, zero, suc, ◌+◌, ◌-◌, ◌*◌, ◌/◌, ◌<◌, ◌≤◌, List, [], ◌++◌, length, take, drop, get_or, Bool, true, false, Option, Some, None, eqb, cond, refl, sym, ap, subst, ◌∙◌, arith, length-drop}
-use Rattle.std.specs.Prelude.{All, slice_index, slice_range, IsTrue}
-use Rattle.std.proofs.lemmas.Bool.{cases_eq, cases_lt, ne_eqb}
-use Rattle.std.proofs.lemmas.Bool.Decides.{nat_tests, eqb_tells}
+use Rattle.std.proofs.Common.{◌≡◌, ◌≢◌, ◌⊎◌, inl, inr, ℕ, zero, suc, ◌+◌, ◌-◌, ◌<◌, ◌≤◌, List, [], ◌++◌, length, take, drop, get_or, Bool, true, false, Option, Some, None, eqb, refl, sym, ap, ◌∙◌, arith, length-drop}
+use Rattle.std.specs.Prelude.{All, slice_index}
+use Rattle.std.proofs.lemmas.Bool.{cases_eq, ne_eqb}
+use Rattle.std.proofs.lemmas.Bool.Decides.{nat_tests}
 use Rattle.std.proofs.lemmas.List.{get_or-drop, get_or-take, length-take-le}
 use Rattle.elf_objects.specs.Below.{first_of, least_below}
 use Rattle.elf_objects.specs.File.{name_table, section_count, section_header}
-use Rattle.elf_objects.specs.Header.{has_body, null_header}
-use Rattle.elf_objects.specs.Kind.{sht_null, sht_strtab, sht_symtab, sht_symtab_shndx, sht_nobits}
+use Rattle.elf_objects.specs.Header.{has_body}
+use Rattle.elf_objects.specs.Kind.{sht_null, sht_strtab}
 use Rattle.elf_objects.specs.Object.{IsWellFormed}
 use Rattle.elf_objects.specs.Table.{body_of, first_of_kind, header_of, is_kind, name_header}
 use Rattle.elf_objects.specs.declared.header.SectionHeader.{SectionHeader}
 use Rattle.elf_objects.proofs.LeastBelow.{least_below-cong, least_below-some, least_below-suc}
-use Rattle.elf_write.specs.Layout.{NewEntry, header_for, new_names}
-use Rattle.elf_write.proofs.Cases.{Keeps, first_kind, keeps, named, table_kind}
+use Rattle.elf_write.specs.Layout.{NewEntry, new_names}
+use Rattle.elf_write.proofs.Cases.{first_kind, keeps, table_kind}
 use Rattle.elf_write.proofs.Facts.{Output, no_entry}
-use Rattle.elf_write.proofs.Numbers.{index-same}
-use Rattle.elf_write.proofs.Parts.{part, part-part}
+use Rattle.elf_write.proofs.Parts.{part}
 use Rattle.elf_write.proofs.Strings.{all_names-last, name-inside}
 
 nothing : (o : Option ℕ) → first_of o None ≡ o

@@ -1,20 +1,19 @@
 -- The section headers of the object with the new sections.
-use Rattle.std.proofs.Common.{◌≡◌, ◌≢◌, ◌⊎◌, inl, inr, ℕ, zero, suc, ◌+◌, ◌-◌, ◌*◌, ◌/◌, ◌^◌, ◌<◌, ◌≤◌, List, [], ◌∷◌, ◌++◌, length, take, drop, get_or, map, refl, sym, ap, subst, ◌∙◌, arith, length-append, length-drop}
+use Rattle.std.proofs.Common.{◌≡◌, ◌≢◌, ◌⊎◌, inl, inr, ℕ, ◌+◌, ◌*◌, ◌^◌, ◌<◌, ◌≤◌, List, [], ◌∷◌, ◌++◌, length, get_or, refl, sym, ap, subst, ◌∙◌, arith, length-append}
 use Rattle.std.proofs.lemmas.Bool.{cases_lt}
 use Rattle.std.proofs.lemmas.Bool.Decides.{nat_tests}
-use Rattle.std.proofs.lemmas.List.{append_assoc, append-nil, length-take-le}
-use Rattle.elf_objects.specs.Number.{half, word, xword}
+use Rattle.elf_objects.specs.Number.{word, xword}
 use Rattle.elf_objects.specs.Header.{header_at}
 use Rattle.elf_objects.specs.File.{headers_at, name_table, section_count, section_header}
 use Rattle.elf_objects.specs.declared.header.SectionHeader.{SectionHeader}
-use Rattle.elf_write.specs.Layout.{NewEntry, Input, added_headers, aligned, all_headers, all_names, bodies, changed_headers, changed_input, count_of, encoded, end_of, extended, header_bytes, header_for, header_table, headers_place, laid_out, long_count, names_place, new_headers, new_names, padded, pieces, short_count, written}
+use Rattle.elf_write.specs.Layout.{NewEntry, Input, added_headers, aligned, all_headers, all_names, changed_headers, changed_input, count_of, encoded, end_of, extended, header_bytes, header_table, headers_place, laid_out, long_count, names_place, padded, pieces, written}
 use Rattle.elf_write.proofs.Lists.{length-encoded, length-written}
-use Rattle.elf_write.proofs.Parts.{part, part-before, part-behind, part-inside, part-laid_out, part-left, part-part, part-right, part-whole}
+use Rattle.elf_write.proofs.Parts.{part, part-behind, part-inside, part-left, part-part, part-right, part-whole}
 use Rattle.elf_write.proofs.Numbers.{header-same, word-same, xword-same}
-use Rattle.elf_write.proofs.Sizes.{laid_out-append, length-laid_out, length-padded, length-header_bytes, length-header_table, length-new_headers}
-use Rattle.elf_write.proofs.Build.{length-changed_input, length-changed_headers, length-all_headers}
-use Rattle.elf_write.proofs.Headers.{HasRoom, header-bytes, part-header_table, get_or-new_headers}
-use Rattle.elf_write.proofs.Output.{Base, Outside, Places, count_is, headers_at-output, input_at, input_ok, length-headers, part-outside, places, xword-part}
+use Rattle.elf_write.proofs.Sizes.{laid_out-append, length-laid_out, length-padded, length-header_bytes, length-new_headers}
+use Rattle.elf_write.proofs.Build.{length-changed_input, length-changed_headers}
+use Rattle.elf_write.proofs.Headers.{HasRoom, header-bytes, part-header_table}
+use Rattle.elf_write.proofs.Output.{Base, Outside, count_is, headers_at-output, input_at, input_ok, length-headers, part-outside, places, xword-part}
 
 -- a part of the headers
 table_part : (b : List ℕ) (new : List NewEntry) (p a w : ℕ) → Base b new → p ≡ headers_place (input_at b) new + a

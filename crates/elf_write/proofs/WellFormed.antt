@@ -1,11 +1,10 @@
 -- The object with the new sections is well-formed.
-use Rattle.std.proofs.Common.{◌≡◌, ◌≢◌, ◌⊎◌, inl, inr, ℕ, ◌+◌, ◌*◌, ◌<◌, ◌≤◌, List, length, get_or, refl, sym, ap, subst, ◌∙◌, arith}
+use Rattle.std.proofs.Common.{◌≡◌, inl, inr, ℕ, ◌+◌, ◌<◌, ◌≤◌, List, length, refl, ◌∙◌, arith}
 use Rattle.std.specs.Prelude.{All, AllPairs, slice_index}
 use Rattle.elf_objects.specs.Contents.{elf_of}
-use Rattle.elf_objects.specs.File.{HasTable, IsElfRel64, headers_at, name_table, section_count, shstrndx, wrong_field}
+use Rattle.elf_objects.specs.File.{HasTable, section_count, shstrndx, wrong_field}
 use Rattle.elf_objects.specs.Number.{half, word}
 use Rattle.elf_objects.specs.Object.{IsWellFormed}
-use Rattle.elf_objects.specs.Symbols.{HasFewSymbols}
 use Rattle.elf_write.specs.Added.{AreApart, IsAddable}
 use Rattle.elf_write.specs.Layout.{NewEntry}
 use Rattle.elf_write.proofs.Contents.{symbols-output}
@@ -13,7 +12,6 @@ use Rattle.elf_write.proofs.Facts.{Output}
 use Rattle.elf_write.proofs.Forms.{forms-output}
 use Rattle.elf_write.proofs.Links.{links-output, names-output, symbol_count-output}
 use Rattle.elf_write.proofs.Numbers.{half-same, index-same, word-same}
-use Rattle.elf_write.proofs.Output.{Outside}
 use Rattle.elf_write.proofs.Placement.{bodies-output}
 use Rattle.elf_write.proofs.Relocations.{relocs-output, text-output}
 

@@ -1,5 +1,5 @@
 -- Which sections may be added to an object, and the object with them.
-use Rattle.std.specs.Prelude.{◌≡◌, ◌≢◌, ◌⊎◌, ◌<◌, ◌≤◌, ◌+◌, ◌*◌, ◌/◌, ◌%◌, ◌^◌, ◌==◌, ◌&&◌, ℕ, Bool, List, [], ◌∷◌, ◌++◌, length, map, bit_and, slice_index, slice_get, All, AllPairs, IsTrue, Option, Some, None, if◌then◌else◌}
+use Rattle.std.specs.Prelude.{◌≡◌, ◌≢◌, ◌⊎◌, ◌<◌, ◌≤◌, ◌+◌, ◌*◌, ◌/◌, ◌%◌, ◌^◌, ◌==◌, ◌&&◌, ℕ, List, [], ◌∷◌, ◌++◌, length, map, bit_and, slice_index, All, AllPairs, Option, Some, None, if◌then◌else◌}
 use Rattle.std.specs.List.{enumerate_from, find, range_with_len}
 use Rattle.elf_objects.specs.declared.symbol.Reloc.{Reloc}
 use Rattle.elf_objects.specs.Contents.{relocs_at}
@@ -8,7 +8,7 @@ use Rattle.elf_objects.specs.Kind.{sht_null, sht_progbits, sht_symtab, sht_strta
 use Rattle.elf_objects.specs.Sections.{link_of}
 use Rattle.elf_objects.specs.Symbols.{IsRelocOf}
 use Rattle.elf_objects.specs.Table.{reloc_at}
-use Rattle.elf_write.specs.Layout.{NewEntry, Input, aligned, all_names, appended, end_of, extended, headers_place, long_count, names_place}
+use Rattle.elf_write.specs.Layout.{NewEntry, Input, aligned, all_names, end_of, extended, headers_place, long_count, names_place}
 use Rattle.elf_write.specs.Object.{appended_to, input_of_object}
 
 -- Which sections may be added.
@@ -72,8 +72,9 @@ pub record CanAdd (o : Elf) (new : List NewEntry) : Type 0 where
 
 -- The object with the new sections.
 
--- an old section with its index, where there are `count` sections with the new ones: the name table is longer and stands
--- elsewhere, and the size of section 0 tells how many sections there are where they are many
+-- an old section with its index, where there are `count` sections with the new ones: the name table
+-- is longer and stands elsewhere, and the size of section 0 tells how many sections there are where
+-- they are many
 abbrev pub old_section : Input → ℕ → List NewEntry → ℕ × SectionEntry → SectionEntry
 old_section i count new (k, s) =
     if k == 0 then record s { size = long_count count }
@@ -101,7 +102,8 @@ abbrev pub new_sections : ℕ → List NewEntry → List SectionEntry
 new_sections at [] = []
 new_sections at (e ∷ new) = new_section (aligned at) e ∷ new_sections (aligned at + length e.body) new
 
--- the relocations of the section with a number: those that a new section has for it, or those that it had
+-- the relocations of the section with a number: those that a new section has for it, or those that
+-- it had
 abbrev pub relocs_with : Elf → List NewEntry → ℕ → List Reloc
 relocs_with o new k = chosen (find (λ e. (e.kind == sht_rela) && (e.info == k)) new) where
   chosen : Option NewEntry → List Reloc

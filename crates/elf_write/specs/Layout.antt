@@ -1,11 +1,13 @@
--- The layout of an object to which sections are added: what was there stays where it is, and the new pieces stand
--- behind it, each at the next multiple of 8 (ELF-64 gABI: ELF header, section header table, string table).
+-- The layout of an object to which sections are added: what was there stays where it is, and the
+-- new pieces stand behind it, each at the next multiple of 8 (ELF-64 gABI: ELF header, section
+-- header table, string table).
 use Rattle.std.specs.Prelude.{ℕ, ◌+◌, ◌-◌, ◌*◌, ◌/◌, List, [], ◌∷◌, ◌++◌, length, take, drop, map, replicate, nat_lt, if◌then◌else◌}
 use Rattle.std.specs.List.{flat_map}
 use Rattle.byteorder.specs.Endian.{little_bytes}
 use Rattle.elf_objects.specs.declared.header.SectionHeader.{SectionHeader}
 
--- a section to add: what its header says of it, its name without the zero byte that ends it, and its body
+-- a section to add: what its header says of it, its name without the zero byte that ends it, and
+-- its body
 pub record NewEntry : Type 0 where
   pub name : List ℕ
   pub kind : ℕ
@@ -16,8 +18,8 @@ pub record NewEntry : Type 0 where
   pub entsize : ℕ
   pub body : List ℕ
 
--- what a writer has to know of the input: its bytes, its section headers as they stand there, which of the sections
--- is the name table, and that section's body
+-- what a writer has to know of the input: its bytes, its section headers as they stand there, which
+-- of the sections is the name table, and that section's body
 pub record Input : Type 0 where
   pub bytes : List ℕ
   pub headers : List ℕ
@@ -63,7 +65,8 @@ new_names new = flat_map (λ e. e.name ++ 0 ∷ []) new
 abbrev pub bodies : List NewEntry → List (List ℕ)
 bodies new = map (λ e. e.body) new
 
--- the header of a new section whose name begins at `name` in the name table and whose body begins at `place`
+-- the header of a new section whose name begins at `name` in the name table and whose body begins
+-- at `place`
 abbrev pub header_for : ℕ → ℕ → NewEntry → SectionHeader
 header_for name place e = record {
   name = name;
@@ -78,7 +81,8 @@ header_for name place e = record {
   entsize = e.entsize;
 }
 
--- the headers of the new sections, where their names begin at `name` in the name table and what stands before them ends at `at`
+-- the headers of the new sections, where their names begin at `name` in the name table and what
+-- stands before them ends at `at`
 abbrev pub new_headers : ℕ → ℕ → List NewEntry → List SectionHeader
 new_headers name at [] = []
 new_headers name at (e ∷ new) =
@@ -92,8 +96,8 @@ header_table headers = flat_map header_bytes headers
 abbrev pub count_of : Input → List NewEntry → ℕ
 count_of i new = length i.headers / 64 + length new
 
--- From 0xFF00 sections on the file header says 0, and the size of header 0 is their number; below it is the other way
--- round (ELF-64 gABI, e_shnum).
+-- From 0xFF00 sections on the file header says 0, and the size of header 0 is their number; below
+-- it is the other way round (ELF-64 gABI, e_shnum).
 abbrev pub short_count : ℕ → ℕ
 short_count n = if nat_lt n 0xFF00 then n else 0
 
@@ -115,12 +119,14 @@ names_place i = aligned (length i.bytes)
 abbrev pub headers_place : Input → List NewEntry → ℕ
 headers_place i new = aligned (end_of (length i.bytes) (pieces i new))
 
--- the input, with the headers' place and number in its file header: e_shoff is the 8 bytes at 40, e_shnum the 2 at 60
+-- the input, with the headers' place and number in its file header: e_shoff is the 8 bytes at 40,
+-- e_shnum the 2 at 60
 abbrev pub changed_input : Input → List NewEntry → List ℕ
 changed_input i new =
     written 40 (encoded 8 (headers_place i new)) (written 60 (encoded 2 (short_count (count_of i new))) i.bytes)
 
--- the old headers: sh_size, the 8 bytes at 32, of header 0, and sh_offset and sh_size, at 24, of the name table's header
+-- the old headers: sh_size, the 8 bytes at 32, of header 0, and sh_offset and sh_size, at 24, of
+-- the name table's header
 abbrev pub changed_headers : Input → List NewEntry → List ℕ
 changed_headers i new =
     written 32 (encoded 8 (long_count (count_of i new)))

@@ -10,7 +10,8 @@ use crate::section::NewSection;
 use ot_base::NoMemory;
 use std::alloc::Global;
 
-/// The number of sections from which on the file header says 0 and header 0 says it (ELF-64 gABI, SHN_LORESERVE).
+/// The number of sections from which on the file header says 0 and header 0 says it (ELF-64 gABI,
+/// SHN_LORESERVE).
 const MANY: usize = 0xFF00;
 
 /// What the writer has to know of the input.
@@ -67,7 +68,8 @@ fn push_input(
     count: usize,
 ) -> Result<(), NoMemory>
     requires { 64 ≤ length bytes.now }
-    ensures { OnOk result (out.new.items ≡ out.old.items ++ written 40 (encoded 8 headers_at) (written 60 (encoded 2 (short_count count)) bytes.now)) }
+    ensures { let counted = written 60 (encoded 2 (short_count count)) bytes.now in
+        OnOk result (out.new.items ≡ out.old.items ++ written 40 (encoded 8 headers_at) counted) }
 {
     let short = if count < MANY { count as u16 } else { 0 };
     push_part(out, bytes, 0, 40)?;
@@ -78,8 +80,8 @@ fn push_input(
     Ok(())
 }
 
-/// Adds the old headers: header 0 names the number of sections where they are many, the name table's header its new
-/// place and size.
+/// Adds the old headers: header 0 names the number of sections where they are many, the name
+/// table's header its new place and size.
 fn push_old_headers(
     out: &mut Vec<u8>,
     input: &Input<'_>,
@@ -89,7 +91,9 @@ fn push_old_headers(
 ) -> Result<(), NoMemory>
     requires named { 1 ≤ input.now.name_table }
     requires in_table { 64 * input.now.name_table + 64 ≤ length input.now.headers.now }
-    ensures { OnOk result (out.new.items ≡ out.old.items ++ written 32 (encoded 8 (long_count count)) (written (64 * input.now.name_table + 24) (encoded 8 names_at ++ encoded 8 names_size) input.now.headers.now)) }
+    ensures { let place = 64 * input.now.name_table + 24 in
+        let moved = written place (encoded 8 names_at ++ encoded 8 names_size) input.now.headers.now in
+        OnOk result (out.new.items ≡ out.old.items ++ written 32 (encoded 8 (long_count count)) moved) }
 {
     let long = if count < MANY { 0 } else { count as u64 };
     let headers = input.headers;

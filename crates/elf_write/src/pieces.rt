@@ -56,8 +56,8 @@ pub(crate) fn push_bodies(out: &mut Vec<u8>, new: &[NewSection]) -> Result<(), N
     Ok(())
 }
 
-/// Adds the headers of the new sections, whose names begin at `name` in the name table and whose bodies are laid out
-/// behind `at` bytes.
+/// Adds the headers of the new sections, whose names begin at `name` in the name table and whose
+/// bodies are laid out behind `at` bytes.
 pub(crate) fn push_new_headers(
     out: &mut Vec<u8>,
     name: usize,
@@ -66,7 +66,8 @@ pub(crate) fn push_new_headers(
 ) -> Result<(), NoMemory>
     requires names { name + length (new_names (entries new.now)) < 2 ^ 32 }
     requires bodies { end_of at (bodies (entries new.now)) < 2 ^ 32 }
-    ensures { OnOk result (out.new.items ≡ out.old.items ++ header_table (new_headers name at (entries new.now))) }
+    ensures { let headers = new_headers name at (entries new.now) in
+        OnOk result (out.new.items ≡ out.old.items ++ header_table headers) }
 {
     let mut name = name;
     let mut at = at;

@@ -9,8 +9,8 @@ use ot_base::NoMemory;
 use std::alloc::{AllocError, Global};
 use std::test::Fail;
 
-/// The function `55 48 89 E5 5D C3`: the file header, `.text` at 64, `.symtab` at 72, `.strtab` at 144, `.shstrtab` at 148
-/// and the section headers at 184.
+/// The function `55 48 89 E5 5D C3`: the file header, `.text` at 64, `.symtab` at 72, `.strtab` at
+/// 144, `.shstrtab` at 148 and the section headers at 184.
 const OBJECT: [u8; 504] = [
     0x7f, 0x45, 0x4c, 0x46, 0x02, 0x01, 0x01, 0x00, 0x00, 0x00, 0x00, 0x00, 0x00, 0x00, 0x00, 0x00,
     0x01, 0x00, 0x3e, 0x00, 0x01, 0x00, 0x00, 0x00, 0x00, 0x00, 0x00, 0x00, 0x00, 0x00, 0x00, 0x00,
@@ -55,7 +55,16 @@ fn section(
     byte: u8,
     size: usize,
 ) -> Result<NewSection, AllocError>
-    ensures { IfOk result (λ s. entry_of s ≡ record { name = name.now; kind = 1; flags = 2; link = 2; info = 6; align = align; entsize = entsize; body = replicate size byte }) }
+    ensures { IfOk result (λ s. entry_of s ≡ record {
+      name = name.now;
+      kind = 1;
+      flags = 2;
+      link = 2;
+      info = 6;
+      align = align;
+      entsize = entsize;
+      body = replicate size byte;
+    }) }
 {
     Ok(NewSection {
         name: Vec::from_slice(alloc, name)?,
@@ -144,7 +153,8 @@ const KEPT: [(usize, usize, usize); 6] = [
     (1056, 480, 24),
 ];
 
-/// The rows, where the second and the third body begin, the low byte of e_shoff, and the size of the result.
+/// The rows, where the second and the third body begin, the low byte of e_shoff, and the size of
+/// the result.
 const PLACES: [(usize, usize, usize, u8, usize); 2] = [
     (5, 616, 640, 0xf8, 1272),
     (4, 608, 624, 0xd0, 1232),

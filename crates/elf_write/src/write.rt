@@ -12,19 +12,21 @@ use elf_objects::Object;
 use ot_base::NoMemory;
 use std::alloc::Global;
 
-/// The file of an object with new sections behind it (ELF-64 gABI: ELF header, section header table, string table).
+/// The file of an object with new sections behind it (ELF-64 gABI: ELF header, section header
+/// table, string table).
 ///
-/// What stands in the file stays where it is, but for `e_shoff` and `e_shnum`. Behind it stand, each at the next multiple
-/// of 8 and with zeros in the gaps, the name table with the new names, the new bodies, and the section header table.
-/// Where there are 0xFF00 sections or more, `e_shnum` is 0 and `sh_size` of header 0 is their number. With no new section
-/// the result is the file as it is.
+/// What stands in the file stays where it is, but for `e_shoff` and `e_shnum`. Behind it stand,
+/// each at the next multiple of 8 and with zeros in the gaps, the name table with the new names,
+/// the new bodies, and the section header table. Where there are 0xFF00 sections or more, `e_shnum`
+/// is 0 and `sh_size` of header 0 is their number. With no new section the result is the file as it
+/// is.
 ///
 /// The result is a well-formed object. It says what the object said, and what the new sections say.
 ///
-/// A new section may be of any type but a symbol table, a string table, a group, a table of section numbers, or REL; it
-/// holds no code; and where it holds relocations, then for a section that has none, by symbols of the object, each field
-/// inside the section. `CanAdd` says all of this. The sections are then at most 262,144, and the result is shorter than
-/// 2^32 bytes.
+/// A new section may be of any type but a symbol table, a string table, a group, a table of section
+/// numbers, or REL; it holds no code; and where it holds relocations, then for a section that has
+/// none, by symbols of the object, each field inside the section. `CanAdd` says all of this. The
+/// sections are then at most 262,144, and the result is shorter than 2^32 bytes.
 ///
 /// # Errors
 ///

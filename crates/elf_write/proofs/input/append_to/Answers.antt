@@ -1,11 +1,10 @@
-use Rattle.std.proofs.Common.{◌≡◌, ℕ, ◌+◌, ◌-◌, ◌*◌, ◌/◌, ◌++◌, ◌<◌, ◌≤◌, ◌^◌, List, [], ◌∷◌, length, refl, sym, ◌∙◌, ap, arith, length-append}
+use Rattle.std.proofs.Common.{◌≡◌, ℕ, ◌+◌, ◌*◌, ◌/◌, ◌++◌, ◌<◌, ◌≤◌, ◌^◌, List, length, refl, sym, ◌∙◌, ap, arith, length-append}
 use Rattle.std.proofs.lemmas.Bool.Decides.{nat_tests}
 use Rattle.std.proofs.lemmas.List.{length-map}
 use Rattle.elf_write.specs.declared.section.NewSection.{NewSection}
-use Rattle.elf_write.specs.Layout.{NewEntry, Input, all_names, appended, aligned, bodies, changed_headers, changed_input, encoded, end_of, count_of, pieces, headers_place, long_count, names_place, added_headers, header_table, new_names, padded, short_count, written}
+use Rattle.elf_write.specs.Layout.{NewEntry, Input, all_names, appended, aligned, bodies, changed_headers, changed_input, end_of, count_of, pieces, headers_place, names_place, added_headers, header_table, new_names}
 use Rattle.elf_write.specs.New.{entries, entry_of, input_of}
 use Rattle.elf_write.proofs.Build.{IsInput, Fit, fit, built, appended-some, names_built}
-use Rattle.elf_write.proofs.Sizes.{length-padded}
 use Rattle.elf_write.proofs.input.append_to.Goals as goal
 
 -- what follows from the size of the result

@@ -1,7 +1,5 @@
-use Rattle.std.proofs.Common.{◌≡◌, ◌∷◌, List, drop, arith, ap, sym, ◌∙◌}
-use Rattle.std.proofs.lemmas.List.{at_drop_more}
-use Rattle.elf_write.specs.declared.section.NewSection.{NewSection}
-use Rattle.elf_write.specs.Layout.{aligned, bodies, end_of}
+use Rattle.std.proofs.Common.{drop, arith}
+use Rattle.elf_write.specs.Layout.{bodies}
 use Rattle.elf_write.specs.New.{entries}
 use Rattle.elf_write.proofs.Sizes.{le-end_of, step_within}
 use Rattle.elf_write.proofs.pieces.end_of_bodies.Goals as goal

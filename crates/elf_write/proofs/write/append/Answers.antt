@@ -1,4 +1,4 @@
-use Rattle.std.proofs.Common.{rules, ◌≡◌, ℕ, ◌+◌, ◌*◌, List, length, refl, sym, ap, ◌∙◌, subst, arith}
+use Rattle.std.proofs.Common.{◌≡◌, ℕ, ◌+◌, ◌*◌, List, length, refl, sym, ap, ◌∙◌, subst, arith}
 use Rattle.std.specs.Prelude.{slice_range}
 use Rattle.std.proofs.lemmas.Result.{IfOk-weaker}
 use Rattle.elf_objects.specs.Contents.{section_at}
@@ -6,9 +6,9 @@ use Rattle.elf_objects.specs.Elf.{Elf, SectionEntry}
 use Rattle.elf_objects.specs.Object.{IsObject}
 use Rattle.elf_write.specs.Added.{object_with}
 use Rattle.elf_write.specs.Layout.{Input, NewEntry, appended}
-use Rattle.elf_write.specs.New.{entries, input_of}
-use Rattle.elf_write.specs.Object.{appended_to, input_of_object}
-use Rattle.elf_write.proofs.Result.{Holds, appended-is_object, holds, input_from, length-headers_of}
+use Rattle.elf_write.specs.New.{entries}
+use Rattle.elf_write.specs.Object.{input_of_object}
+use Rattle.elf_write.proofs.Result.{Holds, appended-is_object, holds, input_from}
 use Rattle.elf_write.proofs.write.append.Goals as goal
 
 pub headers-requires : goal.headers-requires
