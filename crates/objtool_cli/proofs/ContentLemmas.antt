@@ -1,0 +1,65 @@
+-- What other names hold after one name is written.
+use Rattle.std.proofs.Common.{◌≡◌, ◌≢◌, ℕ, Bool, true, false, cond, List, Option, None, Some, bytes_eq, sym, ap, subst, ◌∙◌, refl, length, nat_lt}
+use Rattle.std.specs.Prelude.{Result, Ok, Err}
+use Rattle.std.proofs.lemmas.Slice.Eq.{bytes_eq-Decides}
+use Rattle.std.proofs.lemmas.Map.Text.{is_eq-slice_cmp}
+use Rattle.std.specs.Ordering.{nat_cmp, eq_by_cmp}
+use Rattle.std.specs.Cmp.Lexicographic.{slice_cmp, nat_list_cmp_total}
+use Rattle.std.specs.FinMap.{get, insert, get-insert}
+use Rattle.ot_files.specs.Content.{Content, reading_of, writing}
+use Rattle.ot_files.specs.declared.access.FileError.{FileError}
+use Rattle.ot_files.specs.declared.access.FileError.TheVariants.{TooLong}
+use Rattle.objtool_cli.specs.declared.check.TheConstants.{MOST_BYTES}
+use Rattle.objtool_cli.specs.Checked.{Accepts}
+use Rattle.objtool_cli.specs.Command.{IsDone, MayRead, Outside}
+use Rattle.objtool_cli.specs.Unwinding.{OutUnwinds, Unwinds}
+
+not_same : (a b : List ℕ) → a ≢ b → eq_by_cmp (slice_cmp nat_cmp) a b ≡ false
+not_same a b differs = is_eq-slice_cmp a b ∙ decided (bytes_eq a b) (bytes_eq-Decides a b).0
+  where
+    decided : (r : Bool) → (r ≡ true → a ≡ b) → r ≡ false
+    decided true h = absurd (differs (h refl))
+    decided false h = refl
+
+pub get-insert_other : (content : Content) (name bytes : List ℕ) (other : List ℕ) → other ≢ name → get (insert content name bytes) other ≡ get content other
+get-insert_other content name bytes other differs =
+    get-insert nat_list_cmp_total content name bytes other ∙ ap (λ b. cond b (Some bytes) (get content other)) (not_same other name differs)
+
+same_as_itself : (a : List ℕ) → eq_by_cmp (slice_cmp nat_cmp) a a ≡ true
+same_as_itself a = is_eq-slice_cmp a a ∙ (bytes_eq-Decides a a).1 refl
+
+-- what the name that was written holds
+pub get-insert_same : (content : Content) (name bytes : List ℕ) → get (insert content name bytes) name ≡ Some bytes
+get-insert_same content name bytes =
+    get-insert nat_list_cmp_total content name bytes name ∙ ap (λ b. cond b (Some bytes) (get content name)) (same_as_itself name)
+
+-- what was read of a name is what it holds
+pub reading_is : (limit : ℕ) (held : Option (List ℕ)) (bytes read : List ℕ) → Ok bytes ≡ reading_of held limit → held ≡ Some read → bytes ≡ read
+reading_is limit held bytes read is there = within (nat_lt limit (length read)) (is ∙ ap (λ o. reading_of o limit) there)
+  where
+    within : (b : Bool) → ◌≡◌ {A = Result (List ℕ) FileError} (Ok bytes) (cond b (Err (TooLong limit)) (Ok read)) → bytes ≡ read
+    within true e = let u : ◌≡◌ {A = Result (List ℕ) FileError} (Ok bytes) (Err (TooLong limit)) = e in cc
+    within false e = let u : ◌≡◌ {A = Result (List ℕ) FileError} (Ok bytes) (Ok read) = e in cc
+
+-- the bytes that are written unwind those that were read
+pub out_unwinds : (input output bytes table : List ℕ) (before after : Option Content) → MayRead before input (Ok bytes) → after ≡ writing before output table → Unwinds bytes table → OutUnwinds input output before after
+out_unwinds input output bytes table None after may e h = tt
+out_unwinds input output bytes table (Some content) after may e h =
+    subst (λ (c : Option Content). OutUnwinds input output (Some content) c) (sym e) (λ read written was is.
+    let same = reading_is MOST_BYTES (get content input) bytes read may was in
+    let left : ◌≡◌ {A = Option (List ℕ)} (Some table) (Some written) = sym (get-insert_same content output table) ∙ is in
+    subst (λ (b : List ℕ). Unwinds b written) same (subst (λ (b : List ℕ). Unwinds bytes b) (some_of left) h))
+  where
+    some_of : {a b : List ℕ} → ◌≡◌ {A = Option (List ℕ)} (Some a) (Some b) → a ≡ b
+    some_of e = cc
+
+-- what stands where the command is done
+pub is_done : (input output bytes table : List ℕ) (before after : Outside) → MayRead before.content input (Ok bytes) → Accepts bytes table → Unwinds bytes table → after.content ≡ writing before.content output table → IsDone input output before after
+is_done input output bytes table before after may accepted unwinds e = record {
+  read = Ok bytes;
+  may = may;
+  table = table;
+  wanted = accepted;
+  written = e;
+  unwinds = out_unwinds input output bytes table before.content after.content may e unwinds;
+}

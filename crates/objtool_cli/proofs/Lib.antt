@@ -1,0 +1,9 @@
+pub mod CommandLemmas
+pub mod TellLemmas
+pub mod TextsLemmas
+pub mod ContentLemmas
+pub mod FormLemmas
+pub mod LeafLemmas
+pub mod EndsLemmas
+pub mod ParseLemmas
+pub mod UnwindingLemmas

@@ -1,0 +1,25 @@
+-- What a command tells of bytes that are no object.
+use Rattle.std.proofs.Common.{◌≡◌, ℕ, List, inl, inr}
+use Rattle.std.specs.Prelude.{◌≢◌, ◌⊎◌}
+use Rattle.elf_objects.specs.Object.{FirstFault, Refuses}
+use Rattle.elf_objects.specs.declared.fault.ElfFault.{ElfFault}
+use Rattle.elf_objects.specs.declared.fault.ElfFault.TheVariants.{Short, NotElfRel64, BadTable, BadRange, BadName, BadLink, BadSymbol, BadReloc, TooMany, NoMemory}
+use Rattle.objtool_cli.specs.Checked.{malformed}
+use Rattle.objtool_cli.specs.Command.{IsRefusal, parse_stop}
+
+-- a refusal is a fault where it isn't want of memory
+fault_of : (bytes : List ℕ) (e : ElfFault) → Refuses (FirstFault bytes) e → e ≢ NoMemory → FirstFault bytes e
+fault_of bytes e (inl none) other = absurd (other none)
+fault_of bytes e (inr fault) other = fault
+
+pub parse_refusal : (bytes : List ℕ) (e : ElfFault) → Refuses (FirstFault bytes) e → IsRefusal bytes (parse_stop e)
+parse_refusal bytes (Short need have) h = malformed (fault_of bytes _ h (λ x. cc))
+parse_refusal bytes (NotElfRel64 at) h = malformed (fault_of bytes _ h (λ x. cc))
+parse_refusal bytes (BadTable sec) h = malformed (fault_of bytes _ h (λ x. cc))
+parse_refusal bytes (BadRange sec) h = malformed (fault_of bytes _ h (λ x. cc))
+parse_refusal bytes (BadName what index) h = malformed (fault_of bytes _ h (λ x. cc))
+parse_refusal bytes (BadLink sec) h = malformed (fault_of bytes _ h (λ x. cc))
+parse_refusal bytes (BadSymbol sym) h = malformed (fault_of bytes _ h (λ x. cc))
+parse_refusal bytes (BadReloc sec index) h = malformed (fault_of bytes _ h (λ x. cc))
+parse_refusal bytes (TooMany what count) h = malformed (fault_of bytes _ h (λ x. cc))
+parse_refusal bytes NoMemory h = tt

@@ -1,0 +1,23 @@
+use Rattle.objtool_cli.proofs.EndsLemmas.{file_fault, others, out_unwinds, sink_fault, tells_nothing, unchanged, without_warnings}
+use Rattle.objtool_cli.proofs.command.run.Goals as goal
+
+pub returns-clause-file_fault : goal.returns-clause-file_fault
+returns-clause-file_fault g c e = file_fault _ _ _ _ _ _ c.dispatch.ensures.ends e
+
+pub returns-clause-sink_fault : goal.returns-clause-sink_fault
+returns-clause-sink_fault g c e = sink_fault _ _ _ _ _ _ c.dispatch.ensures.ends e
+
+pub returns-clause-unchanged : goal.returns-clause-unchanged
+returns-clause-unchanged g c d f m = unchanged _ _ _ _ _ _ c.dispatch.ensures.ends d f m
+
+pub returns-clause-others : goal.returns-clause-others
+returns-clause-others g c input output e = others _ _ _ _ _ _ input output c.dispatch.ensures.ends e
+
+pub returns-clause-silent : goal.returns-clause-silent
+returns-clause-silent g c e = tells_nothing _ _ _ _ _ _ c.dispatch.ensures.ends e
+
+pub returns-clause-no_warnings : goal.returns-clause-no_warnings
+returns-clause-no_warnings g c = without_warnings _ _ _ _ _ _ c.dispatch.ensures.ends
+
+pub returns-clause-unwinds : goal.returns-clause-unwinds
+returns-clause-unwinds g c input output e n = out_unwinds _ _ _ _ _ _ input output c.dispatch.ensures.ends e n

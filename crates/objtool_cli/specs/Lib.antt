@@ -1,0 +1,9 @@
+pub mod Leaf
+pub mod Words
+pub mod Refusal
+pub mod Stop
+pub mod Status
+pub mod Checked
+pub mod Command
+pub mod Form
+pub mod Unwinding

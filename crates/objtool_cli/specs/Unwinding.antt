@@ -1,0 +1,87 @@
+-- The unwinding theorem: wherever the code of an object is placed, and whatever it does, a walk over the tables in the bytes
+-- that are written for it finds exactly the callers that it has.
+use Rattle.std.specs.Prelude.{◌≡◌, ◌⊎◌, ⊤, ℕ, List, map, filter, Option, Some, None}
+use Rattle.std.specs.FinMap.{get}
+use Rattle.std.specs.List.{enumerate_from}
+use Rattle.ot_base.specs.declared.row.PlacedRow.{PlacedRow}
+use Rattle.ot_files.specs.Content.{Content}
+use Rattle.machine_ops.specs.declared.insn.Insn.{Insn}
+use Rattle.machine_ops.specs.declared.state.EndKind.{EndKind}
+use Rattle.machine_ops.specs.declared.state.EndKind.TheVariants as kind
+use Rattle.machine_ops.specs.Region.{word_at}
+use Rattle.stack_machine.specs.Program.{Program}
+use Rattle.stack_machine.specs.Machine.{Bases, Standing, Machine, Wrecked, At, point_address, frames, frames_end}
+use Rattle.stack_machine.specs.Run.{Run}
+use Rattle.orc_walk.specs.declared.range.Range.{Range}
+use Rattle.orc_walk.specs.declared.frame.Regs.{Regs}
+use Rattle.orc_walk.specs.declared.frame.Stop.{Stop}
+use Rattle.orc_walk.specs.declared.frame.Stop.TheVariants.{Outside, EndOfStack, Undefined, NoRow}
+use Rattle.orc_walk.specs.Placement.{TextSection, IsPlacement}
+use Rattle.orc_walk.specs.Walk.{Walks}
+use Rattle.elf_objects.specs.Contents.{is_text}
+use Rattle.elf_objects.specs.Elf.{Elf}
+use Rattle.elf_objects.specs.Object.{IsObject}
+use Rattle.orc_build.specs.Rows.{size_of}
+use Rattle.orc_bytes.specs.Sections.{HoldsOrc}
+use Rattle.straight_program.specs.Laws.{BeginAt, walk_frame}
+use Rattle.straight_program.specs.Program.{program_of}
+use Rattle.objtool_cli.specs.Form.{IsStraightLeaf}
+
+-- the text sections of an object, ascending
+abbrev pub texts_of : Elf → List TextSection
+texts_of o = map (λ e. record { sec = e.0; size = e.1.size }) (filter (λ e. is_text e.1) (enumerate_from 0 o.sections))
+
+-- The program that an object is, by the form of the object: of a straight leaf function, that of its code.
+pub data IsProgramOf (o : Elf) : Program → Type 0 where
+  straight_leaf : (sec : ℕ) (insns : List Insn) → IsStraightLeaf o sec insns → IsProgramOf o (program_of (record { sec = sec; size = size_of insns }) insns)
+
+-- The stop that belongs to how the frames end: outside the object, where they go down to the outermost one; else that of
+-- the hint that ended the stack.
+abbrev pub StopsAs : Option EndKind → Stop → Type 0
+StopsAs None stop = stop ≡ Outside
+StopsAs (Some kind.EndOfStack) stop = stop ≡ EndOfStack
+StopsAs (Some kind.Undefined) stop = (stop ≡ Undefined) ⊎ (stop ≡ NoRow)
+
+-- where the machine stands: the placed address of its point, rsp and rbp
+abbrev pub registers_of : Program → Bases → Standing → Regs
+registers_of p bases s = record { ip = point_address p bases s.point; sp = s.core.rsp; bp = s.core.rbp }
+
+-- The machine's stack isn't wrecked, and walking over the rows gives exactly the frames of its shadow call stack.
+abbrev pub WalksToFrames : Program → List PlacedRow → Bases → List Range → Machine → Type 0
+WalksToFrames p rows bases ranges Wrecked = ⊥
+WalksToFrames p rows bases ranges (At s) =
+    (stop : Stop)
+    × Walks rows ranges (λ address. word_at s.core.region address) (registers_of p bases s) (map walk_frame (frames s)) stop
+    × StopsAs (frames_end s) stop
+
+-- The bytes that are written for an object are an object whose ORC sections are exactly one list of rows; and for every
+-- placement of the text sections and every state of every run of the object's program, walking over these rows gives
+-- exactly the frames.
+pub record UnwindsBy (o : Elf) (written : List ℕ) : Type 0 where
+  pub program : Program
+  pub is_program : IsProgramOf o program
+  pub result : Elf
+  pub is_result : IsObject written result
+  pub rows : List PlacedRow
+  pub holds : HoldsOrc result rows
+  pub only : (others : List PlacedRow) → HoldsOrc result others → others ≡ rows
+  pub walks :
+      (bases : Bases) (ranges : List Range)
+      → IsPlacement (texts_of o) ranges
+      → BeginAt bases ranges
+      → (m : Machine)
+      → Run program bases m
+      → WalksToFrames program rows bases ranges m
+
+-- the same for the bytes that were read
+pub record Unwinds (read written : List ℕ) : Type 0 where
+  pub object : Elf
+  pub is_object : IsObject read object
+  pub unwinds : UnwindsBy object written
+
+-- What is said of a command that is done: where the files tell their content, the bytes that OUT holds after it unwind the
+-- object whose bytes IN held before it.
+abbrev pub OutUnwinds : List ℕ → List ℕ → Option Content → Option Content → Type 0
+OutUnwinds input output (Some before) (Some after) = (read written : List ℕ) → get before input ≡ Some read → get after output ≡ Some written → Unwinds read written
+OutUnwinds input output (Some before) None = ⊤
+OutUnwinds input output None after = ⊤

@@ -1,0 +1,130 @@
+ghost use Rattle.std.specs.Prelude.{◌≡◌, ◌≢◌, ◌≤◌, ℕ, List, Some, map, string_bytes};
+ghost use Rattle.ot_files.specs.Causes.{Rose};
+ghost use Rattle.ot_files.specs.Content.{ChangesAtMost};
+ghost use Rattle.objtool_cli.specs.Stop.{line_of};
+ghost use Rattle.objtool_cli.specs.Words.{check_of};
+ghost use Rattle.objtool_cli.specs.Unwinding.{OutUnwinds};
+ghost use Rattle.objtool_cli.specs.Command.{Concludes, Ends, Tells, ended};
+
+use crate::check::check;
+use crate::status::Status;
+use crate::stop::{Stop, StopLine};
+use crate::words::read_words;
+use ot_files::{Files, Sink, SinkError, write_line};
+use std::alloc::Global;
+
+/// The status of a command whose line was written so. A file's fault stays one.
+fn ended(status: Status, written: Result<(), SinkError>) -> Status
+    ensures { result ≡ ended status written }
+{
+    match (written, status) {
+        (Ok(()), _) => status,
+        (Err(SinkError::NoMemory), _) => Status::NoMemory,
+        (Err(SinkError::Failed), Status::FileFault) => Status::FileFault,
+        (Err(SinkError::Failed), _) => Status::SinkFault,
+    }
+}
+
+/// Writes the line of a stop, and gives the status that the command ends with.
+fn tell<S: Sink>(alloc: Global, line: StopLine<'_>, out: &mut S) -> Status
+    ensures told { Tells line.entry.stop (line_of line.entry.stop line.entry.input.now line.entry.output.now)
+        (record { written = S.written out.old; faults = S.faults out.old })
+        (record { written = S.written out.new; faults = S.faults out.new }) result }
+    ensures later { S.faults out.old ≤ S.faults out.new }
+{
+    let status = line.stop.status();
+    let Ok(text) = format!(in alloc; "{line}") else {
+        return Status::NoMemory;
+    };
+    ended(status, write_line(out, text.as_bytes()))
+}
+
+/// Tells why a command stopped, unless memory ran out, and gives the status that it ends with.
+fn conclude<S: Sink>(alloc: Global, line: StopLine<'_>, out: &mut S) -> Status
+    ensures concluded { Concludes line.entry.stop (line_of line.entry.stop line.entry.input.now line.entry.output.now)
+        (record { written = S.written out.old; faults = S.faults out.old })
+        (record { written = S.written out.new; faults = S.faults out.new }) result }
+    ensures later { S.faults out.old ≤ S.faults out.new }
+{
+    match line.stop {
+        Stop::NoMemory => Status::NoMemory,
+        _ => tell(alloc, line, out),
+    }
+}
+
+/// Runs the command that the words ask for.
+fn dispatch<F: Files, S: Sink>(
+    alloc: Global,
+    words: &[String],
+    files: &mut F,
+    out: &mut S,
+) -> Status
+    ensures ends { Ends (check_of (map string_bytes words.now))
+        (record { content = F.content files.old; faults = F.faults files.old })
+        (record { content = F.content files.new; faults = F.faults files.new })
+        (record { written = S.written out.old; faults = S.faults out.old })
+        (record { written = S.written out.new; faults = S.faults out.new }) result }
+    ensures files_later { F.faults files.old ≤ F.faults files.new }
+    ensures out_later { S.faults out.old ≤ S.faults out.new }
+{
+    let Some(names) = read_words(words) else {
+        let line = StopLine {
+            stop: Stop::Usage,
+            input: "",
+            output: "",
+        };
+        return tell(alloc, line, out);
+    };
+    match check(alloc, names, files) {
+        Ok(()) => Status::Done,
+        Err(stop) => {
+            let line = StopLine {
+                stop,
+                input: names.input,
+                output: names.output,
+            };
+            conclude(alloc, line, out)
+        }
+    }
+}
+
+/// Runs the command of these words, which are those of the command line without the program's name,
+/// over files and an output, and gives the status that it ends with.
+///
+/// `check IN OUT` reads the object IN, and writes it to OUT with its ORC tables added. Other words are
+/// a usage fault so far. Every refusal is told by one line to the output. Where the words, IN's bytes
+/// and faults of the files and of the output leave no other cause, the answer may still be want of
+/// memory.
+pub fn run<F: Files, S: Sink>(alloc: Global, words: &[String], files: &mut F, out: &mut S) -> Status
+    // What was done to the files and told to the output, and why.
+    ensures ends { Ends (check_of (map string_bytes words.now))
+        (record { content = F.content files.old; faults = F.faults files.old })
+        (record { content = F.content files.new; faults = F.faults files.new })
+        (record { written = S.written out.old; faults = S.faults out.old })
+        (record { written = S.written out.new; faults = S.faults out.new }) result }
+
+    // Where it is done and the files tell their content: for every placement of the text sections of IN and every state
+    // of every run of the stack machine on IN, walking the tables in the bytes that OUT holds gives exactly the frames of
+    // the machine's shadow call stack, innermost first, down to the outermost frame or to the first place whose unwind
+    // hint ends the stack.
+    ensures unwinds { (input output : List ℕ) → result ≡ Status.Done → check_of (map string_bytes words.now) ≡ Some (input, output)
+        → OutUnwinds input output (F.content files.old) (F.content files.new) }
+
+    // A fault is answered only where its count rose in this call, and no count falls.
+    ensures file_fault { result ≡ Status.FileFault → Rose (F.faults files.old) (F.faults files.new) }
+    ensures sink_fault { result ≡ Status.SinkFault → Rose (S.faults out.old) (S.faults out.new) }
+    ensures files_later { F.faults files.old ≤ F.faults files.new }
+    ensures out_later { S.faults out.old ≤ S.faults out.new }
+
+    // No file but OUT is changed, and OUT only at these answers.
+    ensures unchanged { result ≢ Status.Done → result ≢ Status.FileFault → result ≢ Status.NoMemory
+        → F.content files.new ≡ F.content files.old }
+    ensures others { (input output : List ℕ) → check_of (map string_bytes words.now) ≡ Some (input, output)
+        → ChangesAtMost output (F.content files.old) (F.content files.new) }
+
+    // Nothing is told where all was done, and no warning is made so far.
+    ensures silent { result ≡ Status.Done → S.written out.new ≡ S.written out.old }
+    ensures no_warnings { result ≢ Status.Warnings }
+{
+    dispatch(alloc, words, files, out)
+}

@@ -1,0 +1,169 @@
+ghost use Rattle.std.specs.Prelude.{◌≡◌, ◌↔◌, ◌<◌, true, ℕ, List, ◌∷◌, [], All, IsTrue, IfOk, IfSome, IfNone, filter, map, length, option_map};
+ghost use Rattle.machine_ops.specs.declared.insn.Insn.{Insn};
+ghost use Rattle.elf_objects.specs.Elf.{SymbolEntry};
+ghost use Rattle.elf_objects.specs.Lent.{lent_section, lent_symbol};
+ghost use Rattle.objtool_cli.specs.Form.{hint_names, is_among, is_simple, is_special, orc_names, patch_names, is_function, IsLeafAround, IsOnlyText, IsStraightLeaf};
+
+use crate::leaf::leaf_insns;
+use elf_objects::{Home, Object, Section, Symbol};
+use machine_ops::Insn;
+use orc_build::is_straight;
+use ot_base::NoMemory;
+use std::alloc::Global;
+
+/// How many sections an object may have, so that three more leave the number in its field.
+const MOST_SECTIONS: u32 = 65276;
+
+/// How many bytes an object may have.
+const MOST_BYTES: usize = 67_108_864;
+
+const SHT_RELA: u32 = 4;
+
+const SHT_GROUP: u32 = 17;
+
+const STT_FUNC: u8 = 2;
+
+/// Whether a name is that of an ORC section.
+fn is_orc_name(name: &[u8]) -> bool
+    ensures { result ≡ is_among orc_names name.now }
+{
+    name == b".orc_unwind".as_slice()
+        || name == b".orc_unwind_ip".as_slice()
+        || name == b".rela.orc_unwind_ip".as_slice()
+}
+
+/// Whether a name is that of a section that tells of alternatives, static branches or exceptions.
+fn is_patch_name(name: &[u8]) -> bool
+    ensures { result ≡ is_among patch_names name.now }
+{
+    name == b".altinstructions".as_slice()
+        || name == b"__jump_table".as_slice()
+        || name == b"__ex_table".as_slice()
+}
+
+/// Whether a name is that of a section of hints to the checker.
+fn is_hint_name(name: &[u8]) -> bool
+    ensures { result ≡ is_among hint_names name.now }
+{
+    name == b".discard.unwind_hints".as_slice()
+        || name == b".discard.reachable".as_slice()
+        || name == b".discard.unreachable".as_slice()
+        || name == b".discard.func_stack_frame_non_standard".as_slice()
+        || name == b".discard.retpoline_safe".as_slice()
+}
+
+/// Whether a name is that of a section that says more of the code, or of an ORC section.
+fn is_special(name: &[u8]) -> bool
+    ensures { result ≡ is_special name.now }
+{
+    is_patch_name(name) || is_hint_name(name) || is_orc_name(name)
+}
+
+/// Whether a section has no relocations, is no group, and has no special name.
+fn is_simple(section: &Section<'_>) -> bool
+    ensures { result ≡ is_simple (lent_section section.now) }
+{
+    !(section.kind == SHT_RELA || section.kind == SHT_GROUP || is_special(section.name))
+}
+
+/// Whether each section is simple.
+fn are_simple(object: &Object<'_>) -> bool
+    ensures { IsTrue result ↔ All (λ s. is_simple s ≡ true) object.now.sections }
+{
+    for i in 0..object.sections() {
+        if !is_simple(&object.section(i)) {
+            return false;
+        }
+    }
+    true
+}
+
+/// The one text section, where there is exactly one.
+fn only_text(object: &Object<'_>) -> Option<u32>
+    ensures found { IfSome result (IsOnlyText object.now) }
+    ensures none { IfNone result ((text : ℕ) → IsOnlyText object.now text → ⊥) }
+{
+    let mut found = None;
+    for i in 0..object.sections() {
+        if object.is_text(i) {
+            if found.is_some() {
+                return None;
+            }
+            found = Some(i);
+        }
+    }
+    found
+}
+
+/// The one function symbol, where there is exactly one.
+fn only_function<'a>(object: &Object<'a>) -> Option<Symbol<'a>>
+    ensures found { IfSome result (λ s. filter is_function object.now.symbols ≡ lent_symbol s ∷ []) }
+    ensures none { IfNone result ((s : SymbolEntry) → filter is_function object.now.symbols ≡ s ∷ [] → ⊥) }
+{
+    let mut found = None;
+    for k in 0..object.symbols() {
+        let symbol = object.symbol(k);
+        if symbol.kind == STT_FUNC {
+            if found.is_some() {
+                return None;
+            }
+            found = Some(symbol);
+        }
+    }
+    found
+}
+
+/// The code of an object that is one straight leaf function.
+#[derive(Debug, Drop)]
+pub struct LeafCode {
+    /// The number of its text section.
+    pub sec: u32,
+    /// Its instructions, in order.
+    pub insns: Vec<Insn>,
+}
+
+/// Whether a symbol covers exactly a section: it is defined at its beginning, and has its size.
+fn covers(symbol: &Symbol<'_>, sec: u32, size: u64) -> bool
+    ensures { IsTrue result ↔ ((symbol.now.home ≡ Home.Section sec) × (symbol.now.value ≡ 0) × (symbol.now.size ≡ size)) }
+{
+    symbol.home == Home::Section(sec) && symbol.value == 0 && symbol.size == size
+}
+
+/// Whether the symbols and the other sections are those of a leaf function in this text section.
+fn is_leaf_around(object: &Object<'_>, sec: u32) -> bool
+    requires { sec < length object.now.sections }
+    ensures { IsTrue result ↔ IsLeafAround object.now sec }
+{
+    if object.bytes().len() > MOST_BYTES
+        || object.sections() > MOST_SECTIONS
+        || object.section_symbol(sec).is_none()
+        || !are_simple(object)
+    {
+        return false;
+    }
+    match only_function(object) {
+        Some(function) => covers(&function, sec, object.section(sec).size),
+        None => false,
+    }
+}
+
+/// The code of the object, where it is one straight leaf function.
+pub fn straight_leaf(alloc: Global, object: &Object<'_>) -> Result<Option<LeafCode>, NoMemory>
+    ensures found { IfOk result (λ found. IfSome found (λ leaf. IsStraightLeaf object.now leaf.sec leaf.insns.items)) }
+    ensures none { IfOk result (λ found. IfNone found ((sec : ℕ) (insns : List Insn) → IsStraightLeaf object.now sec insns → ⊥)) }
+{
+    let Some(sec) = only_text(object) else {
+        return Ok(None);
+    };
+    if !is_leaf_around(object, sec) {
+        return Ok(None);
+    }
+    let Some(insns) = leaf_insns(alloc, object.section(sec).body)? else {
+        return Ok(None);
+    };
+    if is_straight(&insns) {
+        Ok(Some(LeafCode { sec, insns }))
+    } else {
+        Ok(None)
+    }
+}

@@ -1,0 +1,15 @@
+//! The command line of objtool: what the words mean, in which order a command goes, what it prints.
+#![tactic(auto)]
+
+mod check;
+mod command;
+mod fault_text;
+mod form;
+mod leaf;
+mod status;
+mod stop;
+mod tables;
+mod words;
+
+pub use command::run;
+pub use status::Status;
