@@ -149,7 +149,7 @@ others names before after out out' x input output (no_command none same t) e = l
 others names before after out out' Done input output (done i o some is same) e = subst (λ (n : List ℕ). ChangesAtMost n before.content after.content) (one_name names i o input output some e) (done_others o is.table before.content after.content is.written)
 others names before after out out' x input output (stopped i o s some stops concludes) e = subst (λ (n : List ℕ). ChangesAtMost n before.content after.content) (one_name names i o input output some e) (stop_others s i o before after stops)
 
-both_names : (names : Option (List ℕ × List ℕ)) (input output input' output' : List ℕ) → names ≡ Some (input, output) → names ≡ Some (input', output') → (input ≡ input') × (output ≡ output')
+pub both_names : (names : Option (List ℕ × List ℕ)) (input output input' output' : List ℕ) → names ≡ Some (input, output) → names ≡ Some (input', output') → (input ≡ input') × (output ≡ output')
 both_names names input output input' output' p q =
     let same : ◌≡◌ {A = Option (List ℕ × List ℕ)} (Some (input, output)) (Some (input', output')) = sym p ∙ q in
     (ap input_of same, one_name names input output input' output' p q)

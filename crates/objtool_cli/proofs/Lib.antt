@@ -6,4 +6,5 @@ pub mod FormLemmas
 pub mod LeafLemmas
 pub mod EndsLemmas
 pub mod ParseLemmas
+pub mod AcceptsLemmas
 pub mod UnwindingLemmas

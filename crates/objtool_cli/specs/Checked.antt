@@ -11,19 +11,20 @@ use Rattle.objtool_cli.specs.declared.stop.Refusal.{Refusal}
 use Rattle.objtool_cli.specs.declared.stop.Refusal.TheVariants.{Malformed, TooManySections, NotBuilt}
 use Rattle.objtool_cli.specs.Form.{IsStraightLeaf}
 
--- An input of these bytes is accepted, and OUT is to hold these: they are an object of the form that is checked, and the
--- same with the ORC sections of its rows.
+-- three more sections than this are too many
+abbrev pub most_sections : ℕ
+most_sections = 262141
+
+-- An input of these bytes is accepted, and OUT is to hold these: they are an object of the form that is checked, with
+-- no more sections than may be, and the same with the ORC sections of its rows.
 pub record Accepts (bytes table : List ℕ) : Type 0 where
   pub object : Elf
   pub is : IsObject bytes object
+  pub few : length object.sections ≤ most_sections
   pub sec : ℕ
   pub insns : List Insn
   pub form : IsStraightLeaf object sec insns
   pub added : table ≡ appended_to object (orc_sections object (straight_rows sec insns))
-
--- three more sections than this are too many
-abbrev pub most_sections : ℕ
-most_sections = 262141
 
 -- An input of these bytes is refused so: they are no object, and this is their first fault; or an object with too many
 -- sections; or one of another form.

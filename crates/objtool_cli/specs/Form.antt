@@ -56,7 +56,6 @@ pub record IsOnlyText (o : Elf) (text : ℕ) : Type 0 where
 -- function, and there is nothing else that says more of code.
 pub record IsLeafAround (o : Elf) (sec : ℕ) : Type 0 where
   pub little : length o.bytes ≤ 67108864
-  pub few : length o.sections ≤ 65276
   pub symbol : IsSome (section_symbol_of o sec)
   pub simple : All (λ s. is_simple s ≡ true) o.sections
   pub function : SymbolEntry

@@ -1,12 +1,13 @@
-ghost use Rattle.std.specs.Prelude.{◌≡◌, ◌≢◌, ◌≤◌, ℕ, List, Some, map, string_bytes};
+ghost use Rattle.std.specs.Prelude.{◌≡◌, ◌≢◌, ◌⊎◌, ◌≤◌, ℕ, List, Ok, Some, map, string_bytes};
 ghost use Rattle.ot_files.specs.Causes.{Rose};
-ghost use Rattle.ot_files.specs.Content.{ChangesAtMost};
+ghost use Rattle.ot_files.specs.Content.{ChangesAtMost, Content, reading};
+ghost use Rattle.objtool_cli.specs.Checked.{Accepts};
 ghost use Rattle.objtool_cli.specs.Stop.{line_of};
 ghost use Rattle.objtool_cli.specs.Words.{check_of};
 ghost use Rattle.objtool_cli.specs.Unwinding.{OutUnwinds};
 ghost use Rattle.objtool_cli.specs.Command.{Concludes, Ends, Tells, ended};
 
-use crate::check::check;
+use crate::check::{MOST_BYTES, check};
 use crate::status::Status;
 use crate::stop::{Stop, StopLine};
 use crate::words::read_words;
@@ -109,6 +110,11 @@ pub fn run<F: Files, S: Sink>(alloc: Global, words: &[String], files: &mut F, ou
     // hint ends the stack.
     ensures unwinds { (input output : List ℕ) → result ≡ Status.Done → check_of (map string_bytes words.now) ≡ Some (input, output)
         → OutUnwinds input output (F.content files.old) (F.content files.new) }
+
+    // An input that is accepted is refused nowhere: it is done, unless a file's fault or want of memory is answered.
+    ensures accepts { (input output read table : List ℕ) (held : Content) → check_of (map string_bytes words.now) ≡ Some (input, output)
+        → F.content files.old ≡ Some held → reading held input MOST_BYTES ≡ Ok read → Accepts read table
+        → (result ≡ Status.Done) ⊎ ((result ≡ Status.FileFault) ⊎ (result ≡ Status.NoMemory)) }
 
     // A fault is answered only where its count rose in this call, and no count falls.
     ensures file_fault { result ≡ Status.FileFault → Rose (F.faults files.old) (F.faults files.new) }

@@ -11,9 +11,6 @@ use orc_build::is_straight;
 use ot_base::NoMemory;
 use std::alloc::Global;
 
-/// How many sections an object may have, so that three more leave the number in its field.
-const MOST_SECTIONS: u32 = 65276;
-
 /// How many bytes an object may have.
 const MOST_BYTES: usize = 67_108_864;
 
@@ -135,7 +132,6 @@ fn is_leaf_around(object: &Object<'_>, sec: u32) -> bool
     ensures { IsTrue result ↔ IsLeafAround object.now sec }
 {
     if object.bytes().len() > MOST_BYTES
-        || object.sections() > MOST_SECTIONS
         || object.section_symbol(sec).is_none()
         || !are_simple(object)
     {

@@ -36,7 +36,8 @@ pub fn leaf_rows(
 
 /// The bytes of an object that is one straight leaf function with its ORC tables added.
 pub fn leaf_table(alloc: Global, object: &Object<'_>, leaf: &LeafCode) -> Result<Vec<u8>, NoMemory>
-    requires { IsStraightLeaf object.now leaf.now.sec leaf.now.insns.items }
+    requires form { IsStraightLeaf object.now leaf.now.sec leaf.now.insns.items }
+    requires few { length object.now.sections ≤ 262141 }
     ensures added { IfOk result (λ table. table.items ≡ appended_to object.now (orc_sections object.now (straight_rows leaf.now.sec leaf.now.insns.items))) }
     ensures unwinds { IfOk result (λ table. UnwindsBy object.now table.items) }
 {

@@ -21,6 +21,7 @@ pub returns-in-Ok-clause-accepted : goal.returns-in-Ok-clause-accepted
 returns-in-Ok-clause-accepted c = record {
   object = c.args.object.now;
   is = of_bytes _ _ c.bytes-bytes.ensures.value c.bytes-bytes.ensures.object;
+  few = c.requires;
   sec = c.in-Ok-Some.leaf.sec;
   insns = c.in-Ok-Some.leaf.insns.items;
   form = subst (λ found. IfSome found (λ leaf. IsStraightLeaf c.args.object.now leaf.sec leaf.insns.items)) c.in-Ok-Some.field-0-is c.in-Ok-Some.ensures.found;

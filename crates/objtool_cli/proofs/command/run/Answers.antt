@@ -1,4 +1,5 @@
 use Rattle.objtool_cli.proofs.EndsLemmas.{file_fault, others, out_unwinds, sink_fault, tells_nothing, unchanged, without_warnings}
+use Rattle.objtool_cli.proofs.AcceptsLemmas.{left}
 use Rattle.objtool_cli.proofs.command.run.Goals as goal
 
 pub returns-clause-file_fault : goal.returns-clause-file_fault
@@ -21,3 +22,6 @@ returns-clause-no_warnings g c = without_warnings _ _ _ _ _ _ c.dispatch.ensures
 
 pub returns-clause-unwinds : goal.returns-clause-unwinds
 returns-clause-unwinds g c input output e n = out_unwinds _ _ _ _ _ _ input output c.dispatch.ensures.ends e n
+
+pub returns-clause-accepts : goal.returns-clause-accepts
+returns-clause-accepts g c input output read table held n told is accepts = left _ input output read table held _ _ _ _ _ n told is accepts c.dispatch.ensures.ends
