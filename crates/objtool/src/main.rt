@@ -1,7 +1,10 @@
 //! objtool: checks how compiled kernel code uses the stack, and adds ORC unwind tables.
 #![tactic(auto)]
 
-use objtool_cli::run;
+ghost use Rattle.std.specs.Prelude.{◌≡◌};
+ghost use Rattle.objtool_cli.specs.Status.{exit_code};
+
+use objtool_cli::{Status, run};
 use ot_files::{StdFiles, StdSink};
 use std::alloc::Global;
 use std::process::ExitCode;
@@ -16,12 +19,25 @@ fn words(rt: &HostRuntime, alloc: Global) -> io::Result<Vec<String>> {
     Ok(words)
 }
 
+/// The exit status of the program.
+fn exit_code(status: Status) -> u8
+    ensures { result ≡ exit_code status }
+{
+    status.code()
+}
+
 fn main(rt: HostRuntime) -> ExitCode {
     let alloc = rt.alloc();
-    // A word that is no text is no word of a command.
-    let words = words(&rt, alloc).unwrap_or(Vec::new(alloc));
+    let words = match words(&rt, alloc) {
+        Ok(words) => words,
+        Err(error) if error.kind() == io::ErrorKind::OutOfMemory => {
+            return ExitCode::from(exit_code(Status::NoMemory));
+        }
+        // A word that is no text is no word of a command.
+        Err(_) => Vec::new(alloc),
+    };
     let mut files = StdFiles::new(&rt);
     let mut out = StdSink::new(&rt);
     let status = run(alloc, &words, &mut files, &mut out);
-    ExitCode::from(status.code())
+    ExitCode::from(exit_code(status))
 }

@@ -5,7 +5,7 @@ use Rattle.std.proofs.lemmas.List.Elements.{All-nil, All-cons}
 use Rattle.ot_base.specs.declared.row.PlacedRow.{PlacedRow}
 use Rattle.machine_ops.specs.declared.op.Op.{Op}
 use Rattle.machine_ops.specs.declared.insn.Insn.{Insn}
-use Rattle.stack_machine.specs.Program.{TextSection}
+use Rattle.stack_machine.specs.Program.{Program, TextSection}
 use Rattle.stack_machine.specs.Machine.{Bases, Machine, Wrecked, At}
 use Rattle.stack_machine.specs.Run.{Run}
 use Rattle.orc_walk.specs.declared.range.Range.{Range}
@@ -24,7 +24,7 @@ use Rattle.straight_program.specs.Program.{program_of}
 use Rattle.x86_decode.specs.Leaf.{leaf_op}
 use Rattle.objtool_cli.specs.Form.{IsStraightLeaf}
 use Rattle.objtool_cli.specs.Leaf.{in_front, leaf_insns}
-use Rattle.objtool_cli.specs.Unwinding.{StopsAs, UnwindsBy, WalksToFrames, straight_leaf, texts_of}
+use Rattle.objtool_cli.specs.Unwinding.{IsProgramOf, StopsAs, UnwindsBy, WalksToFrames, straight_leaf, texts_of}
 use Rattle.objtool_cli.proofs.TextsLemmas.{one_text}
 
 -- each instruction has a byte
@@ -56,11 +56,27 @@ placed : (o : Elf) (sec : ℕ) (insns : List Insn) (ranges : List Range) → IsS
 placed o sec insns ranges leaf size h =
     subst (λ (n : ℕ). IsPlacement (record { sec = sec; size = n } ∷ []) ranges) (sym size) (subst (λ texts. IsPlacement texts ranges) (one_text o sec leaf.text) h)
 
+-- an object is one straight leaf function
+one_form : (o : Elf) (sec other : ℕ) (insns others : List Insn) → IsStraightLeaf o sec insns → IsStraightLeaf o other others → (other ≡ sec) × (others ≡ insns)
+one_form o sec other insns others leaf second =
+    let same = leaf.text.only other second.text.inside second.text.is_code in
+    let code = subst (λ (n : ℕ). leaf_insns (section_at o n).body ≡ Some others) same second.code in
+    (same, one_value (sym code ∙ leaf.code))
+  where
+    one_value : {a b : List Insn} → ◌≡◌ {A = Option (List Insn)} (Some a) (Some b) → a ≡ b
+    one_value e = cc
+
+one_program : (o : Elf) (sec : ℕ) (insns : List Insn) → IsStraightLeaf o sec insns → (p : Program) → IsProgramOf o p → p ≡ program_of (text_of sec insns) insns
+one_program o sec insns leaf p (straight_leaf other others second is) =
+    let same = one_form o sec other insns others leaf second in
+    is ∙ ap (λ (n : ℕ). program_of (text_of n others) others) same.0 ∙ ap (λ (found : List Insn). program_of (text_of sec found) found) same.1
+
 -- the rows that are written for a straight leaf function unwind it
 pub unwinds_by : StraightUnwinds → OneListFits → (o : Elf) (sec : ℕ) (insns : List Insn) (written : List ℕ) (result : Elf) → IsStraightLeaf o sec insns → size_of insns ≡ (section_at o sec).size → IsObject written result → HoldsOrc result (straight_rows sec insns) → UnwindsBy o written
 unwinds_by law one o sec insns written result leaf size is holds = record {
   program = program_of (text_of sec insns) insns;
-  is_program = straight_leaf sec insns leaf;
+  is_program = straight_leaf sec insns leaf refl;
+  only_program = λ other is. one_program o sec insns leaf other is;
   result = result;
   is_result = is;
   rows = straight_rows sec insns;

@@ -33,7 +33,7 @@ texts_of o = map (λ e. record { sec = e.0; size = e.1.size }) (filter (λ e. is
 
 -- The program that an object is, by the form of the object: of a straight leaf function, that of its code.
 pub data IsProgramOf (o : Elf) : Program → Type 0 where
-  straight_leaf : (sec : ℕ) (insns : List Insn) → IsStraightLeaf o sec insns → IsProgramOf o (program_of (record { sec = sec; size = size_of insns }) insns)
+  straight_leaf : {p : Program} (sec : ℕ) (insns : List Insn) → IsStraightLeaf o sec insns → p ≡ program_of (record { sec = sec; size = size_of insns }) insns → IsProgramOf o p
 
 -- The stop that belongs to how the frames end: outside the object, where they go down to the outermost one; else that of
 -- the hint that ended the stack.
@@ -54,12 +54,13 @@ WalksToFrames p rows bases ranges (At s) =
     × Walks rows ranges (λ address. word_at s.core.region address) (registers_of p bases s) (map walk_frame (frames s)) stop
     × StopsAs (frames_end s) stop
 
--- The bytes that are written for an object are an object whose ORC sections are exactly one list of rows; and for every
--- placement of the text sections and every state of every run of the object's program, walking over these rows gives
--- exactly the frames.
+-- The object is exactly one program. The bytes that are written for it are an object whose ORC sections are exactly one
+-- list of rows. And for every placement of the text sections and every state of every run of the program, walking over
+-- these rows gives exactly the frames.
 pub record UnwindsBy (o : Elf) (written : List ℕ) : Type 0 where
   pub program : Program
   pub is_program : IsProgramOf o program
+  pub only_program : (other : Program) → IsProgramOf o other → other ≡ program
   pub result : Elf
   pub is_result : IsObject written result
   pub rows : List PlacedRow
