@@ -6,14 +6,19 @@
 mod form;
 mod group;
 mod one_byte;
+mod one_byte_groups;
 mod opcode_map;
 mod prefixes;
 mod shape;
 mod three_byte;
 mod two_byte;
+mod two_byte_groups;
 mod words;
 
 pub use form::{Form, Immediate, Mode, Operand, Rule, Rules};
 pub use opcode_map::{accepts_some, forms_are_apart, lookup};
 pub use prefixes::Prefixes;
 pub use shape::{Look, Shape, Write};
+
+#[cfg(test)]
+mod tests;

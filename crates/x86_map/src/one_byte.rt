@@ -50,7 +50,7 @@ const IZ: Cell = Cell::One(Form {
     immediate: Immediate::Iz,
     ..PLAIN
 });
-/// No operand, none of 66.
+/// No operand; 66 may not stand.
 const SS: Cell = Cell::One(Form {
     rules: NO_66,
     ..PLAIN
@@ -151,7 +151,7 @@ const EVI: Cell = Cell::One(Form {
     write: Write::Rm,
     ..PLAIN
 });
-/// Iw, none of 66.
+/// Iw; 66 may not stand.
 const JW: Cell = Cell::One(Form {
     immediate: Immediate::Iw,
     rules: NO_66,

@@ -16,7 +16,7 @@ const GV: Cell = Cell::One(Form {
     rules: NO_REP,
     ..PLAIN
 });
-/// No operand, none of 66.
+/// No operand; 66 may not stand.
 const SS: Cell = Cell::One(Form {
     rules: NO_REP_NO_66,
     ..PLAIN
