@@ -26,7 +26,15 @@ S
 as -o "$folder/assembled.o" "$folder/leaf.s"
 ld -r -o "$folder/leaf.o" "$folder/assembled.o"
 
-objtool() { (cd crates/objtool && rt run -- "$@"); }
+# The program as it was built last, and anew where that is older than the sources.
+built=$PWD/crates/objtool/out/objtool
+objtool() {
+    if [ -x "$built" ] && [ -z "$(find crates -path '*/out' -prune -o -name '*.rt' -newer "$built" -print -quit)" ]; then
+        "$built" "$@"
+    else
+        (cd crates/objtool && rt run -- "$@")
+    fi
+}
 objtool check "$folder/leaf.o" "$folder/checked.o"
 
 sections=$(readelf -SW "$folder/checked.o")
