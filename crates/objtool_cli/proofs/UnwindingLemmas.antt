@@ -17,6 +17,7 @@ use Rattle.elf_objects.specs.Contents.{section_at}
 use Rattle.elf_objects.specs.Object.{IsObject}
 use Rattle.orc_bytes.specs.Laws.{OneListFits}
 use Rattle.orc_bytes.specs.Sections.{HoldsOrc}
+use Rattle.orc_output.specs.OrcOutput.{with_orc_object}
 use Rattle.orc_build.specs.Rows.{size_of, straight_rows}
 use Rattle.straight_program.specs.Laws.{BeginAt, IsStraightText, StraightUnwinds}
 use Rattle.straight_program.specs.Laws as straight
@@ -72,16 +73,15 @@ one_program o sec insns leaf p (straight_leaf other others second is) =
     is ∙ ap (λ (n : ℕ). program_of (text_of n others) others) same.0 ∙ ap (λ (found : List Insn). program_of (text_of sec found) found) same.1
 
 -- the rows that are written for a straight leaf function unwind it
-pub unwinds_by : StraightUnwinds → OneListFits → (o : Elf) (sec : ℕ) (insns : List Insn) (written : List ℕ) (result : Elf) → IsStraightLeaf o sec insns → size_of insns ≡ (section_at o sec).size → IsObject written result → HoldsOrc result (straight_rows sec insns) → UnwindsBy o written
-unwinds_by law one o sec insns written result leaf size is holds = record {
+pub unwinds_by : StraightUnwinds → OneListFits → (o : Elf) (sec : ℕ) (insns : List Insn) (written : List ℕ) → IsStraightLeaf o sec insns → size_of insns ≡ (section_at o sec).size → IsObject written (with_orc_object o (straight_rows sec insns)) → HoldsOrc (with_orc_object o (straight_rows sec insns)) (straight_rows sec insns) → UnwindsBy o written
+unwinds_by law one o sec insns written leaf size is holds = record {
   program = program_of (text_of sec insns) insns;
   is_program = straight_leaf sec insns leaf refl;
   only_program = λ other is. one_program o sec insns leaf other is;
-  result = result;
-  is_result = is;
   rows = straight_rows sec insns;
+  reads_back = is;
   holds = holds;
-  only = λ others h. one result others (straight_rows sec insns) h holds;
+  only = λ others h. one (with_orc_object o (straight_rows sec insns)) others (straight_rows sec insns) h holds;
   walks = λ bases ranges placement begin m run.
       walks_to sec insns bases ranges m
       (law (text_of sec insns) insns bases ranges (is_straight_text o sec insns leaf) (placed o sec insns ranges leaf size placement) begin m run);

@@ -23,6 +23,7 @@ use Rattle.elf_objects.specs.Elf.{Elf}
 use Rattle.elf_objects.specs.Object.{IsObject}
 use Rattle.orc_build.specs.Rows.{size_of}
 use Rattle.orc_bytes.specs.Sections.{HoldsOrc}
+use Rattle.orc_output.specs.OrcOutput.{with_orc_object}
 use Rattle.straight_program.specs.Laws.{BeginAt, walk_frame}
 use Rattle.straight_program.specs.Program.{program_of}
 use Rattle.objtool_cli.specs.Form.{IsStraightLeaf}
@@ -54,18 +55,17 @@ WalksToFrames p rows bases ranges (At s) =
     × Walks rows ranges (λ address. word_at s.core.region address) (registers_of p bases s) (map walk_frame (frames s)) stop
     × StopsAs (frames_end s) stop
 
--- The object is exactly one program. The bytes that are written for it are an object whose ORC sections are exactly one
--- list of rows. And for every placement of the text sections and every state of every run of the program, walking over
+-- The object is exactly one program. The bytes that are written for it are this object with the ORC sections of some rows
+-- added, which hold exactly this list of rows. And for every placement of the text sections and every state of every run of the program, walking over
 -- these rows gives exactly the frames.
 pub record UnwindsBy (o : Elf) (written : List ℕ) : Type 0 where
   pub program : Program
   pub is_program : IsProgramOf o program
   pub only_program : (other : Program) → IsProgramOf o other → other ≡ program
-  pub result : Elf
-  pub is_result : IsObject written result
   pub rows : List PlacedRow
-  pub holds : HoldsOrc result rows
-  pub only : (others : List PlacedRow) → HoldsOrc result others → others ≡ rows
+  pub reads_back : IsObject written (with_orc_object o rows)
+  pub holds : HoldsOrc (with_orc_object o rows) rows
+  pub only : (others : List PlacedRow) → HoldsOrc (with_orc_object o rows) others → others ≡ rows
   pub walks :
       (bases : Bases) (ranges : List Range)
       → IsPlacement (texts_of o) ranges

@@ -24,5 +24,7 @@ returns-clause-unwinds c =
     let is : rows ≡ straight_rows leaf.sec leaf.insns.items = c.deref.ensures.value ∙ c.in_ok-rows.ensures.rows in
     let object = both_ok c.with_orc.result _ _ c.with_orc.ensures.object c.with_orc.ensures.holds in
     IfOk-weaker c.with_orc.result (λ file. IsObject file.items (with_orc_object o rows) × HoldsOrc (with_orc_object o rows) rows) (λ file. UnwindsBy o file.items)
-    (λ file h. unwinds_by c.straight_unwinds.ensures c.rows_are_determined.ensures o leaf.sec leaf.insns.items file.items (with_orc_object o rows) c.requires.form c.leaf_rows.ensures.filled h.0 (subst (HoldsOrc (with_orc_object o rows)) is h.1))
+    (λ file h.
+    let both = subst (λ (r : List PlacedRow). IsObject file.items (with_orc_object o r) × HoldsOrc (with_orc_object o r) r) is h in
+    unwinds_by c.straight_unwinds.ensures c.rows_are_determined.ensures o leaf.sec leaf.insns.items file.items c.requires.form c.leaf_rows.ensures.filled both.0 both.1)
     object
