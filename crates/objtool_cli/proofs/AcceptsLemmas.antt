@@ -1,13 +1,11 @@
 -- An input that is accepted is refused by no stop.
-use Rattle.std.proofs.Common.{◌≡◌, ℕ, ◌<◌, ◌≤◌, List, length, refl, sym, ap, ◌∙◌, subst, arith, inl, inr}
-use Rattle.std.specs.Prelude.{◌≢◌, ◌⊎◌, Some, None, Option, Result, Ok, Err}
-use Rattle.machine_ops.specs.declared.insn.Insn.{Insn}
+use Rattle.std.proofs.Common.{◌≡◌, ℕ, ◌≤◌, List, length, refl, sym, ◌∙◌, subst, arith, inl, inr}
+use Rattle.std.specs.Prelude.{◌⊎◌, Some, None, Option, Result, Ok}
 use Rattle.elf_objects.specs.Elf.{Elf}
 use Rattle.elf_objects.specs.Object.{IsObject}
 use Rattle.elf_objects.proofs.FirstFault.{FirstFault-not}
 use Rattle.ot_files.specs.Content.{Content, reading}
 use Rattle.ot_files.specs.declared.access.FileError.{FileError}
-use Rattle.ot_files.specs.declared.access.FileError.TheVariants.{Failed, Missing, TooLong, NoMemory}
 use Rattle.objtool_cli.specs.declared.check.TheConstants.{MOST_BYTES}
 use Rattle.objtool_cli.specs.declared.status.Status.{Status}
 use Rattle.objtool_cli.specs.declared.status.Status.TheVariants as status

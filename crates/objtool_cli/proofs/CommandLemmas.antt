@@ -1,6 +1,6 @@
 -- How a command may stop, from what reading and writing a file ensure.
-use Rattle.std.proofs.Common.{◌≡◌, ℕ, ◌≤◌, List, refl, sym, ap, ◌∙◌, subst, length}
-use Rattle.std.specs.Prelude.{◌⊎◌, Option, Some, None, Result, Ok, Err, IfSome, IsErrOf}
+use Rattle.std.proofs.Common.{◌≡◌, ℕ, ◌≤◌, List, refl, sym, ap, subst, length}
+use Rattle.std.specs.Prelude.{Option, Some, None, Ok, Err, IfSome, IsErrOf}
 use Rattle.std.proofs.Common.{inl, inr}
 use Rattle.ot_files.specs.Causes.{Rose}
 use Rattle.ot_files.specs.Content.{Content, Answers, ChangesAtMost, IsLimit, reading}

@@ -4,10 +4,10 @@ use Rattle.std.specs.Prelude.{◌≢◌, [], Some, None, Option}
 use Rattle.ot_files.specs.Causes.{Rose}
 use Rattle.ot_files.specs.Content.{Content, ChangesAtMost, writing}
 use Rattle.objtool_cli.specs.declared.status.Status.{Status}
-use Rattle.objtool_cli.specs.declared.status.Status.TheVariants.{Done, Warnings, Refused, Usage, FileFault, SinkFault, NoMemory}
+use Rattle.objtool_cli.specs.declared.status.Status.TheVariants.{Done, Warnings, FileFault, SinkFault, NoMemory}
 use Rattle.objtool_cli.specs.declared.stop.Stop.{Stop}
 use Rattle.objtool_cli.specs.declared.stop.Stop.TheVariants as stop
-use Rattle.objtool_cli.specs.Command.{Concludes, Ends, no_command, done, stopped, tells, silent, Outside, Output, Stops, Tells, told, fault_not_told, not_told, not_all_told}
+use Rattle.objtool_cli.specs.Command.{Ends, no_command, done, stopped, tells, silent, Outside, Output, Stops, Tells, told, fault_not_told, not_told, not_all_told}
 use Rattle.objtool_cli.specs.Stop.{status_of}
 use Rattle.objtool_cli.specs.Unwinding.{OutUnwinds}
 use Rattle.objtool_cli.proofs.ContentLemmas.{get-insert_other}

@@ -1,6 +1,6 @@
 -- What a command tells of bytes that are no object.
-use Rattle.std.proofs.Common.{◌≡◌, ℕ, List, inl, inr}
-use Rattle.std.specs.Prelude.{◌≢◌, ◌⊎◌}
+use Rattle.std.proofs.Common.{ℕ, List, inl, inr}
+use Rattle.std.specs.Prelude.{◌≢◌}
 use Rattle.elf_objects.specs.Object.{FirstFault, Refuses}
 use Rattle.elf_objects.specs.declared.fault.ElfFault.{ElfFault}
 use Rattle.elf_objects.specs.declared.fault.ElfFault.TheVariants.{Short, NotElfRel64, BadTable, BadRange, BadName, BadLink, BadSymbol, BadReloc, TooMany, NoMemory}

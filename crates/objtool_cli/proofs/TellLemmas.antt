@@ -1,6 +1,6 @@
 -- What is told of a stop, from what writing its line ensures.
 use Rattle.std.proofs.Common.{◌≡◌, ℕ, List, refl, sym, ap, ◌∙◌, append-nil}
-use Rattle.std.specs.Prelude.{◌≢◌, [], Some, None, Option, Result, Ok, Err, OnOk, OnErr, IsErrOf}
+use Rattle.std.specs.Prelude.{[], Some, None, Option, Result, Ok, Err, OnOk, OnErr, IsErrOf}
 use Rattle.ot_files.specs.Causes.{Rose}
 use Rattle.ot_files.specs.Output.{AppendsPrefix, appending}
 use Rattle.ot_files.specs.declared.output.SinkError.{SinkError}

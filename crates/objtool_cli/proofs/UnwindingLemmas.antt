@@ -1,17 +1,14 @@
 -- From the law of straight code to the theorem of an object.
-use Rattle.std.proofs.Common.{◌≡◌, ℕ, ◌≤◌, List, [], ◌∷◌, length, refl, sym, ap, ◌∙◌, subst, arith}
+use Rattle.std.proofs.Common.{◌≡◌, ℕ, ◌≤◌, List, [], ◌∷◌, refl, sym, ap, ◌∙◌, subst, arith}
 use Rattle.std.specs.Prelude.{All, Option, Some, None}
 use Rattle.std.proofs.lemmas.List.Elements.{All-nil, All-cons}
-use Rattle.ot_base.specs.declared.row.PlacedRow.{PlacedRow}
 use Rattle.machine_ops.specs.declared.op.Op.{Op}
 use Rattle.machine_ops.specs.declared.insn.Insn.{Insn}
 use Rattle.stack_machine.specs.Program.{Program, TextSection}
 use Rattle.stack_machine.specs.Machine.{Bases, Machine, Wrecked, At}
-use Rattle.stack_machine.specs.Run.{Run}
 use Rattle.orc_walk.specs.declared.range.Range.{Range}
 use Rattle.orc_walk.specs.declared.frame.Stop.TheVariants.{Outside}
 use Rattle.orc_walk.specs.Placement.{IsPlacement}
-use Rattle.orc_walk.specs.Placement as placement
 use Rattle.elf_objects.specs.Elf.{Elf}
 use Rattle.elf_objects.specs.Contents.{section_at}
 use Rattle.elf_objects.specs.Object.{IsObject}

@@ -1,5 +1,5 @@
 -- The form of object that is checked so far: a straight leaf function.
-use Rattle.std.specs.Prelude.{◌≡◌, ℕ, ◌<◌, ◌≤◌, ◌==◌, ◌&&◌, ◌||◌, not, Bool, true, List, [], ◌∷◌, length, filter, All, Some, IsSome, codes, bytes_eq}
+use Rattle.std.specs.Prelude.{◌≡◌, ℕ, ◌<◌, ◌≤◌, ◌==◌, ◌||◌, not, Bool, true, List, [], ◌∷◌, length, filter, All, Some, IsSome, codes, bytes_eq}
 use Rattle.std.specs.List.{list_any}
 use Rattle.machine_ops.specs.declared.insn.Insn.{Insn}
 use Rattle.elf_objects.specs.declared.symbol.Home.TheVariants as home

@@ -1,4 +1,3 @@
-use Rattle.std.proofs.Common.{sym}
 use Rattle.objtool_cli.proofs.CommandLemmas.{stops_at_read}
 use Rattle.objtool_cli.proofs.check.read_input.Goals as goal
 

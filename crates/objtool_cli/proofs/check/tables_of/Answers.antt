@@ -1,9 +1,9 @@
-use Rattle.std.proofs.Common.{◌≡◌, ℕ, List, sym, subst, length, Option, Some, None}
+use Rattle.std.proofs.Common.{◌≡◌, ℕ, List, subst}
 use Rattle.std.specs.Prelude.{IfNone, IfSome}
 use Rattle.machine_ops.specs.declared.insn.Insn.{Insn}
 use Rattle.elf_objects.specs.Elf.{Elf}
 use Rattle.elf_objects.specs.Object.{IsObject}
-use Rattle.objtool_cli.specs.Checked.{Accepts, not_built}
+use Rattle.objtool_cli.specs.Checked.{not_built}
 use Rattle.objtool_cli.specs.Form.{IsStraightLeaf}
 use Rattle.objtool_cli.proofs.check.tables_of.Goals as goal
 

@@ -1,5 +1,4 @@
-use Rattle.std.proofs.Common.{◌≡◌, ◌<◌, ◌≤◌, ℕ, List, length, arith, sym, ap, ◌∙◌, subst}
-use Rattle.std.proofs.lemmas.Bool.Decides.{nat_tests}
+use Rattle.std.proofs.Common.{◌<◌, ℕ, length, arith, sym, subst}
 use Rattle.objtool_cli.specs.declared.stop.Refusal.TheVariants.{TooManySections}
 use Rattle.objtool_cli.specs.Checked.{Refuses, crowded, most_sections}
 use Rattle.objtool_cli.specs.Command.{IsRefusal}

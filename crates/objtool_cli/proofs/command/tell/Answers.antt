@@ -1,5 +1,4 @@
-use Rattle.std.proofs.Common.{ℕ, List, ◌∙◌, refl, subst}
-use Rattle.objtool_cli.specs.Command.{Tells, ended}
+use Rattle.std.proofs.Common.{◌∙◌, refl}
 use Rattle.objtool_cli.proofs.TellLemmas.{nothing_told, tells}
 use Rattle.objtool_cli.proofs.command.tell.Goals as goal
 

@@ -1,4 +1,4 @@
-use Rattle.std.proofs.Common.{◌≡◌, true, refl, ap, ◌∙◌, arith}
+use Rattle.std.proofs.Common.{refl, ap, ◌∙◌, arith}
 use Rattle.elf_objects.specs.Contents.{no_section}
 use Rattle.objtool_cli.specs.Form.{is_simple}
 use Rattle.objtool_cli.proofs.FormLemmas.{same_item}
