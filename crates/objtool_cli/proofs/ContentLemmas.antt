@@ -8,7 +8,7 @@ use Rattle.std.specs.Cmp.Lexicographic.{slice_cmp, nat_list_cmp_total}
 use Rattle.std.specs.FinMap.{get, insert, get-insert}
 use Rattle.ot_files.specs.Content.{Content, reading_of, writing}
 use Rattle.ot_files.specs.declared.access.FileError.{FileError}
-use Rattle.ot_files.specs.declared.access.FileError.TheVariants.{TooLong}
+use Rattle.ot_files.specs.declared.access.FileError.TheVariants.{Missing, TooLong}
 use Rattle.objtool_cli.specs.declared.check.TheConstants.{MOST_BYTES}
 use Rattle.objtool_cli.specs.Checked.{Accepts}
 use Rattle.objtool_cli.specs.Command.{IsDone, MayRead, Outside}
@@ -34,10 +34,11 @@ get-insert_same content name bytes =
     get-insert nat_list_cmp_total content name bytes name ∙ ap (λ b. cond b (Some bytes) (get content name)) (same_as_itself name)
 
 -- what was read of a name is what it holds
-pub reading_is : (limit : ℕ) (held : Option (List ℕ)) (bytes read : List ℕ) → Ok bytes ≡ reading_of held limit → held ≡ Some read → bytes ≡ read
-reading_is limit held bytes read is there = within (nat_lt limit (length read)) (is ∙ ap (λ o. reading_of o limit) there)
+held_is : (limit : ℕ) (held : Option (List ℕ)) (bytes : List ℕ) → Ok bytes ≡ reading_of held limit → held ≡ Some bytes
+held_is limit None bytes is = let u : ◌≡◌ {A = Result (List ℕ) FileError} (Ok bytes) (Err Missing) = is in cc
+held_is limit (Some read) bytes is = within (nat_lt limit (length read)) is
   where
-    within : (b : Bool) → ◌≡◌ {A = Result (List ℕ) FileError} (Ok bytes) (cond b (Err (TooLong limit)) (Ok read)) → bytes ≡ read
+    within : (b : Bool) → ◌≡◌ {A = Result (List ℕ) FileError} (Ok bytes) (cond b (Err (TooLong limit)) (Ok read)) → ◌≡◌ {A = Option (List ℕ)} (Some read) (Some bytes)
     within true e = let u : ◌≡◌ {A = Result (List ℕ) FileError} (Ok bytes) (Err (TooLong limit)) = e in cc
     within false e = let u : ◌≡◌ {A = Result (List ℕ) FileError} (Ok bytes) (Ok read) = e in cc
 
@@ -45,13 +46,13 @@ reading_is limit held bytes read is there = within (nat_lt limit (length read)) 
 pub out_unwinds : (input output bytes table : List ℕ) (before after : Option Content) → MayRead before input (Ok bytes) → after ≡ writing before output table → Unwinds bytes table → OutUnwinds input output before after
 out_unwinds input output bytes table None after may e h = tt
 out_unwinds input output bytes table (Some content) after may e h =
-    subst (λ (c : Option Content). OutUnwinds input output (Some content) c) (sym e) (λ read written was is.
-    let same = reading_is MOST_BYTES (get content input) bytes read may was in
-    let left : ◌≡◌ {A = Option (List ℕ)} (Some table) (Some written) = sym (get-insert_same content output table) ∙ is in
-    subst (λ (b : List ℕ). Unwinds b written) same (subst (λ (b : List ℕ). Unwinds bytes b) (some_of left) h))
-  where
-    some_of : {a b : List ℕ} → ◌≡◌ {A = Option (List ℕ)} (Some a) (Some b) → a ≡ b
-    some_of e = cc
+    subst (λ (c : Option Content). OutUnwinds input output (Some content) c) (sym e) (record {
+      read = bytes;
+      held = held_is MOST_BYTES (get content input) bytes may;
+      written = table;
+      left = get-insert_same content output table;
+      unwinds = h;
+    })
 
 -- what stands where the command is done
 pub is_done : (input output bytes table : List ℕ) (before after : Outside) → MayRead before.content input (Ok bytes) → Accepts bytes table → Unwinds bytes table → after.content ≡ writing before.content output table → IsDone input output before after

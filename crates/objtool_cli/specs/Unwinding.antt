@@ -56,8 +56,8 @@ WalksToFrames p rows bases ranges (At s) =
     × StopsAs (frames_end s) stop
 
 -- The object is exactly one program. The bytes that are written for it are this object with the ORC sections of some rows
--- added, which hold exactly this list of rows. And for every placement of the text sections and every state of every run of the program, walking over
--- these rows gives exactly the frames.
+-- added, which hold exactly this list of rows. And for every placement of the text sections and every state of every run
+-- of the program, walking over these rows gives exactly the frames.
 pub record UnwindsBy (o : Elf) (written : List ℕ) : Type 0 where
   pub program : Program
   pub is_program : IsProgramOf o program
@@ -80,9 +80,16 @@ pub record Unwinds (read written : List ℕ) : Type 0 where
   pub is_object : IsObject read object
   pub unwinds : UnwindsBy object written
 
--- What is said of a command that is done: where the files tell their content, the bytes that OUT holds after it unwind the
--- object whose bytes IN held before it.
+-- The bytes that OUT holds after a command unwind the object whose bytes IN held before it.
+pub record LeavesTables (input output : List ℕ) (before after : Content) : Type 0 where
+  pub read : List ℕ
+  pub held : get before input ≡ Some read
+  pub written : List ℕ
+  pub left : get after output ≡ Some written
+  pub unwinds : Unwinds read written
+
+-- the same where the files tell their content
 abbrev pub OutUnwinds : List ℕ → List ℕ → Option Content → Option Content → Type 0
-OutUnwinds input output (Some before) (Some after) = (read written : List ℕ) → get before input ≡ Some read → get after output ≡ Some written → Unwinds read written
-OutUnwinds input output (Some before) None = ⊤
+OutUnwinds input output (Some before) (Some after) = LeavesTables input output before after
+OutUnwinds input output (Some before) None = ⊥
 OutUnwinds input output None after = ⊤
