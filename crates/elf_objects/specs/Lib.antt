@@ -13,3 +13,4 @@ pub mod Found
 pub mod Lent
 pub mod Kept
 pub mod Extents
+pub mod Steps

@@ -1,9 +1,8 @@
 //! The bodies of the sections lie in the file.
 
-ghost use Rattle.std.specs.Prelude.{◌≡◌, ◌<◌, ◌≤◌, ◌+◌, ◌↔◌, ◌≢◌, ℕ, IsTrue, IsFalse, IfErr, OnOk, MatchResult, length};
-ghost use Rattle.elf_objects.specs.Below.{AllBelow, FirstBelow};
+ghost use Rattle.std.specs.Prelude.{◌≡◌, ◌<◌, ◌↔◌, IsTrue, IsFalse, IfErr, OnOk, MatchResult, length};
+ghost use Rattle.elf_objects.specs.Steps.{EachSection, FirstSection, file};
 ghost use Rattle.elf_objects.specs.File.{section_count, section_header};
-ghost use Rattle.elf_objects.specs.Header.{has_body};
 ghost use Rattle.elf_objects.specs.Kind.{sht_null, sht_rela};
 ghost use Rattle.elf_objects.specs.Object.{Refuses};
 ghost use Rattle.elf_objects.specs.Sections.{HasBody, BodyFault, IsAlone, IsPlaced};
@@ -33,19 +32,23 @@ fn is_null_first(h: &SectionHeader, i: u32) -> bool
 
 /// Whether the body of a section is in its place, and shares no byte with another where it may not.
 fn has_place(headers: &Headers, shared: &[bool], i: u32) -> bool
-    requires known { i < section_count headers.now.bytes.now }
-    requires shared { TellsShared headers.now.bytes.now shared.now }
-    ensures yes { IsTrue result → IsPlaced (length headers.now.bytes.now) (section_header headers.now.bytes.now i) × ((section_header headers.now.bytes.now i).kind ≡ sht_rela → IsAlone headers.now.bytes.now i) }
-    ensures no { IsFalse result → ¬ HasBody headers.now.bytes.now i }
+    requires known { i < section_count (file headers.now) }
+    requires shared { TellsShared (file headers.now) shared.now }
+    ensures placed { IsTrue result →
+        IsPlaced (length (file headers.now)) (section_header (file headers.now) i) }
+    ensures alone { IsTrue result →
+        (section_header (file headers.now) i).kind ≡ sht_rela → IsAlone (file headers.now) i }
+    ensures no { IsFalse result → ¬ HasBody (file headers.now) i }
 {
     let h = headers.get(i);
     is_placed(&h, headers.bytes.len()) && (h.kind != SHT_RELA || !shared[i as usize])
 }
 
 fn check_body(headers: &Headers, shared: &[bool], i: u32) -> Result<(), ElfFault>
-    requires known { i < section_count headers.now.bytes.now }
-    requires shared { TellsShared headers.now.bytes.now shared.now }
-    ensures { MatchResult result (λ _. HasBody headers.now.bytes.now i) (BodyFault headers.now.bytes.now i) }
+    requires known { i < section_count (file headers.now) }
+    requires shared { TellsShared (file headers.now) shared.now }
+    ensures { MatchResult result
+        (λ _. HasBody (file headers.now) i) (BodyFault (file headers.now) i) }
 {
     if !is_null_first(&headers.get(i), i) {
         return Err(ElfFault::BadTable { sec: 0 });
@@ -58,8 +61,8 @@ fn check_body(headers: &Headers, shared: &[bool], i: u32) -> Result<(), ElfFault
 
 /// The same of each section, in ascending order.
 pub(crate) fn check_bodies(alloc: Global, headers: &Headers) -> Result<(), ElfFault>
-    ensures ok { OnOk result (AllBelow (HasBody headers.now.bytes.now) (section_count headers.now.bytes.now)) }
-    ensures err { IfErr result (Refuses (FirstBelow (HasBody headers.now.bytes.now) (BodyFault headers.now.bytes.now) (section_count headers.now.bytes.now))) }
+    ensures ok { OnOk result (EachSection HasBody (file headers.now)) }
+    ensures err { IfErr result (Refuses (FirstSection HasBody BodyFault (file headers.now))) }
 {
     let shared = find_shared(alloc, headers)?;
     for i in 0..headers.count {

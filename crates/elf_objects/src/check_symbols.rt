@@ -1,15 +1,14 @@
 //! What must hold of each symbol.
 
-ghost use Rattle.std.specs.Prelude.{◌≡◌, ◌<◌, ◌≤◌, ◌+◌, ◌/◌, ◌↔◌, ℕ, false, ◌==◌, ◌&&◌, IsTrue, IfSome, IfNone, IfErr, IfOk, OnOk, MatchResult};
-ghost use Rattle.elf_objects.specs.Below.{AllBelow, FirstBelow};
-ghost use Rattle.elf_objects.specs.File.{section_count};
+ghost use Rattle.std.specs.Prelude.{◌≡◌, ◌<◌, ◌+◌, ◌↔◌, ℕ, false, ◌==◌, ◌&&◌, IsTrue, IfSome, IfNone, IfErr, IfOk, OnOk, MatchResult};
+ghost use Rattle.elf_objects.specs.Steps.{EachSection, EachSymbol, FirstSymbol, symbols_file};
 ghost use Rattle.elf_objects.specs.Contents.{is_home};
 ghost use Rattle.elf_objects.specs.Kind.{stt_section};
-ghost use Rattle.elf_objects.specs.Found.{AreSectionSymbols, stands_for_section};
+ghost use Rattle.elf_objects.specs.Found.{AreSectionSymbols};
 ghost use Rattle.elf_objects.specs.Object.{Refuses};
 ghost use Rattle.elf_objects.specs.Sections.{HasLinks};
-ghost use Rattle.elf_objects.specs.Symbols.{HasFewSymbols, AreManySymbols, HasHome, IsSymbol, SymbolFault, IsOnItsSide};
-ghost use Rattle.elf_objects.specs.Table.{symbol_count, string_header, raw_symbol};
+ghost use Rattle.elf_objects.specs.Symbols.{HasFewSymbols, AreManySymbols, IsSymbol, SymbolFault, IsOnItsSide};
+ghost use Rattle.elf_objects.specs.Table.{symbol_count, string_header};
 
 use crate::earliest::{earliest, nothing};
 use crate::fault::{Counted, ElfFault, NameOf};
@@ -23,9 +22,9 @@ const MAX_SYMBOLS: u64 = 4_194_304;
 
 /// How many symbols there are, where there are not too many.
 pub(crate) fn check_symbol_count(symbols: &Symbols) -> Result<u32, ElfFault>
-    ensures few { OnOk result (HasFewSymbols symbols.now.headers.bytes.now) }
-    ensures count { IfOk result (λ n. n ≡ symbol_count symbols.now.headers.bytes.now) }
-    ensures err { IfErr result (AreManySymbols symbols.now.headers.bytes.now) }
+    ensures few { OnOk result (HasFewSymbols (symbols_file symbols.now)) }
+    ensures count { IfOk result (λ n. n ≡ symbol_count (symbols_file symbols.now)) }
+    ensures err { IfErr result (AreManySymbols (symbols_file symbols.now)) }
 {
     if symbols.count > MAX_SYMBOLS {
         return Err(ElfFault::TooMany {
@@ -38,8 +37,8 @@ pub(crate) fn check_symbol_count(symbols: &Symbols) -> Result<u32, ElfFault>
 
 /// Whether a symbol is local exactly where it is before the boundary.
 fn is_on_its_side(symbols: &Symbols, k: u32) -> bool
-    requires { k < symbol_count symbols.now.headers.bytes.now }
-    ensures { IsTrue result ↔ IsOnItsSide symbols.now.headers.bytes.now k }
+    requires { k < symbol_count (symbols_file symbols.now) }
+    ensures { IsTrue result ↔ IsOnItsSide (symbols_file symbols.now) k }
 {
     let is_local = symbols.raw(k).info / 16 == STB_LOCAL;
     is_local == (k < symbols.header.info)
@@ -47,10 +46,11 @@ fn is_on_its_side(symbols: &Symbols, k: u32) -> bool
 
 /// Whether a symbol has a name, a home, and stands on its side of the boundary.
 fn check_symbol(symbols: &Symbols, string_size: u64, k: u32) -> Result<(), ElfFault>
-    requires known { k < symbol_count symbols.now.headers.bytes.now }
-    requires links { AllBelow (HasLinks symbols.now.headers.bytes.now) (section_count symbols.now.headers.bytes.now) }
-    requires strings { string_size ≡ (string_header symbols.now.headers.bytes.now).size }
-    ensures { MatchResult result (λ _. IsSymbol symbols.now.headers.bytes.now k) (SymbolFault symbols.now.headers.bytes.now k) }
+    requires known { k < symbol_count (symbols_file symbols.now) }
+    requires links { EachSection HasLinks (symbols_file symbols.now) }
+    requires strings { string_size ≡ (string_header (symbols_file symbols.now)).size }
+    ensures { MatchResult result
+        (λ _. IsSymbol (symbols_file symbols.now) k) (SymbolFault (symbols_file symbols.now) k) }
 {
     if u64::from(symbols.raw(k).name) >= string_size {
         return Err(ElfFault::BadName {
@@ -67,8 +67,10 @@ fn check_symbol(symbols: &Symbols, string_size: u64, k: u32) -> Result<(), ElfFa
 /// The section that a symbol of this type, value and home stands for.
 fn stood_for(kind: u8, value: u64, home: Home) -> Option<u32>
     ensures some { IfSome result (λ i. home ≡ Home.Section i) }
-    ensures only { IfSome result (λ i. (s : ℕ) → (i == s) ≡ ((kind == stt_section) && (value == 0) && is_home s home)) }
-    ensures none { IfNone result ((s : ℕ) → false ≡ ((kind == stt_section) && (value == 0) && is_home s home)) }
+    ensures only { IfSome result
+        (λ i. (s : ℕ) → (i == s) ≡ ((kind == stt_section) && (value == 0) && is_home s home)) }
+    ensures none { IfNone result
+        ((s : ℕ) → false ≡ ((kind == stt_section) && (value == 0) && is_home s home)) }
 {
     if kind != STT_SECTION {
         return None;
@@ -84,11 +86,11 @@ fn stood_for(kind: u8, value: u64, home: Home) -> Option<u32>
 
 /// Notes for which section a symbol stands, where it does for one.
 fn note_symbol(symbols: &Symbols, found: &mut Vec<Option<u32>>, k: u32)
-    requires known { k < symbol_count symbols.now.headers.bytes.now }
-    requires links { AllBelow (HasLinks symbols.now.headers.bytes.now) (section_count symbols.now.headers.bytes.now) }
-    requires symbol { IsSymbol symbols.now.headers.bytes.now k }
-    requires seen { AreSectionSymbols symbols.now.headers.bytes.now k found.old.items }
-    ensures { AreSectionSymbols symbols.now.headers.bytes.now (k + 1) found.new.items }
+    requires known { k < symbol_count (symbols_file symbols.now) }
+    requires links { EachSection HasLinks (symbols_file symbols.now) }
+    requires symbol { IsSymbol (symbols_file symbols.now) k }
+    requires seen { AreSectionSymbols (symbols_file symbols.now) k found.old.items }
+    ensures { AreSectionSymbols (symbols_file symbols.now) (k + 1) found.new.items }
 {
     let symbol = symbols.raw(k);
     let Some(home) = find_home(symbols, k) else {
@@ -107,11 +109,13 @@ pub(crate) fn check_symbols(
     symbols: &Symbols,
     count: u32,
 ) -> Result<Vec<Option<u32>>, ElfFault>
-    requires count_is { count ≡ symbol_count symbols.now.headers.bytes.now }
-    requires links { AllBelow (HasLinks symbols.now.headers.bytes.now) (section_count symbols.now.headers.bytes.now) }
-    ensures ok { OnOk result (AllBelow (IsSymbol symbols.now.headers.bytes.now) (symbol_count symbols.now.headers.bytes.now)) }
-    ensures found { IfOk result (λ found. AreSectionSymbols symbols.now.headers.bytes.now (symbol_count symbols.now.headers.bytes.now) found.items) }
-    ensures err { IfErr result (Refuses (FirstBelow (IsSymbol symbols.now.headers.bytes.now) (SymbolFault symbols.now.headers.bytes.now) (symbol_count symbols.now.headers.bytes.now))) }
+    requires count_is { count ≡ symbol_count (symbols_file symbols.now) }
+    requires links { EachSection HasLinks (symbols_file symbols.now) }
+    ensures ok { OnOk result (EachSymbol IsSymbol (symbols_file symbols.now)) }
+    ensures found { IfOk result
+        (λ found. AreSectionSymbols (symbols_file symbols.now) count found.items) }
+    ensures err { IfErr result
+        (Refuses (FirstSymbol IsSymbol SymbolFault (symbols_file symbols.now))) }
 {
     let mut found = nothing(alloc, symbols.headers.count)?;
     let string_size = symbols.strings().size;

@@ -1,10 +1,11 @@
 //! Which bodies share a byte of the file with another.
 
-ghost use Rattle.std.specs.Prelude.{◌≡◌, ◌<◌, ◌≤◌, ◌+◌, ◌↔◌, ℕ, false, length, get_or, set, IsTrue, IfOk, IfErr, OnOk, replicate};
-ghost use Rattle.std.specs.List.{All, AllPairs};
+ghost use Rattle.std.specs.Prelude.{◌≡◌, ◌<◌, ◌+◌, ◌↔◌, ℕ, false, length, IsTrue, IfOk, IfErr, OnOk, replicate};
+ghost use Rattle.std.specs.List.{AllPairs};
 ghost use Rattle.std.specs.List.Sorted.{IsNonDecreasingBy, IsPermutation};
-ghost use Rattle.elf_objects.specs.File.{section_count, section_header};
-ghost use Rattle.elf_objects.specs.Extents.{has_bytes, extent_of, extent_at, AreExtents, AreInOrder, AreMarked, IsCrowded, IsReach, TellsShared};
+ghost use Rattle.elf_objects.specs.Steps.{file};
+ghost use Rattle.elf_objects.specs.File.{section_count};
+ghost use Rattle.elf_objects.specs.Extents.{has_bytes, AreExtents, AreInOrder, AreMarked, IsCrowded, IsReach, TellsShared};
 
 use crate::fault::ElfFault;
 use crate::header::SectionHeader;
@@ -57,10 +58,10 @@ fn mark_crowded(extents: &[Extent], marks: &mut Vec<bool>)
 
 /// Adds the extent of the body of a section, where it is not empty.
 fn add_extent(headers: &Headers, list: &mut Vec<Extent>, i: u32) -> Result<(), ElfFault>
-    requires known { i < section_count headers.now.bytes.now }
-    requires extents { AreExtents headers.now.bytes.now i list.old.items }
+    requires known { i < section_count (file headers.now) }
+    requires extents { AreExtents (file headers.now) i list.old.items }
     requires rising { AllPairs (λ x y. x.sec < y.sec) list.old.items }
-    ensures ok { OnOk result (AreExtents headers.now.bytes.now (i + 1) list.new.items) }
+    ensures ok { OnOk result (AreExtents (file headers.now) (i + 1) list.new.items) }
     ensures rising { OnOk result (AllPairs (λ x y. x.sec < y.sec) list.new.items) }
     ensures err { IfErr result (λ e. e ≡ ElfFault.NoMemory) }
 {
@@ -78,7 +79,8 @@ fn add_extent(headers: &Headers, list: &mut Vec<Extent>, i: u32) -> Result<(), E
 
 /// The extents of the bodies that are not empty.
 fn list_extents(alloc: Global, headers: &Headers) -> Result<Vec<Extent>, ElfFault>
-    ensures ok { IfOk result (λ list. AreExtents headers.now.bytes.now (section_count headers.now.bytes.now) list.items) }
+    ensures ok { IfOk result
+        (λ list. AreExtents (file headers.now) (section_count (file headers.now)) list.items) }
     ensures rising { IfOk result (λ list. AllPairs (λ x y. x.sec < y.sec) list.items) }
     ensures err { IfErr result (λ e. e ≡ ElfFault.NoMemory) }
 {
@@ -99,8 +101,10 @@ fn sort_extents(extents: &mut Vec<Extent>)
 
 /// The extents of the bodies that are not empty, in the order of their offsets.
 fn ordered_extents(alloc: Global, headers: &Headers) -> Result<Vec<Extent>, ElfFault>
-    ensures extents { IfOk result (λ list. AreExtents headers.now.bytes.now (section_count headers.now.bytes.now) list.items) }
-    ensures order { IfOk result (λ list. AreInOrder (section_count headers.now.bytes.now) list.items) }
+    ensures extents { IfOk result
+        (λ list. AreExtents (file headers.now) (section_count (file headers.now)) list.items) }
+    ensures order { IfOk result
+        (λ list. AreInOrder (section_count (file headers.now)) list.items) }
     ensures err { IfErr result (λ e. e ≡ ElfFault.NoMemory) }
 {
     let mut list = list_extents(alloc, headers)?;
@@ -110,7 +114,7 @@ fn ordered_extents(alloc: Global, headers: &Headers) -> Result<Vec<Extent>, ElfF
 
 /// For each section whether its body shares a byte with that of another.
 pub(crate) fn find_shared(alloc: Global, headers: &Headers) -> Result<Vec<bool>, ElfFault>
-    ensures ok { IfOk result (λ marks. TellsShared headers.now.bytes.now marks.items) }
+    ensures ok { IfOk result (λ marks. TellsShared (file headers.now) marks.items) }
     ensures err { IfErr result (λ e. e ≡ ElfFault.NoMemory) }
 {
     let extents = ordered_extents(alloc, headers)?;

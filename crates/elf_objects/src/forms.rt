@@ -1,12 +1,10 @@
 //! The header of each section is as its type asks for.
 
-ghost use Rattle.std.specs.Prelude.{◌≡◌, ◌<◌, ◌≤◌, ◌+◌, ◌↔◌, ◌≢◌, ℕ, IsTrue, IsFalse, IfErr, IfOk, OnOk, MatchResult, length};
-ghost use Rattle.elf_objects.specs.Below.{AllBelow, FirstBelow, least_below};
-ghost use Rattle.elf_objects.specs.File.{section_count, section_header, name_table};
-ghost use Rattle.elf_objects.specs.Header.{is_text_header};
-ghost use Rattle.elf_objects.specs.Kind.{sht_symtab, sht_symtab_shndx, sht_rela, sht_strtab, sht_rel};
-ghost use Rattle.elf_objects.specs.Sections.{HasBody, HasForm, HasKindForm, FormFault, HasEntries, IsPlain, IsSymbolTable, IsIndexTable, IsRelocTable, IsStringTable, IsFirstOfKind};
-ghost use Rattle.elf_objects.specs.Table.{first_of_kind, is_kind, symbol_table, index_table};
+ghost use Rattle.std.specs.Prelude.{◌<◌, ◌≤◌, ◌+◌, ◌↔◌, IsTrue, IfErr, IfOk, OnOk, length};
+ghost use Rattle.elf_objects.specs.Steps.{EachSection, FirstSection, file};
+ghost use Rattle.elf_objects.specs.File.{section_count};
+ghost use Rattle.elf_objects.specs.Kind.{sht_symtab, sht_symtab_shndx};
+ghost use Rattle.elf_objects.specs.Sections.{HasBody, HasForm, HasKindForm, FormFault, HasEntries, IsPlain, IsRelocTable, IsStringTable, IsFirstOfKind};
 ghost use Rattle.elf_objects.specs.Found.{AreTables};
 
 use crate::earliest::earliest;
@@ -50,26 +48,26 @@ fn is_reloc_table(h: &SectionHeader) -> bool
 
 /// Whether no section before this one has the type of a symbol table.
 fn is_first_symbol_table(headers: &Headers, tables: Tables, i: u32) -> bool
-    requires { AreTables headers.now.bytes.now i tables }
-    ensures { IsTrue result ↔ IsFirstOfKind headers.now.bytes.now sht_symtab i }
+    requires { AreTables (file headers.now) i tables }
+    ensures { IsTrue result ↔ IsFirstOfKind (file headers.now) sht_symtab i }
 {
     tables.symbols.is_none()
 }
 
 /// The same for tables of section numbers.
 fn is_first_index_table(headers: &Headers, tables: Tables, i: u32) -> bool
-    requires { AreTables headers.now.bytes.now i tables }
-    ensures { IsTrue result ↔ IsFirstOfKind headers.now.bytes.now sht_symtab_shndx i }
+    requires { AreTables (file headers.now) i tables }
+    ensures { IsTrue result ↔ IsFirstOfKind (file headers.now) sht_symtab_shndx i }
 {
     tables.indices.is_none()
 }
 
 /// Whether a section is as its type asks for, the names of sections aside.
 fn has_kind_form(headers: &Headers, tables: Tables, i: u32) -> bool
-    requires known { i < section_count headers.now.bytes.now }
-    requires seen { AreTables headers.now.bytes.now i tables }
-    requires bodies { HasBody headers.now.bytes.now i }
-    ensures { IsTrue result ↔ HasKindForm headers.now.bytes.now i }
+    requires known { i < section_count (file headers.now) }
+    requires seen { AreTables (file headers.now) i tables }
+    requires bodies { HasBody (file headers.now) i }
+    ensures { IsTrue result ↔ HasKindForm (file headers.now) i }
 {
     let h = headers.get(i);
     match h.kind {
@@ -88,19 +86,19 @@ fn has_kind_form(headers: &Headers, tables: Tables, i: u32) -> bool
 
 /// Whether a section is as its type asks for.
 fn has_form(headers: &Headers, tables: Tables, i: u32) -> bool
-    requires known { i < section_count headers.now.bytes.now }
-    requires seen { AreTables headers.now.bytes.now i tables }
-    requires bodies { HasBody headers.now.bytes.now i }
-    ensures { IsTrue result ↔ HasForm headers.now.bytes.now i }
+    requires known { i < section_count (file headers.now) }
+    requires seen { AreTables (file headers.now) i tables }
+    requires bodies { HasBody (file headers.now) i }
+    ensures { IsTrue result ↔ HasForm (file headers.now) i }
 {
     has_kind_form(headers, tables, i) && (i != headers.names || headers.get(i).kind == SHT_STRTAB)
 }
 
 /// The tables with a section more, where it is the first of its type.
 fn with_section(headers: &Headers, tables: Tables, i: u32) -> Tables
-    requires known { i < section_count headers.now.bytes.now }
-    requires seen { AreTables headers.now.bytes.now i tables }
-    ensures { AreTables headers.now.bytes.now (i + 1) result }
+    requires known { i < section_count (file headers.now) }
+    requires seen { AreTables (file headers.now) i tables }
+    ensures { AreTables (file headers.now) (i + 1) result }
 {
     let kind = headers.get(i).kind;
     Tables {
@@ -111,10 +109,10 @@ fn with_section(headers: &Headers, tables: Tables, i: u32) -> Tables
 
 /// The special tables, or the first section that is not as its type asks for.
 pub(crate) fn check_forms(headers: &Headers) -> Result<Tables, ElfFault>
-    requires { AllBelow (HasBody headers.now.bytes.now) (section_count headers.now.bytes.now) }
-    ensures ok { OnOk result (AllBelow (HasForm headers.now.bytes.now) (section_count headers.now.bytes.now)) }
-    ensures found { IfOk result (AreTables headers.now.bytes.now (section_count headers.now.bytes.now)) }
-    ensures err { IfErr result (FirstBelow (HasForm headers.now.bytes.now) (FormFault headers.now.bytes.now) (section_count headers.now.bytes.now)) }
+    requires { EachSection HasBody (file headers.now) }
+    ensures ok { OnOk result (EachSection HasForm (file headers.now)) }
+    ensures found { IfOk result (AreTables (file headers.now) (section_count (file headers.now))) }
+    ensures err { IfErr result (FirstSection HasForm FormFault (file headers.now)) }
 {
     let mut tables = Tables {
         symbols: None,

@@ -1,8 +1,8 @@
 //! The file header, and the table of section headers that it names.
 
-ghost use Rattle.std.specs.Prelude.{◌≡◌, ◌≢◌, ◌<◌, ◌≤◌, ◌+◌, ◌*◌, ◌^◌, ◌-◌, min, length, IsTrue, IfOk, IfErr, OnOk, MatchResult, Option, None, ◌↔◌};
+ghost use Rattle.std.specs.Prelude.{◌≡◌, ◌<◌, ◌^◌, length, IfOk, IfErr, MatchResult};
 ghost use Rattle.std.specs.Prelude.{find, not, ◌==◌};
-ghost use Rattle.elf_objects.specs.File.{HasFileHeader, IsElfRel64, HasFirstHeader, HasCounts, HasFewSections, HoldsHeaders, HasTable, TableFault, IsExtended, headers_at, section_count, section_header, name_table, wrong_field, fields, too_short};
+ghost use Rattle.elf_objects.specs.File.{HasFileHeader, IsElfRel64, HasFirstHeader, HasTable, TableFault, headers_at, section_count, section_header, name_table, fields, too_short};
 
 use crate::fault::{Counted, ElfFault};
 use crate::header::{SectionHeader, read_header};

@@ -1,13 +1,12 @@
 //! What `sh_link` and `sh_info` of a section name is there.
 
-ghost use Rattle.std.specs.Prelude.{◌≡◌, ◌<◌, ◌≤◌, ◌+◌, ◌↔◌, ◌≢◌, ℕ, Some, None, IsTrue, IsFalse, IfErr, IfOk, OnOk, length, get_or, if◌then◌else◌};
-ghost use Rattle.elf_objects.specs.Below.{AllBelow, FirstBelow, least_below};
-ghost use Rattle.elf_objects.specs.File.{section_count, section_header};
+ghost use Rattle.std.specs.Prelude.{◌≡◌, ◌<◌, ◌+◌, ◌↔◌, Some, IsTrue, IfErr, IfOk, OnOk};
+ghost use Rattle.elf_objects.specs.Steps.{EachSection, FirstSection, symbols_file, file};
+ghost use Rattle.elf_objects.specs.File.{section_count};
 ghost use Rattle.elf_objects.specs.Found.{AreRelas};
-ghost use Rattle.elf_objects.specs.Kind.{sht_symtab, sht_symtab_shndx, sht_rela, sht_strtab, sht_group};
 ghost use Rattle.elf_objects.specs.Object.{Refuses};
-ghost use Rattle.elf_objects.specs.Sections.{HasLinks, LinkFault, LinksSymbols, LinksIndices, LinksRelocs, LinksGroup, NamesStrings, IsBoundary, IsFirstRelaOf, link_of};
-ghost use Rattle.elf_objects.specs.Table.{symbol_table, symbol_count, is_rela_of};
+ghost use Rattle.elf_objects.specs.Sections.{HasLinks, LinkFault, NamesStrings, IsBoundary, IsFirstRelaOf, link_of};
+ghost use Rattle.elf_objects.specs.Table.{symbol_table};
 
 use crate::earliest::{earliest, nothing};
 use crate::fault::ElfFault;
@@ -18,7 +17,7 @@ use std::alloc::Global;
 
 /// Whether an index is that of a string table.
 fn names_strings(headers: &Headers, i: u32) -> bool
-    ensures { IsTrue result ↔ NamesStrings headers.now.bytes.now i }
+    ensures { IsTrue result ↔ NamesStrings (file headers.now) i }
 {
     i < headers.count && headers.get(i).kind == SHT_STRTAB
 }
@@ -32,7 +31,7 @@ fn is_boundary(count: u64, info: u32) -> bool
 
 /// Whether an index is that of the symbol table.
 fn names_symbols(symbols: &Symbols, i: u32) -> bool
-    ensures { IsTrue result ↔ (symbol_table symbols.now.headers.bytes.now ≡ Some i) }
+    ensures { IsTrue result ↔ (symbol_table (symbols_file symbols.now) ≡ Some i) }
 {
     match symbols.table {
         Some(table) => table == i,
@@ -42,7 +41,7 @@ fn names_symbols(symbols: &Symbols, i: u32) -> bool
 
 /// Whether `sh_link` of a section of relocations is the symbol table, or 0 where there is none.
 fn links_symbols(symbols: &Symbols, link: u32) -> bool
-    ensures { IsTrue result ↔ (link_of (symbol_table symbols.now.headers.bytes.now) ≡ link) }
+    ensures { IsTrue result ↔ (link_of (symbol_table (symbols_file symbols.now)) ≡ link) }
 {
     match symbols.table {
         Some(table) => table == link,
@@ -52,18 +51,18 @@ fn links_symbols(symbols: &Symbols, link: u32) -> bool
 
 /// Whether no section of relocations before this one is of the section `s`.
 fn is_first_rela_of(headers: &Headers, relas: &[Option<u32>], s: u32, i: u32) -> bool
-    requires seen { AreRelas headers.now.bytes.now i relas.now }
-    requires known { s < section_count headers.now.bytes.now }
-    ensures { IsTrue result ↔ IsFirstRelaOf headers.now.bytes.now s i }
+    requires seen { AreRelas (file headers.now) i relas.now }
+    requires known { s < section_count (file headers.now) }
+    ensures { IsTrue result ↔ IsFirstRelaOf (file headers.now) s i }
 {
     relas[s as usize].is_none()
 }
 
 /// Whether the links of a section are as its type asks for.
 fn has_links(symbols: &Symbols, relas: &[Option<u32>], i: u32) -> bool
-    requires seen { AreRelas symbols.now.headers.bytes.now i relas.now }
-    requires known { i < section_count symbols.now.headers.bytes.now }
-    ensures { IsTrue result ↔ HasLinks symbols.now.headers.bytes.now i }
+    requires seen { AreRelas (symbols_file symbols.now) i relas.now }
+    requires known { i < section_count (symbols_file symbols.now) }
+    ensures { IsTrue result ↔ HasLinks (symbols_file symbols.now) i }
 {
     let h = symbols.headers.get(i);
     match h.kind {
@@ -84,10 +83,10 @@ fn has_links(symbols: &Symbols, relas: &[Option<u32>], i: u32) -> bool
 
 /// Notes of which section a section has the relocations, where it has any.
 fn note_rela(headers: &Headers, relas: &mut Vec<Option<u32>>, i: u32)
-    requires seen { AreRelas headers.now.bytes.now i relas.old.items }
-    requires known { i < section_count headers.now.bytes.now }
-    requires links { HasLinks headers.now.bytes.now i }
-    ensures { AreRelas headers.now.bytes.now (i + 1) relas.new.items }
+    requires seen { AreRelas (file headers.now) i relas.old.items }
+    requires known { i < section_count (file headers.now) }
+    requires links { HasLinks (file headers.now) i }
+    ensures { AreRelas (file headers.now) (i + 1) relas.new.items }
 {
     let h = headers.get(i);
     if h.kind == SHT_RELA {
@@ -99,9 +98,11 @@ fn note_rela(headers: &Headers, relas: &mut Vec<Option<u32>>, i: u32)
 /// For each section the section with its relocations, or the first section whose links are not as its
 /// type asks for.
 pub(crate) fn check_links(alloc: Global, symbols: &Symbols) -> Result<Vec<Option<u32>>, ElfFault>
-    ensures ok { OnOk result (AllBelow (HasLinks symbols.now.headers.bytes.now) (section_count symbols.now.headers.bytes.now)) }
-    ensures found { IfOk result (λ relas. AreRelas symbols.now.headers.bytes.now (section_count symbols.now.headers.bytes.now) relas.items) }
-    ensures err { IfErr result (Refuses (FirstBelow (HasLinks symbols.now.headers.bytes.now) (LinkFault symbols.now.headers.bytes.now) (section_count symbols.now.headers.bytes.now))) }
+    ensures ok { OnOk result (EachSection HasLinks (symbols_file symbols.now)) }
+    ensures found { IfOk result (λ relas. AreRelas (symbols_file symbols.now)
+        (section_count (symbols_file symbols.now)) relas.items) }
+    ensures err { IfErr result
+        (Refuses (FirstSection HasLinks LinkFault (symbols_file symbols.now))) }
 {
     let mut relas = nothing(alloc, symbols.headers.count)?;
     for i in 0..symbols.headers.count {

@@ -1,8 +1,7 @@
 //! The names of the sections begin in their table, and there is not too much text.
 
-ghost use Rattle.std.specs.Prelude.{◌≡◌, ◌<◌, ◌≤◌, ◌+◌, ℕ, MatchResult, IfErr, OnOk, length, map};
-ghost use Rattle.elf_objects.specs.Below.{AllBelow, FirstBelow};
-ghost use Rattle.elf_objects.specs.File.{section_count, section_header};
+ghost use Rattle.std.specs.Prelude.{◌≡◌, MatchResult, IfErr, OnOk};
+ghost use Rattle.elf_objects.specs.Steps.{EachSection, FirstSection, file};
 ghost use Rattle.elf_objects.specs.Sections.{HasBody, HasName, NameFault, HasLittleText, IsMuchText, text_bytes, text_size};
 
 use crate::fault::{Counted, ElfFault, NameOf};
@@ -14,8 +13,8 @@ const MAX_TEXT: u64 = 16_777_216;
 
 /// Whether the name of each section begins in the table of section names, in ascending order.
 pub(crate) fn check_names(headers: &Headers) -> Result<(), ElfFault>
-    ensures ok { OnOk result (AllBelow (HasName headers.now.bytes.now) (section_count headers.now.bytes.now)) }
-    ensures err { IfErr result (FirstBelow (HasName headers.now.bytes.now) (NameFault headers.now.bytes.now) (section_count headers.now.bytes.now)) }
+    ensures ok { OnOk result (EachSection HasName (file headers.now)) }
+    ensures err { IfErr result (FirstSection HasName NameFault (file headers.now)) }
 {
     let table = headers.get(headers.names);
     for i in 0..headers.count {
@@ -39,8 +38,8 @@ fn size_of_text(h: &SectionHeader) -> u64
 /// The bytes of text in all sections.
 #[tactic(auto, unfolding(crate::specs::Sections::text_bytes))]
 fn count_text(headers: &Headers) -> u64
-    requires { AllBelow (HasBody headers.now.bytes.now) (section_count headers.now.bytes.now) }
-    ensures { result ≡ text_bytes headers.now.bytes.now }
+    requires { EachSection HasBody (file headers.now) }
+    ensures { result ≡ text_bytes (file headers.now) }
 {
     let mut total = 0;
     for i in 0..headers.count {
@@ -51,8 +50,9 @@ fn count_text(headers: &Headers) -> u64
 
 /// Whether there is not too much text.
 pub(crate) fn check_text(headers: &Headers) -> Result<(), ElfFault>
-    requires { AllBelow (HasBody headers.now.bytes.now) (section_count headers.now.bytes.now) }
-    ensures { MatchResult result (λ _. HasLittleText headers.now.bytes.now) (IsMuchText headers.now.bytes.now) }
+    requires { EachSection HasBody (file headers.now) }
+    ensures { MatchResult result
+        (λ _. HasLittleText (file headers.now)) (IsMuchText (file headers.now)) }
 {
     let count = count_text(headers);
     if count > MAX_TEXT {

@@ -1,6 +1,6 @@
 //! The numbers of the ELF-64 data types, little-endian.
 
-ghost use Rattle.std.specs.Prelude.{◌≡◌, ◌+◌, ◌≤◌, length, slice_index};
+ghost use Rattle.std.specs.Prelude.{◌≡◌, ◌+◌, ◌≤◌, length};
 ghost use Rattle.elf_objects.specs.Number.{half, word, xword};
 
 use byteorder::{ByteOrder, LittleEndian};

@@ -1,6 +1,6 @@
 //! A well-formed object.
 
-ghost use Rattle.std.specs.Prelude.{◌≡◌, ◌<◌, ◌≤◌, ◌+◌, ◌^◌, length, IfOk, IfErr, IsOkUnless};
+ghost use Rattle.std.specs.Prelude.{◌≡◌, ◌<◌, ◌≤◌, ◌^◌, length, IfOk, IfErr, IsOkUnless};
 ghost use Rattle.elf_objects.specs.Object.{IsObject, IsWellFormed, FirstFault, Refuses};
 
 use crate::bodies::check_bodies;

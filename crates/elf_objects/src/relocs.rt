@@ -1,13 +1,13 @@
 //! What must hold of each relocation.
 
-ghost use Rattle.std.specs.Prelude.{◌≡◌, ◌<◌, ◌≤◌, ◌+◌, ◌*◌, ◌/◌, ◌↔◌, ℕ, IsTrue, IfErr, OnOk, length};
+ghost use Rattle.std.specs.Prelude.{◌≡◌, ◌<◌, ◌≤◌, ◌+◌, ◌/◌, ◌↔◌, IsTrue, IfErr, OnOk, length};
+ghost use Rattle.elf_objects.specs.Steps.{EachSection, FirstSection, symbols_file, file};
 ghost use Rattle.elf_objects.specs.Below.{AllBelow, FirstBelow};
 ghost use Rattle.elf_objects.specs.File.{section_count, section_header};
 ghost use Rattle.elf_objects.specs.Found.{AreRelas};
-ghost use Rattle.elf_objects.specs.Kind.{sht_rela};
-ghost use Rattle.elf_objects.specs.Sections.{HasBody, HasLinks, IsPlaced};
-ghost use Rattle.elf_objects.specs.Symbols.{HasRelocs, RelocsFault, IsReloc, RelocFault, IsRelocOf, field_size, is_read};
-ghost use Rattle.elf_objects.specs.Table.{symbol_count, reloc_of, header_of, rela_of};
+ghost use Rattle.elf_objects.specs.Sections.{HasBody, HasLinks};
+ghost use Rattle.elf_objects.specs.Symbols.{HasRelocs, RelocsFault, IsReloc, RelocFault, IsRelocOf};
+ghost use Rattle.elf_objects.specs.Table.{reloc_of, header_of, rela_of};
 
 use crate::entry::read_reloc;
 use crate::fault::ElfFault;
@@ -32,11 +32,11 @@ pub(crate) fn nth_reloc(bytes: &[u8], h: &SectionHeader, k: u32) -> Reloc
 /// The header of the section with the relocations of a section, or zeros.
 #[tactic(auto, unfolding(crate::specs::Table::rela_of))]
 pub(crate) fn rela_header(headers: &Headers, relas: &[Option<u32>], sec: u32) -> SectionHeader
-    requires known { sec < section_count headers.now.bytes.now }
-    requires found { AreRelas headers.now.bytes.now (section_count headers.now.bytes.now) relas.now }
-    requires bodies { AllBelow (HasBody headers.now.bytes.now) (section_count headers.now.bytes.now) }
-    ensures value { result ≡ header_of headers.now.bytes.now (rela_of headers.now.bytes.now sec) }
-    ensures inside { result.offset + result.size ≤ length headers.now.bytes.now }
+    requires known { sec < section_count (file headers.now) }
+    requires found { AreRelas (file headers.now) (section_count (file headers.now)) relas.now }
+    requires bodies { EachSection HasBody (file headers.now) }
+    ensures value { result ≡ header_of (file headers.now) (rela_of (file headers.now) sec) }
+    ensures inside { result.offset + result.size ≤ length (file headers.now) }
 {
     header_or_null(headers, relas[sec as usize])
 }
@@ -61,11 +61,12 @@ fn is_reloc(reloc: Reloc, symbols: u64, target_size: u64) -> bool
 
 /// Whether each relocation of a section is one, in ascending order.
 fn check_relocs_of(symbols: &Symbols, i: u32, h: &SectionHeader) -> Result<(), ElfFault>
-    requires header { h.now ≡ section_header symbols.now.headers.bytes.now i }
-    requires inside { h.now.offset + h.now.size ≤ length symbols.now.headers.bytes.now }
-    requires target { h.now.info < section_count symbols.now.headers.bytes.now }
-    ensures ok { OnOk result (AllBelow (IsReloc symbols.now.headers.bytes.now i) (h.now.size / 24)) }
-    ensures err { IfErr result (FirstBelow (IsReloc symbols.now.headers.bytes.now i) (RelocFault symbols.now.headers.bytes.now i) (h.now.size / 24)) }
+    requires header { h.now ≡ section_header (symbols_file symbols.now) i }
+    requires inside { h.now.offset + h.now.size ≤ length (symbols_file symbols.now) }
+    requires target { h.now.info < section_count (symbols_file symbols.now) }
+    ensures ok { OnOk result (AllBelow (IsReloc (symbols_file symbols.now) i) (h.now.size / 24)) }
+    ensures err { IfErr result (FirstBelow (IsReloc (symbols_file symbols.now) i)
+        (RelocFault (symbols_file symbols.now) i) (h.now.size / 24)) }
 {
     let target_size = symbols.headers.get(h.info).size;
     let count = (h.size / 24) as u32;
@@ -80,11 +81,11 @@ fn check_relocs_of(symbols: &Symbols, i: u32, h: &SectionHeader) -> Result<(), E
 
 /// The same of each section that has relocations.
 fn check_section(symbols: &Symbols, i: u32) -> Result<(), ElfFault>
-    requires known { i < section_count symbols.now.headers.bytes.now }
-    requires body { HasBody symbols.now.headers.bytes.now i }
-    requires links { HasLinks symbols.now.headers.bytes.now i }
-    ensures ok { OnOk result (HasRelocs symbols.now.headers.bytes.now i) }
-    ensures err { IfErr result (RelocsFault symbols.now.headers.bytes.now i) }
+    requires known { i < section_count (symbols_file symbols.now) }
+    requires body { HasBody (symbols_file symbols.now) i }
+    requires links { HasLinks (symbols_file symbols.now) i }
+    ensures ok { OnOk result (HasRelocs (symbols_file symbols.now) i) }
+    ensures err { IfErr result (RelocsFault (symbols_file symbols.now) i) }
 {
     let h = symbols.headers.get(i);
     if h.kind == SHT_RELA {
@@ -95,10 +96,10 @@ fn check_section(symbols: &Symbols, i: u32) -> Result<(), ElfFault>
 
 /// The same of all sections, in ascending order.
 pub(crate) fn check_relocs(symbols: &Symbols) -> Result<(), ElfFault>
-    requires bodies { AllBelow (HasBody symbols.now.headers.bytes.now) (section_count symbols.now.headers.bytes.now) }
-    requires links { AllBelow (HasLinks symbols.now.headers.bytes.now) (section_count symbols.now.headers.bytes.now) }
-    ensures ok { OnOk result (AllBelow (HasRelocs symbols.now.headers.bytes.now) (section_count symbols.now.headers.bytes.now)) }
-    ensures err { IfErr result (FirstBelow (HasRelocs symbols.now.headers.bytes.now) (RelocsFault symbols.now.headers.bytes.now) (section_count symbols.now.headers.bytes.now)) }
+    requires bodies { EachSection HasBody (symbols_file symbols.now) }
+    requires links { EachSection HasLinks (symbols_file symbols.now) }
+    ensures ok { OnOk result (EachSection HasRelocs (symbols_file symbols.now)) }
+    ensures err { IfErr result (FirstSection HasRelocs RelocsFault (symbols_file symbols.now)) }
 {
     for i in 0..symbols.headers.count {
         check_section(symbols, i)?;

@@ -1,6 +1,6 @@
 //! The slices of the input that an object lends.
 
-ghost use Rattle.std.specs.Prelude.{◌≡◌, ◌<◌, ◌≤◌, ◌+◌, ◌==◌, not, length, IsTrue};
+ghost use Rattle.std.specs.Prelude.{◌≡◌, ◌≤◌, ◌+◌, ◌==◌, not, length, IsTrue};
 ghost use Rattle.std.specs.List.{prefix_len};
 ghost use Rattle.elf_objects.specs.Header.{has_body};
 ghost use Rattle.elf_objects.specs.Table.{body_of, string_at};

@@ -1,6 +1,6 @@
 //! The symbol table.
 
-ghost use Rattle.std.specs.Prelude.{◌≡◌, ◌<◌, ◌≤◌, ◌+◌, ◌*◌, ◌/◌, ◌↔◌, Option, Some, None, length, IsTrue, IfSome, IfNone};
+ghost use Rattle.std.specs.Prelude.{◌≡◌, ◌<◌, ◌≤◌, ◌+◌, ◌*◌, ◌/◌, length, IsTrue, IfSome, IfNone};
 ghost use Rattle.std.specs.Option.{ForSome};
 ghost use Rattle.elf_objects.specs.Below.{AllBelow};
 ghost use Rattle.elf_objects.specs.Header.{has_body};
