@@ -9,6 +9,8 @@ mod leaf;
 mod status;
 mod stop;
 mod tables;
+#[cfg(test)]
+mod tests;
 mod words;
 
 pub use command::run;

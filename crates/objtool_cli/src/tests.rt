@@ -1,0 +1,387 @@
+//! Whole commands over files and an output in memory.
+
+ghost use Rattle.std.specs.Prelude.{IfOk, IsTrue};
+ghost use Rattle.ot_files.specs.Memory.{names_of, names_differ};
+
+mod object;
+mod reading;
+mod walking;
+
+use crate::{Status, run};
+use object::make;
+use ot_files::{FileError, Files, MemFiles, MemSink, SureFiles, SureSink};
+use reading::section;
+use std::alloc::{AllocError, Global};
+use std::process::Abort;
+use std::test::Fail;
+
+/// The words of a command line.
+fn words(alloc: Global, texts: &[&str]) -> Result<Vec<String>, AllocError> {
+    let mut words = Vec::new(alloc);
+    for text in texts {
+        words.push(String::from_str(alloc, text)?)?;
+    }
+    Ok(words)
+}
+
+/// IN holds these bytes, and no other name anything.
+fn only_in(alloc: Global, bytes: &[u8]) -> Result<Vec<(String, Vec<u8>)>, AllocError>
+    ensures { IfOk result (λ entries. IsTrue (names_differ (names_of entries.items))) }
+{
+    let entry = (
+        String::from_str(alloc, "IN")?,
+        Vec::from_slice(alloc, bytes)?,
+    );
+    Ok(vec![in alloc; entry]?)
+}
+
+/// The offset and the six bytes of a row.
+type RowBytes = (u8, [u8; 6]);
+
+const DEPTH_8: [u8; 6] = [0x08, 0, 0, 0, 0x05, 0x02];
+
+const DEPTH_16: [u8; 6] = [0x10, 0, 0, 0, 0x05, 0x02];
+
+const ZERO: [u8; 6] = [0; 6];
+
+/// The bodies of the three ORC sections of OUT are those of these rows, of section 1 by its symbol 1.
+fn expect_rows(
+    rt: &impl Abort,
+    alloc: Global,
+    out: &[u8],
+    rows: &[RowBytes],
+) -> Result<(), AllocError> {
+    let mut orc = Vec::new(alloc);
+    let mut places = Vec::new(alloc);
+    let mut relocations = Vec::new(alloc);
+    for (off, row) in rows {
+        let place = places.len() as u64;
+        relocations.extend_from_slice(&place.to_le_bytes())?;
+        relocations.extend_from_slice(&[2, 0, 0, 0, 1, 0, 0, 0])?;
+        relocations.extend_from_slice(&u64::from(*off).to_le_bytes())?;
+        orc.extend_from_slice(row)?;
+        places.extend_from_slice(&[0; 4])?;
+    }
+    assert!(rt;
+        section(out, b".orc_unwind\0") == Some(orc.as_slice()),
+        "{rows:?}"
+    );
+    assert!(rt;
+        section(out, b".orc_unwind_ip\0") == Some(places.as_slice()),
+        "{rows:?}"
+    );
+    assert!(rt;
+        section(out, b".rela.orc_unwind_ip\0") == Some(relocations.as_slice()),
+        "{rows:?}"
+    );
+    Ok(())
+}
+
+#[test]
+fn a_straight_leaf_gets_its_rows(rt: HostRuntime) -> Result<(), Fail> {
+    let alloc = rt.alloc();
+    let rows_of_a_return = [(0, DEPTH_8), (1, ZERO)];
+    let rows_of_a_push = [(0, DEPTH_8), (1, DEPTH_16), (2, DEPTH_8), (4, ZERO)];
+    let table: [(&[u8], usize, &[RowBytes]); 2] = [
+        (b"\xC3", 1168, &rows_of_a_return),
+        (b"\x53\x5B\x90\xC3", 1232, &rows_of_a_push),
+    ];
+    let words = words(alloc, &["check", "IN", "OUT"])?;
+    for (code, size, rows) in table {
+        let object = make(alloc, code)?;
+        assert_eq!(rt; object.len(), 504, "{code:?}");
+        let mut files = SureFiles::new(alloc, only_in(alloc, &object)?);
+        let mut out = SureSink::new(alloc, 100);
+        let status = run(alloc, &words, &mut files, &mut out);
+        assert_eq!(rt; status, Status::Done, "{code:?}");
+        assert_eq!(rt; out.written().len(), 0, "{code:?}");
+        let written = files.content("OUT").ok_or("OUT is there")?;
+        assert_eq!(rt; written.len(), size, "{code:?}");
+        expect_rows(&rt, alloc, written, rows)?;
+        assert!(rt; files.content("IN") == Some(object.as_slice()), "{code:?}");
+    }
+    Ok(())
+}
+
+/// `check IN OUT` on these bytes is refused by this line, and writes no OUT.
+fn expect_refused(
+    rt: &impl Abort,
+    alloc: Global,
+    bytes: &[u8],
+    line: &str,
+) -> Result<(), AllocError> {
+    let words = words(alloc, &["check", "IN", "OUT"])?;
+    let mut files = MemFiles::new(alloc, only_in(alloc, bytes)?, Vec::new(alloc));
+    let mut out = MemSink::new(alloc, 100, Vec::new(alloc));
+    let status = run(alloc, &words, &mut files, &mut out);
+    assert_eq!(rt; status, Status::Refused, "{line:?}");
+    assert_eq!(rt; out.written(), line.as_bytes(), "{line:?}");
+    assert!(rt; files.content("OUT").is_none(), "{line:?}");
+    assert_eq!(rt; (files.faults(), out.faults()), (0, 0), "{line:?}");
+    Ok(())
+}
+
+/// A function with a frame, which is no straight leaf.
+const FRAME: [u8; 6] = [0x55, 0x48, 0x89, 0xE5, 0x5D, 0xC3];
+
+#[test]
+fn other_code_is_not_built(rt: HostRuntime) -> Result<(), Fail> {
+    let table: [&[u8]; 8] = [
+        &FRAME,
+        b"",
+        b"\x53\xC3",
+        b"\x5B\xC3",
+        b"\x90",
+        b"\xC3\xC3",
+        b"\x55\x5D\xC3",
+        b"\x54\x5B\xC3",
+    ];
+    for code in table {
+        let object = make(rt.alloc(), code)?;
+        expect_refused(&rt, rt.alloc(), &object, "refused: not built yet\n")?;
+    }
+    Ok(())
+}
+
+/// The object of a code with other bytes from an offset on.
+fn changed(alloc: Global, code: &[u8], at: usize, bytes: &[u8]) -> Result<Vec<u8>, AllocError> {
+    let mut object = make(alloc, code)?;
+    for (i, byte) in bytes.iter().enumerate() {
+        if let Some(place) = object.get_mut(at.wrapping_add(i)) {
+            *place = *byte;
+        }
+    }
+    Ok(object)
+}
+
+#[test]
+fn an_object_of_another_form_is_not_built(rt: HostRuntime) -> Result<(), Fail> {
+    let table: [(usize, &[u8]); 7] = [
+        // The function is no function, begins later, or is shorter.
+        (124, &[0x10]),
+        (128, &[1]),
+        (136, &[1]),
+        // The section symbol is none, or a second function.
+        (100, &[0]),
+        (100, &[2]),
+        // `.text` isn't executable.
+        (256, &[2]),
+        // `.symtab` has another name.
+        (154, b"__ex_table\0"),
+    ];
+    for (at, bytes) in table {
+        let object = changed(rt.alloc(), b"\x53\x5B\xC3", at, bytes)?;
+        expect_refused(&rt, rt.alloc(), &object, "refused: not built yet\n")?;
+    }
+    Ok(())
+}
+
+#[test]
+fn a_file_cut_short_is_refused(rt: HostRuntime) -> Result<(), Fail> {
+    let alloc = rt.alloc();
+    let object = make(alloc, &FRAME)?;
+    assert_eq!(rt; object.len(), 504);
+    for have in 0..504 {
+        let need = if have < 64 { 64 } else { 504 };
+        let line = format!(in alloc; "refused: file needs {need} bytes, has {have}\n")?;
+        expect_refused(&rt, alloc, &object[..have], &line)?;
+    }
+    Ok(())
+}
+
+#[test]
+fn a_file_with_changed_bytes_is_refused(rt: HostRuntime) -> Result<(), Fail> {
+    let table: [(usize, &[u8], &str); 6] = [
+        (
+            18,
+            &[3],
+            "refused: not an x86-64 relocatable file at byte 18\n",
+        ),
+        (
+            40,
+            &[0xC0, 255, 255, 255, 255, 255, 255, 255],
+            "refused: file needs 18446744073709551615 bytes, has 504\n",
+        ),
+        (272, &[255; 8], "refused: section 1: outside the file\n"),
+        (356, &[9, 0, 0, 0], "refused: section 2: bad link\n"),
+        (96, &[255; 4], "refused: symbol 1: bad name\n"),
+        (126, &[0, 255], "refused: symbol 2: bad symbol\n"),
+    ];
+    for (at, bytes, line) in table {
+        let object = changed(rt.alloc(), &FRAME, at, bytes)?;
+        expect_refused(&rt, rt.alloc(), &object, line)?;
+    }
+    Ok(())
+}
+
+/// Files whose every name holds more than any limit.
+#[derive(Drop)]
+struct LongFiles;
+
+impl Files for LongFiles {
+    ghost use Rattle.std.specs.Prelude.{None};
+
+    ghost content = { λ _. None };
+
+    ghost faults = { λ _. 0 };
+
+    fn read(&mut self, _name: &str, limit: u64, into: &mut Vec<u8>) -> Result<(), FileError> {
+        into.clear();
+        Err(FileError::TooLong { limit })
+    }
+
+    fn write(&mut self, _name: &str, _bytes: &[u8]) -> Result<(), FileError> {
+        Err(FileError::NoMemory)
+    }
+}
+
+#[test]
+fn a_file_that_is_too_long_is_refused(rt: HostRuntime) -> Result<(), Fail> {
+    let mut out = SureSink::new(rt.alloc(), 100);
+    let words = words(rt.alloc(), &["check", "IN", "OUT"])?;
+    let status = run(rt.alloc(), &words, &mut LongFiles, &mut out);
+    assert_eq!(rt; status, Status::Refused);
+    assert_eq!(rt;
+        out.written(),
+        b"refused: IN is longer than 67108864 bytes\n".as_slice()
+    );
+    Ok(())
+}
+
+#[test]
+fn other_words_are_no_command(rt: HostRuntime) -> Result<(), Fail> {
+    let alloc = rt.alloc();
+    let table: [&[&str]; 10] = [
+        &[],
+        &["check"],
+        &["check", "IN"],
+        &["check", "IN", "OUT", "x"],
+        &["check", "-i", "OUT"],
+        &["check", "IN", "-"],
+        &["check", "", "OUT"],
+        &["check", "IN", ""],
+        &["Check", "IN", "OUT"],
+        &["IN", "check", "OUT"],
+    ];
+    for texts in table {
+        let object = make(alloc, b"\xC3")?;
+        let mut files = SureFiles::new(alloc, only_in(alloc, &object)?);
+        let mut out = SureSink::new(alloc, 100);
+        let words = words(alloc, texts)?;
+        let status = run(alloc, &words, &mut files, &mut out);
+        assert_eq!(rt; status, Status::Usage, "{texts:?}");
+        assert_eq!(rt;
+            out.written(),
+            b"usage: not built yet\n".as_slice(),
+            "{texts:?}"
+        );
+        assert!(rt; files.content("OUT").is_none(), "{texts:?}");
+    }
+    Ok(())
+}
+
+/// A run of `check` on an input's name, over the files where IN holds the object of `C3`.
+#[derive(Clone, Copy)]
+struct Faulty {
+    input: &'static str,
+    /// The call of the files that fails, how many bytes the output takes a write, and its write that
+    /// fails.
+    file_call: u64,
+    most: usize,
+    write: u64,
+    status: Status,
+    written: &'static str,
+    /// How many calls of the files and of the output failed.
+    faults: (u64, u64),
+}
+
+/// The number of a call that isn't made.
+const NEVER: u64 = 99;
+
+fn expect_faulty(rt: &impl Abort, alloc: Global, case: Faulty) -> Result<(), AllocError> {
+    assert!(rt; case.most > 0);
+    let line = case.written;
+    let object = make(alloc, b"\xC3")?;
+    let failing = vec![in alloc; case.file_call]?;
+    let mut files = MemFiles::new(alloc, only_in(alloc, &object)?, failing);
+    let mut out = MemSink::new(alloc, case.most, vec![in alloc; case.write]?);
+    let words = words(alloc, &["check", case.input, "OUT"])?;
+    let status = run(alloc, &words, &mut files, &mut out);
+    assert_eq!(rt; status, case.status, "{line:?}");
+    assert_eq!(rt; out.written(), line.as_bytes(), "{line:?}");
+    assert_eq!(rt; (files.faults(), out.faults()), case.faults, "{line:?}");
+    assert!(rt; files.content("OUT").is_none(), "{line:?}");
+    assert!(rt; files.content("IN") == Some(object.as_slice()), "{line:?}");
+    Ok(())
+}
+
+#[test]
+fn missing_files_and_failing_calls(rt: HostRuntime) -> Result<(), Fail> {
+    let missing = Faulty {
+        input: "no",
+        file_call: NEVER,
+        most: 100,
+        write: NEVER,
+        status: Status::Refused,
+        written: "refused: no is missing\n",
+        faults: (0, 0),
+    };
+    let unread = Faulty {
+        input: "IN",
+        file_call: 0,
+        status: Status::FileFault,
+        written: "file fault: IN\n",
+        faults: (1, 0),
+        ..missing
+    };
+    let table = [
+        missing,
+        Faulty {
+            input: "a b\\",
+            written: "refused: a\\20b\\5c is missing\n",
+            ..missing
+        },
+        unread,
+        Faulty {
+            file_call: 1,
+            written: "file fault: OUT\n",
+            ..unread
+        },
+        // The output fails in the midst of the line.
+        Faulty {
+            most: 10,
+            write: 1,
+            status: Status::SinkFault,
+            written: "refused: n",
+            faults: (0, 1),
+            ..missing
+        },
+        Faulty {
+            most: 10,
+            write: 1,
+            written: "file fault",
+            faults: (1, 1),
+            ..unread
+        },
+    ];
+    for case in table {
+        expect_faulty(&rt, rt.alloc(), case)?;
+    }
+    Ok(())
+}
+
+#[test]
+fn exit_statuses(rt: HostRuntime) {
+    let table = [
+        (Status::Done, 0),
+        (Status::Warnings, 1),
+        (Status::Refused, 2),
+        (Status::Usage, 3),
+        (Status::FileFault, 4),
+        (Status::SinkFault, 5),
+        (Status::NoMemory, 6),
+    ];
+    for (status, code) in table {
+        assert_eq!(rt; status.code(), code, "{status:?}");
+    }
+}
