@@ -2,12 +2,8 @@
 # How fast 16 MB of code are decoded, beside `objdump -d` over the same bytes. The code is what gcc makes of a few
 # functions, again and again. Run at the top of the repository. Skipped where a tool is missing.
 set -eu
-root=$(cd "$(dirname "$0")/.." && pwd)
-for tool in gcc objcopy objdump; do
-    command -v "$tool" >/dev/null || { echo "decode speed: skipped, no $tool"; exit 0; }
-done
-scratch=$(mktemp -d)
-trap 'rm -rf "$scratch"' EXIT
+. "$(dirname "$0")/prepare.sh"
+needs "decode speed" gcc objcopy objdump
 
 cat >"$scratch/code.c" <<'C'
 struct node { struct node *next; unsigned long key; unsigned char tag; };
@@ -52,22 +48,7 @@ while [ $(($(stat -c %s "$scratch/body") + size)) -le 16777216 ]; do
     cat "$scratch/more" >>"$scratch/body"
 done
 
-# The library, with the libraries that it stands on and what checks of them left.
-needed() {
-    local library
-    for library in $(sed -n "s/^$1://p" "$root/crates.txt"); do
-        if [ -d "$root/crates/$library" ]; then echo "$library"; needed "$library"; fi
-    done
-}
-mkdir "$scratch/crates"
-for library in x86_text $(needed x86_text); do
-    [ -d "$scratch/crates/$library" ] || cp -r "$root/crates/$library" "$scratch/crates/$library"
-    grep "^$library:" "$root/crates.txt" >>"$scratch/crates.txt"
-done
-sort -u -o "$scratch/crates.txt" "$scratch/crates.txt"
-mkdir -p "$scratch/crates/decode_speed/src"
-cp "$root/tools/decode-speed/main.rt.txt" "$scratch/crates/decode_speed/src/main.rt"
-echo "decode_speed: $(sed -n 's|^// uses: ||p' "$root/tools/decode-speed/main.rt.txt")" >>"$scratch/crates.txt"
+"$root/tools/with-library.sh" "$scratch" decode_speed "$root/tools/decode-speed/main.rt.txt"
 (cd "$scratch/crates/decode_speed" && rt run -- "$scratch/body")
 
 before=$(date +%s%N)

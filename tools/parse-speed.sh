@@ -2,12 +2,8 @@
 # How fast an object of about 60 MB with 60,000 sections and 2,000,000 symbols is parsed, beside `readelf -SWs` over the
 # same file: the least time of five runs of each. Run at the top of the repository. Skipped where a tool is missing.
 set -eu
-root=$(cd "$(dirname "$0")/.." && pwd)
-for tool in python3 readelf; do
-    command -v "$tool" >/dev/null || { echo "parse speed: skipped, no $tool"; exit 0; }
-done
-scratch=$(mktemp -d)
-trap 'rm -rf "$scratch"' EXIT
+. "$(dirname "$0")/prepare.sh"
+needs "parse speed" python3 readelf
 
 python3 "$root/tools/parse-speed/make.py" "$scratch/large.o"
 "$root/tools/with-library.sh" "$scratch" parse_speed "$root/tools/parse-speed/main.rt.txt"

@@ -2,12 +2,8 @@
 # Parses objects that gcc and the assembler make, and compares how many sections, symbols and relocations each has with
 # what `readelf` tells. Run at the top of the repository. Skipped where a tool is missing.
 set -eu
-root=$(cd "$(dirname "$0")/.." && pwd)
-for tool in gcc as readelf; do
-    command -v "$tool" >/dev/null || { echo "real objects: skipped, no $tool"; exit 0; }
-done
-scratch=$(mktemp -d)
-trap 'rm -rf "$scratch"' EXIT
+. "$(dirname "$0")/prepare.sh"
+needs "real objects" gcc as readelf
 cd "$scratch"
 mkdir sources objects
 
