@@ -1,0 +1,6 @@
+pub mod Placed
+pub mod Visited
+pub mod Tells
+pub mod Walks
+pub mod Enters
+pub mod Laws
