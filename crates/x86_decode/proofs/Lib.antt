@@ -9,5 +9,4 @@ pub mod Spelled
 pub mod Parsed
 pub mod Fronts
 pub mod Decided
-pub mod LeafLaws
 pub mod Exact

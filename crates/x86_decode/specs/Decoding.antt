@@ -52,3 +52,7 @@ Outcome bytes (Ok insn) = StandsInFront bytes insn
 Outcome bytes (Err (Outside seen)) = EndsOutside bytes seen
 Outcome bytes (Err (Cut have)) = IsCut bytes have
 Outcome bytes (Err Long) = IsTooLong bytes
+
+-- bytes have at most one answer
+abbrev pub OneOutcome : Type 0
+OneOutcome = (bytes : List ℕ) (one other : Result Insn DecodeFault) → Outcome bytes one → Outcome bytes other → one ≡ other

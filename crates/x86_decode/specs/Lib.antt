@@ -1,4 +1,3 @@
-pub mod Leaf
 pub mod Fields
 pub mod Action
 pub mod Operation

@@ -2,11 +2,9 @@
 //! (Intel SDM, volume 2).
 #![tactic(auto)]
 
-ghost use Rattle.std.specs.Prelude.{◌≡◌, ◌<◌, ◌≤◌, ◌↔◌, ℕ, [], ◌∷◌, length, slice_index, IfOk};
-ghost use Rattle.x86_decode.specs.Leaf.{leaf_op};
-ghost use Rattle.x86_decode.specs.Spelling.{Spells};
+ghost use Rattle.std.specs.Prelude.{◌≡◌, ◌<◌, ◌≤◌, ◌↔◌, ℕ, length, IfOk};
 ghost use Rattle.x86_decode.specs.MapLaw.{MapIsExact};
-ghost use Rattle.x86_decode.specs.Decoding.{StandsInFront, EndsOutside, IsCut, IsTooLong, OneSpelling, decoded};
+ghost use Rattle.x86_decode.specs.Decoding.{StandsInFront, EndsOutside, IsCut, IsTooLong, OneOutcome, OneSpelling, decoded};
 
 mod action;
 mod fields;
@@ -34,10 +32,8 @@ pub fn decode(bytes: &[u8]) -> Result<Insn, DecodeFault>
     ensures outside { (seen : ℕ) → (result ≡ Err (DecodeFault.Outside seen)) ↔ EndsOutside bytes.now seen }
     ensures cut { (have : ℕ) → (result ≡ Err (DecodeFault.Cut have)) ↔ IsCut bytes.now have }
     ensures long { (result ≡ Err DecodeFault.Long) ↔ IsTooLong bytes.now }
-    // A byte of a straight leaf function is an instruction of length 1.
-    ensures leaf { (op : Op) → 0 < length bytes.now
-        → leaf_op (slice_index bytes.now 0) ≡ Some op
-        → result ≡ Ok (record { len = 1; op = op }) }
+    // The answer is a function of the bytes.
+    ensures answer { result ≡ decoded bytes.now }
     // An instruction has 1 to 15 bytes, all of them among the bytes given.
     ensures within { IfOk result (λ insn.
         (0 < insn.len) × (insn.len ≤ 15) × (insn.len ≤ length bytes.now)) }
@@ -73,15 +69,15 @@ pub fn one_spelling()
     ensures { OneSpelling }
 {}
 
+/// What decoding may answer excludes each other: bytes have at most one answer.
+pub fn one_outcome()
+    ensures { OneOutcome }
+{}
+
 /// What the opcode map answers, in terms of spellings: it fits exactly what is spelled, asks for a ModRM byte exactly
 /// where some spelling has one, and refuses exactly where there is none.
 pub fn map_is_exact()
     ensures { MapIsExact }
-{}
-
-/// Each byte of a straight leaf function spells its operation, alone.
-pub fn leaf_spellings()
-    ensures { (byte : ℕ) (op : Op) → leaf_op byte ≡ Some op → Spells (byte ∷ []) (record { len = 1; op = op }) }
 {}
 
 #[cfg(test)]

@@ -6,8 +6,8 @@ use Rattle.machine_ops.specs.declared.op.Op.TheVariants.{Plain}
 use Rattle.machine_ops.specs.declared.insn.Insn.{Insn}
 use Rattle.x86_decode.specs.Decoding.{StandsInFront}
 use Rattle.x86_text.specs.declared.placed.PlacedInsn.{PlacedInsn}
-use Rattle.x86_text.specs.Code.{IsBoundary, start, behind, IsCode}
-use Rattle.x86_text.specs.Listed.{StandsIn, LeadsTo, IsListing}
+use Rattle.x86_text.specs.Code.{IsBoundary, start, behind, IsCode, LeadsTo}
+use Rattle.x86_text.specs.Listed.{StandsIn, IsListing}
 
 -- an instruction among these begins at b
 pub record StandsAt (code : List PlacedInsn) (b : ℕ) : Type 0 where

@@ -7,8 +7,8 @@ use Rattle.std.proofs.lemmas.List.{drop-drop, drop_all}
 use Rattle.machine_ops.specs.declared.insn.Insn.{Insn}
 use Rattle.x86_decode.specs.Decoding.{StandsInFront, decoded}
 use Rattle.x86_text.specs.declared.placed.PlacedInsn.{PlacedInsn}
-use Rattle.x86_text.specs.Code.{IsBoundary, start, behind, code_from, code_of}
-use Rattle.x86_text.specs.Listed.{StandsIn, LeadsTo, IsListing}
+use Rattle.x86_text.specs.Code.{IsBoundary, start, behind, code_from, code_of, LeadsTo}
+use Rattle.x86_text.specs.Listed.{StandsIn, IsListing}
 use Rattle.x86_text.proofs.CodeLemmas.{code_from_more}
 
 -- these are the instructions of the body up to an offset
@@ -18,6 +18,7 @@ pub record IsReadTo (body : List ℕ) (code : List PlacedInsn) (off : ℕ) : Typ
   pub same : code ++ code_from 0 off (drop off body) ≡ code_of body
   pub each : All (StandsIn body) code
   pub leads : LeadsTo 0 code off
+  pub some : All (λ p. 0 < p.insn.len) code
   pub ascending : IsNonDecreasingBy (λ p. p.off) code
   pub below : All (λ p. p.off < off) code
   pub few : length code ≤ off
@@ -38,6 +39,7 @@ read_nothing body = record {
   same = nothing_read body;
   each = All-nil (StandsIn body);
   leads = refl;
+  some = All-nil (λ p. 0 < p.insn.len);
   ascending = IsNonDecreasingBy-short (λ p. p.off) [] (omega arith);
   below = All-nil (λ p. p.off < 0);
   few = omega arith;
@@ -60,6 +62,7 @@ read_more body code off insn read inside here stands only long fits =
           ∙ read.same;
       each = All-push (StandsIn body) code p read.each (record { boundary = read.boundary inside; stands = stands; only = only; within = room });
       leads = LeadsTo-push 0 code p read.leads;
+      some = All-push (λ q. 0 < q.insn.len) code p read.some long;
       ascending = IsNonDecreasingBy-push (λ q. q.off) code p read.ascending (λ d some. let low : (get_or code (length code - 1) d).off < off = read.below (length code - 1) d (omega arith) in omega arith);
       below = All-push (λ q. q.off < off + insn.len) code p (λ k d h. let low : (get_or code k d).off < off = read.below k d h in omega arith) (omega arith);
       few = let n : length code ≤ off = read.few in omega (arith, length-append code (p ∷ []));
@@ -75,6 +78,7 @@ read_all body code off read end small =
       same = sym (append-nil code) ∙ ap (λ bytes. code ++ code_from 0 off bytes) (sym (drop_all off body end)) ∙ read.same;
       each = read.each;
       whole = subst (LeadsTo 0 code) whole read.leads;
+      some = read.some;
       ascending = read.ascending;
       few = omega arith;
     }

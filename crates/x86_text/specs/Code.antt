@@ -51,3 +51,8 @@ pub record IsPreviousBoundary (body : List ℕ) (off previous : ℕ) : Type 0 wh
   pub boundary : IsBoundary body previous
   pub below : previous < off
   pub greatest : (b : ℕ) → IsBoundary body b → b < off → b ≤ previous
+
+-- from one offset to another, each begins where the one before it ends
+abbrev pub LeadsTo : ℕ → List PlacedInsn → ℕ → Type 0
+LeadsTo off [] to = off ≡ to
+LeadsTo off (p ∷ ps) to = (p.off ≡ off) × LeadsTo (off + p.insn.len) ps to

@@ -1,10 +1,10 @@
 -- What is known of the instructions that a text keeps.
-use Rattle.std.specs.Prelude.{◌≡◌, ℕ, ◌+◌, ◌<◌, ◌≤◌, ◌^◌, List, [], ◌∷◌, length, drop, All}
+use Rattle.std.specs.Prelude.{◌≡◌, ℕ, ◌+◌, ◌<◌, ◌≤◌, ◌^◌, List, length, drop, All}
 use Rattle.std.specs.List.Sorted.{IsNonDecreasingBy}
 use Rattle.machine_ops.specs.declared.insn.Insn.{Insn}
 use Rattle.x86_decode.specs.Decoding.{StandsInFront}
 use Rattle.x86_text.specs.declared.placed.PlacedInsn.{PlacedInsn}
-use Rattle.x86_text.specs.Code.{IsBoundary, code_of}
+use Rattle.x86_text.specs.Code.{IsBoundary, LeadsTo, code_of}
 
 -- the instruction stands there, and no other one does
 pub record StandsIn (body : List ℕ) (p : PlacedInsn) : Type 0 where
@@ -13,15 +13,11 @@ pub record StandsIn (body : List ℕ) (p : PlacedInsn) : Type 0 where
   pub only : (insn : Insn) → StandsInFront (drop p.off body) insn → insn ≡ p.insn
   pub within : p.off + p.insn.len ≤ length body
 
--- from one offset to another, each begins where the one before it ends
-abbrev pub LeadsTo : ℕ → List PlacedInsn → ℕ → Type 0
-LeadsTo off [] to = off ≡ to
-LeadsTo off (p ∷ ps) to = (p.off ≡ off) × LeadsTo (off + p.insn.len) ps to
-
 -- the instructions of the whole body
 pub record IsListing (body : List ℕ) (code : List PlacedInsn) : Type 0 where
   pub same : code ≡ code_of body
   pub each : All (StandsIn body) code
   pub whole : LeadsTo 0 code (length body)
+  pub some : All (λ p. 0 < p.insn.len) code
   pub ascending : IsNonDecreasingBy (λ p. p.off) code
   pub few : length code < 2 ^ 32

@@ -1,7 +1,7 @@
-ghost use Rattle.std.specs.Prelude.{◌≡◌, ◌+◌, ◌<◌, ◌≤◌, ◌↔◌, ℕ, ⊤, length, drop, slice_get, slice_index_or, slice_range, Contains, IfOk, IfErr, OnOk, IfSome, IfNone, MatchOption};
+ghost use Rattle.std.specs.Prelude.{◌≡◌, ◌+◌, ◌<◌, ◌≤◌, ◌↔◌, ℕ, ⊤, All, length, drop, slice_get, slice_index_or, slice_range, Contains, IfOk, IfErr, OnOk, IfSome, IfNone, MatchOption};
 ghost use Rattle.std.specs.List.Sorted.{IsNonDecreasingBy};
 ghost use Rattle.x86_decode.specs.Decoding.{StandsInFront};
-ghost use Rattle.x86_text.specs.Code.{code_of, insn_listed, offsets_of, IsBoundary, IsCode, IsNextBoundary, IsPreviousBoundary};
+ghost use Rattle.x86_text.specs.Code.{code_of, insn_listed, offsets_of, IsBoundary, IsCode, IsNextBoundary, IsPreviousBoundary, LeadsTo};
 ghost use Rattle.x86_text.specs.declared.placed.PlacedInsn.{PlacedInsn};
 ghost use Rattle.x86_text.specs.Refused.{IsTextFault};
 
@@ -66,6 +66,9 @@ impl<'a> Text<'a> {
         // An instruction begins at each boundary of the body, and nowhere else.
         ensures code { IsCode self.now }
         ensures boundaries { (off : ℕ) → IsBoundary self.now off ↔ Contains (offsets_of self.now) off }
+        // They have a byte each at least, and fill the body from its first byte to its last.
+        ensures some { All (λ p. 0 < p.insn.len) (code_of self.now) }
+        ensures whole { LeadsTo 0 (code_of self.now) (length self.now) }
     {
         self.code.len() as u32
     }

@@ -3,7 +3,6 @@ use Rattle.std.proofs.Common.{Ok, Err, subst, sym, arith}
 use Rattle.x86_decode.specs.declared.DecodeFault.TheVariants.{Cut, Outside, Long}
 use Rattle.x86_decode.specs.Decoding.{Outcome}
 use Rattle.x86_decode.proofs.Decided.{bytes_from_each, outcome, decides, lengths}
-use Rattle.x86_decode.proofs.LeafLaws.{leaf_stands}
 use Rattle.x86_decode.proofs.decode.Goals as goal
 
 pub returns-clause-ok : goal.returns-clause-ok
@@ -17,10 +16,6 @@ returns-clause-cut c = λ have. decides c.args.bytes.now (bytes_from_each c.args
 
 pub returns-clause-long : goal.returns-clause-long
 returns-clause-long c = decides c.args.bytes.now (bytes_from_each c.args.bytes.now (λ k. omega (arith, c.type_inv.bytes k))) c.decode_front.result (Err Long) c.decode_front.ensures
-
-pub returns-clause-leaf : goal.returns-clause-leaf
-returns-clause-leaf c = λ op some is.
-    (decides c.args.bytes.now (bytes_from_each c.args.bytes.now (λ k. omega (arith, c.type_inv.bytes k))) c.decode_front.result (Ok (record { len = 1; op = op })) c.decode_front.ensures).1 (leaf_stands c.args.bytes.now op some is)
 
 pub returns-clause-within : goal.returns-clause-within
 returns-clause-within c = lengths c.args.bytes.now c.decode_front.result

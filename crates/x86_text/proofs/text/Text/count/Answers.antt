@@ -1,6 +1,6 @@
-use Rattle.std.proofs.Common.{ℕ, List, map, Contains, ◌↔◌, subst}
+use Rattle.std.proofs.Common.{ℕ, ◌<◌, List, length, map, All, Contains, ◌↔◌, subst}
 use Rattle.x86_text.specs.declared.placed.PlacedInsn.{PlacedInsn}
-use Rattle.x86_text.specs.Code.{IsBoundary, IsCode, offsets_of}
+use Rattle.x86_text.specs.Code.{IsBoundary, IsCode, LeadsTo, code_of, offsets_of}
 use Rattle.x86_text.proofs.ListingLemmas.{boundaries_listed, listing_is_code}
 use Rattle.x86_text.proofs.text.Text.count.Goals as goal
 
@@ -12,3 +12,11 @@ returns-clause-boundaries c =
     let listed : (off : ℕ) → IsBoundary c.self.inside.body.now off ↔ Contains (offsets_of c.self.inside.body.now) off = λ off.
     subst (λ (code : List PlacedInsn). IsBoundary c.self.inside.body.now off ↔ Contains (map (λ p. p.off) code) off) c.self.invariant.same (boundaries_listed c.self.inside.body.now c.self.inside.code.items c.self.invariant off) in
     subst (λ (body : List ℕ). (off : ℕ) → IsBoundary body off ↔ Contains (offsets_of body) off) c.self.view_is listed
+
+pub returns-clause-some : goal.returns-clause-some
+returns-clause-some c =
+    subst (λ (body : List ℕ). All (λ p. 0 < p.insn.len) (code_of body)) c.self.view_is (subst (All (λ (p : PlacedInsn). 0 < p.insn.len)) c.self.invariant.same c.self.invariant.some)
+
+pub returns-clause-whole : goal.returns-clause-whole
+returns-clause-whole c =
+    subst (λ (body : List ℕ). LeadsTo 0 (code_of body) (length body)) c.self.view_is (subst (λ (code : List PlacedInsn). LeadsTo 0 code (length c.self.inside.body.now)) c.self.invariant.same c.self.invariant.whole)

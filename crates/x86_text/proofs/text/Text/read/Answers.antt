@@ -1,12 +1,9 @@
 use Rattle.std.proofs.Common.{◌≡◌, ℕ, ◌+◌, ◌-◌, ◌≤◌, List, length, drop, take, Result, Ok, Err, ◌↔◌, length-drop, arith, refl, sym, subst}
 use Rattle.std.proofs.lemmas.List.{take_all}
-use Rattle.std.proofs.lemmas.List.{get_or-drop}
-use Rattle.x86_decode.proofs.Languages.{IsBytes}
 use Rattle.machine_ops.specs.declared.insn.Insn.{Insn}
 use Rattle.x86_decode.specs.declared.DecodeFault.{DecodeFault}
 use Rattle.x86_decode.specs.declared.DecodeFault.TheVariants.{Cut, Outside, Long}
 use Rattle.x86_decode.specs.Decoding.{StandsInFront, EndsOutside, IsCut, IsTooLong, Outcome, decoded}
-use Rattle.x86_decode.proofs.Decided.{bytes_from_each, exclusive, outcome}
 use Rattle.x86_text.specs.declared.placed.PlacedInsn.{PlacedInsn}
 use Rattle.x86_text.proofs.ReadLemmas.{IsReadTo, read_nothing, read_more, read_all}
 use Rattle.x86_text.proofs.ListingLemmas.{listing_is_code}
@@ -34,8 +31,7 @@ loop-off-preserved c =
     let stands : StandsInFront (drop c.loop-off.off c.args.body.now) c.in-Ok.insn = subst (λ (bytes : List ℕ). StandsInFront bytes c.in-Ok.insn) whole ((c.in-Ok.ensures.ok c.in-Ok.insn).0 refl) in
     let only : (other : Insn) → StandsInFront (drop c.loop-off.off c.args.body.now) other → other ≡ c.in-Ok.insn = λ other also.
     same_ok other c.in-Ok.insn ((c.in-Ok.ensures.ok other).1 (subst (λ (bytes : List ℕ). StandsInFront bytes other) (sym whole) also)) in
-    let bytes : IsBytes (drop c.loop-off.off c.args.body.now) = bytes_from_each (drop c.loop-off.off c.args.body.now) (λ k. rw (get_or-drop c.loop-off.off c.args.body.now k 0) (omega (arith, c.type_inv.body (c.loop-off.off + k)))) in
-    let here : decoded (drop c.loop-off.off c.args.body.now) ≡ Ok c.in-Ok.insn = sym (exclusive (drop c.loop-off.off c.args.body.now) (Ok c.in-Ok.insn) (decoded (drop c.loop-off.off c.args.body.now)) stands (outcome (drop c.loop-off.off c.args.body.now) bytes)) in
+    let here : decoded (drop c.loop-off.off c.args.body.now) ≡ Ok c.in-Ok.insn = subst (λ (bytes : List ℕ). decoded bytes ≡ Ok c.in-Ok.insn) whole (sym c.in-Ok.ensures.answer) in
     subst (λ (code : List PlacedInsn). IsReadTo c.args.body.now code (c.loop-off.off + c.in-Ok.insn.len)) (sym c.in_ok-push-in-Ok.ensures.items)
     (read_more c.args.body.now c.loop-off.code.items c.loop-off.off c.in-Ok.insn c.loop-off.invariant c.loop-off-test.true here stands only c.in-Ok.ensures.within.0 fits)
 
