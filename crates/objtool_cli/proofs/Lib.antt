@@ -1,9 +1,10 @@
 pub mod CommandLemmas
+pub mod LaterLemmas
 pub mod TellLemmas
 pub mod TextsLemmas
 pub mod ContentLemmas
 pub mod FormLemmas
-pub mod LeafLemmas
+pub mod CodeLemmas
 pub mod EndsLemmas
 pub mod ParseLemmas
 pub mod AcceptsLemmas

@@ -1,11 +1,15 @@
 -- What a command tells of bytes that are no object.
 use Rattle.std.proofs.Common.{ℕ, List, inl, inr}
 use Rattle.std.specs.Prelude.{◌≢◌}
-use Rattle.elf_objects.specs.Object.{FirstFault, Refuses}
+use Rattle.elf_objects.specs.Elf.{Elf}
+use Rattle.elf_objects.specs.Object.{FirstFault, IsObject, Refuses}
 use Rattle.elf_objects.specs.declared.fault.ElfFault.{ElfFault}
 use Rattle.elf_objects.specs.declared.fault.ElfFault.TheVariants.{Short, NotElfRel64, BadTable, BadRange, BadName, BadLink, BadSymbol, BadReloc, TooMany, NoMemory}
-use Rattle.objtool_cli.specs.Checked.{malformed}
-use Rattle.objtool_cli.specs.Command.{IsRefusal, parse_stop}
+use Rattle.objtool_cli.specs.declared.stop.Refusal.TheVariants as refusal
+use Rattle.objtool_cli.specs.declared.stop.Stop.{Stop}
+use Rattle.objtool_cli.specs.declared.stop.Stop.TheVariants as stop
+use Rattle.objtool_cli.specs.Checked.{malformed, undecoded}
+use Rattle.objtool_cli.specs.Command.{IsRefusal, IsUnread, parse_stop}
 
 -- a refusal is a fault where it isn't want of memory
 fault_of : (bytes : List ℕ) (e : ElfFault) → Refuses (FirstFault bytes) e → e ≢ NoMemory → FirstFault bytes e
@@ -23,3 +27,16 @@ parse_refusal bytes (BadSymbol sym) h = malformed (fault_of bytes _ h (λ x. cc)
 parse_refusal bytes (BadReloc sec index) h = malformed (fault_of bytes _ h (λ x. cc))
 parse_refusal bytes (TooMany what count) h = malformed (fault_of bytes _ h (λ x. cc))
 parse_refusal bytes NoMemory h = tt
+
+-- what is told of an object whose code doesn't decode is a refusal of its bytes
+pub text_refusal : (bytes : List ℕ) (o : Elf) (s : Stop) → IsObject bytes o → IsUnread o s → IsRefusal bytes s
+text_refusal bytes o (stop.Refused (refusal.Undecoded place)) is h = undecoded o is h
+text_refusal bytes o (stop.Refused (refusal.Malformed fault)) is h = absurd h
+text_refusal bytes o (stop.Refused (refusal.TooManySections count)) is h = absurd h
+text_refusal bytes o (stop.Refused refusal.NotBuilt) is h = absurd h
+text_refusal bytes o stop.NoMemory is h = tt
+text_refusal bytes o stop.Usage is h = absurd h
+text_refusal bytes o stop.Missing is h = absurd h
+text_refusal bytes o (stop.TooLong limit) is h = absurd h
+text_refusal bytes o stop.ReadFault is h = absurd h
+text_refusal bytes o stop.WriteFault is h = absurd h

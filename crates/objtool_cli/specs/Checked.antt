@@ -8,8 +8,10 @@ use Rattle.elf_write.specs.Object.{appended_to}
 use Rattle.orc_build.specs.Rows.{straight_rows}
 use Rattle.orc_output.specs.OrcOutput.{orc_sections}
 use Rattle.objtool_cli.specs.declared.stop.Refusal.{Refusal}
-use Rattle.objtool_cli.specs.declared.stop.Refusal.TheVariants.{Malformed, TooManySections, NotBuilt}
-use Rattle.objtool_cli.specs.Form.{IsStraightLeaf}
+use Rattle.objtool_cli.specs.declared.stop.Refusal.TheVariants.{Malformed, Undecoded, TooManySections, NotBuilt}
+use Rattle.objtool_cli.specs.declared.stop.Undecoded as stop
+use Rattle.objtool_cli.specs.Form.{IsStraightCode}
+use Rattle.objtool_cli.specs.Texts.{AreCode, IsFirstUndecoded}
 
 -- three more sections than this are too many
 abbrev pub most_sections : ℕ
@@ -20,20 +22,22 @@ most_sections = 262141
 pub record Accepts (bytes table : List ℕ) : Type 0 where
   pub object : Elf
   pub is : IsObject bytes object
-  pub few : length object.sections ≤ most_sections
   pub sec : ℕ
   pub insns : List Insn
-  pub form : IsStraightLeaf object sec insns
+  pub form : IsStraightCode object sec insns
+  pub few : length object.sections ≤ most_sections
   pub added : table ≡ appended_to object (orc_sections object (straight_rows sec insns))
 
--- An input of these bytes is refused so: they are no object, and this is their first fault; or an object with too many
--- sections; or one of another form.
+-- the object is of the form
+pub record HasForm (o : Elf) : Type 0 where
+  pub sec : ℕ
+  pub insns : List Insn
+  pub form : IsStraightCode o sec insns
+
+-- An input of these bytes is refused so, in this order: they are no object, and this is their first fault; or an object in
+-- whose code this is the first place without an instruction; or one of another form; or one with too many sections.
 pub data Refuses (bytes : List ℕ) : Refusal → Type 0 where
   malformed : {fault : ElfFault} → FirstFault bytes fault → Refuses bytes (Malformed fault)
-  crowded : (o : Elf) → IsObject bytes o → most_sections < length o.sections → Refuses bytes (TooManySections (length o.sections))
-  not_built :
-      (o : Elf)
-      → IsObject bytes o
-      → length o.sections ≤ most_sections
-      → ((sec : ℕ) (insns : List Insn) → IsStraightLeaf o sec insns → ⊥)
-      → Refuses bytes NotBuilt
+  undecoded : {place : stop.Undecoded} (o : Elf) → IsObject bytes o → IsFirstUndecoded o place → Refuses bytes (Undecoded place)
+  not_built : (o : Elf) → IsObject bytes o → AreCode o (length o.sections) → (HasForm o → ⊥) → Refuses bytes NotBuilt
+  crowded : (o : Elf) → IsObject bytes o → HasForm o → most_sections < length o.sections → Refuses bytes (TooManySections (length o.sections))

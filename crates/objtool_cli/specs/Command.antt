@@ -1,5 +1,5 @@
 -- What the command `check IN OUT` does, on whatever its files hold, and how it ends.
-use Rattle.std.specs.Prelude.{◌≡◌, ◌≢◌, ◌⊎◌, ℕ, ◌≤◌, List, [], length, Option, Some, None, Result, Ok, Err}
+use Rattle.std.specs.Prelude.{◌≡◌, ◌≢◌, ◌⊎◌, ℕ, ◌≤◌, List, [], length, drop, Option, Some, None, Result, Ok, Err}
 use Rattle.ot_files.specs.Causes.{Rose}
 use Rattle.ot_files.specs.Content.{Content, ChangesAtMost, reading, writing}
 use Rattle.ot_files.specs.Output.{AppendsPrefix, appending}
@@ -11,7 +11,11 @@ use Rattle.objtool_cli.specs.declared.status.Status.{Status}
 use Rattle.objtool_cli.specs.declared.status.Status.TheVariants as status
 use Rattle.elf_objects.specs.declared.fault.ElfFault.{ElfFault}
 use Rattle.elf_objects.specs.declared.fault.ElfFault.TheVariants as elf
-use Rattle.objtool_cli.specs.declared.stop.Refusal.TheVariants.{Malformed}
+use Rattle.elf_objects.specs.Elf.{Elf}
+use Rattle.objtool_cli.specs.declared.stop.Refusal.TheVariants as refusal
+use Rattle.x86_text.specs.declared.fault.TextFault.{TextFault}
+use Rattle.x86_text.specs.declared.fault.TextFault.TheVariants as text
+use Rattle.objtool_cli.specs.Texts.{IsFirstUndecoded}
 use Rattle.objtool_cli.specs.declared.stop.Stop.{Stop}
 use Rattle.objtool_cli.specs.declared.stop.Stop.TheVariants.{Usage, Missing, TooLong, Refused, ReadFault, WriteFault, NoMemory}
 use Rattle.objtool_cli.specs.declared.check.TheConstants.{MOST_BYTES}
@@ -42,7 +46,7 @@ IsTurnedDown (Err file.NoMemory) stop = ⊥
 -- why the command stops where the input is no object
 abbrev pub parse_stop : ElfFault → Stop
 parse_stop elf.NoMemory = NoMemory
-parse_stop fault = Refused (Malformed fault)
+parse_stop fault = Refused (refusal.Malformed fault)
 
 -- why the command stops where a file can't be read, and where one can't be written
 abbrev pub read_stop : FileError → Stop
@@ -102,6 +106,18 @@ Stops input output before after ReadFault = FailsToRead before after
 Stops input output before after WriteFault = FailsToWrite input output before after
 Stops input output before after NoMemory = ChangesAtMost output before.content after.content
 Stops input output before after Usage = ⊥
+
+-- the stop tells of a section with this name and body why the body isn't code
+abbrev pub TellsFault : List ℕ → List ℕ → TextFault → Stop → Type 0
+TellsFault name body (text.At off why) (Refused (refusal.Undecoded place)) = (place.section.now ≡ name) × (place.off ≡ off) × (place.code.now ≡ drop off body) × (place.why ≡ why)
+TellsFault name body (text.At off why) _ = ⊥
+TellsFault name body text.NoMemory stop = stop ≡ NoMemory
+
+-- the stop tells the first place of the object's code where no instruction stands, or want of memory
+abbrev pub IsUnread : Elf → Stop → Type 0
+IsUnread o (Refused (refusal.Undecoded place)) = IsFirstUndecoded o place
+IsUnread o NoMemory = Unit {0}
+IsUnread o _ = ⊥
 
 -- the stop is a refusal of these bytes, or want of memory
 abbrev pub IsRefusal : List ℕ → Stop → Type 0

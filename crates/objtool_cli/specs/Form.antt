@@ -1,5 +1,5 @@
--- The form of object that is checked so far: a straight leaf function.
-use Rattle.std.specs.Prelude.{◌≡◌, ℕ, ◌<◌, ◌≤◌, ◌==◌, ◌||◌, not, Bool, true, List, [], ◌∷◌, length, filter, All, Some, IsSome, codes, bytes_eq}
+-- The form of object that is checked so far: straight code.
+use Rattle.std.specs.Prelude.{◌≡◌, ℕ, ◌<◌, ◌≤◌, ◌==◌, ◌||◌, not, Bool, true, List, [], ◌∷◌, length, filter, All, IsSome, codes, bytes_eq}
 use Rattle.std.specs.List.{list_any}
 use Rattle.machine_ops.specs.declared.insn.Insn.{Insn}
 use Rattle.elf_objects.specs.declared.symbol.Home.TheVariants as home
@@ -7,7 +7,8 @@ use Rattle.elf_objects.specs.Elf.{Elf, SectionEntry, SymbolEntry}
 use Rattle.elf_objects.specs.Contents.{is_text, section_at, section_symbol_of}
 use Rattle.elf_objects.specs.Kind.{sht_rela, sht_group}
 use Rattle.orc_build.specs.Straight.{IsStraight, ops_of}
-use Rattle.objtool_cli.specs.Leaf.{leaf_insns}
+use Rattle.x86_text.specs.Code.{IsCode}
+use Rattle.objtool_cli.specs.Texts.{insns_of}
 
 -- the names of the sections that tell of alternatives, static branches and exceptions
 abbrev pub patch_names : List (List ℕ)
@@ -52,9 +53,9 @@ pub record IsOnlyText (o : Elf) (text : ℕ) : Type 0 where
   pub is_code : is_text (section_at o text) ≡ true
   pub only : (i : ℕ) → i < length o.sections → is_text (section_at o i) ≡ true → i ≡ text
 
--- The sections and symbols are those of a leaf function in this section: it has a section symbol, it is covered by the one
+-- The sections and symbols are those of one function in this section: it has a section symbol, it is covered by the one
 -- function, and there is nothing else that says more of code.
-pub record IsLeafAround (o : Elf) (sec : ℕ) : Type 0 where
+pub record IsFunctionAround (o : Elf) (sec : ℕ) : Type 0 where
   pub little : length o.bytes ≤ 67108864
   pub symbol : IsSome (section_symbol_of o sec)
   pub simple : All (λ s. is_simple s ≡ true) o.sections
@@ -62,10 +63,11 @@ pub record IsLeafAround (o : Elf) (sec : ℕ) : Type 0 where
   pub functions : filter is_function o.symbols ≡ function ∷ []
   pub covers : Covers o sec function
 
--- The object is one straight leaf function: its one text section, which has a section symbol, is the code of its one
--- function, in which each byte is an instruction, and which is straight code.
-pub record IsStraightLeaf (o : Elf) (sec : ℕ) (insns : List Insn) : Type 0 where
+-- The object is straight code: its one text section, which has a section symbol, is the code of its one function, has
+-- these instructions from its first byte to its last, and these are straight code.
+pub record IsStraightCode (o : Elf) (sec : ℕ) (insns : List Insn) : Type 0 where
   pub text : IsOnlyText o sec
-  pub around : IsLeafAround o sec
-  pub code : leaf_insns (section_at o sec).body ≡ Some insns
+  pub around : IsFunctionAround o sec
+  pub code : IsCode (section_at o sec).body
+  pub listed : insns ≡ insns_of (section_at o sec).body
   pub straight : IsStraight (ops_of insns)

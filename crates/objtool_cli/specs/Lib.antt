@@ -1,4 +1,4 @@
-pub mod Leaf
+pub mod Texts
 pub mod Words
 pub mod Refusal
 pub mod Stop

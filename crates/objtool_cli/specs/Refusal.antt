@@ -1,6 +1,9 @@
 -- The text of a refusal.
-use Rattle.std.specs.Prelude.{ℕ, List, [], ◌++◌, codes}
-use Rattle.std.specs.Fmt.{decimal}
+use Rattle.std.specs.Prelude.{ℕ, ◌/◌, ◌%◌, false, List, [], ◌∷◌, ◌++◌, codes, take, flat_map}
+use Rattle.std.specs.Fmt.{decimal, digit_glyph}
+use Rattle.ot_base.specs.PlaceText.{place_text}
+use Rattle.x86_decode.specs.declared.DecodeFault.{DecodeFault}
+use Rattle.x86_decode.specs.declared.DecodeFault.TheVariants as decode
 use Rattle.elf_objects.specs.declared.fault.Counted.{Counted}
 use Rattle.elf_objects.specs.declared.fault.Counted.TheVariants as counted
 use Rattle.elf_objects.specs.declared.fault.NameOf.{NameOf}
@@ -8,7 +11,8 @@ use Rattle.elf_objects.specs.declared.fault.NameOf.TheVariants as named
 use Rattle.elf_objects.specs.declared.fault.ElfFault.{ElfFault}
 use Rattle.elf_objects.specs.declared.fault.ElfFault.TheVariants as elf
 use Rattle.objtool_cli.specs.declared.stop.Refusal.{Refusal}
-use Rattle.objtool_cli.specs.declared.stop.Refusal.TheVariants.{Malformed, TooManySections, NotBuilt}
+use Rattle.objtool_cli.specs.declared.stop.Undecoded.{Undecoded}
+use Rattle.objtool_cli.specs.declared.stop.Refusal.TheVariants as refusal
 
 abbrev pub name_of_text : NameOf → List ℕ
 name_of_text named.Section = codes "section"
@@ -39,7 +43,22 @@ fault_text (elf.BadReloc sec index) = reloc_text sec index
 fault_text (elf.TooMany what count) = codes "too many " ++ counted_text what ++ codes ": " ++ decimal count
 fault_text elf.NoMemory = []
 
+-- a byte in two hexadecimal digits
+abbrev pub hexadecimal_byte : ℕ → List ℕ
+hexadecimal_byte b = digit_glyph false (b / 16) ∷ digit_glyph false (b % 16) ∷ []
+
+-- why decoding these bytes gives no instruction
+abbrev pub undecoded_why : DecodeFault → List ℕ → List ℕ
+undecoded_why (decode.Outside seen) code = codes "opcode outside the map: " ++ flat_map hexadecimal_byte (take seen code)
+undecoded_why (decode.Cut have) code = codes "instruction cut after " ++ decimal have ++ codes " bytes"
+undecoded_why decode.Long code = codes "instruction too long"
+
+-- where no instruction stands, and why
+abbrev pub undecoded_text : Undecoded → List ℕ
+undecoded_text u = place_text u.section.now u.off ++ codes ": " ++ undecoded_why u.why u.code.now
+
 abbrev pub refusal_text : Refusal → List ℕ
-refusal_text (Malformed fault) = fault_text fault
-refusal_text (TooManySections count) = codes "too many sections: " ++ decimal count
-refusal_text NotBuilt = codes "not built yet"
+refusal_text (refusal.Malformed fault) = fault_text fault
+refusal_text (refusal.Undecoded place) = undecoded_text place
+refusal_text (refusal.TooManySections count) = codes "too many sections: " ++ decimal count
+refusal_text refusal.NotBuilt = codes "not built yet"

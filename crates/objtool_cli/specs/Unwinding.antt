@@ -18,23 +18,22 @@ use Rattle.orc_walk.specs.declared.frame.Stop.{Stop}
 use Rattle.orc_walk.specs.declared.frame.Stop.TheVariants.{Outside, EndOfStack, Undefined, NoRow}
 use Rattle.orc_walk.specs.Placement.{TextSection, IsPlacement}
 use Rattle.orc_walk.specs.Walk.{Walks}
-use Rattle.elf_objects.specs.Contents.{is_text}
+use Rattle.elf_objects.specs.Contents.{is_text, section_at}
 use Rattle.elf_objects.specs.Elf.{Elf}
 use Rattle.elf_objects.specs.Object.{IsObject}
-use Rattle.orc_build.specs.Rows.{size_of}
 use Rattle.orc_bytes.specs.Sections.{HoldsOrc}
 use Rattle.orc_output.specs.OrcOutput.{with_orc_object}
 use Rattle.straight_program.specs.Laws.{BeginAt, walk_frame}
 use Rattle.straight_program.specs.Program.{program_of}
-use Rattle.objtool_cli.specs.Form.{IsStraightLeaf}
+use Rattle.objtool_cli.specs.Form.{IsStraightCode}
 
 -- the text sections of an object, ascending
 abbrev pub texts_of : Elf → List TextSection
 texts_of o = map (λ e. record { sec = e.0; size = e.1.size }) (filter (λ e. is_text e.1) (enumerate_from 0 o.sections))
 
--- The program that an object is, by the form of the object: of a straight leaf function, that of its code.
+-- The program that an object is, by the form of the object: of straight code, that of its instructions.
 pub data IsProgramOf (o : Elf) : Program → Type 0 where
-  straight_leaf : {p : Program} (sec : ℕ) (insns : List Insn) → IsStraightLeaf o sec insns → p ≡ program_of (record { sec = sec; size = size_of insns }) insns → IsProgramOf o p
+  straight_code : {p : Program} (sec : ℕ) (insns : List Insn) → IsStraightCode o sec insns → p ≡ program_of (record { sec = sec; size = (section_at o sec).size }) insns → IsProgramOf o p
 
 -- The stop that belongs to how the frames end: outside the object, where they go down to the outermost one; else that of
 -- the hint that ended the stack.

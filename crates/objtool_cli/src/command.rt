@@ -7,12 +7,13 @@ ghost use Rattle.objtool_cli.specs.Words.{check_of};
 ghost use Rattle.objtool_cli.specs.Unwinding.{OutUnwinds};
 ghost use Rattle.objtool_cli.specs.Command.{Concludes, Ends, Tells, ended};
 
-use crate::check::{MOST_BYTES, check};
+use crate::check::{MOST_BYTES, check, read_input};
 use crate::status::Status;
 use crate::stop::{Stop, StopLine};
-use crate::words::read_words;
+use crate::words::{Check, read_words};
 use ot_files::{Files, Sink, SinkError, write_line};
 use std::alloc::Global;
+use x86_decode::one_outcome;
 
 /// The status of a command whose line was written so. A file's fault stays one.
 fn ended(status: Status, written: Result<(), SinkError>) -> Status
@@ -27,7 +28,7 @@ fn ended(status: Status, written: Result<(), SinkError>) -> Status
 }
 
 /// Writes the line of a stop, and gives the status that the command ends with.
-fn tell<S: Sink>(alloc: Global, line: StopLine<'_>, out: &mut S) -> Status
+fn tell<S: Sink>(alloc: Global, line: StopLine<'_, '_>, out: &mut S) -> Status
     ensures told { Tells line.entry.stop (line_of line.entry.stop line.entry.input.now line.entry.output.now)
         (record { written = S.written out.old; faults = S.faults out.old })
         (record { written = S.written out.new; faults = S.faults out.new }) result }
@@ -41,7 +42,7 @@ fn tell<S: Sink>(alloc: Global, line: StopLine<'_>, out: &mut S) -> Status
 }
 
 /// Tells why a command stopped, unless memory ran out, and gives the status that it ends with.
-fn conclude<S: Sink>(alloc: Global, line: StopLine<'_>, out: &mut S) -> Status
+fn conclude<S: Sink>(alloc: Global, line: StopLine<'_, '_>, out: &mut S) -> Status
     ensures concluded { Concludes line.entry.stop (line_of line.entry.stop line.entry.input.now line.entry.output.now)
         (record { written = S.written out.old; faults = S.faults out.old })
         (record { written = S.written out.new; faults = S.faults out.new }) result }
@@ -50,6 +51,46 @@ fn conclude<S: Sink>(alloc: Global, line: StopLine<'_>, out: &mut S) -> Status
     match line.stop {
         Stop::NoMemory => Status::NoMemory,
         _ => tell(alloc, line, out),
+    }
+}
+
+/// Reads the input, checks it, writes it with its tables, and tells why where it stops.
+fn read_and_check<F: Files, S: Sink>(
+    alloc: Global,
+    names: Check<'_>,
+    files: &mut F,
+    out: &mut S,
+) -> Status
+    ensures ends { Ends (Some (names.entry.input.now, names.entry.output.now))
+        (record { content = F.content files.old; faults = F.faults files.old })
+        (record { content = F.content files.new; faults = F.faults files.new })
+        (record { written = S.written out.old; faults = S.faults out.old })
+        (record { written = S.written out.new; faults = S.faults out.new }) result }
+    ensures files_later { F.faults files.old ≤ F.faults files.new }
+    ensures out_later { S.faults out.old ≤ S.faults out.new }
+{
+    let Check { input, output } = names;
+    let bytes = match read_input(alloc, input, files) {
+        Ok(bytes) => bytes,
+        Err(stop) => {
+            let line = StopLine {
+                stop,
+                input,
+                output,
+            };
+            return conclude(alloc, line, out);
+        }
+    };
+    match check(alloc, names, bytes.as_slice(), files) {
+        Ok(()) => Status::Done,
+        Err(stop) => {
+            let line = StopLine {
+                stop,
+                input,
+                output,
+            };
+            conclude(alloc, line, out)
+        }
     }
 }
 
@@ -68,23 +109,15 @@ fn dispatch<F: Files, S: Sink>(
     ensures files_later { F.faults files.old ≤ F.faults files.new }
     ensures out_later { S.faults out.old ≤ S.faults out.new }
 {
-    let Some(names) = read_words(words) else {
-        let line = StopLine {
-            stop: Stop::Usage,
-            input: "",
-            output: "",
-        };
-        return tell(alloc, line, out);
-    };
-    match check(alloc, names, files) {
-        Ok(()) => Status::Done,
-        Err(stop) => {
+    match read_words(words) {
+        Some(names) => read_and_check(alloc, names, files, out),
+        None => {
             let line = StopLine {
-                stop,
-                input: names.input,
-                output: names.output,
+                stop: Stop::Usage,
+                input: "",
+                output: "",
             };
-            conclude(alloc, line, out)
+            tell(alloc, line, out)
         }
     }
 }
@@ -132,5 +165,6 @@ pub fn run<F: Files, S: Sink>(alloc: Global, words: &[String], files: &mut F, ou
     ensures silent { result ≡ Status.Done → S.written out.new ≡ S.written out.old }
     ensures no_warnings { result ≢ Status.Warnings }
 {
+    one_outcome();
     dispatch(alloc, words, files, out)
 }

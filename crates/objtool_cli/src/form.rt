@@ -1,15 +1,20 @@
-ghost use Rattle.std.specs.Prelude.{◌≡◌, ◌↔◌, ◌<◌, true, ℕ, List, ◌∷◌, [], All, IsTrue, IfOk, IfSome, IfNone, filter, map, length, option_map};
-ghost use Rattle.machine_ops.specs.declared.insn.Insn.{Insn};
+ghost use Rattle.std.specs.Prelude.{◌≡◌, ◌↔◌, ◌<◌, true, ◌∷◌, [], All, IsTrue, IfOk, IfSome, IfNone, filter, map, length, option_map};
+ghost use Rattle.elf_objects.specs.Contents.{section_at};
 ghost use Rattle.elf_objects.specs.Elf.{SymbolEntry};
 ghost use Rattle.elf_objects.specs.Lent.{lent_section, lent_symbol};
-ghost use Rattle.objtool_cli.specs.Form.{hint_names, is_among, is_simple, is_special, orc_names, patch_names, is_function, IsLeafAround, IsOnlyText, IsStraightLeaf};
+ghost use Rattle.objtool_cli.specs.Form.{hint_names, is_among, is_simple, is_special, orc_names, patch_names, is_function, IsFunctionAround, IsStraightCode};
+ghost use Rattle.objtool_cli.specs.Checked.{HasForm};
+ghost use Rattle.objtool_cli.specs.Texts.{bodies_of, body_in, insns_of};
+ghost use Rattle.straight_program.specs.Laws.{IsStraightText};
+ghost use Rattle.x86_text.specs.Code.{IsCode, LeadsTo, code_of};
 
-use crate::leaf::leaf_insns;
+use crate::texts::SectionText;
 use elf_objects::{Home, Object, Section, Symbol};
 use machine_ops::Insn;
 use orc_build::is_straight;
 use ot_base::NoMemory;
 use std::alloc::Global;
+use x86_text::Text;
 
 /// How many bytes an object may have.
 const MOST_BYTES: usize = 67_108_864;
@@ -75,23 +80,6 @@ fn are_simple(object: &Object<'_>) -> bool
     true
 }
 
-/// The one text section, where there is exactly one.
-fn only_text(object: &Object<'_>) -> Option<u32>
-    ensures found { IfSome result (IsOnlyText object.now) }
-    ensures none { IfNone result ((text : ℕ) → IsOnlyText object.now text → ⊥) }
-{
-    let mut found = None;
-    for i in 0..object.sections() {
-        if object.is_text(i) {
-            if found.is_some() {
-                return None;
-            }
-            found = Some(i);
-        }
-    }
-    found
-}
-
 /// The one function symbol, where there is exactly one.
 fn only_function<'a>(object: &Object<'a>) -> Option<Symbol<'a>>
     ensures found { IfSome result (λ s. filter is_function object.now.symbols ≡ lent_symbol s ∷ []) }
@@ -110,9 +98,9 @@ fn only_function<'a>(object: &Object<'a>) -> Option<Symbol<'a>>
     found
 }
 
-/// The code of an object that is one straight leaf function.
+/// The code of an object that is straight code.
 #[derive(Debug, Drop)]
-pub struct LeafCode {
+pub struct StraightCode {
     /// The number of its text section.
     pub sec: u32,
     /// Its instructions, in order.
@@ -126,10 +114,10 @@ fn covers(symbol: &Symbol<'_>, sec: u32, size: u64) -> bool
     symbol.home == Home::Section(sec) && symbol.value == 0 && symbol.size == size
 }
 
-/// Whether the symbols and the other sections are those of a leaf function in this text section.
-fn is_leaf_around(object: &Object<'_>, sec: u32) -> bool
+/// Whether the symbols and the other sections are those of one function in this text section.
+fn is_function_around(object: &Object<'_>, sec: u32) -> bool
     requires { sec < length object.now.sections }
-    ensures { IsTrue result ↔ IsLeafAround object.now sec }
+    ensures { IsTrue result ↔ IsFunctionAround object.now sec }
 {
     if object.bytes().len() > MOST_BYTES
         || object.section_symbol(sec).is_none()
@@ -143,22 +131,48 @@ fn is_leaf_around(object: &Object<'_>, sec: u32) -> bool
     }
 }
 
-/// The code of the object, where it is one straight leaf function.
-pub fn straight_leaf(alloc: Global, object: &Object<'_>) -> Result<Option<LeafCode>, NoMemory>
-    ensures found { IfOk result (λ found. IfSome found (λ leaf. IsStraightLeaf object.now leaf.sec leaf.insns.items)) }
-    ensures none { IfOk result (λ found. IfNone found ((sec : ℕ) (insns : List Insn) → IsStraightLeaf object.now sec insns → ⊥)) }
+/// The instructions of a text, in order.
+fn insns_of(alloc: Global, text: &Text<'_>) -> Result<Vec<Insn>, NoMemory>
+    ensures insns { IfOk result (λ insns. insns.items ≡ insns_of text.now) }
+    ensures code { IsCode text.now }
+    ensures some { All (λ p. 0 < p.insn.len) (code_of text.now) }
+    ensures whole { LeadsTo 0 (code_of text.now) (length text.now) }
 {
-    let Some(sec) = only_text(object) else {
-        return Ok(None);
-    };
-    if !is_leaf_around(object, sec) {
+    let mut insns = Vec::new(alloc);
+    for i in 0..text.count() {
+        let (_, insn) = text.insn(i);
+        insns.push(insn)?;
+    }
+    Ok(insns)
+}
+
+/// The code of the object, where it is straight code; its texts are given.
+pub fn straight_code(
+    alloc: Global,
+    object: &Object<'_>,
+    texts: &[SectionText<'_>],
+) -> Result<Option<StraightCode>, NoMemory>
+    requires { map body_in texts.now ≡ bodies_of object.now }
+    ensures found { IfOk result (λ found. IfSome found (λ code. IsStraightCode object.now code.sec code.insns.items)) }
+    // Its instructions fill the section.
+    ensures fills { IfOk result (λ found. IfSome found (λ code. IsStraightText (record { sec = code.sec; size = (section_at object.now code.sec).size }) code.insns.items)) }
+    ensures none { IfOk result (λ found. IfNone found (HasForm object.now → ⊥)) }
+{
+    if texts.len() != 1 {
         return Ok(None);
     }
-    let Some(insns) = leaf_insns(alloc, object.section(sec).body)? else {
+    let only = &texts[0];
+    if !is_function_around(object, only.sec) {
         return Ok(None);
-    };
+    }
+    let _bytes = object.bytes();
+    let _section = object.section(only.sec);
+    let insns = insns_of(alloc, &only.text)?;
     if is_straight(&insns) {
-        Ok(Some(LeafCode { sec, insns }))
+        Ok(Some(StraightCode {
+            sec: only.sec,
+            insns,
+        }))
     } else {
         Ok(None)
     }

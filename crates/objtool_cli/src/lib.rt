@@ -5,12 +5,13 @@ mod check;
 mod command;
 mod fault_text;
 mod form;
-mod leaf;
 mod status;
 mod stop;
 mod tables;
 #[cfg(test)]
 mod tests;
+mod texts;
+mod undecoded_text;
 mod words;
 
 pub use command::run;

@@ -1,21 +1,38 @@
 use crate::fault_text::FaultText;
 use crate::status::Status;
+use crate::undecoded_text::UndecodedText;
 use elf_objects::ElfFault;
 use ot_base::Escaped;
 use std::fmt;
+use x86_decode::DecodeFault;
+
+/// A place in a text section where an instruction ought to stand, and none does.
+#[derive(Clone, Copy, Debug, PartialEq, Eq)]
+pub struct Undecoded<'a> {
+    /// The section's name.
+    pub section: &'a [u8],
+    /// Bytes from the section's start.
+    pub off: u64,
+    /// The section's bytes from there on.
+    pub code: &'a [u8],
+    /// Why they begin with no instruction.
+    pub why: DecodeFault,
+}
 
 /// Why an object file is refused.
 #[derive(Clone, Copy, Debug, PartialEq, Eq)]
-pub enum Refusal {
+pub enum Refusal<'a> {
     /// It is no well-formed object.
     Malformed(ElfFault),
+    /// Its code doesn't decode.
+    Undecoded(Undecoded<'a>),
     /// It has `count` sections, so that those of the tables would be too many.
     TooManySections { count: u64 },
     /// It is a well-formed object of no form that is checked so far.
     NotBuilt,
 }
 
-impl fmt::Display for Refusal {
+impl fmt::Display for Refusal<'_> {
     ghost use Rattle.std.specs.Prelude.{Some};
     ghost use Rattle.objtool_cli.specs.Refusal.{refusal_text};
 
@@ -24,6 +41,7 @@ impl fmt::Display for Refusal {
     fn fmt<W: fmt::Write>(&self, f: &mut fmt::Formatter<W>) -> fmt::Result {
         match self {
             Refusal::Malformed(fault) => write!(f, "{}", FaultText(*fault)),
+            Refusal::Undecoded(place) => write!(f, "{}", UndecodedText(*place)),
             Refusal::TooManySections { count } => write!(f, "too many sections: {count}"),
             Refusal::NotBuilt => write!(f, "not built yet"),
         }
@@ -32,7 +50,7 @@ impl fmt::Display for Refusal {
 
 /// Why a command stopped before it was done.
 #[derive(Clone, Copy, Debug, PartialEq, Eq)]
-pub enum Stop {
+pub enum Stop<'a> {
     /// The words are no command.
     Usage,
     /// The input isn't there.
@@ -40,7 +58,7 @@ pub enum Stop {
     /// The input has more than `limit` bytes.
     TooLong { limit: u64 },
     /// The input's bytes are refused.
-    Refused(Refusal),
+    Refused(Refusal<'a>),
     /// Reading the input failed.
     ReadFault,
     /// Writing the output file failed.
@@ -49,13 +67,13 @@ pub enum Stop {
     NoMemory,
 }
 
-impl Stop {
+impl Stop<'_> {
     ghost use Rattle.std.specs.Prelude.{◌≡◌};
     ghost use Rattle.objtool_cli.specs.Stop.{status_of};
 
     /// The status that a command ends with which stops so.
     pub fn status(self) -> Status
-        ensures { result ≡ status_of self }
+        ensures { result ≡ status_of self.entry }
     {
         match self {
             Stop::Usage => Status::Usage,
@@ -87,16 +105,16 @@ impl fmt::Display for Longer<'_> {
 
 /// The line that says why a command stopped, with the names of its files.
 #[derive(Clone, Copy)]
-pub struct StopLine<'a> {
+pub struct StopLine<'a, 'n> {
     /// Why it stopped.
-    pub stop: Stop,
+    pub stop: Stop<'a>,
     /// The input's name.
-    pub input: &'a str,
+    pub input: &'n str,
     /// The output file's name.
-    pub output: &'a str,
+    pub output: &'n str,
 }
 
-impl fmt::Display for StopLine<'_> {
+impl fmt::Display for StopLine<'_, '_> {
     ghost use Rattle.std.specs.Prelude.{Some};
     ghost use Rattle.objtool_cli.specs.Stop.{line_of};
 

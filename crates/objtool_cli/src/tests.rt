@@ -77,19 +77,32 @@ fn expect_rows(
     Ok(())
 }
 
+/// A code, the bytes of its object and of OUT, and its rows.
+type Straight<'a> = (&'a [u8], usize, usize, &'a [RowBytes]);
+
 #[test]
-fn a_straight_leaf_gets_its_rows(rt: HostRuntime) -> Result<(), Fail> {
+fn straight_code_gets_its_rows(rt: HostRuntime) -> Result<(), Fail> {
     let alloc = rt.alloc();
     let rows_of_a_return = [(0, DEPTH_8), (1, ZERO)];
     let rows_of_a_push = [(0, DEPTH_8), (1, DEPTH_16), (2, DEPTH_8), (4, ZERO)];
-    let table: [(&[u8], usize, &[RowBytes]); 2] = [
-        (b"\xC3", 1168, &rows_of_a_return),
-        (b"\x53\x5B\x90\xC3", 1232, &rows_of_a_push),
+    let rows_of_a_store = [(0, DEPTH_8), (5, DEPTH_16), (10, DEPTH_8), (11, ZERO)];
+    let table: [Straight<'_>; 4] = [
+        (b"\xC3", 504, 1168, &rows_of_a_return),
+        (b"\x53\x5B\x90\xC3", 504, 1232, &rows_of_a_push),
+        // push %rsp; pop %rbx; nop; ret
+        (b"\x54\x5B\x90\xC3", 504, 1232, &rows_of_a_push),
+        // endbr64; push %rbx; mov %rax,(%rdi); int3; pop %rbx; ret
+        (
+            b"\xF3\x0F\x1E\xFA\x53\x48\x89\x07\xCC\x5B\xC3",
+            512,
+            1240,
+            &rows_of_a_store,
+        ),
     ];
     let words = words(alloc, &["check", "IN", "OUT"])?;
-    for (code, size, rows) in table {
+    for (code, size_before, size, rows) in table {
         let object = make(alloc, code)?;
-        assert_eq!(rt; object.len(), 504, "{code:?}");
+        assert_eq!(rt; object.len(), size_before, "{code:?}");
         let mut files = SureFiles::new(alloc, only_in(alloc, &object)?);
         let mut out = SureSink::new(alloc, 100);
         let status = run(alloc, &words, &mut files, &mut out);
@@ -121,7 +134,7 @@ fn expect_refused(
     Ok(())
 }
 
-/// A function with a frame, which is no straight leaf.
+/// A function with a frame, which isn't straight code.
 const FRAME: [u8; 6] = [0x55, 0x48, 0x89, 0xE5, 0x5D, 0xC3];
 
 #[test]
@@ -134,12 +147,52 @@ fn other_code_is_not_built(rt: HostRuntime) -> Result<(), Fail> {
         b"\x90",
         b"\xC3\xC3",
         b"\x55\x5D\xC3",
-        b"\x54\x5B\xC3",
+        b"\x54\x5C\xC3",
     ];
     for code in table {
         let object = make(rt.alloc(), code)?;
         expect_refused(&rt, rt.alloc(), &object, "refused: not built yet\n")?;
     }
+    Ok(())
+}
+
+#[test]
+fn code_that_does_not_decode_is_refused(rt: HostRuntime) -> Result<(), Fail> {
+    let alloc = rt.alloc();
+    let table: [(&[u8], &str); 4] = [
+        // vzeroupper, which the map leaves out.
+        (
+            b"\xC5\xF8\x77\xC3",
+            "refused: .text+0x0: opcode outside the map: c5\n",
+        ),
+        // A prefix behind a REX.
+        (
+            b"\x53\x48\x66\x90",
+            "refused: .text+0x1: opcode outside the map: 4866\n",
+        ),
+        // A call with two of its four bytes of displacement.
+        (
+            b"\x90\xE8\x00\x00",
+            "refused: .text+0x1: instruction cut after 3 bytes\n",
+        ),
+        // More than 15 bytes.
+        (
+            b"\xF3\x0F\x1E\xFA\x66\x66\x66\x66\x66\x66\x66\x66\x66\x66\x66\x66\x66\x66\x66\x90",
+            "refused: .text+0x4: instruction too long\n",
+        ),
+    ];
+    for (code, line) in table {
+        let object = make(alloc, code)?;
+        expect_refused(&rt, alloc, &object, line)?;
+    }
+    // The code is read before the question whether its form is built: here the function is none.
+    let object = changed(alloc, b"\xC5\xF8\x77\xC3", 124, &[0x10])?;
+    expect_refused(
+        &rt,
+        alloc,
+        &object,
+        "refused: .text+0x0: opcode outside the map: c5\n",
+    )?;
     Ok(())
 }
 

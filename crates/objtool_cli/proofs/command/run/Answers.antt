@@ -24,4 +24,4 @@ pub returns-clause-unwinds : goal.returns-clause-unwinds
 returns-clause-unwinds g c input output e n = out_unwinds _ _ _ _ _ _ input output c.dispatch.ensures.ends e n
 
 pub returns-clause-accepts : goal.returns-clause-accepts
-returns-clause-accepts g c input output read table held n told is accepts = left _ input output read table held _ _ _ _ _ n told is accepts c.dispatch.ensures.ends
+returns-clause-accepts g c input output read table held n told is accepts = left c.one_outcome.ensures _ input output read table held _ _ _ _ _ n told is accepts c.dispatch.ensures.ends
