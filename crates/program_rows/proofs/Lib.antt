@@ -1,0 +1,14 @@
+pub mod Lists
+pub mod Equal
+pub mod Compress
+pub mod Lookup
+pub mod Placed
+pub mod Sections
+pub mod Table
+pub mod RowAt
+pub mod LastPoint
+pub mod InForce
+pub mod Enters
+pub mod Runs
+pub mod Visited
+pub mod Tells
