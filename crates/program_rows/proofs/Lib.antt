@@ -12,3 +12,7 @@ pub mod Enters
 pub mod Runs
 pub mod Visited
 pub mod Tells
+pub mod KeptPoints
+pub mod Still
+pub mod WorkedProgram
+pub mod WorkedLaid
