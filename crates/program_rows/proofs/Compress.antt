@@ -100,6 +100,7 @@ module _ (at : ℕ) where
             | inr k ↦ inl (z, front_last z (without_repeats z.row xs) low k.1, sym k.0)
           ]
 
+-- a row that lies above all others may be put behind them
 rises_push : (xs : List PlacedRow) (x : PlacedRow) → Rises xs → ((y : PlacedRow) → Contains xs y → y.place.off < x.place.off) → Rises (xs ++ x ∷ [])
 rises_push [] x rises h = ((λ y c. nowhere y c), tt)
 rises_push (z ∷ xs) x rises h = ((λ y c. elim (Contains-append_cases xs (x ∷ []) y c) [ inl d ↦ rises.0 y d | inr d ↦ elim (cases x [] y d) [ inl e ↦ subst (λ (w : PlacedRow). z.place.off < w.place.off) e (h z (here z xs)) | inr k ↦ nowhere y k ] ]), rises_push xs x rises.1 (λ y c. h y (there z xs y c)))

@@ -25,6 +25,7 @@ abbrev pub IsKept : Program → ℕ → Type 0
 IsKept p q = (s : State) × Kept p q s
 
 module _ (p : Program) (is : IsProgram p) (acc : IsAccepted p) (states : ℕ → Option State) (kept : AreKeptStates p states) where
+  -- what isn't among the kept states isn't kept
   not_kept : (q : ℕ) → states q ≡ None → NotKept p q
   not_kept q e level = elim (some_or_none (state_at p level q)) [ inl none ↦ none | inr some ↦ none_some (sym e ∙ (kept q some.0).1 (level, some.1)) ]
 
@@ -48,6 +49,7 @@ module _ (p : Program) (is : IsProgram p) (acc : IsAccepted p) (states : ℕ →
       (λ e n. acc _ _ _ _ (reached_restore a q s (edge q kind) e n k (edge_in p is acc a q kind c can) refl))
       (p.hint q) refl
 
+  -- the point of a fixup is kept
   pub kept_at_fixup : (a q : ℕ) (s : State) → IsPoint p a → Kept p a s → Contains (p.goes a) (edge q Fixup) → IsKept p q
   kept_at_fixup a q s point k c =
       by_hint q (fixup_checked p is acc a q s point k c)
@@ -55,6 +57,7 @@ module _ (p : Program) (is : IsProgram p) (acc : IsAccepted p) (states : ℕ →
       (λ e n. acc _ _ _ _ (reached_restore a q s (edge q Fixup) e n k (edge_in p is acc a q Fixup c refl) refl))
       (p.hint q) refl
 
+  -- where control that comes to an entry may stand is kept
   pub kept_at_entry : (entry q : ℕ) → Contains p.entries entry → Contains (entry_points p entry) q → IsKept p q
   kept_at_entry entry q c d =
       let checked = is.entries_checked entry q c d in
@@ -64,24 +67,30 @@ module _ (p : Program) (is : IsProgram p) (acc : IsAccepted p) (states : ℕ →
       (p.hint q) refl
 
   module _ (enters : EntersSites p) where
+    -- a site's start that is kept
     kept_start : (site : Site) (start : ℕ) → IsSiteStart p site start → IsKept p start → HasKeptStart p site
     kept_start site start at k = record { start = start; point = at.point; plain = at.plain; place = at.place; state = k.0; kept = k.1 }
 
+    -- along an edge into a site from outside, its start is kept where such an edge leads to it
     entered_along : (a q : ℕ) (kind : EdgeKind) → IsEntered p a → IsPoint p a → Contains (p.goes a) (edge q kind) → ((start : ℕ) → Contains (p.goes a) (edge start kind) → IsKept p start) → IsEntered p q
     entered_along a q kind entered point c f site listed inside = elim (enters.edges a q kind site point c listed inside) [
       | inl within ↦ entered site listed within
       | inr start ↦ kept_start site start.0 start.1 (f start.0 start.2)
     ]
 
+    -- along a local edge
     pub entered_local : (a q : ℕ) (s : State) (kind : EdgeKind) → IsEntered p a → is_local kind ≡ true → IsPoint p a → Kept p a s → Contains (p.goes a) (edge q kind) → can_go p a kind ≡ true → IsEntered p q
     entered_local a q s kind entered l point k c can = entered_along a q kind entered point c (λ start d. kept_along a start s kind l point k d can)
 
+    -- to a fixup
     pub entered_fixup : (a q : ℕ) (s : State) → IsEntered p a → IsPoint p a → Kept p a s → Contains (p.goes a) (edge q Fixup) → IsEntered p q
     entered_fixup a q s entered point k c = entered_along a q Fixup entered point c (λ start d. kept_at_fixup a start s point k d)
 
+    -- by a jump to another function
     pub entered_sibling : (a q : ℕ) → IsEntered p a → IsPoint p a → Contains (p.goes a) (edge q Sibling) → IsEntered p q
     entered_sibling a q entered point c = entered_along a q Sibling entered point c (λ start d. let t = is.siblings a start point d in kept_at_entry t.0 start t.1 t.2)
 
+    -- at an entry
     pub entered_entry : (entry q : ℕ) → Contains p.entries entry → Contains (entry_points p entry) q → IsEntered p q
     entered_entry entry q c d site listed inside =
         let start = enters.entries entry q site c d listed inside in

@@ -23,10 +23,12 @@ pub record HasKeptStart (p : Program) (site : Site) : Type 0 where
   pub state : State
   pub kept : Kept p start state
 
+-- three tests that pass
 all_true : {a b c : Bool} → a ≡ true → b ≡ true → c ≡ true → (a && (b && c)) ≡ true
 all_true {a} {b} {c} e f g = rw (e, f, g) refl
 
 module _ (p : Program) (laid : IsLaidOut p) (states : ℕ → Option State) (kept : AreKeptStates p states) (q : ℕ) (s : State) (point : IsPoint p q) (k : Kept p q s) (text : TextSection) (sec : text.sec ≡ (p.address q).sec) (fits : (p.address q).off + (p.insn q).len ≤ text.size) where
+  -- a point of the section runs at its offset
   at_place : (r : ℕ) → (p.address r).sec ≡ text.sec → p.address r ≡ place_in text (p.address r).off
   at_place r e = equal_places (p.address r) (place_in text (p.address r).off) e refl
 
@@ -52,6 +54,7 @@ module _ (p : Program) (laid : IsLaidOut p) (states : ℕ → Option State) (kep
       go false e = e
       go true e = absurd (not_in (inside_is site (place_in text off) e) (let t : (site.start.off ≤ (p.address q).off) ⊎ ((p.address q).off < site.start.off) = grind arith in t))
 
+  -- and no plain point stands there
   no_plain_behind : IsOutside p (p.address q) → (off : ℕ) → (p.address q).off < off → off < (p.address q).off + (p.insn q).len → (r : ℕ) → IsPoint p r → p.variant r ≡ 0 → p.place r ≡ place_in text off → ⊥
   no_plain_behind outside off low high r r_point plain place =
       let at : p.address r ≡ place_in text off = laid.plain r r_point plain ∙ place in
@@ -60,6 +63,7 @@ module _ (p : Program) (laid : IsLaidOut p) (states : ℕ → Option State) (kep
       let behind = laid.in_order q r point r_point (outside_plain p laid q point outside ∙ sym plain) same_sec (omega arith) in
       omega arith
 
+  -- so at each byte of an instruction outside sites the row of its state is in force
   pub in_force_outside : IsOutside p (p.address q) → (at : ℕ) → (p.address q).off ≤ at → at < (p.address q).off + (p.insn q).len → IsInForceAt (row_at p states) text at (row_of s)
   in_force_outside outside at low high = record {
     from = (p.address q).off;
@@ -71,12 +75,15 @@ module _ (p : Program) (laid : IsLaidOut p) (states : ℕ → Option State) (kep
 
   -- In a site.
   module _ (acc : IsAccepted p) (site : Site) (listed : Contains p.sites site) (start : HasKeptStart p site) (inside : in_site site (p.address q) ≡ true) where
+    -- the point is a kept one of the site
     here_kept : KeptInSite p site q s
     here_kept = in_kept p laid states kept site listed start.start start.state start.point start.plain start.place start.kept q s inside k
 
+    -- the row that begins at a kept point of the site
     row_of_inside : (r : ℕ) (t : State) → IsPoint p r → in_site site (p.address r) ≡ true → Kept p r t → row_at p states (p.address r) ≡ Some (row_of t)
     row_of_inside r t r_point r_inside r_kept = row_inside p laid states kept site listed start.start start.state start.point start.plain start.place start.kept acc r t r_point r_inside r_kept
 
+    -- at its address
     pub in_force_here : 1 ≤ (p.insn q).len → IsInForceAt (row_at p states) text (p.address q).off (row_of s)
     in_force_here long = record {
       from = (p.address q).off;
@@ -91,10 +98,12 @@ module _ (p : Program) (laid : IsLaidOut p) (states : ℕ → Option State) (kep
       begins_there : ℕ → Bool
       begins_there r = is_some (states r) && (in_site site (p.address r) && leb (p.address r).off at)
 
+      -- a kept point is one of them
       begins_it : (r : ℕ) (t : State) → Kept p r t → in_site site (p.address r) ≡ true → (p.address r).off ≤ at → begins_there r ≡ true
       unfolding begins_there
       begins_it r t r_kept r_inside l = all_true (kept_some p laid states kept r t r_kept) r_inside (le-leb (p.address r).off at l)
 
+      -- what each of them is
       begins_is : (r : ℕ) → begins_there r ≡ true → (is_some (states r) ≡ true) × (in_site site (p.address r) ≡ true) × ((p.address r).off ≤ at)
       unfolding begins_there
       begins_is r h =
@@ -102,6 +111,7 @@ module _ (p : Program) (laid : IsLaidOut p) (states : ℕ → Option State) (kep
           let b = both {a = in_site site (p.address r)} a.1 in
           (a.0, b.0, low_is (p.address r).off at b.1)
 
+      -- at the call's last byte the row in force is the call's, or rule 12 would warn
       pub in_force_behind : is_call_op (p.insn q).op ≡ true → at ≡ (p.address q).off + (p.insn q).len - 1 → IsInForceAt (row_at p states) text at (row_of s)
       in_force_behind call at_is =
           let r = last_of_some begins_there (λ r. (p.address r).off) p.variant p.count q point (begins_it q s k inside low) in
@@ -130,11 +140,13 @@ module _ (p : Program) (laid : IsLaidOut p) (states : ℕ → Option State) (kep
                 none = λ off l m. none_inside p laid states kept site listed start.start start.state start.point start.plain start.place start.kept (place_in text off) (within_site r r_in q_in off l m) (λ x u x_point x_kept x_at. later r last off l m x u x_point x_kept x_at (within_site r r_in q_in off l m));
               }
             where
+              -- places up to there lie in the site
               within_site : (r : ℕ) → IsInside site (p.address r) → IsInside site (p.address q) → (off : ℕ) → (p.address r).off < off → off ≤ at → in_site site (place_in text off) ≡ true
               within_site r r_in q_in off l m =
                   let end = laid.in_sites q site point listed inside in
                   is_inside site (place_in text off) (record { sec = q_in.sec ∙ sym sec; low = let a = r_in.low in omega arith; high = omega arith })
 
+              -- no kept point begins between
               later : (r : ℕ) → IsLastBelow begins_there (λ r. (p.address r).off) p.variant p.count r → (off : ℕ) → (p.address r).off < off → off ≤ at → (x : ℕ) (u : State) → IsPoint p x → Kept p x u → p.address x ≡ place_in text off → in_site site (place_in text off) ≡ true → ⊥
               later r last off l m x u x_point x_kept x_at x_inside =
                   let e : (p.address x).off ≡ off = ap (λ (z : Place). z.off) x_at in

@@ -14,6 +14,7 @@ use Rattle.unwinding.proofs.Lists.{nowhere, find_one, from_filter, from_flat_map
 use Rattle.unwinding.proofs.KeptStates.{least_member, brings_edge}
 use Rattle.program_rows.specs.Laws.{HintsStandAtPoints, KeptArePoints}
 
+-- a state is one of a checked point
 pub unless_unchecked : (b : Bool) (o : Option State) (s : State) → (if b then None else o) ≡ Some s → o ≡ Some s
 unless_unchecked true o s e = absurd (let k : ⊥ = cc in k)
 unless_unchecked false o s e = e
@@ -26,6 +27,7 @@ module _ (p : Program) (is : IsProgram p) (hints : HintsStandAtPoints p) where
       let x = find_one (λ x. x == q) (entry_points p entry.0) entry.2 in
       subst (λ (z : ℕ). IsPoint p z) (eqb-true x.0 q x.2) (is.arrivals (p.place entry.0) x.0 x.1)
 
+  -- what has a state at level 0 is a point
   first_is_point : (q : ℕ) (s : State) (h : Option HintState) → p.hint q ≡ h → first_state p q h ≡ Some s → IsPoint p q
   first_is_point q s (Some hint) h e = hints q hint h
   first_is_point q s None h e = go (is_entry_point p q) refl e
@@ -34,6 +36,7 @@ module _ (p : Program) (is : IsProgram p) (hints : HintsStandAtPoints p) where
       go true k e = entry_is_point q k
       go false k e = absurd (let z : ⊥ = cc in z)
 
+  -- what a state is brought to is a point
   brought_is_point : (states : ℕ → Option State) (q : ℕ) (s : State) → least (brought p states q) ≡ Some s → IsPoint p q
   brought_is_point states q s e = from (from_flat_map (λ a. brought_from p a (states a) q) (below p.count) s (least_member (brought p states q) s e))
     where
@@ -46,10 +49,12 @@ module _ (p : Program) (is : IsProgram p) (hints : HintsStandAtPoints p) where
       from : (a : ℕ) × Contains (below p.count) a × Contains (brought_from p a (states a) q) s → IsPoint p q
       from r = one r.0 (from_below p.count r.0 r.1) (states r.0) r.2
 
+  -- what gets a state at a later level is a point
   later_is_point : (states : ℕ → Option State) (q : ℕ) (s : State) (h : Option HintState) → p.hint q ≡ h → later_state p states q h ≡ Some s → IsPoint p q
   later_is_point states q s (Some hint) h e = hints q hint h
   later_is_point states q s None h e = brought_is_point states q s e
 
+  -- what has a state at some level is a point
   level_is_point : (n q : ℕ) (s : State) → state_at p n q ≡ Some s → IsPoint p q
   level_is_point zero q s e = first_is_point q s (p.hint q) refl (unless_unchecked (p.unchecked q) (first_state p q (p.hint q)) s e)
   level_is_point (suc n) q s e = go (state_at p n q) refl e (λ t k. level_is_point n q t k)
@@ -58,5 +63,6 @@ module _ (p : Program) (is : IsProgram p) (hints : HintsStandAtPoints p) where
       go None k e f = later_is_point (state_at p n) q s (p.hint q) refl (unless_unchecked (p.unchecked q) (later_state p (state_at p n) q (p.hint q)) s e)
       go (Some t) k e f = f t k
 
+-- only points are kept
 pub kept_are_points : KeptArePoints
 kept_are_points p is hints q s (level, e) = level_is_point p is hints level q s e

@@ -2,6 +2,7 @@
 use Rattle.std.proofs.Common.{◌≡◌, ℕ, zero, suc, ◌<◌, ◌≤◌, ◌⊎◌, Bool, true, false, refl, sym, ap, ◌∙◌, subst, inl, inr, arith}
 
 module _ (test : ℕ → Bool) (off variant : ℕ → ℕ) where
+  -- one number comes no later than another: at a lower offset, or at the same with no smaller variant
   abbrev pub IsNoLaterThan : ℕ → ℕ → Type 0
   IsNoLaterThan q r = (off q < off r) ⊎ ((off q ≡ off r) × (variant r ≤ variant q))
 
@@ -11,9 +12,11 @@ module _ (test : ℕ → Bool) (off variant : ℕ → ℕ) where
     pub passes : test r ≡ true
     pub last : (q : ℕ) → q < n → test q ≡ true → IsNoLaterThan q r
 
+  -- a number comes no later than itself
   same_is_no_later : (q r : ℕ) → q ≡ r → IsNoLaterThan q r
   same_is_no_later q r e = inr (ap off e, let k : variant q ≡ variant r = ap variant e in omega arith)
 
+  -- this is an order
   no_later_chain : (a b c : ℕ) → IsNoLaterThan a b → IsNoLaterThan b c → IsNoLaterThan a c
   no_later_chain a b c h k = go (off a) (off b) (off c) (variant a) (variant b) (variant c) h k
     where
@@ -23,6 +26,7 @@ module _ (test : ℕ → Bool) (off variant : ℕ → ℕ) where
       go x y z i j k (inr h) (inl l) = inl (let e = h.0 in omega arith)
       go x y z i j k (inr h) (inr l) = inr (h.0 ∙ l.0, let e = h.1 in let f = l.1 in omega arith)
 
+  -- of two numbers one comes no later than the other
   either : (a b : ℕ) → IsNoLaterThan a b ⊎ IsNoLaterThan b a
   either a b = go (off a) (off b) (variant a) (variant b)
     where
@@ -35,6 +39,7 @@ module _ (test : ℕ → Bool) (off variant : ℕ → ℕ) where
           pick (inr (inr e)) (inl v) = inl (inr (e, v))
           pick (inr (inr e)) (inr v) = inr (inr (sym e, v))
 
+  -- one more number that passes
   last_with : (n : ℕ) → test n ≡ true → ((q : ℕ) → q < n → test q ≡ false) ⊎ ((r : ℕ) × IsLastBelow n r) → (r : ℕ) × IsLastBelow (suc n) r
   last_with n h (inl none) = (n, record { below = omega arith; passes = h; last = λ q l t. go q t (let c : (q < n) ⊎ (q ≡ n) = grind arith in c) })
     where

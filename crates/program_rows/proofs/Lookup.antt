@@ -13,8 +13,10 @@ use Rattle.orc_walk.specs.Placement.{address_of}
 use Rattle.orc_walk.specs.Lookup.{AddressedRow, addressed_row, addressed, at_or_below, comes_before, IsLast, RowHoldsAt, find_row}
 use Rattle.orc_walk.specs.Laws.{FoundIsLast, NoneFoundIsNone}
 use Rattle.unwinding.proofs.Lists.{here, cases, nowhere, in_filter, from_filter}
+use Rattle.program_rows.proofs.Equal.{low_is}
 use Rattle.program_rows.proofs.Lists.{some_is, none_some, some_or_none, in_filter_map, from_filter_map}
 
+-- a row at an address
 abbrev pub at_address : ℕ → Row → AddressedRow
 at_address at row = record { address = at; row = row }
 
@@ -22,12 +24,15 @@ at_address at row = record { address = at; row = row }
 abbrev rank : AddressedRow → ℕ
 rank x = 2 * x.address + cond (eqb x.row.kind KIND_UNDEFINED) 0 1
 
+-- the test of the order is one of numbers
 by_rank : (a b j k u : ℕ) → (ltb a b || (eqb a b && (eqb j u && not (eqb k u)))) ≡ ltb (2 * a + cond (eqb j u) 0 1) (2 * b + cond (eqb k u) 0 1)
 by_rank a b j k u = grind (arith, nat_tests)
 
+-- a row that comes before another is of lower rank
 before_rank : (x y : AddressedRow) → comes_before x y ≡ true → rank x < rank y
 before_rank x y h = ltb-true (rank x) (rank y) (sym (by_rank x.address y.address x.row.kind y.row.kind KIND_UNDEFINED) ∙ h)
 
+-- no row comes before one that comes before it
 one_way : (x y : AddressedRow) → comes_before x y ≡ true → comes_before y x ≡ true → ⊥
 one_way x y h k = let a = before_rank x y h in let b = before_rank y x k in omega (arith, a, b)
 
@@ -57,27 +62,24 @@ AllGiveWay rows ranges address row = (x : PlacedRow) (at : ℕ) → Lies rows ra
     → (x.row ≡ row) ⊎ ((y : PlacedRow) × (b : ℕ) × Lies rows ranges address y b × (comes_before (at_address at x.row) (at_address b y.row) ≡ true))
 
 module _ (rows : List PlacedRow) (ranges : List Range) (address : ℕ) where
+  -- a row that lies there is among those that the look-up sees
   in_low : (x : PlacedRow) (at : ℕ) → Lies rows ranges address x at → Contains (at_or_below address (addressed ranges rows)) (at_address at x.row)
   in_low x at h = in_filter (λ (a : AddressedRow). leb a.address address) (addressed ranges rows) (at_address at x.row)
       (in_filter_map (addressed_row ranges) rows x (at_address at x.row) h.listed (ap (option_map (λ (n : ℕ). at_address n x.row)) h.placed))
       (le-leb at address h.low)
 
+  -- what a row with an address is
   addressed_is : (x : PlacedRow) (o : Option ℕ) (a : AddressedRow) → address_of ranges x.place ≡ o → option_map (λ (n : ℕ). at_address n x.row) o ≡ Some a → (address_of ranges x.place ≡ Some a.address) × (x.row ≡ a.row)
   addressed_is x None a e h = none_some h
   addressed_is x (Some n) a e h = let k = some_is h in (e ∙ ap (λ (z : AddressedRow). Some z.address) k, ap (λ (z : AddressedRow). z.row) k)
 
-  low_is : (a : AddressedRow) → leb a.address address ≡ true → a.address ≤ address
-  low_is a h = go a.address address h
-    where
-      go : (x y : ℕ) → leb x y ≡ true → x ≤ y
-      go x y h = grind (arith, nat_tests)
-
+  -- each that the look-up sees is a row that lies there
   from_low : (a : AddressedRow) → Contains (at_or_below address (addressed ranges rows)) a → (x : PlacedRow) × Lies rows ranges address x a.address × (x.row ≡ a.row)
   from_low a c =
       let f = from_filter (λ (a : AddressedRow). leb a.address address) (addressed ranges rows) a c in
       let r = from_filter_map (addressed_row ranges) rows a f.0 in
       let k = addressed_is r.0 (address_of ranges (r.0).place) a refl r.2 in
-      (r.0, record { listed = r.1; placed = k.0; low = low_is a f.1 }, k.1)
+      (r.0, record { listed = r.1; placed = k.0; low = low_is a.address address f.1 }, k.1)
 
   -- where all but rows of these contents give way, a row of these contents is found, or none
   pub finds_row : FoundIsLast → (row : Row) → AllGiveWay rows ranges address row → (find_row rows ranges address ≡ Some row) ⊎ (find_row rows ranges address ≡ None)
@@ -86,6 +88,7 @@ module _ (rows : List PlacedRow) (ranges : List Range) (address : ℕ) where
       low : List AddressedRow
       low = at_or_below address (addressed ranges rows)
 
+      -- no row comes behind the one that holds
       later : (s : Row) (h : RowHoldsAt rows ranges address s) (b : AddressedRow) → Contains (at_or_below address (addressed ranges rows)) b → comes_before (at_address h.from s) b ≡ true → ⊥
       later s h b c before = elim (Contains-append_cases l.ahead (z ∷ l.behind) b (subst (λ (xs : List AddressedRow). Contains xs b) l.all c)) [
         | inl d ↦ let e : comes_before z b ≡ false = All-contains (λ other. comes_before z other ≡ false) l.ahead b l.before_none d in let k : ⊥ = cc in k

@@ -14,17 +14,21 @@ use Rattle.program_tables.specs.Placed.{placed_section, IsPlacedBy}
 use Rattle.unwinding.proofs.Lists.{here, there, cases, nowhere, in_map}
 use Rattle.program_rows.proofs.Lists.{finds_one, pair_of}
 
+-- what is in a mapped list is the image of an element
 from_map : {X Y : Type 0} (f : X → Y) (xs : List X) (y : Y) → Contains (map f xs) y → (x : X) × Contains xs x × (f x ≡ y)
 from_map f [] y c = nowhere y c
 from_map f (x ∷ xs) y c = elim (cases (f x) (map f xs) y c) [ inl e ↦ (x, here x xs, e) | inr d ↦ let r = from_map f xs y d in (r.0, there x xs r.0 r.1, r.2) ]
 
+-- a section of these numbers
 section : ℕ → ℕ → TextSection
 section sec size = record { sec = sec; size = size }
 
+-- a section is made of its numbers
 section_is : (one : TextSection) → section one.sec one.size ≡ one
 unfolding section
 section_is one = refl
 
+-- sections of equal numbers are equal
 same_section : (one other : TextSection) → one.sec ≡ other.sec → one.size ≡ other.size → one ≡ other
 same_section one other e f = let k : section one.sec one.size ≡ section other.sec other.size = cc in sym (section_is one) ∙ (k ∙ section_is other)
 
@@ -37,6 +41,7 @@ module _ (p : Program) (bases : Bases) (ranges : List Range) (placed : IsPlacedB
     size : range.size ≡ text.size
     base : range.base ≡ bases text.sec
 
+  -- each text section has one
   range_of : (text : TextSection) → Contains p.texts text → HasRange text
   range_of text c =
       let r = from_map section_in ranges (placed_section text) (Contains-permutation (map placed_section p.texts) (map section_in ranges) (placed_section text) placed.placement.sections (in_map placed_section p.texts text c)) in
@@ -57,9 +62,11 @@ module _ (p : Program) (bases : Bases) (ranges : List Range) (placed : IsPlacedB
       let base : (f.0).base ≡ bases place.sec = All-contains (λ (range : Range). range.base ≡ bases range.sec) ranges f.0 placed.begin f.2 ∙ ap bases (eqb-true (f.0).sec place.sec f.3) in
       ap (option_map (λ (range : Range). range.base + place.off)) f.1 ∙ ap (λ (n : ℕ). Some (n + place.off)) base
 
+  -- a range covers its addresses
   covers_it : (range : Range) (address : ℕ) → range.base ≤ address → address < range.base + range.size → IsTrue (covers range address)
   covers_it range address low high = rw (le-leb range.base address low, lt-ltb address (range.base + range.size) high) refl
 
+  -- the range of a section covers the section's addresses
   covers_address : (text : TextSection) (h : HasRange text) (address : ℕ) → HasAddress bases text address → IsTrue (covers h.range address)
   covers_address text h address has =
       covers_it h.range address (let e = h.base in let l = has.from in omega arith) (let e = h.base in let s = h.size in let l = has.below in omega arith)

@@ -18,6 +18,7 @@ use Rattle.program_rows.proofs.Equal.{both, row_stable, same_place_is, is_same_p
 abbrev pub IsOutside : Program → Place → Type 0
 IsOutside p place = (site : Site) → Contains p.sites site → in_site site place ≡ false
 
+-- two tests that pass
 both_true : {a b : Bool} → a ≡ true → b ≡ true → (a && b) ≡ true
 both_true {a} {b} e f = rw (e, f) refl
 
@@ -26,9 +27,11 @@ module _ (p : Program) (laid : IsLaidOut p) where
   pub outside_or_in : (place : Place) → ((site_at p place ≡ None) × IsOutside p place) ⊎ ((site : Site) × (site_at p place ≡ Some site) × Contains p.sites site × (in_site site place ≡ true))
   outside_or_in place = finds (λ (site : Site). in_site site place) p.sites
 
+  -- outside sites none is found
   pub outside_none : (place : Place) → IsOutside p place → site_at p place ≡ None
   outside_none place outside = finds_none (λ (site : Site). in_site site place) p.sites (λ site c h. let e : in_site site place ≡ false = outside site c in let k : ⊥ = cc in k)
 
+  -- the site in which a place lies is found
   pub site_found : (place : Place) (site : Site) → Contains p.sites site → in_site site place ≡ true → site_at p place ≡ Some site
   site_found place site c h =
       let r = finds_one (λ (site : Site). in_site site place) p.sites site c h in
@@ -45,6 +48,7 @@ module _ (p : Program) (laid : IsLaidOut p) where
       let same : p.place r.0 ≡ p.place q = same_place_is (p.place r.0) place k.1 ∙ sym at in
       r.1 ∙ ap Some (laid.apart r.0 q there point (plain_there ∙ sym plain) (laid.plain r.0 there plain_there ∙ (same ∙ sym (laid.plain q point plain))))
 
+  -- where no plain point stands none is found
   pub plain_none : (place : Place) → ((q : ℕ) → IsPoint p q → p.variant q ≡ 0 → p.place q ≡ place → ⊥) → plain_at p place ≡ None
   plain_none place f = finds_none (λ (q : ℕ). p.variant q == 0 && same_place (p.place q) place) (below p.count) (λ q c h.
       let k = both {a = p.variant q == 0} h in
@@ -59,6 +63,7 @@ module _ (p : Program) (laid : IsLaidOut p) where
       go (inr n) = let r = laid.replaced q point n in let e : in_site r.0 (p.address q) ≡ false = outside r.0 r.1 in let f = r.2 in absurd (let k : ⊥ = cc in k)
 
   module _ (states : ℕ → Option State) (kept : AreKeptStates p states) where
+    -- a kept point's row is that of its state
     point_row : (q : ℕ) (s : State) → Kept p q s → row_of_point states q ≡ row_of s
     point_row q s k = ap row_or_zero ((kept q s).1 k)
 
@@ -69,6 +74,7 @@ module _ (p : Program) (laid : IsLaidOut p) where
         ap (λ (o : Option Site). row_by p states o (p.address q)) (outside_none (p.address q) outside)
         ∙ (ap (option_map (row_of_point states)) (plain_found q (p.address q) point plain (sym (laid.plain q point plain))) ∙ ap Some (point_row q s k))
 
+    -- outside sites no row begins where no plain point stands
     pub none_outside : (place : Place) → IsOutside p place → ((q : ℕ) → IsPoint p q → p.variant q ≡ 0 → p.place q ≡ place → ⊥) → row_at p states place ≡ None
     none_outside place outside f =
         ap (λ (o : Option Site). row_by p states o place) (outside_none place outside)
@@ -80,24 +86,29 @@ module _ (p : Program) (laid : IsLaidOut p) where
         ap (λ (o : Option ℕ). is_some (option_and_then states o)) (plain_found start site.start point plain place)
         ∙ ap (λ (o : Option State). is_some o) ((kept start t).1 k)
 
+    -- a number with a state is kept
     pub some_kept : (q : ℕ) → is_some (states q) ≡ true → (s : State) × Kept p q s
     some_kept q h = elim (some_or_none (states q)) [
       | inl e ↦ let k : is_some (states q) ≡ false = ap (λ (o : Option State). is_some o) e in absurd (let z : ⊥ = cc in z)
       | inr s ↦ (s.0, (kept q s.0).0 s.1)
     ]
 
+    -- and the other way round
     pub kept_some : (q : ℕ) (s : State) → Kept p q s → is_some (states q) ≡ true
     kept_some q s k = ap (λ (o : Option State). is_some o) ((kept q s).1 k)
 
     module _ (site : Site) (listed : Contains p.sites site) (start : ℕ) (t : State) (point : IsPoint p start) (plain : p.variant start ≡ 0) (place : p.place start ≡ site.start) (start_kept : Kept p start t) where
+      -- a kept number in the site
       pub in_kept : (q : ℕ) (s : State) → in_site site (p.address q) ≡ true → Kept p q s → KeptInSite p site q s
       in_kept q s inside k = record { listed = listed; plain = start; start = (place, plain); start_kept = (t, start_kept); inside = inside; kept = k }
 
+      -- in a site whose start is kept the rows are those of kept points
       row_there : (at : Place) → in_site site at ≡ true → row_at p states at ≡ option_map (row_of_point states) (kept_at p states at)
       row_there at inside =
           ap (λ (o : Option Site). row_by p states o at) (site_found at site listed inside)
           ∙ ap (λ (b : Bool). if b then option_map (row_of_point states) (kept_at p states at) else (if same_place site.start at then Some zero_row else None)) (kept_site site start t point plain place start_kept)
 
+      -- there the row that begins at a kept point is that of its state, or rule 12 would warn
       pub row_inside : IsAccepted p → (q : ℕ) (s : State) → IsPoint p q → in_site site (p.address q) ≡ true → Kept p q s → row_at p states (p.address q) ≡ Some (row_of s)
       row_inside acc q s q_point inside k =
           let r = finds_one (λ (r : ℕ). is_some (states r) && same_place (p.address r) (p.address q)) (below p.count) q (in_below p.count q q_point) (both_true (kept_some q s k) (is_same_place (p.address q) (p.address q) refl)) in
@@ -109,6 +120,7 @@ module _ (p : Program) (laid : IsLaidOut p) where
           ∙ (ap (option_map (row_of_point states)) r.1
           ∙ ap Some (point_row r.0 u.0 u.1 ∙ row_stable (row_of u.0) (row_of s) (λ ne. acc _ _ _ _ (variants_disagree site r.0 q u.0 s (in_kept r.0 u.0 there u.1) (in_kept q s inside k) same ne))))
 
+      -- and none begins where no kept point stands
       pub none_inside : (at : Place) → in_site site at ≡ true → ((q : ℕ) (s : State) → IsPoint p q → Kept p q s → p.address q ≡ at → ⊥) → row_at p states at ≡ None
       none_inside at inside f =
           row_there at inside

@@ -49,11 +49,13 @@ module _ (p : Program) where
   calls_set slot [] h = h
   calls_set slot (f ∷ fs) h = h
 
+  -- equal frames come from the same points
   pub calls_along : (fs gs : List Frame) → gs ≡ fs → AreCallsEntered p fs → AreCallsEntered p gs
   calls_along fs gs e h = subst (λ (x : List Frame). AreCallsEntered p x) (sym e) h
 
   -- hints leave it
   module _ (t u : Standing) where
+    -- a hint that sets a state leaves it
     set_entered : (s : State) → SetsState s t u → AreEntered p t.point t.core.shadow → AreEntered p u.point u.core.shadow
     set_entered (Live d m b) e h = subst (λ (x : Standing). AreEntered p x.point x.core.shadow) (sym e.0) h
     set_entered (Ended k) e h = subst (λ (x : Standing). AreEntered p x.point x.core.shadow) (sym e) h
@@ -61,15 +63,18 @@ module _ (p : Program) where
         let slot : Slot = hinted_slot full (shifted t.core.rsp d) in
         subst (λ (x : Standing). AreEntered p x.point x.core.shadow) (sym e.0) (record { here = h.here; calls = calls_set slot t.core.shadow h.calls })
 
+    -- each hint leaves it
     hint_entered : (hint : Option HintState) (save : Option ℕ) → Hinted hint save t u → AreEntered p t.point t.core.shadow → AreEntered p u.point u.core.shadow
     hint_entered None save e h = subst (λ (x : Standing). AreEntered p x.point x.core.shadow) (sym e) h
     hint_entered (Some (Set s)) save e h = set_entered s e h
     hint_entered (Some Save) save e h = subst (λ (x : Standing). AreEntered p x.point x.core.shadow) (sym e) h
     hint_entered (Some Restore) save e h = subst (λ (x : Standing). AreEntered p x.point x.core.shadow) (sym e.after) h
 
+    -- so it stays when control lands
     pub lands_entered : Lands p t u → AreEntered p t.point t.core.shadow → AreEntered p u.point u.core.shadow
     lands_entered e h = hint_entered (p.hint t.point) (p.save_of t.point) e h
 
+-- a call of code outside is a call, whose target may return
 out_calls : (p : Program) (x : Role) → may_call_out p x ≡ true → (is_call x ≡ true) × (target_may_return p x ≡ true)
 out_calls p (CallOut sym) e = (refl, e)
 out_calls p (CallEither entry sym) e = (refl, refl)
@@ -88,6 +93,7 @@ module _ (p : Program) (bases : Bases) (is : IsProgram p) (laid : IsLaidOut p) (
     plain_role true c h = let k : is_call_op (p.insn s.point).op ≡ true = is.calls s.point r.point c in absurd (let m : ⊥ = cc in m)
     plain_role false c h = c
 
+    -- each local edge of an instruction that is no call may be gone along
     may_go : (kind : EdgeKind) → is_local kind ≡ true → is_call (p.role s.point) ≡ false → can_go p s.point kind ≡ true
     may_go Next l c = not_a_call p (p.role s.point) c
     may_go Taken l c = refl
@@ -95,9 +101,11 @@ module _ (p : Program) (bases : Bases) (is : IsProgram p) (laid : IsLaidOut p) (
     may_go Table l c = refl
     may_go Sibling l c = refl
 
+    -- the frames stay
     same_calls : t.core.shadow ≡ s.core.shadow → AreCallsEntered p t.core.shadow
     same_calls same = calls_along p s.core.shadow t.core.shadow same e.calls
 
+    -- an instruction goes on
     pub goes_on_entered : GoesOn p s t → AreEntered p t.point t.core.shadow
     goes_on_entered g =
         let role = plain_role (is_call (p.role s.point)) refl (effect_no_call s.core t.core (p.insn s.point).op g.effect) in
@@ -106,27 +114,32 @@ module _ (p : Program) (bases : Bases) (is : IsProgram p) (laid : IsLaidOut p) (
           calls = calls_changed p s.core.shadow t.core.shadow (effect_shape s.core t.core (p.insn s.point).op g.effect) e.calls;
         }
 
+    -- it faults
     pub faults_entered : Faults p s t → AreEntered p t.point t.core.shadow
     faults_entered g = record {
       here = entered_fixup p is acc states kept enters s.point t.point r.state e.here r.point r.kept g.along;
       calls = same_calls (ap (λ (x : Core). x.shadow) g.core);
     }
 
+    -- a call goes to an entry
     called_entry : (x : Role) (entry : ℕ) → p.role s.point ≡ x → MayCall p x entry → Contains p.entries entry
     called_entry (CallIn target) entry h k = subst (λ (y : ℕ). Contains p.entries y) (sym k) (is.calls_entry s.point target r.point h)
     called_entry (CallEither target symbol) entry h k = subst (λ (y : ℕ). Contains p.entries y) (sym k) (is.calls_weak_entry s.point target symbol r.point h)
     called_entry CallAny entry h k = k
     called_entry _ entry h k = absurd k
 
+    -- a new frame comes from here
     with_frame : (g : Frame) → g.call ≡ Some s.point → t.core.shadow ≡ g ∷ s.core.shadow → AreCallsEntered p t.core.shadow
     with_frame g call shadow = calls_along p (g ∷ s.core.shadow) t.core.shadow shadow (subst (λ (o : Option ℕ). IfSome o (λ c. IsEntered p c)) (sym call) e.here, e.calls)
 
+    -- it calls an entry
     pub calls_in_entered : CallsIn p bases s t → AreEntered p t.point t.core.shadow
     calls_in_entered g = record {
       here = entered_entry p is acc states kept enters g.entry t.point (called_entry (p.role s.point) g.entry refl g.target) g.arrives;
       calls = with_frame (call_frame p bases s) refl (ap (λ (x : Core). x.shadow) g.core);
     }
 
+    -- it calls code outside
     pub calls_out_entered : CallsOut p s t → AreEntered p t.point t.core.shadow
     calls_out_entered g =
         let call = out_calls p (p.role s.point) g.target in
@@ -142,6 +155,7 @@ module _ (p : Program) (bases : Bases) (is : IsProgram p) (laid : IsLaidOut p) (
         let all : AreCallsEntered p (g ∷ below) = subst (λ (x : List Frame). AreCallsEntered p x) shadow e.calls in
         (subst (λ (o : Option ℕ). IfSome o (λ c. IsEntered p c)) called all.0, all.1)
 
+    -- it returns
     pub returns_entered : Returns p s t → AreEntered p t.point t.core.shadow
     returns_entered h =
         let both = inner_of p bases s.point h.call h.frame h.below (subst (λ (x : List Frame). AreFrames p bases s.point x) h.shadow f.frames) h.called in
@@ -161,10 +175,12 @@ module _ (p : Program) (bases : Bases) (is : IsProgram p) (laid : IsLaidOut p) (
         comes (inr (inl m)) = m
         comes (inr (inr m)) = let n : p.may_return s.point ≡ true = (is.may_return s.point r.point).1 (leaves_may_return p s.point (p.role s.point) refl h.leaves) in absurd (let k : ⊥ = cc in k)
 
+    -- where a jump to another function leads
     jumps : (a q : ℕ) → IsEntered p a → IsPoint p a → JumpsTo p a q → IsEntered p q
     jumps a q entered point (sibling q2 c) = entered_sibling p is acc states kept enters a q entered point c
     jumps a q entered point (indirect q2 entry role c d) = entered_entry p is acc states kept enters entry q c d
 
+    -- it jumps to another function
     pub tail_calls_entered : TailCalls p s t → AreEntered p t.point t.core.shadow
     tail_calls_entered h = record { here = jumps s.point t.point e.here r.point h.target; calls = same_calls (ap (λ (x : Core). x.shadow) h.core) }
 
@@ -178,6 +194,7 @@ module _ (p : Program) (bases : Bases) (is : IsProgram p) (laid : IsLaidOut p) (
       calls = with_frame (interrupt_frame p bases s) refl (ap (λ (x : Core). x.shadow) h.core);
     }
 
+    -- it returns from an interrupt
     pub irets_entered : ReturnsFromInterrupt p s t → AreEntered p t.point t.core.shadow
     irets_entered h =
         let entered = top_call h.frame h.below t.point h.shadow h.interrupted in

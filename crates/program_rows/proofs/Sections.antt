@@ -32,6 +32,7 @@ module _ (text : TextSection) where
   end_in (z ∷ xs) x c = (Contains-append_right (z ∷ xs) (end_row text ∷ []) (end_row text) (here (end_row text) []), (z, here z xs))
 
 module _ (row : Place → Option Row) (text : TextSection) where
+  -- the row of an offset, with its place
   abbrev pub row_from : ℕ → Option PlacedRow
   row_from off = option_map (placed (place_in text off)) (row (place_in text off))
 
@@ -39,12 +40,15 @@ module _ (row : Place → Option Row) (text : TextSection) where
   abbrev pub rows_at : List PlacedRow
   rows_at = filter_map row_from (below text.size)
 
+  -- without repeats
   abbrev pub rows_left : List PlacedRow
   rows_left = without_repeats zero_row rows_at
 
+  -- with the row at the end
   abbrev pub rows_in : List PlacedRow
   rows_in = with_end text rows_left
 
+  -- what the row of an offset is
   placed_is : (off : ℕ) (o : Option Row) (x : PlacedRow) → option_map (placed (place_in text off)) o ≡ Some x → (x.place ≡ place_in text off) × (o ≡ Some x.row)
   placed_is off None x e = none_some e
   placed_is off (Some r) x e = let k = some_is e in (sym (ap (λ (z : PlacedRow). z.place) k), ap (λ (z : PlacedRow). Some z.row) k)
@@ -55,6 +59,7 @@ module _ (row : Place → Option Row) (text : TextSection) where
     pub low : x.place.off < text.size
     pub row_is : row (place_in text x.place.off) ≡ Some x.row
 
+  -- each row is one
   pub is_row : (x : PlacedRow) → Contains rows_at x → IsRowIn x
   is_row x c =
       let r = from_filter_map row_from (below text.size) x c in
@@ -66,9 +71,11 @@ module _ (row : Place → Option Row) (text : TextSection) where
         row_is = subst (λ (n : ℕ). row (place_in text n) ≡ Some x.row) e k.1;
       }
 
+  -- also each that is left
   pub left_is_row : (x : PlacedRow) → Contains rows_left x → IsRowIn x
   left_is_row x c = is_row x (left_in zero_row rows_at x c)
 
+  -- the rows rise
   rises : Rises rows_at
   rises = rises_below row_from (λ off x e. ap (λ (z : Place). z.off) (placed_is off (row (place_in text off)) x e).0) text.size
 
@@ -80,9 +87,11 @@ module _ (row : Place → Option Row) (text : TextSection) where
     pub begins : row (place_in text from) ≡ Some r
     pub none : (off : ℕ) → from < off → off ≤ at → row (place_in text off) ≡ None
 
+  -- a row is made of its place and contents
   same_placed : (x : PlacedRow) (place : Place) (r : Row) → x.place ≡ place → x.row ≡ r → x ≡ placed place r
   same_placed x place r e f = subst (λ (z : Place). x ≡ placed z r) e (subst (λ (z : Row). x ≡ placed x.place z) f refl)
 
+  -- the row in force is the last at or below
   last_at : (at : ℕ) (r : Row) → (h : IsInForceAt at r) → IsLastUpTo at rows_at (placed (place_in text h.from) r)
   last_at at r h = record {
     listed = in_filter_map row_from (below text.size) h.from (placed (place_in text h.from) r) (in_below text.size h.from (omega (arith, h.low, h.within))) (ap (option_map (placed (place_in text h.from))) h.begins);

@@ -23,6 +23,7 @@ pub record ArePlaced (texts : List TextSection) (bases : Bases) (ranges : List R
   pub numbers : (one other : TextSection) → Contains texts one → Contains texts other → one.sec ≡ other.sec → one ≡ other
 
 module _ (row : Place → Option Row) (texts : List TextSection) (bases : Bases) (ranges : List Range) (placed : ArePlaced texts bases ranges) where
+  -- the rows of all sections
   abbrev pub all_rows_by : List PlacedRow
   all_rows_by = flat_map (rows_in row) texts
 
@@ -33,12 +34,14 @@ module _ (row : Place → Option Row) (texts : List TextSection) (bases : Bases)
     listed : Contains (rows_in row text) x
     at_is : at ≡ bases text.sec + x.place.off
 
+  -- a row of a section lies in it or at its end
   sec_in : (text : TextSection) (x : PlacedRow) → Contains (rows_in row text) x → (x.place.sec ≡ text.sec) × (x.place.off ≤ text.size)
   sec_in text x c = elim (from_ended text (rows_left row text) x c) [
     | inl d ↦ let k = left_is_row row text x d in (ap (λ (z : Place). z.sec) k.place, let l = k.low in omega arith)
     | inr e ↦ (ap (λ (z : PlacedRow). z.place.sec) e, let k : x.place.off ≡ text.size = ap (λ (z : PlacedRow). z.place.off) e in omega arith)
   ]
 
+  -- it lies at its address
   lies : (address : ℕ) (text : TextSection) (x : PlacedRow) → Contains texts text → Contains (rows_in row text) x → bases text.sec + x.place.off ≤ address → Lies all_rows_by ranges address x (bases text.sec + x.place.off)
   lies address text x c d low =
       let k = (sec_in text x d).0 in
@@ -48,6 +51,7 @@ module _ (row : Place → Option Row) (texts : List TextSection) (bases : Bases)
         low = low;
       }
 
+  -- a row of the table is one of a section
   lies_in : (address : ℕ) (x : PlacedRow) (at : ℕ) → Lies all_rows_by ranges address x at → LiesIn x at
   lies_in address x at h =
       let r = from_flat_map (rows_in row) texts x h.listed in
@@ -60,9 +64,6 @@ module _ (row : Place → Option Row) (texts : List TextSection) (bases : Bases)
       }
 
   module _ (found : FoundIsLast) (none : NoneFoundIsNone) (text : TextSection) (off : ℕ) (section : Contains texts text) (within : off < text.size) where
-    here_at : ℕ
-    here_at = bases text.sec + off
-
     -- another section with a byte that begins at or below lies below
     ends_below : (other : TextSection) → Contains texts other → 1 ≤ other.size → bases other.sec ≤ bases text.sec + off → other.sec ≢ text.sec → bases other.sec + other.size ≤ bases text.sec
     ends_below other c long low ne = go (let t : (bases other.sec + other.size ≤ bases text.sec) ⊎ (((bases other.sec ≤ bases text.sec) × (bases text.sec < bases other.sec + other.size)) ⊎ (bases text.sec < bases other.sec)) = grind arith in t)
@@ -79,12 +80,14 @@ module _ (row : Place → Option Row) (texts : List TextSection) (bases : Bases)
       not_last : (y : PlacedRow) (b : ℕ) → Lies all_rows_by ranges (bases text.sec + off) y b → at < b → IsAtOrBelow x at
       ends_other : x.row ≡ zero_row → at ≤ bases text.sec → IsAtOrBelow x at
 
+    -- of this section
     in_this : (x : PlacedRow) (at : ℕ) → Contains (rows_in row text) x → at ≡ bases text.sec + x.place.off → at ≤ bases text.sec + off → IsAtOrBelow x at
     in_this x at c e low = elim (from_ended text (rows_left row text) x c) [
       | inl d ↦ of_this d (omega arith) e
       | inr k ↦ let l : x.place.off ≡ text.size = ap (λ (z : PlacedRow). z.place.off) k in absurd (omega arith)
     ]
 
+    -- of another section
     in_other : (other : TextSection) (x : PlacedRow) (at : ℕ) → Contains texts other → Contains (rows_in row other) x → other.sec ≢ text.sec → at ≡ bases other.sec + x.place.off → at ≤ bases text.sec + off → IsAtOrBelow x at
     in_other other x at c d ne e low =
         let some = end_in other (rows_left row other) x d in
@@ -100,6 +103,7 @@ module _ (row : Place → Option Row) (texts : List TextSection) (bases : Bases)
               ends_other (ap (λ (z : PlacedRow). z.row) k) (omega (arith, below))
         ]
 
+    -- of any
     at_or_below : (x : PlacedRow) (at : ℕ) → Lies all_rows_by ranges (bases text.sec + off) x at → IsAtOrBelow x at
     at_or_below x at h =
         let k = lies_in (bases text.sec + off) x at h in

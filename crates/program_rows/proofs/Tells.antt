@@ -34,6 +34,7 @@ down_one : (address : ℕ) → 1 ≤ address → address < 2 ^ 64 → down addre
 down_one address low high = omega arith
 
 module _ (found : FoundIsLast) (none : NoneFoundIsNone) (p : Program) (bases : Bases) (ranges : List Range) (laid : IsLaidOut p) (placed : IsPlacedBy p bases ranges) where
+  -- the sections are placed
   sections_placed : ArePlaced p.texts bases ranges
   sections_placed = record {
     addresses = λ text place c e. address_in p bases ranges placed text place c e;
@@ -54,18 +55,21 @@ module _ (found : FoundIsLast) (none : NoneFoundIsNone) (p : Program) (bases : B
       go (inr k) = elim (finds_in_force (row_at p states) p.texts bases ranges sections_placed found none text at c within (row_of s) (inr k) h) [ inl e ↦ inl e | inr e ↦ absurd (k (ap (λ (r : Row). r.kind) e.0)) ]
 
   module _ (is : IsProgram p) (acc : IsAccepted p) (states : ℕ → Option State) (kept : AreKeptStates p states) (only : KeepsPointsInSites p) (q : ℕ) (s : State) (point : IsPoint p q) (entered : IsEntered p q) (k : Kept p q s) (text : TextSection) (listed : Contains p.texts text) (sec : text.sec ≡ (p.address q).sec) (fits : (p.address q).off + (p.insn q).len ≤ text.size) where
+    -- the row in force at the address
     in_force_at : IsInForceAt (row_at p states) text (p.address q).off (row_of s)
     in_force_at = elim (outside_or_in p laid (p.address q)) [
       | inl out ↦ in_force_outside p laid states kept q s point k text sec fits out.1 (p.address q).off (omega arith) (let l = laid.lengths q point in omega arith)
       | inr site ↦ in_force_here p laid states kept q s point k text sec fits acc site.0 site.2 (entered site.0 site.2 site.3) site.3 (laid.lengths q point)
     ]
 
+    -- the row in force at a call's last byte
     in_force_last : is_call (p.role q) ≡ true → IsInForceAt (row_at p states) text ((p.address q).off + (p.insn q).len - 1) (row_of s)
     in_force_last call = elim (outside_or_in p laid (p.address q)) [
       | inl out ↦ in_force_outside p laid states kept q s point k text sec fits out.1 ((p.address q).off + (p.insn q).len - 1) (let l = laid.lengths q point in omega arith) (let l = laid.lengths q point in omega arith)
       | inr site ↦ in_force_behind p laid states kept q s point k text sec fits acc site.0 site.2 (entered site.0 site.2 site.3) site.3 (λ r t h. only site.0 r t h) ((p.address q).off + (p.insn q).len - 1) (let l = laid.lengths q point in omega arith) (let l = laid.lengths q point in omega arith) (is.calls q point call) refl
     ]
 
+    -- where the last byte lies
     last_is : down (return_address p bases q) 1 ≡ bases text.sec + ((p.address q).off + (p.insn q).len - 1)
     last_is =
         let long = laid.lengths q point in
@@ -73,12 +77,14 @@ module _ (found : FoundIsLast) (none : NoneFoundIsNone) (p : Program) (bases : B
         let base : bases (p.address q).sec ≡ bases text.sec = ap bases (sym sec) in
         down_one (return_address p bases q) (omega arith) (omega arith) ∙ omega arith
 
+    -- so the state of the point is told
     tells_point : TellsPoint p bases (rows_of p states) ranges q s
     tells_point = record {
       at = subst (λ (n : ℕ). TellsState s (find_row (rows_of p states) ranges (bases n + (p.address q).off))) sec (tells_in_force states s text (p.address q).off listed (let l = laid.lengths q point in omega arith) in_force_at);
       last_byte = λ call. subst (λ (n : ℕ). TellsState s (find_row (rows_of p states) ranges n)) (sym last_is) (tells_in_force states s text ((p.address q).off + (p.insn q).len - 1) listed (let l = laid.lengths q point in omega arith) (in_force_last call));
     }
 
+-- the law
 pub rows_of_points_tell : FoundIsLast → NoneFoundIsNone → UnwindingLaw → RowsOfPointsTell
 rows_of_points_tell found none law p bases ranges states is laid only enters placed acc kept q s visited k =
     let e = visited_entered law p bases is laid (is_placement p bases ranges placed) acc states kept enters q visited in

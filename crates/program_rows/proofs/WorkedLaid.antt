@@ -17,37 +17,45 @@ use Rattle.unwinding.proofs.Lists.{here, cases, nowhere}
 use Rattle.program_rows.specs.Worked.{site, patched, bases, ranges}
 use Rattle.program_rows.proofs.WorkedProgram.{no_edge}
 
+-- its section
 text : TextSection
 text = record { sec = 1; size = 5 }
 
+-- there is one site
 only_site : (s : Site) → Contains patched.sites s → s ≡ site
 only_site s c = elim (cases site [] s c) [ inl e ↦ sym e | inr d ↦ nowhere s d ]
 
+-- instructions have bytes
 lengths : (q : ℕ) → 1 ≤ (patched.insn q).len
 lengths zero = lit≤ tt
 lengths (suc q) = lit≤ tt
 
+-- they lie in the section
 in_section : (q : ℕ) → q < 2 → (t : TextSection) × Contains patched.texts t × (t.sec ≡ (patched.address q).sec) × ((patched.address q).off + (patched.insn q).len ≤ t.size)
 unfolding text
 in_section zero h = (text, here text [], refl, lit≤ tt)
 in_section (suc zero) h = (text, here text [], refl, lit≤ tt)
 in_section (suc (suc q)) h = absurd (omega arith)
 
+-- the plain one runs where it stands
 plain : (q : ℕ) → q < 2 → patched.variant q ≡ 0 → patched.address q ≡ patched.place q
 plain zero h e = refl
 plain (suc zero) h e = absurd (omega arith)
 plain (suc (suc q)) h e = absurd (omega arith)
 
+-- the other runs in the site
 replaced : (q : ℕ) → q < 2 → patched.variant q ≢ 0 → in_site site (patched.address q) ≡ true
 replaced zero h n = refl
 replaced (suc zero) h n = refl
 replaced (suc (suc q)) h n = absurd (omega arith)
 
+-- both stay in the site
 in_the_site : (q : ℕ) → q < 2 → (patched.address q).off + (patched.insn q).len ≤ 5
 in_the_site zero h = lit≤ tt
 in_the_site (suc zero) h = lit≤ tt
 in_the_site (suc (suc q)) h = absurd (omega arith)
 
+-- they are of two variants
 apart : (q r : ℕ) → q < 2 → r < 2 → patched.variant q ≡ patched.variant r → q ≡ r
 apart zero zero h k e = refl
 apart zero (suc zero) h k e = absurd (omega arith)
@@ -62,6 +70,7 @@ begin zero h = refl
 begin (suc zero) h = refl
 begin (suc (suc q)) h = absurd (omega arith)
 
+-- so it is laid out
 pub laid_out : IsLaidOut patched
 laid_out = record {
   lengths = λ q point. lengths q;
@@ -77,6 +86,7 @@ laid_out = record {
   sections = λ i j d l m. absurd (omega arith);
 }
 
+-- control comes to the start of the site
 pub enters : EntersSites patched
 enters = record {
   edges = λ q r kind s point c listed inside. absurd (no_edge q _ c);
@@ -87,6 +97,7 @@ enters = record {
   );
 }
 
+-- the range places the section
 pub placed_by : IsPlacedBy patched bases ranges
 placed_by = record {
   placement = record {
@@ -97,10 +108,12 @@ placed_by = record {
   begin = All-cons (λ (range : Range). range.base ≡ bases range.sec) (record { sec = 1; base = 0x1000; size = 5 }) [] refl (All-nil (λ (range : Range). range.base ≡ bases range.sec));
 }
 
+-- the stack has bytes
 zeros_are_bytes : (n : ℕ) → All (λ b. b < 256) (replicate n 0)
 zeros_are_bytes zero = All-nil (λ b. b < 256)
 zeros_are_bytes (suc n) = All-cons (λ b. b < 256) 0 (replicate n 0) (lit< tt) (zeros_are_bytes n)
 
+-- the highest address is outside
 outside : IsOutside patched bases 18446744073709551615
 outside t c = inr (subst (λ (x : TextSection). bases x.sec + x.size ≤ 18446744073709551615) (elim (cases (record { sec = 1; size = 5 }) [] t c) [ inl e ↦ e | inr k ↦ nowhere t k ]) (lit≤ tt))
 

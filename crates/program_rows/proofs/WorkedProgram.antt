@@ -24,59 +24,74 @@ use Rattle.program_rows.specs.Worked.{site, patched}
 use Rattle.program_rows.proofs.KeptPoints.{kept_are_points}
 use Rattle.program_rows.proofs.Still as still
 
+-- there are no edges
 goes_nowhere : (q : ℕ) → patched.goes q ≡ []
 goes_nowhere q = refl
 
+-- there is no RESTORE
 no_restore : (q : ℕ) → patched.hint q ≡ Some Restore → ⊥
 no_restore q e = cc
 
+-- so nothing leads anywhere
 pub no_edge : (q : ℕ) (e : Edge) → Contains (patched.goes q) e → ⊥
 no_edge q e c = still.no_edge patched goes_nowhere no_restore q e c
 
+-- no return
 no_return : (q : ℕ) → patched.role q ≡ Return → ⊥
 no_return zero e = cc
 no_return (suc q) e = cc
 
+-- no jump outside
 no_jump_out : (q symbol : ℕ) → patched.role q ≡ JumpOut symbol → ⊥
 no_jump_out zero symbol e = cc
 no_jump_out (suc q) symbol e = cc
 
+-- no indirect jump
 no_jump_any : (q : ℕ) → patched.role q ≡ JumpAny → ⊥
 no_jump_any zero e = cc
 no_jump_any (suc q) e = cc
 
+-- no call inside
 no_call_in : (q entry : ℕ) → patched.role q ≡ CallIn entry → ⊥
 no_call_in zero entry e = cc
 no_call_in (suc q) entry e = cc
 
+-- nor one of a weak symbol
 no_call_either : (q entry symbol : ℕ) → patched.role q ≡ CallEither entry symbol → ⊥
 no_call_either zero entry symbol e = cc
 no_call_either (suc q) entry symbol e = cc
 
+-- no return that drops bytes
 no_bytes : (q : ℕ) → (patched.insn q).op ≡ RetImm → ⊥
 no_bytes zero e = cc
 no_bytes (suc q) e = cc
 
+-- no far branch
 no_switch : (q : ℕ) → (patched.insn q).op ≡ Switch → ⊥
 no_switch zero e = cc
 no_switch (suc q) e = cc
 
+-- no return from an interrupt
 no_iret : (q : ℕ) → (patched.insn q).op ≡ Iret → ⊥
 no_iret zero e = cc
 no_iret (suc q) e = cc
 
+-- its one call is one
 calls : (q : ℕ) → is_call (patched.role q) ≡ true → is_call_op (patched.insn q).op ≡ true
 calls zero e = refl
 calls (suc q) e = cc
 
+-- its numbers have 64 bits
 signed : (q : ℕ) → HasSignedNumber (patched.insn q).op
 signed zero = tt
 signed (suc q) = tt
 
+-- control comes to its points
 arrives : (b : Bool) (q : ℕ) → Contains (if b then 0 ∷ 1 ∷ [] else []) q → q < 2
 arrives true q c = elim (cases 0 (1 ∷ []) q c) [ inl e ↦ subst (λ (x : ℕ). x < 2) e (lit< tt) | inr d ↦ elim (cases 1 [] q d) [ inl e ↦ subst (λ (x : ℕ). x < 2) e (lit< tt) | inr k ↦ nowhere q k ] ]
 arrives false q c = nowhere q c
 
+-- no return comes
 no_return_comes : (q : ℕ) → MayReturn patched q → ⊥
 no_return_comes q (may.returns q2 e) = no_return q e
 no_return_comes q (may.jumps_anywhere q2 e) = no_jump_any q e
@@ -86,6 +101,7 @@ no_return_comes q (may.branches q2 e kind c m) = no_edge q e c
 no_return_comes q (may.comes_back q2 r out passed c m) = no_edge q (edge r Next) c
 no_return_comes q (may.comes_back_in q2 r entry first role passed c m d n) = no_edge q (edge r Next) d
 
+-- so it is a program
 pub program : IsProgram patched
 program = record {
   edges = λ q e point c. absurd (no_edge q e c);
@@ -116,11 +132,13 @@ all_initial q s k = go q (kept_are_points patched program (λ q hint e. absurd (
     go (suc zero) l e = cc
     go (suc (suc q)) l e = absurd (omega arith)
 
+-- no jump leaves it
 no_jump : (q : ℕ) → LeavesByJump patched q → ⊥
 no_jump q (sibling r c) = still.no_edge_of patched goes_nowhere no_restore q (edge r Sibling) c
 no_jump q (outside symbol e) = no_jump_out q symbol e
 no_jump q (anywhere e) = no_jump_any q e
 
+-- its operations are not refused
 moves_well : (q rule : ℕ) (s : State) → s ≡ initial → move s (patched.insn q).op ≡ Err rule → ⊥
 moves_well q rule s i e = go q (subst (λ (x : State). move x (patched.insn q).op ≡ Err rule) i e)
   where
@@ -128,9 +146,11 @@ moves_well q rule s i e = go q (subst (λ (x : State). move x (patched.insn q).o
     go zero e = cc
     go (suc q) e = cc
 
+-- its offsets fit
 fits : (s : State) (a : ℤ) → s ≡ initial → unfit_offset s ≡ Some a → ⊥
 fits s a i e = let k : unfit_offset initial ≡ Some a = subst (λ (x : State). unfit_offset x ≡ Some a) i e in cc
 
+-- it breaks no rule
 refuted : (place : Place) (rule : ℕ) (a b : ℤ) → Warns patched place rule a b → ⊥
 refuted place rule a b (broken.bad_target q s k e) = cc
 refuted place rule a b (broken.falls_through q r s k c ne) = ne refl
@@ -153,8 +173,10 @@ refuted place rule a b (broken.without_size where_at c) = nowhere where_at c
 refuted place rule a b (broken.entered_restore q entry e n c d) = cc
 refuted place rule a b (broken.reached_restore q r s e h n k c t) = cc
 
+-- so it is accepted
 pub accepted : IsAccepted patched
 accepted place rule a b warning = refuted place rule a b warning
 
+-- its states are those of level 0
 pub states : AreKeptStates patched (state_at patched 0)
 states = still.are_kept patched goes_nowhere no_restore
