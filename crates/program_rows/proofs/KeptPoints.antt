@@ -1,4 +1,4 @@
--- Where hints stand at points, only points are kept.
+-- Only points are kept.
 use Rattle.std.proofs.Common.{◌≡◌, ℕ, zero, suc, Bool, true, false, if◌then◌else◌, ◌==◌, Option, Some, None, Contains, refl, subst}
 use Rattle.std.specs.List.{list_any}
 use Rattle.std.proofs.lemmas.Bool.{eqb-true}
@@ -9,17 +9,17 @@ use Rattle.machine_ops.specs.State.{initial}
 use Rattle.machine_ops.specs.Order.{least}
 use Rattle.stack_machine.specs.Program.{Program, IsPoint, entry_points, below}
 use Rattle.stack_machine.specs.Kept.{can_go, brought_from, brought, is_entry_point, first_state, later_state, kept_or, state_at}
-use Rattle.stack_machine.specs.IsProgram.{IsProgram}
+use Rattle.stack_machine.specs.IsProgram.{IsProgram, IsLaidOut}
 use Rattle.unwinding.proofs.Lists.{nowhere, find_one, from_filter, from_flat_map, from_below}
 use Rattle.unwinding.proofs.KeptStates.{least_member, brings_edge}
-use Rattle.program_rows.specs.Laws.{HintsStandAtPoints, KeptArePoints}
+use Rattle.program_rows.specs.Laws.{KeptArePoints}
 
 -- a state is one of a checked point
 pub unless_unchecked : (b : Bool) (o : Option State) (s : State) → (if b then None else o) ≡ Some s → o ≡ Some s
 unless_unchecked true o s e = absurd (let k : ⊥ = cc in k)
 unless_unchecked false o s e = e
 
-module _ (p : Program) (is : IsProgram p) (hints : HintsStandAtPoints p) where
+module _ (p : Program) (is : IsProgram p) (laid : IsLaidOut p) where
   -- control comes to points
   entry_is_point : (q : ℕ) → is_entry_point p q ≡ true → IsPoint p q
   entry_is_point q h =
@@ -29,7 +29,7 @@ module _ (p : Program) (is : IsProgram p) (hints : HintsStandAtPoints p) where
 
   -- what has a state at level 0 is a point
   first_is_point : (q : ℕ) (s : State) (h : Option HintState) → p.hint q ≡ h → first_state p q h ≡ Some s → IsPoint p q
-  first_is_point q s (Some hint) h e = hints q hint h
+  first_is_point q s (Some hint) h e = laid.hint_points q hint h
   first_is_point q s None h e = go (is_entry_point p q) refl e
     where
       go : (b : Bool) → is_entry_point p q ≡ b → (if b then Some initial else None) ≡ Some s → IsPoint p q
@@ -51,7 +51,7 @@ module _ (p : Program) (is : IsProgram p) (hints : HintsStandAtPoints p) where
 
   -- what gets a state at a later level is a point
   later_is_point : (states : ℕ → Option State) (q : ℕ) (s : State) (h : Option HintState) → p.hint q ≡ h → later_state p states q h ≡ Some s → IsPoint p q
-  later_is_point states q s (Some hint) h e = hints q hint h
+  later_is_point states q s (Some hint) h e = laid.hint_points q hint h
   later_is_point states q s None h e = brought_is_point states q s e
 
   -- what has a state at some level is a point
@@ -65,4 +65,4 @@ module _ (p : Program) (is : IsProgram p) (hints : HintsStandAtPoints p) where
 
 -- only points are kept
 pub kept_are_points : KeptArePoints
-kept_are_points p is hints q s (level, e) = level_is_point p is hints level q s e
+kept_are_points p is laid q s (level, e) = level_is_point p is laid level q s e

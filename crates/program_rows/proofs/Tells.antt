@@ -18,7 +18,7 @@ use Rattle.orc_walk.specs.Lookup.{find_row}
 use Rattle.orc_walk.specs.Laws.{FoundIsLast, NoneFoundIsNone}
 use Rattle.program_tables.specs.Placed.{IsPlacedBy}
 use Rattle.program_tables.specs.Tells.{TellsState, TellsPoint}
-use Rattle.program_rows.specs.Laws.{KeepsPointsInSites, RowsOfPointsTell}
+use Rattle.program_tables.specs.Laws.{RowsTell}
 use Rattle.program_rows.proofs.Lists.{pair_of}
 use Rattle.program_rows.proofs.Equal.{known_or_not}
 use Rattle.program_rows.proofs.Placed.{address_in, is_placement}
@@ -28,6 +28,7 @@ use Rattle.program_rows.proofs.RowAt.{outside_or_in}
 use Rattle.program_rows.proofs.InForce.{in_force_outside, in_force_here, in_force_behind}
 use Rattle.program_rows.proofs.Enters.{IsEntered}
 use Rattle.program_rows.proofs.Visited.{visited_entered}
+use Rattle.program_rows.proofs.KeptPoints.{kept_are_points}
 
 -- the byte right below an address
 down_one : (address : ℕ) → 1 ≤ address → address < 2 ^ 64 → down address 1 ≡ address - 1
@@ -54,7 +55,7 @@ module _ (found : FoundIsLast) (none : NoneFoundIsNone) (p : Program) (bases : B
       go (inl k) = elim (finds_in_force (row_at p states) p.texts bases ranges sections_placed found none text at c within (row_of s) (inl k.0) h) [ inl e ↦ inl e | inr e ↦ inr (k.1, e.1) ]
       go (inr k) = elim (finds_in_force (row_at p states) p.texts bases ranges sections_placed found none text at c within (row_of s) (inr k) h) [ inl e ↦ inl e | inr e ↦ absurd (k (ap (λ (r : Row). r.kind) e.0)) ]
 
-  module _ (is : IsProgram p) (acc : IsAccepted p) (states : ℕ → Option State) (kept : AreKeptStates p states) (only : KeepsPointsInSites p) (q : ℕ) (s : State) (point : IsPoint p q) (entered : IsEntered p q) (k : Kept p q s) (text : TextSection) (listed : Contains p.texts text) (sec : text.sec ≡ (p.address q).sec) (fits : (p.address q).off + (p.insn q).len ≤ text.size) where
+  module _ (is : IsProgram p) (acc : IsAccepted p) (states : ℕ → Option State) (kept : AreKeptStates p states) (only : (r : ℕ) (t : State) → Kept p r t → IsPoint p r) (q : ℕ) (s : State) (point : IsPoint p q) (entered : IsEntered p q) (k : Kept p q s) (text : TextSection) (listed : Contains p.texts text) (sec : text.sec ≡ (p.address q).sec) (fits : (p.address q).off + (p.insn q).len ≤ text.size) where
     -- the row in force at the address
     in_force_at : IsInForceAt (row_at p states) text (p.address q).off (row_of s)
     in_force_at = elim (outside_or_in p laid (p.address q)) [
@@ -66,7 +67,7 @@ module _ (found : FoundIsLast) (none : NoneFoundIsNone) (p : Program) (bases : B
     in_force_last : is_call (p.role q) ≡ true → IsInForceAt (row_at p states) text ((p.address q).off + (p.insn q).len - 1) (row_of s)
     in_force_last call = elim (outside_or_in p laid (p.address q)) [
       | inl out ↦ in_force_outside p laid states kept q s point k text sec fits out.1 ((p.address q).off + (p.insn q).len - 1) (let l = laid.lengths q point in omega arith) (let l = laid.lengths q point in omega arith)
-      | inr site ↦ in_force_behind p laid states kept q s point k text sec fits acc site.0 site.2 (entered site.0 site.2 site.3) site.3 (λ r t h. only site.0 r t h) ((p.address q).off + (p.insn q).len - 1) (let l = laid.lengths q point in omega arith) (let l = laid.lengths q point in omega arith) (is.calls q point call) refl
+      | inr site ↦ in_force_behind p laid states kept q s point k text sec fits acc site.0 site.2 (entered site.0 site.2 site.3) site.3 (λ r t h. only r t h.kept) ((p.address q).off + (p.insn q).len - 1) (let l = laid.lengths q point in omega arith) (let l = laid.lengths q point in omega arith) (is.calls q point call) refl
     ]
 
     -- where the last byte lies
@@ -85,8 +86,8 @@ module _ (found : FoundIsLast) (none : NoneFoundIsNone) (p : Program) (bases : B
     }
 
 -- the law
-pub rows_of_points_tell : FoundIsLast → NoneFoundIsNone → UnwindingLaw → RowsOfPointsTell
-rows_of_points_tell found none law p bases ranges states is laid only enters placed acc kept q s visited k =
+pub rows_tell : FoundIsLast → NoneFoundIsNone → UnwindingLaw → RowsTell
+rows_tell found none law p bases ranges states is laid enters placed acc kept q s visited k =
     let e = visited_entered law p bases is laid (is_placement p bases ranges placed) acc states kept enters q visited in
     let w = laid.within q e.0 in
-    tells_point found none p bases ranges laid placed is acc states kept only q s e.0 e.1 k w.0 w.1 w.2 w.3
+    tells_point found none p bases ranges laid placed is acc states kept (λ r t h. kept_are_points p is laid r t h) q s e.0 e.1 k w.0 w.1 w.2 w.3

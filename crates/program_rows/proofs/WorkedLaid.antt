@@ -84,6 +84,7 @@ laid_out = record {
   apart = λ q r a b e f. apart q r a b e;
   in_order = λ q r a b e f l. let x = begin q a in let y = begin r b in absurd (omega arith);
   sections = λ i j d l m. absurd (omega arith);
+  hint_points = λ q hint e. absurd (let k : ⊥ = cc in k);
 }
 
 -- control comes to the start of the site

@@ -1,5 +1,5 @@
 -- The worked program meets the premises of the law.
-use Rattle.std.proofs.Common.{◌≡◌, ℕ, zero, suc, ◌<◌, Bool, true, false, if◌then◌else◌, [], ◌∷◌, Some, Err, Contains, ℤ, refl, sym, ap, ◌∙◌, subst, inl, inr, arith, lit<}
+use Rattle.std.proofs.Common.{◌≡◌, ℕ, zero, suc, ◌<◌, Bool, true, false, if◌then◌else◌, [], ◌∷◌, Some, None, Err, Contains, ℤ, refl, sym, ap, ◌∙◌, subst, inl, inr, lit<}
 use Rattle.ot_base.specs.declared.place.Place.{Place}
 use Rattle.machine_ops.specs.declared.op.Op.TheVariants.{RetImm, Iret, Switch}
 use Rattle.machine_ops.specs.declared.flow.Edge.{Edge}
@@ -14,14 +14,13 @@ use Rattle.machine_ops.specs.Row.{row_of, unfit_offset}
 use Rattle.stack_machine.specs.Program.{same_place, is_call, is_call_op, edge}
 use Rattle.stack_machine.specs.MayReturn.{MayReturn}
 use Rattle.stack_machine.specs.MayReturn as may
-use Rattle.stack_machine.specs.Kept.{state_at, Kept, AreKeptStates}
+use Rattle.stack_machine.specs.Kept.{is_entry_point, state_at, Kept, AreKeptStates}
 use Rattle.stack_machine.specs.Broken.{LeavesByJump, sibling, outside, anywhere, IsAccepted, Warns}
 use Rattle.stack_machine.specs.Broken as broken
 use Rattle.stack_machine.specs.IsProgram.{IsProgram}
 use Rattle.stack_machine.specs.Worked.{at}
 use Rattle.unwinding.proofs.Lists.{cases, nowhere}
 use Rattle.program_rows.specs.Worked.{site, patched}
-use Rattle.program_rows.proofs.KeptPoints.{kept_are_points}
 use Rattle.program_rows.proofs.Still as still
 
 -- there are no edges
@@ -125,12 +124,11 @@ program = record {
 
 -- its only states are initial
 all_initial : (q : ℕ) (s : State) → Kept patched q s → s ≡ initial
-all_initial q s k = go q (kept_are_points patched program (λ q hint e. absurd (let z : ⊥ = cc in z)) q s k) (still.kept_first patched goes_nowhere no_restore q s k)
+all_initial q s k = go (is_entry_point patched q) (still.kept_first patched goes_nowhere no_restore q s k)
   where
-    go : (q : ℕ) → q < 2 → state_at patched 0 q ≡ Some s → s ≡ initial
-    go zero l e = cc
-    go (suc zero) l e = cc
-    go (suc (suc q)) l e = absurd (omega arith)
+    go : (b : Bool) → (if b then Some initial else None) ≡ Some s → s ≡ initial
+    go true e = cc
+    go false e = absurd (let z : ⊥ = cc in z)
 
 -- no jump leaves it
 no_jump : (q : ℕ) → LeavesByJump patched q → ⊥

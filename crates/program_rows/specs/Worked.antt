@@ -17,7 +17,6 @@ use Rattle.program_tables.specs.Placed.{IsPlacedBy}
 use Rattle.program_tables.specs.Visited.{IsVisited}
 use Rattle.program_tables.specs.Tells.{TellsPoint}
 use Rattle.program_tables.specs.Enters.{EntersSites}
-use Rattle.program_rows.specs.Laws.{HintsStandAtPoints}
 
 abbrev pub site : Site
 site = record { start = at 0; len = 5 }
@@ -61,7 +60,6 @@ ranges = record { sec = 1; base = 0x1000; size = 5 } ∷ []
 pub record TellsWorked : Type 0 where
   pub program : IsProgram patched
   pub laid_out : IsLaidOut patched
-  pub hints : HintsStandAtPoints patched
   pub enters : EntersSites patched
   pub placed_by : IsPlacedBy patched bases ranges
   pub accepted : IsAccepted patched

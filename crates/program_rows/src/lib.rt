@@ -1,8 +1,8 @@
 //! The rows of an accepted program tell its kept states.
 #![tactic(auto)]
 
-ghost use Rattle.program_tables.specs.Laws.{RangesArePlacement};
-ghost use Rattle.program_rows.specs.Laws.{RowsOfPointsTell, KeptArePoints, RowsTellWhereHintsStandAtPoints};
+ghost use Rattle.program_tables.specs.Laws.{RangesArePlacement, RowsTell};
+ghost use Rattle.program_rows.specs.Laws.{KeptArePoints};
 ghost use Rattle.program_rows.specs.Worked.{TellsWorked};
 
 use orc_walk::find_is_exact;
@@ -10,26 +10,18 @@ use unwinding::unwinding_law;
 
 /// The rows of an accepted program tell its kept states: at the address of each point to which runs come,
 /// and of a call also at its last byte, the row of the point's state is found in the table. Where nothing
-/// is known of the stack, that row or none is. What the program keeps in sites are to be points.
-pub fn rows_of_points_tell()
-    ensures { RowsOfPointsTell }
+/// is known of the stack, that row or none is.
+pub fn rows_tell()
+    ensures { RowsTell }
 {
     find_is_exact();
     unwinding_law();
 }
 
-/// Where each hint stands at a point, only points are kept.
+/// In a program only points are kept.
 pub fn kept_are_points()
     ensures { KeptArePoints }
 {}
-
-/// So where each hint stands at a point, the rows of an accepted program tell its kept states.
-pub fn rows_tell_where_hints_stand_at_points()
-    ensures { RowsTellWhereHintsStandAtPoints }
-{
-    rows_of_points_tell();
-    kept_are_points();
-}
 
 /// A table's placement of a program's sections is one for its machine.
 pub fn ranges_are_placement()
@@ -40,5 +32,5 @@ pub fn ranges_are_placement()
 pub fn tells_worked()
     ensures { TellsWorked }
 {
-    rows_tell_where_hints_stand_at_points();
+    rows_tell();
 }

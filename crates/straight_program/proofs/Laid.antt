@@ -126,6 +126,7 @@ module _ (text : TextSection) (insns : List Insn) (fills : IsStraightText text i
     apart = λ q r h k v e. same_point q r h k (ap (λ (x : Place). x.off) e);
     in_order = λ q r h k v s e. in_order q r h k e;
     sections = λ i j d h k. absurd (omega (arith, h, k));
+    hint_points = λ q hint e. absurd (let k : ⊥ = cc in k);
   }
 
 pub straight_is_program : StraightIsProgram
