@@ -7,7 +7,7 @@ use orc_walk::{one_section_has_one_range, row_is_found_among_others};
 use program_walk::walk_law;
 
 /// Straight code unwinds: wherever its section is placed, no run's stack is wrecked, and at each state
-/// of each run the walk over the section's rows gives the frames of the machine and stops outside.
+/// of each run the walk over the section's rows gives the frames of the machine and stops where they end.
 pub fn straight_unwinds()
     ensures { StraightUnwinds }
 {
