@@ -15,6 +15,7 @@ use Rattle.machine_ops.specs.Row.{zero_row, row_of}
 use Rattle.stack_state.proofs.Consistent.{int_same_is}
 use Rattle.stack_machine.specs.Program.{Site, same_place, in_site}
 use Rattle.stack_machine.specs.Rows.{same_row}
+use Rattle.unwinding.proofs.Same.{same_bool}
 
 -- both parts of a test that passes pass
 pub both : {a b : Bool} → (a && b) ≡ true → (a ≡ true) × (b ≡ true)
@@ -59,13 +60,6 @@ same_row_is a b h =
 stable : {P : Type 0} → Dec P → ((P → ⊥) → ⊥) → P
 stable (yes p) f = p
 stable (no n) f = absurd (f n)
-
--- whether two flags are equal
-same_bool : (x y : Bool) → Dec (x ≡ y)
-same_bool true true = yes refl
-same_bool true false = no (λ e. cc)
-same_bool false true = no (λ e. cc)
-same_bool false false = yes refl
 
 -- rows that aren't unequal are equal
 pub row_stable : (a b : Row) → (a ≢ b → ⊥) → a ≡ b

@@ -11,13 +11,8 @@ use Rattle.stack_machine.specs.Program.{Program, IsPoint, entry_points, below}
 use Rattle.stack_machine.specs.Kept.{can_go, brought_from, brought, is_entry_point, first_state, later_state, kept_or, state_at}
 use Rattle.stack_machine.specs.IsProgram.{IsProgram, IsLaidOut}
 use Rattle.unwinding.proofs.Lists.{nowhere, find_one, from_filter, from_flat_map, from_below}
-use Rattle.unwinding.proofs.KeptStates.{least_member, brings_edge}
+use Rattle.unwinding.proofs.KeptStates.{least_member, unless_unchecked, brings_edge}
 use Rattle.program_rows.specs.Laws.{KeptArePoints}
-
--- a state is one of a checked point
-pub unless_unchecked : (b : Bool) (o : Option State) (s : State) → (if b then None else o) ≡ Some s → o ≡ Some s
-unless_unchecked true o s e = absurd (let k : ⊥ = cc in k)
-unless_unchecked false o s e = e
 
 module _ (p : Program) (is : IsProgram p) (laid : IsLaidOut p) where
   -- control comes to points

@@ -1,4 +1,4 @@
--- Elements of lists: those that are found, those to which something is given, and pairs of them.
+-- Elements of lists: those that are found, and those to which something is given.
 use Rattle.std.proofs.Common.{◌≡◌, ℕ, ◌<◌, ◌⊎◌, Bool, true, false, cond, List, [], ◌∷◌, Option, Some, None, Contains, refl, sym, ap, ◌∙◌, subst, inl, inr, arith}
 use Rattle.std.specs.Prelude.{filter_map, find, length, slice_index_or, AllPairs}
 use Rattle.std.specs.List.{cons_option}
@@ -64,15 +64,3 @@ module _ {X : Type 0} (test : X → Bool) where
   -- and none where none does
   pub finds_none : (xs : List X) → ((x : X) → Contains xs x → test x ≡ true → ⊥) → find test xs ≡ None
   finds_none xs f = elim (finds xs) [ inl none ↦ none.0 | inr one ↦ absurd (f one.0 one.2 one.3) ]
-
--- of two elements of a list they are one, or one stands before the other
-pub pair_of : {X : Type 0} (R : X → X → Type 0) (xs : List X) (x y : X) → AllPairs R xs → Contains xs x → Contains xs y → (x ≡ y) ⊎ (R x y ⊎ R y x)
-pair_of {X} R xs x y all c d = go (at_from_Contains xs x c) (at_from_Contains xs y d)
-  where
-    go : (i : ℕ) × (i < length xs) × ((e : X) → slice_index_or xs i e ≡ x) → (j : ℕ) × (j < length xs) × ((e : X) → slice_index_or xs j e ≡ y) → (x ≡ y) ⊎ (R x y ⊎ R y x)
-    go (i, li, ei) (j, lj, ej) = pick (let t : (i < j) ⊎ ((j < i) ⊎ (i ≡ j)) = grind arith in t)
-      where
-        pick : (i < j) ⊎ ((j < i) ⊎ (i ≡ j)) → (x ≡ y) ⊎ (R x y ⊎ R y x)
-        pick (inl l) = inr (inl (subst (λ (z : X). R x z) (ej x) (subst (λ (z : X). R z (slice_index_or xs j x)) (ei x) (all i j x l lj))))
-        pick (inr (inl l)) = inr (inr (subst (λ (z : X). R y z) (ei x) (subst (λ (z : X). R z (slice_index_or xs i x)) (ej x) (all j i x l li))))
-        pick (inr (inr e)) = inl (sym (ei x) ∙ (ap (λ (k : ℕ). slice_index_or xs k x) e ∙ ej x))

@@ -24,9 +24,9 @@ use Rattle.stack_machine.specs.IsProgram.{IsProgram, IsLaidOut}
 use Rattle.stack_machine.specs.Law.{CallReturns, IsInnerFrame, AreFrames, HasRunInvariant, HasFrameInvariant}
 use Rattle.program_tables.specs.Enters.{EntersSites}
 use Rattle.unwinding.proofs.Shadow.{IsSlotChange, no_frame, top, effect_shape, effect_no_call}
-use Rattle.unwinding.proofs.Backs.{inner_of}
-use Rattle.unwinding.proofs.Edges.{not_a_call, call_next_in}
-use Rattle.unwinding.proofs.Leaves.{leaves_may_return}
+use Rattle.unwinding.proofs.Backs.{inner_of, comes_back_to}
+use Rattle.unwinding.proofs.Edges.{plain_role, may_go, call_next_in}
+use Rattle.unwinding.proofs.Passes.{out_calls}
 use Rattle.program_rows.proofs.Enters.{IsEntered, entered_local, entered_fixup, entered_sibling, entered_entry}
 
 -- the points where frames come from are entered
@@ -74,13 +74,6 @@ module _ (p : Program) where
     pub lands_entered : Lands p t u → AreEntered p t.point t.core.shadow → AreEntered p u.point u.core.shadow
     lands_entered e h = hint_entered (p.hint t.point) (p.save_of t.point) e h
 
--- a call of code outside is a call, whose target may return
-out_calls : (p : Program) (x : Role) → may_call_out p x ≡ true → (is_call x ≡ true) × (target_may_return p x ≡ true)
-out_calls p (CallOut sym) e = (refl, e)
-out_calls p (CallEither entry sym) e = (refl, refl)
-out_calls p CallAny e = (refl, refl)
-out_calls p _ e = absurd (let k : ⊥ = cc in k)
-
 module _ (p : Program) (bases : Bases) (is : IsProgram p) (laid : IsLaidOut p) (acc : IsAccepted p) (states : ℕ → Option State) (kept : AreKeptStates p states) (enters : EntersSites p) where
   -- a point at which a run may start by its hint is the start of its site
   pub hint_entered_start : (q : ℕ) (s : State) → MayStart p q → Kept p q s → IsEntered p q
@@ -89,18 +82,6 @@ module _ (p : Program) (bases : Bases) (is : IsProgram p) (laid : IsLaidOut p) (
       record { start = q; point = may.point; plain = may.plain; place = sym at; state = s; kept = k }
 
   module _ (s t : Standing) (r : HasRunInvariant p s) (f : HasFrameInvariant p bases s) (e : AreEntered p s.point s.core.shadow) where
-    plain_role : (b : Bool) → is_call (p.role s.point) ≡ b → is_call_op (p.insn s.point).op ≡ false → is_call (p.role s.point) ≡ false
-    plain_role true c h = let k : is_call_op (p.insn s.point).op ≡ true = is.calls s.point r.point c in absurd (let m : ⊥ = cc in m)
-    plain_role false c h = c
-
-    -- each local edge of an instruction that is no call may be gone along
-    may_go : (kind : EdgeKind) → is_local kind ≡ true → is_call (p.role s.point) ≡ false → can_go p s.point kind ≡ true
-    may_go Next l c = not_a_call p (p.role s.point) c
-    may_go Taken l c = refl
-    may_go Fixup l c = refl
-    may_go Table l c = refl
-    may_go Sibling l c = refl
-
     -- the frames stay
     same_calls : t.core.shadow ≡ s.core.shadow → AreCallsEntered p t.core.shadow
     same_calls same = calls_along p s.core.shadow t.core.shadow same e.calls
@@ -108,9 +89,9 @@ module _ (p : Program) (bases : Bases) (is : IsProgram p) (laid : IsLaidOut p) (
     -- an instruction goes on
     pub goes_on_entered : GoesOn p s t → AreEntered p t.point t.core.shadow
     goes_on_entered g =
-        let role = plain_role (is_call (p.role s.point)) refl (effect_no_call s.core t.core (p.insn s.point).op g.effect) in
+        let role = plain_role p is s.point r.point (is_call (p.role s.point)) refl (effect_no_call s.core t.core (p.insn s.point).op g.effect) in
         record {
-          here = entered_local p is acc states kept enters s.point t.point r.state g.kind e.here g.local r.point r.kept g.along (may_go g.kind g.local role);
+          here = entered_local p is acc states kept enters s.point t.point r.state g.kind e.here g.local r.point r.kept g.along (may_go p s.point g.kind g.local role);
           calls = calls_changed p s.core.shadow t.core.shadow (effect_shape s.core t.core (p.insn s.point).op g.effect) e.calls;
         }
 
@@ -162,18 +143,13 @@ module _ (p : Program) (bases : Bases) (is : IsProgram p) (laid : IsLaidOut p) (
         let i : IsInnerFrame p bases s.point h.call h.frame h.below = both.0 in
         let k = i.call_kept in
         let call : is_call (p.role h.call) ≡ true = (subst (λ (b : Bool). MatchBool b ((h.frame.ra ≡ return_address p bases h.call) × (is_call (p.role h.call) ≡ true)) (h.frame.ra ≡ point_address p bases h.call)) h.ready.of_call i.goes_back).1 in
-        let back : target_may_return p (p.role h.call) ≡ true = comes (i.comes_back h.ready.of_call) in
+        let back : target_may_return p (p.role h.call) ≡ true = comes_back_to p is s t r.point h (i.comes_back h.ready.of_call) in
         let next : Contains (p.goes h.call) (edge t.point Next) = call_next_in p is acc h.call t.point k.state i.point k.kept call h.passed h.comes_back in
         let entered = top_call h.frame h.below h.call h.shadow h.called in
         record {
           here = entered_local p is acc states kept enters h.call t.point k.state Next entered.0 refl i.point k.kept next back;
           calls = calls_along p h.below t.core.shadow (ap (λ (x : Core). x.shadow) h.core) entered.1;
         }
-      where
-        comes : CallReturns p h.call s.point → target_may_return p (p.role h.call) ≡ true
-        comes (inl m) = absurd (let n = h.passed in let k : ⊥ = cc in k)
-        comes (inr (inl m)) = m
-        comes (inr (inr m)) = let n : p.may_return s.point ≡ true = (is.may_return s.point r.point).1 (leaves_may_return p s.point (p.role s.point) refl h.leaves) in absurd (let k : ⊥ = cc in k)
 
     -- where a jump to another function leads
     jumps : (a q : ℕ) → IsEntered p a → IsPoint p a → JumpsTo p a q → IsEntered p q

@@ -8,8 +8,7 @@ use Rattle.machine_ops.specs.Order.{least}
 use Rattle.stack_machine.specs.Program.{Program, below}
 use Rattle.stack_machine.specs.Kept.{can_go, edges_of, Brings, brought_from, brought, later_state, kept_or, state_at, Kept, AreKeptStates}
 use Rattle.unwinding.proofs.Lists.{nowhere, from_filter, from_flat_map}
-use Rattle.unwinding.proofs.KeptStates.{least_member, brings_edge}
-use Rattle.program_rows.proofs.KeptPoints.{unless_unchecked}
+use Rattle.unwinding.proofs.KeptStates.{least_member, unless_unchecked, brings_edge}
 
 module _ (p : Program) (still : (q : ℕ) → p.goes q ≡ []) (no_restore : (q : ℕ) → p.hint q ≡ Some Restore → ⊥) where
   -- there is no edge

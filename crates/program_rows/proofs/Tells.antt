@@ -19,9 +19,9 @@ use Rattle.orc_walk.specs.Laws.{FoundIsLast, NoneFoundIsNone}
 use Rattle.program_tables.specs.Placed.{IsPlacedBy}
 use Rattle.program_tables.specs.Tells.{TellsState, TellsPoint}
 use Rattle.program_tables.specs.Laws.{RowsTell}
-use Rattle.program_rows.proofs.Lists.{pair_of}
+use Rattle.program_walk.proofs.Placed.{related, is_placement}
 use Rattle.program_rows.proofs.Equal.{known_or_not}
-use Rattle.program_rows.proofs.Placed.{address_in, is_placement}
+use Rattle.program_rows.proofs.Placed.{address_in}
 use Rattle.program_rows.proofs.Sections.{IsInForceAt}
 use Rattle.program_rows.proofs.Table.{ArePlaced, finds_in_force}
 use Rattle.program_rows.proofs.RowAt.{outside_or_in}
@@ -40,7 +40,7 @@ module _ (found : FoundIsLast) (none : NoneFoundIsNone) (p : Program) (bases : B
   sections_placed = record {
     addresses = λ text place c e. address_in p bases ranges placed text place c e;
     apart = (is_placement p bases ranges placed).apart;
-    numbers = λ one other c d e. elim (pair_of (λ (x y : TextSection). x.sec < y.sec) p.texts one other laid.sections c d) [
+    numbers = λ one other c d e. elim (related (λ (x y : TextSection). x.sec < y.sec) p.texts one other laid.sections c d) [
       | inl same ↦ same
       | inr (inl l) ↦ absurd (omega arith)
       | inr (inr l) ↦ absurd (omega arith)

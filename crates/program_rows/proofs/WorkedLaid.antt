@@ -4,11 +4,12 @@ use Rattle.std.proofs.lemmas.List.Elements.{All-nil, All-cons}
 use Rattle.std.proofs.lemmas.List.Sorted.{IsPermutation-refl}
 use Rattle.machine_ops.specs.Frame.{Unsaved}
 use Rattle.stack_machine.specs.Program.{TextSection, Site, in_site, entry_points}
-use Rattle.stack_machine.specs.Machine.{IsOutside}
-use Rattle.stack_machine.specs.Run.{at_entry, started}
+use Rattle.stack_machine.specs.Machine.{IsOutside, At}
+use Rattle.stack_machine.specs.Run.{Run, at_entry, started}
 use Rattle.stack_machine.specs.IsProgram.{IsLaidOut}
 use Rattle.stack_machine.specs.Worked.{at, caller}
 use Rattle.stack_machine.specs.Worked as w
+use Rattle.stack_machine.proofs.WorkedRun.{zeros_are_bytes}
 use Rattle.orc_walk.specs.declared.range.Range.{Range}
 use Rattle.program_tables.specs.Placed.{placed_section, IsPlacedBy}
 use Rattle.program_tables.specs.Visited.{IsVisited}
@@ -109,24 +110,20 @@ placed_by = record {
   begin = All-cons (λ (range : Range). range.base ≡ bases range.sec) (record { sec = 1; base = 0x1000; size = 5 }) [] refl (All-nil (λ (range : Range). range.base ≡ bases range.sec));
 }
 
--- the stack has bytes
-zeros_are_bytes : (n : ℕ) → All (λ b. b < 256) (replicate n 0)
-zeros_are_bytes zero = All-nil (λ b. b < 256)
-zeros_are_bytes (suc n) = All-cons (λ b. b < 256) 0 (replicate n 0) (lit< tt) (zeros_are_bytes n)
-
 -- the highest address is outside
 outside : IsOutside patched bases 18446744073709551615
 outside t c = inr (subst (λ (x : TextSection). bases x.sec + x.size ≤ 18446744073709551615) (elim (cases (record { sec = 1; size = 5 }) [] t c) [ inl e ↦ e | inr k ↦ nowhere t k ]) (lit≤ tt))
 
 -- it is called from outside, and stands at its call
+pub run : Run patched bases (At w.at_entry)
+run =
+    started w.at_entry
+    (at_entry w.at_entry w.at_entry (caller Unsaved) 0 (0, lit< tt, refl) (0, lit< tt, refl)
+    (record { ra = 0; cfa = 0x8010; bp = 0; shadow = refl; outside = outside; pushed = refl; below_hi = lit≤ tt })
+    (record { shadow = refl; cfa = refl; bp = refl })
+    (record { ended = refl; mark = refl; hinted = w.at_entry; lands = refl; start = refl }))
+    (record { rbp = lit< tt; region = record { below_end = lit< tt; bytes = zeros_are_bytes 16 }; above_lo = lit≤ tt; below_hi = lit≤ tt })
+
+-- so its call is visited
 pub visited : IsVisited patched bases 0
-visited = record {
-  standing = w.at_entry;
-  run = started w.at_entry
-      (at_entry w.at_entry w.at_entry (caller Unsaved) 0 (0, lit< tt, refl) (0, lit< tt, refl)
-      (record { ra = 0; cfa = 0x8010; bp = 0; shadow = refl; outside = outside; pushed = refl; below_hi = lit≤ tt })
-      (record { shadow = refl; cfa = refl; bp = refl })
-      (record { ended = refl; mark = refl; hinted = w.at_entry; lands = refl; start = refl }))
-      (record { rbp = lit< tt; region = record { below_end = lit< tt; bytes = zeros_are_bytes 16 }; above_lo = lit≤ tt; below_hi = lit≤ tt });
-  here = refl;
-}
+visited = record { standing = w.at_entry; run = run; here = refl }

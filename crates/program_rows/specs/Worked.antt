@@ -6,16 +6,17 @@ use Rattle.machine_ops.specs.declared.flow.Role.TheVariants.{Plain, CallOut}
 use Rattle.machine_ops.specs.State.{initial}
 use Rattle.machine_ops.specs.Row.{zero_row, row_of}
 use Rattle.stack_machine.specs.Program.{Program, Site, same_place}
-use Rattle.stack_machine.specs.Machine.{Bases}
+use Rattle.stack_machine.specs.Machine.{Bases, At}
 use Rattle.stack_machine.specs.Kept.{state_at, AreKeptStates}
 use Rattle.stack_machine.specs.Broken.{IsAccepted}
 use Rattle.stack_machine.specs.Rows.{rows_of, placed}
 use Rattle.stack_machine.specs.IsProgram.{IsProgram, IsLaidOut}
-use Rattle.stack_machine.specs.Worked.{at, insn}
+use Rattle.stack_machine.specs.Worked.{at, insn, at_entry}
 use Rattle.orc_walk.specs.declared.range.Range.{Range}
 use Rattle.program_tables.specs.Placed.{IsPlacedBy}
 use Rattle.program_tables.specs.Visited.{IsVisited}
 use Rattle.program_tables.specs.Tells.{TellsPoint}
+use Rattle.program_tables.specs.Walks.{WalksToFrames}
 use Rattle.program_tables.specs.Enters.{EntersSites}
 
 abbrev pub site : Site
@@ -56,7 +57,8 @@ bases = λ _. 0x1000
 abbrev pub ranges : List Range
 ranges = record { sec = 1; base = 0x1000; size = 5 } ∷ []
 
--- It meets every premise of the law, so its two rows tell the state at the call, also at the call's last byte.
+-- It meets every premise of the laws, so its two rows tell the state at the call, also at the call's last byte,
+-- and walking over them there gives the one frame.
 pub record TellsWorked : Type 0 where
   pub program : IsProgram patched
   pub laid_out : IsLaidOut patched
@@ -67,3 +69,4 @@ pub record TellsWorked : Type 0 where
   pub visited : IsVisited patched bases 0
   pub rows : rows_of patched (state_at patched 0) ≡ placed (at 0) (row_of initial) ∷ placed (at 5) zero_row ∷ []
   pub tells : TellsPoint patched bases (rows_of patched (state_at patched 0)) ranges 0 initial
+  pub unwinds : WalksToFrames patched (rows_of patched (state_at patched 0)) bases ranges (At at_entry)
