@@ -17,7 +17,7 @@ use Rattle.program_tables.specs.Enters.{EntersSites}
 
 -- a table's placement of a program is one of the machine's
 abbrev pub RangesArePlacement : Type 0
-RangesArePlacement = (p : Program) (bases : Bases) (ranges : List Range) → IsLaidOut p → IsPlacedBy p bases ranges → IsPlacement p bases
+RangesArePlacement = (p : Program) (bases : Bases) (ranges : List Range) → IsPlacedBy p bases ranges → IsPlacement p bases
 
 -- The walk law: wherever an accepted program is placed, a table that tells its kept states walks to exactly the
 -- frames, in every state of every run.

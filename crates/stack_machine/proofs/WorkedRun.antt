@@ -9,7 +9,8 @@ use Rattle.stack_machine.specs.Run.{Run, at_entry, started, stepped}
 use Rattle.stack_machine.specs.Worked.{framed, zeros, caller, after_push, HasWorkedRun}
 use Rattle.stack_machine.specs.Worked as w
 
-zeros_are_bytes : (n : ℕ) → All (λ b. b < 256) (replicate n 0)
+-- zeros are bytes
+pub zeros_are_bytes : (n : ℕ) → All (λ b. b < 256) (replicate n 0)
 zeros_are_bytes zero = All-nil (λ b. b < 256)
 zeros_are_bytes (suc n) = All-cons (λ b. b < 256) 0 (replicate n 0) (lit< tt) (zeros_are_bytes n)
 

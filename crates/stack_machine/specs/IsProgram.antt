@@ -8,6 +8,7 @@ use Rattle.machine_ops.specs.declared.flow.EdgeKind.{EdgeKind}
 use Rattle.machine_ops.specs.declared.flow.EdgeKind.TheVariants.{Next, Taken, Fixup, Table, Sibling}
 use Rattle.machine_ops.specs.declared.flow.Role.TheVariants.{CallIn, CallEither, Return}
 use Rattle.machine_ops.specs.declared.state.State.{State}
+use Rattle.machine_ops.specs.declared.state.HintState.{HintState}
 use Rattle.machine_ops.specs.declared.state.HintState.TheVariants.{Set}
 use Rattle.machine_ops.specs.Effect.{HasSignedNumber}
 use Rattle.machine_ops.specs.State.{IsConsistent}
@@ -67,3 +68,5 @@ pub record IsLaidOut (p : Program) : Type 0 where
   pub in_order : (q r : ℕ) → IsPoint p q → IsPoint p r → p.variant q ≡ p.variant r → (p.address q).sec ≡ (p.address r).sec → (p.address q).off < (p.address r).off → (p.address q).off + (p.insn q).len ≤ (p.address r).off
   -- text sections ascend
   pub sections : AllPairs (λ one other. one.sec < other.sec) p.texts
+  -- hints stand at points, so that nothing else is kept
+  pub hint_points : (q : ℕ) (hint : HintState) → p.hint q ≡ Some hint → IsPoint p q

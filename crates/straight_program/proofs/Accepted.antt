@@ -23,7 +23,7 @@ use Rattle.unwinding.proofs.Lists.{nowhere, from_filter}
 use Rattle.straight_program.specs.Program.{program_of, insn_at, returns_at, goes_further, edges_from, role_of, depth_before, state_before}
 use Rattle.straight_program.specs.Laws.{IsStraightText, StraightIsAccepted}
 use Rattle.straight_program.proofs.Points.{ret_is, straight_at, return_is_last, last_is_return, depth_last, depth_most, moves_by, moves_on}
-use Rattle.straight_program.proofs.Runs.{no_jump, only_next, no_other, not_out}
+use Rattle.straight_program.proofs.Edges.{no_jump, only_next, no_other, not_out}
 use Rattle.straight_program.proofs.Fits.{short}
 use Rattle.straight_program.proofs.KeptStates.{kept_is, brings_is}
 
@@ -74,7 +74,7 @@ module _ (text : TextSection) (insns : List Insn) (fills : IsStraightText text i
 pub straight_is_accepted : StraightIsAccepted
 straight_is_accepted text insns fills place rule a b (bad_target q s k h) = false≢true h
 straight_is_accepted text insns fills place rule a b (falls_through q r s k c ne) = ne refl
-straight_is_accepted text insns fills place rule a b (runs_off q s k h) = false≢true (sym (not_out text insns fills (λ _. 0) q (returns_at insns q) (goes_further insns q) (kept_is text insns fills q s k).point refl refl) ∙ h)
+straight_is_accepted text insns fills place rule a b (runs_off q s k h) = false≢true (sym (not_out text insns fills q (returns_at insns q) (goes_further insns q) (kept_is text insns fills q s k).point refl refl) ∙ h)
 straight_is_accepted text insns fills place rule a b (mismatch q r s t u k c l free ne) = ne ((brings_is text insns fills q r s t (kept_is text insns fills q s k).state c).state ∙ sym (kept_is text insns fills r u l).state)
 straight_is_accepted text insns fills place rule a b (modified_return q s k role h) = none_some 5 (sym (returns_well text insns fills q s k role) ∙ h)
 straight_is_accepted text insns fills place rule a b (drops_bytes q s k role op h) = no_other (insn_at insns q).op RetImm refl op (straight_at insns fills.straight q (kept_is text insns fills q s k).point)

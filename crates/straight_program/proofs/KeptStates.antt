@@ -21,7 +21,7 @@ use Rattle.unwinding.proofs.Edges.{local_brought}
 use Rattle.straight_program.specs.Program.{program_of, insn_at, returns_at, place_of, goes_further, points_at, edges_from, state_before}
 use Rattle.straight_program.specs.Laws.{IsStraightText, StraightIsKept}
 use Rattle.straight_program.proofs.Points.{no_return_before, moves_on}
-use Rattle.straight_program.proofs.Runs.{next_of, arrives_first}
+use Rattle.straight_program.proofs.Edges.{next_of, arrives_first}
 
 -- the point is one, and this is its state
 pub record IsBefore (insns : List Insn) (q : ℕ) (s : State) : Type 0 where

@@ -21,8 +21,8 @@ use Rattle.unwinding.proofs.Lists.{here, cases, nowhere, from_filter, from_below
 use Rattle.straight_program.specs.Program.{program_of, insn_at, returns_at, place_of, goes_further}
 use Rattle.straight_program.specs.Laws.{IsStraightText, StraightIsProgram}
 use Rattle.straight_program.proofs.Points.{has_number, straight_at, last_is_return, no_return_before}
-use Rattle.straight_program.proofs.Runs.{next_of, only_next, no_other}
-use Rattle.straight_program.proofs.Unwind.{stands_within}
+use Rattle.straight_program.proofs.Edges.{next_of, only_next, no_other}
+use Rattle.straight_program.proofs.Found.{stands_within}
 use Rattle.straight_program.proofs.KeptStates.{goes_next}
 
 -- instructions stand one behind the other
@@ -42,7 +42,7 @@ three q r = go (nat_lt q r) (nat_lt r q) refl refl
     go false true e f = inr (inr (ltb-true r q f))
     go false false e f = inr (inl (let a = ltb-false q r e in let b = ltb-false r q f in omega arith))
 
-not_call : (b : Bool) → is_call (cond b Return Plain) ≡ false
+pub not_call : (b : Bool) → is_call (cond b Return Plain) ≡ false
 not_call true = refl
 not_call false = refl
 
@@ -126,6 +126,7 @@ module _ (text : TextSection) (insns : List Insn) (fills : IsStraightText text i
     apart = λ q r h k v e. same_point q r h k (ap (λ (x : Place). x.off) e);
     in_order = λ q r h k v s e. in_order q r h k e;
     sections = λ i j d h k. absurd (omega (arith, h, k));
+    hint_points = λ q hint e. absurd (let k : ⊥ = cc in k);
   }
 
 pub straight_is_program : StraightIsProgram

@@ -1,9 +1,10 @@
 pub mod Points
 pub mod Table
-pub mod Runs
-pub mod Unwind
+pub mod Found
+pub mod Edges
 pub mod Fits
 pub mod KeptStates
 pub mod Laid
 pub mod Accepted
+pub mod Unwind
 pub mod WorkedRun

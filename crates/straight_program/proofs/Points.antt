@@ -13,7 +13,6 @@ use Rattle.machine_ops.specs.declared.state.Depth.TheVariants.{Known}
 use Rattle.machine_ops.specs.declared.state.BpHome.TheVariants.{Same}
 use Rattle.machine_ops.specs.declared.state.State.TheVariants.{Live}
 use Rattle.machine_ops.specs.Effect.{HasSignedNumber}
-use Rattle.machine_ops.specs.State.{IsConsistent}
 use Rattle.machine_ops.specs.Move.{is_near, to, move}
 use Rattle.orc_build.specs.Straight.{IsStraight, is_straight_op, is_push, is_pop, is_ret, ops_of, pushes, pops}
 use Rattle.orc_build.specs.Rows.{depth_after}
@@ -69,14 +68,6 @@ counted : (op : Op) (p q p' q' : ℕ) → p' ≡ p + pushes (op ∷ []) → q' �
 counted Push p q p' q' e f g h = omega arith
 counted Pop p q p' q' e f g h = omega arith
 counted op p q p' q' e f g h = omega arith
-
-pub consistent : (n : ℕ) → 8 ≤ n → IsConsistent (Live (Known (pos n)) None Same)
-consistent n h = record {
-  fp = λ e. absurd (let k : ⊥ = cc in k);
-  aligned = λ e. absurd (let k : ⊥ = cc in k);
-  saved = λ o e. absurd (let k : ⊥ = cc in k);
-  same = λ e. omega (arith, ints);
-}
 
 module _ (insns : List Insn) (straight : IsStraight (ops_of insns)) where
   pub count_ops : length (ops_of insns) ≡ length insns

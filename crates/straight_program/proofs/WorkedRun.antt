@@ -15,7 +15,8 @@ use Rattle.orc_walk.specs.declared.range.Range.{Range}
 use Rattle.orc_walk.specs.Placement.{IsPlacement}
 use Rattle.orc_build.specs.Straight.{ops_of}
 use Rattle.orc_build.proofs.StraightLemmas.{straight_exactly}
-use Rattle.straight_program.specs.Laws.{IsStraightText, placed_section, BeginAt, StraightUnwinds}
+use Rattle.program_tables.specs.Placed.{placed_section, BeginAt}
+use Rattle.straight_program.specs.Laws.{IsStraightText, StraightUnwinds}
 use Rattle.straight_program.specs.Worked.{insns, text, program, base, ranges, standing_at, HasWorkedRun}
 
 fills : IsStraightText text insns

@@ -1,27 +1,23 @@
--- What holds of the program of straight code, of its rows, and of walks over its stack.
-use Rattle.std.specs.Prelude.{◌≡◌, ℕ, ◌<◌, ◌≤◌, true, List, [], ◌∷◌, Some, None, map, All}
+-- What holds of the program of straight code, of its rows, and of walks over them.
+use Rattle.std.specs.Prelude.{◌≡◌, ℕ, ◌<◌, ◌≤◌, true, List, [], ◌∷◌, Some, All}
 use Rattle.ot_base.specs.declared.row.PlacedRow.{PlacedRow}
 use Rattle.machine_ops.specs.declared.insn.Insn.{Insn}
 use Rattle.machine_ops.specs.declared.state.State.{State}
-use Rattle.machine_ops.specs.Region.{word_at}
 use Rattle.machine_ops.specs.Row.{has_16_bits}
 use Rattle.stack_machine.specs.Program.{TextSection}
-use Rattle.stack_machine.specs.Machine.{Bases, Standing, Machine, Wrecked, At, WalkedFrame, point_address, frames, frames_end}
+use Rattle.stack_machine.specs.Machine.{Bases, Machine}
 use Rattle.stack_machine.specs.Run.{Run}
 use Rattle.stack_machine.specs.Kept.{Kept}
 use Rattle.stack_machine.specs.Broken.{IsAccepted}
 use Rattle.stack_machine.specs.IsProgram.{IsProgram, IsLaidOut}
 use Rattle.orc_walk.specs.declared.range.Range.{Range}
-use Rattle.orc_walk.specs.declared.frame.Regs.{Regs}
-use Rattle.orc_walk.specs.declared.frame.Frame.{Frame}
-use Rattle.orc_walk.specs.declared.frame.Stop.TheVariants.{Outside}
 use Rattle.orc_walk.specs.Fields.{HasKnownFields}
 use Rattle.orc_walk.specs.Placement.{IsPlacement, address_of, is_inside}
-use Rattle.orc_walk.specs.Placement as placement
 use Rattle.orc_walk.specs.Lookup.{find_row}
-use Rattle.orc_walk.specs.Walk.{Walks}
 use Rattle.orc_build.specs.Straight.{IsStraight, ops_of}
 use Rattle.orc_build.specs.Rows.{call_row, size_of, straight_rows}
+use Rattle.program_tables.specs.Placed.{placed_section, BeginAt}
+use Rattle.program_tables.specs.Walks.{WalksToFrames}
 use Rattle.straight_program.specs.Program.{program_of, place_of, depth_before, state_before}
 
 -- straight code whose instructions, each of at least a byte, fill the section
@@ -45,10 +41,6 @@ StraightIsKept =
 abbrev pub StraightIsAccepted : Type 0
 StraightIsAccepted = (text : TextSection) (insns : List Insn) → IsStraightText text insns → IsAccepted (program_of text insns)
 
--- the section as one that is placed
-abbrev pub placed_section : TextSection → placement.TextSection
-placed_section text = record { sec = text.sec; size = text.size }
-
 -- wherever the section is placed, the row of each instruction is found at its address, which is inside
 abbrev pub StraightRowsAreFound : Type 0
 StraightRowsAreFound =
@@ -68,30 +60,11 @@ pub record IsRowOf (text : TextSection) (placed : PlacedRow) : Type 0 where
 abbrev pub StraightRowsFit : Type 0
 StraightRowsFit = (text : TextSection) (insns : List Insn) → IsStraightText text insns → All (IsRowOf text) (straight_rows text.sec insns)
 
--- each range begins where the bases place its section
-abbrev pub BeginAt : Bases → List Range → Type 0
-BeginAt bases ranges = All (λ range. range.base ≡ bases range.sec) ranges
-
--- a frame of the machine as one that a walk gives
-abbrev pub walk_frame : WalkedFrame → Frame
-walk_frame f = record { ra = f.ra; cfa = f.cfa; bp = f.bp }
-
--- the registers where the machine stands
-abbrev pub registers_at : TextSection → List Insn → Bases → Standing → Regs
-registers_at text insns bases s =
-    record { ip = point_address (program_of text insns) bases s.point; sp = s.core.rsp; bp = s.core.rbp }
-
--- The stack isn't wrecked, and the walk over the rows from the registers and the stack in memory gives
--- exactly the machine's frames, and stops outside.
-abbrev pub Unwinds : TextSection → List Insn → Bases → List Range → Machine → Type 0
-Unwinds text insns bases ranges Wrecked = ⊥
-Unwinds text insns bases ranges (At s) =
-    Walks (straight_rows text.sec insns) ranges (λ address. word_at s.core.region address) (registers_at text insns bases s) (map walk_frame (frames s)) Outside
-    × (frames_end s ≡ None)
-
--- wherever the section is placed, each state of each run unwinds
+-- Wherever the section is placed, no run's stack is wrecked, and the walk over the section's rows gives
+-- exactly the machine's frames in each state of each run.
 abbrev pub StraightUnwinds : Type 0
 StraightUnwinds =
     (text : TextSection) (insns : List Insn) (bases : Bases) (ranges : List Range)
     → IsStraightText text insns → IsPlacement (placed_section text ∷ []) ranges → BeginAt bases ranges
-    → (m : Machine) → Run (program_of text insns) bases m → Unwinds text insns bases ranges m
+    → (m : Machine) → Run (program_of text insns) bases m
+    → WalksToFrames (program_of text insns) (straight_rows text.sec insns) bases ranges m

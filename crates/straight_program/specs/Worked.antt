@@ -19,7 +19,9 @@ use Rattle.stack_machine.specs.Machine.{Bases, Standing, At}
 use Rattle.stack_machine.specs.Run.{outermost, Run}
 use Rattle.orc_walk.specs.Placement.{IsPlacement}
 use Rattle.straight_program.specs.Program.{program_of}
-use Rattle.straight_program.specs.Laws.{IsStraightText, placed_section, BeginAt, Unwinds}
+use Rattle.program_tables.specs.Placed.{placed_section, BeginAt}
+use Rattle.program_tables.specs.Walks.{WalksToFrames}
+use Rattle.straight_program.specs.Laws.{IsStraightText}
 
 abbrev pub insns : List Insn
 insns = record { len = 1; op = Push } ∷ record { len = 1; op = Pop } ∷ record { len = 1; op = Nop } ∷ record { len = 1; op = Ret } ∷ []
@@ -88,4 +90,4 @@ pub record HasWorkedRun : Type 0 where
   pub placed : IsPlacement (placed_section text ∷ []) ranges
   pub begin : BeginAt base ranges
   pub run : Run program base (At (standing_at 1 0x8000))
-  pub unwinds : Unwinds text insns base ranges (At (standing_at 1 0x8000))
+  pub unwinds : WalksToFrames program (straight_rows 1 insns) base ranges (At (standing_at 1 0x8000))

@@ -4,16 +4,18 @@ ghost use Rattle.straight_program.specs.Laws.{StraightIsAccepted, StraightIsKept
 ghost use Rattle.straight_program.specs.Worked.{HasWorkedProgram, HasWorkedRun, HasWorkedTable, HasWorkedWalk};
 
 use orc_walk::{one_section_has_one_range, row_is_found_among_others};
-use stack_state::laws::move_is_sound;
+use program_walk::walk_law;
 
 /// Straight code unwinds: wherever its section is placed, no run's stack is wrecked, and at each state
-/// of each run the walk over the section's rows gives the frames of the machine and stops outside.
+/// of each run the walk over the section's rows gives the frames of the machine and stops where they end.
 pub fn straight_unwinds()
     ensures { StraightUnwinds }
 {
-    move_is_sound();
+    walk_law();
+    straight_is_program();
+    straight_is_accepted();
+    straight_rows_are_found();
     one_section_has_one_range();
-    row_is_found_among_others();
 }
 
 /// Wherever the section is placed, the row of each instruction's depth is found at its address, and

@@ -46,6 +46,12 @@ call_comes_back p is call q point (CallOut symbol) e c back passed next m = may.
 call_comes_back p is call q point CallAny e c back passed next m = may.comes_back call q (ap (returns_outside p) e) passed next m
 call_comes_back p is call q point _ e c back passed next m = absurd (let k : ⊥ = cc in k)
 
+-- the target of a call to which a return comes back may return
+pub comes_back_to : (p : Program) → IsProgram p → (s t : Standing) → IsPoint p s.point → (h : Returns p s t) → CallReturns p h.call s.point → target_may_return p (p.role h.call) ≡ true
+comes_back_to p is s t point h (inl e) = absurd (let e2 = h.passed in let k : ⊥ = cc in k)
+comes_back_to p is s t point h (inr (inl e)) = e
+comes_back_to p is s t point h (inr (inr e)) = let m : p.may_return s.point ≡ true = (is.may_return s.point point).1 (leaves_may_return p s.point (p.role s.point) refl h.leaves) in absurd (let k : ⊥ = cc in k)
+
 left_hi : (x : Role) (fs : List Frame) (before after : Region) → LeavesMemory x fs before after → hi_of after ≡ hi_of before
 left_hi Return fs before after h = ap hi_of h
 left_hi _ fs before after h = same_hi before after h.addresses
@@ -92,7 +98,7 @@ module _ (p : Program) (bases : Bases) (is : IsProgram p) (acc : IsAccepted p) (
         let i : IsInnerFrame p bases s.point h.call h.frame h.below = both.0 in
         let k = i.call_kept in
         let call : is_call (p.role h.call) ≡ true = (subst (λ (b : Bool). MatchBool b ((h.frame.ra ≡ return_address p bases h.call) × (is_call (p.role h.call) ≡ true)) (h.frame.ra ≡ point_address p bases h.call)) h.ready.of_call i.goes_back).1 in
-        let back : target_may_return p (p.role h.call) ≡ true = comes (i.comes_back h.ready.of_call) in
+        let back : target_may_return p (p.role h.call) ≡ true = comes_back_to p is s t r.point h (i.comes_back h.ready.of_call) in
         let next : Contains (p.goes h.call) (edge t.point Next) = call_next_in p is acc h.call t.point k.state i.point k.kept call h.passed h.comes_back in
         let point : IsPoint p t.point = is.followers h.call t.point i.point h.comes_back in
         let frames : AreFrames p bases t.point h.below = frames_elsewhere p bases h.call t.point h.below (stays_out p bases is h.call t.point i.point point (call_comes_back p is h.call t.point i.point (p.role h.call) refl call back h.passed next)) both.1 in
@@ -104,11 +110,6 @@ module _ (p : Program) (bases : Bases) (is : IsProgram p) (acc : IsAccepted p) (
           told = λ free. told live i point (past_call p is acc h.call t.point k.state i.point k.kept call back next free);
         }
       where
-        comes : CallReturns p h.call s.point → target_may_return p (p.role h.call) ≡ true
-        comes (inl e) = absurd (let e2 = h.passed in let k : ⊥ = cc in k)
-        comes (inr (inl e)) = e
-        comes (inr (inr e)) = let m : p.may_return s.point ≡ true = (is.may_return s.point r.point).1 (leaves_may_return p s.point (p.role s.point) refl h.leaves) in absurd (let k : ⊥ = cc in k)
-
         told : s.ended ≡ None → (i : IsInnerFrame p bases s.point h.call h.frame h.below) → IsPoint p t.point → Kept p t.point i.call_kept.state → HasRunInvariant p t
         told live i point kept =
             let k = i.call_kept in

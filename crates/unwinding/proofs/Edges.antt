@@ -50,6 +50,19 @@ local_brought s t op Table l e = subst (λ (r : Result State ℕ). Contains (mov
 local_brought s t op Fixup l e = absurd (let k : ⊥ = cc in k)
 local_brought s t op Sibling l e = absurd (let k : ⊥ = cc in k)
 
+-- what is no call's instruction has no call's role
+pub plain_role : (p : Program) → IsProgram p → (q : ℕ) → IsPoint p q → (b : Bool) → is_call (p.role q) ≡ b → is_call_op (p.insn q).op ≡ false → is_call (p.role q) ≡ false
+plain_role p is q point true e h = let k : is_call_op (p.insn q).op ≡ true = is.calls q point e in absurd (let m : ⊥ = cc in m)
+plain_role p is q point false e h = e
+
+-- its local edges may be gone along
+pub may_go : (p : Program) (q : ℕ) (kind : EdgeKind) → is_local kind ≡ true → is_call (p.role q) ≡ false → can_go p q kind ≡ true
+may_go p q Next l e = not_a_call p (p.role q) e
+may_go p q Taken l e = refl
+may_go p q Fixup l e = refl
+may_go p q Table l e = refl
+may_go p q Sibling l e = refl
+
 module _ (p : Program) (is : IsProgram p) (acc : IsAccepted p) where
   pub edge_in : (a q : ℕ) (kind : EdgeKind) → Contains (p.goes a) (edge q kind) → can_go p a kind ≡ true → Contains (edges_of p a) (edge q kind)
   edge_in a q kind c h = in_filter (λ (e : Edge). can_go p a e.kind) (p.goes a) (edge q kind) c h

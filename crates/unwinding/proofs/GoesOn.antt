@@ -24,7 +24,7 @@ use Rattle.unwinding.proofs.Shadow.{effect_shape, effect_hi, effect_no_call}
 use Rattle.unwinding.proofs.Frames.{HasTop, has_top, means_top, top_above, frame_invariant, stays_out}
 use Rattle.unwinding.proofs.KeptStates.{kept_consistent}
 use Rattle.unwinding.proofs.Landing.{IsComing, no_slots}
-use Rattle.unwinding.proofs.Edges.{not_a_call, moves, local_checked, local_kept}
+use Rattle.unwinding.proofs.Edges.{plain_role, may_go, moves, local_checked, local_kept}
 
 -- what a state says after an effect
 record IsToldAfter (q : ℕ) (a : State) (t : Standing) : Type 0 where
@@ -70,21 +70,10 @@ module _ (p : Program) (bases : Bases) (is : IsProgram p) (sound : MoveIsSound) 
   told_after (Regs full d) b is_a moved = told_live (Regs full d) b is_a refl moved
 
 module _ (p : Program) (bases : Bases) (is : IsProgram p) (acc : IsAccepted p) (sound : MoveIsSound) (keeps : MoveIsConsistent) (s t : Standing) (r : HasRunInvariant p s) (f : HasFrameInvariant p bases s) (stack : IsInStack s.core) (g : GoesOn p s t) (after : IsInStack t.core) where
-  plain_role : (b : Bool) → is_call (p.role s.point) ≡ b → is_call_op (p.insn s.point).op ≡ false → is_call (p.role s.point) ≡ false
-  plain_role true e h = let k : is_call_op (p.insn s.point).op ≡ true = is.calls s.point r.point e in absurd (let m : ⊥ = cc in m)
-  plain_role false e h = e
-
-  may_go : (kind : EdgeKind) → is_local kind ≡ true → is_call (p.role s.point) ≡ false → can_go p s.point kind ≡ true
-  may_go Next l e = not_a_call p (p.role s.point) e
-  may_go Taken l e = refl
-  may_go Fixup l e = refl
-  may_go Table l e = refl
-  may_go Sibling l e = refl
-
   pub goes_on_comes : IsComing p bases t
   goes_on_comes =
-      let role = plain_role (is_call (p.role s.point)) refl (effect_no_call s.core t.core (p.insn s.point).op g.effect) in
-      let can = may_go g.kind g.local role in
+      let role = plain_role p is s.point r.point (is_call (p.role s.point)) refl (effect_no_call s.core t.core (p.insn s.point).op g.effect) in
+      let can = may_go p s.point g.kind g.local role in
       let m = moves p is acc s.point r.state r.kept in
       let point : IsPoint p t.point = is.edges s.point (edge t.point g.kind) r.point g.along in
       let told : IsToldAfter t.point m.0 t = told_after p bases is sound keeps s t r f stack g.effect g.level after r.state m.0 refl m.1 in

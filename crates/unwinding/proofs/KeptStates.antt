@@ -52,6 +52,11 @@ brought_moves s op Sibling t c = nowhere t c
 initial_consistent : IsConsistent initial
 initial_consistent = record { fp = λ e. absurd (let k : ⊥ = cc in k); aligned = λ e. absurd (let k : ⊥ = cc in k); saved = λ o e. absurd (let k : ⊥ = cc in k); same = λ e. omega arith }
 
+-- a state is one of a checked point
+pub unless_unchecked : (b : Bool) (o : Option State) (s : State) → (if b then None else o) ≡ Some s → o ≡ Some s
+unless_unchecked true o s e = absurd (let k : ⊥ = cc in k)
+unless_unchecked false o s e = e
+
 module _ (p : Program) where
   checked_by : (b : Bool) (o : Option State) (s : State) → (if b then None else o) ≡ Some s → b ≡ false
   checked_by true o s e = absurd (let k : ⊥ = cc in k)
@@ -186,10 +191,6 @@ module _ (p : Program) where
         saved (Some r) v e = ih r s (is.saves q r point v) e
     later_consistent n q s (Some Save) point ih e = brought_consistent n q s ih e
     later_consistent n q s None point ih e = brought_consistent n q s ih e
-
-    unless_unchecked : (b : Bool) (o : Option State) (s : State) → (if b then None else o) ≡ Some s → o ≡ Some s
-    unless_unchecked true o s e = absurd (let k : ⊥ = cc in k)
-    unless_unchecked false o s e = e
 
     level_consistent : (n q : ℕ) (s : State) → IsPoint p q → state_at p n q ≡ Some s → IsConsistent s
     level_consistent zero q s point e = first_consistent q s (p.hint q) point refl (unless_unchecked (p.unchecked q) (first_state p q (p.hint q)) s e)

@@ -25,6 +25,13 @@ use Rattle.unwinding.proofs.Edges.{next_checked, fixup_checked, fixup_kept, call
 pub same_frames : (fs gs : List Frame) → gs ≡ fs → IsSlotChange fs gs
 same_frames fs gs e = subst (λ (x : List Frame). IsSlotChange fs x) (sym e) (unchanged fs)
 
+-- a call of code outside is a call, whose target may return
+pub out_calls : (p : Program) (x : Role) → may_call_out p x ≡ true → (is_call x ≡ true) × (target_may_return p x ≡ true) × (returns_outside p x ≡ true)
+out_calls p (CallOut sym) e = (refl, e, e)
+out_calls p (CallEither entry sym) e = (refl, refl, refl)
+out_calls p CallAny e = (refl, refl, refl)
+out_calls p _ e = absurd (let k : ⊥ = cc in k)
+
 module _ (p : Program) (bases : Bases) (s t : Standing) (r : HasRunInvariant p s) (f : HasFrameInvariant p bases s) where
   -- where only the memory changes, outside protected slots, a kept state tells the same
   told_same : StoresOrdinarily s.core t.core → t.core ≡ record s.core { region = t.core.region } → SameLevel s t → IsPoint p t.point → Kept p t.point r.state → HasRunInvariant p t
@@ -53,15 +60,9 @@ module _ (p : Program) (bases : Bases) (s t : Standing) (r : HasRunInvariant p s
         told = λ free. told_same g.stores g.core g.level point (fixup_kept p is acc s.point t.point r.state r.point r.kept g.along free);
       }
 
-  out_calls : (x : Role) → may_call_out p x ≡ true → (is_call x ≡ true) × (target_may_return p x ≡ true) × (returns_outside p x ≡ true)
-  out_calls (CallOut sym) e = (refl, e, e)
-  out_calls (CallEither entry sym) e = (refl, refl, refl)
-  out_calls CallAny e = (refl, refl, refl)
-  out_calls _ e = absurd (let k : ⊥ = cc in k)
-
   pub calls_out_come : IsProgram p → IsAccepted p → CallsOut p s t → IsComing p bases t
   calls_out_come is acc g =
-      let call = out_calls (p.role s.point) g.target in
+      let call = out_calls p (p.role s.point) g.target in
       let next = call_next_in p is acc s.point t.point r.state r.point r.kept call.0 g.passed g.comes_back in
       let point : IsPoint p t.point = is.followers s.point t.point r.point g.comes_back in
       record {

@@ -35,7 +35,7 @@ same_kind Undefined EndOfStack = no (λ e. cc)
 same_kind EndOfStack Undefined = no (λ e. cc)
 same_kind EndOfStack EndOfStack = yes refl
 
-same_bool : (x y : Bool) → Dec (x ≡ y)
+pub same_bool : (x y : Bool) → Dec (x ≡ y)
 same_bool true true = yes refl
 same_bool true false = no (λ e. cc)
 same_bool false true = no (λ e. cc)

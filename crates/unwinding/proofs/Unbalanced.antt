@@ -22,6 +22,7 @@ use Rattle.stack_machine.specs.Broken.{Warns, modified_return}
 use Rattle.stack_machine.specs.IsProgram.{IsProgram}
 use Rattle.stack_machine.specs.Worked.{at, zeros, caller}
 use Rattle.stack_machine.specs.Worked as w
+use Rattle.stack_machine.proofs.WorkedRun.{zeros_are_bytes}
 use Rattle.unwinding.specs.Worked.{base, unbalanced}
 use Rattle.unwinding.proofs.Lists.{here, cases, nowhere, from_filter, from_below}
 use Rattle.unwinding.proofs.WorkedProgram.{only_text}
@@ -95,10 +96,6 @@ outside : IsOutside unbalanced base 18446744073709551615
 outside text (zero, below, is) = inr (rw (sym is) (lit≤ tt))
 outside text (suc k, below, is) = absurd (omega (arith, below))
 
-bytes : (n : ℕ) → All (λ b. b < 256) (replicate n 0)
-bytes zero = All-nil (λ b. b < 256)
-bytes (suc n) = All-cons (λ b. b < 256) 0 (replicate n 0) (lit< tt) (bytes n)
-
 -- where it stands at its return: rsp is eight bytes too low
 abbrev at_return : Standing
 at_return = record { point = 1; core = record { rsp = 0x8000; rbp = 0; region = zeros; ac = false; shadow = caller Unsaved ∷ [] }; ended = None; mark = None }
@@ -110,7 +107,7 @@ enters =
     (record { ra = 0; cfa = 0x8010; bp = 0; shadow = refl; outside = outside; pushed = refl; below_hi = lit≤ tt })
     (record { shadow = refl; cfa = refl; bp = refl })
     (record { ended = refl; mark = refl; hinted = w.at_entry; lands = refl; start = refl }))
-    (record { rbp = lit< tt; region = record { below_end = lit< tt; bytes = bytes 16 }; above_lo = lit≤ tt; below_hi = lit≤ tt })
+    (record { rbp = lit< tt; region = record { below_end = lit< tt; bytes = zeros_are_bytes 16 }; above_lo = lit≤ tt; below_hi = lit≤ tt })
 
 pushes : Run unbalanced base (At at_return)
 pushes =
@@ -124,7 +121,7 @@ pushes =
       level = record { ended = refl; mark = refl };
     })
     refl)
-    (record { rbp = lit< tt; region = record { below_end = lit< tt; bytes = bytes 16 }; above_lo = lit≤ tt; below_hi = lit≤ tt })
+    (record { rbp = lit< tt; region = record { below_end = lit< tt; bytes = zeros_are_bytes 16 }; above_lo = lit≤ tt; below_hi = lit≤ tt })
 
 pub wrecked : Run unbalanced base Wrecked
 wrecked = stepped (At at_return) Wrecked pushes (wrecks at_return (wrong_return refl (inr (inr (inl (λ e. let k : 0x8000 ≡ 0x8008 = e in absurd (omega arith))))))) tt
