@@ -1,10 +1,9 @@
 -- The instructions of a text section, and their rows.
-use Rattle.std.proofs.Common.{◌≡◌, ℕ, ◌<◌, ◌≤◌, ◌^◌, List, [], ◌∷◌, length, refl, sym, ap, ◌∙◌, subst, arith, true}
-use Rattle.std.specs.Prelude.{All, Option, Some, None, IsSome, slice_get}
+use Rattle.std.proofs.Common.{◌≡◌, ℕ, ◌<◌, ◌≤◌, ◌^◌, List, [], ◌∷◌, length, sym, ap, ◌∙◌, subst, arith, true}
+use Rattle.std.specs.Prelude.{All, Some, IsSome, slice_get}
 use Rattle.std.proofs.lemmas.List.Sums.{sum_by-cons}
 use Rattle.std.proofs.lemmas.Option.{slice_get-get_or}
 use Rattle.machine_ops.specs.declared.insn.Insn.{Insn}
-use Rattle.machine_ops.specs.declared.op.Op.{Op}
 use Rattle.ot_base.specs.declared.row.PlacedRow.{PlacedRow}
 use Rattle.orc_build.specs.Rows.{size_of}
 use Rattle.std.proofs.lemmas.Bool.Decides.{nat_tests}

@@ -1,13 +1,8 @@
 -- From the law of straight code to the theorem of an object.
-use Rattle.std.proofs.Common.{◌≡◌, ℕ, ◌≤◌, List, [], ◌∷◌, refl, sym, ap, ◌∙◌, subst, arith}
-use Rattle.std.specs.Prelude.{All, Option, Some, None}
-use Rattle.std.proofs.lemmas.List.Elements.{All-nil, All-cons}
-use Rattle.machine_ops.specs.declared.op.Op.{Op}
+use Rattle.std.proofs.Common.{◌≡◌, ℕ, List, [], ◌∷◌, refl, sym, ap, ◌∙◌, subst}
 use Rattle.machine_ops.specs.declared.insn.Insn.{Insn}
 use Rattle.stack_machine.specs.Program.{Program, TextSection}
-use Rattle.stack_machine.specs.Machine.{Bases, Machine, Wrecked, At}
 use Rattle.orc_walk.specs.declared.range.Range.{Range}
-use Rattle.orc_walk.specs.declared.frame.Stop.TheVariants.{Outside}
 use Rattle.orc_walk.specs.Placement.{IsPlacement}
 use Rattle.elf_objects.specs.Elf.{Elf}
 use Rattle.elf_objects.specs.Contents.{section_at}
@@ -15,26 +10,21 @@ use Rattle.elf_objects.specs.Object.{IsObject}
 use Rattle.orc_bytes.specs.Laws.{OneListFits}
 use Rattle.orc_bytes.specs.Sections.{HoldsOrc}
 use Rattle.orc_output.specs.OrcOutput.{with_orc_object}
-use Rattle.orc_build.specs.Rows.{size_of, straight_rows}
-use Rattle.straight_program.specs.Laws.{BeginAt, IsStraightText, StraightUnwinds}
-use Rattle.straight_program.specs.Laws as straight
+use Rattle.orc_build.specs.Rows.{straight_rows}
+use Rattle.program_tables.specs.Placed.{placed_section}
+use Rattle.straight_program.specs.Laws.{IsStraightText, StraightUnwinds}
 use Rattle.straight_program.specs.Program.{program_of}
 use Rattle.objtool_cli.specs.Form.{IsStraightCode}
 use Rattle.objtool_cli.specs.Texts.{insns_of}
-use Rattle.objtool_cli.specs.Unwinding.{IsProgramOf, StopsAs, UnwindsBy, WalksToFrames, straight_code, texts_of}
+use Rattle.objtool_cli.specs.Unwinding.{IsProgramOf, UnwindsBy, straight_code, texts_of}
 use Rattle.objtool_cli.proofs.TextsLemmas.{one_text}
 
 -- the section of the code
 abbrev text_of : Elf → ℕ → TextSection
 text_of o sec = record { sec = sec; size = (section_at o sec).size }
 
--- what unwinds in the law of straight code walks to the machine's frames
-walks_to : (text : TextSection) (insns : List Insn) (bases : Bases) (ranges : List Range) (m : Machine) → straight.Unwinds text insns bases ranges m → WalksToFrames (program_of text insns) (straight_rows text.sec insns) bases ranges m
-walks_to text insns bases ranges Wrecked h = h
-walks_to text insns bases ranges (At s) h = (Outside, h.0, subst (λ ends. StopsAs ends Outside) (sym h.1) refl)
-
 -- the placed section is the object's one text section
-placed : (o : Elf) (sec : ℕ) (insns : List Insn) (ranges : List Range) → IsStraightCode o sec insns → IsPlacement (texts_of o) ranges → IsPlacement (straight.placed_section (text_of o sec) ∷ []) ranges
+placed : (o : Elf) (sec : ℕ) (insns : List Insn) (ranges : List Range) → IsStraightCode o sec insns → IsPlacement (texts_of o) ranges → IsPlacement (placed_section (text_of o sec) ∷ []) ranges
 placed o sec insns ranges code h = subst (λ texts. IsPlacement texts ranges) (one_text o sec code.text) h
 
 -- an object is straight code in one way
@@ -58,7 +48,5 @@ unwinds_by law one o sec insns written code fills is holds = record {
   reads_back = is;
   holds = holds;
   only = λ others h. one (with_orc_object o (straight_rows sec insns)) others (straight_rows sec insns) h holds;
-  walks = λ bases ranges placement begin m run.
-      walks_to (text_of o sec) insns bases ranges m
-      (law (text_of o sec) insns bases ranges fills (placed o sec insns ranges code placement) begin m run);
+  walks = λ bases ranges placement begin m run. law (text_of o sec) insns bases ranges fills (placed o sec insns ranges code placement) begin m run;
 }

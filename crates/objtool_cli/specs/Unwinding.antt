@@ -1,29 +1,23 @@
 -- The unwinding theorem: wherever the code of an object is placed, and whatever it does, a walk over the tables in the bytes
 -- that are written for it finds exactly the callers that it has.
-use Rattle.std.specs.Prelude.{◌≡◌, ◌⊎◌, ⊤, ℕ, List, map, filter, Option, Some, None}
+use Rattle.std.specs.Prelude.{◌≡◌, ⊤, ℕ, List, map, filter, Option, Some, None}
 use Rattle.std.specs.FinMap.{get}
 use Rattle.std.specs.List.{enumerate_from}
 use Rattle.ot_base.specs.declared.row.PlacedRow.{PlacedRow}
 use Rattle.ot_files.specs.Content.{Content}
 use Rattle.machine_ops.specs.declared.insn.Insn.{Insn}
-use Rattle.machine_ops.specs.declared.state.EndKind.{EndKind}
-use Rattle.machine_ops.specs.declared.state.EndKind.TheVariants as kind
-use Rattle.machine_ops.specs.Region.{word_at}
 use Rattle.stack_machine.specs.Program.{Program}
-use Rattle.stack_machine.specs.Machine.{Bases, Standing, Machine, Wrecked, At, point_address, frames, frames_end}
+use Rattle.stack_machine.specs.Machine.{Bases, Machine}
 use Rattle.stack_machine.specs.Run.{Run}
 use Rattle.orc_walk.specs.declared.range.Range.{Range}
-use Rattle.orc_walk.specs.declared.frame.Regs.{Regs}
-use Rattle.orc_walk.specs.declared.frame.Stop.{Stop}
-use Rattle.orc_walk.specs.declared.frame.Stop.TheVariants.{Outside, EndOfStack, Undefined, NoRow}
 use Rattle.orc_walk.specs.Placement.{TextSection, IsPlacement}
-use Rattle.orc_walk.specs.Walk.{Walks}
 use Rattle.elf_objects.specs.Contents.{is_text, section_at}
 use Rattle.elf_objects.specs.Elf.{Elf}
 use Rattle.elf_objects.specs.Object.{IsObject}
 use Rattle.orc_bytes.specs.Sections.{HoldsOrc}
 use Rattle.orc_output.specs.OrcOutput.{with_orc_object}
-use Rattle.straight_program.specs.Laws.{BeginAt, walk_frame}
+use Rattle.program_tables.specs.Placed.{BeginAt}
+use Rattle.program_tables.specs.Walks.{WalksToFrames}
 use Rattle.straight_program.specs.Program.{program_of}
 use Rattle.objtool_cli.specs.Form.{IsStraightCode}
 
@@ -34,25 +28,6 @@ texts_of o = map (λ e. record { sec = e.0; size = e.1.size }) (filter (λ e. is
 -- The program that an object is, by the form of the object: of straight code, that of its instructions.
 pub data IsProgramOf (o : Elf) : Program → Type 0 where
   straight_code : {p : Program} (sec : ℕ) (insns : List Insn) → IsStraightCode o sec insns → p ≡ program_of (record { sec = sec; size = (section_at o sec).size }) insns → IsProgramOf o p
-
--- The stop that belongs to how the frames end: outside the object, where they go down to the outermost one; else that of
--- the hint that ended the stack.
-abbrev pub StopsAs : Option EndKind → Stop → Type 0
-StopsAs None stop = stop ≡ Outside
-StopsAs (Some kind.EndOfStack) stop = stop ≡ EndOfStack
-StopsAs (Some kind.Undefined) stop = (stop ≡ Undefined) ⊎ (stop ≡ NoRow)
-
--- where the machine stands: the placed address of its point, rsp and rbp
-abbrev pub registers_of : Program → Bases → Standing → Regs
-registers_of p bases s = record { ip = point_address p bases s.point; sp = s.core.rsp; bp = s.core.rbp }
-
--- The machine's stack isn't wrecked, and walking over the rows gives exactly the frames of its shadow call stack.
-abbrev pub WalksToFrames : Program → List PlacedRow → Bases → List Range → Machine → Type 0
-WalksToFrames p rows bases ranges Wrecked = ⊥
-WalksToFrames p rows bases ranges (At s) =
-    (stop : Stop)
-    × Walks rows ranges (λ address. word_at s.core.region address) (registers_of p bases s) (map walk_frame (frames s)) stop
-    × StopsAs (frames_end s) stop
 
 -- The object is exactly one program. The bytes that are written for it are this object with the ORC sections of some rows
 -- added, which hold exactly this list of rows. And for every placement of the text sections and every state of every run

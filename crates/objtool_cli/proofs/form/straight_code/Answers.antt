@@ -1,12 +1,10 @@
-use Rattle.std.proofs.Common.{◌≡◌, ◌<◌, ℕ, Bool, true, false, List, [], ◌∷◌, length, get_or, refl, sym, ap, ◌∙◌, subst, arith}
+use Rattle.std.proofs.Common.{◌≡◌, ℕ, Bool, true, false, List, [], ◌∷◌, length, get_or, sym, ap, ◌∙◌, subst, arith}
 use Rattle.std.proofs.lemmas.Bool.{false≢true}
-use Rattle.elf_objects.specs.Contents.{section_at}
 use Rattle.elf_objects.specs.Lent.{IsSlice}
 use Rattle.orc_build.specs.Straight.{IsStraight, ops_of}
 use Rattle.x86_text.specs.Code.{IsCode}
 use Rattle.objtool_cli.specs.declared.texts.SectionText.{SectionText}
 use Rattle.objtool_cli.specs.Form.{IsFunctionAround}
-use Rattle.objtool_cli.specs.Checked.{HasForm}
 use Rattle.objtool_cli.specs.Texts.{insns_of}
 use Rattle.objtool_cli.proofs.CodeLemmas.{straight_text}
 use Rattle.objtool_cli.proofs.FormLemmas.{form_of, one_item, one_text_section, only_text}

@@ -1,4 +1,4 @@
-use Rattle.std.proofs.Common.{◌≤◌, length, arith, ap, sym}
+use Rattle.std.proofs.Common.{length, arith, ap}
 use Rattle.std.proofs.lemmas.Result.{IfOk-weaker}
 use Rattle.orc_build.specs.Rows.{size_of}
 use Rattle.objtool_cli.proofs.CodeLemmas.{rows_of, sizes}

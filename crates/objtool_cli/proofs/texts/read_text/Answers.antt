@@ -1,4 +1,4 @@
-use Rattle.std.proofs.Common.{◌≡◌, ◌≤◌, List, ℕ, length, sym, ap, ◌∙◌, subst, arith}
+use Rattle.std.proofs.Common.{length, ap, subst, arith}
 use Rattle.elf_objects.specs.Elf.{SectionEntry}
 use Rattle.elf_objects.specs.Lent.{IsSlice}
 use Rattle.objtool_cli.proofs.CodeLemmas.{body_size, text_small}

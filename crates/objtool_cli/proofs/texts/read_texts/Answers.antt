@@ -1,4 +1,4 @@
-use Rattle.std.proofs.Common.{◌≡◌, ◌+◌, ◌<◌, ◌≤◌, ◌⊎◌, ℕ, Bool, true, false, List, [], ◌∷◌, ◌++◌, length, map, refl, sym, ap, ◌∙◌, subst, inl, inr, arith}
+use Rattle.std.proofs.Common.{◌≡◌, ◌+◌, ◌<◌, ℕ, true, false, List, [], ◌∷◌, ◌++◌, length, map, refl, sym, ap, ◌∙◌, subst, inl, inr, arith}
 use Rattle.std.specs.Prelude.{Result, Ok, Err, is_err, is_ok, if◌then◌else◌}
 use Rattle.std.proofs.lemmas.Bool.{cases_lt, false≢true}
 use Rattle.std.proofs.lemmas.List.{map-append}
@@ -7,7 +7,7 @@ use Rattle.elf_objects.specs.Contents.{is_text, section_at}
 use Rattle.x86_text.specs.Code.{IsCode}
 use Rattle.objtool_cli.specs.declared.texts.SectionText.{SectionText}
 use Rattle.objtool_cli.specs.Texts.{AreCode, body_in}
-use Rattle.objtool_cli.proofs.TextsLemmas.{all_below, bodies_below, other_below, text_below}
+use Rattle.objtool_cli.proofs.TextsLemmas.{bodies_below, other_below, text_below}
 use Rattle.objtool_cli.proofs.texts.read_texts.Goals as goal
 use Rattle.objtool_cli.proofs.texts.read_texts.Goals.{then-is_text+in-Ok+else-is_err, in-Err-1, in-Ok-1, else-is_text}
 

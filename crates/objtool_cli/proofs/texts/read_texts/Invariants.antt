@@ -1,4 +1,4 @@
-use Rattle.std.proofs.Common.{◌≡◌, ◌≤◌, length, map}
+use Rattle.std.proofs.Common.{◌≡◌, map}
 use Rattle.objtool_cli.specs.Texts.{AreCode, body_in}
 use Rattle.objtool_cli.proofs.TextsLemmas.{bodies_below}
 use Rattle.objtool_cli.proofs.texts.read_texts.Given as goal
