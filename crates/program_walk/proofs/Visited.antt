@@ -1,4 +1,4 @@
--- The calls that made the frames of a run are points to which runs come.
+-- What holds of each point at which a run stands holds of the calls that made its frames.
 use Rattle.std.proofs.Common.{◌≡◌, ℕ, List, [], ◌∷◌, Option, Some, None, map, All, refl, sym, ap, ◌∙◌, subst}
 use Rattle.std.specs.Prelude.{IfSome}
 use Rattle.std.proofs.lemmas.List.Elements.{All-nil, All-cons, All-tail}
@@ -21,9 +21,9 @@ use Rattle.program_tables.specs.Visited.{IsVisited}
 abbrev pub calls : List Frame → List (Option ℕ)
 calls frames = map (λ f. f.call) frames
 
--- each of them that is in the program is visited
-abbrev pub AreVisited : Program → Bases → List (Option ℕ) → Type 0
-AreVisited p bases points = All (λ call. IfSome call (IsVisited p bases)) points
+-- what holds of each of them that is in the program
+abbrev pub AllHave : (ℕ → Type 0) → List (Option ℕ) → Type 0
+AllHave P points = All (λ call. IfSome call P) points
 
 -- a new slot leaves the calls
 slot_calls : (fs gs : List Frame) → IsSlotChange fs gs → calls gs ≡ calls fs
@@ -35,77 +35,110 @@ top_calls : (change : Slot → Slot) (fs : List Frame) → calls (with_top_slot 
 top_calls change [] = refl
 top_calls change (f ∷ fs) = refl
 
--- and so does a hint
-set_calls : (state : State) (t u : Standing) → SetsState state t u → calls u.core.shadow ≡ calls t.core.shadow
-set_calls (Live depth fp bp) t u h = ap (λ (x : Standing). calls x.core.shadow) h.0
-set_calls (Ended kind) t u h = ap (λ (x : Standing). calls x.core.shadow) h
-set_calls (Regs full depth) t u h = ap (λ (x : Standing). calls x.core.shadow) h.0 ∙ top_calls (λ _. hinted_slot full (shifted t.core.rsp depth)) t.core.shadow
+-- where the machine stands, and the calls
+abbrev seat : Standing → ℕ × List (Option ℕ)
+seat s = (s.point, calls s.core.shadow)
+
+-- a hint leaves both
+set_seat : (state : State) (t u : Standing) → SetsState state t u → seat u ≡ seat t
+set_seat (Live depth fp bp) t u h = ap seat h.0
+set_seat (Ended kind) t u h = ap seat h
+set_seat (Regs full depth) t u h =
+    let behind : List (Option ℕ) → ℕ × List (Option ℕ) = λ points. (t.point, points) in
+    ap seat h.0 ∙ ap behind (top_calls (λ _. hinted_slot full (shifted t.core.rsp depth)) t.core.shadow)
 
 -- of any kind
-hint_calls : (hint : Option HintState) (save : Option ℕ) (t u : Standing) → Hinted hint save t u → calls u.core.shadow ≡ calls t.core.shadow
-hint_calls None save t u h = ap (λ (x : Standing). calls x.core.shadow) h
-hint_calls (Some (Set state)) save t u h = set_calls state t u h
-hint_calls (Some Save) save t u h = ap (λ (x : Standing). calls x.core.shadow) h
-hint_calls (Some Restore) save t u h = ap (λ (x : Standing). calls x.core.shadow) h.after
+hint_seat : (hint : Option HintState) (save : Option ℕ) (t u : Standing) → Hinted hint save t u → seat u ≡ seat t
+hint_seat None save t u h = ap seat h
+hint_seat (Some (Set state)) save t u h = set_seat state t u h
+hint_seat (Some Save) save t u h = ap seat h
+hint_seat (Some Restore) save t u h = ap seat h.after
+
+-- what holds of the point where the machine stands
+abbrev pub HoldsAt : (ℕ → Type 0) → Machine → Type 0
+HoldsAt P Wrecked = Unit {0}
+HoldsAt P (At s) = P s.point
+
+-- and of the calls that made its frames
+abbrev pub HoldsOfCalls : (ℕ → Type 0) → Machine → Type 0
+HoldsOfCalls P Wrecked = Unit {0}
+HoldsOfCalls P (At s) = AllHave P (calls s.core.shadow)
 
 module _ (p : Program) (bases : Bases) where
-  -- calls stay visited past a hint
-  landed : (t u : Standing) → Lands p t u → AreVisited p bases (calls t.core.shadow) → AreVisited p bases (calls u.core.shadow)
-  landed t u l h = subst (λ (x : List (Option ℕ)). AreVisited p bases x) (sym (hint_calls (p.hint t.point) (p.save_of t.point) t u l)) h
+  -- the machine lands where it has come to
+  pub lands_there : (t u : Standing) → Lands p t u → u.point ≡ t.point
+  lands_there t u l = ap (λ (x : ℕ × List (Option ℕ)). x.0) (hint_seat (p.hint t.point) (p.save_of t.point) t u l)
 
-  -- and where the frames stay
-  same_calls : (s t : Standing) → t.core.shadow ≡ s.core.shadow → AreVisited p bases (calls s.core.shadow) → AreVisited p bases (calls t.core.shadow)
-  same_calls s t e h = subst (λ (x : List Frame). AreVisited p bases (calls x)) (sym e) h
+  -- and starts there
+  pub starts_there : (t s : Standing) → StartsFrom p t s → s.point ≡ t.point
+  starts_there t s from = ap (λ (x : Standing). x.point) from.start ∙ lands_there t from.hinted from.lands
 
-  -- a start makes of them what its hint does
-  start_calls : (t s : Standing) → StartsFrom p t s → AreVisited p bases (calls t.core.shadow) → AreVisited p bases (calls s.core.shadow)
-  start_calls t s from h = subst (λ (x : Standing). AreVisited p bases (calls x.core.shadow)) (sym from.start) (landed t from.hinted from.lands h)
+  module _ (P : ℕ → Type 0) where
+    -- what holds of the calls stays past a hint
+    landed : (t u : Standing) → Lands p t u → AllHave P (calls t.core.shadow) → AllHave P (calls u.core.shadow)
+    landed t u l h = subst (λ (x : ℕ × List (Option ℕ)). AllHave P x.1) (sym (hint_seat (p.hint t.point) (p.save_of t.point) t u l)) h
 
-  -- a frame that was there at the start has no call
-  no_call : AreVisited p bases (None ∷ [])
-  no_call = All-cons (λ call. IfSome call (IsVisited p bases)) None [] tt (All-nil (λ call. IfSome call (IsVisited p bases)))
+    -- and where the frames stay
+    same_calls : (s t : Standing) → t.core.shadow ≡ s.core.shadow → AllHave P (calls s.core.shadow) → AllHave P (calls t.core.shadow)
+    same_calls s t e h = subst (λ (x : List Frame). AllHave P (calls x)) (sym e) h
 
-  -- nor has that of a call from outside
-  called : (t : Standing) → WasCalled p bases t.core → AreVisited p bases (calls t.core.shadow)
-  called t c = subst (λ (x : List Frame). AreVisited p bases (calls x)) (sym c.shadow) no_call
+    -- a start makes of them what its hint does
+    start_calls : (t s : Standing) → StartsFrom p t s → AllHave P (calls t.core.shadow) → AllHave P (calls s.core.shadow)
+    start_calls t s from h = subst (λ (x : Standing). AllHave P (calls x.core.shadow)) (sym from.start) (landed t from.hinted from.lands h)
 
-  -- at each start
-  first_calls : (s : Standing) → Start p bases s → AreVisited p bases (calls s.core.shadow)
-  first_calls s (at_entry t s2 f entry c d was e from) = start_calls t s from (called t was)
-  first_calls s (at_call_hint t s2 depth fp bp may h was from) = start_calls t s from (called t was)
-  first_calls s (at_regs_hint t s2 full depth may h was from) = start_calls t s from (subst (λ (x : List Frame). AreVisited p bases (calls x)) (sym was.shadow) no_call)
-  first_calls s (at_end_hint t s2 kind may h empty from) = start_calls t s from (subst (λ (x : List Frame). AreVisited p bases (calls x)) (sym empty) (All-nil (λ call. IfSome call (IsVisited p bases))))
+    -- a frame that was there at the start has no call
+    no_call : AllHave P (None ∷ [])
+    no_call = All-cons (λ call. IfSome call P) None [] tt (All-nil (λ call. IfSome call P))
+
+    -- nor has that of a call from outside
+    called : (t : Standing) → WasCalled p bases t.core → AllHave P (calls t.core.shadow)
+    called t c = subst (λ (x : List Frame). AllHave P (calls x)) (sym c.shadow) no_call
+
+    -- at each start
+    pub first_calls : (s : Standing) → Start p bases s → AllHave P (calls s.core.shadow)
+    first_calls s (at_entry t s2 f entry c d was e from) = start_calls t s from (called t was)
+    first_calls s (at_call_hint t s2 depth fp bp may h was from) = start_calls t s from (called t was)
+    first_calls s (at_regs_hint t s2 full depth may h was from) = start_calls t s from (subst (λ (x : List Frame). AllHave P (calls x)) (sym was.shadow) no_call)
+    first_calls s (at_end_hint t s2 kind may h empty from) = start_calls t s from (subst (λ (x : List Frame). AllHave P (calls x)) (sym empty) (All-nil (λ call. IfSome call P)))
+
+    -- a new frame is called from where the machine stands
+    with_call : (s : Standing) → P s.point → (f : Frame) → f.call ≡ Some s.point → AllHave P (calls s.core.shadow) → AllHave P (calls (f ∷ s.core.shadow))
+    with_call s here f e h = All-cons (λ call. IfSome call P) f.call (calls s.core.shadow) (subst (λ (x : Option ℕ). IfSome x P) (sym e) here) h
+
+    -- the frames below are called as before
+    without_top : (s : Standing) (f : Frame) (fs : List Frame) → s.core.shadow ≡ f ∷ fs → AllHave P (calls s.core.shadow) → AllHave P (calls fs)
+    without_top s f fs e h = All-tail (λ call. IfSome call P) f.call (calls fs) (subst (λ (x : List Frame). AllHave P (calls x)) e h)
+
+    -- what holds of the point and of the calls holds of the calls after a step
+    pub step_calls : (m n : Machine) → HoldsAt P m → HoldsOfCalls P m → Step p bases m n → HoldsOfCalls P n
+    step_calls m n e h (goes_on s t u g l) = landed t u l (subst (λ (x : List (Option ℕ)). AllHave P x) (sym (slot_calls s.core.shadow t.core.shadow (effect_shape s.core t.core (p.insn s.point).op g.effect))) h)
+    step_calls m n e h (faults s t u g l) = landed t u l (same_calls s t (ap (λ (x : Core). x.shadow) g.core) h)
+    step_calls m n e h (calls_in s t u g l) = landed t u l (subst (λ (x : List Frame). AllHave P (calls x)) (sym (ap (λ (x : Core). x.shadow) g.core)) (with_call s e (call_frame p bases s) refl h))
+    step_calls m n e h (calls_out s t u g l) = landed t u l (same_calls s t (ap (λ (x : Core). x.shadow) g.core) h)
+    step_calls m n e h (returns s t u g l) = landed t u l (subst (λ (x : List Frame). AllHave P (calls x)) (sym (ap (λ (x : Core). x.shadow) g.core)) (without_top s g.frame g.below g.shadow h))
+    step_calls m n e h (tail_calls s t u g l) = landed t u l (same_calls s t (ap (λ (x : Core). x.shadow) g.core) h)
+    step_calls m n e h (wrecks s w) = tt
+    step_calls m n e h (interrupted s t u g l) = landed t u l (subst (λ (x : List Frame). AllHave P (calls x)) (sym (ap (λ (x : Core). x.shadow) g.core)) (with_call s e (interrupt_frame p bases s) refl h))
+    step_calls m n e h (irets s t g) = subst (λ (x : List Frame). AllHave P (calls x)) (sym (ap (λ (x : Core). x.shadow) g.core)) (without_top s g.frame g.below g.shadow h)
+
+  -- each call that is in the program is visited
+  abbrev pub AreVisited : List (Option ℕ) → Type 0
+  AreVisited points = AllHave (IsVisited p bases) points
+
+  -- in a state of the machine
+  abbrev pub AreCallsVisited : Machine → Type 0
+  AreCallsVisited m = HoldsOfCalls (IsVisited p bases) m
 
   -- where the machine stands after a run, its point is visited
   pub visited : (s : Standing) → Run p bases (At s) → IsVisited p bases s.point
   visited s r = record { standing = s; run = r; here = refl }
 
-  -- a new frame is called from there
-  with_call : (s : Standing) → Run p bases (At s) → (f : Frame) → f.call ≡ Some s.point → AreVisited p bases (calls s.core.shadow) → AreVisited p bases (calls (f ∷ s.core.shadow))
-  with_call s r f e h = All-cons (λ call. IfSome call (IsVisited p bases)) f.call (calls s.core.shadow) (subst (λ (x : Option ℕ). IfSome x (IsVisited p bases)) (sym e) (visited s r)) h
+  -- wrecked or not
+  visited_at : (m : Machine) → Run p bases m → HoldsAt (IsVisited p bases) m
+  visited_at Wrecked r = tt
+  visited_at (At s) r = visited s r
 
-  -- the frames below are called as before
-  without_top : (s : Standing) (f : Frame) (fs : List Frame) → s.core.shadow ≡ f ∷ fs → AreVisited p bases (calls s.core.shadow) → AreVisited p bases (calls fs)
-  without_top s f fs e h = All-tail (λ call. IfSome call (IsVisited p bases)) f.call (calls fs) (subst (λ (x : List Frame). AreVisited p bases (calls x)) e h)
-
-  -- in a state of the machine
-  abbrev pub AreCallsVisited : Machine → Type 0
-  AreCallsVisited Wrecked = Unit {0}
-  AreCallsVisited (At s) = AreVisited p bases (calls s.core.shadow)
-
-  -- each step keeps calls visited
-  step_calls : (m n : Machine) → Run p bases m → AreCallsVisited m → Step p bases m n → AreCallsVisited n
-  step_calls m n r h (goes_on s t u g l) = landed t u l (subst (λ (x : List (Option ℕ)). AreVisited p bases x) (sym (slot_calls s.core.shadow t.core.shadow (effect_shape s.core t.core (p.insn s.point).op g.effect))) h)
-  step_calls m n r h (faults s t u g l) = landed t u l (same_calls s t (ap (λ (x : Core). x.shadow) g.core) h)
-  step_calls m n r h (calls_in s t u g l) = landed t u l (subst (λ (x : List Frame). AreVisited p bases (calls x)) (sym (ap (λ (x : Core). x.shadow) g.core)) (with_call s r (call_frame p bases s) refl h))
-  step_calls m n r h (calls_out s t u g l) = landed t u l (same_calls s t (ap (λ (x : Core). x.shadow) g.core) h)
-  step_calls m n r h (returns s t u g l) = landed t u l (subst (λ (x : List Frame). AreVisited p bases (calls x)) (sym (ap (λ (x : Core). x.shadow) g.core)) (without_top s g.frame g.below g.shadow h))
-  step_calls m n r h (tail_calls s t u g l) = landed t u l (same_calls s t (ap (λ (x : Core). x.shadow) g.core) h)
-  step_calls m n r h (wrecks s w) = tt
-  step_calls m n r h (interrupted s t u g l) = landed t u l (subst (λ (x : List Frame). AreVisited p bases (calls x)) (sym (ap (λ (x : Core). x.shadow) g.core)) (with_call s r (interrupt_frame p bases s) refl h))
-  step_calls m n r h (irets s t g) = subst (λ (x : List Frame). AreVisited p bases (calls x)) (sym (ap (λ (x : Core). x.shadow) g.core)) (without_top s g.frame g.below g.shadow h)
-
-  -- so in every state of every run they are
+  -- so in every state of every run the calls are visited
   pub run_calls : (m : Machine) → Run p bases m → AreCallsVisited m
-  run_calls m (started s start stack) = first_calls s start
-  run_calls m (stepped k n r step stays) = step_calls k n r (run_calls k r) step
+  run_calls m (started s start stack) = first_calls (IsVisited p bases) s start
+  run_calls m (stepped k n r step stays) = step_calls (IsVisited p bases) k n (visited_at k r) (run_calls k r) step

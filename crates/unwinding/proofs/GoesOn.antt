@@ -1,8 +1,6 @@
 -- An instruction that goes on in its function.
-use Rattle.std.proofs.Common.{◌≡◌, ℕ, ◌≤◌, Bool, true, false, List, Option, Some, None, Ok, All, refl, sym, ap, ◌∙◌, subst}
+use Rattle.std.proofs.Common.{◌≡◌, ℕ, ◌≤◌, List, Option, Some, None, Ok, All, refl, sym, ap, ◌∙◌, subst}
 use Rattle.std.proofs.lemmas.List.Elements.{All-head}
-use Rattle.machine_ops.specs.declared.flow.EdgeKind.{EdgeKind}
-use Rattle.machine_ops.specs.declared.flow.EdgeKind.TheVariants.{Next, Taken, Fixup, Table, Sibling}
 use Rattle.machine_ops.specs.declared.state.EndKind.{EndKind}
 use Rattle.machine_ops.specs.declared.state.State.{State}
 use Rattle.machine_ops.specs.declared.state.State.TheVariants.{Live, Ended, Regs}
@@ -12,11 +10,10 @@ use Rattle.machine_ops.specs.Effect.{IsInStack, Effect}
 use Rattle.machine_ops.specs.State.{ended_by, IsConsistent, MeansTop}
 use Rattle.machine_ops.specs.Move.{move}
 use Rattle.machine_ops.specs.Sound.{IsTold, MoveIsSound, MoveIsConsistent}
-use Rattle.stack_machine.specs.Program.{Program, IsPoint, is_call, is_call_op, edge, is_local}
+use Rattle.stack_machine.specs.Program.{Program, IsPoint, is_call, edge}
 use Rattle.stack_machine.specs.Machine.{Bases, Standing}
 use Rattle.stack_machine.specs.Step.{SameLevel, GoesOn}
 use Rattle.stack_machine.specs.MayReturn as may
-use Rattle.stack_machine.specs.Kept.{can_go}
 use Rattle.stack_machine.specs.Broken.{IsAccepted}
 use Rattle.stack_machine.specs.IsProgram.{IsProgram}
 use Rattle.stack_machine.specs.Law.{AreFrames, HasRunInvariant, HasFrameInvariant}

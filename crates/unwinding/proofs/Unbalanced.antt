@@ -1,6 +1,6 @@
 -- A program that returns without undoing its push: it meets the law's other premises, is warned of,
 -- and is wrecked.
-use Rattle.std.proofs.Common.{◌≡◌, ℕ, zero, suc, ◌+◌, ◌^◌, ◌<◌, true, false, [], ◌∷◌, None, slice_index_or, All, Contains, pos, refl, sym, ap, ◌∙◌, subst, inl, inr, arith, lit<, lit≤, replicate}
+use Rattle.std.proofs.Common.{◌≡◌, ℕ, zero, suc, ◌+◌, ◌^◌, ◌<◌, true, false, [], ◌∷◌, None, slice_index_or, Contains, pos, refl, sym, ap, ◌∙◌, subst, inl, inr, arith, lit<, lit≤}
 use Rattle.machine_ops.specs.declared.op.Op.TheVariants.{RetImm}
 use Rattle.machine_ops.specs.declared.flow.Edge.{Edge}
 use Rattle.machine_ops.specs.declared.flow.EdgeKind.TheVariants.{Next, Sibling}
@@ -26,7 +26,6 @@ use Rattle.stack_machine.proofs.WorkedRun.{zeros_are_bytes}
 use Rattle.unwinding.specs.Worked.{base, unbalanced}
 use Rattle.unwinding.proofs.Lists.{here, cases, nowhere, from_filter, from_below}
 use Rattle.unwinding.proofs.WorkedProgram.{only_text}
-use Rattle.std.proofs.lemmas.List.Elements.{All-nil, All-cons}
 
 one_edge : (q : ℕ) (e : Edge) → Contains (unbalanced.goes q) e → e ≡ edge 1 Next
 one_edge zero e c = elim (cases (edge 1 Next) [] e c) [ inl k ↦ sym k | inr k ↦ nowhere e k ]
