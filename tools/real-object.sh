@@ -1,11 +1,29 @@
 #!/usr/bin/env bash
-# Checks a real object with the built program: one leaf function, made by the system's assembler and passed
-# through `ld -r`, which gives its section a symbol. The tables are then read by `readelf`.
+# Checks real objects with the built program, each passed through `ld -r`, which gives its section a symbol: a leaf
+# function of the system's assembler, whose rows `readelf` reads, and one that gcc compiles from C, whose rows are those
+# that gcc itself tells in `.eh_frame` of the same code.
 # Skipped where a tool is missing.
 set -eu
 . "$(dirname "$0")/prepare.sh"
-needs "real object" as ld readelf
+needs "real object" as ld readelf awk
 cd "$root"
+
+# The program as it was built last, and anew where that is older than the sources.
+built=$PWD/crates/objtool/out/objtool
+objtool() {
+    if [ -x "$built" ] && [ -z "$(find crates -path '*/out' -prune -o -name '*.rt' -newer "$built" -print -quit)" ]; then
+        "$built" "$@"
+    else
+        (cd crates/objtool && rt run -- "$@")
+    fi
+}
+
+# The rows of a checked object, a line each: the offset in hexadecimal, and the row's six bytes.
+rows_of() {
+    paste -d ' ' \
+        <(readelf -rW "$1" | awk '/R_X86_64_PC32/ { print $NF }') \
+        <(readelf -x .orc_unwind "$1" | awk '/^  0x/ { for (i = 2; i <= 5 && $i ~ /^[0-9a-f]+$/; i++) printf "%s", $i }' | fold -w 12)
+}
 
 cat >"$scratch/leaf.s" <<'S'
 	.text
@@ -22,25 +40,44 @@ leaf:
 S
 as -o "$scratch/assembled.o" "$scratch/leaf.s"
 ld -r -o "$scratch/leaf.o" "$scratch/assembled.o"
-
-# The program as it was built last, and anew where that is older than the sources.
-built=$PWD/crates/objtool/out/objtool
-objtool() {
-    if [ -x "$built" ] && [ -z "$(find crates -path '*/out' -prune -o -name '*.rt' -newer "$built" -print -quit)" ]; then
-        "$built" "$@"
-    else
-        (cd crates/objtool && rt run -- "$@")
-    fi
-}
 objtool check "$scratch/leaf.o" "$scratch/checked.o"
 
 sections=$(readelf -SW "$scratch/checked.o")
 for section in .orc_unwind .orc_unwind_ip .rela.orc_unwind_ip; do
     grep -q " $section " <<<"$sections" || { echo "real object: no section $section"; exit 1; }
 done
-rows=$(readelf -x .orc_unwind "$scratch/checked.o" | awk '/^  0x/ { for (i = 2; i <= 5 && $i ~ /^[0-9a-f]+$/; i++) printf "%s", $i }')
-wanted=080000000502100000000502180000000502100000000502080000000502000000000000
+rows=$(rows_of "$scratch/checked.o" | tr '\n' ';')
+wanted='0 080000000502;1 100000000502;2 180000000502;4 100000000502;5 080000000502;6 000000000000;'
 [ "$rows" = "$wanted" ] || { echo "real object: the rows are $rows"; exit 1; }
-places=$(readelf -rW "$scratch/checked.o" | awk '/R_X86_64_PC32/ { print $NF }' | tr '\n' ' ')
-[ "$places" = "0 1 2 4 5 6 " ] || { echo "real object: the rows lie at $places"; exit 1; }
 echo "real object: one leaf function checked, six rows as expected"
+
+needs "compiled object" gcc
+cat >"$scratch/mix.c" <<'C'
+struct state { unsigned long a, b, c, d, e, f, g; };
+
+void mix(struct state *s, unsigned long key)
+{
+	unsigned long a = s->a + key, b = s->b ^ key, c = s->c, d = s->d;
+	unsigned long e = s->e, f = s->f;
+
+	a += b * 3; b ^= c << 7; c -= d; d += e >> 3;
+	e ^= f + key; f += a * 5;
+	s->a = a ^ e; s->b = b + f; s->c = c ^ a; s->d = d + b;
+	s->e = e + a; s->f = f ^ b;
+	s->g = a * b + c * d;
+}
+C
+compile() { gcc -O2 -fcf-protection=none -mno-sse -mgeneral-regs-only -ffreestanding "$@" "$scratch/mix.c"; }
+compile -fno-asynchronous-unwind-tables -c -o "$scratch/compiled.o"
+ld -r -o "$scratch/mix.o" "$scratch/compiled.o"
+objtool check "$scratch/mix.o" "$scratch/mixed.o"
+
+# Where each offset of the frame's top from rsp begins, by the rows and by gcc. The last row ends the section.
+told=$(rows_of "$scratch/mixed.o" | awk '$2 ~ /00000502$/ { print $1, substr($2, 3, 2) substr($2, 1, 2) }')
+compile -fasynchronous-unwind-tables -c -o "$scratch/framed.o"
+known=$(readelf --debug-dump=frames-interp "$scratch/framed.o" | awk '
+    / FDE / { inside = 1 }
+    inside && $2 ~ /^rsp\+[0-9]+$/ && $2 != before { before = $2; sub(/^0+/, "", $1); printf "%s %04x\n", $1 == "" ? "0" : $1, substr($2, 5) }')
+[ -n "$known" ] && [ "$told" = "$known" ] || { printf 'compiled object: the rows are\n%s\nand gcc has\n%s\n' "$told" "$known"; exit 1; }
+[ "$(wc -l <<<"$told")" -ge 3 ] || { echo "compiled object: gcc pushes nothing, so its rows show little"; exit 1; }
+echo "compiled object: one function of gcc checked, its rows as gcc's own"
