@@ -1,0 +1,1 @@
+//! Programs of a few points: what holds of each, and how it runs.
