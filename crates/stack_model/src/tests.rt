@@ -1,1 +1,5 @@
 //! Programs of a few points: what holds of each, and how it runs.
+
+mod accepted;
+mod builder;
+mod expect;
