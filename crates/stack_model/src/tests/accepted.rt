@@ -6,7 +6,7 @@ use super::expect::{
     ANYTHING, CALLER, OUTSIDE, RBP, back, call, called, checked, expect_accepted, expect_no_step,
     expect_run, expect_states, frame, framed, go, live, next, plain, standing, stands,
 };
-use crate::{Anything, Choice, Start, Store};
+use crate::{Anything, Choice, Start, Store, started};
 use machine_ops::{BpHome, Edge, EdgeKind, EndKind, HintState, Op, Role, State};
 use orc_walk::Stop;
 use std::test::Fail;
@@ -438,4 +438,141 @@ fn the_end_of_the_stack(rt: HostRuntime) -> Result<(), Fail> {
         at_end(0, 0x8100, &[]),
         &steps,
     )
+}
+
+/// 55 48 89 E5, a site of nine bytes, 90 90 48 83 C4 10 5D C3. The site is 48 83 EC 10 90 48 83 C4 10, or
+/// 0F 1F 40 00 90 0F 1F 40 00; both have a SAVE at 8, with different depths and one row. The RESTORE at 14
+/// means the first SAVE. So it is true behind neither variant: behind the first rsp has moved, and behind
+/// the second another SAVE was passed, though rsp, rbp and the slot are what they were there.
+#[test]
+fn a_restore_is_strict(rt: HostRuntime) -> Result<(), Fail> {
+    let alloc = rt.alloc();
+    let lines = [
+        insn(0, 1, Op::PushBp),
+        insn(1, 3, Op::LeaBpSp { by: 0 }),
+        insn(4, 4, Op::AddSp { by: -16 }),
+        insn(8, 1, Op::Nop).hint(HintState::Save),
+        insn(9, 4, Op::AddSp { by: 16 }),
+        insn(13, 1, Op::Nop),
+        insn(14, 1, Op::Nop).restore(3),
+        insn(15, 4, Op::AddSp { by: 16 }),
+        insn(19, 1, Op::PopBp),
+        insn(20, 1, Op::Ret),
+        insn(0, 4, Op::Nop).runs_at(1, 4),
+        insn(4, 1, Op::Nop).runs_at(1, 8).hint(HintState::Save),
+        insn(5, 4, Op::Nop).runs_at(1, 9),
+    ];
+    let e = checked(alloc, program(alloc, &lines, &[0], &[site(4, 9)])?)?;
+    expect_accepted(&rt, alloc, &e)?;
+    let states = [
+        Some(plain(8)),
+        Some(live(16, None, BpHome::Saved(16))),
+        Some(framed(16)),
+        Some(framed(32)),
+        Some(framed(32)),
+        Some(framed(16)),
+        Some(framed(32)),
+        Some(framed(32)),
+        Some(framed(16)),
+        Some(plain(8)),
+        Some(framed(16)),
+        Some(framed(16)),
+        Some(framed(16)),
+    ];
+    expect_states(&rt, &e, &states);
+    let first = stands(0, 0x80F8, &[CALLER]);
+    let replaced = [
+        (next(1), stands(1, 0x80F0, &[CALLER])),
+        (next(10), stands(10, 0x80F0, &[CALLER])),
+        (next(11), stands(11, 0x80F0, &[CALLER])),
+        (next(12), stands(12, 0x80F0, &[CALLER])),
+        (next(5), stands(5, 0x80F0, &[CALLER])),
+    ];
+    expect_run(&rt, alloc, &e, ENTRY, called(alloc, 0)?, first, &replaced)?;
+    let original = [next(1), next(2), next(3), next(4), next(5)];
+    expect_no_step(&rt, alloc, &e, called(alloc, 0)?, &original, &next(6))?;
+    let replaced = [next(1), next(10), next(11), next(12), next(5)];
+    expect_no_step(&rt, alloc, &e, called(alloc, 0)?, &replaced, &next(6))
+}
+
+/// 48 83 EC 08 FF D0 48 83 C4 08 FF E0 E9 00 00 00 00: f calls anywhere, and jumps anywhere; g at 12 jumps to
+/// code outside, which returns for it.
+#[test]
+fn calls_and_jumps_anywhere(rt: HostRuntime) -> Result<(), Fail> {
+    let alloc = rt.alloc();
+    let jmp = Op::Jmp { rel: 0, wide: true };
+    let lines = [
+        insn(0, 4, Op::AddSp { by: -8 }),
+        insn(4, 2, Op::CallInd).role(Role::CallAny),
+        insn(6, 4, Op::AddSp { by: 8 }),
+        insn(10, 2, Op::JmpInd { table: None }).role(Role::JumpAny),
+        insn(12, 5, jmp).of(1).role(Role::JumpOut { sym: 7 }),
+    ];
+    let e = checked(alloc, program(alloc, &lines, &[0, 4], &[])?)?;
+    expect_accepted(&rt, alloc, &e)?;
+    let states = [
+        Some(plain(8)),
+        Some(plain(16)),
+        Some(plain(16)),
+        Some(plain(8)),
+        Some(plain(8)),
+    ];
+    expect_states(&rt, &e, &states);
+    let inner = [frame(0x1006, 0x80F0, RBP), CALLER];
+    let stores = [Store {
+        at: 0x80E8,
+        byte: 0x77,
+    }];
+    let first = stands(0, 0x80F8, &[CALLER]);
+    let returned = Choice::Returns {
+        to: 2,
+        stores: &stores,
+    };
+    let inside = [
+        (next(1), stands(1, 0x80F0, &[CALLER])),
+        (call(4), stands(4, 0x80E8, &inner)),
+        (returned, stands(2, 0x80F0, &[CALLER])),
+        (next(3), stands(3, 0x80F8, &[CALLER])),
+        (Choice::TailCalls { to: 4 }, stands(4, 0x80F8, &[CALLER])),
+    ];
+    expect_run(&rt, alloc, &e, ENTRY, called(alloc, 0)?, first, &inside)?;
+    let out = Choice::CallsOut {
+        to: 2,
+        stores: &stores,
+    };
+    let outside = [
+        (next(1), stands(1, 0x80F0, &[CALLER])),
+        (out, stands(2, 0x80F0, &[CALLER])),
+        (next(3), stands(3, 0x80F8, &[CALLER])),
+        (Choice::TailCalls { to: 0 }, stands(0, 0x80F8, &[CALLER])),
+    ];
+    expect_run(&rt, alloc, &e, ENTRY, called(alloc, 0)?, first, &outside)
+}
+
+/// 90 58 C3: code of no function, at which a hint tells that a word was pushed in a call frame.
+#[test]
+fn a_call_frame_by_a_hint(rt: HostRuntime) -> Result<(), Fail> {
+    let alloc = rt.alloc();
+    let lines = [
+        insn(0, 1, Op::Nop)
+            .of_none()
+            .hint(HintState::Set(plain(16))),
+        insn(1, 1, Op::Pop).of_none(),
+        insn(2, 1, Op::Ret).of_none(),
+    ];
+    let e = checked(alloc, program(alloc, &lines, &[], &[])?)?;
+    expect_accepted(&rt, alloc, &e)?;
+    let mut t = called(alloc, 0)?;
+    t.core.rsp = 0x80F0;
+    let steps = [
+        (next(1), stands(1, 0x80F0, &[CALLER])),
+        (next(2), stands(2, 0x80F8, &[CALLER])),
+    ];
+    let first = stands(0, 0x80F0, &[CALLER]);
+    expect_run(&rt, alloc, &e, Start::AtCallHint, t, first, &steps)?;
+    // Where rsp isn't what the hint says, the run doesn't start.
+    let t = called(alloc, 0)?;
+    let s = started(alloc, &e.program, &e.placement, Start::AtCallHint, t)?;
+    assert!(rt; s.is_none(), "a start at a false hint");
+    Ok(())
 }
