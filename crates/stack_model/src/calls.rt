@@ -1,5 +1,6 @@
 //! Calls.
 
+use crate::address::down;
 use crate::effect::store_ordinarily;
 use crate::frame::Frame;
 use crate::placement::return_address;
@@ -36,7 +37,6 @@ fn call_frame(s: &Standing, ra: u64) -> Frame {
 
 /// It calls an entry of the program: its return address is pushed, and a frame is made.
 pub fn calls_in(
-    alloc: Global,
     p: &Program,
     placement: &[Range],
     s: Standing,
@@ -47,7 +47,7 @@ pub fn calls_in(
         Some(point) => point.role,
         None => return Ok(None),
     };
-    if !may_call(p, role, entry) || !p.enters(alloc, entry, at)? {
+    if !may_call(p, role, entry) || !p.enters(entry, at) {
         return Ok(None);
     }
     let Some(ra) = return_address(p, placement, s.point) else {
@@ -55,7 +55,7 @@ pub fn calls_in(
     };
     let mut s = s;
     let frame = call_frame(&s, ra);
-    let rsp = s.core.rsp.wrapping_sub(8);
+    let rsp = down(s.core.rsp, 8);
     s.core.shadow.insert(0, frame)?;
     s.core.rsp = rsp;
     s.core.region.write_word(rsp, ra);

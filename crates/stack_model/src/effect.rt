@@ -1,5 +1,6 @@
 //! What an operation does to registers, memory and slots.
 
+use crate::address::{down, shifted, up};
 use crate::choice::Anything;
 use crate::frame::Frame;
 use crate::region::Store;
@@ -26,7 +27,7 @@ pub fn store_ordinarily(
 
 /// A word other than rbp is pushed.
 fn push(core: &mut Core, word: u64) {
-    core.rsp = core.rsp.wrapping_sub(8);
+    core.rsp = down(core.rsp, 8);
     core.region.write_word(core.rsp, word);
 }
 
@@ -49,7 +50,7 @@ fn saves(core: &Core, at: i64, frame: &Frame) -> bool {
 /// rbp is stored at rsp + at: into its slot, or as an ordinary store.
 fn store_bp(alloc: Global, core: Core, at: i64) -> Result<Option<Core>, AllocError> {
     let mut core = core;
-    let address = core.rsp.wrapping_add_signed(at);
+    let address = shifted(core.rsp, at);
     let rbp = core.rbp;
     if core.shadow.first().is_some_and(|top| saves(&core, at, top)) {
         core.region.write_word(address, rbp);
@@ -58,7 +59,7 @@ fn store_bp(alloc: Global, core: Core, at: i64) -> Result<Option<Core>, AllocErr
     }
     let mut stores = Vec::new(alloc);
     for (i, byte) in rbp.to_le_bytes().iter().enumerate() {
-        let at = address.wrapping_add(i as u64);
+        let at = up(address, i as u64);
         stores.push(Store { at, byte: *byte })?;
     }
     store_ordinarily(alloc, core, stores.as_slice())
@@ -68,7 +69,7 @@ fn store_bp(alloc: Global, core: Core, at: i64) -> Result<Option<Core>, AllocErr
 fn pop_into_bp(core: &mut Core, any: u64) {
     let address = core.rsp;
     core.rbp = core.region.read(address, any);
-    core.rsp = address.wrapping_add(8);
+    core.rsp = up(address, 8);
     pop_bp(core.shadow.as_mut_slice(), address);
 }
 
@@ -84,23 +85,23 @@ fn effect_on_registers(op: Op, core: &mut Core, any: &Anything<'_>) {
     match op {
         Op::Push => push(core, any.word),
         Op::PushBp => push_bp(core),
-        Op::Pop => core.rsp = core.rsp.wrapping_add(8),
+        Op::Pop => core.rsp = up(core.rsp, 8),
         Op::PopBp => pop_into_bp(core, any.word),
         Op::Popf => {
-            core.rsp = core.rsp.wrapping_add(8);
+            core.rsp = up(core.rsp, 8);
             core.ac = any.ac;
         }
-        Op::AddSp { by } => core.rsp = core.rsp.wrapping_add_signed(by),
+        Op::AddSp { by } => core.rsp = shifted(core.rsp, by),
         Op::AndSp { mask } => core.rsp &= mask.cast_unsigned(),
-        Op::LeaSpBp { by } => core.rsp = core.rbp.wrapping_add_signed(by),
-        Op::LeaBpSp { by } => core.rbp = core.rsp.wrapping_add_signed(by),
+        Op::LeaSpBp { by } => core.rsp = shifted(core.rbp, by),
+        Op::LeaBpSp { by } => core.rbp = shifted(core.rsp, by),
         Op::LoadBp { at } => {
-            let address = core.rsp.wrapping_add_signed(at);
+            let address = shifted(core.rsp, at);
             load_into_bp(core, address, any.word);
         }
         Op::Leave => {
             let address = core.rbp;
-            core.rsp = address.wrapping_add(8);
+            core.rsp = up(address, 8);
             load_into_bp(core, address, any.word);
         }
         Op::SpOther => {

@@ -1,3 +1,6 @@
+ghost use Rattle.std.specs.Prelude.{◌≡◌};
+
+use crate::address::{down, up};
 use crate::slot::Slot;
 use machine_ops::EndKind;
 use std::alloc::{AllocError, Global};
@@ -48,24 +51,30 @@ pub struct Protected {
     pub value: u64,
 }
 
-fn word(at: u64, value: u64) -> Protected {
+fn word(at: u64, value: u64) -> Protected
+    ensures { result ≡ record { at = at; value = value } }
+{
     Protected { at, value }
 }
 
 impl Frame {
+    ghost use Rattle.std.specs.Prelude.{◌≡◌, IfOk};
+    ghost use Rattle.machine_ops.specs.Frame.{protected};
+    ghost use Rattle.stack_model.specs.Frame.{frame_of, words_of};
+
     /// The protected slots of the frame, by its kind.
-    pub fn protected(&self, alloc: Global) -> Result<Vec<Protected>, AllocError> {
-        let ra = word(self.cfa.wrapping_sub(8), self.ra);
+    pub fn protected(&self, alloc: Global) -> Result<Vec<Protected>, AllocError>
+        ensures { IfOk result (λ words. words_of words.items ≡ protected (frame_of self.now)) }
+    {
+        let ra = word(down(self.cfa, 8), self.ra);
         Ok(match self.slot {
             Slot::Unsaved => vec![in alloc; ra]?,
             Slot::SavedAt(a) => vec![in alloc; ra, word(a, self.bp)]?,
-            Slot::PartialAt(a) => {
-                vec![in alloc; word(a, self.ra), word(a.wrapping_add(24), self.cfa)]?
-            }
+            Slot::PartialAt(a) => { vec![in alloc; word(a, self.ra), word(up(a, 24), self.cfa)]? }
             Slot::FullAt(a) => vec![in alloc;
-                word(a.wrapping_add(32), self.bp),
-                word(a.wrapping_add(128), self.ra),
-                word(a.wrapping_add(152), self.cfa),
+                word(up(a, 32), self.bp),
+                word(up(a, 128), self.ra),
+                word(up(a, 152), self.cfa),
             ]?,
         })
     }

@@ -81,30 +81,19 @@ pub fn faults(
     }))
 }
 
-/// Whether the point is where an indirect jump may go: where control that comes to an entry stands.
-fn jumps_to(alloc: Global, p: &Program, q: u32, to: u32) -> Result<bool, AllocError> {
+/// Whether the point is where a jump to another function of the program may go.
+fn jumps_to(p: &Program, q: u32, to: u32) -> bool {
     let kind = EdgeKind::Sibling;
-    if has_edge(p, q, Edge { to, kind }) {
-        return Ok(true);
-    }
-    if p.point(q).is_some_and(|point| point.role == Role::JumpAny) {
-        p.is_entry_point(alloc, to)
-    } else {
-        Ok(false)
-    }
+    has_edge(p, q, Edge { to, kind })
+        || (p.point(q).is_some_and(|point| point.role == Role::JumpAny) && p.is_entry_point(to))
 }
 
 /// It jumps to the entry of another function.
-pub fn tail_calls(
-    alloc: Global,
-    p: &Program,
-    s: Standing,
-    to: u32,
-) -> Result<Option<Standing>, AllocError> {
-    if !jumps_to(alloc, p, s.point, to)? {
-        return Ok(None);
+pub fn tail_calls(p: &Program, s: Standing, to: u32) -> Option<Standing> {
+    if !jumps_to(p, s.point, to) {
+        return None;
     }
     let mut s = s;
     s.point = to;
-    Ok(Some(s))
+    Some(s)
 }

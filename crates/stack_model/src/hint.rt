@@ -1,5 +1,6 @@
 //! Unwind hints: when they are true, and what they do.
 
+use crate::address::shifted;
 use crate::frame::Frame;
 use crate::means::means_top;
 use crate::program::Program;
@@ -46,7 +47,7 @@ fn sets_state(alloc: Global, state: State, s: Standing) -> Result<Option<Standin
             if !is_in_interrupt(s.core.shadow.as_slice()) {
                 return Ok(None);
             }
-            let at = s.core.rsp.wrapping_add_signed(depth);
+            let at = shifted(s.core.rsp, depth);
             let slot = if full {
                 Slot::FullAt(at)
             } else {

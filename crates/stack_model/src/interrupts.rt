@@ -1,5 +1,6 @@
 //! Interrupts, and returns from them.
 
+use crate::address::{down, up};
 use crate::choice::InterruptWords;
 use crate::frame::Frame;
 use crate::placement::point_address;
@@ -40,7 +41,7 @@ fn gate_bytes(p: &Program, gate: u32) -> Option<u64> {
 
 /// Where the processor puts the five words: right below rsp, rounded down to a multiple of 16.
 fn interrupt_slot(rsp: u64) -> u64 {
-    (rsp - rsp % 16).wrapping_sub(40)
+    down(rsp - rsp % 16, 40)
 }
 
 /// The frame that an interrupt makes, at this address of the interrupted instruction.
@@ -63,13 +64,12 @@ fn push_words(core: &mut Core, ra: u64, n: u64, words: &InterruptWords) {
     let rsp = core.rsp;
     let pushed = [ra, words.cs, words.flags, rsp, words.ss];
     if n == 8 {
-        core.region.write_word(slot.wrapping_sub(8), words.error);
+        core.region.write_word(down(slot, 8), words.error);
     }
     for (i, word) in pushed.iter().enumerate() {
-        core.region
-            .write_word(slot.wrapping_add(8 * i as u64), *word);
+        core.region.write_word(up(slot, 8 * i as u64), *word);
     }
-    core.rsp = slot.wrapping_sub(n);
+    core.rsp = down(slot, n);
 }
 
 /// An interrupt comes, at any point.
@@ -100,7 +100,7 @@ pub fn is_interrupted(
 fn is_at_iret(core: &Core, frame: &Frame) -> bool {
     !frame.slot.is_of_call()
         && core.region.may_read(core.rsp, frame.ra)
-        && core.region.may_read(core.rsp.wrapping_add(24), frame.cfa)
+        && core.region.may_read(up(core.rsp, 24), frame.cfa)
         && core.rbp == frame.bp
 }
 
@@ -109,7 +109,7 @@ pub fn misses_iret(core: &Core) -> bool {
     let Some(frame) = core.shadow.first() else {
         return true;
     };
-    let sp = core.rsp.wrapping_add(24);
+    let sp = up(core.rsp, 24);
     frame.slot.is_of_call()
         || core.region.may_read_another(core.rsp, frame.ra)
         || core.region.may_read_another(sp, frame.cfa)

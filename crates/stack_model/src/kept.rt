@@ -25,19 +25,14 @@ fn brought_along(state: State, op: Op, kind: EdgeKind) -> Option<State> {
 }
 
 /// Level 0: the state that a hint sets, else the initial one at entries. A RESTORE isn't on it.
-fn first_state(
-    alloc: Global,
-    p: &Program,
-    q: u32,
-    point: &Point,
-) -> Result<Option<State>, AllocError> {
+fn first_state(p: &Program, q: u32, point: &Point) -> Option<State> {
     if point.is_unchecked {
-        return Ok(None);
+        return None;
     }
     match point.hint {
-        Some(HintState::Set(state)) => Ok(Some(state)),
-        Some(HintState::Restore) => Ok(None),
-        Some(HintState::Save) | None => { Ok(p.is_entry_point(alloc, q)?.then_some(initial())) }
+        Some(HintState::Set(state)) => Some(state),
+        Some(HintState::Restore) => None,
+        Some(HintState::Save) | None => { p.is_entry_point(q).then_some(initial()) }
     }
 }
 
@@ -46,7 +41,7 @@ impl Kept {
     fn first(alloc: Global, p: &Program) -> Result<Kept, AllocError> {
         let mut states = Vec::new(alloc);
         for (q, point) in (0u32..).zip(&p.points) {
-            states.push(first_state(alloc, p, q, point)?)?;
+            states.push(first_state(p, q, point))?;
         }
         Ok(Kept {
             may_return: may_return(alloc, p)?,
@@ -77,7 +72,7 @@ impl Kept {
         p: &Program,
         point: &Point,
     ) -> Result<Vec<Edge>, AllocError> {
-        let comes_back = target_may_return(alloc, p, self.may_return.as_slice(), point.role)?;
+        let comes_back = target_may_return(p, self.may_return.as_slice(), point.role);
         let mut edges = Vec::new(alloc);
         for edge in &point.goes {
             if comes_back || edge.kind != EdgeKind::Next {

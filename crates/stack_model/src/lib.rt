@@ -3,6 +3,7 @@
 //! they mean.
 #![tactic(auto)]
 
+mod address;
 mod calls;
 mod choice;
 mod effect;

@@ -20,23 +20,22 @@ fn is_in(set: &[bool], q: u32) -> bool {
 }
 
 /// Whether one of the points where control that comes to an entry may stand is in the set.
-fn enters_set(alloc: Global, p: &Program, set: &[bool], entry: u32) -> Result<bool, AllocError> {
-    let first = p.entry_points(alloc, entry)?;
-    Ok(first.iter().any(|q| is_in(set, *q)))
+fn enters_set(p: &Program, set: &[bool], entry: u32) -> bool {
+    for q in 0..p.count() {
+        if is_in(set, q) && p.enters(entry, q) {
+            return true;
+        }
+    }
+    false
 }
 
 /// Whether the target of a call that isn't a dead end may return.
-fn target_returns(
-    alloc: Global,
-    p: &Program,
-    set: &[bool],
-    role: Role,
-) -> Result<bool, AllocError> {
+fn target_returns(p: &Program, set: &[bool], role: Role) -> bool {
     match role {
-        Role::CallIn { entry } => enters_set(alloc, p, set, entry),
-        Role::CallOut { sym } => Ok(!p.never_returns(sym)),
-        Role::CallEither { .. } | Role::CallAny => Ok(true),
-        _ => Ok(false),
+        Role::CallIn { entry } => enters_set(p, set, entry),
+        Role::CallOut { sym } => !p.never_returns(sym),
+        Role::CallEither { .. } | Role::CallAny => true,
+        _ => false,
     }
 }
 
@@ -50,28 +49,28 @@ fn leaves(p: &Program, role: Role) -> bool {
 }
 
 /// Whether a point belongs to the set because of those that are in it.
-fn joins(alloc: Global, p: &Program, set: &[bool], point: &Point) -> Result<bool, AllocError> {
+fn joins(p: &Program, set: &[bool], point: &Point) -> bool {
     if leaves(p, point.role) {
-        return Ok(true);
+        return true;
     }
     let is_call = is_call(point.role);
     let mut comes_back = false;
     for edge in &point.goes {
         if is_in(set, edge.to) {
             if !is_call || edge.kind != EdgeKind::Next {
-                return Ok(true);
+                return true;
             }
             comes_back = true;
         }
     }
-    Ok(comes_back && !point.is_dead_end && target_returns(alloc, p, set, point.role)?)
+    comes_back && !point.is_dead_end && target_returns(p, set, point.role)
 }
 
 /// The set after another round.
 fn another_round(alloc: Global, p: &Program, set: &[bool]) -> Result<Vec<bool>, AllocError> {
     let mut next = Vec::new(alloc);
     for (point, is_member) in p.points.iter().zip(set) {
-        next.push(*is_member || joins(alloc, p, set, point)?)?;
+        next.push(*is_member || joins(p, set, point))?;
     }
     Ok(next)
 }
@@ -87,15 +86,10 @@ pub fn may_return(alloc: Global, p: &Program) -> Result<Vec<bool>, AllocError> {
 }
 
 /// Whether the target of a call may return; what isn't a call passes.
-pub fn target_may_return(
-    alloc: Global,
-    p: &Program,
-    set: &[bool],
-    role: Role,
-) -> Result<bool, AllocError> {
+pub fn target_may_return(p: &Program, set: &[bool], role: Role) -> bool {
     match role {
-        Role::CallIn { entry } => enters_set(alloc, p, set, entry),
-        Role::CallOut { sym } => Ok(!p.never_returns(sym)),
-        _ => Ok(true),
+        Role::CallIn { entry } => enters_set(p, set, entry),
+        Role::CallOut { sym } => !p.never_returns(sym),
+        _ => true,
     }
 }

@@ -175,7 +175,8 @@ fn operation_warnings(
         warnings.push(warning(point.place, rule, 0, 0))?;
     }
     if let Some(offset) = StateRow::of(state).unfit_offset() {
-        warnings.push(warning(point.place, 10, offset, 0))?;
+        let a = i64::try_from(offset).unwrap_or(i64::MAX);
+        warnings.push(warning(point.place, 10, a, 0))?;
     }
     let is_unallowed = match point.insn.op {
         Op::Switch => switch_is_unallowed(state),

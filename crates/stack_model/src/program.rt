@@ -1,6 +1,5 @@
 use machine_ops::{Edge, HintState, Insn, Marks, Role};
 use ot_base::Place;
-use std::alloc::{AllocError, Global};
 
 /// A section of code.
 #[derive(Clone, Copy)]
@@ -109,42 +108,27 @@ impl Program {
         None
     }
 
-    /// The points where control that comes to a place may stand: at the start of a site the first of
-    /// the original code and of each replacement, elsewhere the plain point.
-    pub fn arrive(&self, alloc: Global, place: Place) -> Result<Vec<u32>, AllocError> {
+    /// Whether control that comes to a place may stand at a point: at the start of a site at the first of
+    /// the original code and of each replacement, elsewhere at the plain point.
+    pub fn arrives(&self, place: Place, q: u32) -> bool {
         let starts_site = self.sites.iter().any(|site| site.start == place);
-        let mut points = Vec::new(alloc);
-        for q in 0..self.count() {
-            if let Some(point) = self.point(q) {
-                if point.address == place && (point.variant == 0 || starts_site) {
-                    points.push(q)?;
-                }
-            }
+        match self.point(q) {
+            Some(point) => point.address == place && (point.variant == 0 || starts_site),
+            None => false,
         }
-        Ok(points)
     }
 
-    /// The points where control that comes to an entry may stand.
-    pub fn entry_points(&self, alloc: Global, entry: u32) -> Result<Vec<u32>, AllocError> {
+    /// Whether control that comes to an entry may stand at a point.
+    pub fn enters(&self, entry: u32, q: u32) -> bool {
         match self.point(entry) {
-            Some(point) => self.arrive(alloc, point.place),
-            None => Ok(Vec::new(alloc)),
+            Some(point) => self.arrives(point.place, q),
+            None => false,
         }
-    }
-
-    /// Whether control that comes to an entry may stand at the point.
-    pub fn enters(&self, alloc: Global, entry: u32, q: u32) -> Result<bool, AllocError> {
-        Ok(self.entry_points(alloc, entry)?.contains(&q))
     }
 
     /// Whether control that comes to some entry may stand at the point.
-    pub fn is_entry_point(&self, alloc: Global, q: u32) -> Result<bool, AllocError> {
-        for entry in &self.entries {
-            if self.enters(alloc, *entry, q)? {
-                return Ok(true);
-            }
-        }
-        Ok(false)
+    pub fn is_entry_point(&self, q: u32) -> bool {
+        self.entries.iter().any(|entry| self.enters(*entry, q))
     }
 
     /// Whether a symbol is known never to return.

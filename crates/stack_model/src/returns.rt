@@ -1,5 +1,6 @@
 //! Returns.
 
+use crate::address::{down, up};
 use crate::frame::Frame;
 use crate::program::Program;
 use crate::region::{Region, Store};
@@ -21,7 +22,7 @@ pub fn may_leave(p: &Program, role: Role) -> bool {
 fn is_at_return(core: &Core, frame: &Frame) -> bool {
     frame.slot.is_of_call()
         && core.region.may_read(core.rsp, frame.ra)
-        && core.rsp == frame.cfa.wrapping_sub(8)
+        && core.rsp == down(frame.cfa, 8)
         && core.rbp == frame.bp
 }
 
@@ -32,7 +33,7 @@ pub fn misses_return(core: &Core) -> bool {
     };
     !frame.slot.is_of_call()
         || core.region.may_read_another(core.rsp, frame.ra)
-        || core.rsp != frame.cfa.wrapping_sub(8)
+        || core.rsp != down(frame.cfa, 8)
         || core.rbp != frame.bp
 }
 
@@ -85,7 +86,7 @@ pub fn returns(
         return Ok(None);
     };
     s.core.region = region;
-    s.core.rsp = s.core.rsp.wrapping_add(8);
+    s.core.rsp = up(s.core.rsp, 8);
     s.point = to;
     s.ended = frame.ended_caller;
     s.mark = frame.mark_caller;

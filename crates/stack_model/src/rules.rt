@@ -10,18 +10,13 @@ use std::alloc::{AllocError, Global};
 
 /// The warnings of rule 18 at entries: control that comes to one stands at a RESTORE that has no state
 /// to restore.
-fn entry_warnings(
-    warnings: &mut Vec<Warning>,
-    alloc: Global,
-    p: &Program,
-    kept: &Kept,
-) -> Result<(), AllocError> {
+fn entry_warnings(warnings: &mut Vec<Warning>, p: &Program, kept: &Kept) -> Result<(), AllocError> {
     for q in 0..p.count() {
         let Some(point) = p.point(q) else {
             continue;
         };
         let is_empty_restore = point.hint == Some(HintState::Restore) && kept.state(q).is_none();
-        if is_empty_restore && p.is_entry_point(alloc, q)? {
+        if is_empty_restore && p.is_entry_point(q) {
             warnings.push(warning(point.place, 18, 0, 0))?;
         }
     }
@@ -40,6 +35,6 @@ pub fn warnings(alloc: Global, p: &Program, kept: &Kept) -> Result<Vec<Warning>,
     for place in &p.without_size {
         warnings.push(warning(*place, 17, 0, 0))?;
     }
-    entry_warnings(&mut warnings, alloc, p, kept)?;
+    entry_warnings(&mut warnings, p, kept)?;
     Ok(warnings)
 }

@@ -1,5 +1,6 @@
 //! Runs: a start, then steps in which rsp stays in the stack.
 
+use crate::address::{down, up};
 use crate::choice::Choice;
 use crate::frame::Frame;
 use crate::hint::lands;
@@ -39,8 +40,8 @@ fn outermost(core: &Core) -> Option<Frame> {
 fn called_from(placement: &[Range], core: &Core) -> Option<Frame> {
     let frame = outermost(core)?;
     let was_called = frame.slot == crate::slot::Slot::Unsaved
-        && !is_inside(placement, frame.ra.wrapping_sub(1))
-        && core.region.may_read(frame.cfa.wrapping_sub(8), frame.ra);
+        && !is_inside(placement, down(frame.ra, 1))
+        && core.region.may_read(down(frame.cfa, 8), frame.ra);
     was_called.then_some(frame)
 }
 
@@ -58,23 +59,17 @@ fn may_start(p: &Program, point: &Point) -> bool {
 }
 
 /// Whether this kind of start is possible where the machine stands, before the hint there.
-fn is_start(
-    alloc: Global,
-    p: &Program,
-    placement: &[Range],
-    start: Start,
-    t: &Standing,
-) -> Result<bool, AllocError> {
+fn is_start(p: &Program, placement: &[Range], start: Start, t: &Standing) -> bool {
     let Some(point) = p.point(t.point) else {
-        return Ok(false);
+        return false;
     };
     let is_hint_start = may_start(p, point);
-    Ok(match (start, point.hint) {
+    match (start, point.hint) {
         (Start::AtEntry { entry }, _) => {
             p.entries.contains(&entry)
-                && p.enters(alloc, entry, t.point)?
+                && p.enters(entry, t.point)
                 && called_from(placement, &t.core).is_some_and(|frame| {
-                    frame.cfa == t.core.rsp.wrapping_add(8) && frame.bp == t.core.rbp
+                    frame.cfa == up(t.core.rsp, 8) && frame.bp == t.core.rbp
                 })
         }
         (Start::AtCallHint, Some(HintState::Set(State::Live { .. }))) => {
@@ -87,7 +82,7 @@ fn is_start(
             is_hint_start && t.core.shadow.is_empty()
         }
         _ => false,
-    })
+    }
 }
 
 /// The start: what the hint where the machine stands makes of that, where nothing has ended the stack;
@@ -99,7 +94,7 @@ pub fn started(
     start: Start,
     t: Standing,
 ) -> Result<Option<Standing>, AllocError> {
-    if t.ended.is_some() || t.mark.is_some() || !is_start(alloc, p, placement, start, &t)? {
+    if t.ended.is_some() || t.mark.is_some() || !is_start(p, placement, start, &t) {
         return Ok(None);
     }
     let Some(mut s) = lands(alloc, p, t)? else {

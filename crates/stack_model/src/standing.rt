@@ -4,6 +4,9 @@ use crate::shadow::{are_kept, end_of, listed, protected_addresses, top_slot};
 use machine_ops::EndKind;
 use std::alloc::{AllocError, Global};
 
+/// Every stack ends below this address, a gigabyte below the last.
+const END_OF_STACKS: u128 = (1 << 64) - (1 << 30);
+
 /// What an operation acts on: the registers that matter to the stack, the stack in memory, and the
 /// shadow call stack.
 #[derive(Clone, Drop)]
@@ -19,16 +22,29 @@ pub struct Core {
 }
 
 impl Core {
+    ghost use Rattle.std.specs.Prelude.{◌≡◌, IfOk, IsTrue};
+    ghost use Rattle.machine_ops.specs.Frame.{protected_addresses};
+    ghost use Rattle.machine_ops.specs.Effect.{IsInStack};
+    ghost use Rattle.stack_model.specs.Frame.{frames_of};
+    ghost use Rattle.stack_model.specs.Standing.{core_of};
+
     /// The addresses of the words that ordinary stores spare.
-    pub fn spared(&self, alloc: Global) -> Result<Vec<u64>, AllocError> {
+    pub fn spared(&self, alloc: Global) -> Result<Vec<u64>, AllocError>
+        ensures { IfOk result (λ spared. spared.items ≡ protected_addresses (frames_of self.now.shadow.items)) }
+    {
         protected_addresses(alloc, self.shadow.as_slice())
     }
 
     /// Whether the region stays clear of the end of the addresses by a gigabyte, and rsp is in it or
     /// right behind it.
-    pub fn is_in_stack(&self) -> bool {
+    pub fn is_in_stack(&self) -> bool
+        ensures { IsTrue result → IsInStack (core_of self.now) }
+    {
         let end = self.region.end();
-        end < (1 << 64) - (1 << 30) && self.region.lo <= self.rsp && u128::from(self.rsp) <= end
+        if end >= END_OF_STACKS || self.rsp < self.region.lo {
+            return false;
+        }
+        u128::from(self.rsp) <= end
     }
 }
 
@@ -46,23 +62,38 @@ pub struct Standing {
 }
 
 impl Standing {
+    ghost use Rattle.std.specs.Prelude.{◌≡◌, IfOk, IsTrue};
+    ghost use Rattle.machine_ops.specs.Frame.{listed};
+    ghost use Rattle.stack_machine.specs.Machine.{frames_end};
+    ghost use Rattle.stack_machine.specs.Hint.{KeepsSlots, mark_at};
+    ghost use Rattle.stack_model.specs.Frame.{frames_of, mark_of};
+    ghost use Rattle.stack_model.specs.Standing.{standing_of};
+
     /// The frames that a walk is to find.
-    pub fn frames(&self) -> &[Frame] {
+    pub fn frames(&self) -> &[Frame]
+        ensures { frames_of result.now ≡ listed self.now.ended (frames_of self.now.core.shadow.items) }
+    {
         listed(self.ended, self.core.shadow.as_slice())
     }
 
     /// The kind of hint that emptied or cut them, if one did.
-    pub fn frames_end(&self) -> Option<EndKind> {
+    pub fn frames_end(&self) -> Option<EndKind>
+        ensures { result ≡ frames_end (standing_of self.now) }
+    {
         end_of(self.ended, self.core.shadow.as_slice())
     }
 
     /// Whether the frames that a walk is to find keep their protected slots.
-    pub fn keeps_slots(&self, alloc: Global) -> Result<bool, AllocError> {
+    pub fn keeps_slots(&self, alloc: Global) -> Result<bool, AllocError>
+        ensures { IfOk result (λ keeps. IsTrue keeps → KeepsSlots (standing_of self.now)) }
+    {
         are_kept(alloc, self.core.rsp, &self.core.region, self.frames())
     }
 
     /// What rsp, rbp, the top frame's slot and the end of the stack are here.
-    pub fn mark_here(&self) -> Mark {
+    pub fn mark_here(&self) -> Mark
+        ensures { mark_of result ≡ mark_at (standing_of self.now) }
+    {
         Mark {
             point: self.point,
             rsp: self.core.rsp,

@@ -23,10 +23,10 @@ fn before_hint(
     match choice {
         Choice::GoesOn { edge, any } => goes_on(alloc, p, s, *edge, any),
         Choice::Faults { to, stores } => faults(alloc, p, s, *to, stores),
-        Choice::CallsIn { entry, at } => calls_in(alloc, p, placement, s, *entry, *at),
+        Choice::CallsIn { entry, at } => calls_in(p, placement, s, *entry, *at),
         Choice::CallsOut { to, stores } => calls_out(alloc, p, s, *to, stores),
         Choice::Returns { to, stores } => returns(alloc, p, s, *to, stores),
-        Choice::TailCalls { to } => tail_calls(alloc, p, s, *to),
+        Choice::TailCalls { to } => Ok(tail_calls(p, s, *to)),
         Choice::IsInterrupted { gate, words } => is_interrupted(p, placement, s, *gate, words),
         Choice::Wrecks(_) | Choice::ReturnsFromInterrupt => Ok(None),
     }

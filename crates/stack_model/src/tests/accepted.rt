@@ -3,12 +3,14 @@
 
 use super::builder::{insn, program, site};
 use super::expect::{
-    ANYTHING, CALLER, OUTSIDE, RBP, back, call, called, checked, expect_accepted, expect_no_step,
-    expect_run, expect_states, frame, framed, go, live, next, plain, standing, stands,
+    ANYTHING, CALLER, Example, OUTSIDE, RBP, back, call, called, checked, expect_accepted,
+    expect_no_step, expect_run, expect_states, frame, framed, go, live, next, plain, standing,
+    stands,
 };
 use crate::{Anything, Choice, Start, Store, started};
 use machine_ops::{BpHome, Edge, EdgeKind, EndKind, HintState, Op, Role, State};
 use orc_walk::Stop;
+use std::alloc::{AllocError, Global};
 use std::test::Fail;
 
 /// At the entry at point 0.
@@ -497,9 +499,7 @@ fn a_restore_is_strict(rt: HostRuntime) -> Result<(), Fail> {
 
 /// 48 83 EC 08 FF D0 48 83 C4 08 FF E0 E9 00 00 00 00: f calls anywhere, and jumps anywhere; g at 12 jumps to
 /// code outside, which returns for it.
-#[test]
-fn calls_and_jumps_anywhere(rt: HostRuntime) -> Result<(), Fail> {
-    let alloc = rt.alloc();
+fn calls_anywhere(alloc: Global) -> Result<Example, AllocError> {
     let jmp = Op::Jmp { rel: 0, wide: true };
     let lines = [
         insn(0, 4, Op::AddSp { by: -8 }),
@@ -508,7 +508,19 @@ fn calls_and_jumps_anywhere(rt: HostRuntime) -> Result<(), Fail> {
         insn(10, 2, Op::JmpInd { table: None }).role(Role::JumpAny),
         insn(12, 5, jmp).of(1).role(Role::JumpOut { sym: 7 }),
     ];
-    let e = checked(alloc, program(alloc, &lines, &[0, 4], &[])?)?;
+    checked(alloc, program(alloc, &lines, &[0, 4], &[])?)
+}
+
+/// A byte below the frames.
+const BELOW: Store = Store {
+    at: 0x80E8,
+    byte: 0x77,
+};
+
+#[test]
+fn calls_and_jumps_inside(rt: HostRuntime) -> Result<(), Fail> {
+    let alloc = rt.alloc();
+    let e = calls_anywhere(alloc)?;
     expect_accepted(&rt, alloc, &e)?;
     let states = [
         Some(plain(8)),
@@ -519,34 +531,39 @@ fn calls_and_jumps_anywhere(rt: HostRuntime) -> Result<(), Fail> {
     ];
     expect_states(&rt, &e, &states);
     let inner = [frame(0x1006, 0x80F0, RBP), CALLER];
-    let stores = [Store {
-        at: 0x80E8,
-        byte: 0x77,
-    }];
-    let first = stands(0, 0x80F8, &[CALLER]);
+    let stores = [BELOW];
     let returned = Choice::Returns {
         to: 2,
         stores: &stores,
     };
-    let inside = [
+    let first = stands(0, 0x80F8, &[CALLER]);
+    let steps = [
         (next(1), stands(1, 0x80F0, &[CALLER])),
         (call(4), stands(4, 0x80E8, &inner)),
         (returned, stands(2, 0x80F0, &[CALLER])),
         (next(3), stands(3, 0x80F8, &[CALLER])),
         (Choice::TailCalls { to: 4 }, stands(4, 0x80F8, &[CALLER])),
     ];
-    expect_run(&rt, alloc, &e, ENTRY, called(alloc, 0)?, first, &inside)?;
+    expect_run(&rt, alloc, &e, ENTRY, called(alloc, 0)?, first, &steps)
+}
+
+#[test]
+fn calls_outside(rt: HostRuntime) -> Result<(), Fail> {
+    let alloc = rt.alloc();
+    let e = calls_anywhere(alloc)?;
+    let stores = [BELOW];
     let out = Choice::CallsOut {
         to: 2,
         stores: &stores,
     };
-    let outside = [
+    let first = stands(0, 0x80F8, &[CALLER]);
+    let steps = [
         (next(1), stands(1, 0x80F0, &[CALLER])),
         (out, stands(2, 0x80F0, &[CALLER])),
         (next(3), stands(3, 0x80F8, &[CALLER])),
         (Choice::TailCalls { to: 0 }, stands(0, 0x80F8, &[CALLER])),
     ];
-    expect_run(&rt, alloc, &e, ENTRY, called(alloc, 0)?, first, &outside)
+    expect_run(&rt, alloc, &e, ENTRY, called(alloc, 0)?, first, &steps)
 }
 
 /// 90 58 C3: code of no function, at which a hint tells that a word was pushed in a call frame.

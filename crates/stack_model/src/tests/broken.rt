@@ -129,9 +129,9 @@ fn ways_out_with_a_modified_stack(rt: HostRuntime) -> Result<(), Fail> {
         Wrong::Wrecked,
     )?;
 
-    let lines = [insn(0, 3, Op::RetImm)];
-    let warnings = [warns(0, 5, 8, 0)];
-    let choices = [Choice::Wrecks(Wreck::DropsBytes)];
+    let lines = [insn(0, 1, Op::Nop), insn(1, 3, Op::RetImm)];
+    let warnings = [warns(1, 5, 8, 0)];
+    let choices = [next(1), Choice::Wrecks(Wreck::DropsBytes)];
     expect_broken(
         &rt,
         alloc,

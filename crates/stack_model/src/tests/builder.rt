@@ -215,6 +215,13 @@ fn point(alloc: Global, lines: &[Line], line: Line) -> Point {
     }
 }
 
+/// The points where control that comes to a place may stand.
+fn arrive(alloc: Global, p: &Program, place: Place) -> Result<Vec<u32>, AllocError> {
+    (0..p.count())
+        .filter(|q| p.arrives(place, *q))
+        .collect(alloc)
+}
+
 /// The points that follow a line: in a replacement its next, else those where control that comes to the
 /// place behind it may stand.
 fn after(alloc: Global, p: &Program, line: Line) -> Result<Vec<u32>, AllocError> {
@@ -231,7 +238,7 @@ fn after(alloc: Global, p: &Program, line: Line) -> Result<Vec<u32>, AllocError>
             }
         }
     }
-    p.arrive(alloc, place)
+    arrive(alloc, p, place)
 }
 
 /// Where control goes from a line.
@@ -245,7 +252,7 @@ fn goes(alloc: Global, p: &Program, line: Line) -> Result<Vec<Edge>, AllocError>
     }
     for branch in line.branches {
         if let Some((off, kind)) = branch {
-            for to in &p.arrive(alloc, Place { sec: 1, off })? {
+            for to in &arrive(alloc, p, Place { sec: 1, off })? {
                 edges.push(Edge { to: *to, kind })?;
             }
         }

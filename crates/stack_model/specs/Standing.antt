@@ -1,0 +1,20 @@
+-- States of the model, as the definitions have them.
+use Rattle.std.specs.Prelude.{option_map}
+use Rattle.machine_ops.specs.Effect.{Core}
+use Rattle.stack_machine.specs.Machine.{Standing, Machine, Wrecked, At}
+use Rattle.stack_model.specs.declared.standing.Core.{Core as OwnCore}
+use Rattle.stack_model.specs.declared.standing.Standing.{Standing as OwnStanding}
+use Rattle.stack_model.specs.declared.standing.Machine.{Machine as OwnMachine}
+use Rattle.stack_model.specs.declared.standing.Machine.TheVariants as own
+use Rattle.stack_model.specs.Frame.{mark_of, frames_of}
+use Rattle.stack_model.specs.Region.{region_of}
+
+abbrev pub core_of : OwnCore → Core
+core_of c = record { rsp = c.rsp; rbp = c.rbp; region = region_of c.region; ac = c.ac; shadow = frames_of c.shadow.items }
+
+abbrev pub standing_of : OwnStanding → Standing
+standing_of s = record { point = s.point; core = core_of s.core; ended = s.ended; mark = option_map mark_of s.mark }
+
+abbrev pub machine_of : OwnMachine → Machine
+machine_of own.Wrecked = Wrecked
+machine_of (own.At s) = At (standing_of s)
