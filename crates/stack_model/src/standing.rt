@@ -22,11 +22,9 @@ pub struct Core {
 }
 
 impl Core {
-    ghost use Rattle.std.specs.Prelude.{◌≡◌, IfOk, IsTrue};
+    ghost use Rattle.std.specs.Prelude.{◌≡◌, IfOk};
     ghost use Rattle.machine_ops.specs.Frame.{protected_addresses};
-    ghost use Rattle.machine_ops.specs.Effect.{IsInStack};
     ghost use Rattle.stack_model.specs.Frame.{frames_of};
-    ghost use Rattle.stack_model.specs.Standing.{core_of};
 
     /// The addresses of the words that ordinary stores spare.
     pub fn spared(&self, alloc: Global) -> Result<Vec<u64>, AllocError>
@@ -37,9 +35,7 @@ impl Core {
 
     /// Whether the region stays clear of the end of the addresses by a gigabyte, and rsp is in it or
     /// right behind it.
-    pub fn is_in_stack(&self) -> bool
-        ensures { IsTrue result → IsInStack (core_of self.now) }
-    {
+    pub fn is_in_stack(&self) -> bool {
         let end = self.region.end();
         if end >= END_OF_STACKS || self.rsp < self.region.lo {
             return false;
