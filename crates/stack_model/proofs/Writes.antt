@@ -1,5 +1,5 @@
 -- Bytes and words that are written to the stack in memory.
-use Rattle.std.proofs.Common.{◌≡◌, ◌≢◌, ◌⊎◌, inl, inr, ℕ, ◌+◌, ◌-◌, ◌*◌, ◌%◌, ◌^◌, ◌<◌, ◌≤◌, Bool, true, false, ◌&&◌, cond, List, [], ◌∷◌, length, get_or, take, drop, arith, lit<, refl, sym, ap, ◌∙◌, subst, length-drop}
+use Rattle.std.proofs.Common.{◌≡◌, ◌≢◌, ◌⊎◌, inl, inr, ℕ, ◌+◌, ◌-◌, ◌^◌, ◌<◌, ◌≤◌, Bool, true, false, ◌&&◌, cond, List, [], ◌∷◌, length, get_or, take, drop, arith, lit<, refl, sym, ap, ◌∙◌, subst, length-drop}
 use Rattle.std.specs.Prelude.{Option, Some, None, IsSome, nat_le, slice_get, slice_index, MatchOption}
 use Rattle.std.proofs.lemmas.List.{ext_get_or, get_or-take, get_or-drop, length-take}
 use Rattle.std.proofs.lemmas.Option.{slice_get-get_or, get_or_from_slice_get}
@@ -7,7 +7,7 @@ use Rattle.std.proofs.lemmas.Bool.{cases_lt, le-leb, leb-true}
 use Rattle.std.proofs.lemmas.Nat.{from_le_bytes-to_le_bytes_8}
 use Rattle.std.specs.Int.{w64, to_le_bytes, from_le_bytes}
 use Rattle.machine_ops.specs.Address.{up}
-use Rattle.machine_ops.specs.Region.{Region, hi_of, byte_at, little_endian, has_word, word_at, Reads, IsBeside, SameAddresses, WritesOnly, WritesWord}
+use Rattle.machine_ops.specs.Region.{Region, hi_of, byte_at, little_endian, has_word, word_at, Reads, IsBeside, SameAddresses, WritesWord}
 use Rattle.stack_model.specs.Region.{WritesBytes}
 
 -- eight addresses in a row are apart

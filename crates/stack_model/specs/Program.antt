@@ -1,6 +1,6 @@
 -- The model's program, as the definitions have it. May-return is a set that stands beside it, with a
 -- flag for each point.
-use Rattle.std.specs.Prelude.{ℕ, Bool, false, true, ◌&&◌, ◌||◌, List, [], ◌∷◌, Option, Some, None, ◌==◌, filter, map, vec_len, slice_get, slice_index_or}
+use Rattle.std.specs.Prelude.{ℕ, Bool, false, ◌&&◌, ◌||◌, List, [], Option, Some, None, ◌==◌, filter, map, vec_len, slice_get, slice_index_or}
 use Rattle.std.specs.List.{list_any}
 use Rattle.ot_base.specs.declared.place.Place.{Place}
 use Rattle.machine_ops.specs.declared.op.Op.TheVariants.{Nop}

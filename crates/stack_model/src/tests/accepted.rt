@@ -3,9 +3,8 @@
 
 use super::builder::{insn, program, site};
 use super::expect::{
-    ANYTHING, CALLER, Example, OUTSIDE, RBP, back, call, called, checked, expect_accepted,
-    expect_no_step, expect_run, expect_states, frame, framed, go, live, next, plain, standing,
-    stands,
+    ANYTHING, CALLER, Example, RBP, back, call, called, checked, expect_accepted, expect_no_step,
+    expect_run, expect_states, frame, framed, go, live, next, plain, standing, stands, tail_call,
 };
 use crate::{Anything, Choice, Start, Store, started};
 use machine_ops::{BpHome, Edge, EdgeKind, EndKind, HintState, Op, Role, State};
@@ -120,7 +119,7 @@ fn a_cold_part(rt: HostRuntime) -> Result<(), Fail> {
         (next(2), stands(2, 0x80F0, &[CALLER])),
         (go(6, EdgeKind::Taken), stands(6, 0x80F0, &[CALLER])),
         (next(7), stands(7, 0x80F8, &[CALLER])),
-        (Choice::TailCalls { to: 5 }, stands(5, 0x80F8, &[CALLER])),
+        (tail_call(5), stands(5, 0x80F8, &[CALLER])),
     ];
     let first = stands(0, 0x80F8, &[CALLER]);
     expect_run(&rt, alloc, &e, ENTRY, called(alloc, 0)?, first, &steps)
@@ -542,7 +541,7 @@ fn calls_and_jumps_inside(rt: HostRuntime) -> Result<(), Fail> {
         (call(4), stands(4, 0x80E8, &inner)),
         (returned, stands(2, 0x80F0, &[CALLER])),
         (next(3), stands(3, 0x80F8, &[CALLER])),
-        (Choice::TailCalls { to: 4 }, stands(4, 0x80F8, &[CALLER])),
+        (tail_call(4), stands(4, 0x80F8, &[CALLER])),
     ];
     expect_run(&rt, alloc, &e, ENTRY, called(alloc, 0)?, first, &steps)
 }
@@ -561,7 +560,7 @@ fn calls_outside(rt: HostRuntime) -> Result<(), Fail> {
         (next(1), stands(1, 0x80F0, &[CALLER])),
         (out, stands(2, 0x80F0, &[CALLER])),
         (next(3), stands(3, 0x80F8, &[CALLER])),
-        (Choice::TailCalls { to: 0 }, stands(0, 0x80F8, &[CALLER])),
+        (tail_call(0), stands(0, 0x80F8, &[CALLER])),
     ];
     expect_run(&rt, alloc, &e, ENTRY, called(alloc, 0)?, first, &steps)
 }

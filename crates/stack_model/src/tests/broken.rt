@@ -3,8 +3,8 @@
 
 use super::builder::{Line, NO_MARKS, insn, program, site};
 use super::expect::{
-    ANYTHING, HI, LO, OUTSIDE, Wrong, call, called, checked, expect_no_step, expect_same,
-    expect_warnings, expect_warnings_under, expect_wrong, go, next, outermost, standing, warns,
+    HI, LO, OUTSIDE, Wrong, call, called, checked, expect_no_step, expect_warnings,
+    expect_warnings_under, expect_wrong, next, outermost, standing, tail_call, warns,
 };
 use crate::{Choice, InterruptWords, Region, Slot, Start, Wreck, started};
 use machine_ops::{EdgeKind, EndKind, HintState, Marks, Op, Role, State};
@@ -148,7 +148,7 @@ fn ways_out_with_a_modified_stack(rt: HostRuntime) -> Result<(), Fail> {
         insn(3, 1, Op::Ret).of(1),
     ];
     let warnings = [warns(1, 6, 16, 0)];
-    let choices = [next(1), Choice::TailCalls { to: 2 }];
+    let choices = [next(1), tail_call(2)];
     let wrong = Wrong::Walk(2);
     expect_broken(&rt, alloc, &lines, &[0, 2], &warnings, &choices, wrong)?;
 
@@ -312,7 +312,7 @@ fn ways_out_that_are_not_allowed(rt: HostRuntime) -> Result<(), Fail> {
 
     let jump = insn(1, 2, JMP).of_none().hint(gate);
     let lines = [insn(0, 1, Op::Ret), jump.to(0, EdgeKind::Sibling)];
-    let choices = [interrupt(1), Choice::TailCalls { to: 0 }];
+    let choices = [interrupt(1), tail_call(0)];
     expect_broken(
         &rt,
         alloc,

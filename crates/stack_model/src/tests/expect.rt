@@ -114,6 +114,11 @@ pub fn call(entry: u32) -> Choice<'static> {
     Choice::CallsIn { entry, at: entry }
 }
 
+/// A jump to a point of another function.
+pub fn tail_call(to: u32) -> Choice<'static> {
+    Choice::TailCalls { to }
+}
+
 /// A return to a point.
 pub fn back(to: u32) -> Choice<'static> {
     Choice::Returns { to, stores: &[] }

@@ -1,6 +1,4 @@
-use Rattle.std.proofs.Common.{◌≡◌, ◌≢◌, ℕ, arith, sym, subst}
-use Rattle.std.specs.Prelude.{Option, None, MatchOption}
-use Rattle.machine_ops.specs.Region.{Reads, word_at}
+use Rattle.std.proofs.Common.{sym}
 use Rattle.stack_model.specs.Region.{region_of}
 use Rattle.stack_model.proofs.Writes.{another_outside}
 use Rattle.stack_model.proofs.region.Region.may_read_another.Goals as goal
