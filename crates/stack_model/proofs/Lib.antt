@@ -1,3 +1,4 @@
 pub mod Frames
+pub mod Points
 pub mod Words
 pub mod Writes

@@ -7,7 +7,7 @@ use Rattle.std.proofs.lemmas.Bool.{cases_lt, le-leb, leb-true}
 use Rattle.std.proofs.lemmas.Nat.{from_le_bytes-to_le_bytes_8}
 use Rattle.std.specs.Int.{w64, to_le_bytes, from_le_bytes}
 use Rattle.machine_ops.specs.Address.{up}
-use Rattle.machine_ops.specs.Region.{Region, hi_of, byte_at, little_endian, has_word, word_at, Reads, IsBeside, SameAddresses, WritesWord}
+use Rattle.machine_ops.specs.Region.{Region, hi_of, byte_at, little_endian, has_word, word_at, Reads, IsBeside, SameAddresses, WritesOnly, WritesWord}
 use Rattle.stack_model.specs.Region.{WritesBytes}
 
 -- eight addresses in a row are apart
@@ -89,6 +89,10 @@ written_bytes a bytes r s eight high from upto w =
     ap (λ (x : ℕ). byte_at s x) plain ∙ byte_inside s (a + j) (omega (arith, from, lo)) in
     let found : slice_get s.bytes ((a - s.lo) + j) ≡ Some (slice_index bytes j) = ap (λ (i : ℕ). slice_get s.bytes i) (sym place) ∙ sym inside ∙ new in
     get_or-take 8 (drop (a - s.lo) s.bytes) j 0 short ∙ get_or-drop (a - s.lo) s.bytes j 0 ∙ get_or_from_slice_get s.bytes ((a - s.lo) + j) (slice_index bytes j) 0 found)
+
+-- a word has eight bytes
+pub eight_written : (a word : ℕ) (bytes : List ℕ) (r s : Region) → bytes ≡ to_le_bytes w64 word → WritesBytes a (length bytes) bytes r s → WritesOnly a 8 r s
+eight_written a word bytes r s is w = subst (λ (n : ℕ). WritesOnly a n r s) (ap (λ (xs : List ℕ). length xs) is) w.only
 
 -- a word that was written may be read
 pub word_written : (a word : ℕ) (bytes : List ℕ) (r s : Region) → word < 2 ^ 64 → bytes ≡ to_le_bytes w64 word → hi_of r ≤ 2 ^ 64

@@ -4,3 +4,4 @@ pub mod Region
 pub mod Standing
 pub mod StateRow
 pub mod Program
+pub mod Hint

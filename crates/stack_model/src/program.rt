@@ -82,13 +82,17 @@ pub struct Program {
 }
 
 impl Program {
+    ghost use Rattle.std.specs.Prelude.{◌≡◌, None, Some, MatchOption, slice_get};
+
     /// How many points there are.
     pub fn count(&self) -> u32 {
         u32::try_from(self.points.len()).unwrap_or(u32::MAX)
     }
 
     /// The point with a number, where there is one.
-    pub fn point(&self, q: u32) -> Option<&Point> {
+    pub fn point(&self, q: u32) -> Option<&Point>
+        ensures { MatchOption result (slice_get self.now.points.items q ≡ None) (λ point. slice_get self.now.points.items q ≡ Some point.now) }
+    {
         self.points.get(q as usize)
     }
 

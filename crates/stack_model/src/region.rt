@@ -37,8 +37,8 @@ fn little_endian(bytes: &[u8]) -> u64
 
 impl Region {
     ghost use Rattle.std.specs.Prelude.{◌≡◌, ◌≢◌, ℕ, ◌<◌, All, IfOk, IfSome, IsSome, IsTrue, Some};
-    ghost use Rattle.machine_ops.specs.Region.{hi_of, byte_at, word_at, Reads, SameAddresses, WritesWord, Stores};
-    ghost use Rattle.stack_model.specs.Region.{region_of, WritesBytes};
+    ghost use Rattle.machine_ops.specs.Region.{hi_of, byte_at, word_at, Reads, SameAddresses, WritesOnly, WritesWord, Stores};
+    ghost use Rattle.stack_model.specs.Region.{region_of, WritesBytes, StoresWord};
 
     /// The address behind the last byte, a plain sum.
     pub fn end(&self) -> u128
@@ -130,7 +130,8 @@ impl Region {
     /// Writes a word, as far as the region has its bytes.
     #[tactic(auto, using(crate::proofs::Writes::word_written))]
     pub fn write_word(&mut self, address: u64, word: u64)
-        ensures { hi_of (region_of self.old) ≤ 2 ^ 64 → WritesWord address word (region_of self.old) (region_of self.new) }
+        ensures only { WritesOnly address 8 (region_of self.old) (region_of self.new) }
+        ensures word { hi_of (region_of self.old) ≤ 2 ^ 64 → WritesWord address word (region_of self.old) (region_of self.new) }
     {
         self.write_bytes(address, &word.to_le_bytes());
     }
@@ -146,6 +147,18 @@ impl Region {
         }
     }
 
+    /// Whether each of the words at these addresses is the same as in another region.
+    fn spares(&self, before: &Region, spared: &[u64]) -> bool
+        ensures { IsTrue result → All (λ a. word_at (region_of self.now) a ≡ word_at (region_of before.now) a) spared.now }
+    {
+        for address in spared {
+            if !self.has_same_word(before, *address) {
+                return false;
+            }
+        }
+        true
+    }
+
     /// The region after these stores, where each of the words at these addresses is spared.
     pub fn stored(&self, stores: &[Store], spared: &[u64]) -> Result<Option<Region>, AllocError>
         ensures { IfOk result (λ stored. IfSome stored (λ after. Stores spared.now (region_of self.now) (region_of after))) }
@@ -154,11 +167,28 @@ impl Region {
         for store in stores {
             after.write_byte(store.at, store.byte);
         }
-        for address in spared {
-            if !after.has_same_word(self, *address) {
-                return Ok(None);
-            }
+        if after.spares(self, spared) {
+            Ok(Some(after))
+        } else {
+            Ok(None)
         }
-        Ok(Some(after))
+    }
+
+    /// The region after this word was stored, where each of the words at these addresses is spared.
+    pub fn with_word(
+        &self,
+        address: u64,
+        word: u64,
+        spared: &[u64],
+    ) -> Result<Option<Region>, AllocError>
+        ensures { IfOk result (λ stored. IfSome stored (λ after. StoresWord address word spared.now (region_of self.now) (region_of after))) }
+    {
+        let mut after = self.clone()?;
+        after.write_word(address, word);
+        if after.spares(self, spared) {
+            Ok(Some(after))
+        } else {
+            Ok(None)
+        }
     }
 }
