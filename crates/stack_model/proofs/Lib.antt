@@ -1,0 +1,4 @@
+pub mod Frames
+pub mod Points
+pub mod Words
+pub mod Writes

@@ -1,0 +1,135 @@
+//! Interrupts, and returns from them.
+
+use crate::address::{down, up};
+use crate::choice::InterruptWords;
+use crate::frame::Frame;
+use crate::placement::point_address;
+use crate::program::Program;
+use crate::slot::Slot;
+use crate::standing::{Core, Standing};
+use machine_ops::{HintState, Op, State};
+use orc_walk::Range;
+use std::alloc::AllocError;
+
+/// How many bytes the processor pushes below the five words at a gate: those of an error code, 8, or
+/// none. A gate is a plain point without owner and outside sites, whose hint says so.
+fn gate_bytes(p: &Program, gate: u32) -> Option<u64> {
+    let point = p.point(gate)?;
+    if point.variant != 0 || point.owner.is_some() || p.site_at(point.place).is_some() {
+        return None;
+    }
+    match point.hint {
+        Some(
+            HintState::Set(
+                State::Regs {
+                    full: false,
+                    depth: 0,
+                },
+            ),
+        ) => Some(0),
+        Some(
+            HintState::Set(
+                State::Regs {
+                    full: false,
+                    depth: 8,
+                },
+            ),
+        ) => Some(8),
+        _ => None,
+    }
+}
+
+/// Where the processor puts the five words: right below rsp, rounded down to a multiple of 16.
+fn interrupt_slot(rsp: u64) -> u64 {
+    down(rsp - rsp % 16, 40)
+}
+
+/// The frame that an interrupt makes, at this address of the interrupted instruction.
+fn interrupt_frame(s: &Standing, ra: u64) -> Frame {
+    Frame {
+        call: Some(s.point),
+        ra,
+        cfa: s.core.rsp,
+        bp: s.core.rbp,
+        slot: Slot::PartialAt(interrupt_slot(s.core.rsp)),
+        ac: s.core.ac,
+        ended_caller: s.ended,
+        mark_caller: s.mark,
+    }
+}
+
+/// The processor pushes the five words, and an error code where `n` is 8.
+fn push_words(core: &mut Core, ra: u64, n: u64, words: &InterruptWords) {
+    let slot = interrupt_slot(core.rsp);
+    let rsp = core.rsp;
+    let pushed = [ra, words.cs, words.flags, rsp, words.ss];
+    if n == 8 {
+        core.region.write_word(down(slot, 8), words.error);
+    }
+    for (i, word) in pushed.iter().enumerate() {
+        core.region.write_word(up(slot, 8 * i as u64), *word);
+    }
+    core.rsp = down(slot, n);
+}
+
+/// An interrupt comes, at any point.
+pub fn is_interrupted(
+    p: &Program,
+    placement: &[Range],
+    s: Standing,
+    gate: u32,
+    words: &InterruptWords,
+) -> Result<Option<Standing>, AllocError> {
+    let Some(n) = gate_bytes(p, gate) else {
+        return Ok(None);
+    };
+    let Some(ra) = point_address(p, placement, s.point) else {
+        return Ok(None);
+    };
+    let mut s = s;
+    let frame = interrupt_frame(&s, ra);
+    s.core.shadow.insert(0, frame)?;
+    push_words(&mut s.core, ra, n, words);
+    s.point = gate;
+    s.ended = None;
+    s.mark = None;
+    Ok(Some(s))
+}
+
+/// Whether the stack may be as it has to be for a return from this interrupt.
+fn is_at_iret(core: &Core, frame: &Frame) -> bool {
+    !frame.slot.is_of_call()
+        && core.region.may_read(core.rsp, frame.ra)
+        && core.region.may_read(up(core.rsp, 24), frame.cfa)
+        && core.rbp == frame.bp
+}
+
+/// Whether it may be otherwise.
+pub fn misses_iret(core: &Core) -> bool {
+    let Some(frame) = core.shadow.first() else {
+        return true;
+    };
+    let sp = up(core.rsp, 24);
+    frame.slot.is_of_call()
+        || core.region.may_read_another(core.rsp, frame.ra)
+        || core.region.may_read_another(sp, frame.cfa)
+        || core.rbp != frame.bp
+}
+
+/// It returns from an interrupt, to the interrupted instruction.
+pub fn returns_from_interrupt(p: &Program, s: Standing) -> Option<Standing> {
+    let point = p.point(s.point)?;
+    let frame = s.core.shadow.first().copied()?;
+    let to = frame.call?;
+    if point.insn.op != Op::Iret || s.ended.is_some() || !is_at_iret(&s.core, &frame) {
+        return None;
+    }
+    let mut s = s;
+    let _ = s.core.shadow.remove(0);
+    s.core.rsp = frame.cfa;
+    s.core.ac = frame.ac;
+    s.point = to;
+    s.ended = frame.ended_caller;
+    s.mark = frame.mark_caller;
+    Some(s)
+}

@@ -1,0 +1,7 @@
+//! Programs of a few points: what holds of each, and how it runs.
+
+mod accepted;
+mod broken;
+mod builder;
+mod expect;
+mod interrupts;
