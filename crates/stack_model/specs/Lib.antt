@@ -5,3 +5,5 @@ pub mod Standing
 pub mod StateRow
 pub mod Program
 pub mod Hint
+pub mod Placement
+pub mod Called
