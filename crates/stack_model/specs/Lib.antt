@@ -7,3 +7,4 @@ pub mod Program
 pub mod Hint
 pub mod Placement
 pub mod Called
+pub mod Left

@@ -5,6 +5,7 @@ use crate::choice::InterruptWords;
 use crate::frame::Frame;
 use crate::placement::point_address;
 use crate::program::Program;
+use crate::returns::pop_frame;
 use crate::slot::Slot;
 use crate::standing::{Core, Standing};
 use machine_ops::{HintState, Op, State};
@@ -118,18 +119,28 @@ pub fn misses_iret(core: &Core) -> bool {
 
 /// It returns from an interrupt, to the interrupted instruction.
 pub fn returns_from_interrupt(p: &Program, s: Standing) -> Option<Standing> {
-    let point = p.point(s.point)?;
-    let frame = s.core.shadow.first().copied()?;
-    let to = frame.call?;
-    if point.insn.op != Op::Iret || s.ended.is_some() || !is_at_iret(&s.core, &frame) {
+    match p.insn(s.point).op {
+        Op::Iret => {}
+        _ => return None,
+    }
+    if s.ended.is_some() {
         return None;
     }
-    let mut s = s;
-    let _ = s.core.shadow.remove(0);
-    s.core.rsp = frame.cfa;
-    s.core.ac = frame.ac;
-    s.point = to;
-    s.ended = frame.ended_caller;
-    s.mark = frame.mark_caller;
-    Some(s)
+    let (frame, popped) = pop_frame(s)?;
+    let to = frame.call?;
+    if !is_at_iret(&popped.core, &frame) {
+        return None;
+    }
+    Some(resumed(popped, frame, to))
+}
+
+/// The interrupted standing, below a frame that was taken off.
+fn resumed(popped: Standing, frame: Frame, to: u32) -> Standing {
+    let mut t = popped;
+    t.core.rsp = frame.cfa;
+    t.core.ac = frame.ac;
+    t.point = to;
+    t.ended = frame.ended_caller;
+    t.mark = frame.mark_caller;
+    t
 }
