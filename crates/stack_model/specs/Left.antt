@@ -21,3 +21,10 @@ pub record IsBack (popped : OwnStanding) (frame : Frame) (rsp : ℕ) (region : R
   pub core : core_of t.core ≡ record (core_of popped.core) { rsp = rsp; region = region_of region }
   pub ended : t.ended ≡ frame.ended_caller
   pub mark : option_map mark_of t.mark ≡ option_map mark_of frame.mark_caller
+
+-- the interrupted state, below that frame
+pub record IsResumed (popped : OwnStanding) (frame : Frame) (to : ℕ) (t : OwnStanding) : Type 0 where
+  pub point : t.point ≡ to
+  pub core : core_of t.core ≡ record (core_of popped.core) { rsp = frame.cfa; ac = frame.ac }
+  pub ended : t.ended ≡ frame.ended_caller
+  pub mark : option_map mark_of t.mark ≡ option_map mark_of frame.mark_caller

@@ -1,8 +1,9 @@
 //! Returns.
 
-ghost use Rattle.std.specs.Prelude.{◌≡◌, IfOk, IfSome, IsTrue, List, Bool};
+ghost use Rattle.std.specs.Prelude.{◌≡◌, ◌∷◌, IfOk, IfSome, IsTrue, List, Bool};
 ghost use Rattle.machine_ops.specs.Address.{up};
-ghost use Rattle.stack_machine.specs.Step.{IsAtReturn, LeavesMemory, Returns, may_leave};
+ghost use Rattle.machine_ops.specs.Frame.{Frame as DefinedFrame};
+ghost use Rattle.stack_machine.specs.Step.{IsAtReturn, MissesReturn, LeavesMemory, Returns, may_leave};
 ghost use Rattle.stack_model.specs.Region.{region_of};
 ghost use Rattle.stack_model.specs.Frame.{frame_of, frames_of};
 ghost use Rattle.stack_model.specs.Standing.{core_of, standing_of};
@@ -40,10 +41,19 @@ fn is_at_return(core: &Core, frame: &Frame) -> bool
 }
 
 /// Whether it may be otherwise.
-pub fn misses_return(core: &Core) -> bool {
-    let Some(frame) = core.shadow.first() else {
-        return true;
-    };
+pub fn misses_return(core: &Core) -> bool
+    ensures { IsTrue result → MissesReturn (core_of core.now) (frames_of core.now.shadow.items) }
+{
+    match core.shadow.as_slice() {
+        [] => true,
+        [top, ..] => misses_frame(core, top),
+    }
+}
+
+/// Whether the stack may be otherwise than for a return from this frame.
+fn misses_frame(core: &Core, frame: &Frame) -> bool
+    ensures { (others : List DefinedFrame) → IsTrue result → MissesReturn (core_of core.now) (frame_of frame.now ∷ others) }
+{
     !frame.slot.is_of_call()
         || core.region.may_read_another(core.rsp, frame.ra)
         || core.rsp != down(frame.cfa, 8)
@@ -110,7 +120,9 @@ pub fn returns(
     s: Standing,
     to: u32,
     stores: &[Store],
-) -> Result<Option<Standing>, AllocError> {
+) -> Result<Option<Standing>, AllocError>
+    ensures { (set : List Bool) → IfOk result (λ left. IfSome left (λ t. Returns (program_of p.now set) (standing_of s) (standing_of t))) }
+{
     let role = p.role(s.point);
     if !may_leave(p, role) {
         return Ok(None);
