@@ -1,13 +1,11 @@
 -- What a return makes of a state.
 use Rattle.std.specs.Prelude.{◌≡◌, ℕ, ◌∷◌}
-use Rattle.machine_ops.specs.Address.{up}
-use Rattle.stack_machine.specs.Machine.{Standing}
 use Rattle.stack_model.specs.declared.frame.Frame.{Frame}
 use Rattle.stack_model.specs.declared.region.Region.{Region}
 use Rattle.stack_model.specs.declared.standing.Standing.{Standing as OwnStanding}
 use Rattle.stack_model.specs.Frame.{frame_of, frames_of, mark_of}
 use Rattle.stack_model.specs.Region.{region_of}
-use Rattle.stack_model.specs.Standing.{core_of, standing_of}
+use Rattle.stack_model.specs.Standing.{core_of}
 use Rattle.std.specs.Prelude.{option_map}
 
 -- the top frame is taken off
