@@ -1,6 +1,7 @@
 -- The words that the frames of a shadow call stack protect.
 use Rattle.std.proofs.Common.{◌≡◌, ℕ, ◌+◌, ◌-◌, ◌<◌, ◌≤◌, List, [], ◌∷◌, ◌++◌, length, get_or, take, drop, add-one, arith, refl, sym, ap, ◌∙◌, subst}
 use Rattle.std.specs.Prelude.{All, map, flat_map, Option, None}
+use Rattle.std.specs.List.{remove}
 use Rattle.std.proofs.lemmas.List.{map-append, take_all, take_more, append-nil}
 use Rattle.std.proofs.lemmas.Simd.{map-map}
 use Rattle.std.proofs.lemmas.List.Concat.{flat_map-append}
@@ -49,3 +50,8 @@ listed_more (x ∷ xs) d ended n e some h =
 pub addresses_are : (words : List OwnProtected) (frames : List OwnFrame) → words_of words ≡ flat_map protected (frames_of frames)
     → map (λ w. w.at) words ≡ protected_addresses (frames_of frames)
 addresses_are words frames same = sym (map-map (λ (w : Protected). w.at) protected_of words) ∙ ap (λ (ws : List Protected). map (λ w. w.at) ws) same
+
+-- the frames, as the top one and those below it
+pub first_removed : (xs : List OwnFrame) (d : OwnFrame) → 1 ≤ length xs → frames_of xs ≡ frame_of (get_or xs 0 d) ∷ frames_of (remove xs 0)
+first_removed [] d some = absurd (omega (arith, some))
+first_removed (x ∷ xs) d some = refl

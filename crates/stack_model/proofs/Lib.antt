@@ -1,4 +1,5 @@
 pub mod Frames
+pub mod Lines
 pub mod Points
 pub mod Words
 pub mod Writes

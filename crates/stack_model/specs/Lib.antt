@@ -5,3 +5,6 @@ pub mod Standing
 pub mod StateRow
 pub mod Program
 pub mod Hint
+pub mod Placement
+pub mod Called
+pub mod Left

@@ -1,13 +1,13 @@
 -- The model's program, as the definitions have it. May-return is a set that stands beside it, with a
 -- flag for each point.
-use Rattle.std.specs.Prelude.{ℕ, Bool, false, ◌&&◌, ◌||◌, List, [], Option, Some, None, ◌==◌, filter, map, vec_len, slice_get, slice_index_or}
+use Rattle.std.specs.Prelude.{ℕ, Bool, false, ◌&&◌, ◌||◌, List, [], Option, Some, None, ◌==◌, filter, map, Contains, length, slice_get, slice_index_or}
 use Rattle.std.specs.List.{list_any}
 use Rattle.ot_base.specs.declared.place.Place.{Place}
 use Rattle.machine_ops.specs.declared.op.Op.TheVariants.{Nop}
 use Rattle.machine_ops.specs.declared.insn.Insn.{Insn}
 use Rattle.machine_ops.specs.declared.flow.Role.TheVariants.{Plain}
 use Rattle.machine_ops.specs.declared.flow.Marks.{Marks}
-use Rattle.stack_machine.specs.Program.{Program, TextSection, Site, below, same_place}
+use Rattle.stack_machine.specs.Program.{Program, TextSection, Site, below, same_place, entry_points}
 use Rattle.stack_model.specs.declared.program.Program.{Program as OwnProgram}
 use Rattle.stack_model.specs.declared.program.Point.{Point}
 use Rattle.stack_model.specs.declared.program.Site.{Site as OwnSite}
@@ -50,7 +50,7 @@ arrives p place q = of_point p false (stands_at p place) q
 
 abbrev pub program_of : OwnProgram → List Bool → Program
 program_of p may_return = record {
-  count = vec_len p.points;
+  count = length p.points.items;
   insn = λ q. of_point p no_insn (λ x. x.insn) q;
   place = λ q. of_point p no_place (λ x. x.place) q;
   address = λ q. of_point p no_place (λ x. x.address) q;
@@ -66,7 +66,7 @@ program_of p may_return = record {
   dead_end = λ q. of_point p false (λ x. x.is_dead_end) q;
   marks = λ q. of_point p no_marks (λ x. x.marks) q;
   after = λ q. of_point p [] (λ x. x.after.items) q;
-  arrive = λ place. filter (λ q. arrives p place q) (below (vec_len p.points));
+  arrive = λ place. filter (λ q. arrives p place q) (below (length p.points.items));
   entries = p.entries.items;
   never_returns = λ sym. list_any (λ other. other == sym) p.never_returning.items;
   calls_fentry = λ q. of_point p false (λ x. x.calls_fentry) q;
@@ -75,3 +75,9 @@ program_of p may_return = record {
   texts = map text_of p.texts.items;
   unsized = p.without_size.items;
 }
+
+-- control that comes to some entry may stand at the point
+pub record IsEntryPoint (p : OwnProgram) (may_return : List Bool) (q : ℕ) : Type 0 where
+  pub entry : ℕ
+  pub listed : Contains p.entries.items entry
+  pub arrives : Contains (entry_points (program_of p may_return) entry) q

@@ -1,7 +1,7 @@
 -- The model's stack in memory, as the definitions have it.
 use Rattle.std.specs.Prelude.{◌≡◌, ℕ, ◌<◌, ◌≤◌, ◌^◌, List, Some, IsSome, slice_index}
 use Rattle.machine_ops.specs.Address.{up}
-use Rattle.machine_ops.specs.Region.{Region, hi_of, byte_at, Holds, WritesOnly, WritesWord, Stores}
+use Rattle.machine_ops.specs.Region.{Region, hi_of, IsRegion, byte_at, Holds, WritesOnly, WritesWord, Stores}
 use Rattle.stack_model.specs.declared.region.Region.{Region as OwnRegion}
 use Rattle.stack_model.specs.declared.frame.Protected.{Protected}
 
@@ -23,3 +23,10 @@ pub record WritesBytes (address n : ℕ) (bytes : List ℕ) (before after : Regi
 pub record StoresWord (address word : ℕ) (spared : List ℕ) (before after : Region) : Type 0 where
   pub stores : Stores spared before after
   pub written : hi_of before ≤ 2 ^ 64 → WritesWord address word before after
+
+-- rbp is a 64-bit number, the region is one, and rsp is in it or right behind it
+pub record IsWithin (sp bp : ℕ) (r : Region) : Type 0 where
+  pub rbp : bp < 2 ^ 64
+  pub region : IsRegion r
+  pub above_lo : r.lo ≤ sp
+  pub below_hi : sp ≤ hi_of r

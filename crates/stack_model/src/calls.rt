@@ -1,10 +1,20 @@
 //! Calls.
 
+ghost use Rattle.std.specs.Prelude.{◌≡◌, ◌≤◌, ◌^◌, not, IfOk, IfSome, IsTrue, List, Bool};
+ghost use Rattle.machine_ops.specs.Region.{hi_of};
+ghost use Rattle.stack_machine.specs.Step.{MayCall, CallsIn, CallsOut, may_call_out};
+ghost use Rattle.stack_model.specs.Region.{region_of};
+ghost use Rattle.stack_model.specs.Standing.{standing_of};
+ghost use Rattle.stack_model.specs.Program.{program_of};
+ghost use Rattle.stack_model.specs.Placement.{bases_of};
+ghost use Rattle.stack_model.specs.Frame.{frame_of};
+ghost use Rattle.stack_model.specs.Called.{frame_called, IsCalled};
+
 use crate::address::down;
 use crate::effect::store_ordinarily;
 use crate::frame::Frame;
 use crate::placement::return_address;
-use crate::program::Program;
+use crate::program::{Program, has_number};
 use crate::region::Store;
 use crate::slot::Slot;
 use crate::standing::Standing;
@@ -13,16 +23,20 @@ use orc_walk::Range;
 use std::alloc::{AllocError, Global};
 
 /// Whether a call may go to this entry.
-fn may_call(p: &Program, role: Role, target: u32) -> bool {
+fn may_call(p: &Program, role: Role, target: u32) -> bool
+    ensures { (set : List Bool) → IsTrue result → MayCall (program_of p.now set) role target }
+{
     match role {
         Role::CallIn { entry } | Role::CallEither { entry, .. } => target == entry,
-        Role::CallAny => p.entries.contains(&target),
+        Role::CallAny => has_number(p.entries.as_slice(), target),
         _ => false,
     }
 }
 
 /// The frame that a call makes, with its return address.
-fn call_frame(s: &Standing, ra: u64) -> Frame {
+fn call_frame(s: &Standing, ra: u64) -> Frame
+    ensures { frame_of result ≡ frame_called (standing_of s.now) ra }
+{
     Frame {
         call: Some(s.point),
         ra,
@@ -35,26 +49,12 @@ fn call_frame(s: &Standing, ra: u64) -> Frame {
     }
 }
 
-/// It calls an entry of the program: its return address is pushed, and a frame is made.
-pub fn calls_in(
-    p: &Program,
-    placement: &[Range],
-    s: Standing,
-    entry: u32,
-    at: u32,
-) -> Result<Option<Standing>, AllocError> {
-    let role = match p.point(s.point) {
-        Some(point) => point.role,
-        None => return Ok(None),
-    };
-    if !may_call(p, role, entry) || !p.enters(entry, at) {
-        return Ok(None);
-    }
-    let Some(ra) = return_address(p, placement, s.point) else {
-        return Ok(None);
-    };
-    let mut s = s;
+/// A call with this return address, to this point.
+fn called(s: Standing, ra: u64, at: u32) -> Result<Standing, AllocError>
+    ensures { IfOk result (λ t. IsCalled ra at (standing_of s) (standing_of t)) }
+{
     let frame = call_frame(&s, ra);
+    let mut s = s;
     let rsp = down(s.core.rsp, 8);
     s.core.shadow.insert(0, frame)?;
     s.core.rsp = rsp;
@@ -62,11 +62,32 @@ pub fn calls_in(
     s.point = at;
     s.ended = None;
     s.mark = None;
-    Ok(Some(s))
+    Ok(s)
+}
+
+/// It calls an entry of the program: its return address is pushed, and a frame is made.
+pub fn calls_in(
+    p: &Program,
+    placement: &[Range],
+    s: Standing,
+    entry: u32,
+    at: u32,
+) -> Result<Option<Standing>, AllocError>
+    ensures { (set : List Bool) → IfOk result (λ called. IfSome called (λ t. hi_of (region_of s.core.region) ≤ 2 ^ 64 → CallsIn (program_of p.now set) (bases_of placement.now) (standing_of s) (standing_of t))) }
+{
+    if !may_call(p, p.role(s.point), entry) || !p.enters(entry, at) {
+        return Ok(None);
+    }
+    match return_address(p, placement, s.point) {
+        None => Ok(None),
+        Some(ra) => Ok(Some(called(s, ra, at)?)),
+    }
 }
 
 /// Whether a call may go to code outside that returns.
-fn may_call_out(p: &Program, role: Role) -> bool {
+fn may_call_out(p: &Program, role: Role) -> bool
+    ensures { (set : List Bool) → result ≡ may_call_out (program_of p.now set) role }
+{
     match role {
         Role::CallOut { sym } => !p.never_returns(sym),
         Role::CallEither { .. } | Role::CallAny => true,
@@ -81,11 +102,10 @@ pub fn calls_out(
     s: Standing,
     to: u32,
     stores: &[Store],
-) -> Result<Option<Standing>, AllocError> {
-    let Some(point) = p.point(s.point) else {
-        return Ok(None);
-    };
-    if !may_call_out(p, point.role) || point.is_dead_end || !point.after.contains(&to) {
+) -> Result<Option<Standing>, AllocError>
+    ensures { (set : List Bool) → IfOk result (λ called. IfSome called (λ t. CallsOut (program_of p.now set) (standing_of s) (standing_of t))) }
+{
+    if !may_call_out(p, p.role(s.point)) || p.is_dead_end(s.point) || !p.follows(s.point, to) {
         return Ok(None);
     }
     let Standing {
@@ -94,13 +114,13 @@ pub fn calls_out(
         mark,
         ..
     } = s;
-    let Some(core) = store_ordinarily(alloc, core, stores)? else {
-        return Ok(None);
-    };
-    Ok(Some(Standing {
-        point: to,
-        core,
-        ended,
-        mark,
-    }))
+    match store_ordinarily(alloc, core, stores)? {
+        None => Ok(None),
+        Some(core) => Ok(Some(Standing {
+            point: to,
+            core,
+            ended,
+            mark,
+        })),
+    }
 }

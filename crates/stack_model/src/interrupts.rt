@@ -1,10 +1,19 @@
 //! Interrupts, and returns from them.
 
+ghost use Rattle.std.specs.Prelude.{◌∷◌, IfSome, IsTrue, List, Bool};
+ghost use Rattle.machine_ops.specs.Frame.{Frame as DefinedFrame};
+ghost use Rattle.stack_machine.specs.Step.{IsAtIret, MissesIret, ReturnsFromInterrupt};
+ghost use Rattle.stack_model.specs.Frame.{frame_of, frames_of};
+ghost use Rattle.stack_model.specs.Standing.{core_of, standing_of};
+ghost use Rattle.stack_model.specs.Program.{program_of};
+ghost use Rattle.stack_model.specs.Left.{IsResumed};
+
 use crate::address::{down, up};
 use crate::choice::InterruptWords;
 use crate::frame::Frame;
 use crate::placement::point_address;
 use crate::program::Program;
+use crate::returns::pop_frame;
 use crate::slot::Slot;
 use crate::standing::{Core, Standing};
 use machine_ops::{HintState, Op, State};
@@ -97,7 +106,9 @@ pub fn is_interrupted(
 }
 
 /// Whether the stack may be as it has to be for a return from this interrupt.
-fn is_at_iret(core: &Core, frame: &Frame) -> bool {
+fn is_at_iret(core: &Core, frame: &Frame) -> bool
+    ensures { IsTrue result → IsAtIret (core_of core.now) (frame_of frame.now) }
+{
     !frame.slot.is_of_call()
         && core.region.may_read(core.rsp, frame.ra)
         && core.region.may_read(up(core.rsp, 24), frame.cfa)
@@ -105,10 +116,19 @@ fn is_at_iret(core: &Core, frame: &Frame) -> bool {
 }
 
 /// Whether it may be otherwise.
-pub fn misses_iret(core: &Core) -> bool {
-    let Some(frame) = core.shadow.first() else {
-        return true;
-    };
+pub fn misses_iret(core: &Core) -> bool
+    ensures { IsTrue result → MissesIret (core_of core.now) (frames_of core.now.shadow.items) }
+{
+    match core.shadow.as_slice() {
+        [] => true,
+        [top, ..] => misses_interrupt(core, top),
+    }
+}
+
+/// Whether the stack may be otherwise than for a return from this interrupt.
+fn misses_interrupt(core: &Core, frame: &Frame) -> bool
+    ensures { (others : List DefinedFrame) → IsTrue result → MissesIret (core_of core.now) (frame_of frame.now ∷ others) }
+{
     let sp = up(core.rsp, 24);
     frame.slot.is_of_call()
         || core.region.may_read_another(core.rsp, frame.ra)
@@ -117,19 +137,33 @@ pub fn misses_iret(core: &Core) -> bool {
 }
 
 /// It returns from an interrupt, to the interrupted instruction.
-pub fn returns_from_interrupt(p: &Program, s: Standing) -> Option<Standing> {
-    let point = p.point(s.point)?;
-    let frame = s.core.shadow.first().copied()?;
-    let to = frame.call?;
-    if point.insn.op != Op::Iret || s.ended.is_some() || !is_at_iret(&s.core, &frame) {
+pub fn returns_from_interrupt(p: &Program, s: Standing) -> Option<Standing>
+    ensures { (set : List Bool) → IfSome result (λ t. ReturnsFromInterrupt (program_of p.now set) (standing_of s) (standing_of t)) }
+{
+    match p.insn(s.point).op {
+        Op::Iret => {}
+        _ => return None,
+    }
+    if s.ended.is_some() {
         return None;
     }
-    let mut s = s;
-    let _ = s.core.shadow.remove(0);
-    s.core.rsp = frame.cfa;
-    s.core.ac = frame.ac;
-    s.point = to;
-    s.ended = frame.ended_caller;
-    s.mark = frame.mark_caller;
-    Some(s)
+    let (frame, popped) = pop_frame(s)?;
+    let to = frame.call?;
+    if !is_at_iret(&popped.core, &frame) {
+        return None;
+    }
+    Some(resumed(popped, frame, to))
+}
+
+/// The interrupted standing, below a frame that was taken off.
+fn resumed(popped: Standing, frame: Frame, to: u32) -> Standing
+    ensures { IsResumed popped frame to result }
+{
+    let mut t = popped;
+    t.core.rsp = frame.cfa;
+    t.core.ac = frame.ac;
+    t.point = to;
+    t.ended = frame.ended_caller;
+    t.mark = frame.mark_caller;
+    t
 }

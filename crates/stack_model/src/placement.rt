@@ -1,8 +1,29 @@
 //! Where a program's sections are placed in memory: one range for each.
 
+ghost use Rattle.std.specs.Prelude.{◌≡◌, ◌+◌, IfSome, List, Bool};
+ghost use Rattle.stack_machine.specs.Machine.{point_address, return_address};
+ghost use Rattle.stack_model.specs.Placement.{bases_of};
+ghost use Rattle.stack_model.specs.Program.{program_of};
+
 use crate::program::Program;
 use orc_walk::Range;
 use ot_base::Place;
+
+/// The address at which a section begins, 0 where it has no range.
+fn base_of(placement: &[Range], sec: u32) -> u64
+    ensures { result ≡ bases_of placement.now sec }
+{
+    match placement {
+        [] => 0,
+        [range, others @ ..] => {
+            if range.sec == sec {
+                range.base
+            } else {
+                base_of(others, sec)
+            }
+        }
+    }
+}
 
 /// The address of a place; none where its section isn't placed.
 pub fn address_of(placement: &[Range], place: Place) -> Option<u64> {
@@ -10,15 +31,29 @@ pub fn address_of(placement: &[Range], place: Place) -> Option<u64> {
     range.base.checked_add(place.off)
 }
 
-/// The address of a point.
-pub fn point_address(p: &Program, placement: &[Range], q: u32) -> Option<u64> {
-    address_of(placement, p.point(q)?.address)
+/// The address of a point, where it has 64 bits.
+pub fn point_address(p: &Program, placement: &[Range], q: u32) -> Option<u64>
+    ensures { (set : List Bool) → IfSome result (λ address. address ≡ point_address (program_of p.now set) (bases_of placement.now) q) }
+{
+    let place = p.address(q);
+    base_of(placement, place.sec).checked_add(place.off)
 }
 
-/// The address right behind its instruction, to which a call returns.
-pub fn return_address(p: &Program, placement: &[Range], q: u32) -> Option<u64> {
-    let len = p.point(q)?.insn.len;
-    point_address(p, placement, q)?.checked_add(u64::from(len))
+/// A sum, where it has 64 bits.
+fn sum(address: u64, len: u8) -> Option<u64>
+    ensures { IfSome result (λ end. end ≡ address + len) }
+{
+    address.checked_add(u64::from(len))
+}
+
+/// The address right behind its instruction, to which a call returns, where it has 64 bits.
+pub fn return_address(p: &Program, placement: &[Range], q: u32) -> Option<u64>
+    ensures { (set : List Bool) → IfSome result (λ address. address ≡ return_address (program_of p.now set) (bases_of placement.now) q) }
+{
+    match point_address(p, placement, q) {
+        None => None,
+        Some(address) => sum(address, p.insn(q).len),
+    }
 }
 
 /// Whether a placed section has a byte at the address.

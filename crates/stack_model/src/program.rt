@@ -1,4 +1,7 @@
-use machine_ops::{Edge, HintState, Insn, Marks, Role};
+ghost use Rattle.std.specs.Prelude.{◌≡◌, IsTrue, Contains};
+ghost use Rattle.stack_machine.specs.Program.{same_place};
+
+use machine_ops::{Edge, HintState, Insn, Marks, Op, Role};
 use ot_base::Place;
 
 /// A section of code.
@@ -64,6 +67,30 @@ pub struct Point {
     pub calls_fentry: bool,
 }
 
+/// No point's place.
+const NO_PLACE: Place = Place { sec: 0, off: 0 };
+
+/// Whether two places are one.
+fn is_same_place(one: Place, other: Place) -> bool
+    ensures { result ≡ same_place one other }
+{
+    one.sec == other.sec && one.off == other.off
+}
+
+/// Whether the edge is among these.
+fn has_edge(edges: &[Edge], edge: Edge) -> bool
+    ensures { IsTrue result → Contains edges.now edge }
+{
+    edges.contains(&edge)
+}
+
+/// Whether the number is among these.
+pub fn has_number(numbers: &[u32], number: u32) -> bool
+    ensures { IsTrue result → Contains numbers.now number }
+{
+    numbers.contains(&number)
+}
+
 /// A program: a control-flow graph over points, which are numbered from 0 on.
 #[derive(Drop)]
 pub struct Program {
@@ -82,7 +109,10 @@ pub struct Program {
 }
 
 impl Program {
-    ghost use Rattle.std.specs.Prelude.{◌≡◌, None, Some, MatchOption, slice_get};
+    ghost use Rattle.std.specs.Prelude.{◌≡◌, [], None, Some, MatchOption, IsTrue, Contains, List, Bool, false, ◌==◌, slice_get};
+    ghost use Rattle.std.specs.List.{list_any};
+    ghost use Rattle.stack_model.specs.Program.{of_point, no_insn, no_place, no_marks, starts_site, arrives, program_of, IsEntryPoint};
+    ghost use Rattle.stack_machine.specs.Program.{entry_points};
 
     /// How many points there are.
     pub fn count(&self) -> u32 {
@@ -112,31 +142,140 @@ impl Program {
         None
     }
 
+    /// A point's instruction; a nop of no bytes where there is no point.
+    pub fn insn(&self, q: u32) -> Insn
+        ensures { result ≡ of_point self.now no_insn (λ x. x.insn) q }
+    {
+        match self.point(q) {
+            Some(point) => point.insn,
+            None => Insn {
+                len: 0,
+                op: Op::Nop,
+            },
+        }
+    }
+
+    /// Where a point's bytes stand.
+    pub fn place(&self, q: u32) -> Place
+        ensures { result ≡ of_point self.now no_place (λ x. x.place) q }
+    {
+        match self.point(q) {
+            Some(point) => point.place,
+            None => NO_PLACE,
+        }
+    }
+
+    /// Where a point runs.
+    pub fn address(&self, q: u32) -> Place
+        ensures { result ≡ of_point self.now no_place (λ x. x.address) q }
+    {
+        match self.point(q) {
+            Some(point) => point.address,
+            None => NO_PLACE,
+        }
+    }
+
+    /// What a point is to its function.
+    pub fn role(&self, q: u32) -> Role
+        ensures { result ≡ of_point self.now Role.Plain (λ x. x.role) q }
+    {
+        match self.point(q) {
+            Some(point) => point.role,
+            None => Role::Plain,
+        }
+    }
+
+    /// Whether execution never passes a point.
+    pub fn is_dead_end(&self, q: u32) -> bool
+        ensures { result ≡ of_point self.now false (λ x. x.is_dead_end) q }
+    {
+        match self.point(q) {
+            Some(point) => point.is_dead_end,
+            None => false,
+        }
+    }
+
+    /// What is wrong with where a point goes.
+    pub fn marks(&self, q: u32) -> Marks
+        ensures { result ≡ of_point self.now no_marks (λ x. x.marks) q }
+    {
+        match self.point(q) {
+            Some(point) => point.marks,
+            None => Marks {
+                bad: false,
+                past_end: false,
+                into_site: false,
+                into_function: false,
+            },
+        }
+    }
+
+    /// Whether control goes from a point along this edge.
+    pub fn has_edge(&self, q: u32, edge: Edge) -> bool
+        ensures { IsTrue result → Contains (of_point self.now [] (λ x. x.goes.items) q) edge }
+    {
+        match self.point(q) {
+            Some(point) => has_edge(point.goes.as_slice(), edge),
+            None => false,
+        }
+    }
+
+    /// Whether a point follows a point.
+    pub fn follows(&self, q: u32, to: u32) -> bool
+        ensures { IsTrue result → Contains (of_point self.now [] (λ x. x.after.items) q) to }
+    {
+        match self.point(q) {
+            Some(point) => has_number(point.after.as_slice(), to),
+            None => false,
+        }
+    }
+
+    /// Whether a site begins at a place.
+    fn starts_site(&self, place: Place) -> bool
+        ensures { result ≡ starts_site self.now place }
+    {
+        self.sites
+            .iter()
+            .any(|site| is_same_place(site.start, place))
+    }
+
     /// Whether control that comes to a place may stand at a point: at the start of a site at the first of
     /// the original code and of each replacement, elsewhere at the plain point.
-    pub fn arrives(&self, place: Place, q: u32) -> bool {
-        let starts_site = self.sites.iter().any(|site| site.start == place);
+    pub fn arrives(&self, place: Place, q: u32) -> bool
+        ensures { result ≡ arrives self.now place q }
+    {
+        let starts_site = self.starts_site(place);
         match self.point(q) {
-            Some(point) => point.address == place && (point.variant == 0 || starts_site),
+            Some(point) => {
+                is_same_place(point.address, place) && (point.variant == 0 || starts_site)
+            }
             None => false,
         }
     }
 
     /// Whether control that comes to an entry may stand at a point.
-    pub fn enters(&self, entry: u32, q: u32) -> bool {
-        match self.point(entry) {
-            Some(point) => self.arrives(point.place, q),
-            None => false,
-        }
+    pub fn enters(&self, entry: u32, q: u32) -> bool
+        ensures { (set : List Bool) → IsTrue result → Contains (entry_points (program_of self.now set) entry) q }
+    {
+        self.arrives(self.place(entry), q)
     }
 
     /// Whether control that comes to some entry may stand at the point.
-    pub fn is_entry_point(&self, q: u32) -> bool {
-        self.entries.iter().any(|entry| self.enters(*entry, q))
+    pub fn is_entry_point(&self, q: u32) -> bool
+        ensures { (set : List Bool) → IsTrue result → IsEntryPoint self.now set q }
+    {
+        for entry in &self.entries {
+            if self.enters(*entry, q) {
+                return true;
+            }
+        }
+        false
     }
 
     /// Whether a symbol is known never to return.
-    pub fn never_returns(&self, sym: u32) -> bool {
+    pub fn never_returns(&self, sym: u32) -> bool
+        ensures { result ≡ list_any (λ other. other == sym) self.now.never_returning.items }
+    {
         self.never_returning.contains(&sym)
     }
 }

@@ -13,6 +13,9 @@ pub struct Store {
     pub byte: u8,
 }
 
+/// Every stack ends below this address, a gigabyte below the last.
+const END_OF_STACKS: u128 = (1 << 64) - (1 << 30);
+
 /// The stack in memory: the addresses from `lo` on, one byte each.
 #[derive(Clone, Drop)]
 pub struct Region {
@@ -37,7 +40,7 @@ fn little_endian(bytes: &[u8]) -> u64
 
 impl Region {
     ghost use Rattle.std.specs.Prelude.{◌≡◌, ◌≢◌, ℕ, ◌<◌, All, IfOk, IfSome, IsSome, IsTrue, Some};
-    ghost use Rattle.machine_ops.specs.Region.{hi_of, byte_at, word_at, Reads, SameAddresses, WritesOnly, WritesWord, Stores};
+    ghost use Rattle.machine_ops.specs.Region.{hi_of, IsRegion, byte_at, word_at, Reads, SameAddresses, WritesOnly, WritesWord, Stores};
     ghost use Rattle.stack_model.specs.Region.{region_of, WritesBytes, StoresWord};
 
     /// The address behind the last byte, a plain sum.
@@ -45,6 +48,14 @@ impl Region {
         ensures { result ≡ hi_of (region_of self.now) }
     {
         u128::from(self.lo) + self.bytes.len() as u128
+    }
+
+    /// Whether it stays clear of the end of the addresses by a gigabyte.
+    pub fn is_placed(&self) -> bool
+        ensures { IsTrue result → IsRegion (region_of self.now) }
+    {
+        let bytes = self.bytes.as_slice();
+        u128::from(self.lo) + (bytes.len() as u128) < END_OF_STACKS
     }
 
     /// The byte at an address, where the region has one.

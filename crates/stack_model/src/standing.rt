@@ -1,11 +1,21 @@
+ghost use Rattle.std.specs.Prelude.{IsTrue};
+ghost use Rattle.stack_model.specs.Region.{region_of, IsWithin};
+
 use crate::frame::{Frame, Mark};
 use crate::region::Region;
 use crate::shadow::{are_kept, end_of, listed, protected_addresses, top_slot};
 use machine_ops::EndKind;
 use std::alloc::{AllocError, Global};
 
-/// Every stack ends below this address, a gigabyte below the last.
-const END_OF_STACKS: u128 = (1 << 64) - (1 << 30);
+/// Whether a region ends a gigabyte below the last address, and rsp is in it or right behind it.
+fn is_within(rsp: u64, rbp: u64, region: &Region) -> bool
+    ensures { IsTrue result → IsWithin rsp rbp (region_of region.now) }
+{
+    if !region.is_placed() || rsp < region.lo {
+        return false;
+    }
+    u128::from(rsp) <= region.end()
+}
 
 /// What an operation acts on: the registers that matter to the stack, the stack in memory, and the
 /// shadow call stack.
@@ -24,6 +34,8 @@ pub struct Core {
 impl Core {
     ghost use Rattle.std.specs.Prelude.{◌≡◌, IfOk};
     ghost use Rattle.machine_ops.specs.Frame.{protected_addresses};
+    ghost use Rattle.machine_ops.specs.Effect.{IsInStack};
+    ghost use Rattle.stack_model.specs.Standing.{core_of};
     ghost use Rattle.stack_model.specs.Frame.{frames_of};
 
     /// The addresses of the words that ordinary stores spare.
@@ -35,12 +47,10 @@ impl Core {
 
     /// Whether the region stays clear of the end of the addresses by a gigabyte, and rsp is in it or
     /// right behind it.
-    pub fn is_in_stack(&self) -> bool {
-        let end = self.region.end();
-        if end >= END_OF_STACKS || self.rsp < self.region.lo {
-            return false;
-        }
-        u128::from(self.rsp) <= end
+    pub fn is_in_stack(&self) -> bool
+        ensures { IsTrue result → IsInStack (core_of self.now) }
+    {
+        is_within(self.rsp, self.rbp, &self.region)
     }
 }
 
@@ -58,7 +68,7 @@ pub struct Standing {
 }
 
 impl Standing {
-    ghost use Rattle.std.specs.Prelude.{◌≡◌, IfOk, IsTrue};
+    ghost use Rattle.std.specs.Prelude.{◌≡◌, IfOk};
     ghost use Rattle.machine_ops.specs.Frame.{listed};
     ghost use Rattle.stack_machine.specs.Machine.{frames_end};
     ghost use Rattle.stack_machine.specs.Hint.{KeepsSlots, mark_at};

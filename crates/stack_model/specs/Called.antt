@@ -1,0 +1,27 @@
+-- What a call makes of a state.
+use Rattle.std.specs.Prelude.{◌≡◌, ℕ, ◌≤◌, ◌^◌, ◌∷◌, Some, None}
+use Rattle.machine_ops.specs.Address.{down}
+use Rattle.machine_ops.specs.Region.{hi_of, WritesWord}
+use Rattle.machine_ops.specs.Frame.{Frame, Unsaved}
+use Rattle.stack_machine.specs.Machine.{Standing}
+
+-- the frame of a call with this return address
+abbrev pub frame_called : Standing → ℕ → Frame
+frame_called s ra = record {
+  call = Some s.point;
+  ra = ra;
+  cfa = s.core.rsp;
+  bp = s.core.rbp;
+  slot = Unsaved;
+  ac = s.core.ac;
+  ended_caller = s.ended;
+  mark_caller = s.mark;
+}
+
+-- the return address is pushed, the frame is made, and control stands at this point
+pub record IsCalled (ra at : ℕ) (s t : Standing) : Type 0 where
+  pub point : t.point ≡ at
+  pub pushed : hi_of s.core.region ≤ 2 ^ 64 → WritesWord (down s.core.rsp 8) ra s.core.region t.core.region
+  pub core : t.core ≡ record s.core { rsp = down s.core.rsp 8; region = t.core.region; shadow = frame_called s ra ∷ s.core.shadow }
+  pub ended : t.ended ≡ None
+  pub mark : t.mark ≡ None
