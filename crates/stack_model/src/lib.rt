@@ -46,6 +46,3 @@ pub use standing::{Core, Machine, Standing};
 pub use state_row::StateRow;
 pub use steps::step;
 pub use walks::{Walked, walk};
-
-#[cfg(test)]
-mod tests;

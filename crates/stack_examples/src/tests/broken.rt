@@ -6,9 +6,9 @@ use super::expect::{
     HI, LO, OUTSIDE, Wrong, call, called, checked, expect_no_step, expect_warnings,
     expect_warnings_under, expect_wrong, next, outermost, standing, tail_call, warns,
 };
-use crate::{Choice, InterruptWords, Region, Slot, Start, Wreck, started};
 use machine_ops::{EdgeKind, EndKind, HintState, Marks, Op, Role, State};
 use ot_base::{Options, Place, Warning};
+use stack_model::{Choice, InterruptWords, Region, Slot, Start, Wreck, started};
 use std::alloc::Global;
 use std::process::Abort;
 use std::test::Fail;

@@ -6,9 +6,9 @@ use super::expect::{
     ANYTHING, CALLER, Example, RBP, back, call, called, checked, expect_accepted, expect_no_step,
     expect_run, expect_states, frame, framed, go, live, next, plain, standing, stands, tail_call,
 };
-use crate::{Anything, Choice, Start, Store, started};
 use machine_ops::{BpHome, Edge, EdgeKind, EndKind, HintState, Op, Role, State};
 use orc_walk::Stop;
+use stack_model::{Anything, Choice, Start, Store, started};
 use std::alloc::{AllocError, Global};
 use std::test::Fail;
 

@@ -1,12 +1,12 @@
 //! What is expected of a program: its warnings, its kept states, and its runs.
 
-use crate::{
-    Anything, Choice, Core, Frame, Kept, Machine, Program, Region, Slot, Standing, Start,
-    all_warnings, next_state, rows_of, started, walk, warnings,
-};
 use machine_ops::{BpHome, Depth, Edge, EdgeKind, State};
 use orc_walk::{Frame as WalkedFrame, Range, Regs, Stop};
 use ot_base::{Options, Place, PlacedRow, Warning};
+use stack_model::{
+    Anything, Choice, Core, Frame, Kept, Machine, Program, Region, Slot, Standing, Start,
+    all_warnings, next_state, rows_of, started, walk, warnings,
+};
 use std::alloc::{AllocError, Global};
 use std::process::Abort;
 use std::test::Fail;
@@ -268,7 +268,7 @@ fn walked_from(
     alloc: Global,
     example: &Example,
     s: &Standing,
-) -> Result<crate::Walked, AllocError> {
+) -> Result<stack_model::Walked, AllocError> {
     let off = example
         .program
         .point(s.point)
@@ -360,7 +360,7 @@ pub fn expect_no_step(
 ) -> Result<(), Fail> {
     let p = &example.program;
     let start = Start::AtEntry { entry: 0 };
-    let states = crate::run(alloc, p, &example.placement, start, t, choices)?;
+    let states = stack_model::run(alloc, p, &example.placement, start, t, choices)?;
     assert_eq!(rt; states.len(), choices.len() + 1);
     if let Some(machine) = states.last() {
         let after = next_state(alloc, p, &example.placement, machine, last)?;
@@ -413,7 +413,7 @@ pub fn expect_wrong(
     wrong: Wrong,
 ) -> Result<(), Fail> {
     let p = &example.program;
-    let states = crate::run(alloc, p, &example.placement, start, t, choices)?;
+    let states = stack_model::run(alloc, p, &example.placement, start, t, choices)?;
     assert_eq!(rt; states.len(), choices.len() + 1);
     for (i, machine) in states.iter().enumerate() {
         let expected = if i == choices.len() {

@@ -6,8 +6,8 @@ use super::expect::{
     CALLER, OUTSIDE, RBP, called, checked, expect_accepted, expect_no_step, expect_run,
     expect_states, frame, framed, live, next, outermost, plain, standing, stands,
 };
-use crate::{Choice, InterruptWords, Slot, Start};
 use machine_ops::{BpHome, HintState, Op, State};
+use stack_model::{Choice, InterruptWords, Slot, Start};
 use std::test::Fail;
 
 /// A state over saved registers.

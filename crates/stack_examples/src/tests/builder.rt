@@ -1,8 +1,8 @@
 //! Programs from tables of their instructions.
 
-use crate::{Point, Program, Site, TextSection};
 use machine_ops::{Edge, EdgeKind, HintState, Insn, Marks, Op, Role};
 use ot_base::Place;
+use stack_model::{Point, Program, Site, TextSection};
 use std::alloc::{AllocError, Global};
 
 /// Nothing is wrong with where an instruction goes.
