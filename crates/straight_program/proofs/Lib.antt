@@ -7,4 +7,5 @@ pub mod KeptStates
 pub mod Laid
 pub mod Accepted
 pub mod Unwind
+pub mod Outside
 pub mod WorkedRun

@@ -1,11 +1,12 @@
 -- What holds of the program of straight code, of its rows, and of walks over them.
-use Rattle.std.specs.Prelude.{◌≡◌, ℕ, ◌<◌, ◌≤◌, true, List, [], ◌∷◌, Some, All}
+use Rattle.std.specs.Prelude.{◌≡◌, ℕ, ◌<◌, ◌≤◌, true, List, [], ◌∷◌, Some, None, All}
 use Rattle.ot_base.specs.declared.row.PlacedRow.{PlacedRow}
 use Rattle.machine_ops.specs.declared.insn.Insn.{Insn}
 use Rattle.machine_ops.specs.declared.state.State.{State}
 use Rattle.machine_ops.specs.Row.{has_16_bits}
 use Rattle.stack_machine.specs.Program.{TextSection}
-use Rattle.stack_machine.specs.Machine.{Bases, Machine}
+use Rattle.stack_machine.specs.Machine.{Bases, Machine, Wrecked, At, frames_end}
+use Rattle.stack_machine.specs.Machine as machine
 use Rattle.stack_machine.specs.Run.{Run}
 use Rattle.stack_machine.specs.Kept.{Kept}
 use Rattle.stack_machine.specs.Broken.{IsAccepted}
@@ -68,3 +69,15 @@ StraightUnwinds =
     → IsStraightText text insns → IsPlacement (placed_section text ∷ []) ranges → BeginAt bases ranges
     → (m : Machine) → Run (program_of text insns) bases m
     → WalksToFrames (program_of text insns) (straight_rows text.sec insns) bases ranges m
+
+-- the frames go down to the outermost one: no hint has ended the stack
+abbrev pub EndsOutside : Machine → Type 0
+EndsOutside Wrecked = ⊥
+EndsOutside (At s) = frames_end s ≡ None
+
+-- so that walk stops outside
+abbrev pub StraightEndsOutside : Type 0
+StraightEndsOutside =
+    (text : TextSection) (insns : List Insn) (bases : Bases)
+    → IsStraightText text insns → machine.IsPlacement (program_of text insns) bases
+    → (m : Machine) → Run (program_of text insns) bases m → EndsOutside m

@@ -1,10 +1,11 @@
 //! What holds of the program of straight code, and of its rows.
 
-ghost use Rattle.straight_program.specs.Laws.{StraightIsAccepted, StraightIsKept, StraightIsProgram, StraightRowsAreFound, StraightRowsFit, StraightUnwinds};
+ghost use Rattle.straight_program.specs.Laws.{StraightEndsOutside, StraightIsAccepted, StraightIsKept, StraightIsProgram, StraightRowsAreFound, StraightRowsFit, StraightUnwinds};
 ghost use Rattle.straight_program.specs.Worked.{HasWorkedProgram, HasWorkedRun, HasWorkedTable, HasWorkedWalk};
 
 use orc_walk::{one_section_has_one_range, row_is_found_among_others};
 use program_walk::walk_law;
+use unwinding::unwinding_law;
 
 /// Straight code unwinds: wherever its section is placed, no run's stack is wrecked, and at each state
 /// of each run the walk over the section's rows gives the frames of the machine and stops where they end.
@@ -16,6 +17,15 @@ pub fn straight_unwinds()
     straight_is_accepted();
     straight_rows_are_found();
     one_section_has_one_range();
+}
+
+/// In each state of each run the frames go down to the outermost one, so that walk stops outside.
+pub fn straight_ends_outside()
+    ensures { StraightEndsOutside }
+{
+    unwinding_law();
+    straight_is_program();
+    straight_is_accepted();
 }
 
 /// Wherever the section is placed, the row of each instruction's depth is found at its address, and
