@@ -1,3 +1,4 @@
+pub mod Chosen
 pub mod Frames
 pub mod Lines
 pub mod Points

@@ -7,7 +7,7 @@ use crate::hint::lands;
 use crate::placement::is_inside;
 use crate::program::{Point, Program};
 use crate::standing::{Core, Machine, Standing};
-use crate::steps::step;
+use crate::steps::{interrupt, step};
 use machine_ops::{HintState, State};
 use orc_walk::Range;
 use std::alloc::{AllocError, Global};
@@ -115,7 +115,13 @@ pub fn next_state(
     let Machine::At(s) = machine else {
         return Ok(None);
     };
-    match step(alloc, p, placement, s.clone()?, choice)? {
+    let stepped = match choice {
+        Choice::IsInterrupted { gate, words } => {
+            interrupt(alloc, p, placement, s.clone()?, *gate, words)?
+        }
+        _ => step(alloc, p, placement, s.clone()?, choice)?,
+    };
+    match stepped {
         Some(Machine::At(t)) if !t.core.is_in_stack() => Ok(None),
         next => Ok(next),
     }
