@@ -2,5 +2,6 @@
 //! machine, and one that breaks each rule. The states, frames and warnings are written by hand.
 #![tactic(auto)]
 
+pub mod builder;
 #[cfg(test)]
 mod tests;

@@ -2,6 +2,5 @@
 
 mod accepted;
 mod broken;
-mod builder;
 mod expect;
 mod interrupts;

@@ -1,11 +1,11 @@
 //! Programs that break no rule: the states that are kept, runs with their frames, and the walk from
 //! each state of a run.
 
-use super::builder::{insn, program, site};
 use super::expect::{
     ANYTHING, CALLER, Example, RBP, back, call, called, checked, expect_accepted, expect_no_step,
     expect_run, expect_states, frame, framed, go, live, next, plain, standing, stands, tail_call,
 };
+use crate::builder::{insn, program, site};
 use machine_ops::{BpHome, Edge, EdgeKind, EndKind, HintState, Op, Role, State};
 use orc_walk::Stop;
 use stack_model::{Anything, Choice, Start, Store, started};

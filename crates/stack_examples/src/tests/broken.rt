@@ -1,11 +1,11 @@
 //! A wrong program for each rule: exactly that rule warns of it, at this place with these numbers, and a
 //! run of it goes wrong.
 
-use super::builder::{Line, NO_MARKS, insn, program, site};
 use super::expect::{
     HI, LO, OUTSIDE, Wrong, call, called, checked, expect_no_step, expect_warnings,
     expect_warnings_under, expect_wrong, next, outermost, standing, tail_call, warns,
 };
+use crate::builder::{Line, NO_MARKS, insn, program, site};
 use machine_ops::{EdgeKind, EndKind, HintState, Marks, Op, Role, State};
 use ot_base::{Options, Place, Warning};
 use stack_model::{Choice, InterruptWords, Region, Slot, Start, Wreck, started};

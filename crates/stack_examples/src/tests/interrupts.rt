@@ -1,11 +1,11 @@
 //! Interrupts: in a prologue, in the interrupt's own entry code, and back; at a gate with an error code;
 //! and one that came outside.
 
-use super::builder::{insn, program};
 use super::expect::{
     CALLER, OUTSIDE, RBP, called, checked, expect_accepted, expect_no_step, expect_run,
     expect_states, frame, framed, live, next, outermost, plain, standing, stands,
 };
+use crate::builder::{insn, program};
 use machine_ops::{BpHome, HintState, Op, State};
 use stack_model::{Choice, InterruptWords, Slot, Start};
 use std::test::Fail;

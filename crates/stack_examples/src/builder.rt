@@ -1,5 +1,8 @@
 //! Programs from tables of their instructions.
 
+ghost use Rattle.std.specs.Prelude.{◌≡◌, Some, None, IfOk, length, vec_len};
+ghost use Rattle.stack_examples.specs.Line.{goes_on, role_of, next_branches, line_place, line_address};
+
 use machine_ops::{Edge, EdgeKind, HintState, Insn, Marks, Op, Role};
 use ot_base::Place;
 use stack_model::{Point, Program, Site, TextSection};
@@ -16,32 +19,37 @@ pub const NO_MARKS: Marks = Marks {
 /// A line of a table: an instruction of section 1, or one of a replacement in section 2.
 #[derive(Clone, Copy)]
 pub struct Line {
-    off: u64,
-    len: u8,
-    op: Op,
-    function: Option<u32>,
-    owner: Option<u32>,
-    is_unchecked: bool,
-    hint: Option<HintState>,
-    save_of: Option<u32>,
-    goes_on: bool,
-    branches: [Option<(u64, EdgeKind)>; 2],
-    role: Role,
-    is_dead_end: bool,
-    marks: Marks,
+    pub off: u64,
+    pub len: u8,
+    pub op: Op,
+    pub function: Option<u32>,
+    pub owner: Option<u32>,
+    pub is_unchecked: bool,
+    pub hint: Option<HintState>,
+    pub save_of: Option<u32>,
+    pub goes_on: bool,
+    pub branches: [Option<(u64, EdgeKind)>; 2],
+    pub role: Role,
+    pub is_dead_end: bool,
+    pub marks: Marks,
     /// The variant of a replacement, and the offset in section 1 where the instruction runs.
-    replaces: Option<(u32, u64)>,
+    pub replaces: Option<(u32, u64)>,
 }
 
 /// Whether an instruction goes on to the one behind it.
-fn goes_on(op: Op) -> bool {
+fn goes_on(op: Op) -> bool
+    ensures { result ≡ goes_on op }
+{
     !matches!(
         op,
         Op::Jmp { .. } | Op::JmpInd { .. } | Op::Ret | Op::RetImm | Op::Iret | Op::Switch | Op::Ud2
     )
 }
 
-fn role_of(op: Op) -> Role {
+/// What an instruction is to its function, where it neither calls nor jumps to another.
+fn role_of(op: Op) -> Role
+    ensures { result ≡ role_of op }
+{
     match op {
         Op::Ret | Op::RetImm => Role::Return,
         Op::Iret | Op::Switch => Role::Switch,
@@ -50,7 +58,14 @@ fn role_of(op: Op) -> Role {
 }
 
 /// An instruction of function 0 at an offset of section 1.
-pub fn insn(off: u64, len: u8, op: Op) -> Line {
+pub fn insn(off: u64, len: u8, op: Op) -> Line
+    ensures function { result.function ≡ Some 0 }
+    ensures owner { result.owner ≡ Some 0 }
+    ensures goes_on { result.goes_on ≡ goes_on op }
+    ensures role { result.role ≡ role_of op }
+    ensures stands { line_place result ≡ record { sec = 1; off = off } }
+    ensures runs { line_address result ≡ off }
+{
     Line {
         off,
         len,
@@ -71,7 +86,9 @@ pub fn insn(off: u64, len: u8, op: Op) -> Line {
 
 impl Line {
     /// It is of another function, which is its own parent.
-    pub fn of(self, function: u32) -> Line {
+    pub fn of(self, function: u32) -> Line
+        ensures { result ≡ record self { function = Some function; owner = Some function } }
+    {
         Line {
             function: Some(function),
             owner: Some(function),
@@ -80,7 +97,9 @@ impl Line {
     }
 
     /// It is of a part of function 0.
-    pub fn of_part(self, function: u32) -> Line {
+    pub fn of_part(self, function: u32) -> Line
+        ensures { result ≡ record self { function = Some function } }
+    {
         Line {
             function: Some(function),
             ..self
@@ -88,7 +107,9 @@ impl Line {
     }
 
     /// It is of no function.
-    pub fn of_none(self) -> Line {
+    pub fn of_none(self) -> Line
+        ensures { result ≡ record self { function = None; owner = None } }
+    {
         Line {
             function: None,
             owner: None,
@@ -104,7 +125,9 @@ impl Line {
     }
 
     /// It also goes to this offset of section 1, in this way.
-    pub fn to(self, off: u64, kind: EdgeKind) -> Line {
+    pub fn to(self, off: u64, kind: EdgeKind) -> Line
+        ensures { result ≡ record self { branches = next_branches self.branches off kind } }
+    {
         let [first, _] = self.branches;
         Line {
             branches: match first {
@@ -140,20 +163,26 @@ impl Line {
     }
 
     /// It is one of a replacement, at its offset of section 2, and runs at this offset of section 1.
-    pub fn runs_at(self, variant: u32, off: u64) -> Line {
+    pub fn runs_at(self, variant: u32, off: u64) -> Line
+        ensures { result ≡ record self { replaces = Some (variant, off) } }
+    {
         Line {
             replaces: Some((variant, off)),
             ..self
         }
     }
 
-    fn place(self) -> Place {
+    fn place(self) -> Place
+        ensures { result ≡ line_place self }
+    {
         let sec = if self.replaces.is_some() { 2 } else { 1 };
         Place { sec, off: self.off }
     }
 
     /// The offset of section 1 where it runs.
-    fn address(self) -> u64 {
+    fn address(self) -> u64
+        ensures { result ≡ line_address self }
+    {
         self.replaces.map_or(self.off, |(_, off)| off)
     }
 
@@ -168,7 +197,9 @@ impl Line {
 }
 
 /// A site in section 1.
-pub fn site(off: u64, len: u64) -> Site {
+pub fn site(off: u64, len: u64) -> Site
+    ensures { result ≡ record { start = record { sec = 1; off = off }; len = len } }
+{
     Site {
         start: Place { sec: 1, off },
         len,
@@ -266,7 +297,11 @@ pub fn program(
     lines: &[Line],
     entries: &[u32],
     sites: &[Site],
-) -> Result<Program, AllocError> {
+) -> Result<Program, AllocError>
+    ensures points { IfOk result (λ p. vec_len p.points ≡ length lines.now) }
+    ensures entries { IfOk result (λ p. p.entries.items ≡ entries.now) }
+    ensures sites { IfOk result (λ p. p.sites.items ≡ sites.now) }
+{
     let mut points = Vec::new(alloc);
     let mut size = 0;
     for line in lines {
