@@ -20,7 +20,7 @@ use Rattle.objtool_cli.specs.Texts.{IsFirstUndecoded}
 use Rattle.x86_decode.specs.declared.DecodeFault.{DecodeFault}
 use Rattle.x86_decode.specs.Decoding.{OneOutcome, Outcome, StandsInFront}
 use Rattle.x86_text.specs.Code.{IsBoundary}
-use Rattle.machine_ops.specs.declared.insn.Insn.{Insn}
+use Rattle.operation_defs.specs.declared.insn.Insn.{Insn}
 use Rattle.elf_objects.specs.Contents.{section_at}
 use Rattle.objtool_cli.specs.Stop.{status_of}
 use Rattle.objtool_cli.proofs.EndsLemmas.{both_names}

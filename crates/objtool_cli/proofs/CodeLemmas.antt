@@ -3,9 +3,9 @@ use Rattle.std.proofs.Common.{◌≡◌, ℕ, ◌<◌, ◌≤◌, ◌^◌, List,
 use Rattle.std.specs.Prelude.{All, Some, IsSome, slice_get}
 use Rattle.std.proofs.lemmas.List.Sums.{sum_by-cons}
 use Rattle.std.proofs.lemmas.Option.{slice_get-get_or}
-use Rattle.machine_ops.specs.declared.insn.Insn.{Insn}
+use Rattle.operation_defs.specs.declared.insn.Insn.{Insn}
 use Rattle.ot_base.specs.declared.row.PlacedRow.{PlacedRow}
-use Rattle.orc_build.specs.Rows.{size_of}
+use Rattle.straight_table.specs.Rows.{size_of}
 use Rattle.std.proofs.lemmas.Bool.Decides.{nat_tests}
 use Rattle.std.specs.Prelude.{◌≢◌}
 use Rattle.std.proofs.Common.{inl, inr, length-take, length-drop}
@@ -15,7 +15,7 @@ use Rattle.elf_objects.specs.Elf.{Elf, SectionEntry}
 use Rattle.elf_objects.specs.Contents.{is_text, no_section, section_at, section_symbol_of}
 use Rattle.elf_objects.specs.Kind.{sht_null, sht_nobits}
 use Rattle.elf_objects.specs.Lent.{IsSlice}
-use Rattle.orc_build.specs.Rows.{IsCallOrZero, IsRowIn}
+use Rattle.straight_table.specs.Rows.{IsCallOrZero, IsRowIn}
 use Rattle.orc_bytes.specs.RowBytes.{IsRow}
 use Rattle.orc_bytes.specs.Sections.{IsRowOf}
 use Rattle.std.specs.Prelude.{map, if◌then◌else◌}
@@ -30,8 +30,8 @@ use Rattle.elf_objects.specs.Header.{is_text_header}
 use Rattle.elf_objects.specs.Object.{IsObject}
 use Rattle.elf_objects.specs.Sections.{text_bytes, text_size}
 use Rattle.elf_objects.proofs.Read.{length-sections, section_at-entry}
-use Rattle.orc_build.specs.Straight.{IsStraight, ops_of}
-use Rattle.straight_program.specs.Laws.{IsStraightText}
+use Rattle.straight_table.specs.Straight.{IsStraight, ops_of}
+use Rattle.straight_law.specs.Laws.{IsStraightText}
 use Rattle.x86_text.specs.declared.placed.PlacedInsn.{PlacedInsn}
 use Rattle.x86_text.specs.Code.{LeadsTo, code_of}
 use Rattle.objtool_cli.specs.Texts.{insns_of}

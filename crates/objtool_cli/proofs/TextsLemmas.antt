@@ -5,7 +5,7 @@ use Rattle.std.specs.List.{enumerate_from}
 use Rattle.std.proofs.lemmas.Bool.{false≢true}
 use Rattle.std.proofs.lemmas.List.{map-append, take_all, take_more}
 use Rattle.std.proofs.lemmas.List.Elements.{filter-append}
-use Rattle.orc_walk.specs.Placement.{TextSection}
+use Rattle.walk_defs.specs.Placement.{TextSection}
 use Rattle.elf_objects.specs.Contents.{is_text, no_section, section_at}
 use Rattle.elf_objects.specs.Elf.{Elf, SectionEntry}
 use Rattle.objtool_cli.specs.Form.{IsOnlyText}

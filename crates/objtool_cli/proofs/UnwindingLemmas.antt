@@ -1,19 +1,19 @@
 -- From the law of straight code to the theorem of an object.
 use Rattle.std.proofs.Common.{◌≡◌, ℕ, List, [], ◌∷◌, refl, sym, ap, ◌∙◌, subst}
-use Rattle.machine_ops.specs.declared.insn.Insn.{Insn}
-use Rattle.stack_machine.specs.Program.{Program, TextSection}
-use Rattle.orc_walk.specs.declared.range.Range.{Range}
-use Rattle.orc_walk.specs.Placement.{IsPlacement}
+use Rattle.operation_defs.specs.declared.insn.Insn.{Insn}
+use Rattle.program_defs.specs.Program.{Program, TextSection}
+use Rattle.walk_defs.specs.declared.range.Range.{Range}
+use Rattle.walk_defs.specs.Placement.{IsPlacement}
 use Rattle.elf_objects.specs.Elf.{Elf}
 use Rattle.elf_objects.specs.Contents.{section_at}
 use Rattle.elf_objects.specs.Object.{IsObject}
 use Rattle.orc_bytes.specs.Laws.{OneListFits}
 use Rattle.orc_bytes.specs.Sections.{HoldsOrc}
 use Rattle.orc_output.specs.OrcOutput.{with_orc_object}
-use Rattle.orc_build.specs.Rows.{straight_rows}
-use Rattle.program_tables.specs.Placed.{placed_section}
-use Rattle.straight_program.specs.Laws.{IsStraightText, StraightUnwinds}
-use Rattle.straight_program.specs.Program.{program_of}
+use Rattle.straight_table.specs.Rows.{straight_rows}
+use Rattle.table_defs.specs.Placed.{placed_section}
+use Rattle.straight_law.specs.Laws.{IsStraightText, StraightUnwinds}
+use Rattle.straight_law.specs.Program.{program_of}
 use Rattle.objtool_cli.specs.Form.{IsStraightCode}
 use Rattle.objtool_cli.specs.Texts.{insns_of}
 use Rattle.objtool_cli.specs.Unwinding.{IsProgramOf, UnwindsBy, straight_code, texts_of}

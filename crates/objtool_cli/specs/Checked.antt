@@ -1,11 +1,11 @@
 -- What `check` makes of the bytes of its input.
 use Rattle.std.specs.Prelude.{◌≡◌, ℕ, ◌<◌, ◌≤◌, List, length}
-use Rattle.machine_ops.specs.declared.insn.Insn.{Insn}
+use Rattle.operation_defs.specs.declared.insn.Insn.{Insn}
 use Rattle.elf_objects.specs.declared.fault.ElfFault.{ElfFault}
 use Rattle.elf_objects.specs.Elf.{Elf}
 use Rattle.elf_objects.specs.Object.{FirstFault, IsObject}
 use Rattle.elf_write.specs.Object.{appended_to}
-use Rattle.orc_build.specs.Rows.{straight_rows}
+use Rattle.straight_table.specs.Rows.{straight_rows}
 use Rattle.orc_output.specs.OrcOutput.{orc_sections}
 use Rattle.objtool_cli.specs.declared.stop.Refusal.{Refusal}
 use Rattle.objtool_cli.specs.declared.stop.Refusal.TheVariants.{Malformed, Undecoded, TooManySections, NotBuilt}

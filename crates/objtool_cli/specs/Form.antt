@@ -1,12 +1,12 @@
 -- The form of object that is checked so far: straight code.
 use Rattle.std.specs.Prelude.{◌≡◌, ℕ, ◌<◌, ◌≤◌, ◌==◌, ◌||◌, not, Bool, true, List, [], ◌∷◌, length, filter, All, IsSome, codes, bytes_eq}
 use Rattle.std.specs.List.{list_any}
-use Rattle.machine_ops.specs.declared.insn.Insn.{Insn}
+use Rattle.operation_defs.specs.declared.insn.Insn.{Insn}
 use Rattle.elf_objects.specs.declared.symbol.Home.TheVariants as home
 use Rattle.elf_objects.specs.Elf.{Elf, SectionEntry, SymbolEntry}
 use Rattle.elf_objects.specs.Contents.{is_text, section_at, section_symbol_of}
 use Rattle.elf_objects.specs.Kind.{sht_rela, sht_group}
-use Rattle.orc_build.specs.Straight.{IsStraight, ops_of}
+use Rattle.straight_table.specs.Straight.{IsStraight, ops_of}
 use Rattle.x86_text.specs.Code.{IsCode}
 use Rattle.objtool_cli.specs.Texts.{insns_of}
 

@@ -1,7 +1,7 @@
 -- The instructions of an object's text sections.
 use Rattle.std.specs.Prelude.{◌≡◌, ℕ, ◌<◌, true, List, length, map, filter, drop, Err}
 use Rattle.std.specs.List.{enumerate_from}
-use Rattle.machine_ops.specs.declared.insn.Insn.{Insn}
+use Rattle.operation_defs.specs.declared.insn.Insn.{Insn}
 use Rattle.elf_objects.specs.Elf.{Elf}
 use Rattle.elf_objects.specs.Contents.{is_text, section_at}
 use Rattle.x86_decode.specs.Decoding.{Outcome}

@@ -5,20 +5,20 @@ use Rattle.std.specs.FinMap.{get}
 use Rattle.std.specs.List.{enumerate_from}
 use Rattle.ot_base.specs.declared.row.PlacedRow.{PlacedRow}
 use Rattle.ot_files.specs.Content.{Content}
-use Rattle.machine_ops.specs.declared.insn.Insn.{Insn}
-use Rattle.stack_machine.specs.Program.{Program}
-use Rattle.stack_machine.specs.Machine.{Bases, Machine}
-use Rattle.stack_machine.specs.Run.{Run}
-use Rattle.orc_walk.specs.declared.range.Range.{Range}
-use Rattle.orc_walk.specs.Placement.{TextSection, IsPlacement}
+use Rattle.operation_defs.specs.declared.insn.Insn.{Insn}
+use Rattle.program_defs.specs.Program.{Program}
+use Rattle.machine_defs.specs.Machine.{Bases, Machine}
+use Rattle.machine_defs.specs.Run.{Run}
+use Rattle.walk_defs.specs.declared.range.Range.{Range}
+use Rattle.walk_defs.specs.Placement.{TextSection, IsPlacement}
 use Rattle.elf_objects.specs.Contents.{is_text, section_at}
 use Rattle.elf_objects.specs.Elf.{Elf}
 use Rattle.elf_objects.specs.Object.{IsObject}
 use Rattle.orc_bytes.specs.Sections.{HoldsOrc}
 use Rattle.orc_output.specs.OrcOutput.{with_orc_object}
-use Rattle.program_tables.specs.Placed.{BeginAt}
-use Rattle.program_tables.specs.Walks.{WalksToFrames}
-use Rattle.straight_program.specs.Program.{program_of}
+use Rattle.table_defs.specs.Placed.{BeginAt}
+use Rattle.table_defs.specs.Walks.{WalksToFrames}
+use Rattle.straight_law.specs.Program.{program_of}
 use Rattle.objtool_cli.specs.Form.{IsStraightCode}
 
 -- the text sections of an object, ascending

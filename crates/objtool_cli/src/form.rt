@@ -5,13 +5,13 @@ ghost use Rattle.elf_objects.specs.Lent.{lent_section, lent_symbol};
 ghost use Rattle.objtool_cli.specs.Form.{hint_names, is_among, is_simple, is_special, orc_names, patch_names, is_function, IsFunctionAround, IsStraightCode};
 ghost use Rattle.objtool_cli.specs.Checked.{HasForm};
 ghost use Rattle.objtool_cli.specs.Texts.{bodies_of, body_in, insns_of};
-ghost use Rattle.straight_program.specs.Laws.{IsStraightText};
+ghost use Rattle.straight_law.specs.Laws.{IsStraightText};
 ghost use Rattle.x86_text.specs.Code.{IsCode, LeadsTo, code_of};
 
 use crate::texts::SectionText;
 use elf_objects::{Home, Object, Section, Symbol};
-use machine_ops::Insn;
-use orc_build::is_straight;
+use operation_defs::Insn;
+use straight_table::is_straight;
 use ot_base::NoMemory;
 use std::alloc::Global;
 use x86_text::Text;

@@ -2,20 +2,20 @@ ghost use Rattle.std.specs.Prelude.{◌≡◌, ◌≤◌, All, IfOk, length};
 ghost use Rattle.elf_objects.specs.Contents.{section_at};
 ghost use Rattle.elf_write.specs.Object.{appended_to};
 ghost use Rattle.orc_output.specs.OrcOutput.{orc_sections};
-ghost use Rattle.orc_build.specs.Rows.{straight_rows};
+ghost use Rattle.straight_table.specs.Rows.{straight_rows};
 ghost use Rattle.orc_bytes.specs.Sections.{IsRowOf};
-ghost use Rattle.straight_program.specs.Laws.{IsStraightText};
+ghost use Rattle.straight_law.specs.Laws.{IsStraightText};
 ghost use Rattle.objtool_cli.specs.Form.{IsStraightCode};
 ghost use Rattle.objtool_cli.specs.Unwinding.{UnwindsBy};
 
 use crate::form::StraightCode;
 use elf_objects::Object;
-use orc_build::straight_rows;
+use straight_table::straight_rows;
 use orc_bytes::rows_are_determined;
 use orc_output::with_orc;
 use ot_base::{NoMemory, PlacedRow};
 use std::alloc::Global;
-use straight_program::laws::straight_unwinds;
+use straight_law::laws::straight_unwinds;
 
 /// The rows of an object that is straight code.
 pub fn code_rows(

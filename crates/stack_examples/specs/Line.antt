@@ -1,11 +1,11 @@
 -- What a line of a table says of its instruction.
 use Rattle.std.specs.Prelude.{ℕ, Bool, true, false, List, [], ◌∷◌, Option, Some, None}
 use Rattle.ot_base.specs.declared.place.Place.{Place}
-use Rattle.machine_ops.specs.declared.op.Op.{Op}
-use Rattle.machine_ops.specs.declared.op.Op.TheVariants.{Jmp, JmpInd, Ret, RetImm, Iret, Switch, Ud2}
-use Rattle.machine_ops.specs.declared.flow.EdgeKind.{EdgeKind}
-use Rattle.machine_ops.specs.declared.flow.Role.{Role}
-use Rattle.machine_ops.specs.declared.flow.Role.TheVariants as role
+use Rattle.operation_defs.specs.declared.op.Op.{Op}
+use Rattle.operation_defs.specs.declared.op.Op.TheVariants.{Jmp, JmpInd, Ret, RetImm, Iret, Switch, Ud2}
+use Rattle.program_defs.specs.declared.flow.EdgeKind.{EdgeKind}
+use Rattle.program_defs.specs.declared.flow.Role.{Role}
+use Rattle.program_defs.specs.declared.flow.Role.TheVariants as role
 use Rattle.stack_examples.specs.declared.builder.Line.{Line}
 
 -- whether control goes on behind an instruction: not behind a jump, a return, a context switch or ud2

@@ -3,7 +3,9 @@
 ghost use Rattle.std.specs.Prelude.{◌≡◌, Some, None, IfOk, length, vec_len};
 ghost use Rattle.stack_examples.specs.Line.{goes_on, role_of, next_branches, line_place, line_address};
 
-use machine_ops::{Edge, EdgeKind, HintState, Insn, Marks, Op, Role};
+use operation_defs::{Insn, Op};
+use program_defs::{Edge, EdgeKind, Marks, Role};
+use state_defs::HintState;
 use ot_base::Place;
 use stack_model::{Point, Program, Site, TextSection};
 use std::alloc::{AllocError, Global};

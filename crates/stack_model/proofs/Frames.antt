@@ -6,9 +6,9 @@ use Rattle.std.proofs.lemmas.List.{map-append, take_all, take_more, append-nil}
 use Rattle.std.proofs.lemmas.Simd.{map-map}
 use Rattle.std.proofs.lemmas.List.Concat.{flat_map-append}
 use Rattle.std.proofs.lemmas.List.Elements.{All-map, All-weaker, All-same}
-use Rattle.machine_ops.specs.declared.state.EndKind.{EndKind}
-use Rattle.machine_ops.specs.Region.{Holds}
-use Rattle.machine_ops.specs.Frame.{Frame, Protected, protected, protected_addresses, listed, AreKept}
+use Rattle.state_defs.specs.declared.state.EndKind.{EndKind}
+use Rattle.state_defs.specs.Region.{Holds}
+use Rattle.state_defs.specs.Frame.{Frame, Protected, protected, protected_addresses, listed, AreKept}
 use Rattle.stack_model.specs.declared.frame.Frame.{Frame as OwnFrame}
 use Rattle.stack_model.specs.declared.frame.Protected.{Protected as OwnProtected}
 use Rattle.stack_model.specs.declared.region.Region.{Region as OwnRegion}

@@ -1,12 +1,12 @@
 -- Lines of the step, from what the model does.
 use Rattle.std.proofs.Common.{◌≡◌, ℕ, ◌≤◌, ◌^◌, ◌∷◌, sym, subst}
 use Rattle.std.specs.Prelude.{Contains}
-use Rattle.machine_ops.specs.declared.flow.Role.{Role}
-use Rattle.machine_ops.specs.Address.{down}
-use Rattle.machine_ops.specs.Region.{hi_of, WritesWord}
-use Rattle.stack_machine.specs.Program.{Program, entry_points}
-use Rattle.stack_machine.specs.Machine.{Bases, Standing, return_address}
-use Rattle.stack_machine.specs.Step.{MayCall, CallsIn}
+use Rattle.program_defs.specs.declared.flow.Role.{Role}
+use Rattle.state_defs.specs.Address.{down}
+use Rattle.state_defs.specs.Region.{hi_of, WritesWord}
+use Rattle.program_defs.specs.Program.{Program, entry_points}
+use Rattle.machine_defs.specs.Machine.{Bases, Standing, return_address}
+use Rattle.machine_defs.specs.Step.{MayCall, CallsIn}
 use Rattle.stack_model.specs.Called.{frame_called, IsCalled}
 
 pub calls_in_holds : (P : Program) (bases : Bases) (s t : Standing) (ra entry at : ℕ) (role : Role) → role ≡ P.role s.point → MayCall P role entry

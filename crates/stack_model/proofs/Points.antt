@@ -5,8 +5,8 @@ use Rattle.std.proofs.lemmas.Bool.{cases_lt}
 use Rattle.std.proofs.lemmas.Option.{slice_get_past}
 use Rattle.std.proofs.lemmas.List.Elements.{Contains-append_left, Contains-append_right}
 use Rattle.ot_base.specs.declared.place.Place.{Place}
-use Rattle.stack_machine.specs.Program.{below, entry_points}
-use Rattle.stack_machine.specs.Hint.{Hinted, Lands}
+use Rattle.program_defs.specs.Program.{below, entry_points}
+use Rattle.machine_defs.specs.Hint.{Hinted, Lands}
 use Rattle.stack_model.specs.declared.program.Program.{Program}
 use Rattle.stack_model.specs.declared.program.Point.{Point}
 use Rattle.stack_model.specs.declared.standing.Standing.{Standing}

@@ -6,8 +6,8 @@ use Rattle.std.proofs.lemmas.Option.{slice_get-get_or, get_or_from_slice_get}
 use Rattle.std.proofs.lemmas.Bool.{cases_lt, le-leb, leb-true}
 use Rattle.std.proofs.lemmas.Nat.{from_le_bytes-to_le_bytes_8}
 use Rattle.std.specs.Int.{w64, to_le_bytes, from_le_bytes}
-use Rattle.machine_ops.specs.Address.{up}
-use Rattle.machine_ops.specs.Region.{Region, hi_of, byte_at, little_endian, has_word, word_at, Reads, IsBeside, SameAddresses, WritesOnly, WritesWord}
+use Rattle.state_defs.specs.Address.{up}
+use Rattle.state_defs.specs.Region.{Region, hi_of, byte_at, little_endian, has_word, word_at, Reads, IsBeside, SameAddresses, WritesOnly, WritesWord}
 use Rattle.stack_model.specs.Region.{WritesBytes}
 
 -- eight addresses in a row are apart

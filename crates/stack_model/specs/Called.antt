@@ -1,9 +1,9 @@
 -- What a call makes of a state.
 use Rattle.std.specs.Prelude.{◌≡◌, ℕ, ◌≤◌, ◌^◌, ◌∷◌, Some, None}
-use Rattle.machine_ops.specs.Address.{down}
-use Rattle.machine_ops.specs.Region.{hi_of, WritesWord}
-use Rattle.machine_ops.specs.Frame.{Frame, Unsaved}
-use Rattle.stack_machine.specs.Machine.{Standing}
+use Rattle.state_defs.specs.Address.{down}
+use Rattle.state_defs.specs.Region.{hi_of, WritesWord}
+use Rattle.state_defs.specs.Frame.{Frame, Unsaved}
+use Rattle.machine_defs.specs.Machine.{Standing}
 
 -- the frame of a call with this return address
 abbrev pub frame_called : Standing → ℕ → Frame

@@ -1,6 +1,6 @@
 -- Frames, marks and protected words of the model, as the definitions have them.
 use Rattle.std.specs.Prelude.{List, map, option_map}
-use Rattle.machine_ops.specs.Frame.{Frame, Mark, Protected}
+use Rattle.state_defs.specs.Frame.{Frame, Mark, Protected}
 use Rattle.stack_model.specs.declared.frame.Frame.{Frame as OwnFrame}
 use Rattle.stack_model.specs.declared.frame.Mark.{Mark as OwnMark}
 use Rattle.stack_model.specs.declared.frame.Protected.{Protected as OwnProtected}

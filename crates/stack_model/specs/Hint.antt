@@ -1,9 +1,9 @@
 -- What the model's hints find true where the machine stands.
 use Rattle.std.specs.Prelude.{◌≡◌, option_map}
-use Rattle.machine_ops.specs.declared.state.State.{State}
-use Rattle.machine_ops.specs.Frame.{top_slot}
-use Rattle.machine_ops.specs.State.{MeansTop}
-use Rattle.stack_machine.specs.Hint.{KeepsSlots}
+use Rattle.state_defs.specs.declared.state.State.{State}
+use Rattle.state_defs.specs.Frame.{top_slot}
+use Rattle.state_defs.specs.State.{MeansTop}
+use Rattle.machine_defs.specs.Hint.{KeepsSlots}
 use Rattle.stack_model.specs.declared.frame.Mark.{Mark}
 use Rattle.stack_model.specs.declared.standing.Standing.{Standing}
 use Rattle.stack_model.specs.Slot.{slot_of}

@@ -3,11 +3,11 @@
 use Rattle.std.specs.Prelude.{ℕ, Bool, false, ◌&&◌, ◌||◌, List, [], Option, Some, None, ◌==◌, filter, map, Contains, length, slice_get, slice_index_or}
 use Rattle.std.specs.List.{list_any}
 use Rattle.ot_base.specs.declared.place.Place.{Place}
-use Rattle.machine_ops.specs.declared.op.Op.TheVariants.{Nop}
-use Rattle.machine_ops.specs.declared.insn.Insn.{Insn}
-use Rattle.machine_ops.specs.declared.flow.Role.TheVariants.{Plain}
-use Rattle.machine_ops.specs.declared.flow.Marks.{Marks}
-use Rattle.stack_machine.specs.Program.{Program, TextSection, Site, below, same_place, entry_points}
+use Rattle.operation_defs.specs.declared.op.Op.TheVariants.{Nop}
+use Rattle.operation_defs.specs.declared.insn.Insn.{Insn}
+use Rattle.program_defs.specs.declared.flow.Role.TheVariants.{Plain}
+use Rattle.program_defs.specs.declared.flow.Marks.{Marks}
+use Rattle.program_defs.specs.Program.{Program, TextSection, Site, below, same_place, entry_points}
 use Rattle.stack_model.specs.declared.program.Program.{Program as OwnProgram}
 use Rattle.stack_model.specs.declared.program.Point.{Point}
 use Rattle.stack_model.specs.declared.program.Site.{Site as OwnSite}

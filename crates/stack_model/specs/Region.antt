@@ -1,7 +1,7 @@
 -- The model's stack in memory, as the definitions have it.
 use Rattle.std.specs.Prelude.{◌≡◌, ℕ, ◌<◌, ◌≤◌, ◌^◌, List, Some, IsSome, slice_index}
-use Rattle.machine_ops.specs.Address.{up}
-use Rattle.machine_ops.specs.Region.{Region, hi_of, IsRegion, byte_at, Holds, WritesOnly, WritesWord, Stores}
+use Rattle.state_defs.specs.Address.{up}
+use Rattle.state_defs.specs.Region.{Region, hi_of, IsRegion, byte_at, Holds, WritesOnly, WritesWord, Stores}
 use Rattle.stack_model.specs.declared.region.Region.{Region as OwnRegion}
 use Rattle.stack_model.specs.declared.frame.Protected.{Protected}
 

@@ -1,5 +1,5 @@
 -- A slot of the model, as the definitions have it.
-use Rattle.machine_ops.specs.Frame.{Slot, Unsaved, SavedAt, PartialAt, FullAt}
+use Rattle.state_defs.specs.Frame.{Slot, Unsaved, SavedAt, PartialAt, FullAt}
 use Rattle.stack_model.specs.declared.slot.Slot.{Slot as OwnSlot}
 use Rattle.stack_model.specs.declared.slot.Slot.TheVariants as own
 

@@ -1,9 +1,9 @@
 -- States of the model, as the definitions have them.
 use Rattle.std.specs.Prelude.{◌≡◌, ℕ, ◌≤◌, ◌^◌, option_map}
-use Rattle.machine_ops.specs.Region.{hi_of, WritesWord}
-use Rattle.machine_ops.specs.Frame.{after_save}
-use Rattle.machine_ops.specs.Effect.{Core, StoresOrdinarily}
-use Rattle.stack_machine.specs.Machine.{Standing, Machine, Wrecked, At}
+use Rattle.state_defs.specs.Region.{hi_of, WritesWord}
+use Rattle.state_defs.specs.Frame.{after_save}
+use Rattle.state_defs.specs.Effect.{Core, StoresOrdinarily}
+use Rattle.machine_defs.specs.Machine.{Standing, Machine, Wrecked, At}
 use Rattle.stack_model.specs.declared.standing.Core.{Core as OwnCore}
 use Rattle.stack_model.specs.declared.standing.Standing.{Standing as OwnStanding}
 use Rattle.stack_model.specs.declared.standing.Machine.{Machine as OwnMachine}

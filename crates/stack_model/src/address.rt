@@ -1,7 +1,7 @@
 //! Addresses: sums on them wrap at 2^64.
 
 ghost use Rattle.std.specs.Prelude.{◌≡◌, neg_ℤ};
-ghost use Rattle.machine_ops.specs.Address.{up, down, shifted};
+ghost use Rattle.state_defs.specs.Address.{up, down, shifted};
 
 /// The address n bytes above.
 pub fn up(address: u64, n: u64) -> u64

@@ -1,8 +1,8 @@
 //! Calls.
 
 ghost use Rattle.std.specs.Prelude.{◌≡◌, ◌≤◌, ◌^◌, not, IfOk, IfSome, IsTrue, List, Bool};
-ghost use Rattle.machine_ops.specs.Region.{hi_of};
-ghost use Rattle.stack_machine.specs.Step.{MayCall, CallsIn, CallsOut, may_call_out};
+ghost use Rattle.state_defs.specs.Region.{hi_of};
+ghost use Rattle.machine_defs.specs.Step.{MayCall, CallsIn, CallsOut, may_call_out};
 ghost use Rattle.stack_model.specs.Region.{region_of};
 ghost use Rattle.stack_model.specs.Standing.{standing_of};
 ghost use Rattle.stack_model.specs.Program.{program_of};
@@ -18,8 +18,8 @@ use crate::program::{Program, has_number};
 use crate::region::Store;
 use crate::slot::Slot;
 use crate::standing::Standing;
-use machine_ops::Role;
-use orc_walk::Range;
+use program_defs::Role;
+use walk_defs::Range;
 use std::alloc::{AllocError, Global};
 
 /// Whether a call may go to this entry.

@@ -1,5 +1,5 @@
 use crate::region::Store;
-use machine_ops::Edge;
+use program_defs::Edge;
 
 /// What a definition lets be anything: a run chooses it.
 #[derive(Clone, Copy)]

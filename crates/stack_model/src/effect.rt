@@ -1,10 +1,10 @@
 //! What an operation does to registers, memory and slots.
 
 ghost use Rattle.std.specs.Prelude.{◌≡◌, ◌≤◌, ◌^◌, IfOk, IfSome, IsTrue, true};
-ghost use Rattle.machine_ops.specs.Region.{hi_of, WritesWord};
-ghost use Rattle.machine_ops.specs.Frame.{after_save};
-ghost use Rattle.machine_ops.specs.Effect.{Effect, StoresOrdinarily, store_saves};
-ghost use Rattle.machine_ops.specs.Address.{shifted};
+ghost use Rattle.state_defs.specs.Region.{hi_of, WritesWord};
+ghost use Rattle.state_defs.specs.Frame.{after_save};
+ghost use Rattle.state_defs.specs.Effect.{Effect, StoresOrdinarily, store_saves};
+ghost use Rattle.state_defs.specs.Address.{shifted};
 ghost use Rattle.stack_model.specs.Region.{region_of};
 ghost use Rattle.stack_model.specs.Frame.{frames_of};
 ghost use Rattle.stack_model.specs.Standing.{core_of, StoresOnly, SavesAt, StoresAt};
@@ -16,7 +16,7 @@ use crate::region::Store;
 use crate::shadow::{load_bp, pop_bp, save_bp};
 use crate::slot::Slot;
 use crate::standing::Core;
-use machine_ops::Op;
+use operation_defs::Op;
 use std::alloc::{AllocError, Global};
 
 /// Ordinary stores: to any bytes outside protected slots.

@@ -2,7 +2,7 @@ ghost use Rattle.std.specs.Prelude.{◌≡◌};
 
 use crate::address::{down, up};
 use crate::slot::Slot;
-use machine_ops::EndKind;
+use state_defs::EndKind;
 use std::alloc::{AllocError, Global};
 
 /// The last SAVE hint passed on a level, and what stood there.
@@ -59,7 +59,7 @@ fn word(at: u64, value: u64) -> Protected
 
 impl Frame {
     ghost use Rattle.std.specs.Prelude.{◌≡◌, IfOk};
-    ghost use Rattle.machine_ops.specs.Frame.{protected};
+    ghost use Rattle.state_defs.specs.Frame.{protected};
     ghost use Rattle.stack_model.specs.Frame.{frame_of, words_of};
 
     /// The protected slots of the frame, by its kind.

@@ -1,9 +1,9 @@
 //! Steps within a function, and from one function to another by a jump.
 
 ghost use Rattle.std.specs.Prelude.{◌≡◌, ◌≤◌, ◌^◌, IfOk, IfSome, IsTrue, List, Bool};
-ghost use Rattle.machine_ops.specs.Region.{hi_of};
-ghost use Rattle.stack_machine.specs.Program.{is_local};
-ghost use Rattle.stack_machine.specs.Step.{GoesOn, Faults, JumpsTo, TailCalls};
+ghost use Rattle.state_defs.specs.Region.{hi_of};
+ghost use Rattle.program_defs.specs.Program.{is_local};
+ghost use Rattle.machine_defs.specs.Step.{GoesOn, Faults, JumpsTo, TailCalls};
 ghost use Rattle.stack_model.specs.Region.{region_of};
 ghost use Rattle.stack_model.specs.Standing.{standing_of};
 ghost use Rattle.stack_model.specs.Program.{program_of};
@@ -13,7 +13,7 @@ use crate::effect::{effect, store_ordinarily};
 use crate::program::Program;
 use crate::region::Store;
 use crate::standing::Standing;
-use machine_ops::{Edge, EdgeKind, Role};
+use program_defs::{Edge, EdgeKind, Role};
 use std::alloc::{AllocError, Global};
 
 /// Whether an edge of this kind runs the instruction, and stays on the level.

@@ -1,7 +1,7 @@
 //! Unwind hints: when they are true, and what they do.
 
 ghost use Rattle.std.specs.Prelude.{◌≡◌, IfOk, IfSome, IsTrue, List, Bool};
-ghost use Rattle.stack_machine.specs.Hint.{IsInInterrupt, SetsState, Restores, Hinted, Lands};
+ghost use Rattle.machine_defs.specs.Hint.{IsInInterrupt, SetsState, Restores, Hinted, Lands};
 ghost use Rattle.stack_model.specs.Frame.{frames_of};
 ghost use Rattle.stack_model.specs.Standing.{standing_of};
 ghost use Rattle.stack_model.specs.Hint.{IsToldAt, IsKeptAt, IsAtMark};
@@ -14,7 +14,7 @@ use crate::program::Program;
 use crate::shadow::{set_top_slot, top_slot};
 use crate::slot::Slot;
 use crate::standing::Standing;
-use machine_ops::{HintState, State};
+use state_defs::{HintState, State};
 use std::alloc::{AllocError, Global};
 
 /// Whether the top frame is an interrupt's.

@@ -1,8 +1,8 @@
 //! Interrupts, and returns from them.
 
 ghost use Rattle.std.specs.Prelude.{◌∷◌, IfSome, IsTrue, List, Bool};
-ghost use Rattle.machine_ops.specs.Frame.{Frame as DefinedFrame};
-ghost use Rattle.stack_machine.specs.Step.{IsAtIret, MissesIret, ReturnsFromInterrupt};
+ghost use Rattle.state_defs.specs.Frame.{Frame as DefinedFrame};
+ghost use Rattle.machine_defs.specs.Step.{IsAtIret, MissesIret, ReturnsFromInterrupt};
 ghost use Rattle.stack_model.specs.Frame.{frame_of, frames_of};
 ghost use Rattle.stack_model.specs.Standing.{core_of, standing_of};
 ghost use Rattle.stack_model.specs.Program.{program_of};
@@ -16,8 +16,9 @@ use crate::program::Program;
 use crate::returns::pop_frame;
 use crate::slot::Slot;
 use crate::standing::{Core, Standing};
-use machine_ops::{HintState, Op, State};
-use orc_walk::Range;
+use operation_defs::Op;
+use state_defs::{HintState, State};
+use walk_defs::Range;
 use std::alloc::AllocError;
 
 /// How many bytes the processor pushes below the five words at a gate: those of an error code, 8, or

@@ -1,6 +1,8 @@
 use crate::may_return::{may_return, target_may_return};
 use crate::program::{Point, Program};
-use machine_ops::{Edge, EdgeKind, HintState, Op, State};
+use operation_defs::Op;
+use program_defs::{Edge, EdgeKind};
+use state_defs::{HintState, State};
 use stack_state::{initial, step};
 use std::alloc::{AllocError, Global};
 

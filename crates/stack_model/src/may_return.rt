@@ -1,7 +1,7 @@
 //! From which points on a return may come: the least such set, found by rounds.
 
 use crate::program::{Point, Program};
-use machine_ops::{EdgeKind, Role};
+use program_defs::{EdgeKind, Role};
 use std::alloc::{AllocError, Global};
 
 /// Whether a role is that of a call.

@@ -1,14 +1,14 @@
 //! What a state says of rsp, rbp and the frames.
 
 ghost use Rattle.std.specs.Prelude.{IsTrue};
-ghost use Rattle.machine_ops.specs.State.{MeansDepth, MeansHome, Means, MeansTop};
+ghost use Rattle.state_defs.specs.State.{MeansDepth, MeansHome, Means, MeansTop};
 ghost use Rattle.stack_model.specs.Slot.{slot_of};
 ghost use Rattle.stack_model.specs.Frame.{frame_of, frames_of};
 
 use crate::address::shifted_back;
 use crate::frame::Frame;
 use crate::slot::Slot;
-use machine_ops::{BpHome, Depth, State};
+use state_defs::{BpHome, Depth, State};
 
 /// Bytes of a whole pt_regs, and of the five words of an interrupt.
 const FULL_SIZE: u64 = 168;

@@ -5,7 +5,8 @@ use crate::point_rules::warning;
 use crate::program::Program;
 use crate::rules::warnings;
 use crate::site_rules::is_call_op;
-use machine_ops::{BpHome, Op, State};
+use operation_defs::Op;
+use state_defs::{BpHome, State};
 use ot_base::{Options, Warning};
 use std::alloc::{AllocError, Global};
 

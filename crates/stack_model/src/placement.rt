@@ -1,12 +1,12 @@
 //! Where a program's sections are placed in memory: one range for each.
 
 ghost use Rattle.std.specs.Prelude.{◌≡◌, ◌+◌, IfSome, List, Bool};
-ghost use Rattle.stack_machine.specs.Machine.{point_address, return_address};
+ghost use Rattle.machine_defs.specs.Machine.{point_address, return_address};
 ghost use Rattle.stack_model.specs.Placement.{bases_of};
 ghost use Rattle.stack_model.specs.Program.{program_of};
 
 use crate::program::Program;
-use orc_walk::Range;
+use walk_defs::Range;
 use ot_base::Place;
 
 /// The address at which a section begins, 0 where it has no range.

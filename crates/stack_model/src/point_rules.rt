@@ -3,7 +3,9 @@
 use crate::kept::Kept;
 use crate::program::{Point, Program};
 use crate::state_row::StateRow;
-use machine_ops::{Depth, EdgeKind, HintState, Op, Role, State};
+use operation_defs::Op;
+use program_defs::{EdgeKind, Role};
+use state_defs::{Depth, HintState, State};
 use ot_base::{Place, Warning};
 use stack_state::{initial, step};
 use std::alloc::{AllocError, Global};

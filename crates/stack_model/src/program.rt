@@ -1,7 +1,9 @@
 ghost use Rattle.std.specs.Prelude.{◌≡◌, IsTrue, Contains};
-ghost use Rattle.stack_machine.specs.Program.{same_place};
+ghost use Rattle.program_defs.specs.Program.{same_place};
 
-use machine_ops::{Edge, HintState, Insn, Marks, Op, Role};
+use operation_defs::{Insn, Op};
+use program_defs::{Edge, Marks, Role};
+use state_defs::HintState;
 use ot_base::Place;
 
 /// A section of code.
@@ -112,7 +114,7 @@ impl Program {
     ghost use Rattle.std.specs.Prelude.{◌≡◌, [], None, Some, MatchOption, IsTrue, Contains, List, Bool, false, ◌==◌, slice_get};
     ghost use Rattle.std.specs.List.{list_any};
     ghost use Rattle.stack_model.specs.Program.{of_point, no_insn, no_place, no_marks, starts_site, arrives, program_of, IsEntryPoint};
-    ghost use Rattle.stack_machine.specs.Program.{entry_points};
+    ghost use Rattle.program_defs.specs.Program.{entry_points};
 
     /// How many points there are.
     pub fn count(&self) -> u32 {

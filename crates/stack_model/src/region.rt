@@ -1,5 +1,5 @@
 ghost use Rattle.std.specs.Prelude.{◌≡◌, ◌<◌, ◌≤◌, ◌^◌, length};
-ghost use Rattle.machine_ops.specs.Region.{little_endian};
+ghost use Rattle.state_defs.specs.Region.{little_endian};
 
 use crate::address::up;
 use std::alloc::AllocError;
@@ -40,7 +40,7 @@ fn little_endian(bytes: &[u8]) -> u64
 
 impl Region {
     ghost use Rattle.std.specs.Prelude.{◌≡◌, ◌≢◌, ℕ, ◌<◌, All, IfOk, IfSome, IsSome, IsTrue, Some};
-    ghost use Rattle.machine_ops.specs.Region.{hi_of, IsRegion, byte_at, word_at, Reads, SameAddresses, WritesOnly, WritesWord, Stores};
+    ghost use Rattle.state_defs.specs.Region.{hi_of, IsRegion, byte_at, word_at, Reads, SameAddresses, WritesOnly, WritesWord, Stores};
     ghost use Rattle.stack_model.specs.Region.{region_of, WritesBytes, StoresWord};
 
     /// The address behind the last byte, a plain sum.

@@ -1,9 +1,9 @@
 //! Returns.
 
 ghost use Rattle.std.specs.Prelude.{◌≡◌, ◌∷◌, IfOk, IfSome, IsTrue, List, Bool};
-ghost use Rattle.machine_ops.specs.Address.{up};
-ghost use Rattle.machine_ops.specs.Frame.{Frame as DefinedFrame};
-ghost use Rattle.stack_machine.specs.Step.{IsAtReturn, MissesReturn, LeavesMemory, Returns, may_leave};
+ghost use Rattle.state_defs.specs.Address.{up};
+ghost use Rattle.state_defs.specs.Frame.{Frame as DefinedFrame};
+ghost use Rattle.machine_defs.specs.Step.{IsAtReturn, MissesReturn, LeavesMemory, Returns, may_leave};
 ghost use Rattle.stack_model.specs.Region.{region_of};
 ghost use Rattle.stack_model.specs.Frame.{frame_of, frames_of};
 ghost use Rattle.stack_model.specs.Standing.{core_of, standing_of};
@@ -16,7 +16,7 @@ use crate::program::Program;
 use crate::region::{Region, Store};
 use crate::shadow::protected_addresses;
 use crate::standing::{Core, Standing};
-use machine_ops::Role;
+use program_defs::Role;
 use std::alloc::{AllocError, Global};
 
 /// Whether a point may leave its function: by a return, or by a jump to code outside that returns.

@@ -4,7 +4,7 @@ use crate::kept::Kept;
 use crate::point_rules::{point_warnings, warning};
 use crate::program::Program;
 use crate::site_rules::site_warnings;
-use machine_ops::HintState;
+use state_defs::HintState;
 use ot_base::Warning;
 use std::alloc::{AllocError, Global};
 

@@ -8,8 +8,8 @@ use crate::placement::is_inside;
 use crate::program::{Point, Program};
 use crate::standing::{Core, Machine, Standing};
 use crate::steps::{interrupt, step};
-use machine_ops::{HintState, State};
-use orc_walk::Range;
+use state_defs::{HintState, State};
+use walk_defs::Range;
 use std::alloc::{AllocError, Global};
 
 /// Where a run starts.

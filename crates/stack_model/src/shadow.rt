@@ -1,7 +1,7 @@
 //! The shadow call stack, the top frame first.
 
 ghost use Rattle.std.specs.Prelude.{◌≡◌, ◌≤◌, length, take, IfOk, IsTrue, option_map, flat_map, map};
-ghost use Rattle.machine_ops.specs.Frame.{top_slot, protected, protected_addresses, listed, end_of, AreKept, with_top_slot, after_save, loaded_slot, popped_slot};
+ghost use Rattle.state_defs.specs.Frame.{top_slot, protected, protected_addresses, listed, end_of, AreKept, with_top_slot, after_save, loaded_slot, popped_slot};
 ghost use Rattle.stack_model.specs.Slot.{slot_of};
 ghost use Rattle.stack_model.specs.Frame.{frames_of, words_of};
 ghost use Rattle.stack_model.specs.Region.{region_of, IsWordKept};
@@ -9,7 +9,7 @@ ghost use Rattle.stack_model.specs.Region.{region_of, IsWordKept};
 use crate::frame::{Frame, Protected};
 use crate::region::Region;
 use crate::slot::Slot;
-use machine_ops::EndKind;
+use state_defs::EndKind;
 use std::alloc::{AllocError, Global};
 
 /// The slot of the top frame, where there is a frame.

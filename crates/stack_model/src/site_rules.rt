@@ -5,7 +5,8 @@ use crate::point_rules::warning;
 use crate::program::{Point, Program, Site};
 use crate::rows::is_kept_site;
 use crate::state_row::StateRow;
-use machine_ops::{Op, State};
+use operation_defs::Op;
+use state_defs::State;
 use ot_base::Warning;
 use std::alloc::AllocError;
 

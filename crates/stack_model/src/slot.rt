@@ -16,7 +16,7 @@ pub enum Slot {
 
 impl Slot {
     ghost use Rattle.std.specs.Prelude.{◌≡◌};
-    ghost use Rattle.machine_ops.specs.Frame.{is_of_call, saved_slot, loaded_slot, popped_slot};
+    ghost use Rattle.state_defs.specs.Frame.{is_of_call, saved_slot, loaded_slot, popped_slot};
     ghost use Rattle.stack_model.specs.Slot.{slot_of};
 
     /// Whether the frame is a call's.

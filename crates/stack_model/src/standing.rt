@@ -4,7 +4,7 @@ ghost use Rattle.stack_model.specs.Region.{region_of, IsWithin};
 use crate::frame::{Frame, Mark};
 use crate::region::Region;
 use crate::shadow::{are_kept, end_of, listed, protected_addresses, top_slot};
-use machine_ops::EndKind;
+use state_defs::EndKind;
 use std::alloc::{AllocError, Global};
 
 /// Whether a region ends a gigabyte below the last address, and rsp is in it or right behind it.
@@ -33,8 +33,8 @@ pub struct Core {
 
 impl Core {
     ghost use Rattle.std.specs.Prelude.{◌≡◌, IfOk};
-    ghost use Rattle.machine_ops.specs.Frame.{protected_addresses};
-    ghost use Rattle.machine_ops.specs.Effect.{IsInStack};
+    ghost use Rattle.state_defs.specs.Frame.{protected_addresses};
+    ghost use Rattle.state_defs.specs.Effect.{IsInStack};
     ghost use Rattle.stack_model.specs.Standing.{core_of};
     ghost use Rattle.stack_model.specs.Frame.{frames_of};
 
@@ -69,9 +69,9 @@ pub struct Standing {
 
 impl Standing {
     ghost use Rattle.std.specs.Prelude.{◌≡◌, IfOk};
-    ghost use Rattle.machine_ops.specs.Frame.{listed};
-    ghost use Rattle.stack_machine.specs.Machine.{frames_end};
-    ghost use Rattle.stack_machine.specs.Hint.{KeepsSlots, mark_at};
+    ghost use Rattle.state_defs.specs.Frame.{listed};
+    ghost use Rattle.machine_defs.specs.Machine.{frames_end};
+    ghost use Rattle.machine_defs.specs.Hint.{KeepsSlots, mark_at};
     ghost use Rattle.stack_model.specs.Frame.{frames_of, mark_of};
     ghost use Rattle.stack_model.specs.Standing.{standing_of};
 

@@ -1,9 +1,9 @@
 ghost use Rattle.std.specs.Prelude.{◌≡◌, true};
-ghost use Rattle.machine_ops.specs.Row.{row_of, has_16_bits};
+ghost use Rattle.state_defs.specs.Row.{row_of, has_16_bits};
 ghost use Rattle.stack_model.specs.StateRow.{row_as};
 
-use machine_ops::{BpHome, Depth, EndKind, State};
-use orc_walk::codes::{
+use state_defs::{BpHome, Depth, EndKind, State};
+use walk_defs::codes::{
     KIND_CALL, KIND_END_OF_STACK, KIND_REGS, KIND_REGS_PARTIAL, KIND_UNDEFINED, REG_BP,
     REG_PREV_SP, REG_SP, REG_UNDEFINED,
 };
@@ -72,7 +72,7 @@ fn low_16_bits(n: i128) -> i16
 
 impl StateRow {
     ghost use Rattle.std.specs.Prelude.{None};
-    ghost use Rattle.machine_ops.specs.Row.{unfit_in};
+    ghost use Rattle.state_defs.specs.Row.{unfit_in};
 
     /// The row of a state.
     pub fn of(state: State) -> StateRow

@@ -1,9 +1,9 @@
 //! The steps of the stack machine.
 
 ghost use Rattle.std.specs.Prelude.{◌≤◌, ◌^◌, IfOk, IfSome, List, Bool};
-ghost use Rattle.machine_ops.specs.Region.{hi_of};
-ghost use Rattle.stack_machine.specs.Machine.{Bases, At};
-ghost use Rattle.stack_machine.specs.Step.{Step};
+ghost use Rattle.state_defs.specs.Region.{hi_of};
+ghost use Rattle.machine_defs.specs.Machine.{Bases, At};
+ghost use Rattle.machine_defs.specs.Step.{Step};
 ghost use Rattle.stack_model.specs.Region.{region_of};
 ghost use Rattle.stack_model.specs.Standing.{standing_of, machine_of};
 ghost use Rattle.stack_model.specs.Program.{program_of};
@@ -18,7 +18,7 @@ use crate::program::Program;
 use crate::returns::returns;
 use crate::standing::{Machine, Standing};
 use crate::wrecks::may_wreck;
-use orc_walk::Range;
+use walk_defs::Range;
 use std::alloc::{AllocError, Global};
 
 /// The chosen step within the instruction's function, to a fixup, outside and back, or to another

@@ -4,11 +4,11 @@ ghost use Rattle.std.specs.Prelude.{◌<◌, IfOk};
 
 use crate::placement::{address_of, is_inside};
 use crate::region::Region;
-use orc_walk::codes::{
+use walk_defs::codes::{
     IRET_SP, KIND_CALL, KIND_END_OF_STACK, KIND_REGS, KIND_UNDEFINED, PT_REGS_BP, PT_REGS_IP,
     PT_REGS_SP, REG_BP, REG_PREV_SP, REG_SP, REG_UNDEFINED,
 };
-use orc_walk::{Frame, Range, Regs, Stop};
+use walk_defs::{Frame, Range, Regs, Stop};
 use ot_base::{PlacedRow, Row};
 use std::alloc::{AllocError, Global};
 

@@ -1,5 +1,5 @@
 ghost use Rattle.std.specs.Prelude.{IsTrue, List, Bool};
-ghost use Rattle.stack_machine.specs.Step.{Wrecks};
+ghost use Rattle.machine_defs.specs.Step.{Wrecks};
 ghost use Rattle.stack_model.specs.Standing.{standing_of};
 ghost use Rattle.stack_model.specs.Program.{program_of};
 
@@ -8,7 +8,7 @@ use crate::interrupts::misses_iret;
 use crate::program::Program;
 use crate::returns::{may_leave, misses_return};
 use crate::standing::Standing;
-use machine_ops::Op;
+use operation_defs::Op;
 
 /// Whether the stack may be wrecked in this way: it returns with a wrong stack, or goes where there is
 /// nothing to go to.

@@ -2,8 +2,8 @@
 use Rattle.std.proofs.Common.{◌≡◌, ℕ, ◌+◌, ◌-◌, ◌*◌, ◌/◌, ◌%◌, ◌^◌, ◌<◌, ◌≤◌, true, ℤ, pos, negsuc, neg_ℤ, ◌+ℤ◌, ◌≤ℤ◌, arith}
 use Rattle.std.specs.Prelude.{int_le}
 use Rattle.std.proofs.lemmas.Int.{ints}
-use Rattle.machine_ops.specs.Address.{up, down, shifted}
-use Rattle.machine_ops.specs.Move.{is_near}
+use Rattle.state_defs.specs.Address.{up, down, shifted}
+use Rattle.state_defs.specs.Move.{is_near}
 use Rattle.stack_state.proofs.Booleans.{and_true}
 
 -- x is a + k but for whole turns of 2^64

@@ -2,17 +2,17 @@
 use Rattle.std.proofs.Common.{◌≡◌, Bool, true, false, ◌&&◌, ℤ, pos, negsuc, ◌+ℤ◌, ◌-ℤ◌, ◌≤ℤ◌, arith, refl, sym, subst}
 use Rattle.std.specs.Prelude.{Option, Some, None, Ok, IsSome, int_le, int_lt}
 use Rattle.std.proofs.lemmas.Int.{ints}
-use Rattle.machine_ops.specs.declared.op.Op.{Op}
-use Rattle.machine_ops.specs.declared.op.Op.TheVariants.{Push, PushBp, Pop, PopBp, Popf, AddSp, AndSp, LeaSpBp, LeaBpSp, StoreBp, LoadBp, Leave, SpOther, BpOther}
-use Rattle.machine_ops.specs.declared.state.Depth.{Depth}
-use Rattle.machine_ops.specs.declared.state.Depth.TheVariants.{Known, AtLeast}
-use Rattle.machine_ops.specs.declared.state.BpHome.{BpHome}
-use Rattle.machine_ops.specs.declared.state.BpHome.TheVariants.{Same, Saved}
-use Rattle.machine_ops.specs.declared.state.State.{State}
-use Rattle.machine_ops.specs.declared.state.State.TheVariants.{Live, Ended, Regs}
-use Rattle.machine_ops.specs.State.{depth_of, with_depth, ended_by, IsConsistent, IsConsistentLive}
-use Rattle.machine_ops.specs.Move.{int_same, has_near_numbers, to, raise, pop_at, push_bp, pop_bp, align, rsp_from_bp, bp_from_rsp, store_bp, load_bp, leave, lose_bp, move_live, regs_floor, raise_regs, pop_bp_regs, lose_bp_regs, move_regs}
-use Rattle.machine_ops.specs.Sound.{MoveIsConsistent}
+use Rattle.operation_defs.specs.declared.op.Op.{Op}
+use Rattle.operation_defs.specs.declared.op.Op.TheVariants.{Push, PushBp, Pop, PopBp, Popf, AddSp, AndSp, LeaSpBp, LeaBpSp, StoreBp, LoadBp, Leave, SpOther, BpOther}
+use Rattle.state_defs.specs.declared.state.Depth.{Depth}
+use Rattle.state_defs.specs.declared.state.Depth.TheVariants.{Known, AtLeast}
+use Rattle.state_defs.specs.declared.state.BpHome.{BpHome}
+use Rattle.state_defs.specs.declared.state.BpHome.TheVariants.{Same, Saved}
+use Rattle.state_defs.specs.declared.state.State.{State}
+use Rattle.state_defs.specs.declared.state.State.TheVariants.{Live, Ended, Regs}
+use Rattle.state_defs.specs.State.{depth_of, with_depth, ended_by, IsConsistent, IsConsistentLive}
+use Rattle.state_defs.specs.Move.{int_same, has_near_numbers, to, raise, pop_at, push_bp, pop_bp, align, rsp_from_bp, bp_from_rsp, store_bp, load_bp, leave, lose_bp, move_live, regs_floor, raise_regs, pop_bp_regs, lose_bp_regs, move_regs}
+use Rattle.state_defs.specs.Sound.{MoveIsConsistent}
 use Rattle.stack_state.proofs.Booleans.{and_true}
 use Rattle.stack_state.proofs.Results.{to_then, unless_then, pick_then, refused_then}
 

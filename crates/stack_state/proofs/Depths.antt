@@ -3,10 +3,10 @@ use Rattle.std.proofs.Common.{◌≡◌, ℕ, ◌≤◌, ℤ, pos, neg_ℤ, ◌+
 use Rattle.std.specs.Prelude.{bit_and}
 use Rattle.std.proofs.lemmas.Int.{ints}
 use Rattle.std.proofs.lemmas.Nat.{and_le_l}
-use Rattle.machine_ops.specs.declared.state.Depth.{Depth}
-use Rattle.machine_ops.specs.declared.state.Depth.TheVariants.{Known, AtLeast}
-use Rattle.machine_ops.specs.Address.{shifted}
-use Rattle.machine_ops.specs.State.{depth_of, with_depth, MeansDepth}
+use Rattle.state_defs.specs.declared.state.Depth.{Depth}
+use Rattle.state_defs.specs.declared.state.Depth.TheVariants.{Known, AtLeast}
+use Rattle.state_defs.specs.Address.{shifted}
+use Rattle.state_defs.specs.State.{depth_of, with_depth, MeansDepth}
 use Rattle.stack_state.proofs.Addresses.{IsTurned, turned_from, turned_turned, shifted_from, IsNear}
 use Rattle.stack_state.proofs.Outcomes.{IsWithin, room}
 

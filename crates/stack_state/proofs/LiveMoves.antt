@@ -2,18 +2,18 @@
 use Rattle.std.proofs.Common.{◌≡◌, ℕ, ◌≤◌, List, ◌∷◌, ℤ, pos, neg_ℤ, ◌+ℤ◌, ◌-ℤ◌, ◌≤ℤ◌, arith, refl, sym, subst, ◌∙◌}
 use Rattle.std.specs.Prelude.{Option, Some, None, IfSome, Ok, int_lt, bit_and}
 use Rattle.std.proofs.lemmas.Int.{ints}
-use Rattle.machine_ops.specs.declared.state.Depth.{Depth}
-use Rattle.machine_ops.specs.declared.state.Depth.TheVariants.{Known, AtLeast}
-use Rattle.machine_ops.specs.declared.state.BpHome.{BpHome}
-use Rattle.machine_ops.specs.declared.state.BpHome.TheVariants.{Same, Saved}
-use Rattle.machine_ops.specs.declared.state.State.{State}
-use Rattle.machine_ops.specs.declared.state.State.TheVariants.{Live}
-use Rattle.machine_ops.specs.Address.{shifted}
-use Rattle.machine_ops.specs.Region.{hi_of}
-use Rattle.machine_ops.specs.Frame.{Slot, Frame, listed}
-use Rattle.machine_ops.specs.Effect.{Core}
-use Rattle.machine_ops.specs.State.{depth_of, with_depth, IsConsistentLive, MeansDepth, MeansHome, MeansLive}
-use Rattle.machine_ops.specs.Move.{to, raise, floor_of, align, rsp_from_bp, bp_from_rsp, lose_bp}
+use Rattle.state_defs.specs.declared.state.Depth.{Depth}
+use Rattle.state_defs.specs.declared.state.Depth.TheVariants.{Known, AtLeast}
+use Rattle.state_defs.specs.declared.state.BpHome.{BpHome}
+use Rattle.state_defs.specs.declared.state.BpHome.TheVariants.{Same, Saved}
+use Rattle.state_defs.specs.declared.state.State.{State}
+use Rattle.state_defs.specs.declared.state.State.TheVariants.{Live}
+use Rattle.state_defs.specs.Address.{shifted}
+use Rattle.state_defs.specs.Region.{hi_of}
+use Rattle.state_defs.specs.Frame.{Slot, Frame, listed}
+use Rattle.state_defs.specs.Effect.{Core}
+use Rattle.state_defs.specs.State.{depth_of, with_depth, IsConsistentLive, MeansDepth, MeansHome, MeansLive}
+use Rattle.state_defs.specs.Move.{to, raise, floor_of, align, rsp_from_bp, bp_from_rsp, lose_bp}
 use Rattle.stack_state.proofs.Addresses.{IsNear}
 use Rattle.stack_state.proofs.Depths.{place_moved, depth_moved, depth_masked}
 use Rattle.stack_state.proofs.Outcomes.{within, near_depth, EachHeld}

@@ -4,18 +4,18 @@ use Rattle.std.specs.Prelude.{Option, Some, None, IfSome, Ok, int_le, ◌==◌, 
 use Rattle.std.specs.Int.{w64}
 use Rattle.std.proofs.lemmas.Int.{ints}
 use Rattle.std.proofs.lemmas.Bool.{eq-eqb}
-use Rattle.machine_ops.specs.declared.state.Depth.{Depth}
-use Rattle.machine_ops.specs.declared.state.Depth.TheVariants.{Known, AtLeast}
-use Rattle.machine_ops.specs.declared.state.BpHome.{BpHome}
-use Rattle.machine_ops.specs.declared.state.BpHome.TheVariants.{Same, Saved}
-use Rattle.machine_ops.specs.declared.state.State.{State}
-use Rattle.machine_ops.specs.declared.state.State.TheVariants.{Live}
-use Rattle.machine_ops.specs.Address.{up, down, shifted}
-use Rattle.machine_ops.specs.Region.{Region, hi_of, Holds, Reads, WritesWord}
-use Rattle.machine_ops.specs.Frame.{Slot, Unsaved, SavedAt, Frame, Protected, listed, with_top_slot, after_save, saved_slot}
-use Rattle.machine_ops.specs.Effect.{Core}
-use Rattle.machine_ops.specs.State.{depth_of, IsConsistentLive, MeansDepth, MeansLive}
-use Rattle.machine_ops.specs.Move.{has_near_numbers, push_bp, pop_at, load_bp, int_same}
+use Rattle.state_defs.specs.declared.state.Depth.{Depth}
+use Rattle.state_defs.specs.declared.state.Depth.TheVariants.{Known, AtLeast}
+use Rattle.state_defs.specs.declared.state.BpHome.{BpHome}
+use Rattle.state_defs.specs.declared.state.BpHome.TheVariants.{Same, Saved}
+use Rattle.state_defs.specs.declared.state.State.{State}
+use Rattle.state_defs.specs.declared.state.State.TheVariants.{Live}
+use Rattle.state_defs.specs.Address.{up, down, shifted}
+use Rattle.state_defs.specs.Region.{Region, hi_of, Holds, Reads, WritesWord}
+use Rattle.state_defs.specs.Frame.{Slot, Unsaved, SavedAt, Frame, Protected, listed, with_top_slot, after_save, saved_slot}
+use Rattle.state_defs.specs.Effect.{Core}
+use Rattle.state_defs.specs.State.{depth_of, IsConsistentLive, MeansDepth, MeansLive}
+use Rattle.state_defs.specs.Move.{has_near_numbers, push_bp, pop_at, load_bp, int_same}
 use Rattle.stack_state.proofs.Addresses.{IsTurned, turned_from, IsNear}
 use Rattle.stack_state.proofs.Booleans.{if_true, if_false, other_not_same}
 use Rattle.stack_state.proofs.Consistent.{same_is_known, same_has_no_pointer, int_same_is, int_same_not}

@@ -2,20 +2,20 @@
 use Rattle.std.proofs.Common.{◌≡◌, List, ◌∷◌, ℤ, pos, negsuc, ◌+ℤ◌, arith, refl, ap}
 use Rattle.std.specs.Prelude.{Option, Some, None, Ok}
 use Rattle.std.proofs.lemmas.Int.{ints}
-use Rattle.machine_ops.specs.declared.op.Op.{Op}
-use Rattle.machine_ops.specs.declared.op.Op.TheVariants.{Plain, Nop, Endbr, Push, PushBp, Pop, PopBp, Popf, AddSp, AndSp, LeaSpBp, LeaBpSp, StoreBp, LoadBp, Leave, SpOther, BpOther, Call, CallInd, Jmp, Jcc, JmpInd, Ret, RetImm, Iret, Switch, Ud2, Int3, Stac, Clac}
-use Rattle.machine_ops.specs.declared.state.Depth.{Depth}
-use Rattle.machine_ops.specs.declared.state.Depth.TheVariants.{Known, AtLeast}
-use Rattle.machine_ops.specs.declared.state.BpHome.{BpHome}
-use Rattle.machine_ops.specs.declared.state.BpHome.TheVariants.{Same, Saved}
-use Rattle.machine_ops.specs.declared.state.State.{State}
-use Rattle.machine_ops.specs.declared.state.State.TheVariants.{Live}
-use Rattle.machine_ops.specs.Address.{up, down, shifted}
-use Rattle.machine_ops.specs.Region.{WritesOnly}
-use Rattle.machine_ops.specs.Frame.{Frame, listed, with_top_slot, popped_slot, loaded_slot}
-use Rattle.machine_ops.specs.Effect.{Core, HasSignedNumber, Effect}
-use Rattle.machine_ops.specs.State.{depth_of, with_depth, MeansLive}
-use Rattle.machine_ops.specs.Move.{to, pop_bp, leave, move_live}
+use Rattle.operation_defs.specs.declared.op.Op.{Op}
+use Rattle.operation_defs.specs.declared.op.Op.TheVariants.{Plain, Nop, Endbr, Push, PushBp, Pop, PopBp, Popf, AddSp, AndSp, LeaSpBp, LeaBpSp, StoreBp, LoadBp, Leave, SpOther, BpOther, Call, CallInd, Jmp, Jcc, JmpInd, Ret, RetImm, Iret, Switch, Ud2, Int3, Stac, Clac}
+use Rattle.state_defs.specs.declared.state.Depth.{Depth}
+use Rattle.state_defs.specs.declared.state.Depth.TheVariants.{Known, AtLeast}
+use Rattle.state_defs.specs.declared.state.BpHome.{BpHome}
+use Rattle.state_defs.specs.declared.state.BpHome.TheVariants.{Same, Saved}
+use Rattle.state_defs.specs.declared.state.State.{State}
+use Rattle.state_defs.specs.declared.state.State.TheVariants.{Live}
+use Rattle.state_defs.specs.Address.{up, down, shifted}
+use Rattle.state_defs.specs.Region.{WritesOnly}
+use Rattle.state_defs.specs.Frame.{Frame, listed, with_top_slot, popped_slot, loaded_slot}
+use Rattle.state_defs.specs.Effect.{Core, HasSignedNumber, Effect}
+use Rattle.state_defs.specs.State.{depth_of, with_depth, MeansLive}
+use Rattle.state_defs.specs.Move.{to, pop_bp, leave, move_live}
 use Rattle.stack_state.proofs.Consistent.{same_has_no_pointer}
 use Rattle.stack_state.proofs.LiveMoves.{stay_sound, shift_sound, raise_sound, align_sound, rsp_from_bp_sound, bp_from_rsp_sound, lose_bp_sound}
 use Rattle.stack_state.proofs.LiveSlots.{push_bp_sound, pop_at_sound, load_bp_sound}

@@ -5,18 +5,18 @@ use Rattle.std.proofs.lemmas.Int.{ints}
 use Rattle.std.proofs.lemmas.Bool.{eq-eqb}
 use Rattle.std.proofs.lemmas.Bool.Decides.{when_true, when_false}
 use Rattle.std.proofs.lemmas.List.Elements.{All-weaker}
-use Rattle.machine_ops.specs.declared.state.Depth.{Depth}
-use Rattle.machine_ops.specs.declared.state.Depth.TheVariants.{Known, AtLeast}
-use Rattle.machine_ops.specs.declared.state.BpHome.{BpHome}
-use Rattle.machine_ops.specs.declared.state.BpHome.TheVariants.{Same, Saved}
-use Rattle.machine_ops.specs.declared.state.State.{State}
-use Rattle.machine_ops.specs.declared.state.State.TheVariants.{Live}
-use Rattle.machine_ops.specs.Address.{down, shifted}
-use Rattle.machine_ops.specs.Region.{Region, hi_of, WritesWord}
-use Rattle.machine_ops.specs.Frame.{Slot, Unsaved, Frame, Protected, protected_by, listed, after_save, LieAbove}
-use Rattle.machine_ops.specs.Effect.{Core, StoresOrdinarily, store_saves, is_unsaved}
-use Rattle.machine_ops.specs.State.{IsConsistentLive, MeansDepth, MeansLive}
-use Rattle.machine_ops.specs.Move.{has_near_numbers, to, store_bp}
+use Rattle.state_defs.specs.declared.state.Depth.{Depth}
+use Rattle.state_defs.specs.declared.state.Depth.TheVariants.{Known, AtLeast}
+use Rattle.state_defs.specs.declared.state.BpHome.{BpHome}
+use Rattle.state_defs.specs.declared.state.BpHome.TheVariants.{Same, Saved}
+use Rattle.state_defs.specs.declared.state.State.{State}
+use Rattle.state_defs.specs.declared.state.State.TheVariants.{Live}
+use Rattle.state_defs.specs.Address.{down, shifted}
+use Rattle.state_defs.specs.Region.{Region, hi_of, WritesWord}
+use Rattle.state_defs.specs.Frame.{Slot, Unsaved, Frame, Protected, protected_by, listed, after_save, LieAbove}
+use Rattle.state_defs.specs.Effect.{Core, StoresOrdinarily, store_saves, is_unsaved}
+use Rattle.state_defs.specs.State.{IsConsistentLive, MeansDepth, MeansLive}
+use Rattle.state_defs.specs.Move.{has_near_numbers, to, store_bp}
 use Rattle.stack_state.proofs.Addresses.{IsNear, turned_from, plain_below, down_plain}
 use Rattle.stack_state.proofs.Consistent.{same_is_known}
 use Rattle.stack_state.proofs.Depths.{place_moved}

@@ -1,9 +1,9 @@
 -- Protected slots keep their values under what operations do to memory.
 use Rattle.std.proofs.Common.{◌≡◌, inr, ℕ, ◌+◌, ◌^◌, ◌≤◌, List, ◌∷◌, arith, sym, subst, ◌∙◌}
 use Rattle.std.proofs.lemmas.List.Elements.{All-weaker}
-use Rattle.machine_ops.specs.Region.{Region, hi_of, word_at, Holds, SameAddresses, WritesOnly}
-use Rattle.machine_ops.specs.Frame.{Frame, Protected, listed}
-use Rattle.machine_ops.specs.Effect.{Core, StoresOrdinarily}
+use Rattle.state_defs.specs.Region.{Region, hi_of, word_at, Holds, SameAddresses, WritesOnly}
+use Rattle.state_defs.specs.Frame.{Frame, Protected, listed}
+use Rattle.state_defs.specs.Effect.{Core, StoresOrdinarily}
 use Rattle.stack_state.proofs.Outcomes.{EachHeld}
 use Rattle.stack_state.proofs.Slots.{Each, each_top, each_below, each_joined, each_listed, both_parts, spared_slots}
 use Rattle.stack_state.proofs.Words.{spared_word}

@@ -3,19 +3,19 @@ use Rattle.std.proofs.Common.{◌≡◌, ℕ, ◌+◌, ◌-◌, ◌^◌, ◌<◌
 use Rattle.std.specs.Prelude.{Option, IfSome, All}
 use Rattle.std.proofs.lemmas.Int.{ints}
 use Rattle.std.proofs.lemmas.List.Elements.{All-weaker}
-use Rattle.machine_ops.specs.declared.state.Depth.{Depth}
-use Rattle.machine_ops.specs.declared.state.Depth.TheVariants.{Known, AtLeast}
-use Rattle.machine_ops.specs.declared.state.BpHome.{BpHome}
-use Rattle.machine_ops.specs.declared.state.BpHome.TheVariants.{Same, Saved}
-use Rattle.machine_ops.specs.declared.state.State.{State}
-use Rattle.machine_ops.specs.declared.state.State.TheVariants.{Live}
-use Rattle.machine_ops.specs.Address.{down, shifted}
-use Rattle.machine_ops.specs.Region.{Region, hi_of, Holds}
-use Rattle.machine_ops.specs.Frame.{Slot, Frame, Protected, protected_by, listed, LieAbove}
-use Rattle.machine_ops.specs.Effect.{Core, IsInStack}
-use Rattle.machine_ops.specs.State.{depth_of, IsConsistentLive, MeansDepth, MeansHome}
-use Rattle.machine_ops.specs.Move.{is_near, is_fp_near, is_home_near, has_near_numbers}
-use Rattle.machine_ops.specs.Sound.{IsTold, IsSameFrame}
+use Rattle.state_defs.specs.declared.state.Depth.{Depth}
+use Rattle.state_defs.specs.declared.state.Depth.TheVariants.{Known, AtLeast}
+use Rattle.state_defs.specs.declared.state.BpHome.{BpHome}
+use Rattle.state_defs.specs.declared.state.BpHome.TheVariants.{Same, Saved}
+use Rattle.state_defs.specs.declared.state.State.{State}
+use Rattle.state_defs.specs.declared.state.State.TheVariants.{Live}
+use Rattle.state_defs.specs.Address.{down, shifted}
+use Rattle.state_defs.specs.Region.{Region, hi_of, Holds}
+use Rattle.state_defs.specs.Frame.{Slot, Frame, Protected, protected_by, listed, LieAbove}
+use Rattle.state_defs.specs.Effect.{Core, IsInStack}
+use Rattle.state_defs.specs.State.{depth_of, IsConsistentLive, MeansDepth, MeansHome}
+use Rattle.state_defs.specs.Move.{is_near, is_fp_near, is_home_near, has_near_numbers}
+use Rattle.state_defs.specs.Sound.{IsTold, IsSameFrame}
 use Rattle.stack_state.proofs.Addresses.{IsTurned, turned_from, plain_below, IsNear, near_from, down_plain}
 use Rattle.stack_state.proofs.Booleans.{and_true}
 use Rattle.stack_state.proofs.Slots.{Each, each_joined, each_top, each_below, one_slot, two_slots}

@@ -1,10 +1,10 @@
 -- What a push leaves in memory.
 use Rattle.std.proofs.Common.{◌≡◌, ◌+◌, ◌-◌, ◌^◌, ◌<◌, ◌≤◌, List, arith}
 use Rattle.std.proofs.lemmas.List.Elements.{All-weaker}
-use Rattle.machine_ops.specs.Address.{down}
-use Rattle.machine_ops.specs.Region.{WritesOnly}
-use Rattle.machine_ops.specs.Frame.{Frame, Protected}
-use Rattle.machine_ops.specs.Effect.{Core, IsInStack}
+use Rattle.state_defs.specs.Address.{down}
+use Rattle.state_defs.specs.Region.{WritesOnly}
+use Rattle.state_defs.specs.Frame.{Frame, Protected}
+use Rattle.state_defs.specs.Effect.{Core, IsInStack}
 use Rattle.stack_state.proofs.Memory.{beside_held}
 use Rattle.stack_state.proofs.Outcomes.{EachHeld}
 use Rattle.stack_state.proofs.Slots.{Each}

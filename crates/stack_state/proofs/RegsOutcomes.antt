@@ -1,12 +1,12 @@
 -- What is told after a move over saved registers.
 use Rattle.std.proofs.Common.{◌≡◌, ℕ, ◌+◌, ◌≤◌, true, false, List, ◌∷◌, ℤ, pos, negsuc, neg_ℤ, ◌+ℤ◌, ◌≤ℤ◌, arith, refl, sym, subst}
 use Rattle.std.proofs.lemmas.Int.{ints}
-use Rattle.machine_ops.specs.declared.state.State.TheVariants.{Regs}
-use Rattle.machine_ops.specs.Address.{up, shifted}
-use Rattle.machine_ops.specs.Region.{hi_of, Holds}
-use Rattle.machine_ops.specs.Frame.{Slot, PartialAt, FullAt, Frame, Protected, listed, LieAbove}
-use Rattle.machine_ops.specs.Effect.{Core, IsInStack}
-use Rattle.machine_ops.specs.Move.{has_near_numbers}
+use Rattle.state_defs.specs.declared.state.State.TheVariants.{Regs}
+use Rattle.state_defs.specs.Address.{up, shifted}
+use Rattle.state_defs.specs.Region.{hi_of, Holds}
+use Rattle.state_defs.specs.Frame.{Slot, PartialAt, FullAt, Frame, Protected, listed, LieAbove}
+use Rattle.state_defs.specs.Effect.{Core, IsInStack}
+use Rattle.state_defs.specs.Move.{has_near_numbers}
 use Rattle.stack_state.proofs.Addresses.{turned_from, plain_below, IsNear, near_from, up_plain}
 use Rattle.stack_state.proofs.Outcomes.{IsWithin, within, Outcome, AllAbove, AllHeld, EachHeld, lower_above}
 use Rattle.stack_state.proofs.Slots.{each_joined, two_slots, three_slots}

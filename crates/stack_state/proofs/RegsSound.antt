@@ -4,16 +4,16 @@ use Rattle.std.specs.Prelude.{Result, Ok, Err, int_lt, ◌==◌}
 use Rattle.std.proofs.lemmas.Int.{ints}
 use Rattle.std.proofs.lemmas.Bool.{eq-eqb}
 use Rattle.std.proofs.lemmas.Bool.Decides.{when_false}
-use Rattle.machine_ops.specs.declared.op.Op.{Op}
-use Rattle.machine_ops.specs.declared.op.Op.TheVariants.{Plain, Nop, Endbr, Push, PushBp, Pop, PopBp, Popf, AddSp, AndSp, LeaSpBp, LeaBpSp, StoreBp, LoadBp, Leave, SpOther, BpOther, Call, CallInd, Jmp, Jcc, JmpInd, Ret, RetImm, Iret, Switch, Ud2, Int3, Stac, Clac}
-use Rattle.machine_ops.specs.declared.state.State.{State}
-use Rattle.machine_ops.specs.declared.state.State.TheVariants.{Regs}
-use Rattle.machine_ops.specs.Address.{up, down, shifted}
-use Rattle.machine_ops.specs.Region.{Region, hi_of, Holds, Reads, WritesOnly}
-use Rattle.machine_ops.specs.Frame.{Slot, PartialAt, FullAt, Frame, Protected, listed, with_top_slot, after_save, saved_slot, popped_slot, loaded_slot}
-use Rattle.machine_ops.specs.Effect.{Core, StoresOrdinarily, is_unsaved, store_saves, Effect}
-use Rattle.machine_ops.specs.State.{Means, MeansFull, MeansPartial}
-use Rattle.machine_ops.specs.Move.{has_near_numbers, to, int_same, regs_floor, raise_regs, pop_bp_regs, lose_bp_regs, move_regs}
+use Rattle.operation_defs.specs.declared.op.Op.{Op}
+use Rattle.operation_defs.specs.declared.op.Op.TheVariants.{Plain, Nop, Endbr, Push, PushBp, Pop, PopBp, Popf, AddSp, AndSp, LeaSpBp, LeaBpSp, StoreBp, LoadBp, Leave, SpOther, BpOther, Call, CallInd, Jmp, Jcc, JmpInd, Ret, RetImm, Iret, Switch, Ud2, Int3, Stac, Clac}
+use Rattle.state_defs.specs.declared.state.State.{State}
+use Rattle.state_defs.specs.declared.state.State.TheVariants.{Regs}
+use Rattle.state_defs.specs.Address.{up, down, shifted}
+use Rattle.state_defs.specs.Region.{Region, hi_of, Holds, Reads, WritesOnly}
+use Rattle.state_defs.specs.Frame.{Slot, PartialAt, FullAt, Frame, Protected, listed, with_top_slot, after_save, saved_slot, popped_slot, loaded_slot}
+use Rattle.state_defs.specs.Effect.{Core, StoresOrdinarily, is_unsaved, store_saves, Effect}
+use Rattle.state_defs.specs.State.{Means, MeansFull, MeansPartial}
+use Rattle.state_defs.specs.Move.{has_near_numbers, to, int_same, regs_floor, raise_regs, pop_bp_regs, lose_bp_regs, move_regs}
 use Rattle.stack_state.proofs.Addresses.{shifted_from, plain_turned, IsNear, near_from, up_plain}
 use Rattle.stack_state.proofs.Booleans.{if_true, if_false, other_not_same}
 use Rattle.stack_state.proofs.Consistent.{int_same_is, int_same_not}

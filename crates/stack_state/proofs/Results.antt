@@ -1,7 +1,7 @@
 -- What follows from a move that isn't refused.
 use Rattle.std.proofs.Common.{◌≡◌, ℕ, Bool, true, false, cond, refl, subst}
 use Rattle.std.specs.Prelude.{Result, Ok, Err}
-use Rattle.machine_ops.specs.declared.state.State.{State}
+use Rattle.state_defs.specs.declared.state.State.{State}
 
 -- a state that may be refused as out of range
 pub to_then : (P : State → Type 0) (near : Bool) (rule : ℕ) (s t : State) → (near ≡ true → P s)

@@ -1,17 +1,17 @@
 -- What is known where a move is followed, and what it leads to.
 use Rattle.std.proofs.Common.{◌≡◌, ℕ, ◌≤◌, true, List, ◌∷◌, ℤ, neg_ℤ, arith, sym, ap, subst, ◌∙◌}
 use Rattle.std.specs.Prelude.{Option, IfSome, Ok, ◌==◌}
-use Rattle.machine_ops.specs.declared.state.Depth.{Depth}
-use Rattle.machine_ops.specs.declared.state.BpHome.{BpHome}
-use Rattle.machine_ops.specs.declared.state.State.{State}
-use Rattle.machine_ops.specs.declared.state.State.TheVariants.{Live}
-use Rattle.machine_ops.specs.Address.{shifted}
-use Rattle.machine_ops.specs.Region.{Region, hi_of}
-use Rattle.machine_ops.specs.Frame.{Slot, Frame, listed, with_top_slot, after_save, saved_slot}
-use Rattle.machine_ops.specs.Effect.{Core, IsInStack}
-use Rattle.machine_ops.specs.State.{IsConsistent, IsConsistentLive, MeansDepth, MeansHome}
-use Rattle.machine_ops.specs.Move.{has_near_numbers, to}
-use Rattle.machine_ops.specs.Sound.{IsTold}
+use Rattle.state_defs.specs.declared.state.Depth.{Depth}
+use Rattle.state_defs.specs.declared.state.BpHome.{BpHome}
+use Rattle.state_defs.specs.declared.state.State.{State}
+use Rattle.state_defs.specs.declared.state.State.TheVariants.{Live}
+use Rattle.state_defs.specs.Address.{shifted}
+use Rattle.state_defs.specs.Region.{Region, hi_of}
+use Rattle.state_defs.specs.Frame.{Slot, Frame, listed, with_top_slot, after_save, saved_slot}
+use Rattle.state_defs.specs.Effect.{Core, IsInStack}
+use Rattle.state_defs.specs.State.{IsConsistent, IsConsistentLive, MeansDepth, MeansHome}
+use Rattle.state_defs.specs.Move.{has_near_numbers, to}
+use Rattle.state_defs.specs.Sound.{IsTold}
 use Rattle.stack_state.proofs.Outcomes.{Outcome, EachHeld, AllHeld, live_outcome, held_at_top, held_lower}
 use Rattle.stack_state.proofs.Results.{to_then}
 

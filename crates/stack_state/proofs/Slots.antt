@@ -2,9 +2,9 @@
 use Rattle.std.proofs.Common.{◌≡◌, ℕ, List, [], ◌∷◌, ◌++◌, map}
 use Rattle.std.specs.Prelude.{Option, Some, None, All, flat_map}
 use Rattle.std.proofs.lemmas.List.Elements.{All-nil, All-cons, All-head, All-tail, All-append}
-use Rattle.machine_ops.specs.declared.state.EndKind.{EndKind}
-use Rattle.machine_ops.specs.Region.{Region, word_at, Stores}
-use Rattle.machine_ops.specs.Frame.{Frame, Protected, protected, protected_addresses, listed}
+use Rattle.state_defs.specs.declared.state.EndKind.{EndKind}
+use Rattle.state_defs.specs.Region.{Region, word_at, Stores}
+use Rattle.state_defs.specs.Frame.{Frame, Protected, protected, protected_addresses, listed}
 
 All_front : {X : Type 0} (P : X → Type 0) (xs ys : List X) → All P (xs ++ ys) → All P xs
 All_front P [] ys h = All-nil P

@@ -1,6 +1,6 @@
 -- Each move is sound.
-use Rattle.machine_ops.specs.declared.state.State.TheVariants.{Live, Ended, Regs}
-use Rattle.machine_ops.specs.Sound.{MoveIsSound}
+use Rattle.state_defs.specs.declared.state.State.TheVariants.{Live, Ended, Regs}
+use Rattle.state_defs.specs.Sound.{MoveIsSound}
 use Rattle.stack_state.proofs.Consistent.{move_consistent}
 use Rattle.stack_state.proofs.LiveSound.{live_sound}
 use Rattle.stack_state.proofs.RegsSound.{regs_sound}

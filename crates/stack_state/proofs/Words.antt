@@ -5,8 +5,8 @@ use Rattle.std.proofs.lemmas.List.{ext_get_or, get_or-take, get_or-drop, length-
 use Rattle.std.proofs.lemmas.Bool.{le-leb, leb-true}
 use Rattle.std.proofs.lemmas.Option.{unwrap_or-slice_get, MatchOption-at_some}
 use Rattle.std.specs.Option.{unwrap_or}
-use Rattle.machine_ops.specs.Address.{up}
-use Rattle.machine_ops.specs.Region.{Region, hi_of, byte_at, little_endian, has_word, word_at, Reads, Holds, SameAddresses, WritesOnly, WritesWord}
+use Rattle.state_defs.specs.Address.{up}
+use Rattle.state_defs.specs.Region.{Region, hi_of, byte_at, little_endian, has_word, word_at, Reads, Holds, SameAddresses, WritesOnly, WritesWord}
 use Rattle.stack_state.proofs.Addresses.{up_plain}
 use Rattle.stack_state.proofs.Booleans.{true_or_false, if_true, if_false, both_true, and_true}
 

@@ -1,6 +1,6 @@
 //! What holds of each move.
 
-ghost use Rattle.machine_ops.specs.Sound.{MoveIsConsistent, MoveIsSound};
+ghost use Rattle.state_defs.specs.Sound.{MoveIsConsistent, MoveIsSound};
 
 /// A move is sound: from registers and memory that a consistent state tells of, each effect of the
 /// operation that stays in the stack ends in ones that the moved state tells of.

@@ -8,7 +8,7 @@ mod numbers;
 mod regs;
 mod rules;
 
-pub use machine_ops::{BpHome, Depth, EndKind, HintState, State};
+pub use state_defs::{BpHome, Depth, EndKind, HintState, State};
 pub use moves::{initial, step};
 
 #[cfg(test)]

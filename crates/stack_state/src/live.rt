@@ -1,11 +1,12 @@
 //! The moves of a live state.
 
 ghost use Rattle.std.specs.Prelude.{◌≡◌};
-ghost use Rattle.machine_ops.specs.Move.{floor_of, raise, pop_at, push_bp, pop_bp, align, rsp_from_bp, bp_from_rsp, store_bp, load_bp, leave, lose_bp, move_live};
+ghost use Rattle.state_defs.specs.Move.{floor_of, raise, pop_at, push_bp, pop_bp, align, rsp_from_bp, bp_from_rsp, store_bp, load_bp, leave, lose_bp, move_live};
 
 use crate::numbers::{in_range, is_same, minus, number_of, plus, to, to_live};
 use crate::rules::{BP_CLOBBERED, SLOT_DROPPED, SP_LOST, SP_WRITTEN};
-use machine_ops::{BpHome, Depth, Op, State};
+use operation_defs::Op;
+use state_defs::{BpHome, Depth, State};
 
 /// Where the return address stands: this many bytes below the frame's top.
 const RETURN_ADDRESS: i64 = 8;

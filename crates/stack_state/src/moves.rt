@@ -1,10 +1,11 @@
 ghost use Rattle.std.specs.Prelude.{◌≡◌};
-ghost use Rattle.machine_ops.specs.State.{initial};
-ghost use Rattle.machine_ops.specs.Move.{move};
+ghost use Rattle.state_defs.specs.State.{initial};
+ghost use Rattle.state_defs.specs.Move.{move};
 
 use crate::live::step_live;
 use crate::regs::step_regs;
-use machine_ops::{BpHome, Depth, Op, State};
+use operation_defs::Op;
+use state_defs::{BpHome, Depth, State};
 
 /// The state at a function's entry: the return address was just pushed, so rsp is 8 bytes below the
 /// frame's top, and rbp is the caller's.

@@ -1,11 +1,11 @@
 //! The numbers in states: bytes, in 64 bits, with their sums in 128 bits.
 
 ghost use Rattle.std.specs.Prelude.{◌≡◌, ◌+ℤ◌, ◌-ℤ◌, true, false, MatchResult};
-ghost use Rattle.machine_ops.specs.Move.{int_same, is_near, has_near_numbers, to};
-ghost use Rattle.machine_ops.specs.State.{depth_of, with_depth};
+ghost use Rattle.state_defs.specs.Move.{int_same, is_near, has_near_numbers, to};
+ghost use Rattle.state_defs.specs.State.{depth_of, with_depth};
 
 use crate::rules::OUT_OF_RANGE;
-use machine_ops::{BpHome, Depth, State};
+use state_defs::{BpHome, Depth, State};
 
 /// The greatest number of bytes, up or down, that a state may hold: a gigabyte.
 const LIMIT: i64 = 1 << 30;

@@ -1,11 +1,12 @@
 //! The moves of a state over saved registers.
 
 ghost use Rattle.std.specs.Prelude.{◌≡◌};
-ghost use Rattle.machine_ops.specs.Move.{raise_regs, pop_bp_regs, lose_bp_regs, move_regs};
+ghost use Rattle.state_defs.specs.Move.{raise_regs, pop_bp_regs, lose_bp_regs, move_regs};
 
 use crate::numbers::{minus, plus, to_regs};
 use crate::rules::{BP_CLOBBERED, SLOT_DROPPED, SP_LOST, SP_WRITTEN};
-use machine_ops::{Op, State};
+use operation_defs::Op;
+use state_defs::State;
 
 /// The lowest depth of a whole pt_regs: its bp, at 32, is the last that may be popped.
 const FULL_FLOOR: i64 = -32;

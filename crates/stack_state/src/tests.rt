@@ -1,7 +1,7 @@
 //! Worked moves.
 
 use crate::{BpHome, Depth, EndKind, State, initial, step};
-use machine_ops::Op;
+use operation_defs::Op;
 
 /// A state without a frame pointer, whose depth is known.
 fn at(depth: i64, bp: BpHome) -> State {

@@ -2,7 +2,7 @@
 use Rattle.std.proofs.Common.{◌≡◌, ℕ, ◌+◌, ◌-◌, ◌≤◌, List, [], ◌++◌, length, take, drop, Ok, refl, sym, ap, subst, ◌∙◌, arith, append_assoc}
 use Rattle.std.proofs.lemmas.List.{length-append, take_at, append-nil}
 use Rattle.std.proofs.Math.Seq.{take-add}
-use Rattle.machine_ops.specs.declared.insn.Insn.{Insn}
+use Rattle.operation_defs.specs.declared.insn.Insn.{Insn}
 use Rattle.x86_decode.specs.Spelling.{Spells, BeginsSpelling, BeginsNone}
 use Rattle.x86_decode.specs.Reading.{Read, reading}
 use Rattle.x86_decode.specs.Decoding.{OneSpelling}

@@ -4,7 +4,7 @@ use Rattle.std.specs.Prelude.{◌||◌, IsTrue, is_some}
 use Rattle.std.specs.List.{AllByRecursion}
 use Rattle.std.proofs.lemmas.Bool.{eqb-true}
 use Rattle.std.proofs.lemmas.List.{length-append, take_all, take-append-drop, length-take-le}
-use Rattle.machine_ops.specs.declared.insn.Insn.{Insn}
+use Rattle.operation_defs.specs.declared.insn.Insn.{Insn}
 use Rattle.x86_map.specs.declared.prefixes.Prefixes.{Prefixes}
 use Rattle.x86_map.specs.declared.shape.Shape.{Shape}
 use Rattle.x86_map.specs.declared.shape.Look.{Look}

@@ -1,7 +1,7 @@
 -- What an instruction does to rsp (register 4), rbp (register 5), the stack and the flow of control.
 use Rattle.std.specs.Prelude.{ℕ, true, false, not, ◌&&◌, ◌||◌, ◌==◌, if◌then◌else◌, Option, Some, None, pos, neg_ℤ}
-use Rattle.machine_ops.specs.declared.op.Op.{Op}
-use Rattle.machine_ops.specs.declared.op.Op.TheVariants as ops
+use Rattle.operation_defs.specs.declared.op.Op.{Op}
+use Rattle.operation_defs.specs.declared.op.Op.TheVariants as ops
 use Rattle.x86_map.specs.Prefixes.{rex_w, rex_b}
 use Rattle.x86_decode.specs.declared.fields.Fields.{Fields}
 use Rattle.x86_decode.specs.declared.action.Action.{Action}

@@ -1,6 +1,6 @@
 -- One instruction read from the left, part by part: what is read, or where reading stops.
 use Rattle.std.specs.Prelude.{ℕ, ◌+◌, Bool, true, false, ◌||◌, ◌==◌, nat_lt, if◌then◌else◌, List, [], ◌∷◌, length, take, drop, Option, Some, None, Result, Ok, Err}
-use Rattle.machine_ops.specs.declared.insn.Insn.{Insn}
+use Rattle.operation_defs.specs.declared.insn.Insn.{Insn}
 use Rattle.x86_map.specs.declared.prefixes.Prefixes.{Prefixes}
 use Rattle.x86_map.specs.declared.shape.Shape.{Shape}
 use Rattle.x86_map.specs.declared.shape.Look.{Look}

@@ -1,7 +1,7 @@
 -- The spelling of an instruction: a whole byte string (SDM, volume 2, figure 2-1).
 use Rattle.std.specs.Prelude.{◌≡◌, ℕ, ◌+◌, ◌<◌, Bool, false, ◌&&◌, ◌||◌, ◌==◌, nat_lt, if◌then◌else◌, IsTrue, List, [], ◌∷◌, ◌++◌, length, Option, Some, None, is_some}
 use Rattle.std.specs.List.{AllByRecursion}
-use Rattle.machine_ops.specs.declared.insn.Insn.{Insn}
+use Rattle.operation_defs.specs.declared.insn.Insn.{Insn}
 use Rattle.x86_map.specs.declared.prefixes.Prefixes.{Prefixes}
 use Rattle.x86_map.specs.declared.shape.Shape.{Shape}
 use Rattle.x86_map.specs.declared.shape.Look.TheVariants.{Fits}

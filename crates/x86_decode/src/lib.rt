@@ -13,7 +13,7 @@ mod prefix;
 mod reading;
 
 use crate::reading::{Stop, read};
-pub use machine_ops::{Insn, Op};
+pub use operation_defs::{Insn, Op};
 
 /// Why no instruction stands at the front of the bytes.
 #[derive(Clone, Copy, Debug, PartialEq, Eq)]

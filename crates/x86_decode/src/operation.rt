@@ -19,7 +19,7 @@ ghost use Rattle.x86_decode.specs.Operation.{
 
 use crate::action::{Action, action_at};
 use crate::fields::Fields;
-use machine_ops::Op;
+use operation_defs::Op;
 
 /// What an instruction does.
 #[tactic(auto, unfolding(crate::specs::Operation::operation))]

@@ -21,7 +21,7 @@ ghost use Rattle.x86_decode.specs.Reading.{
 use crate::fields::{Fields, signed_number};
 use crate::operation::operation_of;
 use crate::prefix::{NO_PREFIXES, noted};
-use machine_ops::Insn;
+use operation_defs::Insn;
 use x86_map::{Look, Prefixes, Shape, accepts_some, lookup};
 
 /// Why no instruction was read.

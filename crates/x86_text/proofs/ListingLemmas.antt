@@ -2,8 +2,8 @@
 use Rattle.std.proofs.Common.{◌≡◌, ℕ, ◌+◌, ◌<◌, List, [], ◌∷◌, ◌++◌, length, drop, map, get_or, Contains, ◌↔◌, All, arith, refl, sym, ap, ◌∙◌, subst, append_assoc, length-append}
 use Rattle.std.proofs.Math.Seq.{get_or-append_seam}
 use Rattle.std.proofs.lemmas.List.{get_or-map, length-map}
-use Rattle.machine_ops.specs.declared.op.Op.TheVariants.{Plain}
-use Rattle.machine_ops.specs.declared.insn.Insn.{Insn}
+use Rattle.operation_defs.specs.declared.op.Op.TheVariants.{Plain}
+use Rattle.operation_defs.specs.declared.insn.Insn.{Insn}
 use Rattle.x86_decode.specs.Decoding.{StandsInFront}
 use Rattle.x86_text.specs.declared.placed.PlacedInsn.{PlacedInsn}
 use Rattle.x86_text.specs.Code.{IsBoundary, start, behind, IsCode, LeadsTo}

@@ -1,7 +1,7 @@
 -- What is known of the instructions that a text keeps.
 use Rattle.std.specs.Prelude.{◌≡◌, ℕ, ◌+◌, ◌<◌, ◌≤◌, ◌^◌, List, length, drop, All}
 use Rattle.std.specs.List.Sorted.{IsNonDecreasingBy}
-use Rattle.machine_ops.specs.declared.insn.Insn.{Insn}
+use Rattle.operation_defs.specs.declared.insn.Insn.{Insn}
 use Rattle.x86_decode.specs.Decoding.{StandsInFront}
 use Rattle.x86_text.specs.declared.placed.PlacedInsn.{PlacedInsn}
 use Rattle.x86_text.specs.Code.{IsBoundary, LeadsTo, code_of}

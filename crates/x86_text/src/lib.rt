@@ -6,7 +6,7 @@ mod placed;
 mod text;
 
 pub use fault::TextFault;
-pub use machine_ops::{Insn, Op};
+pub use operation_defs::{Insn, Op};
 pub use placed::PlacedInsn;
 pub use text::Text;
 pub use x86_decode::DecodeFault;

@@ -1,4 +1,4 @@
-use machine_ops::Insn;
+use operation_defs::Insn;
 
 /// An instruction at its place in a body of code.
 #[derive(Clone, Copy, Debug, PartialEq, Eq)]

@@ -7,7 +7,7 @@ ghost use Rattle.x86_text.specs.Refused.{IsTextFault};
 
 use crate::fault::TextFault;
 use crate::placed::PlacedInsn;
-use machine_ops::Insn;
+use operation_defs::Insn;
 use std::alloc::Global;
 use std::marker::Model;
 use x86_decode::decode;

@@ -6,8 +6,10 @@ use super::expect::{
     expect_run, expect_states, frame, framed, go, live, next, plain, standing, stands, tail_call,
 };
 use crate::builder::{insn, program, site};
-use machine_ops::{BpHome, Edge, EdgeKind, EndKind, HintState, Op, Role, State};
-use orc_walk::Stop;
+use operation_defs::Op;
+use program_defs::{Edge, EdgeKind, Role};
+use state_defs::{BpHome, EndKind, HintState, State};
+use walk_defs::Stop;
 use stack_model::{Anything, Choice, Start, Store, started};
 use std::alloc::{AllocError, Global};
 use std::test::Fail;

@@ -6,7 +6,9 @@ use super::expect::{
     expect_warnings_under, expect_wrong, next, outermost, standing, tail_call, warns,
 };
 use crate::builder::{Line, NO_MARKS, insn, program, site};
-use machine_ops::{EdgeKind, EndKind, HintState, Marks, Op, Role, State};
+use operation_defs::Op;
+use program_defs::{EdgeKind, Marks, Role};
+use state_defs::{EndKind, HintState, State};
 use ot_base::{Options, Place, Warning};
 use stack_model::{Choice, InterruptWords, Region, Slot, Start, Wreck, started};
 use std::alloc::Global;

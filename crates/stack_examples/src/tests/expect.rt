@@ -1,7 +1,8 @@
 //! What is expected of a program: its warnings, its kept states, and its runs.
 
-use machine_ops::{BpHome, Depth, Edge, EdgeKind, State};
-use orc_walk::{Frame as WalkedFrame, Range, Regs, Stop};
+use program_defs::{Edge, EdgeKind};
+use state_defs::{BpHome, Depth, State};
+use walk_defs::{Frame as WalkedFrame, Range, Regs, Stop};
 use ot_base::{Options, Place, PlacedRow, Warning};
 use stack_model::{
     Anything, Choice, Core, Frame, Kept, Machine, Program, Region, Slot, Standing, Start,
@@ -258,8 +259,8 @@ fn frames_of(alloc: Global, s: &Standing) -> Result<Vec<WalkedFrame>, AllocError
 fn stop_of(s: &Standing) -> Stop {
     match s.frames_end() {
         None => Stop::Outside,
-        Some(machine_ops::EndKind::Undefined) => Stop::Undefined,
-        Some(machine_ops::EndKind::EndOfStack) => Stop::EndOfStack,
+        Some(state_defs::EndKind::Undefined) => Stop::Undefined,
+        Some(state_defs::EndKind::EndOfStack) => Stop::EndOfStack,
     }
 }
 

@@ -6,7 +6,8 @@ use super::expect::{
     expect_states, frame, framed, live, next, outermost, plain, standing, stands,
 };
 use crate::builder::{insn, program};
-use machine_ops::{BpHome, HintState, Op, State};
+use operation_defs::Op;
+use state_defs::{BpHome, HintState, State};
 use stack_model::{Choice, InterruptWords, Slot, Start};
 use std::test::Fail;
 

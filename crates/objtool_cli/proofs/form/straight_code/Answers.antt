@@ -1,7 +1,7 @@
 use Rattle.std.proofs.Common.{◌≡◌, ℕ, Bool, true, false, List, [], ◌∷◌, length, get_or, sym, ap, ◌∙◌, subst, arith}
 use Rattle.std.proofs.lemmas.Bool.{false≢true}
 use Rattle.elf_objects.specs.Lent.{IsSlice}
-use Rattle.orc_build.specs.Straight.{IsStraight, ops_of}
+use Rattle.straight_table.specs.Straight.{IsStraight, ops_of}
 use Rattle.x86_text.specs.Code.{IsCode}
 use Rattle.objtool_cli.specs.declared.texts.SectionText.{SectionText}
 use Rattle.objtool_cli.specs.Form.{IsFunctionAround}

@@ -1,6 +1,6 @@
 use Rattle.std.proofs.Common.{length, arith, ap}
 use Rattle.std.proofs.lemmas.Result.{IfOk-weaker}
-use Rattle.orc_build.specs.Rows.{size_of}
+use Rattle.straight_table.specs.Rows.{size_of}
 use Rattle.objtool_cli.proofs.CodeLemmas.{rows_of, sizes}
 use Rattle.objtool_cli.proofs.tables.code_rows.Goals as goal
 

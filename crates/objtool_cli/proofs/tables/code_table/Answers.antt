@@ -5,7 +5,7 @@ use Rattle.ot_base.specs.declared.row.PlacedRow.{PlacedRow}
 use Rattle.elf_objects.specs.Elf.{Elf}
 use Rattle.elf_objects.specs.Object.{IsObject}
 use Rattle.orc_bytes.specs.Sections.{HoldsOrc}
-use Rattle.orc_build.specs.Rows.{straight_rows}
+use Rattle.straight_table.specs.Rows.{straight_rows}
 use Rattle.orc_output.specs.OrcOutput.{with_orc_object}
 use Rattle.objtool_cli.specs.Unwinding.{UnwindsBy}
 use Rattle.objtool_cli.proofs.UnwindingLemmas.{unwinds_by}

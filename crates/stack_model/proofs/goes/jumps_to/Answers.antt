@@ -1,5 +1,5 @@
 use Rattle.std.proofs.Common.{refl, sym}
-use Rattle.stack_machine.specs.Step.{sibling, indirect}
+use Rattle.machine_defs.specs.Step.{sibling, indirect}
 use Rattle.stack_model.proofs.goes.jumps_to.Goals as goal
 
 pub returns-then-has_edge : goal.returns-then-has_edge

@@ -1,7 +1,7 @@
 use Rattle.std.proofs.Common.{List, sym, subst}
 use Rattle.std.specs.List.{remove}
-use Rattle.machine_ops.specs.Frame.{Frame}
-use Rattle.stack_machine.specs.Step.{MissesIret}
+use Rattle.state_defs.specs.Frame.{Frame}
+use Rattle.machine_defs.specs.Step.{MissesIret}
 use Rattle.stack_model.specs.declared.frame.Frame.{Frame as OwnFrame}
 use Rattle.stack_model.specs.Frame.{frames_of}
 use Rattle.stack_model.specs.Standing.{core_of}

@@ -1,5 +1,5 @@
 use Rattle.std.proofs.Common.{arith, ap}
-use Rattle.machine_ops.specs.declared.insn.Insn.{Insn}
+use Rattle.operation_defs.specs.declared.insn.Insn.{Insn}
 use Rattle.stack_model.proofs.Points.{sum_at}
 use Rattle.stack_model.proofs.placement.return_address.Goals as goal
 

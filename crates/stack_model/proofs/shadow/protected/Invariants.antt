@@ -1,7 +1,7 @@
 -- The words so far are those of the frames so far.
 use Rattle.std.proofs.Common.{◌≡◌, take}
 use Rattle.std.specs.Prelude.{flat_map}
-use Rattle.machine_ops.specs.Frame.{protected}
+use Rattle.state_defs.specs.Frame.{protected}
 use Rattle.stack_model.specs.Frame.{frames_of, words_of}
 use Rattle.stack_model.proofs.shadow.protected.Given as goal
 

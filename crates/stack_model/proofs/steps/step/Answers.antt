@@ -1,7 +1,7 @@
 use Rattle.std.proofs.Common.{◌≤◌, ◌^◌, refl}
-use Rattle.machine_ops.specs.Region.{hi_of}
-use Rattle.stack_machine.specs.Machine.{Bases, At}
-use Rattle.stack_machine.specs.Step.{Step, wrecks, irets}
+use Rattle.state_defs.specs.Region.{hi_of}
+use Rattle.machine_defs.specs.Machine.{Bases, At}
+use Rattle.machine_defs.specs.Step.{Step, wrecks, irets}
 use Rattle.stack_model.specs.declared.standing.Standing.{Standing}
 use Rattle.stack_model.specs.Region.{region_of}
 use Rattle.stack_model.specs.Placement.{bases_of}

@@ -1,8 +1,8 @@
 use Rattle.std.proofs.Common.{◌≤◌, ◌^◌}
-use Rattle.machine_ops.specs.Region.{hi_of}
-use Rattle.stack_machine.specs.Machine.{At}
-use Rattle.stack_machine.specs.Hint.{Lands}
-use Rattle.stack_machine.specs.Step.{CallsIn, Step, calls_in}
+use Rattle.state_defs.specs.Region.{hi_of}
+use Rattle.machine_defs.specs.Machine.{At}
+use Rattle.machine_defs.specs.Hint.{Lands}
+use Rattle.machine_defs.specs.Step.{CallsIn, Step, calls_in}
 use Rattle.stack_model.specs.declared.standing.Standing.{Standing}
 use Rattle.stack_model.specs.Region.{region_of}
 use Rattle.stack_model.specs.Placement.{bases_of}

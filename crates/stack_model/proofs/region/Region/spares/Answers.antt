@@ -1,7 +1,7 @@
 use Rattle.std.proofs.Common.{◌≡◌, ℕ, refl, sym}
 use Rattle.std.proofs.lemmas.List.{take_all}
 use Rattle.std.proofs.lemmas.List.Elements.{All-more, All-same}
-use Rattle.machine_ops.specs.Region.{word_at}
+use Rattle.state_defs.specs.Region.{word_at}
 use Rattle.stack_model.specs.Region.{region_of}
 use Rattle.stack_model.proofs.region.Region.spares.Goals as goal
 

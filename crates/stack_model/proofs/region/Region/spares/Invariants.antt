@@ -1,7 +1,7 @@
 -- Of the words that are to be spared those looked at so far are.
 use Rattle.std.proofs.Common.{◌≡◌, take}
 use Rattle.std.specs.Prelude.{All}
-use Rattle.machine_ops.specs.Region.{word_at}
+use Rattle.state_defs.specs.Region.{word_at}
 use Rattle.stack_model.specs.Region.{region_of}
 use Rattle.stack_model.proofs.region.Region.spares.Given as goal
 

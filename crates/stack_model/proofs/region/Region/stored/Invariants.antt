@@ -1,5 +1,5 @@
 -- The addresses stay.
-use Rattle.machine_ops.specs.Region.{SameAddresses}
+use Rattle.state_defs.specs.Region.{SameAddresses}
 use Rattle.stack_model.specs.Region.{region_of}
 use Rattle.stack_model.proofs.region.Region.stored.Given as goal
 

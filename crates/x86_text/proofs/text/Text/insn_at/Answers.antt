@@ -1,7 +1,7 @@
 use Rattle.std.proofs.Common.{◌≡◌, ◌≢◌, ℕ, ◌<◌, ◌≤◌, List, length, get_or, arith, sym, ap, ◌∙◌, subst}
 use Rattle.std.specs.List.Sorted.{IsNonDecreasingBy}
 use Rattle.std.proofs.lemmas.List.{get_or_default}
-use Rattle.machine_ops.specs.declared.op.Op.TheVariants.{Plain}
+use Rattle.operation_defs.specs.declared.op.Op.TheVariants.{Plain}
 use Rattle.x86_text.specs.declared.placed.PlacedInsn.{PlacedInsn}
 use Rattle.x86_text.specs.Code.{code_of, insn_listed}
 use Rattle.x86_text.specs.Listed.{IsListing}

@@ -1,5 +1,5 @@
 use Rattle.std.proofs.Common.{ℕ, List, arith, sym, subst}
-use Rattle.machine_ops.specs.declared.op.Op.TheVariants.{Plain}
+use Rattle.operation_defs.specs.declared.op.Op.TheVariants.{Plain}
 use Rattle.x86_text.specs.declared.placed.PlacedInsn.{PlacedInsn}
 use Rattle.x86_text.specs.Listed.{IsListing}
 use Rattle.x86_text.proofs.QueryLemmas.{no_previous, is_previous}

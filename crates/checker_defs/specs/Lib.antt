@@ -1,0 +1,3 @@
+pub mod Kept
+pub mod Broken
+pub mod Rows

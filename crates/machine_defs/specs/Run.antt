@@ -1,0 +1,83 @@
+-- Where runs of the stack machine start, and what a run is.
+use Rattle.std.specs.Prelude.{◌≡◌, ℕ, ◌≤◌, Bool, true, false, [], ◌∷◌, Option, Some, None, Contains, ℤ}
+use Rattle.state_defs.specs.declared.state.Depth.{Depth}
+use Rattle.state_defs.specs.declared.state.BpHome.{BpHome}
+use Rattle.state_defs.specs.declared.state.EndKind.{EndKind}
+use Rattle.state_defs.specs.declared.state.State.TheVariants.{Live, Ended, Regs}
+use Rattle.state_defs.specs.declared.state.HintState.TheVariants.{Set}
+use Rattle.state_defs.specs.Address.{up, down}
+use Rattle.state_defs.specs.Region.{hi_of, Reads}
+use Rattle.state_defs.specs.Frame.{Slot, Unsaved, is_of_call, Frame}
+use Rattle.state_defs.specs.Effect.{Core, IsInStack}
+use Rattle.program_defs.specs.Program.{Program, IsPoint, Site, in_site, entry_points}
+use Rattle.machine_defs.specs.Machine.{Bases, IsOutside, Standing, Machine, Wrecked, At}
+use Rattle.machine_defs.specs.Hint.{Lands}
+use Rattle.machine_defs.specs.Step.{Step}
+
+-- a frame that was there at the start
+abbrev pub outermost : ℕ → ℕ → ℕ → Slot → Bool → Frame
+outermost ra cfa bp slot ac = record { call = None; ra = ra; cfa = cfa; bp = bp; slot = slot; ac = ac; ended_caller = None; mark_caller = None }
+
+-- the only frame is one of a call from outside, whose return address is on the stack
+pub record WasCalled (p : Program) (bases : Bases) (core : Core) : Type 0 where
+  pub ra : ℕ
+  pub cfa : ℕ
+  pub bp : ℕ
+  pub shadow : core.shadow ≡ outermost ra cfa bp Unsaved core.ac ∷ []
+  pub outside : IsOutside p bases (down ra 1)
+  pub pushed : Reads core.region (down cfa 8) ra
+  pub below_hi : cfa ≤ hi_of core.region
+
+-- it is one of an interrupt that came outside
+pub record WasInterrupted (p : Program) (bases : Bases) (core : Core) : Type 0 where
+  pub ra : ℕ
+  pub cfa : ℕ
+  pub bp : ℕ
+  pub slot : Slot
+  pub of_interrupt : is_of_call slot ≡ false
+  pub shadow : core.shadow ≡ outermost ra cfa bp slot core.ac ∷ []
+  pub outside : IsOutside p bases ra
+  pub below_hi : cfa ≤ hi_of core.region
+
+-- right after the call: rsp is at the return address, and rbp is the caller's
+pub record IsAtEntry (core : Core) (f : Frame) : Type 0 where
+  pub shadow : core.shadow ≡ f ∷ []
+  pub cfa : f.cfa ≡ up core.rsp 8
+  pub bp : f.bp ≡ core.rbp
+
+-- a plain point of checked code at which a run may start by its hint: not inside a site, but for its
+-- first instruction
+pub record MayStart (p : Program) (q : ℕ) : Type 0 where
+  pub point : IsPoint p q
+  pub plain : p.variant q ≡ 0
+  pub checked : p.unchecked q ≡ false
+  pub outside : (site : Site) → Contains p.sites site → in_site site (p.place q) ≡ true → site.start ≡ p.place q
+
+-- The start s is what the hint at its point, if there is one, makes of t, where nothing has ended the
+-- stack; it has no mark.
+pub record StartsFrom (p : Program) (t s : Standing) : Type 0 where
+  pub ended : t.ended ≡ None
+  pub mark : t.mark ≡ None
+  pub hinted : Standing
+  pub lands : Lands p t hinted
+  pub start : s ≡ record hinted { mark = None }
+
+-- The four kinds of start: at an entry, with the frame of a call from outside; at a hint that tells a
+-- call frame; at one that tells saved registers, with the frame of an interrupt outside; and at one
+-- that ends the stack, with no frame.
+pub data Start (p : Program) (bases : Bases) : Standing → Type 0 where
+  at_entry : (t s : Standing) (f : Frame) (entry : ℕ) → Contains p.entries entry → Contains (entry_points p entry) t.point → WasCalled p bases t.core → IsAtEntry t.core f → StartsFrom p t s → Start p bases s
+  at_call_hint : (t s : Standing) (depth : Depth) (fp : Option ℤ) (bp : BpHome) → MayStart p t.point → p.hint t.point ≡ Some (Set (Live depth fp bp)) → WasCalled p bases t.core → StartsFrom p t s → Start p bases s
+  at_regs_hint : (t s : Standing) (full : Bool) (depth : ℤ) → MayStart p t.point → p.hint t.point ≡ Some (Set (Regs full depth)) → WasInterrupted p bases t.core → StartsFrom p t s → Start p bases s
+  at_end_hint : (t s : Standing) (kind : EndKind) → MayStart p t.point → p.hint t.point ≡ Some (Set (Ended kind)) → t.core.shadow ≡ [] → StartsFrom p t s → Start p bases s
+
+-- rsp stays in the stack
+abbrev pub StaysInStack : Machine → Type 0
+StaysInStack Wrecked = Unit {0}
+StaysInStack (At s) = IsInStack s.core
+
+-- A run ends in this state: it begins with a start, and goes on by steps in which rsp stays in the
+-- stack.
+pub data Run (p : Program) (bases : Bases) : Machine → Type 0 where
+  started : (s : Standing) → Start p bases s → IsInStack s.core → Run p bases (At s)
+  stepped : (m n : Machine) → Run p bases m → Step p bases m n → StaysInStack n → Run p bases n

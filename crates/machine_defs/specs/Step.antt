@@ -1,0 +1,236 @@
+-- The steps of the stack machine. Where more than one line fits, each is a possible step: an
+-- alternatives site may be in any of its variants, a static branch or an exception entry may be taken
+-- or not, an indirect branch may go to any of its targets, and an interrupt may come anywhere.
+use Rattle.std.specs.Prelude.{◌≡◌, ◌≢◌, ℕ, ◌+◌, ◌-◌, ◌%◌, ◌⊎◌, Bool, true, false, not, List, [], ◌∷◌, Some, None, Contains, IsTrue, pos}
+use Rattle.operation_defs.specs.declared.op.Op.TheVariants.{RetImm, Iret}
+use Rattle.program_defs.specs.declared.flow.EdgeKind.{EdgeKind}
+use Rattle.program_defs.specs.declared.flow.EdgeKind.TheVariants.{Fixup, Sibling}
+use Rattle.program_defs.specs.declared.flow.Role.{Role}
+use Rattle.program_defs.specs.declared.flow.Role.TheVariants.{CallIn, CallEither, CallOut, CallAny, Return, JumpOut, JumpAny}
+use Rattle.state_defs.specs.declared.state.State.TheVariants.{Regs}
+use Rattle.state_defs.specs.declared.state.HintState.TheVariants.{Set}
+use Rattle.state_defs.specs.Address.{up, down}
+use Rattle.state_defs.specs.Region.{Region, Reads, WritesOnly, WritesWord, Stores}
+use Rattle.state_defs.specs.Frame.{Unsaved, PartialAt, is_of_call, Frame, protected_addresses}
+use Rattle.state_defs.specs.Effect.{Core, StoresOrdinarily, Effect}
+use Rattle.program_defs.specs.Program.{Program, IsPoint, Site, in_site, entry_points, edge, is_local}
+use Rattle.machine_defs.specs.Machine.{Bases, Standing, Machine, Wrecked, At, point_address, return_address}
+use Rattle.machine_defs.specs.Hint.{Lands}
+
+-- the end of the stack and the mark stay
+pub record SameLevel (before after : Standing) : Type 0 where
+  pub ended : after.ended ≡ before.ended
+  pub mark : after.mark ≡ before.mark
+
+-- 1. An instruction goes on in its function, by an edge Next, Taken or Table, with its effect. (A call
+-- has none.)
+pub record GoesOn (p : Program) (s t : Standing) : Type 0 where
+  pub kind : EdgeKind
+  pub local : IsTrue (is_local kind)
+  pub along : Contains (p.goes s.point) (edge t.point kind)
+  pub effect : Effect (p.insn s.point).op s.core t.core
+  pub level : SameLevel s t
+
+-- 2. It faults, and goes to its fixup. Ordinary stores may happen.
+pub record Faults (p : Program) (s t : Standing) : Type 0 where
+  pub along : Contains (p.goes s.point) (edge t.point Fixup)
+  pub stores : StoresOrdinarily s.core t.core
+  pub core : t.core ≡ record s.core { region = t.core.region }
+  pub level : SameLevel s t
+
+-- the entries that a call may go to
+abbrev pub MayCall : Program → Role → ℕ → Type 0
+MayCall p (CallIn e) entry = entry ≡ e
+MayCall p (CallEither e sym) entry = entry ≡ e
+MayCall p CallAny entry = Contains p.entries entry
+MayCall p _ entry = ⊥
+
+-- the frame that a call makes
+abbrev pub call_frame : Program → Bases → Standing → Frame
+call_frame p bases s = record {
+  call = Some s.point;
+  ra = return_address p bases s.point;
+  cfa = s.core.rsp;
+  bp = s.core.rbp;
+  slot = Unsaved;
+  ac = s.core.ac;
+  ended_caller = s.ended;
+  mark_caller = s.mark;
+}
+
+-- 3. It calls an entry of the program: its return address is pushed, and a frame is made.
+pub record CallsIn (p : Program) (bases : Bases) (s t : Standing) : Type 0 where
+  pub entry : ℕ
+  pub target : MayCall p (p.role s.point) entry
+  pub arrives : Contains (entry_points p entry) t.point
+  pub pushed : WritesWord (down s.core.rsp 8) (return_address p bases s.point) s.core.region t.core.region
+  pub core : t.core ≡ record s.core { rsp = down s.core.rsp 8; region = t.core.region; shadow = call_frame p bases s ∷ s.core.shadow }
+  pub ended : t.ended ≡ None
+  pub mark : t.mark ≡ None
+
+-- whether a call may go to code outside that returns
+abbrev pub may_call_out : Program → Role → Bool
+may_call_out p (CallOut sym) = not (p.never_returns sym)
+may_call_out p (CallEither entry sym) = true
+may_call_out p CallAny = true
+may_call_out p _ = false
+
+-- 4. It calls code outside, which returns: it keeps rsp, rbp, user access and protected slots.
+pub record CallsOut (p : Program) (s t : Standing) : Type 0 where
+  pub target : IsTrue (may_call_out p (p.role s.point))
+  pub passed : p.dead_end s.point ≡ false
+  pub comes_back : Contains (p.after s.point) t.point
+  pub stores : StoresOrdinarily s.core t.core
+  pub core : t.core ≡ record s.core { region = t.core.region }
+  pub level : SameLevel s t
+
+-- whether a point may leave its function: by a return, or by a jump to code outside that returns
+abbrev pub may_leave : Program → Role → Bool
+may_leave p Return = true
+may_leave p JumpAny = true
+may_leave p (JumpOut sym) = not (p.never_returns sym)
+may_leave p _ = false
+
+-- the stack is as it has to be for a return from this frame
+pub record IsAtReturn (core : Core) (f : Frame) : Type 0 where
+  pub of_call : is_of_call f.slot ≡ true
+  pub ra : Reads core.region core.rsp f.ra
+  pub cfa : core.rsp ≡ down f.cfa 8
+  pub bp : core.rbp ≡ f.bp
+
+-- it may be otherwise
+abbrev pub MissesReturn : Core → List Frame → Type 0
+MissesReturn core [] = Unit {0}
+MissesReturn core (f ∷ fs) =
+    (is_of_call f.slot ≡ false)
+    ⊎ (((word : ℕ) × Reads core.region core.rsp word × (word ≢ f.ra))
+    ⊎ ((core.rsp ≢ down f.cfa 8)
+    ⊎ (core.rbp ≢ f.bp)))
+
+-- memory before and after: code outside that was jumped to may store, but spares the slots of the
+-- frames that are left
+abbrev pub LeavesMemory : Role → List Frame → Region → Region → Type 0
+LeavesMemory Return frames before after = after ≡ before
+LeavesMemory _ frames before after = Stores (protected_addresses frames) before after
+
+-- 5. It returns to the caller in the program, itself or by code outside. With a frame that was there
+-- at the start the run ends.
+pub record Returns (p : Program) (s t : Standing) : Type 0 where
+  pub leaves : IsTrue (may_leave p (p.role s.point))
+  pub frame : Frame
+  pub below : List Frame
+  pub shadow : s.core.shadow ≡ frame ∷ below
+  pub ready : IsAtReturn s.core frame
+  pub call : ℕ
+  pub called : frame.call ≡ Some call
+  pub passed : p.dead_end call ≡ false
+  pub comes_back : Contains (p.after call) t.point
+  pub memory : LeavesMemory (p.role s.point) below s.core.region t.core.region
+  pub core : t.core ≡ record s.core { rsp = up s.core.rsp 8; region = t.core.region; shadow = below }
+  pub ended : t.ended ≡ frame.ended_caller
+  pub mark : t.mark ≡ frame.mark_caller
+
+-- the point is where a jump to another function of the program may go
+pub data JumpsTo (p : Program) (q : ℕ) : ℕ → Type 0 where
+  sibling : (r : ℕ) → Contains (p.goes q) (edge r Sibling) → JumpsTo p q r
+  indirect : (r entry : ℕ) → p.role q ≡ JumpAny → Contains p.entries entry → Contains (entry_points p entry) r → JumpsTo p q r
+
+-- 6. It jumps to the entry of another function.
+pub record TailCalls (p : Program) (s t : Standing) : Type 0 where
+  pub target : JumpsTo p s.point t.point
+  pub core : t.core ≡ s.core
+  pub level : SameLevel s t
+
+-- the stack is as it has to be for a return from this interrupt
+pub record IsAtIret (core : Core) (f : Frame) : Type 0 where
+  pub of_interrupt : is_of_call f.slot ≡ false
+  pub ra : Reads core.region core.rsp f.ra
+  pub cfa : Reads core.region (up core.rsp 24) f.cfa
+  pub bp : core.rbp ≡ f.bp
+
+-- it may be otherwise
+abbrev pub MissesIret : Core → List Frame → Type 0
+MissesIret core [] = Unit {0}
+MissesIret core (f ∷ fs) =
+    (is_of_call f.slot ≡ true)
+    ⊎ (((word : ℕ) × Reads core.region core.rsp word × (word ≢ f.ra))
+    ⊎ (((word : ℕ) × Reads core.region (up core.rsp 24) word × (word ≢ f.cfa))
+    ⊎ (core.rbp ≢ f.bp)))
+
+-- 7. Its stack is wrecked: it returns with a wrong stack, or goes where there is nothing to go to.
+pub data Wrecks (p : Program) (s : Standing) : Type 0 where
+  wrong_return : IsTrue (may_leave p (p.role s.point)) → MissesReturn s.core s.core.shadow → Wrecks p s
+  wrong_iret : (p.insn s.point).op ≡ Iret → s.ended ≡ None → MissesIret s.core s.core.shadow → Wrecks p s
+  drops_bytes : (p.insn s.point).op ≡ RetImm → Wrecks p s
+  bad_target : (p.marks s.point).bad ≡ true → Wrecks p s
+  into_site : (p.marks s.point).into_site ≡ true → Wrecks p s
+  into_function : (p.marks s.point).into_function ≡ true → Wrecks p s
+  past_end : (p.marks s.point).past_end ≡ true → Wrecks p s
+
+-- A gate: a plain point without owner and outside sites, at which a hint says that the processor has
+-- just pushed ip, cs, flags, sp and ss, and an error code where n is 8.
+pub record IsGate (p : Program) (gate n : ℕ) : Type 0 where
+  pub point : IsPoint p gate
+  pub plain : p.variant gate ≡ 0
+  pub free : p.owner gate ≡ None
+  pub outside : (site : Site) → Contains p.sites site → in_site site (p.place gate) ≡ false
+  pub error_code : (n ≡ 0) ⊎ (n ≡ 8)
+  pub hint : p.hint gate ≡ Some (Set (Regs false (pos n)))
+
+-- where the processor puts the five words: right below rsp, rounded down to a multiple of 16
+abbrev pub interrupt_slot : ℕ → ℕ
+interrupt_slot rsp = down (rsp - rsp % 16) 40
+
+-- the frame that an interrupt makes
+abbrev pub interrupt_frame : Program → Bases → Standing → Frame
+interrupt_frame p bases s = record {
+  call = Some s.point;
+  ra = point_address p bases s.point;
+  cfa = s.core.rsp;
+  bp = s.core.rbp;
+  slot = PartialAt (interrupt_slot s.core.rsp);
+  ac = s.core.ac;
+  ended_caller = s.ended;
+  mark_caller = s.mark;
+}
+
+-- 8. An interrupt comes, at any point: the address of its instruction and rsp are pushed among the
+-- five words, of which the others are anything. The gate is outside sites, so that control comes to
+-- it alone.
+pub record IsInterrupted (p : Program) (bases : Bases) (s t : Standing) : Type 0 where
+  pub n : ℕ
+  pub gate : IsGate p t.point n
+  pub only : WritesOnly (down (interrupt_slot s.core.rsp) n) (n + 40) s.core.region t.core.region
+  pub ra : Reads t.core.region (interrupt_slot s.core.rsp) (point_address p bases s.point)
+  pub cfa : Reads t.core.region (up (interrupt_slot s.core.rsp) 24) s.core.rsp
+  pub core : t.core ≡ record s.core { rsp = down (interrupt_slot s.core.rsp) n; region = t.core.region; shadow = interrupt_frame p bases s ∷ s.core.shadow }
+  pub ended : t.ended ≡ None
+  pub mark : t.mark ≡ None
+
+-- 9. It returns from an interrupt, to the interrupted instruction. With a frame that was there at the
+-- start the run ends.
+pub record ReturnsFromInterrupt (p : Program) (s t : Standing) : Type 0 where
+  pub iret : (p.insn s.point).op ≡ Iret
+  pub live : s.ended ≡ None
+  pub frame : Frame
+  pub below : List Frame
+  pub shadow : s.core.shadow ≡ frame ∷ below
+  pub ready : IsAtIret s.core frame
+  pub interrupted : frame.call ≡ Some t.point
+  pub core : t.core ≡ record s.core { rsp = frame.cfa; ac = frame.ac; shadow = below }
+  pub ended : t.ended ≡ frame.ended_caller
+  pub mark : t.mark ≡ frame.mark_caller
+
+-- A step of the machine. A far branch or a system call has no step but those of its exception entries
+-- and of interrupts, and nor has a return from an interrupt where the stack has ended. After a return
+-- from an interrupt no hint is looked at.
+pub data Step (p : Program) (bases : Bases) : Machine → Machine → Type 0 where
+  goes_on : (s t u : Standing) → GoesOn p s t → Lands p t u → Step p bases (At s) (At u)
+  faults : (s t u : Standing) → Faults p s t → Lands p t u → Step p bases (At s) (At u)
+  calls_in : (s t u : Standing) → CallsIn p bases s t → Lands p t u → Step p bases (At s) (At u)
+  calls_out : (s t u : Standing) → CallsOut p s t → Lands p t u → Step p bases (At s) (At u)
+  returns : (s t u : Standing) → Returns p s t → Lands p t u → Step p bases (At s) (At u)
+  tail_calls : (s t u : Standing) → TailCalls p s t → Lands p t u → Step p bases (At s) (At u)
+  wrecks : (s : Standing) → Wrecks p s → Step p bases (At s) Wrecked
+  interrupted : (s t u : Standing) → IsInterrupted p bases s t → Lands p t u → Step p bases (At s) (At u)
+  irets : (s t : Standing) → ReturnsFromInterrupt p s t → Step p bases (At s) (At t)

@@ -1,0 +1,9 @@
+//! What an instruction does to rsp, rbp, the stack and the flow of control: the operations that the
+//! stack machine knows.
+#![tactic(auto)]
+
+mod insn;
+mod op;
+
+pub use insn::Insn;
+pub use op::Op;

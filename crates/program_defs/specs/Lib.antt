@@ -1,0 +1,3 @@
+pub mod Program
+pub mod MayReturn
+pub mod IsProgram

@@ -1,0 +1,5 @@
+use Rattle.rows_law.proofs.KeptPoints as points
+use Rattle.rows_law.proofs.kept_are_points.Goals as goal
+
+pub returns : goal.returns
+returns c = points.kept_are_points

@@ -1,0 +1,43 @@
+//! The rows of an accepted program tell its kept states, so walking over them gives its frames.
+#![tactic(auto)]
+
+ghost use Rattle.table_defs.specs.Laws.{RowsTell, RowsUnwind};
+ghost use Rattle.rows_law.specs.Laws.{KeptArePoints};
+ghost use Rattle.rows_law.specs.Worked.{TellsWorked};
+
+use walk_defs::find_is_exact;
+use walk_law::walk_law;
+use unwinding_law::unwinding_law;
+
+/// The rows of an accepted program tell its kept states: at the address of each point to which runs come,
+/// and of a call also at its last byte, the row of the point's state is found in the table. Where nothing
+/// is known of the stack, that row or none is.
+pub fn rows_tell()
+    ensures { RowsTell }
+{
+    find_is_exact();
+    unwinding_law();
+}
+
+/// So they unwind it: wherever an accepted program is placed, no run's stack is wrecked, and in each state
+/// of each run the walk over the program's rows gives exactly the frames of the machine, and stops where
+/// they end.
+pub fn rows_unwind()
+    ensures { RowsUnwind }
+{
+    walk_law();
+    rows_tell();
+}
+
+/// In a program only points are kept.
+pub fn kept_are_points()
+    ensures { KeptArePoints }
+{}
+
+/// A call that may be replaced meets every premise: its rows tell its state, and unwind it there.
+pub fn tells_worked()
+    ensures { TellsWorked }
+{
+    rows_tell();
+    rows_unwind();
+}

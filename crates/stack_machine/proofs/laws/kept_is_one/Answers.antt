@@ -1,5 +1,0 @@
-use Rattle.stack_machine.proofs.KeptLemmas as kept
-use Rattle.stack_machine.proofs.laws.kept_is_one.Goals as goal
-
-pub returns : goal.returns
-returns c = kept.kept_is_one

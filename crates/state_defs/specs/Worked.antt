@@ -1,0 +1,33 @@
+-- Worked moves and rows: the states of the code 55 48 89 E5 5D C3 (push rbp; mov rsp to rbp; pop rbp;
+-- ret), and of code over saved registers.
+use Rattle.std.specs.Prelude.{◌≡◌, true, false, Some, None, Ok, Err, pos, negsuc}
+use Rattle.operation_defs.specs.declared.op.Op.TheVariants.{PushBp, Pop, PopBp, LeaBpSp, BpOther, AddSp}
+use Rattle.state_defs.specs.declared.state.Depth.TheVariants.{Known}
+use Rattle.state_defs.specs.declared.state.BpHome.TheVariants.{Same, Saved}
+use Rattle.state_defs.specs.declared.state.State.TheVariants.{Live, Regs}
+use Rattle.state_defs.specs.State.{initial}
+use Rattle.state_defs.specs.Move.{move}
+use Rattle.state_defs.specs.Row.{row_of, unfit_offset}
+use Rattle.state_defs.specs.Rules.{return_rule, iret_rule}
+
+pub record HasWorkedMoves : Type 0 where
+  -- a function with a frame pointer
+  pub push_bp : move initial PushBp ≡ Ok (Live (Known (pos 16)) None (Saved (pos 16)))
+  pub set_bp : move (Live (Known (pos 16)) None (Saved (pos 16))) (LeaBpSp (pos 0)) ≡ Ok (Live (Known (pos 16)) (Some (pos 16)) (Saved (pos 16)))
+  pub pop_bp : move (Live (Known (pos 16)) (Some (pos 16)) (Saved (pos 16))) PopBp ≡ Ok initial
+  -- the return address mustn't be popped, and rbp not be written before it is saved
+  pub pop_ra : move initial Pop ≡ Err 9
+  pub clobbered : move initial BpOther ≡ Err 8
+  pub slot_dropped : move (Live (Known (pos 16)) None (Saved (pos 16))) Pop ≡ Err 11
+  pub too_deep : move initial (AddSp (negsuc 1073741823)) ≡ Err 10
+  -- bp is popped from a pt_regs: ip is 88 bytes above
+  pub regs_pop_bp : move (Regs true (negsuc 31)) PopBp ≡ Ok (Regs false (pos 88))
+  pub regs_pop_ip : move (Regs false (pos 0)) Pop ≡ Err 11
+
+pub record HasWorkedRows : Type 0 where
+  pub framed : row_of (Live (Known (pos 40)) (Some (pos 16)) (Saved (pos 16))) ≡ record { sp_offset = pos 16; bp_offset = negsuc 15; sp_reg = 4; bp_reg = 1; kind = 2; signal = false }
+  pub partial : row_of (Regs false (pos 8)) ≡ record { sp_offset = pos 8; bp_offset = pos 0; sp_reg = 5; bp_reg = 0; kind = 4; signal = true }
+  pub too_far : unfit_offset (Live (Known (pos 40008)) None Same) ≡ Some (pos 40008)
+  pub returns : return_rule initial ≡ None
+  pub returns_deep : return_rule (Live (Known (pos 16)) None Same) ≡ Some 5
+  pub iret : iret_rule (Regs false (pos 0)) ≡ None

@@ -1,0 +1,13 @@
+//! What holds of the definitions of this crate.
+
+ghost use Rattle.state_defs.specs.Worked.{HasWorkedMoves, HasWorkedRows};
+
+/// The moves of a function with a frame pointer, and of code over saved registers.
+pub fn worked_moves()
+    ensures { HasWorkedMoves }
+{}
+
+/// The rows of some states, and the rules that they meet.
+pub fn worked_rows()
+    ensures { HasWorkedRows }
+{}

@@ -1,0 +1,108 @@
+-- Where edges lead, in a program without a broken rule.
+use Rattle.std.proofs.Common.{◌≡◌, ℕ, Bool, true, false, if◌then◌else◌, [], Result, Ok, Err, Contains, refl, sym, ◌∙◌, subst}
+use Rattle.operation_defs.specs.declared.op.Op.{Op}
+use Rattle.operation_defs.specs.declared.op.Op.TheVariants.{Call, CallInd}
+use Rattle.program_defs.specs.declared.flow.Edge.{Edge}
+use Rattle.program_defs.specs.declared.flow.EdgeKind.{EdgeKind}
+use Rattle.program_defs.specs.declared.flow.EdgeKind.TheVariants.{Next, Taken, Fixup, Table, Sibling}
+use Rattle.program_defs.specs.declared.flow.Role.{Role}
+use Rattle.program_defs.specs.declared.flow.Role.TheVariants.{Plain, CallIn, CallEither, CallOut, CallAny, Return, JumpOut, JumpAny, Switch}
+use Rattle.state_defs.specs.declared.state.State.{State}
+use Rattle.state_defs.specs.declared.state.State.TheVariants.{Live, Ended, Regs}
+use Rattle.state_defs.specs.Move.{move, has_near_numbers}
+use Rattle.program_defs.specs.Program.{Program, IsPoint, is_call, is_call_op, edge, is_local}
+use Rattle.program_defs.specs.MayReturn.{target_may_return}
+use Rattle.checker_defs.specs.Kept.{can_go, edges_of, moved, brought_along, Kept, is_free}
+use Rattle.checker_defs.specs.Broken.{IsAccepted, falls_through, refused}
+use Rattle.program_defs.specs.IsProgram.{IsProgram}
+use Rattle.unwinding_law.proofs.Lists.{here, in_filter}
+use Rattle.unwinding_law.proofs.Same.{owner_stable}
+use Rattle.unwinding_law.proofs.KeptStates.{kept_checked, carried, brings_along}
+
+pub not_a_call : (p : Program) (r : Role) → is_call r ≡ false → target_may_return p r ≡ true
+not_a_call p (CallIn entry) e = absurd (let k : ⊥ = cc in k)
+not_a_call p (CallEither entry sym) e = absurd (let k : ⊥ = cc in k)
+not_a_call p (CallOut sym) e = absurd (let k : ⊥ = cc in k)
+not_a_call p CallAny e = absurd (let k : ⊥ = cc in k)
+not_a_call p Plain e = refl
+not_a_call p Return e = refl
+not_a_call p (JumpOut sym) e = refl
+not_a_call p JumpAny e = refl
+not_a_call p Switch e = refl
+
+-- a call leaves a state as it is, where it isn't refused
+unless_refused : (x : Bool) (s t : State) → if◌then◌else◌ {A = Result State ℕ} x (Ok s) (Err 10) ≡ Ok t → if◌then◌else◌ {A = Result State ℕ} x (Ok s) (Err 10) ≡ Ok s
+unless_refused true s t h = refl
+unless_refused false s t h = absurd (let k : ⊥ = cc in k)
+
+call_moves : (s t : State) (op : Op) → is_call_op op ≡ true → move s op ≡ Ok t → move s op ≡ Ok s
+call_moves (Live d m b) t (Call rel) e h = unless_refused (has_near_numbers (Live d m b)) (Live d m b) t h
+call_moves (Live d m b) t CallInd e h = unless_refused (has_near_numbers (Live d m b)) (Live d m b) t h
+call_moves (Ended k) t op e h = refl
+call_moves (Regs full d) t (Call rel) e h = unless_refused (has_near_numbers (Regs full d)) (Regs full d) t h
+call_moves (Regs full d) t CallInd e h = unless_refused (has_near_numbers (Regs full d)) (Regs full d) t h
+call_moves s t _ e h = absurd (let k : ⊥ = cc in k)
+
+pub local_brought : (s t : State) (op : Op) (kind : EdgeKind) → is_local kind ≡ true → move s op ≡ Ok t → Contains (brought_along s op kind) t
+local_brought s t op Next l e = subst (λ (r : Result State ℕ). Contains (moved r) t) (sym e) (here t [])
+local_brought s t op Taken l e = subst (λ (r : Result State ℕ). Contains (moved r) t) (sym e) (here t [])
+local_brought s t op Table l e = subst (λ (r : Result State ℕ). Contains (moved r) t) (sym e) (here t [])
+local_brought s t op Fixup l e = absurd (let k : ⊥ = cc in k)
+local_brought s t op Sibling l e = absurd (let k : ⊥ = cc in k)
+
+-- what is no call's instruction has no call's role
+pub plain_role : (p : Program) → IsProgram p → (q : ℕ) → IsPoint p q → (b : Bool) → is_call (p.role q) ≡ b → is_call_op (p.insn q).op ≡ false → is_call (p.role q) ≡ false
+plain_role p is q point true e h = let k : is_call_op (p.insn q).op ≡ true = is.calls q point e in absurd (let m : ⊥ = cc in m)
+plain_role p is q point false e h = e
+
+-- its local edges may be gone along
+pub may_go : (p : Program) (q : ℕ) (kind : EdgeKind) → is_local kind ≡ true → is_call (p.role q) ≡ false → can_go p q kind ≡ true
+may_go p q Next l e = not_a_call p (p.role q) e
+may_go p q Taken l e = refl
+may_go p q Fixup l e = refl
+may_go p q Table l e = refl
+may_go p q Sibling l e = refl
+
+module _ (p : Program) (is : IsProgram p) (acc : IsAccepted p) where
+  pub edge_in : (a q : ℕ) (kind : EdgeKind) → Contains (p.goes a) (edge q kind) → can_go p a kind ≡ true → Contains (edges_of p a) (edge q kind)
+  edge_in a q kind c h = in_filter (λ (e : Edge). can_go p a e.kind) (p.goes a) (edge q kind) c h
+
+  pub owner_checked : (a q : ℕ) (s : State) → IsPoint p a → IsPoint p q → Kept p a s → p.owner q ≡ p.owner a → p.unchecked q ≡ false
+  owner_checked a q s pa pq kept e = is.owners q a pq pa e ∙ kept_checked p a s kept
+
+  pub next_checked : (a q : ℕ) (s : State) → IsPoint p a → Kept p a s → Contains (p.goes a) (edge q Next) → can_go p a Next ≡ true → p.unchecked q ≡ false
+  next_checked a q s pa kept c h = owner_checked a q s pa (is.edges a (edge q Next) pa c) kept (owner_stable (p.owner q) (p.owner a) (λ ne. acc _ _ _ _ (falls_through a q s kept (edge_in a q Next c h) ne)))
+
+  pub local_checked : (a q : ℕ) (s : State) (kind : EdgeKind) → is_local kind ≡ true → IsPoint p a → Kept p a s → Contains (p.goes a) (edge q kind) → can_go p a kind ≡ true → p.unchecked q ≡ false
+  local_checked a q s Next l pa kept c h = next_checked a q s pa kept c h
+  local_checked a q s Taken l pa kept c h = owner_checked a q s pa (is.edges a (edge q Taken) pa c) kept (is.same_owner a (edge q Taken) pa c refl)
+  local_checked a q s Table l pa kept c h = owner_checked a q s pa (is.edges a (edge q Table) pa c) kept (is.same_owner a (edge q Table) pa c refl)
+  local_checked a q s Fixup l pa kept c h = absurd (let k : ⊥ = cc in k)
+  local_checked a q s Sibling l pa kept c h = absurd (let k : ⊥ = cc in k)
+
+  pub fixup_checked : (a q : ℕ) (s : State) → IsPoint p a → Kept p a s → Contains (p.goes a) (edge q Fixup) → p.unchecked q ≡ false
+  fixup_checked a q s pa kept c = owner_checked a q s pa (is.edges a (edge q Fixup) pa c) kept (is.same_owner a (edge q Fixup) pa c refl)
+
+  -- the operation of a kept point is not refused
+  pub moves : (a : ℕ) (s : State) → Kept p a s → (t : State) × (move s (p.insn a).op ≡ Ok t)
+  moves a s kept = go (move s (p.insn a).op) refl
+    where
+      go : (r : Result State ℕ) → move s (p.insn a).op ≡ r → (t : State) × (move s (p.insn a).op ≡ Ok t)
+      go (Ok t) e = (t, e)
+      go (Err rule) e = absurd (acc _ _ _ _ (refused a rule s kept e))
+
+  -- the moved state is kept along a local edge, and the state itself along that to a fixup
+  pub local_kept : (a q : ℕ) (s t : State) (kind : EdgeKind) → is_local kind ≡ true → IsPoint p a → Kept p a s → Contains (p.goes a) (edge q kind) → can_go p a kind ≡ true → move s (p.insn a).op ≡ Ok t → is_free (p.hint q) ≡ true → Kept p q t
+  local_kept a q s t kind l pa kept c h e free = carried p acc a q s t pa kept (brings_along p a s (edge q kind) t (edge_in a q kind c h) (local_brought s t (p.insn a).op kind l e)) (local_checked a q s kind l pa kept c h) free
+
+  pub fixup_kept : (a q : ℕ) (s : State) → IsPoint p a → Kept p a s → Contains (p.goes a) (edge q Fixup) → is_free (p.hint q) ≡ true → Kept p q s
+  fixup_kept a q s pa kept c free = carried p acc a q s s pa kept (brings_along p a s (edge q Fixup) s (edge_in a q Fixup c refl) (here s [])) (fixup_checked a q s pa kept c) free
+
+  -- past a call that may return its state is kept
+  pub call_next_in : (a q : ℕ) (s : State) → IsPoint p a → Kept p a s → is_call (p.role a) ≡ true → p.dead_end a ≡ false → Contains (p.after a) q → Contains (p.goes a) (edge q Next)
+  call_next_in a q s pa kept call passed c = is.call_next a q pa (kept_checked p a s kept) call passed c
+
+  pub past_call : (a q : ℕ) (s : State) → IsPoint p a → Kept p a s → is_call (p.role a) ≡ true → target_may_return p (p.role a) ≡ true → Contains (p.goes a) (edge q Next) → is_free (p.hint q) ≡ true → Kept p q s
+  past_call a q s pa kept call back c free =
+      let m = moves a s kept in
+      local_kept a q s s Next refl pa kept c back (call_moves s m.0 (p.insn a).op (is.calls a pa call) m.1) free

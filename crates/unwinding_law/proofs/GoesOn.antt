@@ -1,0 +1,90 @@
+-- An instruction that goes on in its function.
+use Rattle.std.proofs.Common.{◌≡◌, ℕ, ◌≤◌, List, Option, Some, None, Ok, All, refl, sym, ap, ◌∙◌, subst}
+use Rattle.std.proofs.lemmas.List.Elements.{All-head}
+use Rattle.state_defs.specs.declared.state.EndKind.{EndKind}
+use Rattle.state_defs.specs.declared.state.State.{State}
+use Rattle.state_defs.specs.declared.state.State.TheVariants.{Live, Ended, Regs}
+use Rattle.state_defs.specs.Region.{hi_of}
+use Rattle.state_defs.specs.Frame.{Frame, listed, AreKept}
+use Rattle.state_defs.specs.Effect.{IsInStack, Effect}
+use Rattle.state_defs.specs.State.{ended_by, IsConsistent, MeansTop}
+use Rattle.state_defs.specs.Move.{move}
+use Rattle.state_defs.specs.Sound.{IsTold, MoveIsSound, MoveIsConsistent}
+use Rattle.program_defs.specs.Program.{Program, IsPoint, is_call, edge}
+use Rattle.machine_defs.specs.Machine.{Bases, Standing}
+use Rattle.machine_defs.specs.Step.{SameLevel, GoesOn}
+use Rattle.program_defs.specs.MayReturn as may
+use Rattle.checker_defs.specs.Broken.{IsAccepted}
+use Rattle.program_defs.specs.IsProgram.{IsProgram}
+use Rattle.machine_defs.specs.Law.{AreFrames, HasRunInvariant, HasFrameInvariant}
+use Rattle.unwinding_law.proofs.Shadow.{effect_shape, effect_hi, effect_no_call}
+use Rattle.unwinding_law.proofs.Frames.{HasTop, has_top, means_top, top_above, frame_invariant, stays_out}
+use Rattle.unwinding_law.proofs.KeptStates.{kept_consistent}
+use Rattle.unwinding_law.proofs.Landing.{IsComing, no_slots}
+use Rattle.unwinding_law.proofs.Edges.{plain_role, may_go, moves, local_checked, local_kept}
+
+-- what a state says after an effect
+record IsToldAfter (q : ℕ) (a : State) (t : Standing) : Type 0 where
+  ended : t.ended ≡ ended_by a
+  means : MeansTop a t.core.rsp t.core.rbp t.core.shadow
+  slots : AreKept t.core.rsp t.core.region (listed t.ended t.core.shadow)
+
+module _ (p : Program) (bases : Bases) (is : IsProgram p) (sound : MoveIsSound) (keeps : MoveIsConsistent) (s t : Standing) (r : HasRunInvariant p s) (f : HasFrameInvariant p bases s) (stack : IsInStack s.core) (effect : Effect (p.insn s.point).op s.core t.core) (level : SameLevel s t) (after : IsInStack t.core) where
+  -- of a state that isn't ended
+  told_live : (a b : State) → r.state ≡ a → ended_by a ≡ None → move a (p.insn s.point).op ≡ Ok b → IsToldAfter t.point b t
+  told_live a b is_a live moved =
+      let consistent : IsConsistent a = subst IsConsistent is_a (kept_consistent p is keeps s.point r.state r.point r.kept) in
+      let s_ended : s.ended ≡ None = r.ended ∙ (ap ended_by is_a ∙ live) in
+      let t_ended : t.ended ≡ None = level.ended ∙ s_ended in
+      let h : HasTop a s.core.rsp s.core.rbp s.core.shadow = has_top a s.core.rsp s.core.rbp s.core.shadow live (subst (λ (x : State). MeansTop x s.core.rsp s.core.rbp s.core.shadow) is_a r.means) in
+      let listed_slots : AreKept s.core.rsp s.core.region (listed None s.core.shadow) = subst (λ (x : Option EndKind). AreKept s.core.rsp s.core.region (listed x s.core.shadow)) s_ended r.slots in
+      let told : IsTold a s.core h.frame h.below = record {
+        frames = h.is;
+        means = h.means;
+        top = All-head (λ (g : Frame). g.cfa ≤ hi_of s.core.region) h.frame h.below (subst (λ (x : List Frame). All (λ (g : Frame). g.cfa ≤ hi_of s.core.region) x) h.is f.below_hi);
+        kept = subst (λ (x : List Frame). AreKept s.core.rsp s.core.region (listed None x)) h.is listed_slots;
+        above = top_above p bases s.point h.frame h.below (subst (λ (x : List Frame). AreFrames p bases s.point x) h.is f.frames);
+      } in
+      let n = sound a b (p.insn s.point).op s.core t.core h.frame h.below consistent live (is.numbers s.point r.point) moved stack told effect after in
+      record {
+        ended = t_ended ∙ sym ((keeps a b (p.insn s.point).op consistent moved).1 ∙ live);
+        means = subst (λ (x : List Frame). MeansTop b t.core.rsp t.core.rbp x) (sym n.2.frames) (means_top b t.core.rsp t.core.rbp n.0 h.below n.2.means);
+        slots = subst (λ (x : Option EndKind). AreKept t.core.rsp t.core.region (listed x t.core.shadow)) (sym t_ended) (subst (λ (x : List Frame). AreKept t.core.rsp t.core.region (listed None x)) (sym n.2.frames) n.2.kept);
+      }
+
+  told_ended : (k : EndKind) (b : State) → s.ended ≡ Some k → Ended k ≡ b → IsToldAfter t.point b t
+  told_ended k b ended e =
+      let t_ended : t.ended ≡ Some k = level.ended ∙ ended in
+      subst (λ (x : State). IsToldAfter t.point x t) e (record {
+        ended = t_ended;
+        means = tt;
+        slots = subst (λ (x : Option EndKind). AreKept t.core.rsp t.core.region (listed x t.core.shadow)) (sym t_ended) (no_slots t.core.rsp t.core.region);
+      })
+
+  told_after : (a b : State) → r.state ≡ a → move a (p.insn s.point).op ≡ Ok b → IsToldAfter t.point b t
+  told_after (Live d m h) b is_a moved = told_live (Live d m h) b is_a refl moved
+  told_after (Ended k) b is_a moved = told_ended k b (r.ended ∙ ap ended_by is_a) (let e : Ended k ≡ b = cc in e)
+  told_after (Regs full d) b is_a moved = told_live (Regs full d) b is_a refl moved
+
+module _ (p : Program) (bases : Bases) (is : IsProgram p) (acc : IsAccepted p) (sound : MoveIsSound) (keeps : MoveIsConsistent) (s t : Standing) (r : HasRunInvariant p s) (f : HasFrameInvariant p bases s) (stack : IsInStack s.core) (g : GoesOn p s t) (after : IsInStack t.core) where
+  pub goes_on_comes : IsComing p bases t
+  goes_on_comes =
+      let role = plain_role p is s.point r.point (is_call (p.role s.point)) refl (effect_no_call s.core t.core (p.insn s.point).op g.effect) in
+      let can = may_go p s.point g.kind g.local role in
+      let m = moves p is acc s.point r.state r.kept in
+      let point : IsPoint p t.point = is.edges s.point (edge t.point g.kind) r.point g.along in
+      let told : IsToldAfter t.point m.0 t = told_after p bases is sound keeps s t r f stack g.effect g.level after r.state m.0 refl m.1 in
+      record {
+        point = point;
+        checked = local_checked p is acc s.point t.point r.state g.kind g.local r.point r.kept g.along can;
+        frames = frame_invariant p bases s t (effect_shape s.core t.core (p.insn s.point).op g.effect) (effect_hi s.core t.core (p.insn s.point).op g.effect) g.level.mark
+            (stays_out p bases is s.point t.point r.point point (λ h. may.goes_on s.point (edge t.point g.kind) role g.along h)) f;
+        told = λ free. record {
+          point = point;
+          state = m.0;
+          kept = local_kept p is acc s.point t.point r.state m.0 g.kind g.local r.point r.kept g.along can m.1 free;
+          ended = told.ended;
+          means = told.means;
+          slots = told.slots;
+        };
+      }

@@ -1,0 +1,88 @@
+-- No state in order has its stack wrecked next.
+use Rattle.std.proofs.Common.{◌≡◌, ◌≢◌, ℕ, ◌+◌, ◌-◌, ◌^◌, ◌<◌, ◌≤◌, ◌++◌, true, false, List, [], ◌∷◌, Option, None, All, flat_map, pos, refl, sym, ap, ◌∙◌, subst, inl, inr, arith}
+use Rattle.std.proofs.lemmas.List.Elements.{All-head, All-tail}
+use Rattle.state_defs.specs.declared.state.EndKind.{EndKind}
+use Rattle.state_defs.specs.declared.state.State.{State}
+use Rattle.state_defs.specs.declared.state.State.TheVariants.{Regs}
+use Rattle.state_defs.specs.Address.{up, down}
+use Rattle.state_defs.specs.Region.{hi_of, Reads, Holds}
+use Rattle.state_defs.specs.Frame.{Slot, is_of_call, Frame, Protected, protected_by, protected, listed, AreKept}
+use Rattle.state_defs.specs.Effect.{Core, IsInStack}
+use Rattle.state_defs.specs.State.{initial, ended_by, MeansTop}
+use Rattle.program_defs.specs.Program.{Program}
+use Rattle.machine_defs.specs.Machine.{Standing}
+use Rattle.machine_defs.specs.Step.{MissesReturn, MissesIret, Wrecks, wrong_return, wrong_iret, drops_bytes, bad_target, into_site, into_function, past_end}
+use Rattle.checker_defs.specs.Broken.{IsAccepted}
+use Rattle.checker_defs.specs.Broken as broken
+use Rattle.program_defs.specs.IsProgram.{IsProgram}
+use Rattle.machine_defs.specs.Law.{HasRunInvariant}
+use Rattle.unwinding_law.proofs.Numbers.{holds_reads, holds_inside, up_none}
+use Rattle.unwinding_law.proofs.Leaves.{at_leave, at_iret}
+
+-- the initial state is ready for a return
+ready_to_return : (core : Core) (fs : List Frame) → MeansTop initial core.rsp core.rbp fs → AreKept core.rsp core.region (listed None fs) → MissesReturn core fs → ⊥
+ready_to_return core [] m k e = m
+ready_to_return core (f ∷ fs) m k e = elim e [ inl a ↦ kind a | inr b ↦ elim b [ inl a ↦ read a.0 a.1 a.2 | inr c ↦ elim c [ inl a ↦ a m.depth | inr a ↦ a m.bp.1 ] ] ]
+  where
+    kind : is_of_call f.slot ≡ false → ⊥
+    kind a = let h : is_of_call f.slot ≡ true = ap is_of_call m.bp.0 in cc
+
+    rest : List Protected
+    rest = flat_map protected (listed f.ended_caller fs)
+
+    held : Holds core.region (down f.cfa 8) f.ra
+    held = All-head (λ (x : Protected). Holds core.region x.at x.value) (record { at = down f.cfa 8; value = f.ra }) (flat_map protected (listed f.ended_caller fs)) (subst (λ (x : Slot). All (λ (y : Protected). Holds core.region y.at y.value) (protected_by x f.ra f.cfa f.bp ++ flat_map protected (listed f.ended_caller fs))) m.bp.0 k.hold)
+
+    read : (word : ℕ) → Reads core.region core.rsp word → word ≢ f.ra → ⊥
+    read word reads ne = ne (holds_reads core.region core.rsp f.ra word (subst (λ (x : ℕ). Holds core.region x f.ra) (sym m.depth) held) reads)
+
+-- a partial state at its saved registers is ready for a return from an interrupt
+ready_to_iret : (core : Core) (fs : List Frame) → IsInStack core → MeansTop (Regs false (pos 0)) core.rsp core.rbp fs → AreKept core.rsp core.region (listed None fs) → MissesIret core fs → ⊥
+ready_to_iret core [] stack m k e = m
+ready_to_iret core (f ∷ fs) stack m k e = elim e [ inl a ↦ kind a | inr b ↦ elim b [ inl a ↦ read_ra a.0 a.1 a.2 | inr c ↦ elim c [ inl a ↦ read_cfa a.0 a.1 a.2 | inr a ↦ a m.bp ] ] ]
+  where
+    kind : is_of_call f.slot ≡ true → ⊥
+    kind a = let h : is_of_call f.slot ≡ false = ap is_of_call m.slot in cc
+
+    both : All (λ (y : Protected). Holds core.region y.at y.value) (record { at = m.at; value = f.ra } ∷ record { at = up m.at 24; value = f.cfa } ∷ flat_map protected (listed f.ended_caller fs))
+    both = subst (λ (x : Slot). All (λ (y : Protected). Holds core.region y.at y.value) (protected_by x f.ra f.cfa f.bp ++ flat_map protected (listed f.ended_caller fs))) m.slot k.hold
+
+    ra_held : Holds core.region m.at f.ra
+    ra_held = All-head (λ (x : Protected). Holds core.region x.at x.value) (record { at = m.at; value = f.ra }) (record { at = up m.at 24; value = f.cfa } ∷ flat_map protected (listed f.ended_caller fs)) both
+
+    cfa_held : Holds core.region (up m.at 24) f.cfa
+    cfa_held = All-head (λ (x : Protected). Holds core.region x.at x.value) (record { at = up m.at 24; value = f.cfa }) (flat_map protected (listed f.ended_caller fs)) (All-tail (λ (x : Protected). Holds core.region x.at x.value) (record { at = m.at; value = f.ra }) (record { at = up m.at 24; value = f.cfa } ∷ flat_map protected (listed f.ended_caller fs)) both)
+
+    small : (x hi : ℕ) → x + 8 ≤ hi → hi < 2 ^ 64 - 2 ^ 30 → x < 2 ^ 64
+    small x hi a b = omega arith
+
+    rsp : core.rsp ≡ m.at
+    rsp = m.depth ∙ up_none m.at (small m.at (hi_of core.region) (holds_inside core.region m.at f.ra ra_held) stack.region.below_end)
+
+    read_ra : (word : ℕ) → Reads core.region core.rsp word → word ≢ f.ra → ⊥
+    read_ra word reads ne = ne (holds_reads core.region core.rsp f.ra word (subst (λ (x : ℕ). Holds core.region x f.ra) (sym rsp) ra_held) reads)
+
+    read_cfa : (word : ℕ) → Reads core.region (up core.rsp 24) word → word ≢ f.cfa → ⊥
+    read_cfa word reads ne = ne (holds_reads core.region (up core.rsp 24) f.cfa word (subst (λ (x : ℕ). Holds core.region (up x 24) f.cfa) (sym rsp) cfa_held) reads)
+
+module _ (p : Program) (is : IsProgram p) (acc : IsAccepted p) (s : Standing) (r : HasRunInvariant p s) (stack : IsInStack s.core) where
+  live_slots : s.ended ≡ None → AreKept s.core.rsp s.core.region (listed None s.core.shadow)
+  live_slots e = subst (λ (x : Option EndKind). AreKept s.core.rsp s.core.region (listed x s.core.shadow)) e r.slots
+
+  means_state : (a : State) → r.state ≡ a → MeansTop a s.core.rsp s.core.rbp s.core.shadow
+  means_state a e = subst (λ (x : State). MeansTop x s.core.rsp s.core.rbp s.core.shadow) e r.means
+
+  pub not_wrecked : Wrecks p s → ⊥
+  not_wrecked (wrong_return leaves misses) =
+      let e = at_leave p acc s.point r.state r.kept (p.role s.point) refl leaves in
+      ready_to_return s.core s.core.shadow (means_state initial e) (live_slots (r.ended ∙ ap ended_by e)) misses
+  not_wrecked (wrong_iret op live misses) =
+      let e = at_iret p acc s.point r.state r.kept op (sym r.ended ∙ live) in
+      ready_to_iret s.core s.core.shadow stack (means_state (Regs false (pos 0)) e) (live_slots live) misses
+  not_wrecked (drops_bytes op) =
+      let role = is.returns s.point r.point op in
+      acc _ _ _ _ (broken.drops_bytes s.point r.state r.kept role op (λ h. acc _ _ _ _ (broken.unallowed_return s.point r.state r.kept role h)))
+  not_wrecked (bad_target e) = acc _ _ _ _ (broken.bad_target s.point r.state r.kept e)
+  not_wrecked (into_site e) = acc _ _ _ _ (broken.into_site s.point r.state r.kept e)
+  not_wrecked (into_function e) = acc _ _ _ _ (broken.into_function s.point r.state r.kept e)
+  not_wrecked (past_end e) = acc _ _ _ _ (broken.runs_off s.point r.state r.kept e)
