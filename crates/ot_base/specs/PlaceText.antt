@@ -12,13 +12,17 @@ abbrev pub with_sign : ℤ → List ℕ
 with_sign (pos n) = 43 ∷ decimal n
 with_sign (negsuc n) = 45 ∷ decimal (suc n)
 
+-- a byte in two lower-case hexadecimal digits
+abbrev pub hexadecimal_byte : ℕ → List ℕ
+hexadecimal_byte b = digit_glyph false (b / 16) ∷ digit_glyph false (b % 16) ∷ []
+
 -- a byte from 21 to 7E other than the backslash
 abbrev pub is_plain : ℕ → Bool
 is_plain b = nat_le 0x21 b && nat_le b 0x7E && not (b == 0x5C)
 
--- a plain byte as it is, another one as a backslash and two lower-case hexadecimal digits
+-- a plain byte as it is, another one as a backslash and its two digits
 abbrev pub escaped_byte : ℕ → List ℕ
-escaped_byte b = if is_plain b then b ∷ [] else 0x5C ∷ digit_glyph false (b / 16) ∷ digit_glyph false (b % 16) ∷ []
+escaped_byte b = if is_plain b then b ∷ [] else 0x5C ∷ hexadecimal_byte b
 
 -- a name, byte by byte
 abbrev pub escaped : List ℕ → List ℕ

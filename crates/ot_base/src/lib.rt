@@ -17,7 +17,9 @@ pub use names::Names;
 pub use options::Options;
 pub use place::Place;
 pub use row::{PlacedRow, Row};
-pub use text::{Escaped, PlaceText, RowLine, RowWords, WarningLine, row_text, warning_text};
+pub use text::{
+    Escaped, Hexadecimal, PlaceText, RowLine, RowWords, WarningLine, row_text, warning_text,
+};
 pub use warning::Warning;
 
 #[cfg(test)]

@@ -1,8 +1,36 @@
-ghost use Rattle.std.specs.Prelude.{Some};
-ghost use Rattle.ot_base.specs.PlaceText.{escaped, escaped_byte, place_text, is_plain};
+ghost use Rattle.std.specs.Prelude.{Some, flat_map};
+ghost use Rattle.ot_base.specs.PlaceText.{escaped, escaped_byte, hexadecimal_byte, place_text, is_plain};
 ghost use Rattle.std.specs.Prelude.{◌≡◌};
 
 use std::fmt;
+
+/// A byte in two lower-case hexadecimal digits.
+#[derive(Clone, Copy)]
+struct HexadecimalByte(u8);
+
+impl fmt::Display for HexadecimalByte {
+    ghost output = { λ b. Some (hexadecimal_byte b.0) };
+
+    fn fmt<W: fmt::Write>(&self, f: &mut fmt::Formatter<W>) -> fmt::Result {
+        let byte = self.0;
+        write!(f, "{byte:02x}")
+    }
+}
+
+/// Bytes in two lower-case hexadecimal digits each, with nothing between them.
+#[derive(Clone, Copy)]
+pub struct Hexadecimal<'a>(pub &'a [u8]);
+
+impl fmt::Display for Hexadecimal<'_> {
+    ghost output = { λ b. Some (flat_map hexadecimal_byte b.0.now) };
+
+    fn fmt<W: fmt::Write>(&self, f: &mut fmt::Formatter<W>) -> fmt::Result {
+        for byte in self.0 {
+            write!(f, "{}", HexadecimalByte(*byte))?;
+        }
+        Ok(())
+    }
+}
 
 fn is_plain(byte: u8) -> bool
     ensures { result ≡ is_plain byte }
@@ -21,7 +49,7 @@ impl fmt::Display for EscapedByte {
         if is_plain(byte) {
             f.write_char(byte as char)
         } else {
-            write!(f, "\\{byte:02x}")
+            write!(f, "\\{}", HexadecimalByte(byte))
         }
     }
 }
