@@ -4,3 +4,4 @@ pub mod NamesFile
 pub mod PlaceText
 pub mod RowText
 pub mod WarningText
+pub mod CountedItems

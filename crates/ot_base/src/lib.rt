@@ -8,6 +8,7 @@ mod names;
 mod options;
 mod place;
 mod row;
+mod tape;
 mod text;
 mod warning;
 
@@ -17,6 +18,7 @@ pub use names::Names;
 pub use options::Options;
 pub use place::Place;
 pub use row::{PlacedRow, Row};
+pub use tape::Tape;
 pub use text::{
     Escaped, Hexadecimal, PlaceText, RowLine, RowWords, WarningLine, row_text, warning_text,
 };
