@@ -1,3 +1,4 @@
+pub mod FaultText
 pub mod Fields
 pub mod Action
 pub mod Operation

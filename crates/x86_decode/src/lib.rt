@@ -7,12 +7,14 @@ ghost use Rattle.x86_decode.specs.MapLaw.{MapIsExact};
 ghost use Rattle.x86_decode.specs.Decoding.{StandsInFront, EndsOutside, IsCut, IsTooLong, OneOutcome, OneSpelling, decoded};
 
 mod action;
+mod fault_text;
 mod fields;
 mod operation;
 mod prefix;
 mod reading;
 
 use crate::reading::{Stop, read};
+pub use fault_text::DecodeFaultText;
 pub use operation_defs::{Insn, Op};
 
 /// Why no instruction stands at the front of the bytes.

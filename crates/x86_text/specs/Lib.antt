@@ -1,3 +1,4 @@
 pub mod Code
+pub mod FaultText
 pub mod Listed
 pub mod Refused

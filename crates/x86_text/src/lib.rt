@@ -2,10 +2,12 @@
 #![tactic(auto)]
 
 mod fault;
+mod fault_text;
 mod placed;
 mod text;
 
 pub use fault::TextFault;
+pub use fault_text::TextFaultText;
 pub use operation_defs::{Insn, Op};
 pub use placed::PlacedInsn;
 pub use text::Text;

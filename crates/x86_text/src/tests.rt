@@ -2,6 +2,7 @@
 ghost use Rattle.std.specs.Prelude.{◌≤◌, length};
 
 use crate::fault::TextFault;
+use crate::fault_text::TextFaultText;
 use crate::text::Text;
 use std::alloc::Global;
 use std::test::Fail;
@@ -107,6 +108,33 @@ fn faults_of_a_body(rt: HostRuntime) -> Result<(), Fail> {
             assert_eq!(rt; why, DecodeFault::Long);
         }
         _ => return Err(Fail::from("read")),
+    }
+    Ok(())
+}
+
+// The last offset has no instruction, and the section's name a byte that is no plain one.
+#[test]
+fn faults_in_words(rt: HostRuntime) -> Result<(), Fail> {
+    let body = [0x90u8, 0x66, 0xC5, 0xF8, 0x77];
+    let cases = [
+        (
+            DecodeFault::Outside { seen: 2 },
+            ".te\\20xt+0x1: opcode outside the map: 66c5",
+        ),
+        (
+            DecodeFault::Cut { have: 14 },
+            ".te\\20xt+0x1: instruction cut after 14 bytes",
+        ),
+        (DecodeFault::Long, ".te\\20xt+0x1: instruction too long"),
+    ];
+    for (why, words) in cases {
+        let told = TextFaultText {
+            fault: TextFault::At { off: 1, why },
+            section: b".te xt",
+            body: &body,
+        };
+        let text = format!(in rt.alloc(); "{told}")?;
+        assert_eq!(rt; text.as_str(), words);
     }
     Ok(())
 }
