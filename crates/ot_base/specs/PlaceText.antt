@@ -1,7 +1,12 @@
--- How names, numbers and places are printed.
+-- How names, codes, numbers and places are printed.
 use Rattle.std.specs.Prelude.{ℕ, suc, ℤ, pos, negsuc, ◌/◌, ◌%◌, ◌==◌, Bool, false, ◌&&◌, not, nat_le, List, [], ◌∷◌, ◌++◌, codes, if◌then◌else◌}
 use Rattle.std.specs.List.{flat_map}
 use Rattle.std.specs.Fmt.{decimal, digits, digit_glyph}
+
+-- the text at a number in a table, or nothing
+abbrev pub text_at : List (ℕ × List ℕ) → ℕ → List ℕ
+text_at [] rule = []
+text_at (entry ∷ entries) rule = if rule == entry.0 then entry.1 else text_at entries rule
 
 -- in lower-case hexadecimal digits, with no leading zero
 abbrev pub hexadecimal : ℕ → List ℕ

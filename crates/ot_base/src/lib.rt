@@ -1,6 +1,7 @@
 //! Places, rows and options: the words that every other crate speaks in.
 #![tactic(auto)]
 
+pub mod codes;
 mod lists;
 mod memory;
 mod name_set;
@@ -8,6 +9,7 @@ mod names;
 mod options;
 mod place;
 mod row;
+pub mod rules;
 mod tape;
 mod text;
 mod warning;

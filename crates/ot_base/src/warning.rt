@@ -5,7 +5,7 @@ use crate::place::Place;
 pub struct Warning {
     /// Where it is broken.
     pub place: Place,
-    /// The rule's number.
+    /// The rule's number, one of `rules`.
     pub rule: u8,
     /// What the rule tells first, 0 where it tells nothing: a number, or a symbol's number, where -1
     /// stands for an indirect target.

@@ -8,7 +8,7 @@ use Rattle.ot_base.specs.declared.row.Row.{Row}
 use Rattle.ot_base.specs.declared.row.PlacedRow.{PlacedRow}
 use Rattle.state_defs.specs.Row.{zero_row}
 use Rattle.walk_defs.specs.declared.range.Range.{Range}
-use Rattle.walk_defs.specs.declared.codes.TheConstants.{KIND_UNDEFINED}
+use Rattle.ot_base.specs.declared.codes.TheConstants.{KIND_UNDEFINED}
 use Rattle.walk_defs.specs.Placement.{address_of}
 use Rattle.walk_defs.specs.Lookup.{AddressedRow, addressed_row, addressed, at_or_below, comes_before, IsLast, RowHoldsAt, find_row}
 use Rattle.walk_defs.specs.Laws.{FoundIsLast, NoneFoundIsNone}

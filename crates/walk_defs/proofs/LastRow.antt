@@ -4,7 +4,7 @@ use Rattle.std.specs.Prelude.{All, option_map}
 use Rattle.std.proofs.lemmas.Bool.{ltb-true, ltb-false, lt-ltb, cases_Bool}
 use Rattle.std.proofs.lemmas.Bool.Decides.{nat_tests}
 use Rattle.std.proofs.lemmas.List.Elements.{All-nil, All-cons, All-append, All-weaker, All-head, All-tail}
-use Rattle.walk_defs.specs.declared.codes.TheConstants.{KIND_UNDEFINED}
+use Rattle.ot_base.specs.declared.codes.TheConstants.{KIND_UNDEFINED}
 use Rattle.walk_defs.specs.Lookup.{AddressedRow, addressed, at_or_below, comes_before, IsLast, RowHoldsAt, later, last_of, find_row}
 use Rattle.walk_defs.specs.Laws.{FoundIsLast, NoneFoundIsNone, OneRowHolds}
 

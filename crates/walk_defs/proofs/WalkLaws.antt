@@ -9,7 +9,7 @@ use Rattle.walk_defs.specs.declared.frame.Regs.{Regs}
 use Rattle.walk_defs.specs.declared.frame.Frame.{Frame}
 use Rattle.walk_defs.specs.declared.frame.Stop.{Stop}
 use Rattle.walk_defs.specs.declared.frame.Stop.TheVariants.{Outside, EndOfStack, Undefined, NoRow, BaseUnknown, Unreadable}
-use Rattle.walk_defs.specs.declared.codes.TheConstants.{REG_UNDEFINED, REG_PREV_SP, REG_BP, REG_SP, KIND_UNDEFINED, KIND_END_OF_STACK, KIND_CALL}
+use Rattle.ot_base.specs.declared.codes.TheConstants.{REG_UNDEFINED, REG_PREV_SP, REG_BP, REG_SP, KIND_UNDEFINED, KIND_END_OF_STACK, KIND_CALL}
 use Rattle.walk_defs.specs.Placement.{is_inside}
 use Rattle.walk_defs.specs.Lookup.{find_row}
 use Rattle.walk_defs.specs.Walk.{Memory, ◌>>=◌, read, word_or_stop, offset_by, pointed_to, ra_address, caller_sp, caller_bp, frame_of, unwound, lookup_address, registers_of, WalksFrom, outside, no_row, stops, goes_on}

@@ -3,7 +3,7 @@ use Rattle.std.specs.Prelude.{◌≡◌, ℕ, Bool, true, false, ◌&&◌, ◌||
 use Rattle.ot_base.specs.declared.row.Row.{Row}
 use Rattle.ot_base.specs.declared.row.PlacedRow.{PlacedRow}
 use Rattle.walk_defs.specs.declared.range.Range.{Range}
-use Rattle.walk_defs.specs.declared.codes.TheConstants.{KIND_UNDEFINED}
+use Rattle.ot_base.specs.declared.codes.TheConstants.{KIND_UNDEFINED}
 use Rattle.walk_defs.specs.Placement.{address_of}
 
 -- a row and the address from which on it holds

@@ -8,7 +8,8 @@ use Rattle.walk_defs.specs.declared.frame.Regs.{Regs}
 use Rattle.walk_defs.specs.declared.frame.Frame.{Frame}
 use Rattle.walk_defs.specs.declared.frame.Stop.{Stop}
 use Rattle.walk_defs.specs.declared.frame.Stop.TheVariants.{Outside, EndOfStack, Undefined, NoRow, BaseUnknown, Unreadable, NotRising}
-use Rattle.walk_defs.specs.declared.codes.TheConstants.{REG_UNDEFINED, REG_PREV_SP, REG_BP, REG_SP, KIND_UNDEFINED, KIND_END_OF_STACK, KIND_CALL, KIND_REGS, PT_REGS_BP, PT_REGS_IP, PT_REGS_SP, IRET_SP}
+use Rattle.ot_base.specs.declared.codes.TheConstants.{REG_UNDEFINED, REG_PREV_SP, REG_BP, REG_SP, KIND_UNDEFINED, KIND_END_OF_STACK, KIND_CALL, KIND_REGS}
+use Rattle.walk_defs.specs.declared.codes.TheConstants.{PT_REGS_BP, PT_REGS_IP, PT_REGS_SP, IRET_SP}
 use Rattle.walk_defs.specs.Placement.{is_inside}
 use Rattle.walk_defs.specs.Lookup.{find_row}
 

@@ -1,36 +1,11 @@
-//! The numbers that a row's fields hold (Linux 6.6, `orc_types.h`).
+//! The numbers that a row's fields hold, and where an interrupt's saved registers lie (Linux 6.6,
+//! `orc_types.h` and `struct pt_regs` of `ptrace.h`).
 
-/// The register isn't known; for rbp, it still holds the caller's value.
-pub const REG_UNDEFINED: u8 = 0;
-/// The frame's top, which is the caller's stack pointer.
-pub const REG_PREV_SP: u8 = 1;
-/// rdx.
-pub const REG_DX: u8 = 2;
-/// rdi.
-pub const REG_DI: u8 = 3;
-/// rbp.
-pub const REG_BP: u8 = 4;
-/// rsp.
-pub const REG_SP: u8 = 5;
-/// r10.
-pub const REG_R10: u8 = 6;
-/// r13.
-pub const REG_R13: u8 = 7;
-/// The word that rbp and the offset point to.
-pub const REG_BP_INDIRECT: u8 = 8;
-/// The word that rsp points to, and the offset.
-pub const REG_SP_INDIRECT: u8 = 9;
-
-/// Nothing is known of the frame.
-pub const KIND_UNDEFINED: u8 = 0;
-/// The stack ends here.
-pub const KIND_END_OF_STACK: u8 = 1;
-/// A call's frame: the return address lies right below its top.
-pub const KIND_CALL: u8 = 2;
-/// All registers of an interrupted place are saved (`struct pt_regs`).
-pub const KIND_REGS: u8 = 3;
-/// Only the interrupted place's ip, cs, flags, sp and ss are saved.
-pub const KIND_REGS_PARTIAL: u8 = 4;
+pub use ot_base::codes::{
+    KIND_CALL, KIND_END_OF_STACK, KIND_REGS, KIND_REGS_PARTIAL, KIND_UNDEFINED, REG_BP,
+    REG_BP_INDIRECT, REG_DI, REG_DX, REG_PREV_SP, REG_R10, REG_R13, REG_SP, REG_SP_INDIRECT,
+    REG_UNDEFINED,
+};
 
 /// Bytes from the start of the saved registers of `KIND_REGS`, a `struct pt_regs`, to its rbp.
 pub const PT_REGS_BP: u8 = 32;

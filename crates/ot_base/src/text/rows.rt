@@ -1,39 +1,46 @@
 ghost use Rattle.std.specs.Prelude.{◌≡◌, ◌++◌, Some, OnOk, OnErr};
 ghost use Rattle.ot_base.specs.RowText.{base_text, kind_name, register_name, row_line, row_words};
 
+use crate::codes::{
+    KIND_CALL, KIND_END_OF_STACK, KIND_REGS, KIND_REGS_PARTIAL, KIND_UNDEFINED, REG_BP,
+    REG_BP_INDIRECT, REG_DI, REG_DX, REG_PREV_SP, REG_R10, REG_R13, REG_SP, REG_SP_INDIRECT,
+    REG_UNDEFINED,
+};
 use crate::memory::NoMemory;
 use crate::names::Names;
 use crate::row::{PlacedRow, Row};
 use crate::text::places::PlaceText;
 use std::fmt;
 
+#[tactic(auto, unfolding(crate::specs::RowText::kind_name))]
 fn kind_name(kind: u8) -> &'static str
     ensures { result.now ≡ kind_name kind }
 {
     match kind {
-        0 => "undefined",
-        1 => "end",
-        2 => "call",
-        3 => "regs",
-        4 => "partial",
+        KIND_UNDEFINED => "undefined",
+        KIND_END_OF_STACK => "end",
+        KIND_CALL => "call",
+        KIND_REGS => "regs",
+        KIND_REGS_PARTIAL => "partial",
         _ => "",
     }
 }
 
+#[tactic(auto, unfolding(crate::specs::RowText::register_name))]
 fn register_name(register: u8) -> &'static str
     ensures { result.now ≡ register_name register }
 {
     match register {
-        0 => "undef",
-        1 => "prev",
-        2 => "dx",
-        3 => "di",
-        4 => "bp",
-        5 => "sp",
-        6 => "r10",
-        7 => "r13",
-        8 => "(bp)",
-        9 => "(sp)",
+        REG_UNDEFINED => "undef",
+        REG_PREV_SP => "prev",
+        REG_DX => "dx",
+        REG_DI => "di",
+        REG_BP => "bp",
+        REG_SP => "sp",
+        REG_R10 => "r10",
+        REG_R13 => "r13",
+        REG_BP_INDIRECT => "(bp)",
+        REG_SP_INDIRECT => "(sp)",
         _ => "",
     }
 }

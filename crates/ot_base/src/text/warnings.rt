@@ -3,6 +3,7 @@ ghost use Rattle.ot_base.specs.WarningText.{fixed_text, warning_line};
 
 use crate::memory::NoMemory;
 use crate::names::Names;
+use crate::rules;
 use crate::text::places::{Escaped, PlaceText};
 use crate::warning::Warning;
 use std::fmt;
@@ -11,28 +12,28 @@ fn fixed_text(rule: u8) -> &'static str
     ensures { result.now ≡ fixed_text rule }
 {
     match rule {
-        1 => "bad branch target",
-        2 => "falls into another function",
-        3 => "runs off the section",
-        7 => "unsupported write of rsp",
-        8 => "rbp written before it is saved",
-        9 => "stack pointer lost",
-        11 => "saved slot dropped",
-        13 => "jump into an alternative site",
-        14 => "unreachable instruction",
-        15 => "return or context switch not allowed here",
-        16 => "call into the middle of a function",
-        17 => "function without size",
-        18 => "restore without save",
-        21 => "call without frame",
-        31 => "indirect branch",
-        32 => "naked return",
-        42 => "return with user access on",
-        43 => "return with user access off",
-        44 => "user access turned on twice",
-        45 => "user access turned off twice",
-        46 => "safe function turns user access off",
-        47 => "popf where user access is tracked",
+        rules::BAD_BRANCH_TARGET => "bad branch target",
+        rules::FALLS_THROUGH => "falls into another function",
+        rules::RUNS_OFF_SECTION => "runs off the section",
+        rules::UNSUPPORTED_SP_WRITE => "unsupported write of rsp",
+        rules::BP_NOT_SAVED => "rbp written before it is saved",
+        rules::STACK_POINTER_LOST => "stack pointer lost",
+        rules::SAVED_SLOT_DROPPED => "saved slot dropped",
+        rules::JUMP_INTO_SITE => "jump into an alternative site",
+        rules::UNREACHABLE_INSTRUCTION => "unreachable instruction",
+        rules::EXIT_NOT_ALLOWED => "return or context switch not allowed here",
+        rules::CALL_INTO_FUNCTION => "call into the middle of a function",
+        rules::FUNCTION_WITHOUT_SIZE => "function without size",
+        rules::RESTORE_WITHOUT_SAVE => "restore without save",
+        rules::CALL_WITHOUT_FRAME => "call without frame",
+        rules::INDIRECT_BRANCH => "indirect branch",
+        rules::NAKED_RETURN => "naked return",
+        rules::RETURN_WITH_ACCESS => "return with user access on",
+        rules::RETURN_WITHOUT_ACCESS => "return with user access off",
+        rules::ACCESS_ON_TWICE => "user access turned on twice",
+        rules::ACCESS_OFF_TWICE => "user access turned off twice",
+        rules::SAFE_FUNCTION_ACCESS_OFF => "safe function turns user access off",
+        rules::POPF_WITH_ACCESS_TRACKED => "popf where user access is tracked",
         _ => "",
     }
 }
@@ -55,12 +56,15 @@ impl<N: Names> fmt::Display for RuleText<'_, N> {
     fn fmt<W: fmt::Write>(&self, f: &mut fmt::Formatter<W>) -> fmt::Result {
         let a = self.a;
         match self.rule {
-            4 => write!(f, "stack state mismatch: kept {a}, found {}", self.b),
-            5 => write!(f, "return with modified stack: depth {a}"),
-            6 => write!(f, "sibling call with modified stack: depth {a}"),
-            10 => write!(f, "offset out of range: {a}"),
-            12 => write!(f, "alternatives disagree at offset {a}"),
-            41 => {
+            rules::STATE_MISMATCH => write!(f, "stack state mismatch: kept {a}, found {}", self.b),
+            rules::MODIFIED_RETURN => write!(f, "return with modified stack: depth {a}"),
+            rules::MODIFIED_SIBLING_CALL => write!(
+                f,
+                "sibling call with modified stack: depth {a}"
+            ),
+            rules::OFFSET_OUT_OF_RANGE => write!(f, "offset out of range: {a}"),
+            rules::ALTERNATIVES_DISAGREE => write!(f, "alternatives disagree at offset {a}"),
+            rules::CALL_WITH_ACCESS => {
                 let callee = Callee {
                     names: self.names,
                     number: a,
