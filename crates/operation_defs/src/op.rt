@@ -1,66 +1,87 @@
 /// What an instruction does to rsp, rbp, the stack and the flow of control (Intel SDM, volume 2).
-/// Displacements and immediates are sign-extended; `rel` counts from the instruction's end.
+///
+/// Encodings are given by opcode and ModRM digit; `wide` ones have REX.W. An instruction writes a
+/// register where its opcode or ModRM names one as a destination, in any width but the high bytes AH,
+/// CH, DH and BH. Displacements and immediates are sign-extended; `rel` counts from the instruction's
+/// end. Operations that address memory by rsp or rbp have that base alone, without an index, another
+/// address size or a segment override by FS or GS.
 #[derive(Clone, Copy, Debug, PartialEq, Eq)]
 pub enum Op {
-    /// None of the others: writes neither rsp nor rbp, and goes on.
+    /// None of the others: writes neither rsp nor rbp, may store, and goes on.
     Plain,
-    /// Does nothing.
+    /// Does nothing: NOP (90 without REX.B, and 0F 1F), and the padding of a replacement.
     Nop,
-    /// ENDBR32 or ENDBR64: does nothing, marks a target of indirect branches.
+    /// Does nothing, and marks a target of indirect branches: ENDBR32 and ENDBR64 (F3 0F 1E FB, FA).
     Endbr,
-    /// Pushes 8 bytes other than rbp.
+    /// Pushes 8 bytes that aren't rbp: PUSH of another register (rsp is one), of memory, of an
+    /// immediate, of FS and of GS, and PUSHF.
     Push,
-    /// Pushes rbp.
+    /// Pushes rbp, as a register.
     PushBp,
-    /// Pops 8 bytes to neither rsp nor rbp.
+    /// Pops 8 bytes into a register that is neither rsp nor rbp, into memory, FS or GS.
     Pop,
-    /// Pops rbp.
+    /// Pops rbp, as a register.
     PopBp,
-    /// Pops the flags.
+    /// Pops the flags, and with them the access flag AC: POPF.
     Popf,
-    /// Adds to rsp.
+    /// Adds `by` to rsp: wide ADD and SUB of an immediate (81 and 83, /0 and /5), and wide LEA of rsp
+    /// from rsp and a displacement.
     AddSp { by: i64 },
-    /// Masks rsp.
+    /// Masks rsp: wide AND of an immediate (81 and 83, /4).
     AndSp { mask: i64 },
-    /// Sets rsp to rbp plus `by`.
+    /// Sets rsp to rbp plus `by`: wide LEA of rsp from rbp and a displacement, and wide MOV of rbp to
+    /// rsp, where `by` is 0.
     LeaSpBp { by: i64 },
-    /// Sets rbp to rsp plus `by`.
+    /// Sets rbp to rsp plus `by`: wide LEA of rbp from rsp and a displacement, and wide MOV of rsp to
+    /// rbp, where `by` is 0.
     LeaBpSp { by: i64 },
-    /// Stores rbp at rsp plus `at`.
+    /// Stores rbp at rsp plus `at`: wide MOV (89).
     StoreBp { at: i64 },
-    /// Loads rbp from rsp plus `at`.
+    /// Loads rbp from rsp plus `at`: wide MOV (8B).
     LoadBp { at: i64 },
-    /// LEAVE: sets rsp to rbp, then pops rbp.
+    /// Sets rsp to rbp, then pops rbp: LEAVE.
     Leave,
-    /// Writes rsp in another way.
+    /// Writes rsp, ESP, SP or SPL in another way, as ENTER and POP of rsp do. It may write rbp besides,
+    /// and store.
     SpOther,
-    /// Writes rbp in another way.
+    /// Writes rbp, EBP, BP or BPL in another way, and not rsp. It may store.
     BpOther,
-    /// A direct call.
+    /// A near call by a displacement (E8).
     Call { rel: i32 },
-    /// An indirect call.
+    /// A near call through a register or memory (FF /2).
     CallInd,
-    /// A direct jump; `wide` where its displacement has 32 bits.
+    /// A near jump by a displacement (EB, E9); `wide` where that has 32 bits.
     Jmp { rel: i32, wide: bool },
-    /// A conditional jump; `wide` where its displacement has 32 bits.
+    /// A jump on a condition (70 to 7F, 0F 80 to 8F), LOOP and its like, and JRCXZ (E0 to E3); `wide`
+    /// where the displacement has 32 bits.
     Jcc { rel: i32, wide: bool },
-    /// An indirect jump; `table` is where in the instruction the 32-bit address of a jump table
-    /// stands, for a jump through a table of 8-byte addresses.
+    /// A near jump through a register or memory (FF /4). `table` is there where the operand is an
+    /// entry of a jump table: an index times 8 plus a 32-bit address, without a base; that address
+    /// stands `table` bytes behind the instruction's first.
     JmpInd { table: Option<u8> },
-    /// A near return.
+    /// A near return (C3).
     Ret,
-    /// A near return that drops bytes.
+    /// A near return that drops bytes of the caller's stack (C2).
     RetImm,
-    /// IRETQ: returns from an interrupt.
+    /// A return from an interrupt: wide IRET (CF), which pops ip, cs, flags, rsp and ss.
     Iret,
-    /// A far branch, a system call or another way out of the code.
+    /// A wide IRET that goes on right behind itself, as a function executes one to serialize the
+    /// processor.
+    ///
+    /// Five words were pushed right before it, with the address behind it as ip and the address right
+    /// above them as rsp. So it ends with rsp 40 bytes higher, right above the five words, and changes
+    /// nothing else; user access is as it was. That it goes on behind itself in this way is a premise
+    /// of whoever takes an IRET for one: the decoder never does.
+    IretNext,
+    /// A way out of the code by a far branch or the system: far CALL and JMP (FF /3 and /5), far RET
+    /// (CA, CB), IRET that isn't wide, SYSCALL, SYSRET, SYSENTER and SYSEXIT.
     Switch,
-    /// UD2 or UD1: an undefined instruction on purpose.
+    /// An undefined instruction on purpose: UD2 and UD1 (0F 0B, 0F B9).
     Ud2,
-    /// A breakpoint.
+    /// A breakpoint (CC).
     Int3,
-    /// Sets the access flag AC.
+    /// Sets the access flag AC: STAC.
     Stac,
-    /// Clears the access flag AC.
+    /// Clears the access flag AC: CLAC.
     Clac,
 }

@@ -265,6 +265,7 @@ pub fn effect(
         Op::LoadBp { at } => Some(load_into_bp(core, at, any.word)),
         Op::Leave => Some(leave(core, any.word)),
         Op::AddSp { by } => Some(with_sp(core, shifted(rsp, by))),
+        Op::IretNext => Some(with_sp(core, up(rsp, 40))),
         Op::AndSp { mask } => Some(with_sp(core, rsp & mask.cast_unsigned())),
         Op::LeaSpBp { by } => Some(with_sp(core, shifted(rbp, by))),
         Op::LeaBpSp { by } => Some(with_bp(core, shifted(rsp, by))),

@@ -2,9 +2,9 @@
 use Rattle.std.proofs.Common.{◌≡◌, ℕ, ◌+◌, ◌-◌, ◌*◌, ◌/◌, ◌%◌, ◌^◌, ◌<◌, ◌≤◌, true, ℤ, pos, negsuc, neg_ℤ, ◌+ℤ◌, ◌≤ℤ◌, arith}
 use Rattle.std.specs.Prelude.{int_le}
 use Rattle.std.proofs.lemmas.Int.{ints}
+use Rattle.std.proofs.lemmas.Bool.{and_parts}
 use Rattle.state_defs.specs.Address.{up, down, shifted}
 use Rattle.state_defs.specs.Move.{is_near}
-use Rattle.stack_state.proofs.Booleans.{and_true}
 
 -- x is a + k but for whole turns of 2^64
 pub record IsTurned (x a : ℕ) (k : ℤ) : Type 0 where
@@ -51,7 +51,7 @@ pub record IsNear (n : ℤ) : Type 0 where
 
 pub near_from : (n : ℤ) → is_near n ≡ true → IsNear n
 near_from n e =
-    let both : (int_le n (pos (2 ^ 30)) ≡ true) × (int_le (pos 0) (n +ℤ pos (2 ^ 30)) ≡ true) = and_true _ _ e in
+    let both : (int_le n (pos (2 ^ 30)) ≡ true) × (int_le (pos 0) (n +ℤ pos (2 ^ 30)) ≡ true) = and_parts _ _ e in
     record { high = omega (arith, ints, both.0); low = omega (arith, ints, both.1) }
 
 -- within a region and near, the sum is plain

@@ -1,9 +1,10 @@
 -- A move keeps states consistent.
-use Rattle.std.proofs.Common.{◌≡◌, Bool, true, false, ◌&&◌, ℤ, pos, negsuc, ◌+ℤ◌, ◌-ℤ◌, ◌≤ℤ◌, arith, refl, sym, subst}
+use Rattle.std.proofs.Common.{◌≡◌, Bool, true, false, ◌&&◌, ℤ, pos, negsuc, ◌+ℤ◌, ◌-ℤ◌, ◌≤ℤ◌, arith, refl, sym, ap, subst}
 use Rattle.std.specs.Prelude.{Option, Some, None, Ok, IsSome, int_le, int_lt}
 use Rattle.std.proofs.lemmas.Int.{ints}
+use Rattle.std.proofs.lemmas.Bool.{and_parts}
 use Rattle.operation_defs.specs.declared.op.Op.{Op}
-use Rattle.operation_defs.specs.declared.op.Op.TheVariants.{Push, PushBp, Pop, PopBp, Popf, AddSp, AndSp, LeaSpBp, LeaBpSp, StoreBp, LoadBp, Leave, SpOther, BpOther}
+use Rattle.operation_defs.specs.declared.op.Op.TheVariants.{Push, PushBp, Pop, PopBp, Popf, AddSp, AndSp, LeaSpBp, LeaBpSp, StoreBp, LoadBp, Leave, SpOther, BpOther, IretNext}
 use Rattle.state_defs.specs.declared.state.Depth.{Depth}
 use Rattle.state_defs.specs.declared.state.Depth.TheVariants.{Known, AtLeast}
 use Rattle.state_defs.specs.declared.state.BpHome.{BpHome}
@@ -13,21 +14,33 @@ use Rattle.state_defs.specs.declared.state.State.TheVariants.{Live, Ended, Regs}
 use Rattle.state_defs.specs.State.{depth_of, with_depth, ended_by, IsConsistent, IsConsistentLive}
 use Rattle.state_defs.specs.Move.{int_same, has_near_numbers, to, raise, pop_at, push_bp, pop_bp, align, rsp_from_bp, bp_from_rsp, store_bp, load_bp, leave, lose_bp, move_live, regs_floor, raise_regs, pop_bp_regs, lose_bp_regs, move_regs}
 use Rattle.state_defs.specs.Sound.{MoveIsConsistent}
-use Rattle.stack_state.proofs.Booleans.{and_true}
-use Rattle.stack_state.proofs.Results.{to_then, unless_then, pick_then, refused_then}
+use Rattle.stack_state.proofs.Results.{to_then, unless_then, pick_then, refused_then, allowed_is}
+
+-- where rbp is the frame's base, it points at its home
+abbrev pub PointsHome : Option ℤ → BpHome → Type 0
+PointsHome fp home = (m : ℤ) → fp ≡ Some m → home ≡ Saved m
+
+no_base : (home : BpHome) → PointsHome None home
+no_base home m e = absurd (cc)
+
+base_at_home : (o : ℤ) → PointsHome (Some o) (Saved o)
+base_at_home o m e = let same : o ≡ m = cc in ap (λ (x : ℤ). Saved x) same
+
+same_has_no_base : (depth : Depth) (fp : Option ℤ) (o : ℤ) → IsConsistentLive depth fp Same → PointsHome fp (Saved o)
+same_has_no_base depth fp o c m e = absurd (let no : Same ≡ Saved m = c.fp m e in cc)
 
 -- rbp is saved o bytes below the frame's top
-pub saved_known : (n o : ℤ) (fp : Option ℤ) → pos 16 ≤ℤ o → o ≤ℤ n → IsConsistentLive (Known n) fp (Saved o)
-saved_known n o fp low high = record {
-  fp = λ s. (o, refl);
+pub saved_known : (n o : ℤ) (fp : Option ℤ) → PointsHome fp (Saved o) → pos 16 ≤ℤ o → o ≤ℤ n → IsConsistentLive (Known n) fp (Saved o)
+saved_known n o fp base low high = record {
+  fp = base;
   aligned = λ a. cc;
   saved = λ p e. let same : o ≡ p = cc in subst (λ (x : ℤ). (pos 16 ≤ℤ x) × (x ≤ℤ n)) same (low, high);
   same = λ e. absurd (cc);
 }
 
-pub saved_at_least : (n o m : ℤ) → pos 16 ≤ℤ o → o ≤ℤ n → IsConsistentLive (AtLeast n) (Some m) (Saved o)
-saved_at_least n o m low high = record {
-  fp = λ s. (o, refl);
+pub saved_at_least : (n o m : ℤ) → PointsHome (Some m) (Saved o) → pos 16 ≤ℤ o → o ≤ℤ n → IsConsistentLive (AtLeast n) (Some m) (Saved o)
+saved_at_least n o m base low high = record {
+  fp = base;
   aligned = λ a. refl;
   saved = λ p e. let same : o ≡ p = cc in subst (λ (x : ℤ). (pos 16 ≤ℤ x) × (x ≤ℤ n)) same (low, high);
   same = λ e. absurd (cc);
@@ -35,7 +48,7 @@ saved_at_least n o m low high = record {
 
 pub unsaved_known : (n : ℤ) → pos 8 ≤ℤ n → IsConsistentLive (Known n) None Same
 unsaved_known n high = record {
-  fp = λ s. absurd (cc);
+  fp = no_base Same;
   aligned = λ a. absurd (cc);
   saved = λ p e. absurd (cc);
   same = λ e. high;
@@ -46,7 +59,7 @@ pub same_depth : (depth : Depth) (fp : Option ℤ) → IsConsistentLive depth fp
 same_depth depth fp c = c.same refl
 
 pub same_has_no_pointer : (depth : Depth) (m : ℤ) → IsConsistentLive depth (Some m) Same → ⊥
-same_has_no_pointer depth m c = let (o, e) : (o : ℤ) × (Same ≡ Saved o) = c.fp refl in cc
+same_has_no_pointer depth m c = let no : Same ≡ Saved m = c.fp m refl in cc
 
 pub same_is_known : (n : ℤ) (fp : Option ℤ) → IsConsistentLive (AtLeast n) fp Same → ⊥
 same_is_known n None c = let e : IsSome {T = ℤ} None = c.aligned refl in cc
@@ -59,11 +72,11 @@ pub saved_bounds : (depth : Depth) (fp : Option ℤ) (o : ℤ) → IsConsistentL
 saved_bounds depth fp o c = c.saved o refl
 
 -- the depth changes, and rbp is saved in it
-pub saved_deeper : (depth : Depth) (n o : ℤ) (fp : Option ℤ) (home : BpHome) → IsConsistentLive depth fp home → pos 16 ≤ℤ o → o ≤ℤ n
+pub saved_deeper : (depth : Depth) (n o : ℤ) (fp : Option ℤ) (home : BpHome) → IsConsistentLive depth fp home → PointsHome fp (Saved o) → pos 16 ≤ℤ o → o ≤ℤ n
     → IsConsistentLive (with_depth depth n) fp (Saved o)
-saved_deeper (Known k) n o fp home c low high = saved_known n o fp low high
-saved_deeper (AtLeast k) n o None home c low high = absurd (at_least_has_pointer k home c)
-saved_deeper (AtLeast k) n o (Some m) home c low high = saved_at_least n o m low high
+saved_deeper (Known k) n o fp home c base low high = saved_known n o fp base low high
+saved_deeper (AtLeast k) n o None home c base low high = absurd (at_least_has_pointer k home c)
+saved_deeper (AtLeast k) n o (Some m) home c base low high = saved_at_least n o m base low high
 
 pub same_deeper : (depth : Depth) (n : ℤ) (fp : Option ℤ) → IsConsistentLive depth fp Same → pos 8 ≤ℤ n → IsConsistentLive (with_depth depth n) fp Same
 same_deeper (AtLeast k) n fp c high = absurd (same_is_known k fp c)
@@ -84,12 +97,12 @@ push_stays depth fp Same t c e =
     to_live _ _ _ t (same_deeper depth (depth_of depth +ℤ pos 8) fp c (omega (arith, ints))) e
 push_stays depth fp (Saved o) t c e =
     let bounds : (pos 16 ≤ℤ o) × (o ≤ℤ depth_of depth) = saved_bounds depth fp o c in
-    to_live _ _ _ t (saved_deeper depth (depth_of depth +ℤ pos 8) o fp (Saved o) c bounds.0 (omega (arith, ints))) e
+    to_live _ _ _ t (saved_deeper depth (depth_of depth +ℤ pos 8) o fp (Saved o) c c.fp bounds.0 (omega (arith, ints))) e
 
 push_bp_stays : (depth : Depth) (fp : Option ℤ) (home : BpHome) (t : State) → IsConsistentLive depth fp home → push_bp depth fp home ≡ Ok t → StaysLive t
 push_bp_stays depth fp Same t c e =
     let low : pos 8 ≤ℤ depth_of depth = same_depth depth fp c in
-    to_live _ _ _ t (saved_deeper depth (depth_of depth +ℤ pos 8) (depth_of depth +ℤ pos 8) fp Same c (omega (arith, ints)) (omega (arith, ints))) e
+    to_live _ _ _ t (saved_deeper depth (depth_of depth +ℤ pos 8) (depth_of depth +ℤ pos 8) fp Same c (same_has_no_base depth fp _ c) (omega (arith, ints)) (omega (arith, ints))) e
 push_bp_stays depth fp (Saved o) t c e = push_stays depth fp (Saved o) t c e
 
 raise_stays : (k : ℤ) (depth : Depth) (fp : Option ℤ) (home : BpHome) (t : State) → IsConsistentLive depth fp home → raise k depth fp home ≡ Ok t → StaysLive t
@@ -99,15 +112,15 @@ raise_stays k depth fp Same t c e =
 raise_stays k (AtLeast n) fp (Saved o) t c e =
     let bounds : (pos 16 ≤ℤ o) × (o ≤ℤ n) = saved_bounds (AtLeast n) fp o c in
     unless_then (StaysLive t) (int_lt (n -ℤ k) o) 9 _ t
-    (λ high d. to_live _ _ _ t (saved_deeper (AtLeast n) (n -ℤ k) o fp (Saved o) c bounds.0 (omega (arith, ints, high))) d) e
+    (λ high d. to_live _ _ _ t (saved_deeper (AtLeast n) (n -ℤ k) o fp (Saved o) c c.fp bounds.0 (omega (arith, ints, high))) d) e
 raise_stays k (Known n) fp (Saved o) t c e =
     let bounds : (pos 16 ≤ℤ o) × (o ≤ℤ n) = saved_bounds (Known n) fp o c in
     unless_then (StaysLive t) (int_lt (n -ℤ k) o) 11 _ t
-    (λ high d. to_live _ _ _ t (saved_known (n -ℤ k) o fp bounds.0 (omega (arith, ints, high))) d) e
+    (λ high d. to_live _ _ _ t (saved_known (n -ℤ k) o fp c.fp bounds.0 (omega (arith, ints, high))) d) e
 
 pub int_same_is : (x y : ℤ) → int_same x y ≡ true → x ≡ y
 int_same_is x y e =
-    let both : (int_le x y ≡ true) × (int_le y x ≡ true) = and_true _ _ e in
+    let both : (int_le x y ≡ true) × (int_le y x ≡ true) = and_parts _ _ e in
     omega (arith, ints, both.0, both.1)
 
 pub int_same_not : (x y : ℤ) → int_same x y ≡ false → x ≡ y → ⊥
@@ -121,7 +134,7 @@ pop_at_stays n o t low e =
     pick_then (StaysLive t) (int_same n o) _ _ t
     (λ same d. let is : n ≡ o = int_same_is n o same in to_live _ _ _ t (unsaved_known (n -ℤ pos 8) (omega (arith, ints))) d)
     (λ other d. pick_then (StaysLive t) (int_le o (n -ℤ pos 8)) _ _ t
-    (λ high b. to_live _ _ _ t (saved_known (n -ℤ pos 8) o None low (omega (arith, ints, high))) b)
+    (λ high b. to_live _ _ _ t (saved_known (n -ℤ pos 8) o None (no_base (Saved o)) low (omega (arith, ints, high))) b)
     (λ less b. refused_then (StaysLive t) 11 t b) d)
     e
 
@@ -132,7 +145,7 @@ pop_bp_stays (Known n) fp (Saved o) t c e = pop_at_stays n o t (saved_bounds (Kn
 
 leave_stays : (depth : Depth) (fp : Option ℤ) (home : BpHome) (t : State) → IsConsistentLive depth fp home → leave fp home ≡ Ok t → StaysLive t
 leave_stays depth None home t c e = refused_then (StaysLive t) 9 t e
-leave_stays depth (Some m) Same t c e = absurd (same_has_no_pointer depth m c)
+leave_stays depth (Some m) Same t c e = refused_then (StaysLive t) 11 t e
 leave_stays depth (Some m) (Saved o) t c e = pop_at_stays m o t (saved_bounds depth (Some m) o c).0 e
 
 align_stays : (depth : Depth) (fp : Option ℤ) (home : BpHome) (t : State) → IsConsistentLive depth fp home → align depth fp home ≡ Ok t → StaysLive t
@@ -140,21 +153,24 @@ align_stays depth None home t c e = refused_then (StaysLive t) 9 t e
 align_stays depth (Some m) Same t c e = absurd (same_has_no_pointer depth m c)
 align_stays depth (Some m) (Saved o) t c e =
     let bounds : (pos 16 ≤ℤ o) × (o ≤ℤ depth_of depth) = saved_bounds depth (Some m) o c in
-    to_live _ _ _ t (saved_at_least (depth_of depth) o m bounds.0 bounds.1) e
+    to_live _ _ _ t (saved_at_least (depth_of depth) o m c.fp bounds.0 bounds.1) e
 
 rsp_from_bp_stays : (k : ℤ) (depth : Depth) (fp : Option ℤ) (home : BpHome) (t : State) → IsConsistentLive depth fp home → rsp_from_bp k fp home ≡ Ok t → StaysLive t
 rsp_from_bp_stays k depth None home t c e = refused_then (StaysLive t) 9 t e
 rsp_from_bp_stays k depth (Some m) Same t c e = absurd (same_has_no_pointer depth m c)
 rsp_from_bp_stays k depth (Some m) (Saved o) t c e =
     unless_then (StaysLive t) (int_lt (m -ℤ k) o) 11 _ t
-    (λ high d. to_live _ _ _ t (saved_known (m -ℤ k) o (Some m) (saved_bounds depth (Some m) o c).0 (omega (arith, ints, high))) d) e
+    (λ high d. to_live _ _ _ t (saved_known (m -ℤ k) o (Some m) c.fp (saved_bounds depth (Some m) o c).0 (omega (arith, ints, high))) d) e
 
 bp_from_rsp_stays : (k : ℤ) (depth : Depth) (fp : Option ℤ) (home : BpHome) (t : State) → IsConsistentLive depth fp home → bp_from_rsp k depth home ≡ Ok t → StaysLive t
 bp_from_rsp_stays k depth fp Same t c e = refused_then (StaysLive t) 8 t e
 bp_from_rsp_stays k (AtLeast n) fp (Saved o) t c e = refused_then (StaysLive t) 9 t e
 bp_from_rsp_stays k (Known n) fp (Saved o) t c e =
     let bounds : (pos 16 ≤ℤ o) × (o ≤ℤ n) = saved_bounds (Known n) fp o c in
-    to_live _ _ _ t (saved_known n o (Some (n -ℤ k)) bounds.0 bounds.1) e
+    pick_then (StaysLive t) (int_same (n -ℤ k) o) _ _ t
+    (λ same d. to_live _ _ _ t (saved_known n o (Some o) (base_at_home o) bounds.0 bounds.1) d)
+    (λ other d. to_live _ _ _ t (saved_known n o None (no_base (Saved o)) bounds.0 bounds.1) d)
+    e
 
 store_bp_stays : (k : ℤ) (depth : Depth) (fp : Option ℤ) (home : BpHome) (t : State) → IsConsistentLive depth fp home → store_bp k depth fp home ≡ Ok t → StaysLive t
 store_bp_stays k depth fp (Saved o) t c e = to_live _ _ _ t c e
@@ -162,8 +178,8 @@ store_bp_stays k (AtLeast n) fp Same t c e = absurd (same_is_known n fp c)
 store_bp_stays k (Known n) fp Same t c e =
     pick_then (StaysLive t) (int_le (pos 16) (n -ℤ k) && int_le (n -ℤ k) n) _ _ t
     (λ saves d.
-    let both : (int_le (pos 16) (n -ℤ k) ≡ true) × (int_le (n -ℤ k) n ≡ true) = and_true _ _ saves in
-    to_live _ _ _ t (saved_known n (n -ℤ k) fp (omega (arith, ints, both.0)) (omega (arith, ints, both.1))) d)
+    let both : (int_le (pos 16) (n -ℤ k) ≡ true) × (int_le (n -ℤ k) n ≡ true) = and_parts _ _ saves in
+    to_live _ _ _ t (saved_known n (n -ℤ k) fp (same_has_no_base (Known n) fp (n -ℤ k) c) (omega (arith, ints, both.0)) (omega (arith, ints, both.1))) d)
     (λ other d. to_live _ _ _ t c d)
     e
 
@@ -174,7 +190,7 @@ load_bp_stays k (Known n) fp (Saved o) t c e =
     let bounds : (pos 16 ≤ℤ o) × (o ≤ℤ n) = saved_bounds (Known n) fp o c in
     pick_then (StaysLive t) (int_same (n -ℤ k) o) _ _ t
     (λ same d. to_live _ _ _ t (unsaved_known n (omega (arith, ints))) d)
-    (λ other d. to_live _ _ _ t (saved_known n o None bounds.0 bounds.1) d)
+    (λ other d. to_live _ _ _ t (saved_known n o None (no_base (Saved o)) bounds.0 bounds.1) d)
     e
 
 lose_bp_stays : (depth : Depth) (fp : Option ℤ) (home : BpHome) (t : State) → IsConsistentLive depth fp home → lose_bp depth home ≡ Ok t → StaysLive t
@@ -182,7 +198,7 @@ lose_bp_stays depth fp Same t c e = refused_then (StaysLive t) 8 t e
 lose_bp_stays (AtLeast n) fp (Saved o) t c e = refused_then (StaysLive t) 9 t e
 lose_bp_stays (Known n) fp (Saved o) t c e =
     let bounds : (pos 16 ≤ℤ o) × (o ≤ℤ n) = saved_bounds (Known n) fp o c in
-    to_live _ _ _ t (saved_known n o None bounds.0 bounds.1) e
+    to_live _ _ _ t (saved_known n o None (no_base (Saved o)) bounds.0 bounds.1) e
 
 live_stays : (depth : Depth) (fp : Option ℤ) (home : BpHome) (t : State) (op : Op) → IsConsistentLive depth fp home → move_live depth fp home op ≡ Ok t → StaysLive t
 live_stays depth fp home t Push c e = push_stays depth fp home t c e
@@ -199,6 +215,7 @@ live_stays depth fp home t (LoadBp at) c e = load_bp_stays at depth fp home t c 
 live_stays depth fp home t Leave c e = leave_stays depth fp home t c e
 live_stays depth fp home t BpOther c e = lose_bp_stays depth fp home t c e
 live_stays depth fp home t SpOther c e = refused_then (StaysLive t) 7 t e
+live_stays depth fp home t IretNext c e = raise_stays (pos 40) depth fp home t c (allowed_is (raise (pos 40) depth fp home) t e)
 live_stays depth fp home t _ c e = to_live depth fp home t c e
 
 to_regs : (full : Bool) (depth : ℤ) (t : State) → IsConsistent (Regs full depth) → to (Regs full depth) ≡ Ok t → StaysLive t
@@ -249,6 +266,7 @@ regs_stays full depth t (AndSp mask) c e = refused_then (StaysLive t) 9 t e
 regs_stays full depth t (LeaSpBp by) c e = refused_then (StaysLive t) 9 t e
 regs_stays full depth t Leave c e = refused_then (StaysLive t) 9 t e
 regs_stays full depth t SpOther c e = refused_then (StaysLive t) 7 t e
+regs_stays full depth t IretNext c e = refused_then (StaysLive t) 15 t e
 regs_stays full depth t _ c e = to_regs full depth t c e
 
 pub move_consistent : MoveIsConsistent

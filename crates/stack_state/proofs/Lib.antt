@@ -1,5 +1,4 @@
 pub mod Addresses
-pub mod Booleans
 pub mod Consistent
 pub mod Depths
 pub mod LiveMoves

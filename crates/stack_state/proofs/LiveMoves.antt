@@ -13,11 +13,12 @@ use Rattle.state_defs.specs.Region.{hi_of}
 use Rattle.state_defs.specs.Frame.{Slot, Frame, listed}
 use Rattle.state_defs.specs.Effect.{Core}
 use Rattle.state_defs.specs.State.{depth_of, with_depth, IsConsistentLive, MeansDepth, MeansHome, MeansLive}
-use Rattle.state_defs.specs.Move.{to, raise, floor_of, align, rsp_from_bp, bp_from_rsp, lose_bp}
+use Rattle.state_defs.specs.Move.{to, int_same, raise, floor_of, align, rsp_from_bp, bp_from_rsp, lose_bp}
 use Rattle.stack_state.proofs.Addresses.{IsNear}
+use Rattle.stack_state.proofs.Consistent.{int_same_is}
 use Rattle.stack_state.proofs.Depths.{place_moved, depth_moved, depth_masked}
 use Rattle.stack_state.proofs.Outcomes.{within, near_depth, EachHeld}
-use Rattle.stack_state.proofs.Results.{unless_then, refused_then}
+use Rattle.stack_state.proofs.Results.{unless_then, pick_then, refused_then}
 use Rattle.stack_state.proofs.Scenes.{Scene, Arrives, arrive, same_frame}
 
 -- memory as a move that leaves the frames alone leaves it
@@ -122,6 +123,17 @@ rsp_from_bp_sound k depth (Some m) home before after f below t scene steady rsp 
     d)
     e
 
+-- rbp isn't the frame's base any more
+no_base_sound : (n o : ℤ) (fp : Option ℤ) (before after : Core) (f : Frame) (below : List Frame) (t : State)
+    → Scene (Live (Known n) fp (Saved o)) before after f below → Steady before after f below → after.rsp ≡ before.rsp
+    → to (Live (Known n) None (Saved o)) ≡ Ok t → Arrives t after f below
+no_base_sound n o fp before after f below t scene steady rsp e =
+    let means : MeansLive (Known n) fp (Saved o) before.rsp before.rbp f = scene.told.means in
+    arrive (Live (Known n) None (Saved o)) t after f below
+    (λ near c. same_frame (Live (Known n) fp (Saved o)) before after f below scene (Known n) None (Saved o) c near steady.frames steady.top steady.held
+    (rsp ∙ means.depth) tt means.bp)
+    e
+
 -- rbp is set from rsp
 pub bp_from_rsp_sound : (k : ℤ) (depth : Depth) (fp : Option ℤ) (home : BpHome) (before after : Core) (f : Frame) (below : List Frame) (t : State)
     → Scene (Live depth fp home) before after f below → Steady before after f below → after.rsp ≡ before.rsp → after.rbp ≡ shifted before.rsp k
@@ -130,11 +142,13 @@ bp_from_rsp_sound k depth fp Same before after f below t scene steady rsp rbp e 
 bp_from_rsp_sound k (AtLeast n) fp (Saved o) before after f below t scene steady rsp rbp e = refused_then (Arrives t after f below) 9 t e
 bp_from_rsp_sound k (Known n) fp (Saved o) before after f below t scene steady rsp rbp e =
     let means : MeansLive (Known n) fp (Saved o) before.rsp before.rbp f = scene.told.means in
-    arrive (Live (Known n) (Some (n -ℤ k)) (Saved o)) t after f below
-    (λ near c. same_frame (Live (Known n) fp (Saved o)) before after f below scene (Known n) (Some (n -ℤ k)) (Saved o) c near steady.frames steady.top steady.held
+    pick_then (Arrives t after f below) (int_same (n -ℤ k) o) _ _ t
+    (λ same d. arrive (Live (Known n) (Some o) (Saved o)) t after f below
+    (λ near c. same_frame (Live (Known n) fp (Saved o)) before after f below scene (Known n) (Some o) (Saved o) c near steady.frames steady.top steady.held
     (rsp ∙ means.depth)
-    (place_moved before.rsp after.rbp f.cfa k n (n -ℤ k) means.depth rbp (omega (arith, ints)))
-    means.bp)
+    (place_moved before.rsp after.rbp f.cfa k n o means.depth rbp (let is : n -ℤ k ≡ o = int_same_is (n -ℤ k) o same in omega (arith, ints)))
+    means.bp) d)
+    (λ other d. no_base_sound n o fp before after f below t scene steady rsp d)
     e
 
 -- rbp is lost
@@ -143,9 +157,4 @@ pub lose_bp_sound : (depth : Depth) (fp : Option ℤ) (home : BpHome) (before af
     → lose_bp depth home ≡ Ok t → Arrives t after f below
 lose_bp_sound depth fp Same before after f below t scene steady rsp e = refused_then (Arrives t after f below) 8 t e
 lose_bp_sound (AtLeast n) fp (Saved o) before after f below t scene steady rsp e = refused_then (Arrives t after f below) 9 t e
-lose_bp_sound (Known n) fp (Saved o) before after f below t scene steady rsp e =
-    let means : MeansLive (Known n) fp (Saved o) before.rsp before.rbp f = scene.told.means in
-    arrive (Live (Known n) None (Saved o)) t after f below
-    (λ near c. same_frame (Live (Known n) fp (Saved o)) before after f below scene (Known n) None (Saved o) c near steady.frames steady.top steady.held
-    (rsp ∙ means.depth) tt means.bp)
-    e
+lose_bp_sound (Known n) fp (Saved o) before after f below t scene steady rsp e = no_base_sound n o fp before after f below t scene steady rsp e

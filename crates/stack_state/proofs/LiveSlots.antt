@@ -3,7 +3,7 @@ use Rattle.std.proofs.Common.{◌≡◌, ℕ, ◌+◌, ◌^◌, ◌≤◌, Bool,
 use Rattle.std.specs.Prelude.{Option, Some, None, IfSome, Ok, int_le, ◌==◌, FitsSigned}
 use Rattle.std.specs.Int.{w64}
 use Rattle.std.proofs.lemmas.Int.{ints}
-use Rattle.std.proofs.lemmas.Bool.{eq-eqb}
+use Rattle.std.proofs.lemmas.Bool.{eq-eqb, cond-true, cond-false, ne_eqb}
 use Rattle.state_defs.specs.declared.state.Depth.{Depth}
 use Rattle.state_defs.specs.declared.state.Depth.TheVariants.{Known, AtLeast}
 use Rattle.state_defs.specs.declared.state.BpHome.{BpHome}
@@ -17,7 +17,6 @@ use Rattle.state_defs.specs.Effect.{Core}
 use Rattle.state_defs.specs.State.{depth_of, IsConsistentLive, MeansDepth, MeansLive}
 use Rattle.state_defs.specs.Move.{has_near_numbers, push_bp, pop_at, load_bp, int_same}
 use Rattle.stack_state.proofs.Addresses.{IsTurned, turned_from, IsNear}
-use Rattle.stack_state.proofs.Booleans.{if_true, if_false, other_not_same}
 use Rattle.stack_state.proofs.Consistent.{same_is_known, same_has_no_pointer, int_same_is, int_same_not}
 use Rattle.stack_state.proofs.Depths.{place_moved}
 use Rattle.stack_state.proofs.LiveMoves.{shift_sound}
@@ -110,10 +109,10 @@ push_bp_sound (Known n) fp Same before after f below t scene write rsp rbp frame
 
 -- the slot where rbp is saved was read, or another word
 slot_read : (change : Slot → Slot) (p a : ℕ) (slot : Slot) → change (SavedAt a) ≡ cond (p == a) Unsaved (SavedAt a) → slot ≡ SavedAt a → p ≡ a → change slot ≡ Unsaved
-slot_read change p a slot e s same = ap change s ∙ e ∙ if_true (p == a) Unsaved (SavedAt a) (eq-eqb p a same)
+slot_read change p a slot e s same = ap change s ∙ e ∙ cond-true (p == a) Unsaved (SavedAt a) (eq-eqb p a same)
 
 slot_passed : (change : Slot → Slot) (p a : ℕ) (slot : Slot) → change (SavedAt a) ≡ cond (p == a) Unsaved (SavedAt a) → slot ≡ SavedAt a → (p ≡ a → ⊥) → change slot ≡ SavedAt a
-slot_passed change p a slot e s other = ap change s ∙ e ∙ if_false (p == a) Unsaved (SavedAt a) (other_not_same p a other)
+slot_passed change p a slot e s other = ap change s ∙ e ∙ cond-false (p == a) Unsaved (SavedAt a) (ne_eqb p a other)
 
 -- rbp was read from the slot: it is the caller's again
 read_back : (s : State) (before after : Core) (f : Frame) (below : List Frame) → Scene s before after f below

@@ -3,7 +3,7 @@ use Rattle.std.proofs.Common.{◌≡◌, List, ◌∷◌, ℤ, pos, negsuc, ◌+
 use Rattle.std.specs.Prelude.{Option, Some, None, Ok}
 use Rattle.std.proofs.lemmas.Int.{ints}
 use Rattle.operation_defs.specs.declared.op.Op.{Op}
-use Rattle.operation_defs.specs.declared.op.Op.TheVariants.{Plain, Nop, Endbr, Push, PushBp, Pop, PopBp, Popf, AddSp, AndSp, LeaSpBp, LeaBpSp, StoreBp, LoadBp, Leave, SpOther, BpOther, Call, CallInd, Jmp, Jcc, JmpInd, Ret, RetImm, Iret, Switch, Ud2, Int3, Stac, Clac}
+use Rattle.operation_defs.specs.declared.op.Op.TheVariants.{Plain, Nop, Endbr, Push, PushBp, Pop, PopBp, Popf, AddSp, AndSp, LeaSpBp, LeaBpSp, StoreBp, LoadBp, Leave, SpOther, BpOther, Call, CallInd, Jmp, Jcc, JmpInd, Ret, RetImm, Iret, IretNext, Switch, Ud2, Int3, Stac, Clac}
 use Rattle.state_defs.specs.declared.state.Depth.{Depth}
 use Rattle.state_defs.specs.declared.state.Depth.TheVariants.{Known, AtLeast}
 use Rattle.state_defs.specs.declared.state.BpHome.{BpHome}
@@ -15,14 +15,13 @@ use Rattle.state_defs.specs.Region.{WritesOnly}
 use Rattle.state_defs.specs.Frame.{Frame, listed, with_top_slot, popped_slot, loaded_slot}
 use Rattle.state_defs.specs.Effect.{Core, HasSignedNumber, Effect}
 use Rattle.state_defs.specs.State.{depth_of, with_depth, MeansLive}
-use Rattle.state_defs.specs.Move.{to, pop_bp, leave, move_live}
-use Rattle.stack_state.proofs.Consistent.{same_has_no_pointer}
+use Rattle.state_defs.specs.Move.{to, raise, pop_bp, leave, move_live}
 use Rattle.stack_state.proofs.LiveMoves.{stay_sound, shift_sound, raise_sound, align_sound, rsp_from_bp_sound, bp_from_rsp_sound, lose_bp_sound}
 use Rattle.stack_state.proofs.LiveSlots.{push_bp_sound, pop_at_sound, load_bp_sound}
 use Rattle.stack_state.proofs.LiveStores.{steady_same, steady_ordinary, store_bp_sound}
 use Rattle.stack_state.proofs.Memory.{same_top}
 use Rattle.stack_state.proofs.Pushes.{pushed_held}
-use Rattle.stack_state.proofs.Results.{refused_then}
+use Rattle.stack_state.proofs.Results.{refused_then, allowed_is}
 use Rattle.stack_state.proofs.Scenes.{Scene, Arrives}
 
 -- an operation that does nothing to registers, memory and frames
@@ -66,7 +65,7 @@ pop_bp_sound (Known n) fp (Saved o) before after f below t scene effect e =
 leave_sound : (depth : Depth) (fp : Option ℤ) (home : BpHome) (before after : Core) (f : Frame) (below : List Frame) (t : State)
     → Scene (Live depth fp home) before after f below → Effect Leave before after → leave fp home ≡ Ok t → Arrives t after f below
 leave_sound depth None home before after f below t scene effect e = refused_then (Arrives t after f below) 9 t e
-leave_sound depth (Some m) Same before after f below t scene effect e = absurd (same_has_no_pointer depth m scene.consistent)
+leave_sound depth (Some m) Same before after f below t scene effect e = refused_then (Arrives t after f below) 11 t e
 leave_sound depth (Some m) (Saved o) before after f below t scene effect e =
     let means : MeansLive depth (Some m) (Saved o) before.rsp before.rbp f = scene.told.means in
     let done : after ≡ record before { rsp = up before.rbp 8; rbp = after.rbp; shadow = with_top_slot (loaded_slot before.rbp) before.shadow } = effect.1 in
@@ -129,6 +128,10 @@ live_sound depth fp home before after f below t (JmpInd table) scene fits effect
 live_sound depth fp home before after f below t Ret scene fits effect e = absurd effect
 live_sound depth fp home before after f below t RetImm scene fits effect e = absurd effect
 live_sound depth fp home before after f below t Iret scene fits effect e = absurd effect
+live_sound depth fp home before after f below t IretNext scene fits effect e =
+    raise_sound (pos 40) depth fp home before after f below t scene
+    (steady_same (Live depth fp home) before after f below scene (ap (λ (c : Core). c.shadow) effect) (ap (λ (c : Core). c.region) effect))
+    (ap (λ (c : Core). c.rsp) effect) (ap (λ (c : Core). c.rbp) effect) (allowed_is (raise (pos 40) depth fp home) t e)
 live_sound depth fp home before after f below t Switch scene fits effect e = absurd effect
 live_sound depth fp home before after f below t Ud2 scene fits effect e = nothing_sound depth fp home before after f below t scene effect e
 live_sound depth fp home before after f below t Int3 scene fits effect e = nothing_sound depth fp home before after f below t scene effect e

@@ -3,6 +3,7 @@ use Rattle.std.proofs.Common.{◌≡◌, ℕ, ◌+◌, ◌-◌, ◌^◌, ◌<◌
 use Rattle.std.specs.Prelude.{Option, IfSome, All}
 use Rattle.std.proofs.lemmas.Int.{ints}
 use Rattle.std.proofs.lemmas.List.Elements.{All-weaker}
+use Rattle.std.proofs.lemmas.Bool.{and_parts}
 use Rattle.state_defs.specs.declared.state.Depth.{Depth}
 use Rattle.state_defs.specs.declared.state.Depth.TheVariants.{Known, AtLeast}
 use Rattle.state_defs.specs.declared.state.BpHome.{BpHome}
@@ -17,7 +18,6 @@ use Rattle.state_defs.specs.State.{depth_of, IsConsistentLive, MeansDepth, Means
 use Rattle.state_defs.specs.Move.{is_near, is_fp_near, is_home_near, has_near_numbers}
 use Rattle.state_defs.specs.Sound.{IsTold, IsSameFrame}
 use Rattle.stack_state.proofs.Addresses.{IsTurned, turned_from, plain_below, IsNear, near_from, down_plain}
-use Rattle.stack_state.proofs.Booleans.{and_true}
 use Rattle.stack_state.proofs.Slots.{Each, each_joined, each_top, each_below, one_slot, two_slots}
 
 -- the stack is still told of, with the frames below as they were
@@ -51,7 +51,7 @@ place_below cfa o short low high =
 
 pub near_depth : (depth : Depth) (fp : Option ℤ) (home : BpHome) → has_near_numbers (Live depth fp home) ≡ true → IsNear (depth_of depth)
 near_depth depth fp home e =
-    let both : (is_near (depth_of depth) ≡ true) × ((is_fp_near fp && is_home_near home) ≡ true) = and_true _ _ e in
+    let both : (is_near (depth_of depth) ≡ true) × ((is_fp_near fp && is_home_near home) ≡ true) = and_parts _ _ e in
     near_from _ both.0
 
 -- the protected slots of the top frame lie at or above rsp

@@ -2,10 +2,10 @@
 use Rattle.std.proofs.Common.{◌≡◌, ℕ, ◌+◌, ◌-◌, ◌^◌, ◌<◌, ◌≤◌, Bool, true, false, cond, List, [], ◌∷◌, ℤ, pos, negsuc, neg_ℤ, ◌+ℤ◌, ◌-ℤ◌, ◌≤ℤ◌, arith, refl, sym, ap, subst, ◌∙◌}
 use Rattle.std.specs.Prelude.{Result, Ok, Err, int_lt, ◌==◌}
 use Rattle.std.proofs.lemmas.Int.{ints}
-use Rattle.std.proofs.lemmas.Bool.{eq-eqb}
+use Rattle.std.proofs.lemmas.Bool.{eq-eqb, cond-true, cond-false, ne_eqb}
 use Rattle.std.proofs.lemmas.Bool.Decides.{when_false}
 use Rattle.operation_defs.specs.declared.op.Op.{Op}
-use Rattle.operation_defs.specs.declared.op.Op.TheVariants.{Plain, Nop, Endbr, Push, PushBp, Pop, PopBp, Popf, AddSp, AndSp, LeaSpBp, LeaBpSp, StoreBp, LoadBp, Leave, SpOther, BpOther, Call, CallInd, Jmp, Jcc, JmpInd, Ret, RetImm, Iret, Switch, Ud2, Int3, Stac, Clac}
+use Rattle.operation_defs.specs.declared.op.Op.TheVariants.{Plain, Nop, Endbr, Push, PushBp, Pop, PopBp, Popf, AddSp, AndSp, LeaSpBp, LeaBpSp, StoreBp, LoadBp, Leave, SpOther, BpOther, Call, CallInd, Jmp, Jcc, JmpInd, Ret, RetImm, Iret, IretNext, Switch, Ud2, Int3, Stac, Clac}
 use Rattle.state_defs.specs.declared.state.State.{State}
 use Rattle.state_defs.specs.declared.state.State.TheVariants.{Regs}
 use Rattle.state_defs.specs.Address.{up, down, shifted}
@@ -15,7 +15,6 @@ use Rattle.state_defs.specs.Effect.{Core, StoresOrdinarily, is_unsaved, store_sa
 use Rattle.state_defs.specs.State.{Means, MeansFull, MeansPartial}
 use Rattle.state_defs.specs.Move.{has_near_numbers, to, int_same, regs_floor, raise_regs, pop_bp_regs, lose_bp_regs, move_regs}
 use Rattle.stack_state.proofs.Addresses.{shifted_from, plain_turned, IsNear, near_from, up_plain}
-use Rattle.stack_state.proofs.Booleans.{if_true, if_false, other_not_same}
 use Rattle.stack_state.proofs.Consistent.{int_same_is, int_same_not}
 use Rattle.stack_state.proofs.Depths.{place_moved}
 use Rattle.stack_state.proofs.LiveMoves.{Steady}
@@ -174,7 +173,7 @@ pop_saved_bp d before after f below scene at_bp effect near =
     shifted_from after.rsp (up at 128) (neg_ℤ (pos 88)) (plain_turned after.rsp (up at 128) (neg_ℤ (pos 88)) (omega arith) (omega (arith, ints))) in
     let slot : popped_slot before.rsp f.slot ≡ PartialAt (up at 128) =
     ap (λ (x : Slot). popped_slot before.rsp x) means.slot
-    ∙ if_true (before.rsp == up at 32) (PartialAt (up at 128)) (FullAt at) (eq-eqb before.rsp (up at 32) there) in
+    ∙ cond-true (before.rsp == up at 32) (PartialAt (up at 128)) (FullAt at) (eq-eqb before.rsp (up at 32) there) in
     let shadow : after.shadow ≡ record f { slot = PartialAt (up at 128) } ∷ below =
     slot_changed (popped_slot before.rsp) before.shadow after.shadow f below (PartialAt (up at 128)) (ap (λ (c : Core). c.shadow) done) scene.told.frames slot in
     let held : AllHeld before.region (FullAt at) f =
@@ -212,7 +211,7 @@ pop_other d before after f below t scene not_bp effect e =
     (omega (arith, ints, close.high, close.low)) (omega (arith, ints, floor)) in
     let slot : popped_slot before.rsp f.slot ≡ f.slot =
     ap (λ (x : Slot). popped_slot before.rsp x) means.slot
-    ∙ if_false (before.rsp == up at 32) (PartialAt (up at 128)) (FullAt at) (other_not_same before.rsp (up at 32) past)
+    ∙ cond-false (before.rsp == up at 32) (PartialAt (up at 128)) (FullAt at) (ne_eqb before.rsp (up at 32) past)
     ∙ sym means.slot in
     let shadow : after.shadow ≡ f ∷ below =
     slot_changed (popped_slot before.rsp) before.shadow after.shadow f below f.slot (ap (λ (c : Core). c.shadow) done) scene.told.frames slot in
@@ -301,6 +300,7 @@ regs_sound full d before after f below t (JmpInd table) scene effect e = nothing
 regs_sound full d before after f below t Ret scene effect e = absurd effect
 regs_sound full d before after f below t RetImm scene effect e = absurd effect
 regs_sound full d before after f below t Iret scene effect e = absurd effect
+regs_sound full d before after f below t IretNext scene effect e = refused_then (Arrives t after f below) 15 t e
 regs_sound full d before after f below t Switch scene effect e = absurd effect
 regs_sound full d before after f below t Ud2 scene effect e = nothing_sound full d before after f below t scene effect e
 regs_sound full d before after f below t Int3 scene effect e = nothing_sound full d before after f below t scene effect e

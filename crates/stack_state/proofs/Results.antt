@@ -2,6 +2,7 @@
 use Rattle.std.proofs.Common.{◌≡◌, ℕ, Bool, true, false, cond, refl, subst}
 use Rattle.std.specs.Prelude.{Result, Ok, Err}
 use Rattle.state_defs.specs.declared.state.State.{State}
+use Rattle.state_defs.specs.Move.{where_allowed}
 
 -- a state that may be refused as out of range
 pub to_then : (P : State → Type 0) (near : Bool) (rule : ℕ) (s t : State) → (near ≡ true → P s)
@@ -23,3 +24,8 @@ pick_then P false q r t f g e = g refl e
 
 pub refused_then : (P : Type 0) (rule : ℕ) (t : State) → ◌≡◌ {A = Result State ℕ} (Err rule) (Ok t) → P
 refused_then P rule t e = absurd (cc)
+
+-- a move that is made where another is allowed
+pub allowed_is : (r : Result State ℕ) (t : State) → where_allowed r ≡ Ok t → r ≡ Ok t
+allowed_is (Ok s) t e = e
+allowed_is (Err rule) t e = absurd (cc)

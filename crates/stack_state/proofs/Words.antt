@@ -2,13 +2,12 @@
 use Rattle.std.proofs.Common.{◌≡◌, ◌⊎◌, inl, inr, ℕ, ◌+◌, ◌-◌, ◌^◌, ◌<◌, ◌≤◌, true, false, List, length, get_or, take, drop, arith, refl, sym, ap, ◌∙◌, length-drop}
 use Rattle.std.specs.Prelude.{Option, Some, None, slice_get, nat_le}
 use Rattle.std.proofs.lemmas.List.{ext_get_or, get_or-take, get_or-drop, length-take}
-use Rattle.std.proofs.lemmas.Bool.{le-leb, leb-true}
+use Rattle.std.proofs.lemmas.Bool.{le-leb, leb-true, cases_Bool, cond-true, cond-false, and_from, and_parts}
 use Rattle.std.proofs.lemmas.Option.{unwrap_or-slice_get, MatchOption-at_some}
 use Rattle.std.specs.Option.{unwrap_or}
 use Rattle.state_defs.specs.Address.{up}
 use Rattle.state_defs.specs.Region.{Region, hi_of, byte_at, little_endian, has_word, word_at, Reads, Holds, SameAddresses, WritesOnly, WritesWord}
 use Rattle.stack_state.proofs.Addresses.{up_plain}
-use Rattle.stack_state.proofs.Booleans.{true_or_false, if_true, if_false, both_true, and_true}
 
 -- the eight bytes from an address on lie in the region
 pub record HasWord (r : Region) (address : ℕ) : Type 0 where
@@ -17,20 +16,20 @@ pub record HasWord (r : Region) (address : ℕ) : Type 0 where
 
 has_word_from : (r : Region) (address : ℕ) → has_word r address ≡ true → HasWord r address
 has_word_from r address e =
-    let both : (nat_le r.lo address ≡ true) × (nat_le (address + 8) (hi_of r) ≡ true) = and_true _ _ e in
+    let both : (nat_le r.lo address ≡ true) × (nat_le (address + 8) (hi_of r) ≡ true) = and_parts _ _ e in
     record { from = leb-true _ _ both.0; upto = leb-true _ _ both.1 }
 
 has_word_is : (r : Region) (address : ℕ) → HasWord r address → has_word r address ≡ true
-has_word_is r address w = both_true _ _ (le-leb _ _ w.from) (le-leb _ _ w.upto)
+has_word_is r address w = and_from _ _ (le-leb _ _ w.from) (le-leb _ _ w.upto)
 
 word_inside : (r : Region) (address : ℕ) → has_word r address ≡ true → word_at r address ≡ Some (little_endian (take 8 (drop (address - r.lo) r.bytes)))
-word_inside r address e = if_true (has_word r address) _ _ e
+word_inside r address e = cond-true (has_word r address) _ _ e
 
 word_outside : (r : Region) (address : ℕ) → has_word r address ≡ false → word_at r address ≡ None
-word_outside r address e = if_false (has_word r address) _ _ e
+word_outside r address e = cond-false (has_word r address) _ _ e
 
 byte_inside : (r : Region) (address : ℕ) → r.lo ≤ address → byte_at r address ≡ slice_get r.bytes (address - r.lo)
-byte_inside r address h = if_true (nat_le r.lo address) _ _ (le-leb _ _ h)
+byte_inside r address h = cond-true (nat_le r.lo address) _ _ (le-leb _ _ h)
 
 same_numbers : (xs ys : List ℕ) (i n : ℕ) → i + n ≤ length xs → length ys ≡ length xs
     → ((j : ℕ) → j < n → slice_get ys (i + j) ≡ slice_get xs (i + j)) → take n (drop i ys) ≡ take n (drop i xs)
@@ -51,7 +50,7 @@ pub same_word : (before after : Region) (address : ℕ) → SameAddresses before
     → ((j : ℕ) → j < 8 → byte_at after (address + j) ≡ byte_at before (address + j)) → word_at after address ≡ word_at before address
 same_word before after address s f =
     let same_test : has_word after address ≡ has_word before address = rw (s.lo, s.size) refl in
-    elim (true_or_false (has_word before address)) [
+    elim (cases_Bool (has_word before address)) [
       | inl holds ↦
           let w : HasWord before address = has_word_from before address holds in
           let numbers : take 8 (drop (address - before.lo) after.bytes) ≡ take 8 (drop (address - before.lo) before.bytes) =
@@ -94,7 +93,7 @@ written_word address value before after w inside =
 
 pub held_has_word : (r : Region) (address held : ℕ) → Holds r address held → HasWord r address
 held_has_word r address held h =
-    elim (true_or_false (has_word r address)) [
+    elim (cases_Bool (has_word r address)) [
       | inl holds ↦ has_word_from r address holds
       | inr fails ↦ let e : None ≡ Some held = sym (word_outside r address fails) ∙ h in cc
     ]

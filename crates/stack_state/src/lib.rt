@@ -8,8 +8,8 @@ mod numbers;
 mod regs;
 mod rules;
 
-pub use state_defs::{BpHome, Depth, EndKind, HintState, State};
 pub use moves::{initial, step};
+pub use state_defs::{BpHome, Depth, EndKind, HintState, State};
 
 #[cfg(test)]
 mod tests;

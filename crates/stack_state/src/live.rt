@@ -1,10 +1,10 @@
 //! The moves of a live state.
 
-ghost use Rattle.std.specs.Prelude.{◌≡◌};
-ghost use Rattle.state_defs.specs.Move.{floor_of, raise, pop_at, push_bp, pop_bp, align, rsp_from_bp, bp_from_rsp, store_bp, load_bp, leave, lose_bp, move_live};
+ghost use Rattle.std.specs.Prelude.{◌≡◌, pos};
+ghost use Rattle.state_defs.specs.Move.{floor_of, raise, pop_at, push_bp, pop_bp, align, rsp_from_bp, bp_from_rsp, store_bp, load_bp, leave, lose_bp, where_allowed, move_live};
 
 use crate::numbers::{in_range, is_same, minus, number_of, plus, to, to_live};
-use crate::rules::{BP_CLOBBERED, SLOT_DROPPED, SP_LOST, SP_WRITTEN};
+use crate::rules::{BP_CLOBBERED, RETURN_NOT_ALLOWED, SLOT_DROPPED, SP_LOST, SP_WRITTEN};
 use operation_defs::Op;
 use state_defs::{BpHome, Depth, State};
 
@@ -13,6 +13,9 @@ const RETURN_ADDRESS: i64 = 8;
 
 /// The lowest place where rbp is saved: right below the return address.
 const FIRST_SLOT: i64 = 16;
+
+/// The bytes of ip, cs, flags, rsp and ss, which a return from an interrupt pops.
+const INTERRUPT_WORDS: i64 = 40;
 
 /// The lowest depth that leaves everything that is still needed at or above rsp.
 fn floor(bp: BpHome) -> i64
@@ -104,20 +107,18 @@ fn rsp_from_bp(by: i64, fp: Option<i64>, bp: BpHome) -> Result<State, u8>
     to_live(Depth::Known(m), left, fp, bp)
 }
 
-/// rbp is set to rsp plus `by`.
+/// rbp is set to rsp plus `by`: it becomes the frame's base where it points at the word in which the
+/// caller's rbp is saved.
 fn bp_from_rsp(by: i64, depth: Depth, bp: BpHome) -> Result<State, u8>
     ensures { result ≡ bp_from_rsp by depth bp }
 {
     match (bp, depth) {
         (BpHome::Same, _) => Err(BP_CLOBBERED),
         (BpHome::Saved(_), Depth::AtLeast(_)) => Err(SP_LOST),
-        (BpHome::Saved(_), Depth::Known(n)) => {
-            let pointer = in_range(minus(n, by))?;
-            to(State::Live {
-                depth,
-                fp: Some(pointer),
-                bp,
-            })
+        (BpHome::Saved(o), Depth::Known(n)) => {
+            let is_base = is_same(minus(n, by), o);
+            let fp = if is_base { Some(o) } else { None };
+            to(State::Live { depth, fp, bp })
         }
     }
 }
@@ -166,9 +167,21 @@ fn load_bp(at: i64, depth: Depth, bp: BpHome) -> Result<State, u8>
 fn leave(fp: Option<i64>, bp: BpHome) -> Result<State, u8>
     ensures { result ≡ leave fp bp }
 {
-    match fp {
-        None => Err(SP_LOST),
-        Some(m) => pop_at(m, floor(bp)),
+    match (fp, bp) {
+        (None, _) => Err(SP_LOST),
+        (Some(_), BpHome::Same) => Err(SLOT_DROPPED),
+        (Some(m), BpHome::Saved(o)) => pop_at(m, o),
+    }
+}
+
+/// A return from an interrupt that goes on right behind itself: five words are dropped, where that is
+/// allowed.
+fn drop_interrupt(depth: Depth, fp: Option<i64>, bp: BpHome) -> Result<State, u8>
+    ensures { result ≡ where_allowed (raise (pos 40) depth fp bp) }
+{
+    match raise(INTERRUPT_WORDS, depth, fp, bp) {
+        Ok(state) => Ok(state),
+        Err(_) => Err(RETURN_NOT_ALLOWED),
     }
 }
 
@@ -205,6 +218,7 @@ pub fn step_live(depth: Depth, fp: Option<i64>, bp: BpHome, op: Op) -> Result<St
         Op::Leave => leave(fp, bp),
         Op::BpOther => lose_bp(depth, bp),
         Op::SpOther => Err(SP_WRITTEN),
+        Op::IretNext => drop_interrupt(depth, fp, bp),
         _ => to(State::Live { depth, fp, bp }),
     }
 }

@@ -23,7 +23,7 @@ pub fn initial() -> State
 ///
 /// A refusal is the number of the rule that the operation breaks: 7 an unsupported write of rsp, 8
 /// rbp written before it is saved, 9 the stack pointer lost, 10 an offset beyond a gigabyte, 11 the
-/// saved slot dropped. An ended stack stays so.
+/// saved slot dropped, 15 a return from an interrupt where there is none. An ended stack stays so.
 pub fn step(state: State, op: Op) -> Result<State, u8>
     ensures { result ≡ move state op }
 {

@@ -4,7 +4,7 @@ ghost use Rattle.std.specs.Prelude.{◌≡◌};
 ghost use Rattle.state_defs.specs.Move.{raise_regs, pop_bp_regs, lose_bp_regs, move_regs};
 
 use crate::numbers::{minus, plus, to_regs};
-use crate::rules::{BP_CLOBBERED, SLOT_DROPPED, SP_LOST, SP_WRITTEN};
+use crate::rules::{BP_CLOBBERED, RETURN_NOT_ALLOWED, SLOT_DROPPED, SP_LOST, SP_WRITTEN};
 use operation_defs::Op;
 use state_defs::State;
 
@@ -64,6 +64,7 @@ pub fn step_regs(full: bool, depth: i64, op: Op) -> Result<State, u8>
         Op::LeaBpSp { .. } | Op::LoadBp { .. } | Op::BpOther => lose_bp(full, depth),
         Op::AndSp { .. } | Op::LeaSpBp { .. } | Op::Leave => Err(SP_LOST),
         Op::SpOther => Err(SP_WRITTEN),
+        Op::IretNext => Err(RETURN_NOT_ALLOWED),
         _ => to_regs(full, i128::from(depth)),
     }
 }

@@ -14,3 +14,6 @@ pub const OUT_OF_RANGE: u8 = 10;
 
 /// The slot where something is saved lies below rsp.
 pub const SLOT_DROPPED: u8 = 11;
+
+/// A return from an interrupt stands where there is none to return from.
+pub const RETURN_NOT_ALLOWED: u8 = 15;

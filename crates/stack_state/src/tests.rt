@@ -107,6 +107,28 @@ fn moves_live_states(rt: HostRuntime) {
             Op::BpOther,
             Ok(at(40, BpHome::Saved(16))),
         ),
+        // rbp becomes the frame's base where it points at its own saved word, and nowhere else
+        (
+            at(40, BpHome::Saved(24)),
+            Op::LeaBpSp { by: 16 },
+            Ok(State::Live {
+                depth: Depth::Known(40),
+                fp: Some(24),
+                bp: BpHome::Saved(24),
+            }),
+        ),
+        (
+            framed(Depth::Known(40)),
+            Op::LeaBpSp { by: 0 },
+            Ok(at(40, BpHome::Saved(16))),
+        ),
+        // five words are pushed, then an iret goes on behind itself
+        (
+            framed(Depth::Known(56)),
+            Op::IretNext,
+            Ok(framed(Depth::Known(16))),
+        ),
+        (at(48, BpHome::Same), Op::IretNext, Ok(at(8, BpHome::Same))),
         (
             framed(Depth::Known(40)),
             Op::Ret,
@@ -120,6 +142,12 @@ fn moves_live_states(rt: HostRuntime) {
 
 #[test]
 fn refuses_by_rule(rt: HostRuntime) {
+    // a state that no code comes to
+    let unsaved_base = State::Live {
+        depth: Depth::Known(24),
+        fp: Some(24),
+        bp: BpHome::Same,
+    };
     let moves = [
         (framed(Depth::Known(16)), Op::SpOther, 7),
         (initial(), Op::BpOther, 8),
@@ -135,6 +163,11 @@ fn refuses_by_rule(rt: HostRuntime) {
         (at(i64::MAX, BpHome::Same), Op::Push, 10),
         (at(16, BpHome::Saved(16)), Op::Pop, 11),
         (framed(Depth::Known(40)), Op::LeaSpBp { by: 8 }, 11),
+        (unsaved_base, Op::Leave, 11),
+        (initial(), Op::LeaBpSp { by: 0 }, 8),
+        (at(40, BpHome::Same), Op::IretNext, 15),
+        (framed(Depth::Known(48)), Op::IretNext, 15),
+        (framed(Depth::AtLeast(48)), Op::IretNext, 15),
     ];
     for (before, op, rule) in moves {
         assert_eq!(rt; step(before, op), Err(rule));
@@ -155,6 +188,7 @@ fn moves_saved_registers(rt: HostRuntime) {
         (regs(false, 88), Op::PopBp, Err(8)),
         (regs(true, 0), Op::Leave, Err(9)),
         (regs(true, 0), Op::SpOther, Err(7)),
+        (regs(false, 88), Op::IretNext, Err(15)),
     ];
     for (before, op, after) in moves {
         assert_eq!(rt; step(before, op), after);
@@ -164,7 +198,7 @@ fn moves_saved_registers(rt: HostRuntime) {
 #[test]
 fn leaves_ended_stacks(rt: HostRuntime) {
     for kind in [EndKind::Undefined, EndKind::EndOfStack] {
-        for op in [Op::Pop, Op::SpOther, Op::BpOther] {
+        for op in [Op::Pop, Op::SpOther, Op::BpOther, Op::IretNext] {
             assert_eq!(rt; step(State::Ended(kind), op), Ok(State::Ended(kind)));
         }
     }

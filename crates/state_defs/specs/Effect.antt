@@ -2,7 +2,7 @@
 use Rattle.std.specs.Prelude.{◌≡◌, ℕ, ◌^◌, ◌<◌, ◌≤◌, Bool, true, false, ◌&&◌, List, [], ◌∷◌, ◌==◌, MatchBool, bit_and, FitsSigned, ℤ, pos, ◌+ℤ◌, int_le}
 use Rattle.std.specs.Int.{w64}
 use Rattle.operation_defs.specs.declared.op.Op.{Op}
-use Rattle.operation_defs.specs.declared.op.Op.TheVariants.{Plain, Nop, Endbr, Push, PushBp, Pop, PopBp, Popf, AddSp, AndSp, LeaSpBp, LeaBpSp, StoreBp, LoadBp, Leave, SpOther, BpOther, Call, CallInd, Jmp, Jcc, JmpInd, Ret, RetImm, Iret, Switch, Ud2, Int3, Stac, Clac}
+use Rattle.operation_defs.specs.declared.op.Op.TheVariants.{Plain, Nop, Endbr, Push, PushBp, Pop, PopBp, Popf, AddSp, AndSp, LeaSpBp, LeaBpSp, StoreBp, LoadBp, Leave, SpOther, BpOther, Call, CallInd, Jmp, Jcc, JmpInd, Ret, RetImm, Iret, IretNext, Switch, Ud2, Int3, Stac, Clac}
 use Rattle.state_defs.specs.Address.{up, down, shifted}
 use Rattle.state_defs.specs.Region.{Region, hi_of, IsRegion, Reads, WritesOnly, WritesWord, Stores}
 use Rattle.state_defs.specs.Frame.{Slot, Unsaved, SavedAt, PartialAt, FullAt, Frame, protected_addresses, loaded_slot, popped_slot, with_top_slot, after_save}
@@ -50,9 +50,10 @@ abbrev pub store_saves : ℕ → ℕ → ℤ → List Frame → Bool
 store_saves rsp rbp at [] = false
 store_saves rsp rbp at (f ∷ fs) = is_unsaved f.slot && (rbp == f.bp && (int_le (pos 0) at && int_le (pos rsp +ℤ (at +ℤ pos 16)) (pos f.cfa)))
 
--- What the operation may do. What isn't named stays. Words are read from the memory before it, and
--- one outside the region may be anything. Pushes write below rsp wherever that is. Calls, returns
--- and ways out of the code have no effect here: the machine's step has lines of their own for them.
+-- What the operation may do to registers, memory and slots where control goes on in the function.
+-- What isn't named stays. Words are read from the memory before it, and one outside the region may be
+-- anything. Pushes write below rsp wherever that is. Calls, returns and ways out of the code don't go
+-- on so (⊥): the machine's step has lines of their own for them.
 abbrev pub Effect : Op → Core → Core → Type 0
 Effect Plain c d = StoresOrdinarily c d × (d ≡ record c { region = d.region })
 Effect Nop c d = d ≡ c
@@ -83,6 +84,7 @@ Effect (JmpInd table) c d = d ≡ c
 Effect Ret c d = ⊥
 Effect RetImm c d = ⊥
 Effect Iret c d = ⊥
+Effect IretNext c d = d ≡ record c { rsp = up c.rsp 40 }
 Effect Switch c d = ⊥
 Effect Ud2 c d = d ≡ c
 Effect Int3 c d = d ≡ c

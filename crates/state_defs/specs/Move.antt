@@ -1,9 +1,9 @@
 -- How an operation moves a state. A refusal is the number of the rule that it breaks: 7 an
 -- unsupported write of rsp, 8 rbp written before it is saved, 9 the stack pointer lost, 10 an offset
--- out of range, 11 the saved slot dropped.
+-- out of range, 11 the saved slot dropped, 15 a return from an interrupt where there is none.
 use Rattle.std.specs.Prelude.{ℕ, ◌^◌, Bool, true, false, ◌&&◌, Option, Some, None, Result, Ok, Err, if◌then◌else◌, ℤ, pos, negsuc, ◌+ℤ◌, ◌-ℤ◌, int_lt, int_le}
 use Rattle.operation_defs.specs.declared.op.Op.{Op}
-use Rattle.operation_defs.specs.declared.op.Op.TheVariants.{Push, PushBp, Pop, PopBp, Popf, AddSp, AndSp, LeaSpBp, LeaBpSp, StoreBp, LoadBp, Leave, SpOther, BpOther}
+use Rattle.operation_defs.specs.declared.op.Op.TheVariants.{Push, PushBp, Pop, PopBp, Popf, AddSp, AndSp, LeaSpBp, LeaBpSp, StoreBp, LoadBp, Leave, SpOther, BpOther, IretNext}
 use Rattle.state_defs.specs.declared.state.Depth.{Depth}
 use Rattle.state_defs.specs.declared.state.Depth.TheVariants.{Known, AtLeast}
 use Rattle.state_defs.specs.declared.state.BpHome.{BpHome}
@@ -78,10 +78,11 @@ abbrev pub rsp_from_bp : ℤ → Option ℤ → BpHome → Result State ℕ
 rsp_from_bp k None bp = Err 9
 rsp_from_bp k (Some m) bp = if int_lt (m -ℤ k) (floor_of bp) then Err 11 else to (Live (Known (m -ℤ k)) (Some m) bp)
 
+-- rbp becomes the frame's base where it points at the word in which the caller's is saved
 abbrev pub bp_from_rsp : ℤ → Depth → BpHome → Result State ℕ
 bp_from_rsp k depth Same = Err 8
 bp_from_rsp k (AtLeast n) (Saved o) = Err 9
-bp_from_rsp k (Known n) (Saved o) = to (Live (Known n) (Some (n -ℤ k)) (Saved o))
+bp_from_rsp k (Known n) (Saved o) = if int_same (n -ℤ k) o then to (Live (Known n) (Some o) (Saved o)) else to (Live (Known n) None (Saved o))
 
 abbrev pub store_bp : ℤ → Depth → Option ℤ → BpHome → Result State ℕ
 store_bp k depth fp Same =
@@ -96,12 +97,18 @@ load_bp k (Known n) (Saved o) = if int_same (n -ℤ k) o then to (Live (Known n)
 
 abbrev pub leave : Option ℤ → BpHome → Result State ℕ
 leave None bp = Err 9
-leave (Some m) bp = pop_at m (floor_of bp)
+leave (Some m) Same = Err 11
+leave (Some m) (Saved o) = pop_at m o
 
 abbrev pub lose_bp : Depth → BpHome → Result State ℕ
 lose_bp depth Same = Err 8
 lose_bp (AtLeast n) (Saved o) = Err 9
 lose_bp (Known n) (Saved o) = to (Live (Known n) None (Saved o))
+
+-- a return from an interrupt is allowed where the move that it makes is
+abbrev pub where_allowed : Result State ℕ → Result State ℕ
+where_allowed (Ok s) = Ok s
+where_allowed (Err rule) = Err 15
 
 abbrev pub move_live : Depth → Option ℤ → BpHome → Op → Result State ℕ
 move_live depth fp bp Push = to (Live (with_depth depth (depth_of depth +ℤ pos 8)) fp bp)
@@ -118,6 +125,7 @@ move_live depth fp bp (LoadBp at) = load_bp at depth bp
 move_live depth fp bp Leave = leave fp bp
 move_live depth fp bp BpOther = lose_bp depth bp
 move_live depth fp bp SpOther = Err 7
+move_live depth fp bp IretNext = where_allowed (raise (pos 40) depth fp bp)
 move_live depth fp bp _ = to (Live depth fp bp)
 
 -- the lowest depth over saved registers: a full pt_regs may be popped up to its bp, at 32
@@ -152,6 +160,7 @@ move_regs full depth (AndSp mask) = Err 9
 move_regs full depth (LeaSpBp by) = Err 9
 move_regs full depth Leave = Err 9
 move_regs full depth SpOther = Err 7
+move_regs full depth IretNext = Err 15
 move_regs full depth _ = to (Regs full depth)
 
 -- the state after an operation, or the rule that the operation breaks; an ended stack stays so

@@ -86,10 +86,10 @@ MeansTop (Regs full depth) rsp rbp [] = ⊥
 MeansTop (Regs full depth) rsp rbp (f ∷ fs) = Means (Regs full depth) rsp rbp f
 
 -- What holds of the numbers in every state that occurs. In a live one the return address, and the
--- slot where rbp is saved, lie between rsp and the frame's top; where rbp is a frame pointer, or rsp
--- was aligned, rbp is saved.
+-- slot where rbp is saved, lie between rsp and the frame's top. Where rbp is the frame's base, it
+-- points at that slot; where rsp was aligned, rbp is the frame's base.
 pub record IsConsistentLive (depth : Depth) (pointer : Option ℤ) (home : BpHome) : Type 0 where
-  pub fp : IsSome pointer → (o : ℤ) × (home ≡ Saved o)
+  pub fp : (m : ℤ) → pointer ≡ Some m → home ≡ Saved m
   pub aligned : IsTrue (is_at_least depth) → IsSome pointer
   pub saved : (o : ℤ) → home ≡ Saved o → (pos 16 ≤ℤ o) × (o ≤ℤ depth_of depth)
   pub same : home ≡ Same → pos 8 ≤ℤ depth_of depth

@@ -1,7 +1,7 @@
 -- Worked moves and rows: the states of the code 55 48 89 E5 5D C3 (push rbp; mov rsp to rbp; pop rbp;
 -- ret), and of code over saved registers.
 use Rattle.std.specs.Prelude.{◌≡◌, true, false, Some, None, Ok, Err, pos, negsuc}
-use Rattle.operation_defs.specs.declared.op.Op.TheVariants.{PushBp, Pop, PopBp, LeaBpSp, BpOther, AddSp}
+use Rattle.operation_defs.specs.declared.op.Op.TheVariants.{PushBp, Pop, PopBp, LeaBpSp, BpOther, AddSp, Leave, IretNext}
 use Rattle.state_defs.specs.declared.state.Depth.TheVariants.{Known}
 use Rattle.state_defs.specs.declared.state.BpHome.TheVariants.{Same, Saved}
 use Rattle.state_defs.specs.declared.state.State.TheVariants.{Live, Regs}
@@ -14,12 +14,20 @@ pub record HasWorkedMoves : Type 0 where
   -- a function with a frame pointer
   pub push_bp : move initial PushBp ≡ Ok (Live (Known (pos 16)) None (Saved (pos 16)))
   pub set_bp : move (Live (Known (pos 16)) None (Saved (pos 16))) (LeaBpSp (pos 0)) ≡ Ok (Live (Known (pos 16)) (Some (pos 16)) (Saved (pos 16)))
+  -- rbp that points elsewhere isn't the frame's base
+  pub set_bp_elsewhere : move (Live (Known (pos 24)) None (Saved (pos 16))) (LeaBpSp (pos 0)) ≡ Ok (Live (Known (pos 24)) None (Saved (pos 16)))
+  pub set_bp_from_below : move (Live (Known (pos 24)) None (Saved (pos 16))) (LeaBpSp (pos 8)) ≡ Ok (Live (Known (pos 24)) (Some (pos 16)) (Saved (pos 16)))
   pub pop_bp : move (Live (Known (pos 16)) (Some (pos 16)) (Saved (pos 16))) PopBp ≡ Ok initial
   -- the return address mustn't be popped, and rbp not be written before it is saved
   pub pop_ra : move initial Pop ≡ Err 9
   pub clobbered : move initial BpOther ≡ Err 8
   pub slot_dropped : move (Live (Known (pos 16)) None (Saved (pos 16))) Pop ≡ Err 11
   pub too_deep : move initial (AddSp (negsuc 1073741823)) ≡ Err 10
+  -- no slot is made up for a state that doesn't occur
+  pub leaves_unsaved : move (Live (Known (pos 24)) (Some (pos 24)) Same) Leave ≡ Err 11
+  -- five words are pushed, then an iret goes on behind itself
+  pub iret_next : move (Live (Known (pos 48)) None Same) IretNext ≡ Ok initial
+  pub iret_too_high : move (Live (Known (pos 40)) None Same) IretNext ≡ Err 15
   -- bp is popped from a pt_regs: ip is 88 bytes above
   pub regs_pop_bp : move (Regs true (negsuc 31)) PopBp ≡ Ok (Regs false (pos 88))
   pub regs_pop_ip : move (Regs false (pos 0)) Pop ≡ Err 11

@@ -1,43 +1,56 @@
-/// How far rsp is below the frame's top (the value of rsp before the call, DWARF's CFA).
+/// How far rsp is below the frame's top, in bytes. The top of a call frame is the value of rsp right
+/// before the call (DWARF's CFA), so the return address stands 8 bytes below it.
 #[derive(Clone, Copy, Debug, PartialEq, Eq, PartialOrd, Ord)]
 pub enum Depth {
     /// By exactly this many bytes.
     Known(i64),
-    /// By at least this many bytes: rsp was aligned.
+    /// By at least this many bytes: rsp was aligned, so it fell by a number that isn't known.
     AtLeast(i64),
 }
 
 /// Where the caller's rbp is.
 #[derive(Clone, Copy, Debug, PartialEq, Eq, PartialOrd, Ord)]
 pub enum BpHome {
-    /// In rbp.
+    /// In rbp. No word of the frame is looked to for it.
     Same,
-    /// In memory, this many bytes below the frame's top.
+    /// In the word that begins this many bytes below the frame's top: at least 16, right below the
+    /// return address, and at most as many as rsp is below it. rbp itself may be anything.
     Saved(i64),
 }
 
 /// How a hint ends the stack.
 #[derive(Clone, Copy, Debug, PartialEq, Eq, PartialOrd, Ord)]
 pub enum EndKind {
-    /// Nothing is known of the frame.
+    /// Nothing is known of the frame (`UNWIND_HINT_UNDEFINED`). A walk stops there and says so.
     Undefined,
-    /// There is no caller.
+    /// There is no caller (`UNWIND_HINT_END_OF_STACK`). A walk is complete there.
     EndOfStack,
 }
 
-/// What is known of the stack before an instruction.
+/// What is known of the stack before an instruction. All numbers are bytes.
 #[derive(Clone, Copy, Debug, PartialEq, Eq, PartialOrd, Ord)]
 pub enum State {
-    /// In a call frame. Where `fp` is `Some(m)`, rbp is m bytes below the frame's top.
+    /// In a call frame.
+    ///
+    /// Where `fp` is `Some(m)`, rbp is the frame's base: it is m bytes below the frame's top, at the
+    /// word in which the caller's rbp is saved, so `bp` is `Saved(m)`. Where it is `None`, rbp isn't
+    /// used to find the frame, whatever it holds. Only under a frame's base may the depth be `AtLeast`.
     Live {
         depth: Depth,
         fp: Option<i64>,
         bp: BpHome,
     },
-    /// A hint ended the stack.
+    /// A hint ended the stack: nothing is known, and nothing asked, of registers and memory.
     Ended(EndKind),
-    /// In an interrupt frame: the saved registers stand `depth` bytes above rsp. `full` where they
-    /// are all of pt_regs, otherwise ip, cs, flags, sp and ss.
+    /// In an interrupt frame, whose saved registers begin `depth` bytes above rsp.
+    ///
+    /// Where `full`, they are a `pt_regs` of 168 bytes: r15 is its first word, rbp stands at 32, ip at
+    /// 128, cs, flags, rsp at 152, and ss. Words up to rbp may have been popped: then the depth is
+    /// negative, down to -32, where rbp is at rsp. The interrupted rbp is in the `pt_regs`; rbp itself
+    /// may be anything.
+    ///
+    /// Otherwise they are the five words that the processor pushed: ip is the first, then cs, flags,
+    /// rsp at 24, and ss. The depth isn't negative, and rbp is the interrupted one.
     Regs {
         full: bool,
         depth: i64,
@@ -47,10 +60,12 @@ pub enum State {
 /// What an unwind hint does at its place.
 #[derive(Clone, Copy, Debug, PartialEq, Eq)]
 pub enum HintState {
-    /// Sets the state.
+    /// The state there is this one, whatever control brings.
     Set(State),
-    /// Saves the state.
+    /// The state that control brings is saved for the `Restore` hints that mean this place.
     Save,
-    /// Restores the state that its save saved.
+    /// The state there is the one that was brought to the `Save` that this hint means: that of the same
+    /// function and section with the greatest address below the hint's, and of those at one address
+    /// that of the least variant.
     Restore,
 }

@@ -50,7 +50,7 @@ brought_moves s op Table t c = inr (moved_ok (move s op) t c)
 brought_moves s op Sibling t c = nowhere t c
 
 initial_consistent : IsConsistent initial
-initial_consistent = record { fp = λ e. absurd (let k : ⊥ = cc in k); aligned = λ e. absurd (let k : ⊥ = cc in k); saved = λ o e. absurd (let k : ⊥ = cc in k); same = λ e. omega arith }
+initial_consistent = record { fp = λ m e. absurd (let k : ⊥ = cc in k); aligned = λ e. absurd (let k : ⊥ = cc in k); saved = λ o e. absurd (let k : ⊥ = cc in k); same = λ e. omega arith }
 
 -- a state is one of a checked point
 pub unless_unchecked : (b : Bool) (o : Option State) (s : State) → (if b then None else o) ≡ Some s → o ≡ Some s

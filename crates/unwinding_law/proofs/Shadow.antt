@@ -1,7 +1,7 @@
 -- What an operation may do to the frames: change the top one's slot, and not its kind.
 use Rattle.std.proofs.Common.{◌≡◌, ℕ, Bool, true, false, if◌then◌else◌, ◌==◌, List, [], ◌∷◌, MatchBool, refl, sym, ap, subst}
 use Rattle.operation_defs.specs.declared.op.Op.{Op}
-use Rattle.operation_defs.specs.declared.op.Op.TheVariants.{Plain, Nop, Endbr, Push, PushBp, Pop, PopBp, Popf, AddSp, AndSp, LeaSpBp, LeaBpSp, StoreBp, LoadBp, Leave, SpOther, BpOther, Call, CallInd, Jmp, Jcc, JmpInd, Ret, RetImm, Iret, Switch, Ud2, Int3, Stac, Clac}
+use Rattle.operation_defs.specs.declared.op.Op.TheVariants.{Plain, Nop, Endbr, Push, PushBp, Pop, PopBp, Popf, AddSp, AndSp, LeaSpBp, LeaBpSp, StoreBp, LoadBp, Leave, SpOther, BpOther, Call, CallInd, Jmp, Jcc, JmpInd, Ret, RetImm, Iret, IretNext, Switch, Ud2, Int3, Stac, Clac}
 use Rattle.state_defs.specs.Address.{up, shifted}
 use Rattle.state_defs.specs.Region.{hi_of}
 use Rattle.state_defs.specs.Frame.{Slot, Unsaved, SavedAt, PartialAt, FullAt, is_of_call, Frame, saved_slot, loaded_slot, popped_slot, with_top_slot, after_save}
@@ -96,6 +96,7 @@ module _ (c d : Core) where
   effect_shape Ret e = absurd e
   effect_shape RetImm e = absurd e
   effect_shape Iret e = absurd e
+  effect_shape IretNext e = same_shadow c d (ap (λ (x : Core). x.shadow) e)
   effect_shape Switch e = absurd e
   effect_shape Ud2 e = same_shadow c d (ap (λ (x : Core). x.shadow) e)
   effect_shape Int3 e = same_shadow c d (ap (λ (x : Core). x.shadow) e)
@@ -128,6 +129,7 @@ module _ (c d : Core) where
   effect_hi Ret e = absurd e
   effect_hi RetImm e = absurd e
   effect_hi Iret e = absurd e
+  effect_hi IretNext e = ap (λ (x : Core). hi_of x.region) e
   effect_hi Switch e = absurd e
   effect_hi Ud2 e = ap (λ (x : Core). hi_of x.region) e
   effect_hi Int3 e = ap (λ (x : Core). hi_of x.region) e
