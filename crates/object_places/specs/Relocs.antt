@@ -1,0 +1,24 @@
+-- The relocations of a section by the offset of their field.
+use Rattle.std.specs.Prelude.{◌≡◌, ℕ, ◌==◌, ◌||◌, Bool, List, filter, find, Option, slice_get}
+use Rattle.elf_objects.specs.declared.symbol.Reloc.{Reloc}
+use Rattle.elf_objects.specs.Kind.{r_64, r_pc32, r_32, r_32s}
+
+-- a relocation of this type puts a place into its field: R_X86_64_64, R_X86_64_PC32, R_X86_64_32 and R_X86_64_32S
+abbrev pub is_pointer_kind : ℕ → Bool
+is_pointer_kind kind = (kind == r_64) || (kind == r_pc32) || (kind == r_32) || (kind == r_32s)
+
+-- those whose field begins at an offset, in their order
+abbrev pub at_offset : ℕ → List Reloc → List Reloc
+at_offset off relocs = filter (λ r. r.offset == off) relocs
+
+-- the first of them
+abbrev pub first_at_offset : ℕ → List Reloc → Option Reloc
+first_at_offset off relocs = slice_get (at_offset off relocs) 0
+
+-- the first of them that puts a place into the field
+abbrev pub first_pointer : ℕ → List Reloc → Option Reloc
+first_pointer off relocs = find (λ r. is_pointer_kind r.kind) (at_offset off relocs)
+
+-- the index has the relocations at each offset, in their order
+pub record IsIndexOf (relocs index : List Reloc) : Type 0 where
+  pub same : (off : ℕ) → at_offset off index ≡ at_offset off relocs

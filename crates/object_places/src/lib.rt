@@ -1,0 +1,11 @@
+//! Places that the relocations of an object name.
+//!
+//! In a relocatable object a field that holds a place holds it by a relocation (x86-64 psABI,
+//! "Relocation"): the place is that of the relocation's symbol, moved on by the addend.
+#![tactic(auto)]
+
+mod index;
+mod place;
+
+pub use index::RelocIndex;
+pub use place::named_place;
