@@ -14,9 +14,11 @@ use Rattle.state_defs.specs.Move.{move}
 use Rattle.state_defs.specs.Row.{row_of, unfit_offset}
 use Rattle.state_defs.specs.Rules.{return_rule, sibling_rule, switch_rule, iret_rule, call_rule, depth_number}
 use Rattle.program_defs.specs.Program.{Program, IsPoint, Site, in_site, entry_points, is_call_op, edge}
+use Rattle.program_defs.specs.IsProgram.{IsProgram, HintsStandAtPoints}
 use Rattle.checker_defs.specs.Kept.{edges_of, Brings, is_free, Kept, NotKept, Path}
 
--- the point leaves its function by a jump: to another of the program, or outside
+-- the point leaves its function without a return: to another of the program, by a jump, a static branch or a
+-- fixup, or by a jump outside
 pub data LeavesByJump (p : Program) (q : ℕ) : Type 0 where
   sibling : (r : ℕ) → Contains (edges_of p q) (edge r Sibling) → LeavesByJump p q
   outside : (sym : ℕ) → p.role q ≡ JumpOut sym → LeavesByJump p q
@@ -43,22 +45,24 @@ pub record IsInForce (p : Program) (site : Site) (off q : ℕ) (s : State) : Typ
   pub last : (r : ℕ) (t : State) → KeptInSite p site r t → (p.address r).off ≤ off
       → ((p.address r).off < (p.address q).off) ⊎ (((p.address r).off ≡ (p.address q).off) × (p.variant q ≤ p.variant r))
 
--- The warnings of the rules 1 to 13 and 15 to 18.
+-- The warnings of the rules 1 to 13 and 15 to 18, which no option has to ask for. Each is met at a kept point; its
+-- place is the point's but where it is said otherwise. One place may be warned of by one rule for two reasons: it is
+-- one warning then, since warnings are a set.
 pub data Warns (p : Program) : Place → ℕ → ℤ → ℤ → Type 0 where
-  -- 1. a target is no place to go
+  -- 1. a target of a branch, call, static branch or exception entry is no place to go
   bad_target : (q : ℕ) (s : State) → Kept p q s → (p.marks q).bad ≡ true → Warns p (p.place q) 1 (pos 0) (pos 0)
   -- 2. the next instruction is of another function
   falls_through : (q r : ℕ) (s : State) → Kept p q s → Contains (edges_of p q) (edge r Next) → p.owner r ≢ p.owner q → Warns p (p.place q) 2 (pos 0) (pos 0)
-  -- 3. the next instruction is past the section's end
+  -- 3. there is a next instruction, and it is past the section's end
   runs_off : (q : ℕ) (s : State) → Kept p q s → (p.marks q).past_end ≡ true → Warns p (p.place q) 3 (pos 0) (pos 0)
-  -- 4. an edge brings to a kept point another state than the one that is kept there
+  -- 4. an edge brings to a kept point another state than the one that is kept there; the place is that point's
   mismatch : (q r : ℕ) (s t u : State) → Kept p q s → Brings p q s r t → Kept p r u → is_free (p.hint r) ≡ true → t ≢ u → Warns p (p.place r) 4 (depth_number u) (depth_number t)
   -- 5. it returns with a modified stack, or drops bytes as it returns
   modified_return : (q : ℕ) (s : State) → Kept p q s → p.role q ≡ Return → return_rule s ≡ Some 5 → Warns p (p.place q) 5 (depth_number s) (pos 0)
   drops_bytes : (q : ℕ) (s : State) → Kept p q s → p.role q ≡ Return → (p.insn q).op ≡ RetImm → return_rule s ≢ Some 15 → Warns p (p.place q) 5 (depth_number s) (pos 0)
-  -- 6. it jumps to another function with a modified stack
+  -- 6. it goes to another function, by a jump, a static branch or a fixup, with a modified stack
   modified_sibling : (q : ℕ) (s : State) → Kept p q s → LeavesByJump p q → sibling_rule s ≡ Some 6 → Warns p (p.place q) 6 (depth_number s) (pos 0)
-  -- 7, 8, 9, 10, 11. the operation breaks the rule in its state
+  -- 7, 8, 9, 10, 11, 15. the operation breaks the rule in its state
   refused : (q rule : ℕ) (s : State) → Kept p q s → move s (p.insn q).op ≡ Err rule → Warns p (p.place q) rule (pos 0) (pos 0)
   -- 10. an offset of the state's row doesn't fit
   unfit : (q : ℕ) (s : State) (a : ℤ) → Kept p q s → unfit_offset s ≡ Some a → Warns p (p.place q) 10 a (pos 0)
@@ -66,18 +70,18 @@ pub data Warns (p : Program) : Place → ℕ → ℤ → ℤ → Type 0 where
   variants_disagree : (site : Site) (q r : ℕ) (s t : State) → KeptInSite p site q s → KeptInSite p site r t → p.address q ≡ p.address r → row_of s ≢ row_of t → Warns p site.start 12 (pos (offset_in site (p.address q).off)) (pos 0)
   -- 12. the row in force at the last byte of a call in a site isn't the call's
   call_disagrees : (site : Site) (q r : ℕ) (s t : State) → KeptInSite p site q s → is_call_op (p.insn q).op ≡ true → IsInForce p site ((p.address q).off + (p.insn q).len - 1) r t → row_of t ≢ row_of s → Warns p site.start 12 (pos (offset_in site ((p.address q).off + (p.insn q).len - 1))) (pos 0)
-  -- 13. a target lies inside a site
+  -- 13. a target lies inside a site, of whose original code it isn't
   into_site : (q : ℕ) (s : State) → Kept p q s → (p.marks q).into_site ≡ true → Warns p (p.place q) 13 (pos 0) (pos 0)
-  -- 15. a return, a jump to another function or a context switch stands where it isn't allowed
+  -- 15. a return, a way to another function or a context switch stands where it isn't allowed
   unallowed_return : (q : ℕ) (s : State) → Kept p q s → p.role q ≡ Return → return_rule s ≡ Some 15 → Warns p (p.place q) 15 (pos 0) (pos 0)
   unallowed_sibling : (q : ℕ) (s : State) → Kept p q s → LeavesByJump p q → sibling_rule s ≡ Some 15 → Warns p (p.place q) 15 (pos 0) (pos 0)
   unallowed_switch : (q : ℕ) (s : State) → Kept p q s → (p.insn q).op ≡ Switch → switch_rule s ≡ Some 15 → Warns p (p.place q) 15 (pos 0) (pos 0)
   unallowed_iret : (q : ℕ) (s : State) → Kept p q s → (p.insn q).op ≡ Iret → iret_rule s ≡ Some 15 → Warns p (p.place q) 15 (pos 0) (pos 0)
-  -- 16. it calls a place inside a function
+  -- 16. it calls a place of the object where no checked function is entered, and no unchecked one starts
   into_function : (q : ℕ) (s : State) → Kept p q s → (p.marks q).into_function ≡ true → Warns p (p.place q) 16 (pos 0) (pos 0)
   -- 17. a function has no size
   without_size : (place : Place) → Contains p.unsized place → Warns p place 17 (pos 0) (pos 0)
-  -- 18. control comes to a RESTORE that has no state to restore
+  -- 18. control comes to a RESTORE that has no state to restore; the place is the RESTORE's
   entered_restore : (q entry : ℕ) → p.hint q ≡ Some Restore → NotKept p q → Contains p.entries entry → Contains (entry_points p entry) q → Warns p (p.place q) 18 (pos 0) (pos 0)
   reached_restore : (q r : ℕ) (s : State) (e : Edge) → p.hint r ≡ Some Restore → NotKept p r → Kept p q s → Contains (edges_of p q) e → e.to ≡ r → Warns p (p.place r) 18 (pos 0) (pos 0)
 
@@ -107,8 +111,10 @@ pub record IsFirstUnreached (p : Program) (q : ℕ) : Type 0 where
   pub unreached : IsUnreached p q
   pub first : (r : ℕ) → p.previous q ≡ Some r → p.function r ≡ p.function q → IsUnreached p r → ⊥
 
--- All warnings of a check under its options: those above; 21 a call without a frame, where frame
--- pointers are asked for; 14 unreached instructions, where these are asked for and nothing above warns.
+-- The warnings of a check under its options, so far as they are defined: those above; 21 a call without a
+-- frame, where frame pointers are asked for; 14 the first of some unreached instructions, where these are asked for
+-- and nothing above warns. The rules that the options `retpoline` (31), `rethunk` (32) and `uaccess` (41 to 47)
+-- ask for aren't among them.
 pub data IsBroken (p : Program) (options : Options) : Place → ℕ → ℤ → ℤ → Type 0 where
   always : (place : Place) (rule : ℕ) (a b : ℤ) → Warns p place rule a b → IsBroken p options place rule a b
   unreachable : (q : ℕ) → options.unreachable ≡ true → IsAccepted p → IsFirstUnreached p q → IsBroken p options (p.place q) 14 (pos 0) (pos 0)
@@ -125,12 +131,13 @@ pub record HasTwoPaths (p : Program) : Type 0 where
   pub other_path : Path p point other
   pub different : one ≢ other
 
+-- rule 4 warns somewhere
 pub record HasMismatch (p : Program) : Type 0 where
   pub place : Place
   pub kept : ℤ
   pub found : ℤ
   pub warning : Warns p place 4 kept found
 
--- rule 4 is broken somewhere exactly where two paths disagree
-abbrev pub MismatchIsTwoPaths : Program → Type 0
-MismatchIsTwoPaths p = HasMismatch p ↔ HasTwoPaths p
+-- Rule 4 is broken somewhere exactly where two paths disagree.
+abbrev pub MismatchIsTwoPaths : Type 0
+MismatchIsTwoPaths = (p : Program) → IsProgram p → HintsStandAtPoints p → HasMismatch p ↔ HasTwoPaths p

@@ -3,8 +3,8 @@ use Rattle.std.specs.Prelude.{ℕ, Bool, ◌&&◌, not, List, [], ◌∷◌, ◌
 use Rattle.ot_base.specs.declared.place.Place.{Place}
 use Rattle.ot_base.specs.declared.row.Row.{Row}
 use Rattle.ot_base.specs.declared.row.PlacedRow.{PlacedRow}
+use Rattle.ot_base.specs.Rows.{same_row}
 use Rattle.state_defs.specs.declared.state.State.{State}
-use Rattle.state_defs.specs.Move.{int_same}
 use Rattle.state_defs.specs.Row.{zero_row, row_of}
 use Rattle.program_defs.specs.Program.{Program, TextSection, Site, below, same_place, in_site}
 
@@ -53,11 +53,6 @@ row_at p states place = row_by p states (site_at p place) place
 
 abbrev pub placed : Place → Row → PlacedRow
 placed place row = record { place = place; row = row }
-
--- whether two rows are equal
-abbrev pub same_row : Row → Row → Bool
-same_row a b =
-    int_same a.sp_offset b.sp_offset && (int_same a.bp_offset b.bp_offset && (a.sp_reg == b.sp_reg && (a.bp_reg == b.bp_reg && (a.kind == b.kind && (if a.signal then b.signal else not b.signal)))))
 
 -- the rows of a section, one for each place at which one begins
 abbrev pub place_in : TextSection → ℕ → Place

@@ -14,6 +14,7 @@ use Rattle.state_defs.specs.Region.{Region, Reads, WritesOnly, WritesWord, Store
 use Rattle.state_defs.specs.Frame.{Unsaved, PartialAt, is_of_call, Frame, protected_addresses}
 use Rattle.state_defs.specs.Effect.{Core, StoresOrdinarily, Effect}
 use Rattle.program_defs.specs.Program.{Program, IsPoint, Site, in_site, entry_points, edge, is_local}
+use Rattle.program_defs.specs.MayReturn.{may_call_out}
 use Rattle.machine_defs.specs.Machine.{Bases, Standing, Machine, Wrecked, At, point_address, return_address}
 use Rattle.machine_defs.specs.Hint.{Lands}
 
@@ -67,13 +68,6 @@ pub record CallsIn (p : Program) (bases : Bases) (s t : Standing) : Type 0 where
   pub core : t.core ≡ record s.core { rsp = down s.core.rsp 8; region = t.core.region; shadow = call_frame p bases s ∷ s.core.shadow }
   pub ended : t.ended ≡ None
   pub mark : t.mark ≡ None
-
--- whether a call may go to code outside that returns
-abbrev pub may_call_out : Program → Role → Bool
-may_call_out p (CallOut sym) = not (p.never_returns sym)
-may_call_out p (CallEither entry sym) = true
-may_call_out p CallAny = true
-may_call_out p _ = false
 
 -- 4. It calls code outside, which returns: it keeps rsp, rbp, user access and protected slots.
 pub record CallsOut (p : Program) (s t : Standing) : Type 0 where

@@ -1,14 +1,14 @@
 //! Worked examples of the bytes, as they stand in objects that other tools made.
 
 ghost use Rattle.std.specs.Prelude.{◌≡◌, [], ◌∷◌, pos, negsuc};
-ghost use Rattle.walk_defs.specs.Worked.{sp_row, saved_row, frame_pointer_row, partial_row, full_row, end_row, zero_row};
+ghost use Rattle.walk_defs.specs.Worked.{call_row, saved_row, frame_pointer_row, partial_row, full_row, end_row, zero_row};
 ghost use Rattle.orc_bytes.specs.RowBytes.{bytes_of_row};
 ghost use Rattle.orc_bytes.specs.RelocBytes.{bytes_of_reloc};
 
 /// The bytes of the rows that occur most.
 #[tactic(auto, unfolding(crate::specs::RowBytes::bytes_of_row))]
 pub fn worked_rows()
-    ensures entry { bytes_of_row (sp_row 8) ≡ 0x08 ∷ 0 ∷ 0 ∷ 0 ∷ 0x05 ∷ 0x02 ∷ [] }
+    ensures entry { bytes_of_row (call_row 8) ≡ 0x08 ∷ 0 ∷ 0 ∷ 0 ∷ 0x05 ∷ 0x02 ∷ [] }
     ensures saved { bytes_of_row (saved_row 16) ≡ 0x10 ∷ 0 ∷ 0xF0 ∷ 0xFF ∷ 0x15 ∷ 0x02 ∷ [] }
     ensures frame_pointer { bytes_of_row frame_pointer_row
         ≡ 0x10 ∷ 0 ∷ 0xF0 ∷ 0xFF ∷ 0x14 ∷ 0x02 ∷ [] }

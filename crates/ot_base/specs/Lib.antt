@@ -1,3 +1,6 @@
+pub mod Address
+pub mod Section
+pub mod Rows
 pub mod ListsFault
 pub mod NameLists
 pub mod NamesFile

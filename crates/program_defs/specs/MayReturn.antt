@@ -7,12 +7,12 @@ use Rattle.program_defs.specs.declared.flow.Role.{Role}
 use Rattle.program_defs.specs.declared.flow.Role.TheVariants.{CallIn, CallEither, CallOut, CallAny, Return, JumpOut, JumpAny}
 use Rattle.program_defs.specs.Program.{Program, entry_points, is_call, edge}
 
--- whether the target of a call may return, but for one that is an entry of the program
-abbrev pub returns_outside : Program → Role → Bool
-returns_outside p (CallOut sym) = not (p.never_returns sym)
-returns_outside p (CallEither entry sym) = true
-returns_outside p CallAny = true
-returns_outside p _ = false
+-- whether a call may go to code outside that returns
+abbrev pub may_call_out : Program → Role → Bool
+may_call_out p (CallOut sym) = not (p.never_returns sym)
+may_call_out p (CallEither entry sym) = true
+may_call_out p CallAny = true
+may_call_out p _ = false
 
 -- the least set of points such that it has each return and each jump that may leave; each point with
 -- a successor in it, other than by a call's Next; and each call that isn't a dead end, whose target
@@ -23,7 +23,7 @@ pub data MayReturn (p : Program) : ℕ → Type 0 where
   jumps_out : (q sym : ℕ) → p.role q ≡ JumpOut sym → p.never_returns sym ≡ false → MayReturn p q
   goes_on : (q : ℕ) (e : Edge) → is_call (p.role q) ≡ false → Contains (p.goes q) e → MayReturn p e.to → MayReturn p q
   branches : (q : ℕ) (e : Edge) → e.kind ≢ Next → Contains (p.goes q) e → MayReturn p e.to → MayReturn p q
-  comes_back : (q r : ℕ) → returns_outside p (p.role q) ≡ true → p.dead_end q ≡ false → Contains (p.goes q) (edge r Next) → MayReturn p r → MayReturn p q
+  comes_back : (q r : ℕ) → may_call_out p (p.role q) ≡ true → p.dead_end q ≡ false → Contains (p.goes q) (edge r Next) → MayReturn p r → MayReturn p q
   comes_back_in : (q r entry first : ℕ) → p.role q ≡ CallIn entry → p.dead_end q ≡ false → Contains (entry_points p entry) first → MayReturn p first → Contains (p.goes q) (edge r Next) → MayReturn p r → MayReturn p q
 
 -- whether the target of a call may return; what isn't a call passes

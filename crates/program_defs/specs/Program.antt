@@ -3,6 +3,7 @@
 -- patched over an alternatives site (variant k for the k-th replacement). It mentions no byte of a file.
 use Rattle.std.specs.Prelude.{ℕ, zero, suc, ◌+◌, ◌<◌, Bool, true, false, ◌&&◌, List, [], ◌∷◌, ◌++◌, Option, ◌==◌, nat_le, nat_lt}
 use Rattle.ot_base.specs.declared.place.Place.{Place}
+pub use Rattle.ot_base.specs.Section.{TextSection}
 use Rattle.operation_defs.specs.declared.op.Op.{Op}
 use Rattle.operation_defs.specs.declared.op.Op.TheVariants.{Call, CallInd}
 use Rattle.operation_defs.specs.declared.insn.Insn.{Insn}
@@ -14,53 +15,71 @@ use Rattle.program_defs.specs.declared.flow.Role.TheVariants.{Plain, CallIn, Cal
 use Rattle.program_defs.specs.declared.flow.Marks.{Marks}
 use Rattle.state_defs.specs.declared.state.HintState.{HintState}
 
--- a section of code: its number in the section header table, and its size in bytes
-pub record TextSection : Type 0 where
-  pub sec : ℕ
-  pub size : ℕ
-
 -- an alternatives site: the code there may be replaced by any one of its replacements, or stay
 pub record Site : Type 0 where
   pub start : Place
   pub len : ℕ
 
+-- What a program is for an object. Its functions are the sized FUNC symbols of its text sections; a part
+-- (`f.cold`) belongs to its parent; the owner of a place is its function, or that function's parent; where a
+-- function of an owner is listed as one without a standard frame, all of that owner is unchecked.
 pub record Program : Type 0 where
-  -- how many points there are; they are numbered from 0 on
+  -- How many points there are; they are numbered from 0 on. A plain point is an instruction of a text section.
+  -- Each replacement of a site has a point for each of its instructions, and where it is shorter than its site
+  -- one padding point more: a Nop over the rest of the site, which has no hint, static branch, exception entry
+  -- or mark of a list, whatever the object says of its place.
   pub count : ℕ
-  -- a point's instruction, where its bytes stand, where it runs, and its variant
+  -- The instruction of a point: as it is decoded, but that an Iret to itself is an IretNext.
   pub insn : ℕ → Insn
+  -- Where its bytes stand: of a padding point, the end of its replacement.
   pub place : ℕ → Place
+  -- Where it runs: a plain point at its place; any other at its site's start plus its distance from the start
+  -- of its replacement.
   pub address : ℕ → Place
+  -- 0 of a plain point, else the number of its replacement, which is one more than the index of its entry of
+  -- the alternatives.
   pub variant : ℕ → ℕ
-  -- its function; the function's parent, or itself where it has none; whether that isn't checked
+  -- The function that holds its address: of several, the one with the greatest start.
   pub function : ℕ → Option ℕ
+  -- That function's parent, where it is a part, else the function itself.
   pub owner : ℕ → Option ℕ
+  -- Whether its owner is unchecked. Such a point has no edges.
   pub unchecked : ℕ → Bool
-  -- the plain point right before a plain point, in its section
+  -- The plain point of the boundary right before a plain point, in its section.
   pub previous : ℕ → Option ℕ
-  -- the unwind hint at its place, and the SAVE point that a RESTORE means
+  -- The unwind hint at its place.
   pub hint : ℕ → Option HintState
+  -- The SAVE point that a RESTORE means: of its owner, in the section of its address, with the greatest address
+  -- below that, and of the least variant among those with one address.
   pub save_of : ℕ → Option ℕ
-  -- where control goes from it, with a Next for every call that isn't a dead end
+  -- The edges of a checked point (`EdgeKind`), with a Next for every call that isn't a dead end.
   pub goes : ℕ → List Edge
-  -- what it is to its function, whether execution never passes it, and what is wrong with where it goes
+  -- What it is to its function (`Role`), also in an unchecked one.
   pub role : ℕ → Role
+  -- Execution never passes it: a Ud2, or an instruction that ends at a place of `.discard.unreachable`, where
+  -- no place of `.discard.reachable` is that end.
   pub dead_end : ℕ → Bool
+  -- What is wrong with where it goes (`Marks`).
   pub marks : ℕ → Marks
-  -- the points that follow a point, and those where control that comes to a place may stand
+  -- The points that follow a point, whatever it does: `arrive` of the boundary behind a plain point; the next
+  -- point of a replacement, its padding point included, and `arrive` of the site's end behind the last.
   pub after : ℕ → List ℕ
+  -- Where control that comes to a place may stand: at the plain point there, and where a site starts there also
+  -- at the first point of each of its replacements.
   pub arrive : Place → List ℕ
-  -- the plain points at which functions are entered
+  -- The plain points at the starts of functions that are neither parts nor unchecked.
   pub entries : List ℕ
-  -- by symbol: whether it is known never to return
+  -- Whether the name of this symbol is listed as one that never returns.
   pub never_returns : ℕ → Bool
-  -- whether a point calls __fentry__
+  -- Whether a point calls `__fentry__`, be it outside or a function of the object.
   pub calls_fentry : ℕ → Bool
-  -- whether a return may come from a point on, as the least such set
+  -- Whether a return may come from a point on, as the least such set (`MayReturn`).
   pub may_return : ℕ → Bool
+  -- The alternatives sites: one for each original place with a length that isn't 0.
   pub sites : List Site
+  -- The text sections (PROGBITS with EXECINSTR), in ascending order.
   pub texts : List TextSection
-  -- the places of functions without a size
+  -- The places of the FUNC symbols of text sections with the size 0.
   pub unsized : List Place
 
 -- the points of a program
@@ -106,7 +125,7 @@ is_call_op _ = false
 abbrev pub edge : ℕ → EdgeKind → Edge
 edge q k = record { to = q; kind = k }
 
--- whether an edge of this kind keeps the registers' level and runs the instruction
+-- whether control that goes along an edge of this kind has executed the instruction, and stays in its function
 abbrev pub is_local : EdgeKind → Bool
 is_local Next = true
 is_local Taken = true

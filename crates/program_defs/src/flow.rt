@@ -1,15 +1,23 @@
-/// How control goes from one instruction to another without a call or a return.
+/// How control goes from one point to another without a call or a return.
+///
+/// A target that is bad, or that lies inside an alternatives site (`Marks`), has no edge. Arriving at a
+/// site's start means one edge to the first instruction of its code and of each of its replacements.
 #[derive(Clone, Copy, Debug, PartialEq, Eq, PartialOrd, Ord)]
 pub enum EdgeKind {
-    /// To the instruction that follows, also after a call that came back.
+    /// To what follows the point, behind which execution goes on: from every instruction but an
+    /// unconditional or indirect jump, a return, a far branch or system call, a return from an interrupt,
+    /// and a dead end. Calls have one too, to where they return, and so has a conditional jump to
+    /// `__x86_return_thunk`. The code of a static branch always has one, be it a jump or a dead end. It may
+    /// run into another function.
     Next,
-    /// A branch that is taken.
+    /// A branch that is taken, or a static branch, to a place of the same owner (an entry or not), or,
+    /// where one of the two places has no owner, to a place that is no entry.
     Taken,
-    /// From an instruction that faulted to its fixup.
+    /// From an instruction that an exception entry names to its fixup, where that is a place as for `Taken`.
     Fixup,
-    /// An indirect jump through a recognised jump table.
+    /// From an indirect jump through a recognised jump table to each of the table's entries.
     Table,
-    /// A jump to the entry of another function: a tail call.
+    /// A branch, static branch or fixup to the entry of a function of another owner: a tail call.
     Sibling,
 }
 
@@ -22,40 +30,54 @@ pub struct Edge {
     pub kind: EdgeKind,
 }
 
-/// What an instruction is to its function: whether it calls, leaves, or neither. Entries are points
-/// by number, symbols are numbers of the symbol table.
+/// What an instruction is to its function: whether it calls, leaves, or neither. Entries are numbers of
+/// points, symbols are numbers of the symbol table.
+///
+/// The start of an unchecked function is no entry: a call or jump there is one to code outside, with that
+/// function's symbol.
 #[derive(Clone, Copy, Debug, PartialEq, Eq)]
 pub enum Role {
-    /// Neither a call nor a way out of its function.
+    /// Neither a call nor a way out of its function: also a branch or call with a bad target, a call of a
+    /// place that is no entry, and a jump through a recognised jump table.
     Plain,
     /// Calls an entry of this object.
     CallIn { entry: u32 },
     /// Calls a weak symbol: this entry, or what another object has under that name.
     CallEither { entry: u32, sym: u32 },
-    /// Calls a symbol outside this object.
+    /// Calls a symbol outside this object, or the start of an unchecked function.
     CallOut { sym: u32 },
-    /// Calls indirectly: any entry, or code outside.
+    /// Calls indirectly, also by `__x86_indirect_thunk_*`: any entry, or code outside.
     CallAny,
-    /// Returns.
+    /// Returns, also by a jump, conditional or not, to `__x86_return_thunk`.
     Return,
-    /// Jumps to a symbol outside this object.
+    /// Jumps, conditionally or not, to a symbol outside this object or to the start of an unchecked
+    /// function. So does a jump to a weak symbol of this object, which has its edge into the object besides.
     JumpOut { sym: u32 },
-    /// Jumps indirectly: to any entry, or outside.
+    /// Jumps indirectly, also by `__x86_indirect_thunk_*`, through no recognised jump table: to any entry,
+    /// or outside.
     JumpAny,
     /// Leaves by a far branch, a system call or a return from an interrupt.
     Switch,
 }
 
-/// What is wrong with where an instruction's control goes.
+/// What is wrong with where an instruction's control goes. A target is one of its branch or call, of a
+/// static branch or an exception entry at its place, or of its jump table.
 #[derive(Clone, Copy, Debug, PartialEq, Eq)]
 pub struct Marks {
-    /// A branch, call, static branch or exception entry of it has a target that is no place to go.
+    /// A target is no place to go. A branch or call is named by a relocation of a type other than PC32 and
+    /// PLT32, or on a short branch, or by a symbol that is defined outside the text; it goes to no boundary of
+    /// a text section, or without a relocation out of its replacement; or it calls the return thunk. A branch,
+    /// static branch or exception entry leads to a place of another owner that is no entry, where both places
+    /// have an owner or one of them is unchecked; a static branch or an exception entry also where that is the
+    /// start of an unchecked function.
     pub bad: bool,
-    /// It goes on past its section's end.
+    /// It has a next instruction, and that would lie past its section's end. A point without a Next has none,
+    /// nor has a call that can't return.
     pub past_end: bool,
-    /// A target of it lies inside an alternatives site, and it doesn't stand in that site's
-    /// original code.
+    /// A target is a boundary inside an alternatives site, past its start, and this isn't an instruction of
+    /// that site's original code. A jump that stays in its replacement has no such target.
     pub into_site: bool,
-    /// It calls a place inside a function.
+    /// It calls a boundary of this object that is neither an entry nor the start of an unchecked function:
+    /// a place inside a function, of no function, or at the start of a part.
     pub into_function: bool,
 }

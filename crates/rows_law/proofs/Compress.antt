@@ -6,7 +6,8 @@ use Rattle.std.proofs.lemmas.List.Elements.{filter_map-append, Contains-append_c
 use Rattle.ot_base.specs.declared.row.Row.{Row}
 use Rattle.ot_base.specs.declared.row.PlacedRow.{PlacedRow}
 use Rattle.program_defs.specs.Program.{below}
-use Rattle.checker_defs.specs.Rows.{same_row, without_repeats}
+use Rattle.ot_base.specs.Rows.{same_row}
+use Rattle.checker_defs.specs.Rows.{without_repeats}
 use Rattle.unwinding_law.proofs.Lists.{here, there, cases, nowhere, from_below}
 use Rattle.rows_law.proofs.Lists.{from_filter_map}
 use Rattle.rows_law.proofs.Equal.{same_row_is}

@@ -1,20 +1,20 @@
 -- Whether two rows are equal, or two places, and whether a place lies in a site.
 use Rattle.std.proofs.Common.{◌≡◌, ◌≢◌, ℕ, ◌+◌, ◌<◌, ◌≤◌, ◌⊎◌, Bool, true, false, cond, not, ◌&&◌, ℤ, leb, refl, sym, ap, ◌∙◌, inl, inr, le-leb, arith}
 use Rattle.std.specs.Prelude.{◌==◌}
+use Rattle.std.specs.Ordering.{int_eq}
+use Rattle.std.specs.Bool.{beq}
 use Rattle.std.proofs.Math.IntN.{ℤ_discrete}
 use Rattle.std.proofs.Math.Decide.{ℕ_discrete}
 use Rattle.std.proofs.lemmas.Bool.{eq-eqb, eqb-true, lt-ltb, ltb-true}
-use Rattle.std.proofs.lemmas.Bool.Decides.{nat_tests}
+use Rattle.std.proofs.lemmas.Bool.Decides.{nat_tests, Decides-int_eq}
 use Rattle.ot_base.specs.declared.place.Place.{Place}
+use Rattle.ot_base.specs.Rows.{same_row}
 use Rattle.ot_base.specs.declared.row.Row.{Row}
 use Rattle.state_defs.specs.declared.state.EndKind.TheVariants.{Undefined, EndOfStack}
 use Rattle.state_defs.specs.declared.state.State.{State}
 use Rattle.state_defs.specs.declared.state.State.TheVariants.{Live, Ended, Regs}
-use Rattle.state_defs.specs.Move.{int_same}
 use Rattle.state_defs.specs.Row.{zero_row, row_of}
-use Rattle.stack_state.proofs.Consistent.{int_same_is}
 use Rattle.program_defs.specs.Program.{Site, same_place, in_site}
-use Rattle.checker_defs.specs.Rows.{same_row}
 use Rattle.unwinding_law.proofs.Same.{same_bool}
 
 -- both parts of a test that passes pass
@@ -27,7 +27,7 @@ both {a} {b} h = go a b h
     go false b h = absurd (let k : ⊥ = cc in k)
 
 -- two flags that compare as equal are
-same_flag : (a b : Bool) → cond a b (not b) ≡ true → a ≡ b
+same_flag : (a b : Bool) → beq a b ≡ true → a ≡ b
 same_flag true true h = refl
 same_flag true false h = absurd (let k : ⊥ = cc in k)
 same_flag false true h = absurd (let k : ⊥ = cc in k)
@@ -49,12 +49,12 @@ equal_rows a b e f g h i j = let k : made a.sp_offset a.bp_offset a.sp_reg a.bp_
 -- rows that compare as equal are
 pub same_row_is : (a b : Row) → same_row a b ≡ true → a ≡ b
 same_row_is a b h =
-    let one = both {a = int_same a.sp_offset b.sp_offset} h in
-    let two = both {a = int_same a.bp_offset b.bp_offset} one.1 in
+    let one = both {a = int_eq a.sp_offset b.sp_offset} h in
+    let two = both {a = int_eq a.bp_offset b.bp_offset} one.1 in
     let three = both {a = a.sp_reg == b.sp_reg} two.1 in
     let four = both {a = a.bp_reg == b.bp_reg} three.1 in
     let five = both {a = a.kind == b.kind} four.1 in
-    equal_rows a b (int_same_is a.sp_offset b.sp_offset one.0) (int_same_is a.bp_offset b.bp_offset two.0) (eqb-true a.sp_reg b.sp_reg three.0) (eqb-true a.bp_reg b.bp_reg four.0) (eqb-true a.kind b.kind five.0) (same_flag a.signal b.signal five.1)
+    equal_rows a b ((Decides-int_eq a.sp_offset b.sp_offset).0 one.0) ((Decides-int_eq a.bp_offset b.bp_offset).0 two.0) (eqb-true a.sp_reg b.sp_reg three.0) (eqb-true a.bp_reg b.bp_reg four.0) (eqb-true a.kind b.kind five.0) (same_flag a.signal b.signal five.1)
 
 -- what is decided, and not false, holds
 stable : {P : Type 0} → Dec P → ((P → ⊥) → ⊥) → P

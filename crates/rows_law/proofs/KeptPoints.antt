@@ -9,12 +9,12 @@ use Rattle.state_defs.specs.State.{initial}
 use Rattle.state_defs.specs.Order.{least}
 use Rattle.program_defs.specs.Program.{Program, IsPoint, entry_points, below}
 use Rattle.checker_defs.specs.Kept.{can_go, brought_from, brought, is_entry_point, first_state, later_state, kept_or, state_at}
-use Rattle.program_defs.specs.IsProgram.{IsProgram, IsLaidOut}
+use Rattle.program_defs.specs.IsProgram.{IsProgram, HintsStandAtPoints}
 use Rattle.unwinding_law.proofs.Lists.{nowhere, find_one, from_filter, from_flat_map, from_below}
 use Rattle.unwinding_law.proofs.KeptStates.{least_member, unless_unchecked, brings_edge}
 use Rattle.rows_law.specs.Laws.{KeptArePoints}
 
-module _ (p : Program) (is : IsProgram p) (laid : IsLaidOut p) where
+module _ (p : Program) (is : IsProgram p) (hints : HintsStandAtPoints p) where
   -- control comes to points
   entry_is_point : (q : ℕ) → is_entry_point p q ≡ true → IsPoint p q
   entry_is_point q h =
@@ -24,7 +24,7 @@ module _ (p : Program) (is : IsProgram p) (laid : IsLaidOut p) where
 
   -- what has a state at level 0 is a point
   first_is_point : (q : ℕ) (s : State) (h : Option HintState) → p.hint q ≡ h → first_state p q h ≡ Some s → IsPoint p q
-  first_is_point q s (Some hint) h e = laid.hint_points q hint h
+  first_is_point q s (Some hint) h e = hints q hint h
   first_is_point q s None h e = go (is_entry_point p q) refl e
     where
       go : (b : Bool) → is_entry_point p q ≡ b → (if b then Some initial else None) ≡ Some s → IsPoint p q
@@ -46,7 +46,7 @@ module _ (p : Program) (is : IsProgram p) (laid : IsLaidOut p) where
 
   -- what gets a state at a later level is a point
   later_is_point : (states : ℕ → Option State) (q : ℕ) (s : State) (h : Option HintState) → p.hint q ≡ h → later_state p states q h ≡ Some s → IsPoint p q
-  later_is_point states q s (Some hint) h e = laid.hint_points q hint h
+  later_is_point states q s (Some hint) h e = hints q hint h
   later_is_point states q s None h e = brought_is_point states q s e
 
   -- what has a state at some level is a point
@@ -60,4 +60,4 @@ module _ (p : Program) (is : IsProgram p) (laid : IsLaidOut p) where
 
 -- only points are kept
 pub kept_are_points : KeptArePoints
-kept_are_points p is laid q s (level, e) = level_is_point p is laid level q s e
+kept_are_points p is hints q s (level, e) = level_is_point p is hints level q s e

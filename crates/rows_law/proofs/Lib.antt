@@ -13,6 +13,8 @@ pub mod Runs
 pub mod Visited
 pub mod Tells
 pub mod KeptPoints
+pub mod Refusals
+pub mod TwoPaths
 pub mod Still
 pub mod WorkedProgram
 pub mod WorkedLaid

@@ -59,21 +59,21 @@ module _ (found : FoundIsLast) (none : NoneFoundIsNone) (p : Program) (bases : B
     -- the row in force at the address
     in_force_at : IsInForceAt (row_at p states) text (p.address q).off (row_of s)
     in_force_at = elim (outside_or_in p laid (p.address q)) [
-      | inl out ↦ in_force_outside p laid states kept q s point k text sec fits out.1 (p.address q).off (omega arith) (let l = laid.lengths q point in omega arith)
-      | inr site ↦ in_force_here p laid states kept q s point k text sec fits acc site.0 site.2 (entered site.0 site.2 site.3) site.3 (laid.lengths q point)
+      | inl out ↦ in_force_outside p laid states kept q s point k text sec fits out.1 (p.address q).off (omega arith) (let l = laid.in_text.lengths q point in omega arith)
+      | inr site ↦ in_force_here p laid states kept q s point k text sec fits acc site.0 site.2 (entered site.0 site.2 site.3) site.3 (laid.in_text.lengths q point)
     ]
 
     -- the row in force at a call's last byte
     in_force_last : is_call (p.role q) ≡ true → IsInForceAt (row_at p states) text ((p.address q).off + (p.insn q).len - 1) (row_of s)
     in_force_last call = elim (outside_or_in p laid (p.address q)) [
-      | inl out ↦ in_force_outside p laid states kept q s point k text sec fits out.1 ((p.address q).off + (p.insn q).len - 1) (let l = laid.lengths q point in omega arith) (let l = laid.lengths q point in omega arith)
-      | inr site ↦ in_force_behind p laid states kept q s point k text sec fits acc site.0 site.2 (entered site.0 site.2 site.3) site.3 (λ r t h. only r t h.kept) ((p.address q).off + (p.insn q).len - 1) (let l = laid.lengths q point in omega arith) (let l = laid.lengths q point in omega arith) (is.calls q point call) refl
+      | inl out ↦ in_force_outside p laid states kept q s point k text sec fits out.1 ((p.address q).off + (p.insn q).len - 1) (let l = laid.in_text.lengths q point in omega arith) (let l = laid.in_text.lengths q point in omega arith)
+      | inr site ↦ in_force_behind p laid states kept q s point k text sec fits acc site.0 site.2 (entered site.0 site.2 site.3) site.3 (λ r t h. only r t h.kept) ((p.address q).off + (p.insn q).len - 1) (let l = laid.in_text.lengths q point in omega arith) (let l = laid.in_text.lengths q point in omega arith) (is.calls q point call) refl
     ]
 
     -- where the last byte lies
     last_is : down (return_address p bases q) 1 ≡ bases text.sec + ((p.address q).off + (p.insn q).len - 1)
     last_is =
-        let long = laid.lengths q point in
+        let long = laid.in_text.lengths q point in
         let memory = (is_placement p bases ranges placed).in_memory text listed in
         let base : bases (p.address q).sec ≡ bases text.sec = ap bases (sym sec) in
         down_one (return_address p bases q) (omega arith) (omega arith) ∙ omega arith
@@ -81,13 +81,13 @@ module _ (found : FoundIsLast) (none : NoneFoundIsNone) (p : Program) (bases : B
     -- so the state of the point is told
     tells_point : TellsPoint p bases (rows_of p states) ranges q s
     tells_point = record {
-      at = subst (λ (n : ℕ). TellsState s (find_row (rows_of p states) ranges (bases n + (p.address q).off))) sec (tells_in_force states s text (p.address q).off listed (let l = laid.lengths q point in omega arith) in_force_at);
-      last_byte = λ call. subst (λ (n : ℕ). TellsState s (find_row (rows_of p states) ranges n)) (sym last_is) (tells_in_force states s text ((p.address q).off + (p.insn q).len - 1) listed (let l = laid.lengths q point in omega arith) (in_force_last call));
+      at = subst (λ (n : ℕ). TellsState s (find_row (rows_of p states) ranges (bases n + (p.address q).off))) sec (tells_in_force states s text (p.address q).off listed (let l = laid.in_text.lengths q point in omega arith) in_force_at);
+      last_byte = λ call. subst (λ (n : ℕ). TellsState s (find_row (rows_of p states) ranges n)) (sym last_is) (tells_in_force states s text ((p.address q).off + (p.insn q).len - 1) listed (let l = laid.in_text.lengths q point in omega arith) (in_force_last call));
     }
 
 -- the law
 pub rows_tell : FoundIsLast → NoneFoundIsNone → UnwindingLaw → RowsTell
 rows_tell found none law p bases ranges states is laid enters placed acc kept q s visited k =
     let e = visited_entered law p bases is laid (is_placement p bases ranges placed) acc states kept enters q visited in
-    let w = laid.within q e.0 in
-    tells_point found none p bases ranges laid placed is acc states kept (λ r t h. kept_are_points p is laid r t h) q s e.0 e.1 k w.0 w.1 w.2 w.3
+    let w = laid.in_text.within q e.0 in
+    tells_point found none p bases ranges laid placed is acc states kept (λ r t h. kept_are_points p is laid.hint_points r t h) q s e.0 e.1 k w.0 w.1 w.2 w.3

@@ -74,8 +74,7 @@ begin (suc (suc q)) h = absurd (omega arith)
 -- so it is laid out
 pub laid_out : IsLaidOut patched
 laid_out = record {
-  lengths = λ q point. lengths q;
-  within = λ q point. in_section q point;
+  in_text = record { lengths = λ q point. lengths q; within = λ q point. in_section q point };
   plain = λ q point e. plain q point e;
   replaced = λ q point n. (site, here site [], replaced q point n);
   in_sites = λ q s point c inside. subst (λ (x : Site). (patched.address q).off + (patched.insn q).len ≤ x.start.off + x.len) (sym (only_site s c)) (in_the_site q point);

@@ -107,12 +107,11 @@ program = record {
   arrivals = λ place q c. arrives (same_place (at 0) place) q c;
   followers = λ q r point c. nowhere r c;
   saves = λ q r point e. absurd (let k : ⊥ = cc in k);
-  owners = λ q r a b e. refl;
+  checked = λ q e h u c k. refl;
   unowned = λ q point e. refl;
   entries_checked = λ entry q c d. refl;
   calls_entry = λ q entry point e. absurd (no_call_in q entry e);
   calls_weak_entry = λ q entry symbol point e. absurd (no_call_either q entry symbol e);
-  same_owner = λ q e point c k. refl;
   siblings = λ q r point c. absurd (no_edge q (edge r Sibling) c);
   calls = λ q point e. calls q e;
   call_next = λ q r point u e d c. nowhere r c;

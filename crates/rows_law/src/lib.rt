@@ -2,6 +2,7 @@
 #![tactic(auto)]
 
 ghost use Rattle.table_defs.specs.Laws.{RowsTell, RowsUnwind};
+ghost use Rattle.checker_defs.specs.Broken.{MismatchIsTwoPaths};
 ghost use Rattle.rows_law.specs.Laws.{KeptArePoints};
 ghost use Rattle.rows_law.specs.Worked.{TellsWorked};
 
@@ -32,6 +33,11 @@ pub fn rows_unwind()
 /// In a program only points are kept.
 pub fn kept_are_points()
     ensures { KeptArePoints }
+{}
+
+/// Some point breaks rule 4 exactly where two paths bring different states to one point.
+pub fn mismatch_is_two_paths()
+    ensures { MismatchIsTwoPaths }
 {}
 
 /// A call that may be replaced meets every premise: its rows tell its state, and unwind it there.

@@ -2,7 +2,8 @@
 
 ghost use Rattle.std.specs.Prelude.{◌≡◌, ◌≤◌, ◌^◌, not, IfOk, IfSome, IsTrue, List, Bool};
 ghost use Rattle.state_defs.specs.Region.{hi_of};
-ghost use Rattle.machine_defs.specs.Step.{MayCall, CallsIn, CallsOut, may_call_out};
+ghost use Rattle.machine_defs.specs.Step.{MayCall, CallsIn, CallsOut};
+ghost use Rattle.program_defs.specs.MayReturn.{may_call_out};
 ghost use Rattle.stack_model.specs.Region.{region_of};
 ghost use Rattle.stack_model.specs.Standing.{standing_of};
 ghost use Rattle.stack_model.specs.Program.{program_of};

@@ -10,10 +10,7 @@ use Rattle.state_defs.specs.declared.state.EndKind.TheVariants.{Undefined, EndOf
 use Rattle.state_defs.specs.declared.state.State.{State}
 use Rattle.state_defs.specs.declared.state.State.TheVariants.{Live, Ended, Regs}
 use Rattle.state_defs.specs.State.{depth_of}
-
--- the row that says that nothing is known
-abbrev pub zero_row : Row
-zero_row = record { sp_offset = pos 0; bp_offset = pos 0; sp_reg = 0; bp_reg = 0; kind = 0; signal = false }
+pub use Rattle.ot_base.specs.Rows.{zero_row}
 
 -- Registers: 0 undefined, 1 the frame's top, 4 rbp, 5 rsp. Kinds: 0 undefined, 1 the end of the stack,
 -- 2 a call frame, 3 all saved registers, 4 some.

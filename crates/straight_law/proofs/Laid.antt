@@ -86,12 +86,11 @@ module _ (text : TextSection) (insns : List Insn) (fills : IsStraightText text i
     arrivals = λ place q c. from_below (length insns) q (from_filter (λ (r : ℕ). same_place (place_of text insns r) place) (below (length insns)) q c).0;
     followers = λ q r h c. after_is q r (goes_further insns q) refl c;
     saves = λ q r h e. absurd (let k : ⊥ = cc in k);
-    owners = λ q r h k e. refl;
+    checked = λ q e h u c k. refl;
     unowned = λ q h e. refl;
     entries_checked = λ entry q c d. refl;
     calls_entry = λ q entry h e. absurd (no_call_in (returns_at insns q) entry e);
     calls_weak_entry = λ q entry sym h e. absurd (no_call_either (returns_at insns q) entry sym e);
-    same_owner = λ q e h c k. refl;
     siblings = λ q r h c. let k : Sibling ≡ Next = only_next insns q r Sibling c in absurd (let z : ⊥ = cc in z);
     calls = λ q h e. absurd (false≢true (sym (not_call (returns_at insns q)) ∙ e));
     call_next = λ q r h u e d c. absurd (false≢true (sym (not_call (returns_at insns q)) ∙ e));
@@ -115,8 +114,7 @@ module _ (text : TextSection) (insns : List Insn) (fills : IsStraightText text i
 
   is_laid_out : IsLaidOut (program_of text insns)
   is_laid_out = record {
-    lengths = λ q h. len_at q h;
-    within = λ q h. (text, here text [], refl, stands_within text insns fills q h);
+    in_text = record { lengths = λ q h. len_at q h; within = λ q h. (text, here text [], refl, stands_within text insns fills q h) };
     plain = λ q h e. refl;
     replaced = λ q h ne. absurd (ne refl);
     in_sites = λ q site h c e. nowhere site c;

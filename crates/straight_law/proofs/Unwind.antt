@@ -44,4 +44,4 @@ module _ (text : TextSection) (insns : List Insn) (bases : Bases) (ranges : List
 pub straight_unwinds : WalkLaw → StraightIsProgram → StraightIsAccepted → OneRange → StraightRowsAreFound → StraightUnwinds
 straight_unwinds walk is accepted one found text insns bases ranges fills placement begin m run =
     let p = is text insns fills in
-    walk (program_of text insns) bases (straight_rows text.sec insns) ranges p.0 p.1 (record { placement = placement; begin = begin }) (accepted text insns fills) (tells text insns bases ranges fills placement begin one found) m run
+    walk (program_of text insns) bases (straight_rows text.sec insns) ranges p.0 p.1.in_text (record { placement = placement; begin = begin }) (accepted text insns fills) (tells text insns bases ranges fills placement begin one found) m run

@@ -1,21 +1,11 @@
 -- The rows of a section of straight code.
 use Rattle.std.specs.Prelude.{◌≡◌, ◌⊎◌, ◌<◌, ◌≤◌, ◌^◌, ℕ, ◌+◌, ◌-◌, ◌==◌, ◌&&◌, pos, Bool, false, List, [], ◌∷◌, ◌++◌, if◌then◌else◌, sum_by}
-use Rattle.std.specs.Ordering.{int_eq}
-use Rattle.std.specs.Bool.{beq}
 use Rattle.operation_defs.specs.declared.op.Op.{Op}
 use Rattle.operation_defs.specs.declared.insn.Insn.{Insn}
+pub use Rattle.ot_base.specs.Rows.{zero_row, call_row, same_row}
 use Rattle.ot_base.specs.declared.row.Row.{Row}
 use Rattle.ot_base.specs.declared.row.PlacedRow.{PlacedRow}
 use Rattle.straight_table.specs.Straight.{is_push, is_pop}
-
--- the row where the frame's top lies this many bytes above rsp, and rbp is the caller's
-abbrev pub call_row : ℕ → Row
-call_row depth =
-    record { sp_offset = pos depth; bp_offset = pos 0; sp_reg = 5; bp_reg = 0; kind = 2; signal = false }
-
--- the row where nothing is known of the stack
-abbrev pub zero_row : Row
-zero_row = record { sp_offset = pos 0; bp_offset = pos 0; sp_reg = 0; bp_reg = 0; kind = 0; signal = false }
 
 abbrev pub placed_at : ℕ → ℕ → Row → PlacedRow
 placed_at sec off row = record { place = record { sec = sec; off = off }; row = row }
@@ -29,11 +19,6 @@ abbrev pub rows_from : ℕ → ℕ → ℕ → List Insn → List PlacedRow
 rows_from sec off depth [] = []
 rows_from sec off depth (insn ∷ insns) =
     placed_at sec off (call_row depth) ∷ rows_from sec (off + insn.len) (depth_after depth insn.op) insns
-
--- whether two rows are equal
-abbrev pub same_row : Row → Row → Bool
-same_row a b =
-    int_eq a.sp_offset b.sp_offset && (int_eq a.bp_offset b.bp_offset && ((a.sp_reg == b.sp_reg) && ((a.bp_reg == b.bp_reg) && ((a.kind == b.kind) && beq a.signal b.signal))))
 
 -- the rows without those that equal the one before; this row stands before the first
 abbrev pub changes_from : Row → List PlacedRow → List PlacedRow

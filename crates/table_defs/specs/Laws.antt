@@ -8,7 +8,7 @@ use Rattle.machine_defs.specs.Run.{Run}
 use Rattle.checker_defs.specs.Kept.{AreKeptStates}
 use Rattle.checker_defs.specs.Broken.{IsAccepted}
 use Rattle.checker_defs.specs.Rows.{rows_of}
-use Rattle.program_defs.specs.IsProgram.{IsProgram, IsLaidOut}
+use Rattle.program_defs.specs.IsProgram.{IsProgram, IsInText, IsLaidOut}
 use Rattle.walk_defs.specs.declared.range.Range.{Range}
 use Rattle.table_defs.specs.Placed.{IsPlacedBy}
 use Rattle.table_defs.specs.Tells.{TellsStates}
@@ -24,7 +24,7 @@ RangesArePlacement = (p : Program) (bases : Bases) (ranges : List Range) → IsP
 abbrev pub WalkLaw : Type 0
 WalkLaw =
     (p : Program) (bases : Bases) (rows : List PlacedRow) (ranges : List Range)
-    → IsProgram p → IsLaidOut p → IsPlacedBy p bases ranges → IsAccepted p → TellsStates p bases rows ranges
+    → IsProgram p → IsInText p → IsPlacedBy p bases ranges → IsAccepted p → TellsStates p bases rows ranges
     → (m : Machine) → Run p bases m → WalksToFrames p rows bases ranges m
 
 -- The rows of an accepted program tell its kept states.

@@ -14,7 +14,7 @@ use Rattle.state_defs.specs.State.{initial, ended_by, MeansTop}
 use Rattle.program_defs.specs.Program.{Program, IsPoint, entry_points, is_call, edge}
 use Rattle.machine_defs.specs.Machine.{Bases, Standing, At, return_address, point_address}
 use Rattle.machine_defs.specs.Step.{LeavesMemory, Returns, JumpsTo, sibling, indirect, TailCalls, ReturnsFromInterrupt}
-use Rattle.program_defs.specs.MayReturn.{MayReturn, target_may_return, returns_outside}
+use Rattle.program_defs.specs.MayReturn.{MayReturn, target_may_return, may_call_out}
 use Rattle.program_defs.specs.MayReturn as may
 use Rattle.checker_defs.specs.Kept.{Kept}
 use Rattle.checker_defs.specs.Broken.{IsAccepted, LeavesByJump}
@@ -41,9 +41,9 @@ call_comes_back : (p : Program) → IsProgram p → (call q : ℕ) → IsPoint p
 call_comes_back p is call q point (CallIn entry) e c back passed next m =
     let r = find_one p.may_return (entry_points p entry) back in
     may.comes_back_in call q entry r.0 e passed r.1 ((is.may_return r.0 (is.arrivals (p.place entry) r.0 r.1)).0 r.2) next m
-call_comes_back p is call q point (CallEither entry symbol) e c back passed next m = may.comes_back call q (ap (returns_outside p) e) passed next m
-call_comes_back p is call q point (CallOut symbol) e c back passed next m = may.comes_back call q (ap (returns_outside p) e ∙ back) passed next m
-call_comes_back p is call q point CallAny e c back passed next m = may.comes_back call q (ap (returns_outside p) e) passed next m
+call_comes_back p is call q point (CallEither entry symbol) e c back passed next m = may.comes_back call q (ap (may_call_out p) e) passed next m
+call_comes_back p is call q point (CallOut symbol) e c back passed next m = may.comes_back call q (ap (may_call_out p) e ∙ back) passed next m
+call_comes_back p is call q point CallAny e c back passed next m = may.comes_back call q (ap (may_call_out p) e) passed next m
 call_comes_back p is call q point _ e c back passed next m = absurd (let k : ⊥ = cc in k)
 
 -- the target of a call to which a return comes back may return

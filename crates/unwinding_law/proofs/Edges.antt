@@ -1,5 +1,5 @@
 -- Where edges lead, in a program without a broken rule.
-use Rattle.std.proofs.Common.{◌≡◌, ℕ, Bool, true, false, if◌then◌else◌, [], Result, Ok, Err, Contains, refl, sym, ◌∙◌, subst}
+use Rattle.std.proofs.Common.{◌≡◌, ◌≢◌, ℕ, Bool, true, false, if◌then◌else◌, [], Result, Ok, Err, Contains, refl, sym, ◌∙◌, subst}
 use Rattle.operation_defs.specs.declared.op.Op.{Op}
 use Rattle.operation_defs.specs.declared.op.Op.TheVariants.{Call, CallInd}
 use Rattle.program_defs.specs.declared.flow.Edge.{Edge}
@@ -67,21 +67,22 @@ module _ (p : Program) (is : IsProgram p) (acc : IsAccepted p) where
   pub edge_in : (a q : ℕ) (kind : EdgeKind) → Contains (p.goes a) (edge q kind) → can_go p a kind ≡ true → Contains (edges_of p a) (edge q kind)
   edge_in a q kind c h = in_filter (λ (e : Edge). can_go p a e.kind) (p.goes a) (edge q kind) c h
 
-  pub owner_checked : (a q : ℕ) (s : State) → IsPoint p a → IsPoint p q → Kept p a s → p.owner q ≡ p.owner a → p.unchecked q ≡ false
-  owner_checked a q s pa pq kept e = is.owners q a pq pa e ∙ kept_checked p a s kept
-
   pub next_checked : (a q : ℕ) (s : State) → IsPoint p a → Kept p a s → Contains (p.goes a) (edge q Next) → can_go p a Next ≡ true → p.unchecked q ≡ false
-  next_checked a q s pa kept c h = owner_checked a q s pa (is.edges a (edge q Next) pa c) kept (owner_stable (p.owner q) (p.owner a) (λ ne. acc _ _ _ _ (falls_through a q s kept (edge_in a q Next c h) ne)))
+  next_checked a q s pa kept c h = is.checked a (edge q Next) pa (kept_checked p a s kept) c (λ e. owner_stable (p.owner q) (p.owner a) (λ ne. acc _ _ _ _ (falls_through a q s kept (edge_in a q Next c h) ne)))
+
+  -- an edge that isn't a Next leads to a checked point
+  branch_checked : (a q : ℕ) (s : State) (kind : EdgeKind) → kind ≢ Next → IsPoint p a → Kept p a s → Contains (p.goes a) (edge q kind) → p.unchecked q ≡ false
+  branch_checked a q s kind ne pa kept c = is.checked a (edge q kind) pa (kept_checked p a s kept) c (λ e. absurd (ne e))
 
   pub local_checked : (a q : ℕ) (s : State) (kind : EdgeKind) → is_local kind ≡ true → IsPoint p a → Kept p a s → Contains (p.goes a) (edge q kind) → can_go p a kind ≡ true → p.unchecked q ≡ false
   local_checked a q s Next l pa kept c h = next_checked a q s pa kept c h
-  local_checked a q s Taken l pa kept c h = owner_checked a q s pa (is.edges a (edge q Taken) pa c) kept (is.same_owner a (edge q Taken) pa c refl)
-  local_checked a q s Table l pa kept c h = owner_checked a q s pa (is.edges a (edge q Table) pa c) kept (is.same_owner a (edge q Table) pa c refl)
+  local_checked a q s Taken l pa kept c h = branch_checked a q s Taken (λ e. let k : ⊥ = cc in k) pa kept c
+  local_checked a q s Table l pa kept c h = branch_checked a q s Table (λ e. let k : ⊥ = cc in k) pa kept c
   local_checked a q s Fixup l pa kept c h = absurd (let k : ⊥ = cc in k)
   local_checked a q s Sibling l pa kept c h = absurd (let k : ⊥ = cc in k)
 
   pub fixup_checked : (a q : ℕ) (s : State) → IsPoint p a → Kept p a s → Contains (p.goes a) (edge q Fixup) → p.unchecked q ≡ false
-  fixup_checked a q s pa kept c = owner_checked a q s pa (is.edges a (edge q Fixup) pa c) kept (is.same_owner a (edge q Fixup) pa c refl)
+  fixup_checked a q s pa kept c = branch_checked a q s Fixup (λ e. let k : ⊥ = cc in k) pa kept c
 
   -- the operation of a kept point is not refused
   pub moves : (a : ℕ) (s : State) → Kept p a s → (t : State) × (move s (p.insn a).op ≡ Ok t)

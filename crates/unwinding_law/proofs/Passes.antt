@@ -9,8 +9,8 @@ use Rattle.state_defs.specs.Effect.{Core, StoresOrdinarily}
 use Rattle.state_defs.specs.State.{MeansTop}
 use Rattle.program_defs.specs.Program.{Program, IsPoint, is_call, edge}
 use Rattle.machine_defs.specs.Machine.{Bases, Standing}
-use Rattle.machine_defs.specs.Step.{SameLevel, Faults, may_call_out, CallsOut}
-use Rattle.program_defs.specs.MayReturn.{returns_outside, target_may_return}
+use Rattle.machine_defs.specs.Step.{SameLevel, Faults, CallsOut}
+use Rattle.program_defs.specs.MayReturn.{may_call_out, target_may_return}
 use Rattle.program_defs.specs.MayReturn as may
 use Rattle.checker_defs.specs.Kept.{Kept}
 use Rattle.checker_defs.specs.Broken.{IsAccepted}
@@ -26,10 +26,10 @@ pub same_frames : (fs gs : List Frame) → gs ≡ fs → IsSlotChange fs gs
 same_frames fs gs e = subst (λ (x : List Frame). IsSlotChange fs x) (sym e) (unchanged fs)
 
 -- a call of code outside is a call, whose target may return
-pub out_calls : (p : Program) (x : Role) → may_call_out p x ≡ true → (is_call x ≡ true) × (target_may_return p x ≡ true) × (returns_outside p x ≡ true)
-out_calls p (CallOut sym) e = (refl, e, e)
-out_calls p (CallEither entry sym) e = (refl, refl, refl)
-out_calls p CallAny e = (refl, refl, refl)
+pub out_calls : (p : Program) (x : Role) → may_call_out p x ≡ true → (is_call x ≡ true) × (target_may_return p x ≡ true)
+out_calls p (CallOut sym) e = (refl, e)
+out_calls p (CallEither entry sym) e = (refl, refl)
+out_calls p CallAny e = (refl, refl)
 out_calls p _ e = absurd (let k : ⊥ = cc in k)
 
 module _ (p : Program) (bases : Bases) (s t : Standing) (r : HasRunInvariant p s) (f : HasFrameInvariant p bases s) where
@@ -68,6 +68,6 @@ module _ (p : Program) (bases : Bases) (s t : Standing) (r : HasRunInvariant p s
       record {
         point = point;
         checked = next_checked p is acc s.point t.point r.state r.point r.kept next call.1;
-        frames = frames_same g.stores g.core g.level (stays_out p bases is s.point t.point r.point point (λ h. may.comes_back s.point t.point call.2 g.passed next h));
+        frames = frames_same g.stores g.core g.level (stays_out p bases is s.point t.point r.point point (λ h. may.comes_back s.point t.point g.target g.passed next h));
         told = λ free. told_same g.stores g.core g.level point (past_call p is acc s.point t.point r.state r.point r.kept call.0 call.1 next free);
       }

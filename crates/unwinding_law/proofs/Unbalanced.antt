@@ -62,12 +62,11 @@ program = record {
   arrivals = λ place q c. from_below 2 q (from_filter (λ q. same_place (slice_index_or (at 0 ∷ at 1 ∷ []) q (at 2)) place) (below 2) q c).0;
   followers = λ q r point c. no_point_beyond q r c;
   saves = λ q r point e. absurd (let k : ⊥ = cc in k);
-  owners = λ q r a b e. refl;
+  checked = λ q e h u c k. refl;
   unowned = λ q point e. refl;
   entries_checked = λ entry q c d. refl;
   calls_entry = λ q entry point e. absurd (no_call_of q (CallIn entry) refl e);
   calls_weak_entry = λ q entry symbol point e. absurd (no_call_of q (CallEither entry symbol) refl e);
-  same_owner = λ q e point c k. refl;
   siblings = λ q r point c. absurd (let k : Sibling ≡ Next = ap (λ (e : Edge). e.kind) (one_edge q (edge r Sibling) c) in let m : ⊥ = cc in m);
   calls = λ q point e. absurd (no_call_of q (unbalanced.role q) e refl);
   call_next = λ q r point u e d c. absurd (no_call_of q (unbalanced.role q) e refl);

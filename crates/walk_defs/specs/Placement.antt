@@ -2,12 +2,8 @@
 use Rattle.std.specs.Prelude.{ℕ, ◌+◌, ◌^◌, ◌<◌, Bool, ◌&&◌, List, map, Option, option_map, find, All, AllPairs, IsPermutation, IsTrue, ◌==◌, nat_le, nat_lt}
 use Rattle.std.specs.List.{list_any}
 use Rattle.ot_base.specs.declared.place.Place.{Place}
+pub use Rattle.ot_base.specs.Section.{TextSection}
 use Rattle.walk_defs.specs.declared.range.Range.{Range}
-
--- a text section: its number in the section header table, and its size in bytes
-pub record TextSection : Type 0 where
-  pub sec : ℕ
-  pub size : ℕ
 
 -- the section that lies in a range
 abbrev pub section_in : Range → TextSection

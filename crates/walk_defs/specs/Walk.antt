@@ -1,6 +1,7 @@
 -- What a walk over a stack gives (Linux 6.6, `orc-unwinder.rst`).
 use Rattle.std.specs.Prelude.{◌≡◌, ℕ, ◌+◌, ◌-◌, ◌%◌, ◌^◌, Bool, true, false, not, ◌||◌, List, [], ◌∷◌, Option, Some, None, Result, Ok, Err, ◌==◌, nat_lt, if◌then◌else◌, ℤ}
 use Rattle.std.specs.Int.{cast_unsigned, w64}
+use Rattle.ot_base.specs.Address.{up, down}
 use Rattle.ot_base.specs.declared.row.Row.{Row}
 use Rattle.ot_base.specs.declared.row.PlacedRow.{PlacedRow}
 use Rattle.walk_defs.specs.declared.range.Range.{Range}
@@ -17,14 +18,7 @@ use Rattle.walk_defs.specs.Lookup.{find_row}
 abbrev pub Memory : Type 0
 Memory = ℕ → Option ℕ
 
--- so many bytes above an address, and below it; sums wrap at 64 bits
-abbrev pub above : ℕ → ℕ → ℕ
-above address bytes = (address + bytes) % 2 ^ 64
-
-abbrev pub below : ℕ → ℕ → ℕ
-below address bytes = (address + (2 ^ 64 - bytes)) % 2 ^ 64
-
--- a signed number of bytes above an address
+-- a signed number of bytes above an address; the sum wraps at 64 bits
 abbrev pub offset_by : ℕ → ℤ → ℕ
 offset_by address bytes = (address + cast_unsigned w64 bytes) % 2 ^ 64
 
@@ -50,16 +44,16 @@ pointed_to regs row = offset_by (if row.sp_reg == REG_SP then regs.sp else regs.
 -- Where the caller's ip lies: in the word right below a call frame's top, in its place in a `struct
 -- pt_regs`, or first of an interrupt's five words.
 abbrev pub ra_address : Row → ℕ → ℕ
-ra_address row at = if row.kind == KIND_CALL then below at 8 else (if row.kind == KIND_REGS then above at PT_REGS_IP else at)
+ra_address row at = if row.kind == KIND_CALL then down at 8 else (if row.kind == KIND_REGS then up at PT_REGS_IP else at)
 
 -- the caller's stack pointer: a call frame's top, or the sp that was saved
 abbrev pub caller_sp : Memory → Row → ℕ → Result ℕ Stop
-caller_sp memory row at = if row.kind == KIND_CALL then Ok at else read memory (if row.kind == KIND_REGS then above at PT_REGS_SP else above at IRET_SP)
+caller_sp memory row at = if row.kind == KIND_CALL then Ok at else read memory (if row.kind == KIND_REGS then up at PT_REGS_SP else up at IRET_SP)
 
 -- The caller's rbp: saved at an offset from the frame's top or from rbp, or else in a `struct
 -- pt_regs`, or else still in rbp.
 abbrev pub caller_bp : Memory → Regs → Row → ℕ → ℕ → Result ℕ Stop
-caller_bp memory regs row at cfa = if row.bp_reg == REG_PREV_SP then read memory (offset_by cfa row.bp_offset) else (if row.bp_reg == REG_BP then read memory (offset_by regs.bp row.bp_offset) else (if row.kind == KIND_REGS then read memory (above at PT_REGS_BP) else Ok regs.bp))
+caller_bp memory regs row at cfa = if row.bp_reg == REG_PREV_SP then read memory (offset_by cfa row.bp_offset) else (if row.bp_reg == REG_BP then read memory (offset_by regs.bp row.bp_offset) else (if row.kind == KIND_REGS then read memory (up at PT_REGS_BP) else Ok regs.bp))
 
 -- The frame that a row with known registers gives: its words are read in the order ra, cfa, bp, and
 -- the caller's stack pointer must be above the one before.
@@ -83,7 +77,7 @@ unwound memory regs row =
 -- before it where it is a return address, since a call may be the last instruction of its function.
 abbrev pub lookup_address : Bool → ℕ → ℕ
 lookup_address true ip = ip
-lookup_address false ip = below ip 1
+lookup_address false ip = down ip 1
 
 -- the registers that the caller goes on with
 abbrev pub registers_of : Frame → Regs

@@ -1,17 +1,14 @@
 -- Worked examples of the look-up and of the walk.
 use Rattle.std.specs.Prelude.{ℕ, true, false, List, [], ◌∷◌, option_map, find, ◌==◌, pos, negsuc}
 use Rattle.ot_base.specs.declared.row.Row.{Row}
+pub use Rattle.ot_base.specs.Rows.{zero_row, call_row}
 use Rattle.ot_base.specs.declared.row.PlacedRow.{PlacedRow}
 use Rattle.walk_defs.specs.declared.range.Range.{Range}
 use Rattle.walk_defs.specs.declared.frame.Regs.{Regs}
 use Rattle.walk_defs.specs.declared.frame.Frame.{Frame}
 use Rattle.walk_defs.specs.Walk.{Memory}
 
--- the row of a call's frame whose top lies so many bytes above rsp
-abbrev pub sp_row : ℕ → Row
-sp_row bytes = record { sp_offset = pos bytes; bp_offset = pos 0; sp_reg = 5; bp_reg = 0; kind = 2; signal = false }
-
--- the same with rbp saved in the second word below the frame's top
+-- the row of a call's frame with rbp saved in the second word below its top
 abbrev pub saved_row : ℕ → Row
 saved_row bytes = record { sp_offset = pos bytes; bp_offset = negsuc 15; sp_reg = 5; bp_reg = 1; kind = 2; signal = false }
 
@@ -34,10 +31,6 @@ realigned_row = record { sp_offset = pos 0; bp_offset = pos 0; sp_reg = 6; bp_re
 abbrev pub end_row : Row
 end_row = record { sp_offset = pos 0; bp_offset = pos 0; sp_reg = 0; bp_reg = 0; kind = 1; signal = false }
 
--- the row that ends a section
-abbrev pub zero_row : Row
-zero_row = record { sp_offset = pos 0; bp_offset = pos 0; sp_reg = 0; bp_reg = 0; kind = 0; signal = false }
-
 abbrev pub at_place : ℕ → ℕ → Row → PlacedRow
 at_place sec off row = record { place = record { sec = sec; off = off }; row = row }
 
@@ -53,14 +46,14 @@ abbrev pub end_to_end : List Range
 end_to_end = placed_at 1 0x1000 6 ∷ placed_at 2 0x1006 1 ∷ []
 
 abbrev pub first_section : List PlacedRow
-first_section = at_place 1 0 (sp_row 8) ∷ at_place 1 1 (saved_row 16) ∷ at_place 1 5 (sp_row 8) ∷ at_place 1 6 zero_row ∷ []
+first_section = at_place 1 0 (call_row 8) ∷ at_place 1 1 (saved_row 16) ∷ at_place 1 5 (call_row 8) ∷ at_place 1 6 zero_row ∷ []
 
 abbrev pub second_section : List PlacedRow
-second_section = at_place 2 0 (sp_row 24) ∷ at_place 2 1 zero_row ∷ []
+second_section = at_place 2 0 (call_row 24) ∷ at_place 2 1 zero_row ∷ []
 
 -- `53 5B C3 50 58 48 CF`: a function of three bytes, and an interrupt's gate behind it
 abbrev pub gate_rows : List PlacedRow
-gate_rows = at_place 1 0 (sp_row 8) ∷ at_place 1 1 (sp_row 16) ∷ at_place 1 2 (sp_row 8) ∷ at_place 1 3 (partial_row 0) ∷ at_place 1 4 (partial_row 8) ∷ at_place 1 5 (partial_row 0) ∷ at_place 1 7 zero_row ∷ []
+gate_rows = at_place 1 0 (call_row 8) ∷ at_place 1 1 (call_row 16) ∷ at_place 1 2 (call_row 8) ∷ at_place 1 3 (partial_row 0) ∷ at_place 1 4 (partial_row 8) ∷ at_place 1 5 (partial_row 0) ∷ at_place 1 7 zero_row ∷ []
 
 abbrev pub registers : ℕ → ℕ → ℕ → Regs
 registers ip sp bp = record { ip = ip; sp = sp; bp = bp }

@@ -3,18 +3,18 @@
 ghost use Rattle.std.specs.Prelude.{◌≡◌, [], ◌∷◌, ◌++◌, Some, None};
 ghost use Rattle.walk_defs.specs.Lookup.{find_row};
 ghost use Rattle.walk_defs.specs.Walk.{Walks};
-ghost use Rattle.walk_defs.specs.Worked.{end_to_end, first_section, second_section, gate_rows, placed_at, sp_row, saved_row, memory_of, registers, frame, at_place, zero_row, full_row, frame_pointer_row, realigned_row, end_row};
+ghost use Rattle.walk_defs.specs.Worked.{end_to_end, first_section, second_section, gate_rows, placed_at, call_row, saved_row, memory_of, registers, frame, at_place, zero_row, full_row, frame_pointer_row, realigned_row, end_row};
 ghost use Rattle.walk_defs.specs.declared.frame.Stop.TheVariants.{BaseUnknown, EndOfStack, NoRow, NotRising, Outside, Undefined, Unreadable};
 
 /// Two sections end to end: the row that ends the first gives way to the first row of the second,
 /// whichever section's rows stand first in the table.
 pub fn worked_lookups()
     ensures in_order { find_row (first_section ++ second_section) end_to_end 0x1006
-        ≡ Some (sp_row 24) }
+        ≡ Some (call_row 24) }
     ensures reversed { find_row (second_section ++ first_section) end_to_end 0x1006
-        ≡ Some (sp_row 24) }
+        ≡ Some (call_row 24) }
     ensures last_byte { find_row (first_section ++ second_section) end_to_end 0x1005
-        ≡ Some (sp_row 8) }
+        ≡ Some (call_row 8) }
     ensures between { find_row (first_section ++ second_section) end_to_end 0x1004
         ≡ Some (saved_row 16) }
     ensures below_all { find_row (first_section ++ second_section) end_to_end 0xFFF ≡ None }

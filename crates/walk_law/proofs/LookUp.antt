@@ -8,11 +8,11 @@ use Rattle.state_defs.specs.State.{ended_by}
 use Rattle.state_defs.specs.Row.{row_of}
 use Rattle.program_defs.specs.Program.{Program, IsPoint, is_call}
 use Rattle.machine_defs.specs.Machine.{Bases, IsOutside, point_address, return_address}
-use Rattle.program_defs.specs.IsProgram.{IsLaidOut}
+use Rattle.program_defs.specs.IsProgram.{IsInText}
 use Rattle.walk_defs.specs.declared.range.Range.{Range}
 use Rattle.walk_defs.specs.Placement.{is_inside}
 use Rattle.walk_defs.specs.Lookup.{find_row}
-use Rattle.walk_defs.specs.Walk.{below, lookup_address}
+use Rattle.walk_defs.specs.Walk.{lookup_address}
 use Rattle.table_defs.specs.Placed.{IsPlacedBy}
 use Rattle.table_defs.specs.Tells.{TellsState, TellsPoint}
 use Rattle.walk_law.proofs.Placed.{text_inside, stands_within, outside_ranges}
@@ -25,7 +25,7 @@ LooksAt p bases false ip q = (ip ≡ return_address p bases q) × (is_call (p.ro
 
 module _ (p : Program) (bases : Bases) (ranges : List Range) (placed : IsPlacedBy p bases ranges) where
   -- the address that it looks up is in a section
-  pub inside : IsLaidOut p → (next : Bool) (ip q : ℕ) → IsPoint p q → LooksAt p bases next ip q → is_inside ranges (lookup_address next ip) ≡ true
+  pub inside : IsInText p → (next : Bool) (ip q : ℕ) → IsPoint p q → LooksAt p bases next ip q → is_inside ranges (lookup_address next ip) ≡ true
   inside laid true ip q point e =
       let w = stands_within p bases ranges placed laid q point in
       text_inside p bases ranges placed w.text ip w.among (subst (λ (x : ℕ). bases w.text.sec ≤ x) (sym e) w.from) (subst (λ (x : ℕ). x < bases w.text.sec + w.text.size) (sym e) (before (point_address p bases q) (p.insn q).len (bases w.text.sec + w.text.size) w.length w.within))
@@ -35,16 +35,16 @@ module _ (p : Program) (bases : Bases) (ranges : List Range) (placed : IsPlacedB
   inside laid false ip q point (e, call) =
       let w = stands_within p bases ranges placed laid q point in
       let last = last_byte (point_address p bases q) (p.insn q).len (bases w.text.sec) (bases w.text.sec + w.text.size) w.from w.length w.within w.in_memory in
-      text_inside p bases ranges placed w.text (below ip 1) w.among (subst (λ (x : ℕ). bases w.text.sec ≤ below x 1) (sym e) last.0) (subst (λ (x : ℕ). below x 1 < bases w.text.sec + w.text.size) (sym e) last.1)
+      text_inside p bases ranges placed w.text (down ip 1) w.among (subst (λ (x : ℕ). bases w.text.sec ≤ down x 1) (sym e) last.0) (subst (λ (x : ℕ). down x 1 < bases w.text.sec + w.text.size) (sym e) last.1)
     where
-      last_byte : (address len from to : ℕ) → from ≤ address → 1 ≤ len → address + len ≤ to → to < 2 ^ 64 → (from ≤ below (address + len) 1) × (below (address + len) 1 < to)
+      last_byte : (address len from to : ℕ) → from ≤ address → 1 ≤ len → address + len ≤ to → to < 2 ^ 64 → (from ≤ down (address + len) 1) × (down (address + len) 1 < to)
       last_byte address len from to a b c d = (omega arith, omega arith)
 
   -- one that leads outside
   pub not_inside : (signal b : Bool) (ra : ℕ) → b ≡ not signal → MatchBool b (IsOutside p bases (down ra 1)) (IsOutside p bases ra) → is_inside ranges (lookup_address signal ra) ≡ false
   not_inside true true ra e out = absurd (let k : ⊥ = cc in k)
   not_inside true false ra e out = outside_ranges p bases ranges placed ra out
-  not_inside false true ra e out = outside_ranges p bases ranges placed (below ra 1) out
+  not_inside false true ra e out = outside_ranges p bases ranges placed (down ra 1) out
   not_inside false false ra e out = absurd (let k : ⊥ = cc in k)
 
 -- a frame goes back to where the walk looks next
@@ -57,7 +57,7 @@ looks_back p bases call false false ra e h = absurd (let k : ⊥ = cc in k)
 -- what is told of the point is found there
 pub told_there : (p : Program) (bases : Bases) (rows : List PlacedRow) (ranges : List Range) (q : ℕ) (state : State) (next : Bool) (ip : ℕ) → TellsPoint p bases rows ranges q state → LooksAt p bases next ip q → TellsState state (find_row rows ranges (lookup_address next ip))
 told_there p bases rows ranges q state true ip t e = subst (λ (x : ℕ). TellsState state (find_row rows ranges x)) (sym e) t.at
-told_there p bases rows ranges q state false ip t (e, call) = subst (λ (x : ℕ). TellsState state (find_row rows ranges (below x 1))) (sym e) (t.last_byte call)
+told_there p bases rows ranges q state false ip t (e, call) = subst (λ (x : ℕ). TellsState state (find_row rows ranges (down x 1))) (sym e) (t.last_byte call)
 
 -- it is the state's row, where the stack hasn't ended
 pub live_row : (state : State) (found : Option _) → ended_by state ≡ None → TellsState state found → found ≡ Some (row_of state)

@@ -7,7 +7,7 @@ use Rattle.std.proofs.lemmas.List.Elements.{All-contains}
 use Rattle.std.proofs.lemmas.List.Sorted.{Contains-permutation, IsPermutation-sym}
 use Rattle.program_defs.specs.Program.{Program, TextSection, IsPoint}
 use Rattle.machine_defs.specs.Machine.{Bases, HasAddress, IsPlacement, IsOutside, point_address}
-use Rattle.program_defs.specs.IsProgram.{IsLaidOut}
+use Rattle.program_defs.specs.IsProgram.{IsInText}
 use Rattle.walk_defs.specs.declared.range.Range.{Range}
 use Rattle.walk_defs.specs.Placement.{section_in, covers, is_inside}
 use Rattle.walk_defs.specs.Placement as placement
@@ -113,7 +113,7 @@ module _ (p : Program) (bases : Bases) (ranges : List Range) (placed : IsPlacedB
     pub in_memory : bases text.sec + text.size < 2 ^ 64
 
   -- each point stands so
-  pub stands_within : IsLaidOut p → (q : ℕ) → IsPoint p q → StandsWithin (point_address p bases q) (p.insn q).len
+  pub stands_within : IsInText p → (q : ℕ) → IsPoint p q → StandsWithin (point_address p bases q) (p.insn q).len
   stands_within laid q point =
       let w = laid.within q point in
       let base : bases (p.address q).sec ≡ bases (w.0).sec = ap bases (sym w.2) in

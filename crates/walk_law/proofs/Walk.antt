@@ -17,7 +17,7 @@ use Rattle.machine_defs.specs.Machine.{Bases, Machine, Wrecked, At, walked, poin
 use Rattle.machine_defs.specs.Run.{Run, started, stepped, StaysInStack}
 use Rattle.checker_defs.specs.Kept.{Kept}
 use Rattle.checker_defs.specs.Broken.{IsAccepted, unfit}
-use Rattle.program_defs.specs.IsProgram.{IsProgram, IsLaidOut}
+use Rattle.program_defs.specs.IsProgram.{IsProgram, IsInText}
 use Rattle.machine_defs.specs.Law.{IsCallKept, IsInnerFrame, IsOutermostFrame, AreFrames, IsInOrder, UnwindingLaw}
 use Rattle.walk_defs.specs.declared.range.Range.{Range}
 use Rattle.walk_defs.specs.declared.frame.Stop.{Stop}
@@ -56,7 +56,7 @@ has_frame (Live depth pointer home) rsp rbp e h = h
 has_frame (Ended kind) rsp rbp e h = cc
 has_frame (Regs full depth) rsp rbp e h = h
 
-module _ (keeps : MoveIsConsistent) (p : Program) (bases : Bases) (rows : List PlacedRow) (ranges : List Range) (is : IsProgram p) (laid : IsLaidOut p) (placed : IsPlacedBy p bases ranges) (acc : IsAccepted p) (tells : TellsStates p bases rows ranges) (region : Region) (is_region : IsRegion region) where
+module _ (keeps : MoveIsConsistent) (p : Program) (bases : Bases) (rows : List PlacedRow) (ranges : List Range) (is : IsProgram p) (laid : IsInText p) (placed : IsPlacedBy p bases ranges) (acc : IsAccepted p) (tells : TellsStates p bases rows ranges) (region : Region) (is_region : IsRegion region) where
   -- What is known of a point, its state, rsp and rbp there, and the frames below: those of the machine
   -- where it stands, or of the call of a frame, with that frame's cfa and bp.
   record Stands (q : ℕ) (state : State) (rsp rbp : ℕ) (frames : List Frame) : Type 0 where

@@ -9,7 +9,7 @@ use Rattle.state_defs.specs.Row.{row_of}
 use Rattle.program_defs.specs.Program.{TextSection, is_call}
 use Rattle.machine_defs.specs.Machine.{At, point_address}
 use Rattle.checker_defs.specs.Kept.{Kept}
-use Rattle.program_defs.specs.IsProgram.{IsLaidOut}
+use Rattle.program_defs.specs.IsProgram.{IsInText}
 use Rattle.machine_defs.specs.Law.{UnwindingLaw}
 use Rattle.machine_defs.specs.Worked.{framed, after_push}
 use Rattle.checker_defs.proofs.KeptLemmas.{kept_is_one}
@@ -23,22 +23,6 @@ use Rattle.table_defs.specs.Placed.{IsPlacedBy}
 use Rattle.table_defs.specs.Tells.{TellsState, TellsStates}
 use Rattle.table_defs.specs.Laws.{WalkLaw}
 use Rattle.walk_law.specs.Worked.{ranges, rows, pushed, pointed, WalksWorked}
-
--- where its points stand: at 0, 1, 4 and 5
-offset : (q : ℕ) → q < 4 → (framed.address q).off ≡ q + 2 * (q / 2)
-offset zero h = refl
-offset (suc zero) h = refl
-offset (suc (suc zero)) h = refl
-offset (suc (suc (suc zero))) h = refl
-offset (suc (suc (suc (suc q)))) h = absurd (omega arith)
-
--- each ends where the next begins
-ends : (q : ℕ) → q < 4 → (framed.address q).off + (framed.insn q).len ≤ (q + 1) + 2 * ((q + 1) / 2)
-ends zero h = lit≤ tt
-ends (suc zero) h = lit≤ tt
-ends (suc (suc zero)) h = lit≤ tt
-ends (suc (suc (suc zero))) h = lit≤ tt
-ends (suc (suc (suc (suc q)))) h = absurd (omega arith)
 
 -- each has a byte
 has_byte : (q : ℕ) → q < 4 → 1 ≤ (framed.insn q).len
@@ -60,28 +44,9 @@ within (suc (suc zero)) h = (text, here text [], refl, lit≤ tt)
 within (suc (suc (suc zero))) h = (text, here text [], refl, lit≤ tt)
 within (suc (suc (suc (suc q)))) h = absurd (omega arith)
 
--- it is laid out
-pub laid_out : IsLaidOut framed
-laid_out = record {
-  lengths = has_byte;
-  within = within;
-  plain = λ q h e. refl;
-  replaced = λ q h ne. absurd (ne refl);
-  in_sites = λ q site h c e. nowhere site c;
-  site_lengths = λ site c. nowhere site c;
-  site_starts = λ site c. nowhere site c;
-  sites_apart = λ one other place c d e f. nowhere one c;
-  apart = λ q r h k v e. same q r (offset q h) (offset r k) (ap (λ (x : Place). x.off) e);
-  in_order = λ q r h k v s e. later q r _ _ _ (offset q h) (offset r k) (ends q h) e;
-  sections = λ i j d h k. absurd (omega (arith, h, k));
-  hint_points = λ q hint e. absurd (let k : ⊥ = cc in k);
-}
-  where
-    same : (q r : ℕ) {a b : ℕ} → a ≡ q + 2 * (q / 2) → b ≡ r + 2 * (r / 2) → a ≡ b → q ≡ r
-    same q r e f g = omega arith
-
-    later : (q r a b c : ℕ) → a ≡ q + 2 * (q / 2) → b ≡ r + 2 * (r / 2) → c ≤ (q + 1) + 2 * ((q + 1) / 2) → a < b → c ≤ b
-    later q r a b c e f g h = omega arith
+-- so they are in the text
+pub in_text : IsInText framed
+in_text = record { lengths = has_byte; within = within }
 
 -- and placed
 pub placed : IsPlacedBy framed base ranges
@@ -124,9 +89,9 @@ tells law q state seen kept = record {
 pub walks : UnwindingLaw → WalkLaw → WalksWorked
 walks law walk = record {
   program = worked.program;
-  laid_out = laid_out;
+  in_text = in_text;
   placed = placed;
   accepted = worked.accepted;
   tells = tells law;
-  walks = walk framed base rows ranges worked.program laid_out placed worked.accepted (tells law) (At after_push) run.runs;
+  walks = walk framed base rows ranges worked.program in_text placed worked.accepted (tells law) (At after_push) run.runs;
 }

@@ -11,7 +11,7 @@ use Rattle.machine_defs.specs.Machine.{At}
 use Rattle.checker_defs.specs.Kept.{state_at}
 use Rattle.checker_defs.specs.Broken.{IsAccepted}
 use Rattle.checker_defs.specs.Rows.{placed, rows_of}
-use Rattle.program_defs.specs.IsProgram.{IsProgram, IsLaidOut}
+use Rattle.program_defs.specs.IsProgram.{IsProgram, IsInText}
 use Rattle.machine_defs.specs.Worked.{at, framed, after_push}
 use Rattle.unwinding_law.specs.Worked.{base}
 use Rattle.walk_defs.specs.declared.range.Range.{Range}
@@ -31,7 +31,7 @@ rows = rows_of framed (state_at framed 3)
 -- after its push.
 pub record WalksWorked : Type 0 where
   pub program : IsProgram framed
-  pub laid_out : IsLaidOut framed
+  pub in_text : IsInText framed
   pub placed : IsPlacedBy framed base ranges
   pub accepted : IsAccepted framed
   pub tells : TellsStates framed base rows ranges
