@@ -3,6 +3,7 @@
 use Rattle.std.specs.Prelude.{◌≡◌, ◌≢◌, ℕ, ◌+◌, ◌-◌, ◌<◌, ◌≤◌, ◌⊎◌, ◌↔◌, Bool, true, false, Some, Err, Contains, ℤ, pos}
 use Rattle.ot_base.specs.declared.place.Place.{Place}
 use Rattle.ot_base.specs.declared.options.Options.{Options}
+use Rattle.ot_base.specs.declared.rules.TheConstants.{BAD_BRANCH_TARGET, FALLS_THROUGH, RUNS_OFF_SECTION, STATE_MISMATCH, MODIFIED_RETURN, MODIFIED_SIBLING_CALL, OFFSET_OUT_OF_RANGE, ALTERNATIVES_DISAGREE, JUMP_INTO_SITE, UNREACHABLE_INSTRUCTION, EXIT_NOT_ALLOWED, CALL_INTO_FUNCTION, FUNCTION_WITHOUT_SIZE, RESTORE_WITHOUT_SAVE, CALL_WITHOUT_FRAME}
 use Rattle.operation_defs.specs.declared.op.Op.{Op}
 use Rattle.operation_defs.specs.declared.op.Op.TheVariants.{Nop, RetImm, Iret, Switch, Ud2, Int3}
 use Rattle.program_defs.specs.declared.flow.Edge.{Edge}
@@ -50,40 +51,40 @@ pub record IsInForce (p : Program) (site : Site) (off q : ℕ) (s : State) : Typ
 -- one warning then, since warnings are a set.
 pub data Warns (p : Program) : Place → ℕ → ℤ → ℤ → Type 0 where
   -- 1. a target of a branch, call, static branch or exception entry is no place to go
-  bad_target : (q : ℕ) (s : State) → Kept p q s → (p.marks q).bad ≡ true → Warns p (p.place q) 1 (pos 0) (pos 0)
+  bad_target : (q : ℕ) (s : State) → Kept p q s → (p.marks q).bad ≡ true → Warns p (p.place q) BAD_BRANCH_TARGET (pos 0) (pos 0)
   -- 2. the next instruction is of another function
-  falls_through : (q r : ℕ) (s : State) → Kept p q s → Contains (edges_of p q) (edge r Next) → p.owner r ≢ p.owner q → Warns p (p.place q) 2 (pos 0) (pos 0)
+  falls_through : (q r : ℕ) (s : State) → Kept p q s → Contains (edges_of p q) (edge r Next) → p.owner r ≢ p.owner q → Warns p (p.place q) FALLS_THROUGH (pos 0) (pos 0)
   -- 3. there is a next instruction, and it is past the section's end
-  runs_off : (q : ℕ) (s : State) → Kept p q s → (p.marks q).past_end ≡ true → Warns p (p.place q) 3 (pos 0) (pos 0)
+  runs_off : (q : ℕ) (s : State) → Kept p q s → (p.marks q).past_end ≡ true → Warns p (p.place q) RUNS_OFF_SECTION (pos 0) (pos 0)
   -- 4. an edge brings to a kept point another state than the one that is kept there; the place is that point's
-  mismatch : (q r : ℕ) (s t u : State) → Kept p q s → Brings p q s r t → Kept p r u → is_free (p.hint r) ≡ true → t ≢ u → Warns p (p.place r) 4 (depth_number u) (depth_number t)
+  mismatch : (q r : ℕ) (s t u : State) → Kept p q s → Brings p q s r t → Kept p r u → is_free (p.hint r) ≡ true → t ≢ u → Warns p (p.place r) STATE_MISMATCH (depth_number u) (depth_number t)
   -- 5. it returns with a modified stack, or drops bytes as it returns
-  modified_return : (q : ℕ) (s : State) → Kept p q s → p.role q ≡ Return → return_rule s ≡ Some 5 → Warns p (p.place q) 5 (depth_number s) (pos 0)
-  drops_bytes : (q : ℕ) (s : State) → Kept p q s → p.role q ≡ Return → (p.insn q).op ≡ RetImm → return_rule s ≢ Some 15 → Warns p (p.place q) 5 (depth_number s) (pos 0)
+  modified_return : (q : ℕ) (s : State) → Kept p q s → p.role q ≡ Return → return_rule s ≡ Some MODIFIED_RETURN → Warns p (p.place q) MODIFIED_RETURN (depth_number s) (pos 0)
+  drops_bytes : (q : ℕ) (s : State) → Kept p q s → p.role q ≡ Return → (p.insn q).op ≡ RetImm → return_rule s ≢ Some EXIT_NOT_ALLOWED → Warns p (p.place q) MODIFIED_RETURN (depth_number s) (pos 0)
   -- 6. it goes to another function, by a jump, a static branch or a fixup, with a modified stack
-  modified_sibling : (q : ℕ) (s : State) → Kept p q s → LeavesByJump p q → sibling_rule s ≡ Some 6 → Warns p (p.place q) 6 (depth_number s) (pos 0)
+  modified_sibling : (q : ℕ) (s : State) → Kept p q s → LeavesByJump p q → sibling_rule s ≡ Some MODIFIED_SIBLING_CALL → Warns p (p.place q) MODIFIED_SIBLING_CALL (depth_number s) (pos 0)
   -- 7, 8, 9, 10, 11, 15. the operation breaks the rule in its state
   refused : (q rule : ℕ) (s : State) → Kept p q s → move s (p.insn q).op ≡ Err rule → Warns p (p.place q) rule (pos 0) (pos 0)
   -- 10. an offset of the state's row doesn't fit
-  unfit : (q : ℕ) (s : State) (a : ℤ) → Kept p q s → unfit_offset s ≡ Some a → Warns p (p.place q) 10 a (pos 0)
+  unfit : (q : ℕ) (s : State) (a : ℤ) → Kept p q s → unfit_offset s ≡ Some a → Warns p (p.place q) OFFSET_OUT_OF_RANGE a (pos 0)
   -- 12. two variants of a site have different rows where both have an instruction
-  variants_disagree : (site : Site) (q r : ℕ) (s t : State) → KeptInSite p site q s → KeptInSite p site r t → p.address q ≡ p.address r → row_of s ≢ row_of t → Warns p site.start 12 (pos (offset_in site (p.address q).off)) (pos 0)
+  variants_disagree : (site : Site) (q r : ℕ) (s t : State) → KeptInSite p site q s → KeptInSite p site r t → p.address q ≡ p.address r → row_of s ≢ row_of t → Warns p site.start ALTERNATIVES_DISAGREE (pos (offset_in site (p.address q).off)) (pos 0)
   -- 12. the row in force at the last byte of a call in a site isn't the call's
-  call_disagrees : (site : Site) (q r : ℕ) (s t : State) → KeptInSite p site q s → is_call_op (p.insn q).op ≡ true → IsInForce p site ((p.address q).off + (p.insn q).len - 1) r t → row_of t ≢ row_of s → Warns p site.start 12 (pos (offset_in site ((p.address q).off + (p.insn q).len - 1))) (pos 0)
+  call_disagrees : (site : Site) (q r : ℕ) (s t : State) → KeptInSite p site q s → is_call_op (p.insn q).op ≡ true → IsInForce p site ((p.address q).off + (p.insn q).len - 1) r t → row_of t ≢ row_of s → Warns p site.start ALTERNATIVES_DISAGREE (pos (offset_in site ((p.address q).off + (p.insn q).len - 1))) (pos 0)
   -- 13. a target lies inside a site, of whose original code it isn't
-  into_site : (q : ℕ) (s : State) → Kept p q s → (p.marks q).into_site ≡ true → Warns p (p.place q) 13 (pos 0) (pos 0)
+  into_site : (q : ℕ) (s : State) → Kept p q s → (p.marks q).into_site ≡ true → Warns p (p.place q) JUMP_INTO_SITE (pos 0) (pos 0)
   -- 15. a return, a way to another function or a context switch stands where it isn't allowed
-  unallowed_return : (q : ℕ) (s : State) → Kept p q s → p.role q ≡ Return → return_rule s ≡ Some 15 → Warns p (p.place q) 15 (pos 0) (pos 0)
-  unallowed_sibling : (q : ℕ) (s : State) → Kept p q s → LeavesByJump p q → sibling_rule s ≡ Some 15 → Warns p (p.place q) 15 (pos 0) (pos 0)
-  unallowed_switch : (q : ℕ) (s : State) → Kept p q s → (p.insn q).op ≡ Switch → switch_rule s ≡ Some 15 → Warns p (p.place q) 15 (pos 0) (pos 0)
-  unallowed_iret : (q : ℕ) (s : State) → Kept p q s → (p.insn q).op ≡ Iret → iret_rule s ≡ Some 15 → Warns p (p.place q) 15 (pos 0) (pos 0)
+  unallowed_return : (q : ℕ) (s : State) → Kept p q s → p.role q ≡ Return → return_rule s ≡ Some EXIT_NOT_ALLOWED → Warns p (p.place q) EXIT_NOT_ALLOWED (pos 0) (pos 0)
+  unallowed_sibling : (q : ℕ) (s : State) → Kept p q s → LeavesByJump p q → sibling_rule s ≡ Some EXIT_NOT_ALLOWED → Warns p (p.place q) EXIT_NOT_ALLOWED (pos 0) (pos 0)
+  unallowed_switch : (q : ℕ) (s : State) → Kept p q s → (p.insn q).op ≡ Switch → switch_rule s ≡ Some EXIT_NOT_ALLOWED → Warns p (p.place q) EXIT_NOT_ALLOWED (pos 0) (pos 0)
+  unallowed_iret : (q : ℕ) (s : State) → Kept p q s → (p.insn q).op ≡ Iret → iret_rule s ≡ Some EXIT_NOT_ALLOWED → Warns p (p.place q) EXIT_NOT_ALLOWED (pos 0) (pos 0)
   -- 16. it calls a place of the object where no checked function is entered, and no unchecked one starts
-  into_function : (q : ℕ) (s : State) → Kept p q s → (p.marks q).into_function ≡ true → Warns p (p.place q) 16 (pos 0) (pos 0)
+  into_function : (q : ℕ) (s : State) → Kept p q s → (p.marks q).into_function ≡ true → Warns p (p.place q) CALL_INTO_FUNCTION (pos 0) (pos 0)
   -- 17. a function has no size
-  without_size : (place : Place) → Contains p.unsized place → Warns p place 17 (pos 0) (pos 0)
+  without_size : (place : Place) → Contains p.unsized place → Warns p place FUNCTION_WITHOUT_SIZE (pos 0) (pos 0)
   -- 18. control comes to a RESTORE that has no state to restore; the place is the RESTORE's
-  entered_restore : (q entry : ℕ) → p.hint q ≡ Some Restore → NotKept p q → Contains p.entries entry → Contains (entry_points p entry) q → Warns p (p.place q) 18 (pos 0) (pos 0)
-  reached_restore : (q r : ℕ) (s : State) (e : Edge) → p.hint r ≡ Some Restore → NotKept p r → Kept p q s → Contains (edges_of p q) e → e.to ≡ r → Warns p (p.place r) 18 (pos 0) (pos 0)
+  entered_restore : (q entry : ℕ) → p.hint q ≡ Some Restore → NotKept p q → Contains p.entries entry → Contains (entry_points p entry) q → Warns p (p.place q) RESTORE_WITHOUT_SAVE (pos 0) (pos 0)
+  reached_restore : (q r : ℕ) (s : State) (e : Edge) → p.hint r ≡ Some Restore → NotKept p r → Kept p q s → Contains (edges_of p q) e → e.to ≡ r → Warns p (p.place r) RESTORE_WITHOUT_SAVE (pos 0) (pos 0)
 
 -- a program without a broken rule
 abbrev pub IsAccepted : Program → Type 0
@@ -117,8 +118,8 @@ pub record IsFirstUnreached (p : Program) (q : ℕ) : Type 0 where
 -- ask for aren't among them.
 pub data IsBroken (p : Program) (options : Options) : Place → ℕ → ℤ → ℤ → Type 0 where
   always : (place : Place) (rule : ℕ) (a b : ℤ) → Warns p place rule a b → IsBroken p options place rule a b
-  unreachable : (q : ℕ) → options.unreachable ≡ true → IsAccepted p → IsFirstUnreached p q → IsBroken p options (p.place q) 14 (pos 0) (pos 0)
-  without_frame : (q : ℕ) (s : State) → options.fp ≡ true → Kept p q s → is_call_op (p.insn q).op ≡ true → p.calls_fentry q ≡ false → call_rule s ≡ Some 21 → IsBroken p options (p.place q) 21 (pos 0) (pos 0)
+  unreachable : (q : ℕ) → options.unreachable ≡ true → IsAccepted p → IsFirstUnreached p q → IsBroken p options (p.place q) UNREACHABLE_INSTRUCTION (pos 0) (pos 0)
+  without_frame : (q : ℕ) (s : State) → options.fp ≡ true → Kept p q s → is_call_op (p.insn q).op ≡ true → p.calls_fentry q ≡ false → call_rule s ≡ Some CALL_WITHOUT_FRAME → IsBroken p options (p.place q) CALL_WITHOUT_FRAME (pos 0) (pos 0)
 
 -- two paths bring different states to one point where states come in along edges
 pub record HasTwoPaths (p : Program) : Type 0 where
@@ -136,7 +137,7 @@ pub record HasMismatch (p : Program) : Type 0 where
   pub place : Place
   pub kept : ℤ
   pub found : ℤ
-  pub warning : Warns p place 4 kept found
+  pub warning : Warns p place STATE_MISMATCH kept found
 
 -- Rule 4 is broken somewhere exactly where two paths disagree.
 abbrev pub MismatchIsTwoPaths : Type 0
