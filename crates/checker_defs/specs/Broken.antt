@@ -46,9 +46,8 @@ pub record IsInForce (p : Program) (site : Site) (off q : ℕ) (s : State) : Typ
   pub last : (r : ℕ) (t : State) → KeptInSite p site r t → (p.address r).off ≤ off
       → ((p.address r).off < (p.address q).off) ⊎ (((p.address r).off ≡ (p.address q).off) × (p.variant q ≤ p.variant r))
 
--- The warnings of the rules 1 to 13 and 15 to 18, which no option has to ask for. Each is met at a kept point; its
--- place is the point's but where it is said otherwise. One place may be warned of by one rule for two reasons: it is
--- one warning then, since warnings are a set.
+-- The warnings of the rules 1 to 13 and 15 to 18, which no option has to ask for. The place is that of the kept point
+-- that breaks the rule, but where it is said otherwise. Warnings are a set: what two reasons give is one warning.
 pub data Warns (p : Program) : Place → ℕ → ℤ → ℤ → Type 0 where
   -- 1. a target of a branch, call, static branch or exception entry is no place to go
   bad_target : (q : ℕ) (s : State) → Kept p q s → (p.marks q).bad ≡ true → Warns p (p.place q) BAD_BRANCH_TARGET (pos 0) (pos 0)

@@ -101,8 +101,5 @@ UnwindingLaw =
     (p : Program) (bases : Bases) → IsProgram p → IsPlacement p bases → IsAccepted p
     → (m : Machine) → Run p bases m → IsInOrder p bases m
 
--- From it, a walk over the rows of the kept states gives exactly the frames: where a table has, at each
--- kept point's address and at the last byte of each kept call, the row of its state, the walk from a
--- state's address, rsp and rbp over its region gives `frames s`, and stops outside where
--- `frames_end s` is None, and at the row of that kind where it is a kind. It is stated where the walk
--- is defined.
+-- The walk law, in table_defs, follows from it: a table that has the row of the kept state at the address of each
+-- point to which runs come, and of a call also at its last byte, walks in each state of each run to exactly `frames`.

@@ -23,8 +23,8 @@ pub record SameLevel (before after : Standing) : Type 0 where
   pub ended : after.ended ≡ before.ended
   pub mark : after.mark ≡ before.mark
 
--- 1. An instruction goes on in its function, by an edge Next, Taken or Table, with its effect. (A call
--- has none.)
+-- 1. An instruction goes on in its function, by an edge Next, Taken or Table, with its effect. A call doesn't: it has
+-- no effect of its own.
 pub record GoesOn (p : Program) (s t : Standing) : Type 0 where
   pub kind : EdgeKind
   pub local : IsTrue (is_local kind)
@@ -78,7 +78,8 @@ pub record CallsOut (p : Program) (s t : Standing) : Type 0 where
   pub core : t.core ≡ record s.core { region = t.core.region }
   pub level : SameLevel s t
 
--- whether a point may leave its function: by a return, or by a jump to code outside that returns
+-- whether a point may leave its function: by a return, or by a jump to code outside that returns. The start of an
+-- unchecked function counts as outside.
 abbrev pub may_leave : Program → Role → Bool
 may_leave p Return = true
 may_leave p JumpAny = true
@@ -124,12 +125,12 @@ pub record Returns (p : Program) (s t : Standing) : Type 0 where
   pub ended : t.ended ≡ frame.ended_caller
   pub mark : t.mark ≡ frame.mark_caller
 
--- the point is where a jump to another function of the program may go
+-- the point is where a way to another function of the program may lead
 pub data JumpsTo (p : Program) (q : ℕ) : ℕ → Type 0 where
   sibling : (r : ℕ) → Contains (p.goes q) (edge r Sibling) → JumpsTo p q r
   indirect : (r entry : ℕ) → p.role q ≡ JumpAny → Contains p.entries entry → Contains (entry_points p entry) r → JumpsTo p q r
 
--- 6. It jumps to the entry of another function.
+-- 6. It goes to the entry of another function, by a jump, a static branch or a fixup.
 pub record TailCalls (p : Program) (s t : Standing) : Type 0 where
   pub target : JumpsTo p s.point t.point
   pub core : t.core ≡ s.core
@@ -151,7 +152,7 @@ MissesIret core (f ∷ fs) =
     ⊎ (((word : ℕ) × Reads core.region (up core.rsp 24) word × (word ≢ f.cfa))
     ⊎ (core.rbp ≢ f.bp)))
 
--- 7. Its stack is wrecked: it returns with a wrong stack, or goes where there is nothing to go to.
+-- 7. Its stack is wrecked: it returns with a wrong stack, or goes where its marks say that there is nothing to go to.
 pub data Wrecks (p : Program) (s : Standing) : Type 0 where
   wrong_return : IsTrue (may_leave p (p.role s.point)) → MissesReturn s.core s.core.shadow → Wrecks p s
   wrong_iret : (p.insn s.point).op ≡ Iret → s.ended ≡ None → MissesIret s.core s.core.shadow → Wrecks p s

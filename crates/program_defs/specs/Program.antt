@@ -29,7 +29,8 @@ pub record Program : Type 0 where
   -- one padding point more: a Nop over the rest of the site, which has no hint, static branch, exception entry
   -- or mark of a list, whatever the object says of its place.
   pub count : ℕ
-  -- The instruction of a point: as it is decoded, but that an Iret to itself is an IretNext.
+  -- The instruction of a point: as it is decoded, but that an Iret with an owner is an IretNext where there are
+  -- points after it and all of them have that owner.
   pub insn : ℕ → Insn
   -- Where its bytes stand: of a padding point, the end of its replacement.
   pub place : ℕ → Place

@@ -2,7 +2,7 @@
 use Rattle.std.proofs.Common.{◌≡◌, ℕ, ◌≤◌, Bool, true, false, if◌then◌else◌, Option, Some, None, ℤ, pos, ◌+ℤ◌, ◌-ℤ◌, negsuc, subst, lit≤}
 use Rattle.std.specs.Prelude.{Result, Ok, Err, int_lt, int_le, ◌&&◌}
 use Rattle.operation_defs.specs.declared.op.Op.{Op}
-use Rattle.operation_defs.specs.declared.op.Op.TheVariants.{Push, PushBp, Pop, PopBp, Popf, AddSp, AndSp, LeaSpBp, LeaBpSp, StoreBp, LoadBp, Leave, SpOther, BpOther}
+use Rattle.operation_defs.specs.declared.op.Op.TheVariants.{Push, PushBp, Pop, PopBp, Popf, AddSp, AndSp, LeaSpBp, LeaBpSp, StoreBp, LoadBp, Leave, SpOther, BpOther, IretNext}
 use Rattle.state_defs.specs.declared.state.Depth.{Depth}
 use Rattle.state_defs.specs.declared.state.Depth.TheVariants.{Known, AtLeast}
 use Rattle.state_defs.specs.declared.state.BpHome.{BpHome}
@@ -10,7 +10,7 @@ use Rattle.state_defs.specs.declared.state.BpHome.TheVariants.{Same, Saved}
 use Rattle.state_defs.specs.declared.state.State.{State}
 use Rattle.state_defs.specs.declared.state.State.TheVariants.{Live, Ended, Regs}
 use Rattle.state_defs.specs.State.{depth_of, with_depth}
-use Rattle.state_defs.specs.Move.{int_same, has_near_numbers, to, floor_of, raise, pop_at, push_bp, pop_bp, align, rsp_from_bp, bp_from_rsp, store_bp, load_bp, leave, lose_bp, move_live, regs_floor, raise_regs, pop_bp_regs, lose_bp_regs, move_regs, move}
+use Rattle.state_defs.specs.Move.{int_same, has_near_numbers, to, floor_of, raise, pop_at, push_bp, pop_bp, align, rsp_from_bp, bp_from_rsp, store_bp, load_bp, leave, lose_bp, where_allowed, move_live, regs_floor, raise_regs, pop_bp_regs, lose_bp_regs, move_regs, move}
 
 -- a state, or a refusal by a rule from 7 on
 data IsMoved : Result State ℕ → Type 0 where
@@ -55,7 +55,7 @@ rsp_from_bp_moved k (Some m) bp = either (int_lt (m -ℤ k) (floor_of bp)) _ _ (
 bp_from_rsp_moved : (k : ℤ) (depth : Depth) (bp : BpHome) → IsMoved (bp_from_rsp k depth bp)
 bp_from_rsp_moved k depth Same = no _ (lit≤ tt)
 bp_from_rsp_moved k (AtLeast n) (Saved o) = no _ (lit≤ tt)
-bp_from_rsp_moved k (Known n) (Saved o) = near _ _
+bp_from_rsp_moved k (Known n) (Saved o) = either (int_same (n -ℤ k) o) _ _ (near _ _) (near _ _)
 
 store_bp_moved : (k : ℤ) (depth : Depth) (fp : Option ℤ) (bp : BpHome) → IsMoved (store_bp k depth fp bp)
 store_bp_moved k depth fp Same = either (int_le (pos 16) (depth_of depth -ℤ k) && int_le (depth_of depth -ℤ k) (depth_of depth)) _ _ (near _ _) (near _ _)
@@ -68,12 +68,17 @@ load_bp_moved k (Known n) (Saved o) = either (int_same (n -ℤ k) o) _ _ (near _
 
 leave_moved : (fp : Option ℤ) (bp : BpHome) → IsMoved (leave fp bp)
 leave_moved None bp = no _ (lit≤ tt)
-leave_moved (Some m) bp = pop_at_moved m (floor_of bp)
+leave_moved (Some m) Same = no _ (lit≤ tt)
+leave_moved (Some m) (Saved o) = pop_at_moved m o
 
 lose_bp_moved : (depth : Depth) (bp : BpHome) → IsMoved (lose_bp depth bp)
 lose_bp_moved depth Same = no _ (lit≤ tt)
 lose_bp_moved (AtLeast n) (Saved o) = no _ (lit≤ tt)
 lose_bp_moved (Known n) (Saved o) = near _ _
+
+allowed_moved : (r : Result State ℕ) → IsMoved r → IsMoved (where_allowed r)
+allowed_moved (Ok s) h = moved s
+allowed_moved (Err rule) h = no _ (lit≤ tt)
 
 live_moved : (depth : Depth) (fp : Option ℤ) (bp : BpHome) (op : Op) → IsMoved (move_live depth fp bp op)
 live_moved depth fp bp PushBp = push_bp_moved depth fp bp
@@ -89,6 +94,7 @@ live_moved depth fp bp (LoadBp at) = load_bp_moved at depth bp
 live_moved depth fp bp Leave = leave_moved fp bp
 live_moved depth fp bp BpOther = lose_bp_moved depth bp
 live_moved depth fp bp SpOther = no _ (lit≤ tt)
+live_moved depth fp bp IretNext = allowed_moved (raise (pos 40) depth fp bp) (raise_moved (pos 40) depth fp bp)
 live_moved depth fp bp _ = near _ _
 
 raise_regs_moved : (k : ℤ) (full : Bool) (depth : ℤ) → IsMoved (raise_regs k full depth)
@@ -114,6 +120,7 @@ regs_moved full depth (AndSp mask) = no _ (lit≤ tt)
 regs_moved full depth (LeaSpBp by) = no _ (lit≤ tt)
 regs_moved full depth Leave = no _ (lit≤ tt)
 regs_moved full depth SpOther = no _ (lit≤ tt)
+regs_moved full depth IretNext = no _ (lit≤ tt)
 regs_moved full depth _ = near _ _
 
 moved_or_refused : (s : State) (op : Op) → IsMoved (move s op)
