@@ -36,7 +36,7 @@ fn main(rt: HostRuntime) -> ExitCode {
         // A word that is no text is no word of a command.
         Err(_) => Vec::new(alloc),
     };
-    let mut files = StdFiles::new(&rt);
+    let mut files = StdFiles::new(alloc, &rt);
     let mut out = StdSink::new(&rt);
     let status = run(alloc, &words, &mut files, &mut out);
     ExitCode::from(exit_code(status))

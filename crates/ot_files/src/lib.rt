@@ -8,6 +8,7 @@ mod lines;
 mod mem_files;
 mod mem_sink;
 mod output;
+mod replacing;
 mod std_files;
 mod std_sink;
 mod sure_files;

@@ -1,5 +1,5 @@
 //! An output in memory, some of whose calls fail.
-ghost use Rattle.std.specs.Prelude.{◌≡◌, ◌<◌, ◌≤◌, ◌↔◌, [], ◌++◌, length, min, take, Some, true, IfOk, OnErr, IsErrOf};
+ghost use Rattle.std.specs.Prelude.{◌≡◌, ◌<◌, ◌≤◌, ◌↔◌, [], ◌++◌, length, min, take, Some, Ok, true, IfOk, OnErr, IsErrOf};
 ghost use Rattle.ot_files.specs.Memory.{fails_now, after_call};
 
 use crate::calls::FailingCalls;
@@ -60,8 +60,10 @@ impl Sink for MemSink {
     ghost faults = { λ s. s.plan.faults };
 
     fn write(&mut self, piece: &[u8]) -> Result<usize, SinkError>
-        ensures fails { IsErrOf result SinkError.Failed ↔ (fails_now self.old.plan ≡ true) }
-        ensures plan { self.new.plan ≡ after_call self.old.plan }
+        ensures fails { 0 < length piece.now → (IsErrOf result SinkError.Failed ↔ (fails_now self.old.plan ≡ true)) }
+        ensures plan { 0 < length piece.now → self.new.plan ≡ after_call self.old.plan }
+        // An empty piece isn't counted as a call.
+        ensures empty { length piece.now ≡ 0 → (result ≡ Ok 0) × (self.new ≡ self.old) }
         ensures later { self.old.plan.faults ≤ self.new.plan.faults }
         ensures taken { IfOk result (λ taken. taken ≡ min self.old.output.most (length piece.now)) }
         ensures some { IfOk result (λ taken. 0 < length piece.now → 0 < taken) }
@@ -69,6 +71,9 @@ impl Sink for MemSink {
             record self.old.output { written = self.old.output.written ++ take taken piece.now }) }
         ensures err { OnErr result (self.new.output ≡ self.old.output) }
     {
+        if piece.is_empty() {
+            return Ok(0);
+        }
         if self.plan.next_fails() {
             return Err(SinkError::Failed);
         }

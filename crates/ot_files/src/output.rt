@@ -1,5 +1,5 @@
 //! An output that takes pieces of bytes.
-ghost use Rattle.std.specs.Prelude.{◌≡◌, ℕ, ◌<◌, ◌≤◌, List, length, take, Option, IfOk, OnErr, IsErrOf};
+ghost use Rattle.std.specs.Prelude.{◌≡◌, ℕ, ◌<◌, ◌≤◌, List, length, take, Option, Ok, IfOk, OnErr, IsErrOf};
 ghost use Rattle.ot_files.specs.Causes.{Rose};
 ghost use Rattle.ot_files.specs.Output.{appending};
 
@@ -36,11 +36,12 @@ pub trait Sink {
     /// How many calls failed outside. It never falls, and stands still at its last value.
     ghost faults: { Self → ℕ };
 
-    /// Takes the first bytes of a piece and answers how many, at least one unless the piece is empty.
-    /// A refusal takes nothing.
+    /// Takes the first bytes of a piece and answers how many, at least one. Of an empty piece it takes
+    /// 0, without a call outside. A refusal takes nothing.
     fn write(&mut self, piece: &[u8]) -> Result<usize, SinkError>
         ensures within { IfOk result (λ taken. taken ≤ length piece.now) }
         ensures some { IfOk result (λ taken. 0 < length piece.now → 0 < taken) }
+        ensures empty { length piece.now ≡ 0 → result ≡ Ok 0 }
         ensures ok { IfOk result
             (λ taken. written self.new ≡ appending (written self.old) (take taken piece.now)) }
         ensures err { OnErr result (written self.new ≡ written self.old) }

@@ -3,15 +3,19 @@ ghost use Rattle.std.specs.Prelude.{◌≡◌, ◌≤◌, None};
 ghost use Rattle.ot_files.specs.Causes.{raised};
 
 use crate::access::{FileError, Files};
+use crate::replacing::replace;
+use std::alloc::Global;
 use std::fs;
 use std::io::{ErrorKind, Read};
 use std::marker::Model;
 use std::rt::Files as SystemFiles;
 
 /// The files of the system that a runtime reaches. They tell no content, and count each call that
-/// fails; a file that is missing or too long is no failure.
+/// fails; a file that is missing or too long is no failure. A file gets new content in one step
+/// (`replace`), so after a refused write it holds what it held.
 #[derive(Drop)]
 pub struct StdFiles<R> {
+    alloc: Global,
     runtime: R,
     faults: u64,
 }
@@ -26,10 +30,14 @@ impl<R> Model for StdFiles<R> {
 
 impl<R: SystemFiles> StdFiles<R> {
     /// The files that the runtime reaches, with no fault so far.
-    pub fn new(runtime: R) -> StdFiles<R>
+    pub fn new(alloc: Global, runtime: R) -> StdFiles<R>
         ensures { result ≡ 0 }
     {
-        StdFiles { runtime, faults: 0 }
+        StdFiles {
+            alloc,
+            runtime,
+            faults: 0,
+        }
     }
 
     fn fault(&mut self) -> FileError
@@ -66,8 +74,9 @@ impl<R: SystemFiles> Files for StdFiles<R> {
     }
 
     fn write(&mut self, name: &str, bytes: &[u8]) -> Result<(), FileError> {
-        match fs::write(&self.runtime, name, bytes) {
+        match replace(&self.runtime, self.alloc, name, bytes) {
             Ok(()) => Ok(()),
+            Err(e) if e.kind() == ErrorKind::OutOfMemory => Err(FileError::NoMemory),
             Err(_) => Err(self.fault()),
         }
     }

@@ -1,5 +1,5 @@
 //! An output in memory, none of whose calls fails.
-ghost use Rattle.std.specs.Prelude.{◌≡◌, ◌<◌, ◌≤◌, [], ◌++◌, length, min, take, Some, IfOk, OnErr, IsOkUnless};
+ghost use Rattle.std.specs.Prelude.{◌≡◌, ◌<◌, ◌≤◌, [], ◌++◌, length, min, take, Some, Ok, IfOk, OnErr, IsOkUnless};
 
 use crate::output::{Sink, SinkError};
 use std::alloc::Global;
@@ -54,11 +54,15 @@ impl Sink for SureSink {
     fn write(&mut self, piece: &[u8]) -> Result<usize, SinkError>
         ensures taken { IfOk result (λ taken. taken ≡ min self.old.most (length piece.now)) }
         ensures some { IfOk result (λ taken. 0 < length piece.now → 0 < taken) }
+        ensures empty { length piece.now ≡ 0 → result ≡ Ok 0 }
         ensures ok { IfOk result
             (λ taken. self.new ≡ record self.old { written = self.old.written ++ take taken piece.now }) }
         ensures err { OnErr result (self.new ≡ self.old) }
         ensures refusal { IsOkUnless result SinkError.NoMemory }
     {
+        if piece.is_empty() {
+            return Ok(0);
+        }
         let taken = self.most.min(piece.len());
         self.written.extend_from_slice(&piece[..taken])?;
         Ok(taken)

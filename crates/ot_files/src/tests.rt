@@ -146,7 +146,7 @@ fn an_output_takes_its_most(rt: HostRuntime) {
 
 #[test]
 fn files_of_the_system_are_read_back(rt: HostRuntime) {
-    let mut files = StdFiles::new(rt);
+    let mut files = StdFiles::new(rt.alloc(), rt);
     let mut into = Vec::new(rt.alloc());
     expect_write(&rt, &mut files, "out.o", "first and longer", Ok(()));
     expect_write(&rt, &mut files, "out.o", "written", Ok(()));
