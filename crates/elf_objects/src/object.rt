@@ -99,6 +99,7 @@ impl<'a> Object<'a> {
     pub fn bytes(&self) -> &'a [u8]
         ensures value { result.now ≡ self.now.bytes }
         ensures object { IsObject result.now self.now }
+        ensures short { length result.now < 2 ^ 32 }
     {
         self.symbols.headers.bytes
     }

@@ -8,4 +8,4 @@ mod index;
 mod place;
 
 pub use index::RelocIndex;
-pub use place::named_place;
+pub use place::{is_pointer, named_place};

@@ -17,7 +17,7 @@ const R_X86_64_32S: u32 = 11;
 
 /// Whether a relocation of this type stands for a place: `R_X86_64_64`, `R_X86_64_PC32`, `R_X86_64_32`
 /// and `R_X86_64_32S`.
-pub(crate) fn is_pointer(kind: u32) -> bool
+pub fn is_pointer(kind: u32) -> bool
     ensures { result ≡ is_pointer_kind kind }
 {
     kind == R_X86_64_64 || kind == R_X86_64_PC32 || kind == R_X86_64_32 || kind == R_X86_64_32S
