@@ -1,4 +1,5 @@
-ghost use Rattle.std.specs.Prelude.{◌≡◌, ◌+◌, ◌<◌, ◌^◌, Some, length, min, slice_get};
+ghost use Rattle.std.specs.Prelude.{◌≡◌, ◌<◌, ◌^◌, Some, length, slice_get};
+ghost use Rattle.ot_base.specs.CountedItems.{one_more};
 
 use crate::row::Row;
 use std::marker::Model;
@@ -49,7 +50,7 @@ impl Tape {
     pub fn read(&mut self, i: u32) -> (u64, Row)
         requires { i < length self.old.items }
         ensures item { slice_get self.old.items i ≡ Some result }
-        ensures counted { self.new ≡ record self.old { reads = min (self.old.reads + 1) u64.MAX } }
+        ensures counted { self.new ≡ record self.old { reads = one_more self.old.reads } }
     {
         self.reads = self.reads.saturating_add(1);
         self.items[i as usize]
