@@ -44,60 +44,60 @@ or_nothing : (a : Bool) → (a || false) ≡ a
 or_nothing true = refl
 or_nothing false = refl
 
-abbrev fs_gs_part : Prefixes → List ℕ
-fs_gs_part p = put p.fs_gs 0x64 []
+abbrev part_64 : Prefixes → List ℕ
+part_64 p = put p.has_fs_gs 0x64 []
 
-abbrev lock_part : Prefixes → List ℕ
-lock_part p = put p.lock 0xF0 (fs_gs_part p)
+abbrev part_F0 : Prefixes → List ℕ
+part_F0 p = put p.has_f0 0xF0 (part_64 p)
 
-abbrev repne_part : Prefixes → List ℕ
-repne_part p = put p.repne 0xF2 (lock_part p)
+abbrev part_F2 : Prefixes → List ℕ
+part_F2 p = put p.has_f2 0xF2 (part_F0 p)
 
-abbrev rep_part : Prefixes → List ℕ
-rep_part p = put p.rep 0xF3 (repne_part p)
+abbrev part_F3 : Prefixes → List ℕ
+part_F3 p = put p.has_f3 0xF3 (part_F2 p)
 
-abbrev addrsize_part : Prefixes → List ℕ
-addrsize_part p = put p.addrsize 0x67 (rep_part p)
+abbrev part_67 : Prefixes → List ℕ
+part_67 p = put p.has_67 0x67 (part_F3 p)
 
 -- one prefix for each flag that is set
 abbrev legacy_of : Prefixes → List ℕ
-legacy_of p = put p.opsize 0x66 (addrsize_part p)
+legacy_of p = put p.has_66 0x66 (part_67 p)
 
-has_66 : (p : Prefixes) → has 0x66 (legacy_of p) ≡ p.opsize
-has_66 p = has_put p.opsize 0x66 (addrsize_part p) refl
-    ∙ ap (λ (b : Bool). p.opsize || b) (has_put_other p.addrsize 0x66 0x67 (rep_part p) refl ∙ has_put_other p.rep 0x66 0xF3 (repne_part p) refl ∙ has_put_other p.repne 0x66 0xF2 (lock_part p) refl ∙ has_put_other p.lock 0x66 0xF0 (fs_gs_part p) refl ∙ has_put_other p.fs_gs 0x66 0x64 [] refl)
-    ∙ or_nothing p.opsize
+finds_66 : (p : Prefixes) → has 0x66 (legacy_of p) ≡ p.has_66
+finds_66 p = has_put p.has_66 0x66 (part_67 p) refl
+    ∙ ap (λ (b : Bool). p.has_66 || b) (has_put_other p.has_67 0x66 0x67 (part_F3 p) refl ∙ has_put_other p.has_f3 0x66 0xF3 (part_F2 p) refl ∙ has_put_other p.has_f2 0x66 0xF2 (part_F0 p) refl ∙ has_put_other p.has_f0 0x66 0xF0 (part_64 p) refl ∙ has_put_other p.has_fs_gs 0x66 0x64 [] refl)
+    ∙ or_nothing p.has_66
 
-has_67 : (p : Prefixes) → has 0x67 (legacy_of p) ≡ p.addrsize
-has_67 p = has_put_other p.opsize 0x67 0x66 (addrsize_part p) refl ∙ has_put p.addrsize 0x67 (rep_part p) refl
-    ∙ ap (λ (b : Bool). p.addrsize || b) (has_put_other p.rep 0x67 0xF3 (repne_part p) refl ∙ has_put_other p.repne 0x67 0xF2 (lock_part p) refl ∙ has_put_other p.lock 0x67 0xF0 (fs_gs_part p) refl ∙ has_put_other p.fs_gs 0x67 0x64 [] refl)
-    ∙ or_nothing p.addrsize
+finds_67 : (p : Prefixes) → has 0x67 (legacy_of p) ≡ p.has_67
+finds_67 p = has_put_other p.has_66 0x67 0x66 (part_67 p) refl ∙ has_put p.has_67 0x67 (part_F3 p) refl
+    ∙ ap (λ (b : Bool). p.has_67 || b) (has_put_other p.has_f3 0x67 0xF3 (part_F2 p) refl ∙ has_put_other p.has_f2 0x67 0xF2 (part_F0 p) refl ∙ has_put_other p.has_f0 0x67 0xF0 (part_64 p) refl ∙ has_put_other p.has_fs_gs 0x67 0x64 [] refl)
+    ∙ or_nothing p.has_67
 
-has_F3 : (p : Prefixes) → has 0xF3 (legacy_of p) ≡ p.rep
-has_F3 p = has_put_other p.opsize 0xF3 0x66 (addrsize_part p) refl ∙ has_put_other p.addrsize 0xF3 0x67 (rep_part p) refl ∙ has_put p.rep 0xF3 (repne_part p) refl
-    ∙ ap (λ (b : Bool). p.rep || b) (has_put_other p.repne 0xF3 0xF2 (lock_part p) refl ∙ has_put_other p.lock 0xF3 0xF0 (fs_gs_part p) refl ∙ has_put_other p.fs_gs 0xF3 0x64 [] refl)
-    ∙ or_nothing p.rep
+finds_F3 : (p : Prefixes) → has 0xF3 (legacy_of p) ≡ p.has_f3
+finds_F3 p = has_put_other p.has_66 0xF3 0x66 (part_67 p) refl ∙ has_put_other p.has_67 0xF3 0x67 (part_F3 p) refl ∙ has_put p.has_f3 0xF3 (part_F2 p) refl
+    ∙ ap (λ (b : Bool). p.has_f3 || b) (has_put_other p.has_f2 0xF3 0xF2 (part_F0 p) refl ∙ has_put_other p.has_f0 0xF3 0xF0 (part_64 p) refl ∙ has_put_other p.has_fs_gs 0xF3 0x64 [] refl)
+    ∙ or_nothing p.has_f3
 
-has_F2 : (p : Prefixes) → has 0xF2 (legacy_of p) ≡ p.repne
-has_F2 p = has_put_other p.opsize 0xF2 0x66 (addrsize_part p) refl ∙ has_put_other p.addrsize 0xF2 0x67 (rep_part p) refl ∙ has_put_other p.rep 0xF2 0xF3 (repne_part p) refl ∙ has_put p.repne 0xF2 (lock_part p) refl
-    ∙ ap (λ (b : Bool). p.repne || b) (has_put_other p.lock 0xF2 0xF0 (fs_gs_part p) refl ∙ has_put_other p.fs_gs 0xF2 0x64 [] refl)
-    ∙ or_nothing p.repne
+finds_F2 : (p : Prefixes) → has 0xF2 (legacy_of p) ≡ p.has_f2
+finds_F2 p = has_put_other p.has_66 0xF2 0x66 (part_67 p) refl ∙ has_put_other p.has_67 0xF2 0x67 (part_F3 p) refl ∙ has_put_other p.has_f3 0xF2 0xF3 (part_F2 p) refl ∙ has_put p.has_f2 0xF2 (part_F0 p) refl
+    ∙ ap (λ (b : Bool). p.has_f2 || b) (has_put_other p.has_f0 0xF2 0xF0 (part_64 p) refl ∙ has_put_other p.has_fs_gs 0xF2 0x64 [] refl)
+    ∙ or_nothing p.has_f2
 
-has_F0 : (p : Prefixes) → has 0xF0 (legacy_of p) ≡ p.lock
-has_F0 p = has_put_other p.opsize 0xF0 0x66 (addrsize_part p) refl ∙ has_put_other p.addrsize 0xF0 0x67 (rep_part p) refl ∙ has_put_other p.rep 0xF0 0xF3 (repne_part p) refl ∙ has_put_other p.repne 0xF0 0xF2 (lock_part p) refl ∙ has_put p.lock 0xF0 (fs_gs_part p) refl
-    ∙ ap (λ (b : Bool). p.lock || b) (has_put_other p.fs_gs 0xF0 0x64 [] refl)
-    ∙ or_nothing p.lock
+finds_F0 : (p : Prefixes) → has 0xF0 (legacy_of p) ≡ p.has_f0
+finds_F0 p = has_put_other p.has_66 0xF0 0x66 (part_67 p) refl ∙ has_put_other p.has_67 0xF0 0x67 (part_F3 p) refl ∙ has_put_other p.has_f3 0xF0 0xF3 (part_F2 p) refl ∙ has_put_other p.has_f2 0xF0 0xF2 (part_F0 p) refl ∙ has_put p.has_f0 0xF0 (part_64 p) refl
+    ∙ ap (λ (b : Bool). p.has_f0 || b) (has_put_other p.has_fs_gs 0xF0 0x64 [] refl)
+    ∙ or_nothing p.has_f0
 
-has_64 : (p : Prefixes) → has 0x64 (legacy_of p) ≡ p.fs_gs
-has_64 p = has_put_other p.opsize 0x64 0x66 (addrsize_part p) refl ∙ has_put_other p.addrsize 0x64 0x67 (rep_part p) refl ∙ has_put_other p.rep 0x64 0xF3 (repne_part p) refl ∙ has_put_other p.repne 0x64 0xF2 (lock_part p) refl ∙ has_put_other p.lock 0x64 0xF0 (fs_gs_part p) refl
-    ∙ has_put p.fs_gs 0x64 [] refl ∙ or_nothing p.fs_gs
+finds_64 : (p : Prefixes) → has 0x64 (legacy_of p) ≡ p.has_fs_gs
+finds_64 p = has_put_other p.has_66 0x64 0x66 (part_67 p) refl ∙ has_put_other p.has_67 0x64 0x67 (part_F3 p) refl ∙ has_put_other p.has_f3 0x64 0xF3 (part_F2 p) refl ∙ has_put_other p.has_f2 0x64 0xF2 (part_F0 p) refl ∙ has_put_other p.has_f0 0x64 0xF0 (part_64 p) refl
+    ∙ has_put p.has_fs_gs 0x64 [] refl ∙ or_nothing p.has_fs_gs
 
-has_65 : (p : Prefixes) → has 0x65 (legacy_of p) ≡ false
-has_65 p = has_put_other p.opsize 0x65 0x66 (addrsize_part p) refl ∙ has_put_other p.addrsize 0x65 0x67 (rep_part p) refl ∙ has_put_other p.rep 0x65 0xF3 (repne_part p) refl ∙ has_put_other p.repne 0x65 0xF2 (lock_part p) refl ∙ has_put_other p.lock 0x65 0xF0 (fs_gs_part p) refl
-    ∙ has_put_other p.fs_gs 0x65 0x64 [] refl
+finds_65 : (p : Prefixes) → has 0x65 (legacy_of p) ≡ false
+finds_65 p = has_put_other p.has_66 0x65 0x66 (part_67 p) refl ∙ has_put_other p.has_67 0x65 0x67 (part_F3 p) refl ∙ has_put_other p.has_f3 0x65 0xF3 (part_F2 p) refl ∙ has_put_other p.has_f2 0x65 0xF2 (part_F0 p) refl ∙ has_put_other p.has_f0 0x65 0xF0 (part_64 p) refl
+    ∙ has_put_other p.has_fs_gs 0x65 0x64 [] refl
 
 prefixes-are : (p : Prefixes) → prefixes_of (legacy_of p) p.rex ≡ p
-prefixes-are p = rw (has_66 p, has_67 p, has_F3 p, has_F2 p, has_F0 p, has_64 p, has_65 p, or_nothing p.fs_gs) refl
+prefixes-are p = rw (finds_66 p, finds_67 p, finds_F3 p, finds_F2 p, finds_F0 p, finds_64 p, finds_65 p, or_nothing p.has_fs_gs) refl
 
 abbrev IsLegacy : ℕ → Type 0
 IsLegacy b = IsTrue (is_legacy b)
@@ -108,13 +108,13 @@ put_all P true b legacy h all = (h, all)
 put_all P false b legacy h all = all
 
 all_legacy : (p : Prefixes) → AllByRecursion IsLegacy (legacy_of p)
-all_legacy p = put_all IsLegacy p.opsize 0x66 _ refl (put_all IsLegacy p.addrsize 0x67 _ refl (put_all IsLegacy p.rep 0xF3 _ refl (put_all IsLegacy p.repne 0xF2 _ refl (put_all IsLegacy p.lock 0xF0 _ refl (put_all IsLegacy p.fs_gs 0x64 [] refl tt)))))
+all_legacy p = put_all IsLegacy p.has_66 0x66 _ refl (put_all IsLegacy p.has_67 0x67 _ refl (put_all IsLegacy p.has_f3 0xF3 _ refl (put_all IsLegacy p.has_f2 0xF2 _ refl (put_all IsLegacy p.has_f0 0xF0 _ refl (put_all IsLegacy p.has_fs_gs 0x64 [] refl tt)))))
 
 abbrev IsByte : ℕ → Type 0
 IsByte b = b < 256
 
 legacy_bytes : (p : Prefixes) → IsBytes (legacy_of p)
-legacy_bytes p = put_all IsByte p.opsize 0x66 _ (omega arith) (put_all IsByte p.addrsize 0x67 _ (omega arith) (put_all IsByte p.rep 0xF3 _ (omega arith) (put_all IsByte p.repne 0xF2 _ (omega arith) (put_all IsByte p.lock 0xF0 _ (omega arith) (put_all IsByte p.fs_gs 0x64 [] (omega arith) tt)))))
+legacy_bytes p = put_all IsByte p.has_66 0x66 _ (omega arith) (put_all IsByte p.has_67 0x67 _ (omega arith) (put_all IsByte p.has_f3 0xF3 _ (omega arith) (put_all IsByte p.has_f2 0xF2 _ (omega arith) (put_all IsByte p.has_f0 0xF0 _ (omega arith) (put_all IsByte p.has_fs_gs 0x64 [] (omega arith) tt)))))
 
 -- ---- the other parts
 

@@ -1,4 +1,3 @@
-pub mod Tables
 pub mod Front
 pub mod Languages
 pub mod Map

@@ -213,18 +213,18 @@ or_nothing true = refl
 or_nothing false = refl
 
 noted_all-is : (legacy : List ℕ) (p : Prefixes) → noted_all legacy p ≡ record {
-  opsize = has 0x66 legacy || p.opsize;
-  addrsize = has 0x67 legacy || p.addrsize;
-  rep = has 0xF3 legacy || p.rep;
-  repne = has 0xF2 legacy || p.repne;
-  lock = has 0xF0 legacy || p.lock;
-  fs_gs = (has 0x64 legacy || has 0x65 legacy) || p.fs_gs;
+  has_66 = has 0x66 legacy || p.has_66;
+  has_67 = has 0x67 legacy || p.has_67;
+  has_f3 = has 0xF3 legacy || p.has_f3;
+  has_f2 = has 0xF2 legacy || p.has_f2;
+  has_f0 = has 0xF0 legacy || p.has_f0;
+  has_fs_gs = (has 0x64 legacy || has 0x65 legacy) || p.has_fs_gs;
   rex = p.rex;
 }
 noted_all-is [] p = refl
 noted_all-is (b ∷ legacy) p =
     noted_all-is legacy (noted b p)
-    ∙ rw (or_swap (has 0x66 legacy) (eqb b 0x66) p.opsize, or_swap (has 0x67 legacy) (eqb b 0x67) p.addrsize, or_swap (has 0xF3 legacy) (eqb b 0xF3) p.rep, or_swap (has 0xF2 legacy) (eqb b 0xF2) p.repne, or_swap (has 0xF0 legacy) (eqb b 0xF0) p.lock, or_swap2 (has 0x64 legacy) (has 0x65 legacy) (eqb b 0x64) (eqb b 0x65) p.fs_gs) refl
+    ∙ rw (or_swap (has 0x66 legacy) (eqb b 0x66) p.has_66, or_swap (has 0x67 legacy) (eqb b 0x67) p.has_67, or_swap (has 0xF3 legacy) (eqb b 0xF3) p.has_f3, or_swap (has 0xF2 legacy) (eqb b 0xF2) p.has_f2, or_swap (has 0xF0 legacy) (eqb b 0xF0) p.has_f0, or_swap2 (has 0x64 legacy) (has 0x65 legacy) (eqb b 0x64) (eqb b 0x65) p.has_fs_gs) refl
 
 pub noted_all-none : (legacy : List ℕ) → noted_all legacy no_prefixes ≡ prefixes_of legacy None
 noted_all-none legacy = noted_all-is legacy no_prefixes

@@ -57,7 +57,7 @@ opcode_register f = extended (rex_b f.prefixes) (f.opcode % 8)
 
 -- none of 67, 64 and 65
 abbrev pub is_plain_address : Fields → Bool
-is_plain_address f = not f.prefixes.addrsize && not f.prefixes.fs_gs
+is_plain_address f = not f.prefixes.has_67 && not f.prefixes.has_fs_gs
 
 -- memory at rsp plus a displacement: rm 4, and a SIB byte with base 4 and no index
 abbrev pub is_at_rsp : Fields → Bool
@@ -93,4 +93,4 @@ is_none None = true
 is_none (Some rex) = false
 
 abbrev pub writes : Fields → ℕ → Bool
-writes f n = not (f.shape.byte && is_none f.prefixes.rex) && writes_number f.shape.write f n
+writes f n = not (f.shape.written.byte && is_none f.prefixes.rex) && writes_number f.shape.written.write f n

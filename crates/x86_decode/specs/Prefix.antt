@@ -14,11 +14,11 @@ has prefix legacy = list_any (λ b. b == prefix) legacy
 -- what the opcode map asks of legacy prefixes, in whatever number and order, and of a REX
 abbrev pub prefixes_of : List ℕ → Option ℕ → Prefixes
 prefixes_of legacy rex = record {
-  opsize = has 0x66 legacy;
-  addrsize = has 0x67 legacy;
-  rep = has 0xF3 legacy;
-  repne = has 0xF2 legacy;
-  lock = has 0xF0 legacy;
-  fs_gs = has 0x64 legacy || has 0x65 legacy;
+  has_66 = has 0x66 legacy;
+  has_67 = has 0x67 legacy;
+  has_f3 = has 0xF3 legacy;
+  has_f2 = has 0xF2 legacy;
+  has_f0 = has 0xF0 legacy;
+  has_fs_gs = has 0x64 legacy || has 0x65 legacy;
   rex = rex;
 }

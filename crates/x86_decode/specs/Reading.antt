@@ -93,12 +93,12 @@ rex_at p seen (b ∷ bytes) =
 -- the prefixes with one more
 abbrev pub noted : ℕ → Prefixes → Prefixes
 noted b p = record {
-  opsize = (b == 0x66) || p.opsize;
-  addrsize = (b == 0x67) || p.addrsize;
-  rep = (b == 0xF3) || p.rep;
-  repne = (b == 0xF2) || p.repne;
-  lock = (b == 0xF0) || p.lock;
-  fs_gs = ((b == 0x64) || (b == 0x65)) || p.fs_gs;
+  has_66 = (b == 0x66) || p.has_66;
+  has_67 = (b == 0x67) || p.has_67;
+  has_f3 = (b == 0xF3) || p.has_f3;
+  has_f2 = (b == 0xF2) || p.has_f2;
+  has_f0 = (b == 0xF0) || p.has_f0;
+  has_fs_gs = ((b == 0x64) || (b == 0x65)) || p.has_fs_gs;
   rex = p.rex;
 }
 
@@ -109,12 +109,12 @@ prefixes_at p seen (b ∷ bytes) =
 
 abbrev pub no_prefixes : Prefixes
 no_prefixes = record {
-  opsize = false;
-  addrsize = false;
-  rep = false;
-  repne = false;
-  lock = false;
-  fs_gs = false;
+  has_66 = false;
+  has_67 = false;
+  has_f3 = false;
+  has_f2 = false;
+  has_f0 = false;
+  has_fs_gs = false;
   rex = None;
 }
 

@@ -64,136 +64,6 @@ pub enum Action {
     Group7,
 }
 
-const XX: Action = Action::Other;
-
-const EX: Action = Action::Exchange;
-
-const NO: Action = Action::NoOperation;
-
-const HI: Action = Action::Hint;
-
-const PR: Action = Action::PushRegister;
-
-const PU: Action = Action::Push;
-
-const OR: Action = Action::PopRegister;
-
-const OE: Action = Action::PopOperand;
-
-const PO: Action = Action::Pop;
-
-const OF: Action = Action::PopFlags;
-
-const AR: Action = Action::Arithmetic;
-
-const ST: Action = Action::Store;
-
-const LD: Action = Action::Load;
-
-const LA: Action = Action::LoadAddress;
-
-const EN: Action = Action::Enter;
-
-const LE: Action = Action::Leave;
-
-const CA: Action = Action::Call;
-
-const JB: Action = Action::ShortJump;
-
-const JZ: Action = Action::Jump;
-
-const CB: Action = Action::ShortCondition;
-
-const CZ: Action = Action::Condition;
-
-const RE: Action = Action::Return;
-
-const RI: Action = Action::ReturnImmediate;
-
-const IR: Action = Action::InterruptReturn;
-
-const FA: Action = Action::Far;
-
-const UD: Action = Action::Undefined;
-
-const BR: Action = Action::Breakpoint;
-
-const G5: Action = Action::Group5;
-
-const G7: Action = Action::Group7;
-
-/// The one-byte opcodes, sixteen a line.
-static ONE_BYTE: [Action; 256] = [
-    /* 0x */
-    XX, XX, XX, XX, XX, XX, XX, XX, XX, XX, XX, XX, XX, XX, XX, XX,
-    /* 1x */
-    XX, XX, XX, XX, XX, XX, XX, XX, XX, XX, XX, XX, XX, XX, XX, XX,
-    /* 2x */
-    XX, XX, XX, XX, XX, XX, XX, XX, XX, XX, XX, XX, XX, XX, XX, XX,
-    /* 3x */
-    XX, XX, XX, XX, XX, XX, XX, XX, XX, XX, XX, XX, XX, XX, XX, XX,
-    /* 4x */
-    XX, XX, XX, XX, XX, XX, XX, XX, XX, XX, XX, XX, XX, XX, XX, XX,
-    /* 5x */
-    PR, PR, PR, PR, PR, PR, PR, PR, OR, OR, OR, OR, OR, OR, OR, OR,
-    /* 6x */
-    XX, XX, XX, XX, XX, XX, XX, XX, PU, XX, PU, XX, XX, XX, XX, XX,
-    /* 7x */
-    CB, CB, CB, CB, CB, CB, CB, CB, CB, CB, CB, CB, CB, CB, CB, CB,
-    /* 8x */
-    XX, AR, XX, AR, XX, XX, XX, XX, XX, ST, XX, LD, XX, LA, XX, OE,
-    /* 9x */
-    EX, XX, XX, XX, XX, XX, XX, XX, XX, XX, XX, XX, PU, OF, XX, XX,
-    /* Ax */
-    XX, XX, XX, XX, XX, XX, XX, XX, XX, XX, XX, XX, XX, XX, XX, XX,
-    /* Bx */
-    XX, XX, XX, XX, XX, XX, XX, XX, XX, XX, XX, XX, XX, XX, XX, XX,
-    /* Cx */
-    XX, XX, RI, RE, XX, XX, XX, XX, EN, LE, FA, FA, BR, XX, XX, IR,
-    /* Dx */
-    XX, XX, XX, XX, XX, XX, XX, XX, XX, XX, XX, XX, XX, XX, XX, XX,
-    /* Ex */
-    CB, CB, CB, CB, XX, XX, XX, XX, CA, JZ, XX, JB, XX, XX, XX, XX,
-    /* Fx */
-    XX, XX, XX, XX, XX, XX, XX, XX, XX, XX, XX, XX, XX, XX, XX, G5,
-];
-
-/// The opcodes behind 0F, sixteen a line.
-static TWO_BYTE: [Action; 256] = [
-    /* 0x */
-    XX, G7, XX, XX, XX, FA, XX, FA, XX, XX, XX, UD, XX, XX, XX, XX,
-    /* 1x */
-    XX, XX, XX, XX, XX, XX, XX, XX, XX, XX, XX, XX, XX, XX, HI, NO,
-    /* 2x */
-    XX, XX, XX, XX, XX, XX, XX, XX, XX, XX, XX, XX, XX, XX, XX, XX,
-    /* 3x */
-    XX, XX, XX, XX, FA, FA, XX, XX, XX, XX, XX, XX, XX, XX, XX, XX,
-    /* 4x */
-    XX, XX, XX, XX, XX, XX, XX, XX, XX, XX, XX, XX, XX, XX, XX, XX,
-    /* 5x */
-    XX, XX, XX, XX, XX, XX, XX, XX, XX, XX, XX, XX, XX, XX, XX, XX,
-    /* 6x */
-    XX, XX, XX, XX, XX, XX, XX, XX, XX, XX, XX, XX, XX, XX, XX, XX,
-    /* 7x */
-    XX, XX, XX, XX, XX, XX, XX, XX, XX, XX, XX, XX, XX, XX, XX, XX,
-    /* 8x */
-    CZ, CZ, CZ, CZ, CZ, CZ, CZ, CZ, CZ, CZ, CZ, CZ, CZ, CZ, CZ, CZ,
-    /* 9x */
-    XX, XX, XX, XX, XX, XX, XX, XX, XX, XX, XX, XX, XX, XX, XX, XX,
-    /* Ax */
-    PU, PO, XX, XX, XX, XX, XX, XX, PU, PO, XX, XX, XX, XX, XX, XX,
-    /* Bx */
-    XX, XX, XX, XX, XX, XX, XX, XX, XX, UD, XX, XX, XX, XX, XX, XX,
-    /* Cx */
-    XX, XX, XX, XX, XX, XX, XX, XX, XX, XX, XX, XX, XX, XX, XX, XX,
-    /* Dx */
-    XX, XX, XX, XX, XX, XX, XX, XX, XX, XX, XX, XX, XX, XX, XX, XX,
-    /* Ex */
-    XX, XX, XX, XX, XX, XX, XX, XX, XX, XX, XX, XX, XX, XX, XX, XX,
-    /* Fx */
-    XX, XX, XX, XX, XX, XX, XX, XX, XX, XX, XX, XX, XX, XX, XX, XX,
-];
-
 /// What an opcode does. `map` is 1 for the one-byte opcodes, 2 for those behind 0F, 3 for those behind 0F 38.
 pub(crate) fn action_at(map: u8, opcode: u8) -> Action
     ensures { result ≡ action_of map opcode }
@@ -205,14 +75,50 @@ pub(crate) fn action_at(map: u8, opcode: u8) -> Action
     }
 }
 
+#[tactic(auto, unfolding(crate::specs::Action::action_of))]
 fn one_byte_action(opcode: u8) -> Action
     ensures { result ≡ action_of 1 opcode }
 {
-    ONE_BYTE[opcode as usize]
+    match opcode {
+        0x50..=0x57 => Action::PushRegister,
+        0x58..=0x5F => Action::PopRegister,
+        0x68 | 0x6A | 0x9C => Action::Push,
+        0x70..=0x7F | 0xE0..=0xE3 => Action::ShortCondition,
+        0x81 | 0x83 => Action::Arithmetic,
+        0x89 => Action::Store,
+        0x8B => Action::Load,
+        0x8D => Action::LoadAddress,
+        0x8F => Action::PopOperand,
+        0x90 => Action::Exchange,
+        0x9D => Action::PopFlags,
+        0xC2 => Action::ReturnImmediate,
+        0xC3 => Action::Return,
+        0xC8 => Action::Enter,
+        0xC9 => Action::Leave,
+        0xCA | 0xCB => Action::Far,
+        0xCC => Action::Breakpoint,
+        0xCF => Action::InterruptReturn,
+        0xE8 => Action::Call,
+        0xE9 => Action::Jump,
+        0xEB => Action::ShortJump,
+        0xFF => Action::Group5,
+        _ => Action::Other,
+    }
 }
 
+#[tactic(auto, unfolding(crate::specs::Action::action_of))]
 fn two_byte_action(opcode: u8) -> Action
     ensures { result ≡ action_of 2 opcode }
 {
-    TWO_BYTE[opcode as usize]
+    match opcode {
+        0x01 => Action::Group7,
+        0x05 | 0x07 | 0x34 | 0x35 => Action::Far,
+        0x0B | 0xB9 => Action::Undefined,
+        0x1E => Action::Hint,
+        0x1F => Action::NoOperation,
+        0x80..=0x8F => Action::Condition,
+        0xA0 | 0xA8 => Action::Push,
+        0xA1 | 0xA9 => Action::Pop,
+        _ => Action::Other,
+    }
 }

@@ -100,7 +100,7 @@ impl Fields {
     fn is_plain_address(&self) -> bool
         ensures { result ≡ is_plain_address self.now }
     {
-        !self.prefixes.addrsize && !self.prefixes.fs_gs
+        !self.prefixes.has_67 && !self.prefixes.has_fs_gs
     }
 
     pub(crate) fn is_at_rsp(&self) -> bool
@@ -142,13 +142,13 @@ impl Fields {
     pub(crate) fn writes(&self, number: u8) -> bool
         ensures { result ≡ writes self.now number }
     {
-        !(self.shape.byte && self.prefixes.rex.is_none()) && self.writes_number(number)
+        !(self.shape.written.byte && self.prefixes.rex.is_none()) && self.writes_number(number)
     }
 
     fn writes_number(&self, number: u8) -> bool
-        ensures { result ≡ writes_number self.now.shape.write self.now number }
+        ensures { result ≡ writes_number self.now.shape.written.write self.now number }
     {
-        match self.shape.write {
+        match self.shape.written.write {
             Write::Nothing => false,
             Write::Rm => self.is_register() && self.rm_register() == number,
             Write::Reg => self.reg_register() == number,

@@ -6,12 +6,12 @@ use x86_map::Prefixes;
 
 /// No prefix.
 pub(crate) const NO_PREFIXES: Prefixes = Prefixes {
-    opsize: false,
-    addrsize: false,
-    rep: false,
-    repne: false,
-    lock: false,
-    fs_gs: false,
+    has_66: false,
+    has_67: false,
+    has_f3: false,
+    has_f2: false,
+    has_f0: false,
+    has_fs_gs: false,
     rex: None,
 };
 
@@ -20,15 +20,15 @@ pub(crate) fn noted(p: Prefixes, byte: u8) -> Option<Prefixes>
     ensures { result ≡ (if is_legacy byte then Some (noted byte p) else None) }
 {
     match byte {
-        0x66 => Some(Prefixes { opsize: true, ..p }),
-        0x67 => Some(Prefixes {
-            addrsize: true,
+        0x66 => Some(Prefixes { has_66: true, ..p }),
+        0x67 => Some(Prefixes { has_67: true, ..p }),
+        0xF3 => Some(Prefixes { has_f3: true, ..p }),
+        0xF2 => Some(Prefixes { has_f2: true, ..p }),
+        0xF0 => Some(Prefixes { has_f0: true, ..p }),
+        0x64 | 0x65 => Some(Prefixes {
+            has_fs_gs: true,
             ..p
         }),
-        0xF3 => Some(Prefixes { rep: true, ..p }),
-        0xF2 => Some(Prefixes { repne: true, ..p }),
-        0xF0 => Some(Prefixes { lock: true, ..p }),
-        0x64 | 0x65 => Some(Prefixes { fs_gs: true, ..p }),
         0x2E | 0x36 | 0x3E | 0x26 => Some(p),
         _ => None,
     }

@@ -7,8 +7,8 @@ use Rattle.x86_map.specs.declared.shape.Write.TheVariants.{Nothing, Reg}
 use Rattle.x86_map.specs.declared.shape.Shape.{Shape}
 use Rattle.x86_map.specs.declared.shape.Look.{Look}
 use Rattle.x86_map.specs.declared.shape.Look.TheVariants.{Refused, NeedModrm, Fits}
-use Rattle.x86_map.specs.declared.form.Rule.{Rule}
-use Rattle.x86_map.specs.declared.form.Rule.TheVariants.{May, Must, MustNot}
+use Rattle.x86_map.specs.declared.form.PrefixUse.{PrefixUse}
+use Rattle.x86_map.specs.declared.form.PrefixUse.TheVariants.{Allowed, Required, Forbidden}
 use Rattle.x86_map.specs.declared.form.Form.{Form}
 use Rattle.x86_map.specs.Prefixes.{is_rex_valid}
 use Rattle.x86_map.specs.Form.{allows, look_form}
@@ -21,10 +21,10 @@ use Rattle.x86_map.specs.OpcodeMap.{forms_in, forms_at, look_forms, look, stands
 
 -- what follows an opcode with no operand
 abbrev pub plain : ℕ → Shape
-plain imm = record { modrm = false; imm = imm; byte = false; write = Nothing }
+plain imm = record { modrm = false; imm = imm; written = record { byte = false; write = Nothing } }
 
 abbrev pub reads_modrm : Shape
-reads_modrm = record { modrm = true; imm = 0; byte = false; write = Reg }
+reads_modrm = record { modrm = true; imm = 0; written = record { byte = false; write = Reg } }
 
 -- HLT stands with any prefixes
 pub look-hlt : (p : Prefixes) → is_rex_valid p.rex ≡ true → look p 1 0xF4 None ≡ Fits (plain 0)
@@ -32,41 +32,41 @@ unfolding look forms_at look_form
 look-hlt p valid = rw valid
 
 -- WBINVD stands without F2
-pub look-wbinvd : (p : Prefixes) → is_rex_valid p.rex ≡ true → p.repne ≡ false → look p 2 0x09 None ≡ Fits (plain 0)
+pub look-wbinvd : (p : Prefixes) → is_rex_valid p.rex ≡ true → p.has_f2 ≡ false → look p 2 0x09 None ≡ Fits (plain 0)
 unfolding look forms_at look_form
 look-wbinvd p valid no_f2 = rw (valid, no_f2)
 
 -- JO stands without 66
-pub look-jo : (p : Prefixes) → is_rex_valid p.rex ≡ true → p.opsize ≡ false → look p 2 0x80 None ≡ Fits (plain 4)
+pub look-jo : (p : Prefixes) → is_rex_valid p.rex ≡ true → p.has_66 ≡ false → look p 2 0x80 None ≡ Fits (plain 4)
 unfolding look forms_at look_form
 look-jo p valid no_66 = rw (valid, no_66)
 
 -- MOVBE stands with neither F3 nor F2
-pub look-movbe : (p : Prefixes) → is_rex_valid p.rex ≡ true → p.rep ≡ false → p.repne ≡ false → (look p 3 0xF0 None ≡ NeedModrm) × (look p 3 0xF0 (Some 0) ≡ Fits reads_modrm)
+pub look-movbe : (p : Prefixes) → is_rex_valid p.rex ≡ true → p.has_f3 ≡ false → p.has_f2 ≡ false → (look p 3 0xF0 None ≡ NeedModrm) × (look p 3 0xF0 (Some 0) ≡ Fits reads_modrm)
 unfolding look forms_at look_form
 look-movbe p valid no_f3 no_f2 = (rw (valid, no_f3, no_f2), rw (valid, no_f3, no_f2))
 
 -- CRC32 stands with F2 and without F3
-pub look-crc32 : (p : Prefixes) → is_rex_valid p.rex ≡ true → p.rep ≡ false → p.repne ≡ true → (look p 3 0xF0 None ≡ NeedModrm) × (look p 3 0xF0 (Some 0) ≡ Fits reads_modrm)
+pub look-crc32 : (p : Prefixes) → is_rex_valid p.rex ≡ true → p.has_f3 ≡ false → p.has_f2 ≡ true → (look p 3 0xF0 None ≡ NeedModrm) × (look p 3 0xF0 (Some 0) ≡ Fits reads_modrm)
 unfolding look forms_at look_form
 look-crc32 p valid no_f3 f2 = (rw (valid, no_f3, f2), rw (valid, no_f3, f2))
 
 -- ADOX stands with F3 and with neither F2 nor 66
-pub look-adox : (p : Prefixes) → is_rex_valid p.rex ≡ true → p.rep ≡ true → p.repne ≡ false → p.opsize ≡ false → (look p 3 0xF6 None ≡ NeedModrm) × (look p 3 0xF6 (Some 0) ≡ Fits reads_modrm)
+pub look-adox : (p : Prefixes) → is_rex_valid p.rex ≡ true → p.has_f3 ≡ true → p.has_f2 ≡ false → p.has_66 ≡ false → (look p 3 0xF6 None ≡ NeedModrm) × (look p 3 0xF6 (Some 0) ≡ Fits reads_modrm)
 unfolding look forms_at look_form
 look-adox p valid f3 no_f2 no_66 = (rw (valid, f3, no_f2, no_66), rw (valid, f3, no_f2, no_66))
 
 -- ---- prefixes that no opcode of a map stands with
 
-abbrev is_must_not : Rule → Bool
-is_must_not MustNot = true
-is_must_not May = false
-is_must_not Must = false
+abbrev is_must_not : PrefixUse → Bool
+is_must_not Forbidden = true
+is_must_not Allowed = false
+is_must_not Required = false
 
-allows-not : (r : Rule) (present : Bool) → is_must_not r ≡ true → present ≡ true → allows r present ≡ false
-allows-not May present not_it here = absurd cc
-allows-not Must present not_it here = absurd cc
-allows-not MustNot present not_it here = rw here
+allows-not : (r : PrefixUse) (present : Bool) → is_must_not r ≡ true → present ≡ true → allows r present ≡ false
+allows-not Allowed present not_it here = absurd cc
+allows-not Required present not_it here = absurd cc
+allows-not Forbidden present not_it here = rw here
 
 -- a test of forms that makes each form refuse
 abbrev Refuses : (Form → Bool) → Prefixes → Type 0
@@ -98,56 +98,56 @@ pub or_true : (a b : Bool) → (a || b) ≡ true → (a ≡ true) ⊎ (b ≡ tru
 or_true true b h = inl refl
 or_true false b h = inr h
 
--- the rule of one prefix is enough to refuse
-refused_by_opsize : (p : Prefixes) (form : Form) → allows form.rules.opsize p.opsize ≡ false → look_form form p None ≡ Refused
+-- what is asked of one prefix is enough to refuse
+refused_by_66 : (p : Prefixes) (form : Form) → allows form.prefixes.of_66 p.has_66 ≡ false → look_form form p None ≡ Refused
 unfolding look_form
-refused_by_opsize p form never = rw never
+refused_by_66 p form never = rw never
 
-refused_by_rep : (p : Prefixes) (form : Form) → allows form.rules.rep p.rep ≡ false → look_form form p None ≡ Refused
+refused_by_f3 : (p : Prefixes) (form : Form) → allows form.prefixes.of_f3 p.has_f3 ≡ false → look_form form p None ≡ Refused
 unfolding look_form
-refused_by_rep p form never = rw (never, and_false)
+refused_by_f3 p form never = rw (never, and_false)
 
-refused_by_repne : (p : Prefixes) (form : Form) → allows form.rules.repne p.repne ≡ false → look_form form p None ≡ Refused
+refused_by_f2 : (p : Prefixes) (form : Form) → allows form.prefixes.of_f2 p.has_f2 ≡ false → look_form form p None ≡ Refused
 unfolding look_form
-refused_by_repne p form never = rw (never, and_false)
+refused_by_f2 p form never = rw (never, and_false)
 
 abbrev not_66_f2 : Form → Bool
-not_66_f2 f = is_must_not f.rules.opsize || is_must_not f.rules.repne
+not_66_f2 f = is_must_not f.prefixes.of_66 || is_must_not f.prefixes.of_f2
 
 -- behind 0F nothing stands with both 66 and F2
-two_byte-refused : (p : Prefixes) → p.opsize ≡ true → p.repne ≡ true → (opcode : ℕ) → look p 2 opcode None ≡ Refused
+two_byte-refused : (p : Prefixes) → p.has_66 ≡ true → p.has_f2 ≡ true → (opcode : ℕ) → look p 2 opcode None ≡ Refused
 unfolding look forms_at
 two_byte-refused p has_66 has_f2 opcode =
-    let refuses : Refuses not_66_f2 p = λ f h. elim (or_true (is_must_not f.rules.opsize) (is_must_not f.rules.repne) h) [
-      | inl never ↦ refused_by_opsize p f (allows-not f.rules.opsize p.opsize never has_66)
-      | inr never ↦ refused_by_repne p f (allows-not f.rules.repne p.repne never has_f2)
+    let refuses : Refuses not_66_f2 p = λ f h. elim (or_true (is_must_not f.prefixes.of_66) (is_must_not f.prefixes.of_f2) h) [
+      | inl never ↦ refused_by_66 p f (allows-not f.prefixes.of_66 p.has_66 never has_66)
+      | inr never ↦ refused_by_f2 p f (allows-not f.prefixes.of_f2 p.has_f2 never has_f2)
     ] in
     let all : look_forms (forms_in two_byte_map opcode) p None ≡ Refused = look_forms-refused not_66_f2 p refuses two_byte_map opcode refl in
     elim (is_rex_valid p.rex) as (λ b. cond b (look_forms (forms_in two_byte_map opcode) p None) Refused ≡ Refused) [ true ↦ all | false ↦ refl ]
 
 abbrev not_f3_66 : Form → Bool
-not_f3_66 f = is_must_not f.rules.rep || is_must_not f.rules.opsize
+not_f3_66 f = is_must_not f.prefixes.of_f3 || is_must_not f.prefixes.of_66
 
 abbrev not_f3_f2 : Form → Bool
-not_f3_f2 f = is_must_not f.rules.rep || is_must_not f.rules.repne
+not_f3_f2 f = is_must_not f.prefixes.of_f3 || is_must_not f.prefixes.of_f2
 
 -- behind 0F 38 nothing stands with both F3 and 66, nor with both F3 and F2
-three_byte-refused_66 : (p : Prefixes) → p.rep ≡ true → p.opsize ≡ true → (opcode : ℕ) → look p 3 opcode None ≡ Refused
+three_byte-refused_66 : (p : Prefixes) → p.has_f3 ≡ true → p.has_66 ≡ true → (opcode : ℕ) → look p 3 opcode None ≡ Refused
 unfolding look forms_at
 three_byte-refused_66 p has_f3 has_66 opcode =
-    let refuses : Refuses not_f3_66 p = λ f h. elim (or_true (is_must_not f.rules.rep) (is_must_not f.rules.opsize) h) [
-      | inl never ↦ refused_by_rep p f (allows-not f.rules.rep p.rep never has_f3)
-      | inr never ↦ refused_by_opsize p f (allows-not f.rules.opsize p.opsize never has_66)
+    let refuses : Refuses not_f3_66 p = λ f h. elim (or_true (is_must_not f.prefixes.of_f3) (is_must_not f.prefixes.of_66) h) [
+      | inl never ↦ refused_by_f3 p f (allows-not f.prefixes.of_f3 p.has_f3 never has_f3)
+      | inr never ↦ refused_by_66 p f (allows-not f.prefixes.of_66 p.has_66 never has_66)
     ] in
     let all : look_forms (forms_in three_byte_map opcode) p None ≡ Refused = look_forms-refused not_f3_66 p refuses three_byte_map opcode refl in
     elim (is_rex_valid p.rex) as (λ b. cond b (look_forms (forms_in three_byte_map opcode) p None) Refused ≡ Refused) [ true ↦ all | false ↦ refl ]
 
-three_byte-refused_f2 : (p : Prefixes) → p.rep ≡ true → p.repne ≡ true → (opcode : ℕ) → look p 3 opcode None ≡ Refused
+three_byte-refused_f2 : (p : Prefixes) → p.has_f3 ≡ true → p.has_f2 ≡ true → (opcode : ℕ) → look p 3 opcode None ≡ Refused
 unfolding look forms_at
 three_byte-refused_f2 p has_f3 has_f2 opcode =
-    let refuses : Refuses not_f3_f2 p = λ f h. elim (or_true (is_must_not f.rules.rep) (is_must_not f.rules.repne) h) [
-      | inl never ↦ refused_by_rep p f (allows-not f.rules.rep p.rep never has_f3)
-      | inr never ↦ refused_by_repne p f (allows-not f.rules.repne p.repne never has_f2)
+    let refuses : Refuses not_f3_f2 p = λ f h. elim (or_true (is_must_not f.prefixes.of_f3) (is_must_not f.prefixes.of_f2) h) [
+      | inl never ↦ refused_by_f3 p f (allows-not f.prefixes.of_f3 p.has_f3 never has_f3)
+      | inr never ↦ refused_by_f2 p f (allows-not f.prefixes.of_f2 p.has_f2 never has_f2)
     ] in
     let all : look_forms (forms_in three_byte_map opcode) p None ≡ Refused = look_forms-refused not_f3_f2 p refuses three_byte_map opcode refl in
     elim (is_rex_valid p.rex) as (λ b. cond b (look_forms (forms_in three_byte_map opcode) p None) Refused ≡ Refused) [ true ↦ all | false ↦ refl ]
@@ -172,16 +172,16 @@ or_false_right true b h = absurd cc
 or_false_right false b h = h
 
 -- where the test fails every opcode is refused
-refused_2 : (p : Prefixes) (opcode : ℕ) → not (p.repne && p.opsize) ≡ false → look p 2 opcode None ≡ Refused
+refused_2 : (p : Prefixes) (opcode : ℕ) → not (p.has_f2 && p.has_66) ≡ false → look p 2 opcode None ≡ Refused
 refused_2 p opcode fails =
-    let both : (p.repne && p.opsize) ≡ true = not_false (p.repne && p.opsize) fails in
-    two_byte-refused p (and_right p.repne p.opsize both) (and_left p.repne p.opsize both) opcode
+    let both : (p.has_f2 && p.has_66) ≡ true = not_false (p.has_f2 && p.has_66) fails in
+    two_byte-refused p (and_right p.has_f2 p.has_66 both) (and_left p.has_f2 p.has_66 both) opcode
 
-refused_3 : (p : Prefixes) (opcode : ℕ) → (not p.rep || not (p.opsize || p.repne)) ≡ false → look p 3 opcode None ≡ Refused
+refused_3 : (p : Prefixes) (opcode : ℕ) → (not p.has_f3 || not (p.has_66 || p.has_f2)) ≡ false → look p 3 opcode None ≡ Refused
 refused_3 p opcode fails =
-    let has_f3 : p.rep ≡ true = not_false p.rep (or_false_left (not p.rep) (not (p.opsize || p.repne)) fails) in
-    let one : (p.opsize || p.repne) ≡ true = not_false (p.opsize || p.repne) (or_false_right (not p.rep) (not (p.opsize || p.repne)) fails) in
-    elim (or_true p.opsize p.repne one) [
+    let has_f3 : p.has_f3 ≡ true = not_false p.has_f3 (or_false_left (not p.has_f3) (not (p.has_66 || p.has_f2)) fails) in
+    let one : (p.has_66 || p.has_f2) ≡ true = not_false (p.has_66 || p.has_f2) (or_false_right (not p.has_f3) (not (p.has_66 || p.has_f2)) fails) in
+    elim (or_true p.has_66 p.has_f2 one) [
       | inl has_66 ↦ three_byte-refused_66 p has_f3 has_66 opcode
       | inr has_f2 ↦ three_byte-refused_f2 p has_f3 has_f2 opcode
     ]
@@ -214,12 +214,12 @@ refused_from_test p number opcode low high fails =
 found : (p : Prefixes) (number opcode : ℕ) (l : Look) → opcode < 256 → look p number opcode None ≡ l → l ≢ Refused → AcceptsSome p number
 found p number opcode l lt is not_refused = (opcode, lt, λ h. not_refused (sym is ∙ h))
 
-some_2 : (p : Prefixes) → is_rex_valid p.rex ≡ true → (b c : Bool) → p.repne ≡ b → p.opsize ≡ c → not (b && c) ≡ true → AcceptsSome p 2
+some_2 : (p : Prefixes) → is_rex_valid p.rex ≡ true → (b c : Bool) → p.has_f2 ≡ b → p.has_66 ≡ c → not (b && c) ≡ true → AcceptsSome p 2
 some_2 p valid false c f2 o h = found p 2 0x09 (Fits (plain 0)) (omega arith) (look-wbinvd p valid f2) (λ e. cc)
 some_2 p valid true false f2 o h = found p 2 0x80 (Fits (plain 4)) (omega arith) (look-jo p valid o) (λ e. cc)
 some_2 p valid true true f2 o h = absurd cc
 
-some_3 : (p : Prefixes) → is_rex_valid p.rex ≡ true → (a b c : Bool) → p.rep ≡ a → p.repne ≡ b → p.opsize ≡ c → (not a || not (c || b)) ≡ true → AcceptsSome p 3
+some_3 : (p : Prefixes) → is_rex_valid p.rex ≡ true → (a b c : Bool) → p.has_f3 ≡ a → p.has_f2 ≡ b → p.has_66 ≡ c → (not a || not (c || b)) ≡ true → AcceptsSome p 3
 some_3 p valid false false c f3 f2 o h = found p 3 0xF0 NeedModrm (omega arith) (look-movbe p valid f3 f2).0 (λ e. cc)
 some_3 p valid false true c f3 f2 o h = found p 3 0xF0 NeedModrm (omega arith) (look-crc32 p valid f3 f2).0 (λ e. cc)
 some_3 p valid true false false f3 f2 o h = found p 3 0xF6 NeedModrm (omega arith) (look-adox p valid f3 f2 o).0 (λ e. cc)
@@ -233,8 +233,8 @@ some_from_test p number low high holds =
     let inside : stands_in p number ≡ true = and_right (is_rex_valid p.rex) (stands_in p number) holds in
     elim (one_to_three number low high) [
       | inl first ↦ rw first (found p 1 0xF4 (Fits (plain 0)) (omega arith) (look-hlt p valid) (λ e. cc))
-      | inr (inl second) ↦ rw second (some_2 p valid p.repne p.opsize refl refl (rw second at inside))
-      | inr (inr third) ↦ rw third (some_3 p valid p.rep p.repne p.opsize refl refl refl (rw third at inside))
+      | inr (inl second) ↦ rw second (some_2 p valid p.has_f2 p.has_66 refl refl (rw second at inside))
+      | inr (inr third) ↦ rw third (some_3 p valid p.has_f3 p.has_f2 p.has_66 refl refl refl (rw third at inside))
     ]
 
 -- the test says whether some opcode stands

@@ -5,10 +5,10 @@ use Rattle.std.specs.List.{list_all, range_with_len, AllByRecursion}
 use Rattle.std.proofs.lemmas.List.FromFn.{get_or-map-range_with_len, get_or-range_with_len, length-range_with_len}
 use Rattle.x86_map.specs.declared.prefixes.Prefixes.{Prefixes}
 use Rattle.x86_map.specs.declared.shape.Shape.{Shape}
-use Rattle.x86_map.specs.declared.shape.Look.TheVariants.{Refused, Fits}
-use Rattle.x86_map.specs.declared.form.Rule.{Rule}
-use Rattle.x86_map.specs.declared.form.Rule.TheVariants.{May, Must, MustNot}
-use Rattle.x86_map.specs.declared.form.Rules.{Rules}
+use Rattle.x86_map.specs.declared.shape.Look.TheVariants.{Refused, NeedModrm, Fits}
+use Rattle.x86_map.specs.declared.form.PrefixUse.{PrefixUse}
+use Rattle.x86_map.specs.declared.form.PrefixUse.TheVariants.{Allowed, Required, Forbidden}
+use Rattle.x86_map.specs.declared.form.PrefixUses.{PrefixUses}
 use Rattle.x86_map.specs.declared.form.Operand.{Operand}
 use Rattle.x86_map.specs.declared.form.Operand.TheVariants.{NoModrm, Digits, Bytes}
 use Rattle.x86_map.specs.declared.form.Form.{Form}
@@ -19,63 +19,63 @@ use Rattle.x86_map.specs.Apart.{FitsOnce, FormsAreApart}
 use Rattle.x86_map.proofs.Accepting.{and_left, and_right, or_true, one_to_three}
 use Rattle.x86_map.proofs.Modrm.{refused_form, accepted_form}
 
--- ---- rules that no prefixes meet both
+-- ---- uses of prefixes that no prefixes meet both
 
-abbrev conflict : Rule → Rule → Bool
-conflict Must MustNot = true
-conflict Must May = false
-conflict Must Must = false
-conflict MustNot Must = true
-conflict MustNot May = false
-conflict MustNot MustNot = false
-conflict May r = false
+abbrev conflict : PrefixUse → PrefixUse → Bool
+conflict Required Forbidden = true
+conflict Required Allowed = false
+conflict Required Required = false
+conflict Forbidden Required = true
+conflict Forbidden Allowed = false
+conflict Forbidden Forbidden = false
+conflict Allowed r = false
 
-conflict-allows : (r q : Rule) (b : Bool) → conflict r q ≡ true → allows r b ≡ true → allows q b ≡ false
-conflict-allows Must MustNot b h a = rw a
-conflict-allows Must May b h a = absurd cc
-conflict-allows Must Must b h a = absurd cc
-conflict-allows MustNot Must true h a = absurd cc
-conflict-allows MustNot Must false h a = refl
-conflict-allows MustNot May b h a = absurd cc
-conflict-allows MustNot MustNot b h a = absurd cc
-conflict-allows May q b h a = absurd cc
+conflict-allows : (r q : PrefixUse) (b : Bool) → conflict r q ≡ true → allows r b ≡ true → allows q b ≡ false
+conflict-allows Required Forbidden b h a = rw a
+conflict-allows Required Allowed b h a = absurd cc
+conflict-allows Required Required b h a = absurd cc
+conflict-allows Forbidden Required true h a = absurd cc
+conflict-allows Forbidden Required false h a = refl
+conflict-allows Forbidden Allowed b h a = absurd cc
+conflict-allows Forbidden Forbidden b h a = absurd cc
+conflict-allows Allowed q b h a = absurd cc
 
-abbrev rules_apart : Rules → Rules → Bool
-rules_apart r q = conflict r.opsize q.opsize || (conflict r.rep q.rep || (conflict r.repne q.repne || conflict r.rex_b q.rex_b))
+abbrev uses_apart : PrefixUses → PrefixUses → Bool
+uses_apart r q = conflict r.of_66 q.of_66 || (conflict r.of_f3 q.of_f3 || (conflict r.of_f2 q.of_f2 || conflict r.of_rex_b q.of_rex_b))
 
-record Accepted (r : Rules) (p : Prefixes) : Type 0 where
-  opsize : allows r.opsize p.opsize ≡ true
-  rep : allows r.rep p.rep ≡ true
-  repne : allows r.repne p.repne ≡ true
-  rex : allows r.rex_b (rex_b p) ≡ true
+record Accepted (r : PrefixUses) (p : Prefixes) : Type 0 where
+  of_66 : allows r.of_66 p.has_66 ≡ true
+  of_f3 : allows r.of_f3 p.has_f3 ≡ true
+  of_f2 : allows r.of_f2 p.has_f2 ≡ true
+  rex : allows r.of_rex_b (rex_b p) ≡ true
 
-accepted : (r : Rules) (p : Prefixes) → accepts r p ≡ true → Accepted r p
+accepted : (r : PrefixUses) (p : Prefixes) → accepts r p ≡ true → Accepted r p
 accepted r p h =
-    let o = allows r.opsize p.opsize in
-    let a = allows r.addrsize p.addrsize in
-    let f = allows r.rep p.rep in
-    let n = allows r.repne p.repne in
-    let x = allows r.rex_b (rex_b p) in
+    let o = allows r.of_66 p.has_66 in
+    let a = allows r.of_67 p.has_67 in
+    let f = allows r.of_f3 p.has_f3 in
+    let n = allows r.of_f2 p.has_f2 in
+    let x = allows r.of_rex_b (rex_b p) in
     let four = and_left (o && a && f && n) x h in
     let three = and_left (o && a && f) n four in
     let two = and_left (o && a) f three in
-    record { opsize = and_left o a two; rep = and_right (o && a) f three; repne = and_right (o && a && f) n four; rex = and_right (o && a && f && n) x h }
+    record { of_66 = and_left o a two; of_f3 = and_right (o && a) f three; of_f2 = and_right (o && a && f) n four; rex = and_right (o && a && f && n) x h }
 
--- of two such rules the second refuses what the first accepts
-refused_by_rules : (r q : Rules) (p : Prefixes) → rules_apart r q ≡ true → accepts r p ≡ true → accepts q p ≡ false
-refused_by_rules r q p apart h =
+-- of two such uses the second refuses what the first accepts
+refused_by_uses : (r q : PrefixUses) (p : Prefixes) → uses_apart r q ≡ true → accepts r p ≡ true → accepts q p ≡ false
+refused_by_uses r q p apart h =
     let a = accepted r p h in
     elim (accepts q p) as (λ b. accepts q p ≡ b → b ≡ false) [
       | false ↦ λ e. refl
       | true ↦ λ e.
           let c = accepted q p e in
-          elim (or_true (conflict r.opsize q.opsize) (conflict r.rep q.rep || (conflict r.repne q.repne || conflict r.rex_b q.rex_b)) apart) [
-            | inl k ↦ let no_opsize = conflict-allows r.opsize q.opsize p.opsize k a.opsize in absurd cc
-            | inr k ↦ elim (or_true (conflict r.rep q.rep) (conflict r.repne q.repne || conflict r.rex_b q.rex_b) k) [
-              | inl k ↦ let no_rep = conflict-allows r.rep q.rep p.rep k a.rep in absurd cc
-              | inr k ↦ elim (or_true (conflict r.repne q.repne) (conflict r.rex_b q.rex_b) k) [
-                | inl k ↦ let no_repne = conflict-allows r.repne q.repne p.repne k a.repne in absurd cc
-                | inr k ↦ let no_rex = conflict-allows r.rex_b q.rex_b (rex_b p) k a.rex in absurd cc
+          elim (or_true (conflict r.of_66 q.of_66) (conflict r.of_f3 q.of_f3 || (conflict r.of_f2 q.of_f2 || conflict r.of_rex_b q.of_rex_b)) apart) [
+            | inl k ↦ let no_66 = conflict-allows r.of_66 q.of_66 p.has_66 k a.of_66 in absurd cc
+            | inr k ↦ elim (or_true (conflict r.of_f3 q.of_f3) (conflict r.of_f2 q.of_f2 || conflict r.of_rex_b q.of_rex_b) k) [
+              | inl k ↦ let no_f3 = conflict-allows r.of_f3 q.of_f3 p.has_f3 k a.of_f3 in absurd cc
+              | inr k ↦ elim (or_true (conflict r.of_f2 q.of_f2) (conflict r.of_rex_b q.of_rex_b) k) [
+                | inl k ↦ let no_f2 = conflict-allows r.of_f2 q.of_f2 p.has_f2 k a.of_f2 in absurd cc
+                | inr k ↦ let no_rex = conflict-allows r.of_rex_b q.of_rex_b (rex_b p) k a.rex in absurd cc
               ]
             ]
           ]
@@ -93,10 +93,10 @@ abbrev may_answer : Option ℕ → Operand → Bool
 may_answer None o = true
 may_answer (Some m) o = takes o m
 
--- the forms that may answer are apart by their rules
+-- the forms that may answer are apart by their prefixes
 abbrev apart_from : Option ℕ → Form → List Form → Bool
 apart_from modrm f [] = true
-apart_from modrm f (g ∷ forms) = (not (may_answer modrm g.operand) || rules_apart f.rules g.rules) && apart_from modrm f forms
+apart_from modrm f (g ∷ forms) = (not (may_answer modrm g.operand) || uses_apart f.prefixes g.prefixes) && apart_from modrm f forms
 
 abbrev all_apart : Option ℕ → List Form → Bool
 all_apart modrm [] = true
@@ -142,44 +142,42 @@ cond_fits : (b : Bool) (s t : Shape) → cond b (Fits s) Refused ≡ Fits t → 
 cond_fits true s t h = refl
 cond_fits false s t h = absurd cc
 
+cond_needs : (b : Bool) (s t : Shape) → cond b NeedModrm (Fits s) ≡ Fits t → not b ≡ true
+cond_needs true s t h = absurd cc
+cond_needs false s t h = refl
+
 operand_holds : (o : Operand) (modrm : Option ℕ) (s t : Shape) → look_operand o modrm s ≡ Fits t → holds modrm o ≡ true
-operand_holds NoModrm None s t h = refl
-operand_holds NoModrm (Some m) s t h = absurd cc
-operand_holds (Digits mode first last) None s t h = absurd cc
-operand_holds (Digits mode first last) (Some m) s t h = cond_fits (takes (Digits mode first last) m) s t h
-operand_holds (Bytes first last) None s t h = absurd cc
-operand_holds (Bytes first last) (Some m) s t h = cond_fits (takes (Bytes first last) m) s t h
+operand_holds o None s t h = cond_needs (has_modrm o) s t h
+operand_holds o (Some m) s t h = cond_fits (takes o m) s t h
 
 operand_refuses : (o : Operand) (modrm : Option ℕ) (s : Shape) → may_answer modrm o ≡ false → look_operand o modrm s ≡ Refused
 operand_refuses o None s h = absurd cc
-operand_refuses NoModrm (Some m) s h = refl
-operand_refuses (Digits mode first last) (Some m) s h = rw h
-operand_refuses (Bytes first last) (Some m) s h = rw h
+operand_refuses o (Some m) s h = rw h
 
 record FormFits (f : Form) (p : Prefixes) (modrm : Option ℕ) : Type 0 where
-  accept : accepts f.rules p ≡ true
+  accept : accepts f.prefixes p ≡ true
   hold : holds modrm f.operand ≡ true
 
 form_fits : (f : Form) (p : Prefixes) (modrm : Option ℕ) (s : Shape) → look_form f p modrm ≡ Fits s → FormFits f p modrm
-form_fits f p modrm s h = elim (accepts f.rules p) as (λ b. accepts f.rules p ≡ b → FormFits f p modrm) [
+form_fits f p modrm s h = elim (accepts f.prefixes p) as (λ b. accepts f.prefixes p ≡ b → FormFits f p modrm) [
   | true ↦ λ e. record { accept = e; hold = operand_holds f.operand modrm (shape_of f p) s (sym (accepted_form f p modrm e) ∙ h) }
   | false ↦ λ e. let refused = refused_form f p modrm e in absurd cc
 ] refl
 
 form_refuses : (g : Form) (p : Prefixes) (modrm : Option ℕ) → may_answer modrm g.operand ≡ false → look_form g p modrm ≡ Refused
-form_refuses g p modrm h = elim (accepts g.rules p) as (λ b. accepts g.rules p ≡ b → look_form g p modrm ≡ Refused) [
+form_refuses g p modrm h = elim (accepts g.prefixes p) as (λ b. accepts g.prefixes p ≡ b → look_form g p modrm ≡ Refused) [
   | true ↦ λ e. accepted_form g p modrm e ∙ operand_refuses g.operand modrm (shape_of g p) h
   | false ↦ λ e. refused_form g p modrm e
 ] refl
 
-others_refuse : (modrm : Option ℕ) (f : Form) (forms : List Form) (p : Prefixes) → apart_from modrm f forms ≡ true → accepts f.rules p ≡ true → AllByRecursion (λ g. look_form g p modrm ≡ Refused) forms
+others_refuse : (modrm : Option ℕ) (f : Form) (forms : List Form) (p : Prefixes) → apart_from modrm f forms ≡ true → accepts f.prefixes p ≡ true → AllByRecursion (λ g. look_form g p modrm ≡ Refused) forms
 others_refuse modrm f [] p h accept = tt
 others_refuse modrm f (g ∷ forms) p h accept =
-    let here : look_form g p modrm ≡ Refused = elim (or_true (not (may_answer modrm g.operand)) (rules_apart f.rules g.rules) (and_left (not (may_answer modrm g.operand) || rules_apart f.rules g.rules) (apart_from modrm f forms) h)) [
+    let here : look_form g p modrm ≡ Refused = elim (or_true (not (may_answer modrm g.operand)) (uses_apart f.prefixes g.prefixes) (and_left (not (may_answer modrm g.operand) || uses_apart f.prefixes g.prefixes) (apart_from modrm f forms) h)) [
       | inl silent ↦ form_refuses g p modrm (not_true (may_answer modrm g.operand) silent)
-      | inr apart ↦ refused_form g p modrm (refused_by_rules f.rules g.rules p apart accept)
+      | inr apart ↦ refused_form g p modrm (refused_by_uses f.prefixes g.prefixes p apart accept)
     ] in
-    (here, others_refuse modrm f forms p (and_right (not (may_answer modrm g.operand) || rules_apart f.rules g.rules) (apart_from modrm f forms) h) accept)
+    (here, others_refuse modrm f forms p (and_right (not (may_answer modrm g.operand) || uses_apart f.prefixes g.prefixes) (apart_from modrm f forms) h) accept)
 
 holds_then : (b c : Bool) → (not b || c) ≡ true → b ≡ true → c ≡ true
 holds_then true c h e = h

@@ -66,18 +66,16 @@ uniform number opcode low high lt = elim (one_to_three number low high) [
 
 -- ---- one form
 
-pub refused_form : (f : Form) (p : Prefixes) (modrm : Option ℕ) → accepts f.rules p ≡ false → look_form f p modrm ≡ Refused
+pub refused_form : (f : Form) (p : Prefixes) (modrm : Option ℕ) → accepts f.prefixes p ≡ false → look_form f p modrm ≡ Refused
 unfolding look_form
 refused_form f p modrm refuses = rw refuses
 
-pub accepted_form : (f : Form) (p : Prefixes) (modrm : Option ℕ) → accepts f.rules p ≡ true → look_form f p modrm ≡ look_operand f.operand modrm (shape_of f p)
+pub accepted_form : (f : Form) (p : Prefixes) (modrm : Option ℕ) → accepts f.prefixes p ≡ true → look_form f p modrm ≡ look_operand f.operand modrm (shape_of f p)
 unfolding look_form
 accepted_form f p modrm accept = rw accept
 
 need_operand : (o : Operand) (s : Shape) → has_modrm o ≡ true → look_operand o None s ≡ NeedModrm
-need_operand NoModrm s h = absurd cc
-need_operand (Digits mode first last) s h = refl
-need_operand (Bytes first last) s h = refl
+need_operand o s h = rw h
 
 without_operand : (o : Operand) (s : Shape) (m : ℕ) → has_modrm o ≡ false → look_operand o (Some m) s ≡ Refused
 without_operand NoModrm s m h = refl
@@ -85,9 +83,7 @@ without_operand (Digits mode first last) s m h = absurd cc
 without_operand (Bytes first last) s m h = absurd cc
 
 fits_operand : (o : Operand) (s : Shape) (m : ℕ) → takes o m ≡ true → look_operand o (Some m) s ≡ Fits s
-fits_operand NoModrm s m h = absurd cc
-fits_operand (Digits mode first last) s m h = rw h
-fits_operand (Bytes first last) s m h = rw h
+fits_operand o s m h = rw h
 
 not_true : (b : Bool) → not b ≡ true → b ≡ false
 not_true true h = absurd cc
@@ -97,16 +93,14 @@ not_true false h = refl
 
 -- forms without a ModRM byte refuse each
 plain_operand : (o : Operand) (s : Shape) → has_modrm o ≡ false → look_operand o None s ≡ Fits s
-plain_operand NoModrm s h = refl
-plain_operand (Digits mode first last) s h = absurd cc
-plain_operand (Bytes first last) s h = absurd cc
+plain_operand o s h = rw h
 
 none_fits : (forms : List Form) (p : Prefixes) (m : ℕ) → all_without forms ≡ true → look_forms forms p (Some m) ≡ Refused
 none_fits [] p m h = refl
 none_fits (f ∷ forms) p m h =
     let rest : look_forms forms p (Some m) ≡ Refused = none_fits forms p m (and_right (not (has_modrm f.operand)) (all_without forms) h) in
     let without : has_modrm f.operand ≡ false = not_true (has_modrm f.operand) (and_left (not (has_modrm f.operand)) (all_without forms) h) in
-    let here : look_form f p (Some m) ≡ Refused = elim (accepts f.rules p) as (λ b. accepts f.rules p ≡ b → look_form f p (Some m) ≡ Refused) [
+    let here : look_form f p (Some m) ≡ Refused = elim (accepts f.prefixes p) as (λ b. accepts f.prefixes p ≡ b → look_form f p (Some m) ≡ Refused) [
       | true ↦ λ e. accepted_form f p (Some m) e ∙ without_operand f.operand (shape_of f p) m without
       | false ↦ λ e. refused_form f p (Some m) e
     ] refl in
@@ -117,7 +111,7 @@ asks : (forms : List Form) (p : Prefixes) (m : ℕ) (s : Shape) → all_with for
 asks [] p m s h fits = absurd cc
 asks (f ∷ forms) p m s h fits =
     let has : has_modrm f.operand ≡ true = and_left (has_modrm f.operand) (all_with forms) h in
-    elim (accepts f.rules p) as (λ b. accepts f.rules p ≡ b → look_forms (f ∷ forms) p None ≡ NeedModrm) [
+    elim (accepts f.prefixes p) as (λ b. accepts f.prefixes p ≡ b → look_forms (f ∷ forms) p None ≡ NeedModrm) [
       | true ↦ λ e. rw (accepted_form f p None e, need_operand f.operand (shape_of f p) has)
       | false ↦ λ e. rw (refused_form f p None e) (asks forms p m s (and_right (has_modrm f.operand) (all_with forms) h) (rw (refused_form f p (Some m) e) at fits))
     ] refl
@@ -135,7 +129,7 @@ some_fits (f ∷ forms) p h examples asked =
     let has : has_modrm f.operand ≡ true = and_left (has_modrm f.operand) (all_with forms) h in
     let example_of : takes_example f ≡ true = and_left (takes_example f) (list_all takes_example forms) examples in
     let taken : (takes f.operand (example f.operand) && ltb (example f.operand) 256) ≡ true = rw has at example_of in
-    elim (accepts f.rules p) as (λ b. accepts f.rules p ≡ b → SomeFits (λ m. look_forms (f ∷ forms) p (Some m))) [
+    elim (accepts f.prefixes p) as (λ b. accepts f.prefixes p ≡ b → SomeFits (λ m. look_forms (f ∷ forms) p (Some m))) [
       | true ↦ λ e. record {
         modrm = example f.operand;
         is_byte = ltb-true _ _ (and_right (takes f.operand (example f.operand)) (ltb (example f.operand) 256) taken);
@@ -151,7 +145,7 @@ without_asks : (forms : List Form) (p : Prefixes) → all_without forms ≡ true
 without_asks [] p h asked = cc
 without_asks (f ∷ forms) p h asked =
     let without : has_modrm f.operand ≡ false = not_true (has_modrm f.operand) (and_left (not (has_modrm f.operand)) (all_without forms) h) in
-    elim (accepts f.rules p) as (λ b. accepts f.rules p ≡ b → ⊥) [
+    elim (accepts f.prefixes p) as (λ b. accepts f.prefixes p ≡ b → ⊥) [
       | true ↦ λ e. let fits : look_form f p None ≡ Fits (shape_of f p) = accepted_form f p None e ∙ plain_operand f.operand (shape_of f p) without in
           let all : look_forms (f ∷ forms) p None ≡ Fits (shape_of f p) = rw fits in cc
       | false ↦ λ e. without_asks forms p (and_right (not (has_modrm f.operand)) (all_without forms) h) (rw (refused_form f p None e) at asked)
@@ -200,12 +194,10 @@ look-some p number opcode low high lt asked =
 
 -- a ModRM byte that is there isn't asked for
 never_operand : (o : Operand) (s : Shape) (m : ℕ) → look_operand o (Some m) s ≡ NeedModrm → ⊥
-never_operand NoModrm s m h = cc
-never_operand (Digits mode first last) s m h = elim (takes (Digits mode first last) m) as (λ b. cond b (Fits s) Refused ≡ NeedModrm → ⊥) [ true ↦ λ e. cc | false ↦ λ e. cc ] h
-never_operand (Bytes first last) s m h = elim (takes (Bytes first last) m) as (λ b. cond b (Fits s) Refused ≡ NeedModrm → ⊥) [ true ↦ λ e. cc | false ↦ λ e. cc ] h
+never_operand o s m h = elim (takes o m) as (λ b. cond b (Fits s) Refused ≡ NeedModrm → ⊥) [ true ↦ λ e. cc | false ↦ λ e. cc ] h
 
 never_form : (f : Form) (p : Prefixes) (m : ℕ) → look_form f p (Some m) ≡ NeedModrm → ⊥
-never_form f p m h = elim (accepts f.rules p) as (λ b. accepts f.rules p ≡ b → ⊥) [
+never_form f p m h = elim (accepts f.prefixes p) as (λ b. accepts f.prefixes p ≡ b → ⊥) [
   | true ↦ λ e. never_operand f.operand (shape_of f p) m (sym (accepted_form f p (Some m) e) ∙ h)
   | false ↦ λ e. let refused = refused_form f p (Some m) e in cc
 ] refl

@@ -10,9 +10,9 @@ use Rattle.x86_map.specs.declared.form.Operand.{Operand}
 use Rattle.x86_map.specs.declared.form.Operand.TheVariants.{NoModrm, Digits, Bytes}
 use Rattle.x86_map.specs.declared.form.Immediate.{Immediate}
 use Rattle.x86_map.specs.declared.form.Immediate.TheVariants.{NoImmediate, Ib, Iw, IwIb, Iz, Iv, Moffs}
-use Rattle.x86_map.specs.declared.form.Rule.{Rule}
-use Rattle.x86_map.specs.declared.form.Rule.TheVariants.{May, Must, MustNot}
-use Rattle.x86_map.specs.declared.form.Rules.{Rules}
+use Rattle.x86_map.specs.declared.form.PrefixUse.{PrefixUse}
+use Rattle.x86_map.specs.declared.form.PrefixUse.TheVariants.{Allowed, Required, Forbidden}
+use Rattle.x86_map.specs.declared.form.PrefixUses.{PrefixUses}
 use Rattle.x86_map.specs.declared.form.Form.{Form}
 use Rattle.x86_map.specs.Prefixes.{rex_w, rex_b}
 
@@ -27,15 +27,15 @@ abbrev pub modrm_rm : ℕ → ℕ
 modrm_rm modrm = modrm % 8
 
 -- a prefix that may stand, must or must not
-abbrev pub allows : Rule → Bool → Bool
-allows May present = true
-allows Must present = present
-allows MustNot present = not present
+abbrev pub allows : PrefixUse → Bool → Bool
+allows Allowed present = true
+allows Required present = present
+allows Forbidden present = not present
 
-abbrev pub accepts : Rules → Prefixes → Bool
-accepts rules p =
-    allows rules.opsize p.opsize && allows rules.addrsize p.addrsize && allows rules.rep p.rep
-    && allows rules.repne p.repne && allows rules.rex_b (rex_b p)
+abbrev pub accepts : PrefixUses → Prefixes → Bool
+accepts uses p =
+    allows uses.of_66 p.has_66 && allows uses.of_67 p.has_67 && allows uses.of_f3 p.has_f3
+    && allows uses.of_f2 p.has_f2 && allows uses.of_rex_b (rex_b p)
 
 -- mod 3 is a register, the others are memory
 abbrev pub is_in_mode : Mode → ℕ → Bool
@@ -63,29 +63,23 @@ imm_len NoImmediate p = 0
 imm_len Ib p = 1
 imm_len Iw p = 2
 imm_len IwIb p = 3
-imm_len Iz p = if p.opsize && not (rex_w p) then 2 else 4
-imm_len Iv p = if rex_w p then 8 else (if p.opsize then 2 else 4)
+imm_len Iz p = if p.has_66 && not (rex_w p) then 2 else 4
+imm_len Iv p = if rex_w p then 8 else (if p.has_66 then 2 else 4)
 imm_len Moffs p = 8
 
 abbrev pub shape_of : Form → Prefixes → Shape
 shape_of form p = record {
   modrm = has_modrm form.operand;
   imm = imm_len form.immediate p;
-  byte = form.byte;
-  write = form.write;
+  written = form.written;
 }
 
 -- what an operand says of a ModRM byte or of none
 abbrev pub look_operand : Operand → Option ℕ → Shape → Look
-look_operand NoModrm None shape = Fits shape
-look_operand NoModrm (Some modrm) shape = Refused
-look_operand (Digits mode first last) None shape = NeedModrm
-look_operand (Digits mode first last) (Some modrm) shape =
-    if takes (Digits mode first last) modrm then Fits shape else Refused
-look_operand (Bytes first last) None shape = NeedModrm
-look_operand (Bytes first last) (Some modrm) shape = if takes (Bytes first last) modrm then Fits shape else Refused
+look_operand operand None shape = if has_modrm operand then NeedModrm else Fits shape
+look_operand operand (Some modrm) shape = if takes operand modrm then Fits shape else Refused
 
 -- what a form says of prefixes, and of a ModRM byte or of none
 unfoldable pub look_form : Form → Prefixes → Option ℕ → Look
 look_form form p modrm =
-    if accepts form.rules p then look_operand form.operand modrm (shape_of form p) else Refused
+    if accepts form.prefixes p then look_operand form.operand modrm (shape_of form p) else Refused

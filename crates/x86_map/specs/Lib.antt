@@ -5,5 +5,4 @@ pub mod OneByte
 pub mod TwoByte
 pub mod ThreeByte
 pub mod OpcodeMap
-pub mod Cells
 pub mod Apart

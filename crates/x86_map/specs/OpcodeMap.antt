@@ -44,7 +44,7 @@ AcceptsSome p number = (opcode : ℕ) × (opcode < 256) × (look p number opcode
 abbrev pub stands_in : Prefixes → ℕ → Bool
 stands_in p number =
     if number == 1 then true
-    else (if number == 2 then not (p.repne && p.opsize) else not p.rep || not (p.opsize || p.repne))
+    else (if number == 2 then not (p.has_f2 && p.has_66) else not p.has_f3 || not (p.has_66 || p.has_f2))
 
 abbrev pub stands : Prefixes → ℕ → Bool
 stands p number = is_rex_valid p.rex && stands_in p number

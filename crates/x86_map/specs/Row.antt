@@ -1,15 +1,15 @@
 -- The words in which the rows of the opcode map are written, by the letters of appendix A of the SDM.
 use Rattle.std.specs.Prelude.{ℕ, Bool, true, false, ◌&&◌, ◌==◌, nat_le, List}
 use Rattle.std.specs.List.{list_any}
-use Rattle.x86_map.specs.declared.shape.Write.{Write}
+use Rattle.x86_map.specs.declared.shape.Written.{Written}
 use Rattle.x86_map.specs.declared.shape.Write.TheVariants.{Nothing, Rm, Reg, Both, Opcode}
 use Rattle.x86_map.specs.declared.form.Mode.TheVariants.{Either, Memory, Register}
 use Rattle.x86_map.specs.declared.form.Operand.{Operand}
 use Rattle.x86_map.specs.declared.form.Operand.TheVariants.{NoModrm, Digits, Bytes}
 use Rattle.x86_map.specs.declared.form.Immediate.{Immediate}
 use Rattle.x86_map.specs.declared.form.Immediate.TheVariants.{NoImmediate, Ib, Iz}
-use Rattle.x86_map.specs.declared.form.Rule.TheVariants.{May, Must, MustNot}
-use Rattle.x86_map.specs.declared.form.Rules.{Rules}
+use Rattle.x86_map.specs.declared.form.PrefixUse.TheVariants.{Allowed, Required, Forbidden}
+use Rattle.x86_map.specs.declared.form.PrefixUses.{PrefixUses}
 use Rattle.x86_map.specs.declared.form.Form.{Form}
 
 -- some opcodes, and the form of the instructions that they begin
@@ -71,11 +71,7 @@ Jb = Ib
 abbrev pub Jz : Immediate
 Jz = Iz
 
--- ---- written registers: of the rm field (E), the reg field (G), both, or the opcode (Z); of a byte (b) or more (v)
-
-pub record Written : Type 0 where
-  pub byte : Bool
-  pub write : Write
+-- ---- written registers, of those that ModRM or the opcode names: of the rm field (E), the reg field (G), both, or the opcode (Z); of a byte (b) or more (v)
 
 abbrev pub nothing : Written
 nothing = record { byte = false; write = Nothing }
@@ -104,62 +100,65 @@ Zb = record { byte = true; write = Opcode }
 abbrev pub Zv : Written
 Zv = record { byte = false; write = Opcode }
 
--- ---- prefixes
+-- ---- prefixes: which may stand, must or must not
 
 -- any prefix may stand
-abbrev pub any : Rules
-any = record { opsize = May; addrsize = May; rep = May; repne = May; rex_b = May }
+abbrev pub any : PrefixUses
+any = record { of_66 = Allowed; of_67 = Allowed; of_f3 = Allowed; of_f2 = Allowed; of_rex_b = Allowed }
 
-abbrev pub no_66 : Rules
-no_66 = record { opsize = MustNot; addrsize = May; rep = May; repne = May; rex_b = May }
+-- 66 may not
+abbrev pub no_66 : PrefixUses
+no_66 = record { of_66 = Forbidden; of_67 = Allowed; of_f3 = Allowed; of_f2 = Allowed; of_rex_b = Allowed }
 
-abbrev pub no_67 : Rules
-no_67 = record { opsize = May; addrsize = MustNot; rep = May; repne = May; rex_b = May }
+-- 67 may not
+abbrev pub no_67 : PrefixUses
+no_67 = record { of_66 = Allowed; of_67 = Forbidden; of_f3 = Allowed; of_f2 = Allowed; of_rex_b = Allowed }
 
-abbrev pub with_REX_B : Rules
-with_REX_B = record { opsize = May; addrsize = May; rep = May; repne = May; rex_b = Must }
+-- F2 may not
+abbrev pub no_F2 : PrefixUses
+no_F2 = record { of_66 = Allowed; of_67 = Allowed; of_f3 = Allowed; of_f2 = Forbidden; of_rex_b = Allowed }
 
-abbrev pub no_REX_B : Rules
-no_REX_B = record { opsize = May; addrsize = May; rep = May; repne = May; rex_b = MustNot }
+-- neither F2 nor F3 may
+abbrev pub no_F2_F3 : PrefixUses
+no_F2_F3 = record { of_66 = Allowed; of_67 = Allowed; of_f3 = Forbidden; of_f2 = Forbidden; of_rex_b = Allowed }
 
--- neither F3 nor F2
-abbrev pub no_rep : Rules
-no_rep = record { opsize = May; addrsize = May; rep = MustNot; repne = MustNot; rex_b = May }
+-- none of 66, F2 and F3 may
+abbrev pub no_66_F2_F3 : PrefixUses
+no_66_F2_F3 = record { of_66 = Forbidden; of_67 = Allowed; of_f3 = Forbidden; of_f2 = Forbidden; of_rex_b = Allowed }
 
--- none of F3, F2 and 66
-abbrev pub no_rep_66 : Rules
-no_rep_66 = record { opsize = MustNot; addrsize = May; rep = MustNot; repne = MustNot; rex_b = May }
+-- REX.B may not
+abbrev pub no_REX_B : PrefixUses
+no_REX_B = record { of_66 = Allowed; of_67 = Allowed; of_f3 = Allowed; of_f2 = Allowed; of_rex_b = Forbidden }
 
--- F3 may stand, F2 not
-abbrev pub may_F3 : Rules
-may_F3 = record { opsize = May; addrsize = May; rep = May; repne = MustNot; rex_b = May }
+-- 66 must, neither F2 nor F3 may
+abbrev pub with_66 : PrefixUses
+with_66 = record { of_66 = Required; of_67 = Allowed; of_f3 = Forbidden; of_f2 = Forbidden; of_rex_b = Allowed }
 
--- F3 must stand, F2 not
-abbrev pub F3 : Rules
-F3 = record { opsize = May; addrsize = May; rep = Must; repne = MustNot; rex_b = May }
+-- F2 must, F3 may not
+abbrev pub with_F2 : PrefixUses
+with_F2 = record { of_66 = Allowed; of_67 = Allowed; of_f3 = Forbidden; of_f2 = Required; of_rex_b = Allowed }
 
--- F3 must stand, neither F2 nor 66
-abbrev pub F3_no_66 : Rules
-F3_no_66 = record { opsize = MustNot; addrsize = May; rep = Must; repne = MustNot; rex_b = May }
+-- F3 must, F2 may not
+abbrev pub with_F3 : PrefixUses
+with_F3 = record { of_66 = Allowed; of_67 = Allowed; of_f3 = Required; of_f2 = Forbidden; of_rex_b = Allowed }
 
--- F2 must stand, F3 not
-abbrev pub F2 : Rules
-F2 = record { opsize = May; addrsize = May; rep = MustNot; repne = Must; rex_b = May }
+-- F3 must, neither F2 nor 66 may
+abbrev pub with_F3_no_66 : PrefixUses
+with_F3_no_66 = record { of_66 = Forbidden; of_67 = Allowed; of_f3 = Required; of_f2 = Forbidden; of_rex_b = Allowed }
 
--- 66 must stand, neither F3 nor F2
-abbrev pub with_66 : Rules
-with_66 = record { opsize = Must; addrsize = May; rep = MustNot; repne = MustNot; rex_b = May }
+-- REX.B must
+abbrev pub with_REX_B : PrefixUses
+with_REX_B = record { of_66 = Allowed; of_67 = Allowed; of_f3 = Allowed; of_f2 = Allowed; of_rex_b = Required }
 
 -- ---- rows
 
-abbrev pub row : (ℕ → Bool) → Operand → Immediate → Written → Rules → Row
-row opcodes operand immediate written rules = record {
+abbrev pub row : (ℕ → Bool) → Operand → Immediate → Written → PrefixUses → Row
+row opcodes operand immediate written prefixes = record {
   opcodes = opcodes;
   form = record {
     operand = operand;
     immediate = immediate;
-    byte = written.byte;
-    write = written.write;
-    rules = rules;
+    written = written;
+    prefixes = prefixes;
   };
 }

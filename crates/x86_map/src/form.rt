@@ -12,7 +12,7 @@ ghost use Rattle.x86_map.specs.Form.{
 };
 
 use crate::prefixes::Prefixes;
-use crate::shape::{Look, Shape, Write};
+use crate::shape::{Look, Shape, Written};
 
 /// What the mod field of a ModRM byte may be.
 #[derive(Clone, Copy)]
@@ -57,28 +57,28 @@ pub enum Immediate {
 
 /// Whether a prefix may stand before an opcode.
 #[derive(Clone, Copy)]
-pub enum Rule {
+pub enum PrefixUse {
     /// It may.
-    May,
+    Allowed,
     /// It has to.
-    Must,
+    Required,
     /// It may not.
-    MustNot,
+    Forbidden,
 }
 
-/// Which prefixes an opcode asks for and refuses. All others may stand.
+/// Which prefixes may stand before an opcode. All others may: F0, the segment overrides, REX.W, REX.R and REX.X.
 #[derive(Clone, Copy)]
-pub struct Rules {
-    /// 66.
-    pub opsize: Rule,
-    /// 67.
-    pub addrsize: Rule,
-    /// F3.
-    pub rep: Rule,
-    /// F2.
-    pub repne: Rule,
-    /// REX.B.
-    pub rex_b: Rule,
+pub struct PrefixUses {
+    /// Of 66.
+    pub of_66: PrefixUse,
+    /// Of 67.
+    pub of_67: PrefixUse,
+    /// Of F3.
+    pub of_f3: PrefixUse,
+    /// Of F2.
+    pub of_f2: PrefixUse,
+    /// Of REX.B.
+    pub of_rex_b: PrefixUse,
 }
 
 /// The form of the instructions that an opcode begins.
@@ -88,35 +88,33 @@ pub struct Form {
     pub operand: Operand,
     /// The immediate.
     pub immediate: Immediate,
-    /// Whether the written registers are byte registers.
-    pub byte: bool,
     /// Which register is written.
-    pub write: Write,
+    pub written: Written,
     /// Under which prefixes.
-    pub rules: Rules,
+    pub prefixes: PrefixUses,
 }
 
-impl Rule {
+impl PrefixUse {
     fn allows(self, present: bool) -> bool
         ensures { result ≡ allows self present }
     {
         match self {
-            Rule::May => true,
-            Rule::Must => present,
-            Rule::MustNot => !present,
+            PrefixUse::Allowed => true,
+            PrefixUse::Required => present,
+            PrefixUse::Forbidden => !present,
         }
     }
 }
 
-impl Rules {
+impl PrefixUses {
     fn accept(&self, p: &Prefixes) -> bool
         ensures { result ≡ accepts self.now p.now }
     {
-        self.opsize.allows(p.opsize)
-            && self.addrsize.allows(p.addrsize)
-            && self.rep.allows(p.rep)
-            && self.repne.allows(p.repne)
-            && self.rex_b.allows(p.rex_b())
+        self.of_66.allows(p.has_66)
+            && self.of_67.allows(p.has_67)
+            && self.of_f3.allows(p.has_f3)
+            && self.of_f2.allows(p.has_f2)
+            && self.of_rex_b.allows(p.rex_b())
     }
 }
 
@@ -165,9 +163,9 @@ impl Immediate {
             Immediate::Ib => 1,
             Immediate::Iw => 2,
             Immediate::IwIb => 3,
-            Immediate::Iz => if p.opsize && !p.rex_w() { 2 } else { 4 },
+            Immediate::Iz => if p.has_66 && !p.rex_w() { 2 } else { 4 },
             Immediate::Iv if p.rex_w() => 8,
-            Immediate::Iv => if p.opsize { 2 } else { 4 },
+            Immediate::Iv => if p.has_66 { 2 } else { 4 },
             Immediate::Moffs => 8,
         }
     }
@@ -180,8 +178,7 @@ impl Form {
         Shape {
             modrm: self.operand.has_modrm(),
             imm: self.immediate.len(p),
-            byte: self.byte,
-            write: self.write,
+            written: self.written,
         }
     }
 
@@ -190,7 +187,7 @@ impl Form {
     pub(crate) fn look(&self, p: &Prefixes, modrm: Option<u8>) -> Look
         ensures { result ≡ look_form self.now p.now modrm }
     {
-        if !self.rules.accept(p) {
+        if !self.prefixes.accept(p) {
             return Look::Refused;
         }
         match modrm {

@@ -1,20 +1,18 @@
 ghost use Rattle.std.specs.Prelude.{◌≡◌, ◌↔◌, ◌<◌, ℕ, IsTrue};
 ghost use Rattle.x86_map.specs.OpcodeMap.{forms_at, look_forms, look, stands, AcceptsSome};
 ghost use Rattle.x86_map.specs.Apart.{FormsAreApart};
-ghost use Rattle.x86_map.specs.Cells.{cell_forms};
 
 use crate::form::Form;
-use crate::group::Cell;
 use crate::one_byte::one_byte;
 use crate::prefixes::Prefixes;
 use crate::shape::Look;
 use crate::three_byte::three_byte;
 use crate::two_byte::two_byte;
 
-fn cell_at(map: u8, opcode: u8) -> Cell
+fn forms_at(map: u8, opcode: u8) -> &'static [Form]
     requires first { 0 < map }
     requires last { map < 4 }
-    ensures { cell_forms result ≡ forms_at map opcode }
+    ensures { result.now ≡ forms_at map opcode }
 {
     match map {
         1 => one_byte(opcode),
@@ -46,11 +44,7 @@ pub fn lookup(p: Prefixes, map: u8, opcode: u8, modrm: Option<u8>) -> Look
     if !p.has_valid_rex() {
         return Look::Refused;
     }
-    match cell_at(map, opcode) {
-        Cell::Empty => Look::Refused,
-        Cell::One(form) => form.look(&p, modrm),
-        Cell::Several(group) => look_among(group.forms(), &p, modrm),
-    }
+    look_among(forms_at(map, opcode), &p, modrm)
 }
 
 fn stands(p: &Prefixes, map: u8) -> bool
@@ -59,8 +53,8 @@ fn stands(p: &Prefixes, map: u8) -> bool
     p.has_valid_rex()
         && match map {
             1 => true,
-            2 => !(p.repne && p.opsize),
-            _ => !p.rep || !(p.opsize || p.repne),
+            2 => !(p.has_f2 && p.has_66),
+            _ => !p.has_f3 || !(p.has_66 || p.has_f2),
         }
 }
 

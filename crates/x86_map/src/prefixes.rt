@@ -2,21 +2,22 @@ ghost use Rattle.std.specs.Prelude.{◌≡◌, ◌<◌};
 ghost use Rattle.x86_map.specs.Prefixes.{has_rex_bit, rex_w, rex_r, rex_x, rex_b, is_rex_valid};
 
 /// The prefixes of an instruction, as far as the opcode map asks for them (SDM, volume 2, section 2.1.1).
-/// The segment overrides of CS, DS, ES and SS change nothing in 64-bit mode and aren't here.
+/// The segment overrides of CS, DS, ES and SS aren't here: in 64-bit mode they change nothing that the map tells apart (3E
+/// before FF /2 and /4 is NOTRACK).
 #[derive(Clone, Copy, Debug, PartialEq, Eq)]
 pub struct Prefixes {
     /// 66, the operand-size override.
-    pub opsize: bool,
+    pub has_66: bool,
     /// 67, the address-size override.
-    pub addrsize: bool,
-    /// F3, REP.
-    pub rep: bool,
-    /// F2, REPNE.
-    pub repne: bool,
-    /// F0, LOCK.
-    pub lock: bool,
+    pub has_67: bool,
+    /// F3: REP, or a part of the opcode.
+    pub has_f3: bool,
+    /// F2: REPNE, or a part of the opcode.
+    pub has_f2: bool,
+    /// F0: LOCK.
+    pub has_f0: bool,
     /// 64 or 65, the segment override of FS or GS.
-    pub fs_gs: bool,
+    pub has_fs_gs: bool,
     /// The REX byte, 40 to 4F, that stands right before the opcode.
     pub rex: Option<u8>,
 }

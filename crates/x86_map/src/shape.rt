@@ -1,4 +1,5 @@
-/// Which general register an instruction writes, beside what it does to the stack.
+/// Which general register an instruction writes, of those that ModRM or the opcode names. What it does to others, as MUL
+/// to rDX or PUSH to rSP, isn't said here.
 #[derive(Clone, Copy, Debug, PartialEq, Eq)]
 pub enum Write {
     /// None.
@@ -13,6 +14,15 @@ pub enum Write {
     Opcode,
 }
 
+/// Which registers an instruction writes, and of which size.
+#[derive(Clone, Copy, Debug, PartialEq, Eq)]
+pub struct Written {
+    /// Whether they are byte registers: there the numbers 4 to 7 without a REX are AH, CH, DH and BH.
+    pub byte: bool,
+    /// Which registers.
+    pub write: Write,
+}
+
 /// What follows the opcode, and what is written.
 #[derive(Clone, Copy, Debug, PartialEq, Eq)]
 pub struct Shape {
@@ -20,10 +30,8 @@ pub struct Shape {
     pub modrm: bool,
     /// How many bytes the immediate has, or the address of A0 to A3.
     pub imm: u8,
-    /// Whether the written registers are byte registers: there the numbers 4 to 7 without a REX are AH, CH, DH and BH.
-    pub byte: bool,
     /// Which register is written.
-    pub write: Write,
+    pub written: Written,
 }
 
 /// What the opcode map says of prefixes and an opcode, and of a ModRM byte where one is given.

@@ -1,12 +1,12 @@
 use super::*;
 
 const NONE: Prefixes = Prefixes {
-    opsize: false,
-    addrsize: false,
-    rep: false,
-    repne: false,
-    lock: false,
-    fs_gs: false,
+    has_66: false,
+    has_67: false,
+    has_f3: false,
+    has_f2: false,
+    has_f0: false,
+    has_fs_gs: false,
     rex: None,
 };
 
@@ -19,8 +19,10 @@ fn modrm_bytes(rt: HostRuntime) {
         Look::Fits(Shape {
             modrm: true,
             imm: 0,
-            byte: false,
-            write: Write::Rm
+            written: Written {
+                byte: false,
+                write: Write::Rm
+            }
         })
     );
     assert_eq!(rt;
@@ -28,8 +30,10 @@ fn modrm_bytes(rt: HostRuntime) {
         Look::Fits(Shape {
             modrm: true,
             imm: 0,
-            byte: false,
-            write: Write::Reg
+            written: Written {
+                byte: false,
+                write: Write::Reg
+            }
         })
     );
     assert_eq!(rt; lookup(NONE, 1, 0x8D, Some(0xE5)), Look::Refused);
@@ -43,14 +47,16 @@ fn prefixes(rt: HostRuntime) {
         Look::Fits(Shape {
             modrm: false,
             imm: 4,
-            byte: false,
-            write: Write::Opcode
+            written: Written {
+                byte: false,
+                write: Write::Opcode
+            }
         })
     );
     assert_eq!(rt;
         lookup(
             Prefixes {
-                opsize: true,
+                has_66: true,
                 ..NONE
             },
             1,
@@ -60,8 +66,10 @@ fn prefixes(rt: HostRuntime) {
         Look::Fits(Shape {
             modrm: false,
             imm: 2,
-            byte: false,
-            write: Write::Opcode
+            written: Written {
+                byte: false,
+                write: Write::Opcode
+            }
         })
     );
     assert_eq!(rt;
@@ -77,17 +85,29 @@ fn prefixes(rt: HostRuntime) {
         Look::Fits(Shape {
             modrm: false,
             imm: 8,
-            byte: false,
-            write: Write::Opcode
+            written: Written {
+                byte: false,
+                write: Write::Opcode
+            }
         })
     );
     assert_eq!(rt;
-        lookup(Prefixes { rep: true, ..NONE }, 2, 0x1E, Some(0xFA)),
+        lookup(
+            Prefixes {
+                has_f3: true,
+                ..NONE
+            },
+            2,
+            0x1E,
+            Some(0xFA)
+        ),
         Look::Fits(Shape {
             modrm: true,
             imm: 0,
-            byte: false,
-            write: Write::Nothing
+            written: Written {
+                byte: false,
+                write: Write::Nothing
+            }
         })
     );
     assert_eq!(rt; lookup(NONE, 2, 0x1E, Some(0xFA)), Look::Refused);
@@ -111,8 +131,8 @@ fn maps(rt: HostRuntime) {
     assert!(rt;
         !accepts_some(
             Prefixes {
-                opsize: true,
-                repne: true,
+                has_66: true,
+                has_f2: true,
                 ..NONE
             },
             2
@@ -121,8 +141,8 @@ fn maps(rt: HostRuntime) {
     assert!(rt;
         accepts_some(
             Prefixes {
-                opsize: true,
-                repne: true,
+                has_66: true,
+                has_f2: true,
                 ..NONE
             },
             3
@@ -131,8 +151,8 @@ fn maps(rt: HostRuntime) {
     assert!(rt;
         !accepts_some(
             Prefixes {
-                opsize: true,
-                rep: true,
+                has_66: true,
+                has_f3: true,
                 ..NONE
             },
             3

@@ -1,311 +1,73 @@
-//! The opcodes behind 0F and 0F 38 with several forms (SDM, volume 2, table A-6).
+//! The opcodes behind 0F and 0F 38 with several forms (SDM, volume 2, tables A-4 and A-6).
 
-use crate::form::{Form, Immediate, Mode, Operand};
-use crate::shape::Write;
-use crate::words::{E, M, MAY_REP, NO_REP, NO_REP_NO_66, ONLY_66, PLAIN, REP, REP_NO_66, REPNE};
+use crate::form::Form;
+use crate::words::{form, immediate, operand, prefixes, written};
 
 /// 0F 00: SLDT, STR; LLDT to VERW.
-pub(crate) static GROUP_6: [Form; 2] = [
-    Form {
-        operand: Operand::Digits {
-            mode: Mode::Either,
-            first: 0,
-            last: 1,
-        },
-        write: Write::Rm,
-        rules: NO_REP,
-        ..PLAIN
-    },
-    Form {
-        operand: Operand::Digits {
-            mode: Mode::Either,
-            first: 2,
-            last: 5,
-        },
-        rules: NO_REP,
-        ..PLAIN
-    },
+pub(crate) const GROUP_6: &[Form] = &[
+    form!(E[0..=1], no_imm, Ev, no_F2_F3),
+    form!(E[2..=5], no_imm, nothing, no_F2_F3),
 ];
 
-/// 0F 01: descriptor tables, machine status word and more.
-pub(crate) static GROUP_7: [Form; 11] = [
-    Form {
-        operand: Operand::Digits {
-            mode: Mode::Memory,
-            first: 0,
-            last: 3,
-        },
-        rules: NO_REP,
-        ..PLAIN
-    },
-    Form {
-        operand: Operand::Digits {
-            mode: Mode::Either,
-            first: 4,
-            last: 4,
-        },
-        write: Write::Rm,
-        rules: NO_REP,
-        ..PLAIN
-    },
-    Form {
-        operand: Operand::Digits {
-            mode: Mode::Either,
-            first: 6,
-            last: 6,
-        },
-        rules: NO_REP,
-        ..PLAIN
-    },
-    Form {
-        operand: Operand::Digits {
-            mode: Mode::Memory,
-            first: 7,
-            last: 7,
-        },
-        rules: NO_REP,
-        ..PLAIN
-    },
-    Form {
-        operand: Operand::Bytes {
-            first: 0xC1,
-            last: 0xC1,
-        },
-        rules: NO_REP_NO_66,
-        ..PLAIN
-    },
-    Form {
-        operand: Operand::Bytes {
-            first: 0xC8,
-            last: 0xCB,
-        },
-        rules: NO_REP_NO_66,
-        ..PLAIN
-    },
-    Form {
-        operand: Operand::Bytes {
-            first: 0xD0,
-            last: 0xD1,
-        },
-        rules: NO_REP_NO_66,
-        ..PLAIN
-    },
-    Form {
-        operand: Operand::Bytes {
-            first: 0xD9,
-            last: 0xD9,
-        },
-        rules: NO_REP_NO_66,
-        ..PLAIN
-    },
-    Form {
-        operand: Operand::Bytes {
-            first: 0xE8,
-            last: 0xE8,
-        },
-        rules: NO_REP_NO_66,
-        ..PLAIN
-    },
-    Form {
-        operand: Operand::Bytes {
-            first: 0xEE,
-            last: 0xEF,
-        },
-        rules: NO_REP_NO_66,
-        ..PLAIN
-    },
-    Form {
-        operand: Operand::Bytes {
-            first: 0xF8,
-            last: 0xF9,
-        },
-        rules: NO_REP_NO_66,
-        ..PLAIN
-    },
+/// 0F 01: SGDT to LIDT; SMSW; LMSW; INVLPG; VMCALL; MONITOR, MWAIT, CLAC, STAC; XGETBV, XSETBV; VMMCALL; SERIALIZE; RDPKRU, WRPKRU;
+/// SWAPGS, RDTSCP.
+pub(crate) const GROUP_7: &[Form] = &[
+    form!(M[0..=3], no_imm, nothing, no_F2_F3),
+    form!(E[4..=4], no_imm, Ev, no_F2_F3),
+    form!(E[6..=6], no_imm, nothing, no_F2_F3),
+    form!(M[7..=7], no_imm, nothing, no_F2_F3),
+    form!(bytes[0xC1..=0xC1], no_imm, nothing, no_66_F2_F3),
+    form!(bytes[0xC8..=0xCB], no_imm, nothing, no_66_F2_F3),
+    form!(bytes[0xD0..=0xD1], no_imm, nothing, no_66_F2_F3),
+    form!(bytes[0xD9..=0xD9], no_imm, nothing, no_66_F2_F3),
+    form!(bytes[0xE8..=0xE8], no_imm, nothing, no_66_F2_F3),
+    form!(bytes[0xEE..=0xEF], no_imm, nothing, no_66_F2_F3),
+    form!(bytes[0xF8..=0xF9], no_imm, nothing, no_66_F2_F3),
 ];
 
-/// 0F 1E under F3: RDSSP; ENDBR64, ENDBR32.
-pub(crate) static SHADOW_STACK: [Form; 2] = [
-    Form {
-        operand: Operand::Digits {
-            mode: Mode::Register,
-            first: 1,
-            last: 1,
-        },
-        write: Write::Rm,
-        rules: REP,
-        ..PLAIN
-    },
-    Form {
-        operand: Operand::Bytes {
-            first: 0xFA,
-            last: 0xFB,
-        },
-        rules: REP,
-        ..PLAIN
-    },
+/// F3 0F 1E: RDSSP; ENDBR64, ENDBR32.
+pub(crate) const SHADOW_STACK: &[Form] = &[
+    form!(R[1..=1], no_imm, Ev, with_F3),
+    form!(bytes[0xFA..=0xFB], no_imm, nothing, with_F3),
 ];
 
-/// 0F AE: states, fences, FS and GS bases.
-pub(crate) static GROUP_15: [Form; 5] = [
-    Form {
-        operand: Operand::Digits {
-            mode: Mode::Memory,
-            first: 0,
-            last: 5,
-        },
-        rules: NO_REP_NO_66,
-        ..PLAIN
-    },
-    Form {
-        operand: Operand::Digits {
-            mode: Mode::Memory,
-            first: 6,
-            last: 7,
-        },
-        rules: NO_REP,
-        ..PLAIN
-    },
-    Form {
-        operand: Operand::Digits {
-            mode: Mode::Register,
-            first: 5,
-            last: 7,
-        },
-        rules: NO_REP_NO_66,
-        ..PLAIN
-    },
-    Form {
-        operand: Operand::Digits {
-            mode: Mode::Register,
-            first: 0,
-            last: 1,
-        },
-        write: Write::Rm,
-        rules: REP_NO_66,
-        ..PLAIN
-    },
-    Form {
-        operand: Operand::Digits {
-            mode: Mode::Register,
-            first: 2,
-            last: 3,
-        },
-        rules: REP_NO_66,
-        ..PLAIN
-    },
+/// 0F AE: FXSAVE to XRSTOR; XSAVEOPT, CLFLUSH; LFENCE to SFENCE; RDFSBASE, RDGSBASE; WRFSBASE, WRGSBASE.
+pub(crate) const GROUP_15: &[Form] = &[
+    form!(M[0..=5], no_imm, nothing, no_66_F2_F3),
+    form!(M[6..=7], no_imm, nothing, no_F2_F3),
+    form!(R[5..=7], no_imm, nothing, no_66_F2_F3),
+    form!(R[0..=1], no_imm, Ev, with_F3_no_66),
+    form!(R[2..=3], no_imm, nothing, with_F3_no_66),
 ];
 
 /// 0F BA: BT; BTS, BTR, BTC.
-pub(crate) static GROUP_8: [Form; 2] = [
-    Form {
-        operand: Operand::Digits {
-            mode: Mode::Either,
-            first: 4,
-            last: 4,
-        },
-        immediate: Immediate::Ib,
-        rules: NO_REP,
-        ..PLAIN
-    },
-    Form {
-        operand: Operand::Digits {
-            mode: Mode::Either,
-            first: 5,
-            last: 7,
-        },
-        immediate: Immediate::Ib,
-        write: Write::Rm,
-        rules: NO_REP,
-        ..PLAIN
-    },
+pub(crate) const GROUP_8: &[Form] = &[
+    form!(E[4..=4], Ib, nothing, no_F2_F3),
+    form!(E[5..=7], Ib, Ev, no_F2_F3),
 ];
 
-/// 0F C7: CMPXCHG8B and more; RDRAND; RDSEED, RDPID.
-pub(crate) static GROUP_9: [Form; 4] = [
-    Form {
-        operand: Operand::Digits {
-            mode: Mode::Memory,
-            first: 1,
-            last: 1,
-        },
-        rules: NO_REP,
-        ..PLAIN
-    },
-    Form {
-        operand: Operand::Digits {
-            mode: Mode::Memory,
-            first: 3,
-            last: 5,
-        },
-        rules: NO_REP,
-        ..PLAIN
-    },
-    Form {
-        operand: Operand::Digits {
-            mode: Mode::Register,
-            first: 6,
-            last: 6,
-        },
-        write: Write::Rm,
-        rules: NO_REP,
-        ..PLAIN
-    },
-    Form {
-        operand: Operand::Digits {
-            mode: Mode::Register,
-            first: 7,
-            last: 7,
-        },
-        write: Write::Rm,
-        rules: MAY_REP,
-        ..PLAIN
-    },
+/// 0F C7: CMPXCHG8B; XRSTORS, XSAVEC, XSAVES; RDRAND; RDSEED, RDPID.
+pub(crate) const GROUP_9: &[Form] = &[
+    form!(M[1..=1], no_imm, nothing, no_F2_F3),
+    form!(M[3..=5], no_imm, nothing, no_F2_F3),
+    form!(R[6..=6], no_imm, Ev, no_F2_F3),
+    form!(R[7..=7], no_imm, Ev, no_F2),
 ];
 
 /// 0F 38 F0: MOVBE; CRC32.
-pub(crate) static LOAD_SWAPPED: [Form; 2] = [
-    Form {
-        operand: M,
-        write: Write::Reg,
-        rules: NO_REP,
-        ..PLAIN
-    },
-    Form {
-        operand: E,
-        write: Write::Reg,
-        rules: REPNE,
-        ..PLAIN
-    },
+pub(crate) const LOAD_SWAPPED: &[Form] = &[
+    form!(M, no_imm, Gv, no_F2_F3),
+    form!(E, no_imm, Gv, with_F2),
 ];
 
 /// 0F 38 F1: MOVBE; CRC32.
-pub(crate) static STORE_SWAPPED: [Form; 2] = [
-    Form {
-        operand: M,
-        rules: NO_REP,
-        ..PLAIN
-    },
-    Form {
-        operand: E,
-        write: Write::Reg,
-        rules: REPNE,
-        ..PLAIN
-    },
+pub(crate) const STORE_SWAPPED: &[Form] = &[
+    form!(M, no_imm, nothing, no_F2_F3),
+    form!(E, no_imm, Gv, with_F2),
 ];
 
 /// 0F 38 F6: ADCX; ADOX.
-pub(crate) static ADD_CARRY: [Form; 2] = [
-    Form {
-        operand: E,
-        write: Write::Reg,
-        rules: ONLY_66,
-        ..PLAIN
-    },
-    Form {
-        operand: E,
-        write: Write::Reg,
-        rules: REP_NO_66,
-        ..PLAIN
-    },
+pub(crate) const ADD_CARRY: &[Form] = &[
+    form!(E, no_imm, Gv, with_66),
+    form!(E, no_imm, Gv, with_F3_no_66),
 ];

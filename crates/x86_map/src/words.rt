@@ -1,138 +1,92 @@
-use crate::form::{Form, Immediate, Mode, Operand, Rule, Rules};
-use crate::shape::Write;
+//! The words in which a row of the opcode map is written: operand, immediate, what is written, prefixes. They are those
+//! of the definition, `specs/Row.antt`.
 
-/// Memory or a register.
-pub(crate) const E: Operand = Operand::Digits {
-    mode: Mode::Either,
-    first: 0,
-    last: 7,
-};
-/// Memory.
-pub(crate) const M: Operand = Operand::Digits {
-    mode: Mode::Memory,
-    first: 0,
-    last: 7,
-};
-/// A register.
-pub(crate) const R: Operand = Operand::Digits {
-    mode: Mode::Register,
-    first: 0,
-    last: 7,
-};
+/// Which ModRM bytes follow: none; E, M or R, with any reg field or one from `first` to `last`; `bytes` given whole.
+macro_rules! operand {
+    (none) => { $crate::form::Operand::NoModrm };
+    (E) => { operand!(E[0..=7]) };
+    (M) => { operand!(M[0..=7]) };
+    (R) => { operand!(R[0..=7]) };
+    (E[$first:literal..=$last:literal]) => { $crate::form::Operand::Digits { mode: $crate::form::Mode::Either, first: $first, last: $last } };
+    (M[$first:literal..=$last:literal]) => { $crate::form::Operand::Digits { mode: $crate::form::Mode::Memory, first: $first, last: $last } };
+    (R[$first:literal..=$last:literal]) => { $crate::form::Operand::Digits { mode: $crate::form::Mode::Register, first: $first, last: $last } };
+    (bytes[$first:literal..=$last:literal]) => { $crate::form::Operand::Bytes { first: $first, last: $last } };
+}
 
-/// Any prefix may stand.
-pub(crate) const ANY: Rules = Rules {
-    opsize: Rule::May,
-    addrsize: Rule::May,
-    rep: Rule::May,
-    repne: Rule::May,
-    rex_b: Rule::May,
-};
+/// The immediate. Jb and Jz are relative displacements.
+macro_rules! immediate {
+    (no_imm) => { $crate::form::Immediate::NoImmediate };
+    (Jb) => { $crate::form::Immediate::Ib };
+    (Jz) => { $crate::form::Immediate::Iz };
+    ($immediate:ident) => { $crate::form::Immediate::$immediate };
+}
 
-/// 66 may not stand.
-pub(crate) const NO_66: Rules = Rules {
-    opsize: Rule::MustNot,
-    addrsize: Rule::May,
-    rep: Rule::May,
-    repne: Rule::May,
-    rex_b: Rule::May,
-};
+/// Which register is written: of the rm field (E), the reg field (G), both (EG) or the opcode (Z); a byte register (b) or
+/// another (v).
+macro_rules! written {
+    (nothing) => { written!(false, Nothing) };
+    (Eb) => { written!(true, Rm) };
+    (Ev) => { written!(false, Rm) };
+    (Gb) => { written!(true, Reg) };
+    (Gv) => { written!(false, Reg) };
+    (EGb) => { written!(true, Both) };
+    (EGv) => { written!(false, Both) };
+    (Zb) => { written!(true, Opcode) };
+    (Zv) => { written!(false, Opcode) };
+    ($byte:literal, $write:ident) => { $crate::shape::Written { byte: $byte, write: $crate::shape::Write::$write } };
+}
 
-/// 67 may not stand.
-pub(crate) const NO_67: Rules = Rules {
-    opsize: Rule::May,
-    addrsize: Rule::MustNot,
-    rep: Rule::May,
-    repne: Rule::May,
-    rex_b: Rule::May,
-};
+/// Which of 66, 67, F3, F2 and REX.B may stand, must or must not.
+macro_rules! prefixes {
+    (any) => { prefixes!(Allowed, Allowed, Allowed, Allowed, Allowed) };
+    (no_66) => { prefixes!(Forbidden, Allowed, Allowed, Allowed, Allowed) };
+    (no_67) => { prefixes!(Allowed, Forbidden, Allowed, Allowed, Allowed) };
+    (no_F2) => { prefixes!(Allowed, Allowed, Allowed, Forbidden, Allowed) };
+    (no_F2_F3) => { prefixes!(Allowed, Allowed, Forbidden, Forbidden, Allowed) };
+    (no_66_F2_F3) => { prefixes!(Forbidden, Allowed, Forbidden, Forbidden, Allowed) };
+    (no_REX_B) => { prefixes!(Allowed, Allowed, Allowed, Allowed, Forbidden) };
+    (with_66) => { prefixes!(Required, Allowed, Forbidden, Forbidden, Allowed) };
+    (with_F2) => { prefixes!(Allowed, Allowed, Forbidden, Required, Allowed) };
+    (with_F3) => { prefixes!(Allowed, Allowed, Required, Forbidden, Allowed) };
+    (with_F3_no_66) => { prefixes!(Forbidden, Allowed, Required, Forbidden, Allowed) };
+    (with_REX_B) => { prefixes!(Allowed, Allowed, Allowed, Allowed, Required) };
+    ($of_66:ident, $of_67:ident, $of_f3:ident, $of_f2:ident, $of_rex_b:ident) => {
+        $crate::form::PrefixUses {
+            of_66: $crate::form::PrefixUse::$of_66,
+            of_67: $crate::form::PrefixUse::$of_67,
+            of_f3: $crate::form::PrefixUse::$of_f3,
+            of_f2: $crate::form::PrefixUse::$of_f2,
+            of_rex_b: $crate::form::PrefixUse::$of_rex_b,
+        }
+    };
+}
 
-/// Neither F3 nor F2 may stand.
-pub(crate) const NO_REP: Rules = Rules {
-    opsize: Rule::May,
-    addrsize: Rule::May,
-    rep: Rule::MustNot,
-    repne: Rule::MustNot,
-    rex_b: Rule::May,
-};
+/// One form of an opcode.
+macro_rules! form {
+    ($operand:ident[$($digits:tt)*], $immediate:ident, $written:ident, $prefixes:ident) => {
+        form!(operand!($operand[$($digits)*]); $immediate, $written, $prefixes)
+    };
+    ($operand:ident, $immediate:ident, $written:ident, $prefixes:ident) => {
+        form!(operand!($operand); $immediate, $written, $prefixes)
+    };
+    ($operand:expr; $immediate:ident, $written:ident, $prefixes:ident) => {
+        $crate::form::Form {
+            operand: $operand,
+            immediate: immediate!($immediate),
+            written: written!($written),
+            prefixes: prefixes!($prefixes),
+        }
+    };
+}
 
-/// None of F3, F2 and 66 may stand.
-pub(crate) const NO_REP_NO_66: Rules = Rules {
-    opsize: Rule::MustNot,
-    addrsize: Rule::May,
-    rep: Rule::MustNot,
-    repne: Rule::MustNot,
-    rex_b: Rule::May,
-};
+/// The forms of an opcode that has one.
+macro_rules! one {
+    ($($form:tt)*) => { &[form!($($form)*)] };
+}
 
-/// F3 may stand, F2 not.
-pub(crate) const MAY_REP: Rules = Rules {
-    opsize: Rule::May,
-    addrsize: Rule::May,
-    rep: Rule::May,
-    repne: Rule::MustNot,
-    rex_b: Rule::May,
-};
-
-/// F3 has to stand, F2 not.
-pub(crate) const REP: Rules = Rules {
-    opsize: Rule::May,
-    addrsize: Rule::May,
-    rep: Rule::Must,
-    repne: Rule::MustNot,
-    rex_b: Rule::May,
-};
-
-/// F3 has to stand, neither F2 nor 66.
-pub(crate) const REP_NO_66: Rules = Rules {
-    opsize: Rule::MustNot,
-    addrsize: Rule::May,
-    rep: Rule::Must,
-    repne: Rule::MustNot,
-    rex_b: Rule::May,
-};
-
-/// F2 has to stand, F3 not.
-pub(crate) const REPNE: Rules = Rules {
-    opsize: Rule::May,
-    addrsize: Rule::May,
-    rep: Rule::MustNot,
-    repne: Rule::Must,
-    rex_b: Rule::May,
-};
-
-/// 66 has to stand, neither F3 nor F2.
-pub(crate) const ONLY_66: Rules = Rules {
-    opsize: Rule::Must,
-    addrsize: Rule::May,
-    rep: Rule::MustNot,
-    repne: Rule::MustNot,
-    rex_b: Rule::May,
-};
-
-/// REX.B has to stand.
-pub(crate) const REX_B: Rules = Rules {
-    opsize: Rule::May,
-    addrsize: Rule::May,
-    rep: Rule::May,
-    repne: Rule::May,
-    rex_b: Rule::Must,
-};
-
-/// REX.B may not stand.
-pub(crate) const NO_REX_B: Rules = Rules {
-    opsize: Rule::May,
-    addrsize: Rule::May,
-    rep: Rule::May,
-    repne: Rule::May,
-    rex_b: Rule::MustNot,
-};
-
-/// No operand, and nothing written.
-pub(crate) const PLAIN: Form = Form {
-    operand: Operand::NoModrm,
-    immediate: Immediate::NoImmediate,
-    byte: false,
-    write: Write::Nothing,
-    rules: ANY,
-};
+pub(crate) use form;
+pub(crate) use immediate;
+pub(crate) use one;
+pub(crate) use operand;
+pub(crate) use prefixes;
+pub(crate) use written;
