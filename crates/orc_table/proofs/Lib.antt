@@ -1,0 +1,4 @@
+pub mod Order
+pub mod Halving
+pub mod Counts
+pub mod Near
