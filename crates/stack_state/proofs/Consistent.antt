@@ -88,7 +88,7 @@ abbrev StaysLive : State → Type 0
 StaysLive t = IsConsistent t × (ended_by t ≡ None)
 
 to_live : (depth : Depth) (fp : Option ℤ) (home : BpHome) (t : State) → IsConsistentLive depth fp home → to (Live depth fp home) ≡ Ok t → StaysLive t
-to_live depth fp home t c e = to_then StaysLive (has_near_numbers (Live depth fp home)) 10 (Live depth fp home) t (λ near. (c, refl)) e
+to_live depth fp home t c e = to_then StaysLive (has_near_numbers (Live depth fp home)) _ (Live depth fp home) t (λ near. (c, refl)) e
 
 push_stays : (depth : Depth) (fp : Option ℤ) (home : BpHome) (t : State) → IsConsistentLive depth fp home
     → to (Live (with_depth depth (depth_of depth +ℤ pos 8)) fp home) ≡ Ok t → StaysLive t
@@ -107,15 +107,15 @@ push_bp_stays depth fp (Saved o) t c e = push_stays depth fp (Saved o) t c e
 
 raise_stays : (k : ℤ) (depth : Depth) (fp : Option ℤ) (home : BpHome) (t : State) → IsConsistentLive depth fp home → raise k depth fp home ≡ Ok t → StaysLive t
 raise_stays k depth fp Same t c e =
-    unless_then (StaysLive t) (int_lt (depth_of depth -ℤ k) (pos 8)) 9 _ t
+    unless_then (StaysLive t) (int_lt (depth_of depth -ℤ k) (pos 8)) _ _ t
     (λ high d. to_live _ _ _ t (same_deeper depth (depth_of depth -ℤ k) fp c (omega (arith, ints, high))) d) e
 raise_stays k (AtLeast n) fp (Saved o) t c e =
     let bounds : (pos 16 ≤ℤ o) × (o ≤ℤ n) = saved_bounds (AtLeast n) fp o c in
-    unless_then (StaysLive t) (int_lt (n -ℤ k) o) 9 _ t
+    unless_then (StaysLive t) (int_lt (n -ℤ k) o) _ _ t
     (λ high d. to_live _ _ _ t (saved_deeper (AtLeast n) (n -ℤ k) o fp (Saved o) c c.fp bounds.0 (omega (arith, ints, high))) d) e
 raise_stays k (Known n) fp (Saved o) t c e =
     let bounds : (pos 16 ≤ℤ o) × (o ≤ℤ n) = saved_bounds (Known n) fp o c in
-    unless_then (StaysLive t) (int_lt (n -ℤ k) o) 11 _ t
+    unless_then (StaysLive t) (int_lt (n -ℤ k) o) _ _ t
     (λ high d. to_live _ _ _ t (saved_known (n -ℤ k) o fp c.fp bounds.0 (omega (arith, ints, high))) d) e
 
 pub int_same_is : (x y : ℤ) → int_same x y ≡ true → x ≡ y
@@ -135,36 +135,36 @@ pop_at_stays n o t low e =
     (λ same d. let is : n ≡ o = int_same_is n o same in to_live _ _ _ t (unsaved_known (n -ℤ pos 8) (omega (arith, ints))) d)
     (λ other d. pick_then (StaysLive t) (int_le o (n -ℤ pos 8)) _ _ t
     (λ high b. to_live _ _ _ t (saved_known (n -ℤ pos 8) o None (no_base (Saved o)) low (omega (arith, ints, high))) b)
-    (λ less b. refused_then (StaysLive t) 11 t b) d)
+    (λ less b. refused_then (StaysLive t) _ t b) d)
     e
 
 pop_bp_stays : (depth : Depth) (fp : Option ℤ) (home : BpHome) (t : State) → IsConsistentLive depth fp home → pop_bp depth home ≡ Ok t → StaysLive t
-pop_bp_stays depth fp Same t c e = refused_then (StaysLive t) 8 t e
-pop_bp_stays (AtLeast n) fp (Saved o) t c e = refused_then (StaysLive t) 9 t e
+pop_bp_stays depth fp Same t c e = refused_then (StaysLive t) _ t e
+pop_bp_stays (AtLeast n) fp (Saved o) t c e = refused_then (StaysLive t) _ t e
 pop_bp_stays (Known n) fp (Saved o) t c e = pop_at_stays n o t (saved_bounds (Known n) fp o c).0 e
 
 leave_stays : (depth : Depth) (fp : Option ℤ) (home : BpHome) (t : State) → IsConsistentLive depth fp home → leave fp home ≡ Ok t → StaysLive t
-leave_stays depth None home t c e = refused_then (StaysLive t) 9 t e
-leave_stays depth (Some m) Same t c e = refused_then (StaysLive t) 11 t e
+leave_stays depth None home t c e = refused_then (StaysLive t) _ t e
+leave_stays depth (Some m) Same t c e = refused_then (StaysLive t) _ t e
 leave_stays depth (Some m) (Saved o) t c e = pop_at_stays m o t (saved_bounds depth (Some m) o c).0 e
 
 align_stays : (depth : Depth) (fp : Option ℤ) (home : BpHome) (t : State) → IsConsistentLive depth fp home → align depth fp home ≡ Ok t → StaysLive t
-align_stays depth None home t c e = refused_then (StaysLive t) 9 t e
+align_stays depth None home t c e = refused_then (StaysLive t) _ t e
 align_stays depth (Some m) Same t c e = absurd (same_has_no_pointer depth m c)
 align_stays depth (Some m) (Saved o) t c e =
     let bounds : (pos 16 ≤ℤ o) × (o ≤ℤ depth_of depth) = saved_bounds depth (Some m) o c in
     to_live _ _ _ t (saved_at_least (depth_of depth) o m c.fp bounds.0 bounds.1) e
 
 rsp_from_bp_stays : (k : ℤ) (depth : Depth) (fp : Option ℤ) (home : BpHome) (t : State) → IsConsistentLive depth fp home → rsp_from_bp k fp home ≡ Ok t → StaysLive t
-rsp_from_bp_stays k depth None home t c e = refused_then (StaysLive t) 9 t e
+rsp_from_bp_stays k depth None home t c e = refused_then (StaysLive t) _ t e
 rsp_from_bp_stays k depth (Some m) Same t c e = absurd (same_has_no_pointer depth m c)
 rsp_from_bp_stays k depth (Some m) (Saved o) t c e =
-    unless_then (StaysLive t) (int_lt (m -ℤ k) o) 11 _ t
+    unless_then (StaysLive t) (int_lt (m -ℤ k) o) _ _ t
     (λ high d. to_live _ _ _ t (saved_known (m -ℤ k) o (Some m) c.fp (saved_bounds depth (Some m) o c).0 (omega (arith, ints, high))) d) e
 
 bp_from_rsp_stays : (k : ℤ) (depth : Depth) (fp : Option ℤ) (home : BpHome) (t : State) → IsConsistentLive depth fp home → bp_from_rsp k depth home ≡ Ok t → StaysLive t
-bp_from_rsp_stays k depth fp Same t c e = refused_then (StaysLive t) 8 t e
-bp_from_rsp_stays k (AtLeast n) fp (Saved o) t c e = refused_then (StaysLive t) 9 t e
+bp_from_rsp_stays k depth fp Same t c e = refused_then (StaysLive t) _ t e
+bp_from_rsp_stays k (AtLeast n) fp (Saved o) t c e = refused_then (StaysLive t) _ t e
 bp_from_rsp_stays k (Known n) fp (Saved o) t c e =
     let bounds : (pos 16 ≤ℤ o) × (o ≤ℤ n) = saved_bounds (Known n) fp o c in
     pick_then (StaysLive t) (int_same (n -ℤ k) o) _ _ t
@@ -184,8 +184,8 @@ store_bp_stays k (Known n) fp Same t c e =
     e
 
 load_bp_stays : (k : ℤ) (depth : Depth) (fp : Option ℤ) (home : BpHome) (t : State) → IsConsistentLive depth fp home → load_bp k depth home ≡ Ok t → StaysLive t
-load_bp_stays k depth fp Same t c e = refused_then (StaysLive t) 8 t e
-load_bp_stays k (AtLeast n) fp (Saved o) t c e = refused_then (StaysLive t) 9 t e
+load_bp_stays k depth fp Same t c e = refused_then (StaysLive t) _ t e
+load_bp_stays k (AtLeast n) fp (Saved o) t c e = refused_then (StaysLive t) _ t e
 load_bp_stays k (Known n) fp (Saved o) t c e =
     let bounds : (pos 16 ≤ℤ o) × (o ≤ℤ n) = saved_bounds (Known n) fp o c in
     pick_then (StaysLive t) (int_same (n -ℤ k) o) _ _ t
@@ -194,8 +194,8 @@ load_bp_stays k (Known n) fp (Saved o) t c e =
     e
 
 lose_bp_stays : (depth : Depth) (fp : Option ℤ) (home : BpHome) (t : State) → IsConsistentLive depth fp home → lose_bp depth home ≡ Ok t → StaysLive t
-lose_bp_stays depth fp Same t c e = refused_then (StaysLive t) 8 t e
-lose_bp_stays (AtLeast n) fp (Saved o) t c e = refused_then (StaysLive t) 9 t e
+lose_bp_stays depth fp Same t c e = refused_then (StaysLive t) _ t e
+lose_bp_stays (AtLeast n) fp (Saved o) t c e = refused_then (StaysLive t) _ t e
 lose_bp_stays (Known n) fp (Saved o) t c e =
     let bounds : (pos 16 ≤ℤ o) × (o ≤ℤ n) = saved_bounds (Known n) fp o c in
     to_live _ _ _ t (saved_known n o None (no_base (Saved o)) bounds.0 bounds.1) e
@@ -214,12 +214,12 @@ live_stays depth fp home t (StoreBp at) c e = store_bp_stays at depth fp home t 
 live_stays depth fp home t (LoadBp at) c e = load_bp_stays at depth fp home t c e
 live_stays depth fp home t Leave c e = leave_stays depth fp home t c e
 live_stays depth fp home t BpOther c e = lose_bp_stays depth fp home t c e
-live_stays depth fp home t SpOther c e = refused_then (StaysLive t) 7 t e
+live_stays depth fp home t SpOther c e = refused_then (StaysLive t) _ t e
 live_stays depth fp home t IretNext c e = raise_stays (pos 40) depth fp home t c (allowed_is (raise (pos 40) depth fp home) t e)
 live_stays depth fp home t _ c e = to_live depth fp home t c e
 
 to_regs : (full : Bool) (depth : ℤ) (t : State) → IsConsistent (Regs full depth) → to (Regs full depth) ≡ Ok t → StaysLive t
-to_regs full depth t c e = to_then StaysLive (has_near_numbers (Regs full depth)) 10 (Regs full depth) t (λ near. (c, refl)) e
+to_regs full depth t c e = to_then StaysLive (has_near_numbers (Regs full depth)) _ (Regs full depth) t (λ near. (c, refl)) e
 
 -- over saved registers the depth is at or above its floor
 pub above_floor : (full : Bool) (depth : ℤ) → regs_floor full ≤ℤ depth → IsConsistent (Regs full depth)
@@ -232,7 +232,7 @@ floor_under false depth h = h
 
 raise_regs_stays : (k : ℤ) (full : Bool) (depth : ℤ) (t : State) → raise_regs k full depth ≡ Ok t → StaysLive t
 raise_regs_stays k full depth t e =
-    unless_then (StaysLive t) (int_lt (depth -ℤ k) (regs_floor full)) 11 _ t
+    unless_then (StaysLive t) (int_lt (depth -ℤ k) (regs_floor full)) _ _ t
     (λ high d. to_regs full (depth -ℤ k) t (above_floor full (depth -ℤ k) (omega (arith, ints, high))) d) e
 
 push_regs_stays : (full : Bool) (depth : ℤ) (t : State) → IsConsistent (Regs full depth) → to (Regs full (depth +ℤ pos 8)) ≡ Ok t → StaysLive t
@@ -241,7 +241,7 @@ push_regs_stays full depth t c e =
     to_regs full (depth +ℤ pos 8) t (above_floor full (depth +ℤ pos 8) (omega (arith, ints))) e
 
 pop_bp_regs_stays : (full : Bool) (depth : ℤ) (t : State) → pop_bp_regs full depth ≡ Ok t → StaysLive t
-pop_bp_regs_stays false depth t e = refused_then (StaysLive t) 8 t e
+pop_bp_regs_stays false depth t e = refused_then (StaysLive t) _ t e
 pop_bp_regs_stays true depth t e =
     pick_then (StaysLive t) (int_same depth (negsuc 31)) _ _ t
     (λ at_bp d. to_regs false (pos 88) t (above_floor false (pos 88) (omega (arith, ints))) d)
@@ -249,7 +249,7 @@ pop_bp_regs_stays true depth t e =
     e
 
 lose_bp_regs_stays : (full : Bool) (depth : ℤ) (t : State) → IsConsistent (Regs full depth) → lose_bp_regs full depth ≡ Ok t → StaysLive t
-lose_bp_regs_stays false depth t c e = refused_then (StaysLive t) 8 t e
+lose_bp_regs_stays false depth t c e = refused_then (StaysLive t) _ t e
 lose_bp_regs_stays true depth t c e = to_regs true depth t c e
 
 regs_stays : (full : Bool) (depth : ℤ) (t : State) (op : Op) → IsConsistent (Regs full depth) → move_regs full depth op ≡ Ok t → StaysLive t
@@ -262,11 +262,11 @@ regs_stays full depth t PopBp c e = pop_bp_regs_stays full depth t e
 regs_stays full depth t (LeaBpSp by) c e = lose_bp_regs_stays full depth t c e
 regs_stays full depth t (LoadBp at) c e = lose_bp_regs_stays full depth t c e
 regs_stays full depth t BpOther c e = lose_bp_regs_stays full depth t c e
-regs_stays full depth t (AndSp mask) c e = refused_then (StaysLive t) 9 t e
-regs_stays full depth t (LeaSpBp by) c e = refused_then (StaysLive t) 9 t e
-regs_stays full depth t Leave c e = refused_then (StaysLive t) 9 t e
-regs_stays full depth t SpOther c e = refused_then (StaysLive t) 7 t e
-regs_stays full depth t IretNext c e = refused_then (StaysLive t) 15 t e
+regs_stays full depth t (AndSp mask) c e = refused_then (StaysLive t) _ t e
+regs_stays full depth t (LeaSpBp by) c e = refused_then (StaysLive t) _ t e
+regs_stays full depth t Leave c e = refused_then (StaysLive t) _ t e
+regs_stays full depth t SpOther c e = refused_then (StaysLive t) _ t e
+regs_stays full depth t IretNext c e = refused_then (StaysLive t) _ t e
 regs_stays full depth t _ c e = to_regs full depth t c e
 
 pub move_consistent : MoveIsConsistent

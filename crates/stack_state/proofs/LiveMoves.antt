@@ -81,20 +81,20 @@ pub raise_sound : (k : ℤ) (depth : Depth) (fp : Option ℤ) (home : BpHome) (b
     → Scene (Live depth fp home) before after f below → Steady before after f below → after.rsp ≡ shifted before.rsp k → after.rbp ≡ before.rbp
     → raise k depth fp home ≡ Ok t → Arrives t after f below
 raise_sound k depth fp Same before after f below t scene steady rsp rbp e =
-    unless_then (Arrives t after f below) (int_lt (depth_of depth -ℤ k) (pos 8)) 9 _ t
+    unless_then (Arrives t after f below) (int_lt (depth_of depth -ℤ k) (pos 8)) _ _ t
     (λ high d. shift_sound k (depth_of depth -ℤ k) depth fp Same before after f below t scene steady rsp rbp (omega (arith, ints)) d) e
 raise_sound k (AtLeast n) fp (Saved o) before after f below t scene steady rsp rbp e =
-    unless_then (Arrives t after f below) (int_lt (n -ℤ k) o) 9 _ t
+    unless_then (Arrives t after f below) (int_lt (n -ℤ k) o) _ _ t
     (λ high d. shift_sound k (n -ℤ k) (AtLeast n) fp (Saved o) before after f below t scene steady rsp rbp (omega (arith, ints)) d) e
 raise_sound k (Known n) fp (Saved o) before after f below t scene steady rsp rbp e =
-    unless_then (Arrives t after f below) (int_lt (n -ℤ k) o) 11 _ t
+    unless_then (Arrives t after f below) (int_lt (n -ℤ k) o) _ _ t
     (λ high d. shift_sound k (n -ℤ k) (Known n) fp (Saved o) before after f below t scene steady rsp rbp (omega (arith, ints)) d) e
 
 -- rsp is masked
 pub align_sound : (mask : ℕ) (depth : Depth) (fp : Option ℤ) (home : BpHome) (before after : Core) (f : Frame) (below : List Frame) (t : State)
     → Scene (Live depth fp home) before after f below → Steady before after f below → after.rsp ≡ bit_and before.rsp mask → after.rbp ≡ before.rbp
     → align depth fp home ≡ Ok t → Arrives t after f below
-align_sound mask depth None home before after f below t scene steady rsp rbp e = refused_then (Arrives t after f below) 9 t e
+align_sound mask depth None home before after f below t scene steady rsp rbp e = refused_then (Arrives t after f below) _ t e
 align_sound mask depth (Some m) home before after f below t scene steady rsp rbp e =
     let means : MeansLive depth (Some m) home before.rsp before.rbp f = scene.told.means in
     arrive (Live (AtLeast (depth_of depth)) (Some m) home) t after f below
@@ -111,10 +111,10 @@ align_sound mask depth (Some m) home before after f below t scene steady rsp rbp
 pub rsp_from_bp_sound : (k : ℤ) (depth : Depth) (fp : Option ℤ) (home : BpHome) (before after : Core) (f : Frame) (below : List Frame) (t : State)
     → Scene (Live depth fp home) before after f below → Steady before after f below → after.rsp ≡ shifted before.rbp k → after.rbp ≡ before.rbp
     → rsp_from_bp k fp home ≡ Ok t → Arrives t after f below
-rsp_from_bp_sound k depth None home before after f below t scene steady rsp rbp e = refused_then (Arrives t after f below) 9 t e
+rsp_from_bp_sound k depth None home before after f below t scene steady rsp rbp e = refused_then (Arrives t after f below) _ t e
 rsp_from_bp_sound k depth (Some m) home before after f below t scene steady rsp rbp e =
     let means : MeansLive depth (Some m) home before.rsp before.rbp f = scene.told.means in
-    unless_then (Arrives t after f below) (int_lt (m -ℤ k) (floor_of home)) 11 _ t
+    unless_then (Arrives t after f below) (int_lt (m -ℤ k) (floor_of home)) _ _ t
     (λ high d. arrive (Live (Known (m -ℤ k)) (Some m) home) t after f below
     (λ near c. same_frame (Live depth (Some m) home) before after f below scene (Known (m -ℤ k)) (Some m) home c near steady.frames steady.top steady.held
     (place_moved before.rbp after.rsp f.cfa k m (m -ℤ k) means.fp rsp (omega (arith, ints)))
@@ -138,8 +138,8 @@ no_base_sound n o fp before after f below t scene steady rsp e =
 pub bp_from_rsp_sound : (k : ℤ) (depth : Depth) (fp : Option ℤ) (home : BpHome) (before after : Core) (f : Frame) (below : List Frame) (t : State)
     → Scene (Live depth fp home) before after f below → Steady before after f below → after.rsp ≡ before.rsp → after.rbp ≡ shifted before.rsp k
     → bp_from_rsp k depth home ≡ Ok t → Arrives t after f below
-bp_from_rsp_sound k depth fp Same before after f below t scene steady rsp rbp e = refused_then (Arrives t after f below) 8 t e
-bp_from_rsp_sound k (AtLeast n) fp (Saved o) before after f below t scene steady rsp rbp e = refused_then (Arrives t after f below) 9 t e
+bp_from_rsp_sound k depth fp Same before after f below t scene steady rsp rbp e = refused_then (Arrives t after f below) _ t e
+bp_from_rsp_sound k (AtLeast n) fp (Saved o) before after f below t scene steady rsp rbp e = refused_then (Arrives t after f below) _ t e
 bp_from_rsp_sound k (Known n) fp (Saved o) before after f below t scene steady rsp rbp e =
     let means : MeansLive (Known n) fp (Saved o) before.rsp before.rbp f = scene.told.means in
     pick_then (Arrives t after f below) (int_same (n -ℤ k) o) _ _ t
@@ -155,6 +155,6 @@ bp_from_rsp_sound k (Known n) fp (Saved o) before after f below t scene steady r
 pub lose_bp_sound : (depth : Depth) (fp : Option ℤ) (home : BpHome) (before after : Core) (f : Frame) (below : List Frame) (t : State)
     → Scene (Live depth fp home) before after f below → Steady before after f below → after.rsp ≡ before.rsp
     → lose_bp depth home ≡ Ok t → Arrives t after f below
-lose_bp_sound depth fp Same before after f below t scene steady rsp e = refused_then (Arrives t after f below) 8 t e
-lose_bp_sound (AtLeast n) fp (Saved o) before after f below t scene steady rsp e = refused_then (Arrives t after f below) 9 t e
+lose_bp_sound depth fp Same before after f below t scene steady rsp e = refused_then (Arrives t after f below) _ t e
+lose_bp_sound (AtLeast n) fp (Saved o) before after f below t scene steady rsp e = refused_then (Arrives t after f below) _ t e
 lose_bp_sound (Known n) fp (Saved o) before after f below t scene steady rsp e = no_base_sound n o fp before after f below t scene steady rsp e

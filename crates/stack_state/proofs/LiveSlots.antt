@@ -173,7 +173,7 @@ pop_at_sound s before after f below t scene n o p change changes slot place read
     let past : p ≡ a → ⊥ = apart p a f.cfa n o place refl (int_same_not n o other)
     (omega (arith, ints, bounds.0, bounds.1, close.high)) (omega (arith, ints, bounds.0, bounds.1, close.high)) in
     read_past s before after f below scene (n -ℤ pos 8) o c near change p a (changes a) slot refl past frames memory risen) b)
-    (λ less b. refused_then (Arrives t after f below) 11 t b) d)
+    (λ less b. refused_then (Arrives t after f below) _ t b) d)
     e
 
 -- rbp is loaded from k bytes above rsp
@@ -183,8 +183,8 @@ pub load_bp_sound : (k : ℤ) (depth : Depth) (fp : Option ℤ) (home : BpHome) 
     → Reads before.region (shifted before.rsp k) after.rbp → after.rsp ≡ before.rsp
     → after.shadow ≡ with_top_slot change before.shadow → after.region ≡ before.region
     → load_bp k depth home ≡ Ok t → Arrives t after f below
-load_bp_sound k depth fp Same before after f below t scene fits change changes read rsp frames memory e = refused_then (Arrives t after f below) 8 t e
-load_bp_sound k (AtLeast n) fp (Saved o) before after f below t scene fits change changes read rsp frames memory e = refused_then (Arrives t after f below) 9 t e
+load_bp_sound k depth fp Same before after f below t scene fits change changes read rsp frames memory e = refused_then (Arrives t after f below) _ t e
+load_bp_sound k (AtLeast n) fp (Saved o) before after f below t scene fits change changes read rsp frames memory e = refused_then (Arrives t after f below) _ t e
 load_bp_sound k (Known n) fp (Saved o) before after f below t scene fits change changes read rsp frames memory e =
     let means : MeansLive (Known n) fp (Saved o) before.rsp before.rbp f = scene.told.means in
     let s : State = Live (Known n) fp (Saved o) in

@@ -54,8 +54,8 @@ push_sound depth fp home before after f below t scene effect e =
 
 pop_bp_sound : (depth : Depth) (fp : Option ℤ) (home : BpHome) (before after : Core) (f : Frame) (below : List Frame) (t : State)
     → Scene (Live depth fp home) before after f below → Effect PopBp before after → pop_bp depth home ≡ Ok t → Arrives t after f below
-pop_bp_sound depth fp Same before after f below t scene effect e = refused_then (Arrives t after f below) 8 t e
-pop_bp_sound (AtLeast n) fp (Saved o) before after f below t scene effect e = refused_then (Arrives t after f below) 9 t e
+pop_bp_sound depth fp Same before after f below t scene effect e = refused_then (Arrives t after f below) _ t e
+pop_bp_sound (AtLeast n) fp (Saved o) before after f below t scene effect e = refused_then (Arrives t after f below) _ t e
 pop_bp_sound (Known n) fp (Saved o) before after f below t scene effect e =
     let means : MeansLive (Known n) fp (Saved o) before.rsp before.rbp f = scene.told.means in
     let done : after ≡ record before { rsp = up before.rsp 8; rbp = after.rbp; shadow = with_top_slot (popped_slot before.rsp) before.shadow } = effect.1 in
@@ -64,8 +64,8 @@ pop_bp_sound (Known n) fp (Saved o) before after f below t scene effect e =
 
 leave_sound : (depth : Depth) (fp : Option ℤ) (home : BpHome) (before after : Core) (f : Frame) (below : List Frame) (t : State)
     → Scene (Live depth fp home) before after f below → Effect Leave before after → leave fp home ≡ Ok t → Arrives t after f below
-leave_sound depth None home before after f below t scene effect e = refused_then (Arrives t after f below) 9 t e
-leave_sound depth (Some m) Same before after f below t scene effect e = refused_then (Arrives t after f below) 11 t e
+leave_sound depth None home before after f below t scene effect e = refused_then (Arrives t after f below) _ t e
+leave_sound depth (Some m) Same before after f below t scene effect e = refused_then (Arrives t after f below) _ t e
 leave_sound depth (Some m) (Saved o) before after f below t scene effect e =
     let means : MeansLive depth (Some m) (Saved o) before.rsp before.rbp f = scene.told.means in
     let done : after ≡ record before { rsp = up before.rbp 8; rbp = after.rbp; shadow = with_top_slot (loaded_slot before.rbp) before.shadow } = effect.1 in
@@ -115,7 +115,7 @@ live_sound depth fp home before after f below t (LoadBp at) scene fits effect e 
     load_bp_sound at depth fp home before after f below t scene fits (loaded_slot (shifted before.rsp at)) (λ a. refl) effect.0
     (ap (λ (c : Core). c.rsp) effect.1) (ap (λ (c : Core). c.shadow) effect.1) (ap (λ (c : Core). c.region) effect.1) e
 live_sound depth fp home before after f below t Leave scene fits effect e = leave_sound depth fp home before after f below t scene effect e
-live_sound depth fp home before after f below t SpOther scene fits effect e = refused_then (Arrives t after f below) 7 t e
+live_sound depth fp home before after f below t SpOther scene fits effect e = refused_then (Arrives t after f below) _ t e
 live_sound depth fp home before after f below t BpOther scene fits effect e =
     lose_bp_sound depth fp home before after f below t scene
     (steady_ordinary (Live depth fp home) before after f below scene (ap (λ (c : Core). c.shadow) effect.1) effect.0)

@@ -65,7 +65,7 @@ raise_sound : (k : ℤ) (full : Bool) (d : ℤ) (before after : Core) (f : Frame
     → Scene (Regs full d) before after f below → Steady before after f below → after.rsp ≡ shifted before.rsp k → after.rbp ≡ before.rbp
     → raise_regs k full d ≡ Ok t → Arrives t after f below
 raise_sound k full d before after f below t scene steady rsp rbp e =
-    unless_then (Arrives t after f below) (int_lt (d -ℤ k) (regs_floor full)) 11 _ t
+    unless_then (Arrives t after f below) (int_lt (d -ℤ k) (regs_floor full)) _ _ t
     (λ high b. shift_sound k full d (d -ℤ k) before after f below t scene steady rsp rbp (omega (arith, ints)) b) e
 
 -- an address is itself, moved by 0
@@ -85,7 +85,7 @@ stay_sound full d before after f below t scene steady rsp rbp e =
 lose_bp_sound : (full : Bool) (d : ℤ) (before after : Core) (f : Frame) (below : List Frame) (t : State)
     → Scene (Regs full d) before after f below → Steady before after f below → after.rsp ≡ before.rsp
     → lose_bp_regs full d ≡ Ok t → Arrives t after f below
-lose_bp_sound false d before after f below t scene steady rsp e = refused_then (Arrives t after f below) 8 t e
+lose_bp_sound false d before after f below t scene steady rsp e = refused_then (Arrives t after f below) _ t e
 lose_bp_sound true d before after f below t scene steady rsp e =
     full_shift_sound (pos 0) d d before after f below t scene steady (unmoved before after (rsp_short (Regs true d) before after f below scene) rsp) (omega (arith, ints)) e
 
@@ -223,12 +223,12 @@ pop_other d before after f below t scene not_bp effect e =
 
 pop_bp_sound : (full : Bool) (d : ℤ) (before after : Core) (f : Frame) (below : List Frame) (t : State)
     → Scene (Regs full d) before after f below → Effect PopBp before after → pop_bp_regs full d ≡ Ok t → Arrives t after f below
-pop_bp_sound false d before after f below t scene effect e = refused_then (Arrives t after f below) 8 t e
+pop_bp_sound false d before after f below t scene effect e = refused_then (Arrives t after f below) _ t e
 pop_bp_sound true d before after f below t scene effect e =
     pick_then (Arrives t after f below) (int_same d (negsuc 31)) _ _ t
     (λ same b. arrive (Regs false (pos 88)) t after f below
     (λ near c. pop_saved_bp d before after f below scene (int_same_is d (negsuc 31) same) effect near) b)
-    (λ other b. unless_then (Arrives t after f below) (int_lt (d -ℤ pos 8) (negsuc 31)) 11 _ t
+    (λ other b. unless_then (Arrives t after f below) (int_lt (d -ℤ pos 8) (negsuc 31)) _ _ t
     (λ high a. pop_other d before after f below t scene (int_same_not d (negsuc 31) other) effect a) b)
     e
 
@@ -274,8 +274,8 @@ regs_sound full d before after f below t (AddSp by) scene effect e =
     raise_sound by full d before after f below t scene
     (steady_same (Regs full d) before after f below scene (ap (λ (c : Core). c.shadow) effect) (ap (λ (c : Core). c.region) effect))
     (ap (λ (c : Core). c.rsp) effect) (ap (λ (c : Core). c.rbp) effect) e
-regs_sound full d before after f below t (AndSp mask) scene effect e = refused_then (Arrives t after f below) 9 t e
-regs_sound full d before after f below t (LeaSpBp by) scene effect e = refused_then (Arrives t after f below) 9 t e
+regs_sound full d before after f below t (AndSp mask) scene effect e = refused_then (Arrives t after f below) _ t e
+regs_sound full d before after f below t (LeaSpBp by) scene effect e = refused_then (Arrives t after f below) _ t e
 regs_sound full d before after f below t (LeaBpSp by) scene effect e =
     lose_bp_sound full d before after f below t scene
     (steady_same (Regs full d) before after f below scene (ap (λ (c : Core). c.shadow) effect) (ap (λ (c : Core). c.region) effect))
@@ -286,8 +286,8 @@ regs_sound full d before after f below t (LoadBp at) scene effect e =
     (steady_same (Regs full d) before after f below scene
     (loaded_frames full d before after f below (shifted before.rsp at) scene (ap (λ (c : Core). c.shadow) effect.1)) (ap (λ (c : Core). c.region) effect.1))
     (ap (λ (c : Core). c.rsp) effect.1) e
-regs_sound full d before after f below t Leave scene effect e = refused_then (Arrives t after f below) 9 t e
-regs_sound full d before after f below t SpOther scene effect e = refused_then (Arrives t after f below) 7 t e
+regs_sound full d before after f below t Leave scene effect e = refused_then (Arrives t after f below) _ t e
+regs_sound full d before after f below t SpOther scene effect e = refused_then (Arrives t after f below) _ t e
 regs_sound full d before after f below t BpOther scene effect e =
     lose_bp_sound full d before after f below t scene
     (steady_ordinary (Regs full d) before after f below scene (ap (λ (c : Core). c.shadow) effect.1) effect.0)
@@ -300,7 +300,7 @@ regs_sound full d before after f below t (JmpInd table) scene effect e = nothing
 regs_sound full d before after f below t Ret scene effect e = absurd effect
 regs_sound full d before after f below t RetImm scene effect e = absurd effect
 regs_sound full d before after f below t Iret scene effect e = absurd effect
-regs_sound full d before after f below t IretNext scene effect e = refused_then (Arrives t after f below) 15 t e
+regs_sound full d before after f below t IretNext scene effect e = refused_then (Arrives t after f below) _ t e
 regs_sound full d before after f below t Switch scene effect e = absurd effect
 regs_sound full d before after f below t Ud2 scene effect e = nothing_sound full d before after f below t scene effect e
 regs_sound full d before after f below t Int3 scene effect e = nothing_sound full d before after f below t scene effect e

@@ -29,7 +29,7 @@ Arrives t after f below = IsConsistent t → Outcome t after f below
 -- where the move isn't refused, its state has near numbers
 pub arrive : (s t : State) (after : Core) (f : Frame) (below : List Frame)
     → (has_near_numbers s ≡ true → Arrives s after f below) → to s ≡ Ok t → Arrives t after f below
-arrive s t after f below h e = to_then (λ (u : State). Arrives u after f below) (has_near_numbers s) 10 s t h e
+arrive s t after f below h e = to_then (λ (u : State). Arrives u after f below) (has_near_numbers s) _ s t h e
 
 -- the top frame stays as it is
 pub same_frame : (s : State) (before after : Core) (f : Frame) (below : List Frame) → Scene s before after f below

@@ -6,7 +6,6 @@ mod live;
 mod moves;
 mod numbers;
 mod regs;
-mod rules;
 
 pub use moves::{initial, step};
 pub use state_defs::{BpHome, Depth, EndKind, HintState, State};

@@ -4,7 +4,7 @@ ghost use Rattle.std.specs.Prelude.{◌≡◌, pos};
 ghost use Rattle.state_defs.specs.Move.{floor_of, raise, pop_at, push_bp, pop_bp, align, rsp_from_bp, bp_from_rsp, store_bp, load_bp, leave, lose_bp, where_allowed, move_live};
 
 use crate::numbers::{in_range, is_same, minus, number_of, plus, to, to_live};
-use crate::rules::{BP_CLOBBERED, RETURN_NOT_ALLOWED, SLOT_DROPPED, SP_LOST, SP_WRITTEN};
+use ot_base::rules::{BP_NOT_SAVED, EXIT_NOT_ALLOWED, SAVED_SLOT_DROPPED, STACK_POINTER_LOST, UNSUPPORTED_SP_WRITE};
 use operation_defs::Op;
 use state_defs::{BpHome, Depth, State};
 
@@ -34,8 +34,8 @@ fn raise(by: i64, depth: Depth, fp: Option<i64>, bp: BpHome) -> Result<State, u8
     let left = minus(number_of(depth), by);
     if left < i128::from(floor(bp)) {
         return match (depth, bp) {
-            (Depth::Known(_), BpHome::Saved(_)) => Err(SLOT_DROPPED),
-            _ => Err(SP_LOST),
+            (Depth::Known(_), BpHome::Saved(_)) => Err(SAVED_SLOT_DROPPED),
+            _ => Err(STACK_POINTER_LOST),
         };
     }
     to_live(depth, left, fp, bp)
@@ -51,7 +51,7 @@ fn pop_at(n: i64, o: i64) -> Result<State, u8>
     } else if i128::from(o) <= left {
         BpHome::Saved(o)
     } else {
-        return Err(SLOT_DROPPED);
+        return Err(SAVED_SLOT_DROPPED);
     };
     to_live(Depth::Known(n), left, None, bp)
 }
@@ -73,8 +73,8 @@ fn pop_bp(depth: Depth, bp: BpHome) -> Result<State, u8>
     ensures { result ≡ pop_bp depth bp }
 {
     match (bp, depth) {
-        (BpHome::Same, _) => Err(BP_CLOBBERED),
-        (BpHome::Saved(_), Depth::AtLeast(_)) => Err(SP_LOST),
+        (BpHome::Same, _) => Err(BP_NOT_SAVED),
+        (BpHome::Saved(_), Depth::AtLeast(_)) => Err(STACK_POINTER_LOST),
         (BpHome::Saved(o), Depth::Known(n)) => pop_at(n, o),
     }
 }
@@ -84,7 +84,7 @@ fn align(depth: Depth, fp: Option<i64>, bp: BpHome) -> Result<State, u8>
     ensures { result ≡ align depth fp bp }
 {
     match fp {
-        None => Err(SP_LOST),
+        None => Err(STACK_POINTER_LOST),
         Some(_) => to(State::Live {
             depth: Depth::AtLeast(number_of(depth)),
             fp,
@@ -98,11 +98,11 @@ fn rsp_from_bp(by: i64, fp: Option<i64>, bp: BpHome) -> Result<State, u8>
     ensures { result ≡ rsp_from_bp by fp bp }
 {
     let Some(m) = fp else {
-        return Err(SP_LOST);
+        return Err(STACK_POINTER_LOST);
     };
     let left = minus(m, by);
     if left < i128::from(floor(bp)) {
-        return Err(SLOT_DROPPED);
+        return Err(SAVED_SLOT_DROPPED);
     }
     to_live(Depth::Known(m), left, fp, bp)
 }
@@ -113,8 +113,8 @@ fn bp_from_rsp(by: i64, depth: Depth, bp: BpHome) -> Result<State, u8>
     ensures { result ≡ bp_from_rsp by depth bp }
 {
     match (bp, depth) {
-        (BpHome::Same, _) => Err(BP_CLOBBERED),
-        (BpHome::Saved(_), Depth::AtLeast(_)) => Err(SP_LOST),
+        (BpHome::Same, _) => Err(BP_NOT_SAVED),
+        (BpHome::Saved(_), Depth::AtLeast(_)) => Err(STACK_POINTER_LOST),
         (BpHome::Saved(o), Depth::Known(n)) => {
             let is_base = is_same(minus(n, by), o);
             let fp = if is_base { Some(o) } else { None };
@@ -143,8 +143,8 @@ fn load_bp(at: i64, depth: Depth, bp: BpHome) -> Result<State, u8>
     ensures { result ≡ load_bp at depth bp }
 {
     match (bp, depth) {
-        (BpHome::Same, _) => Err(BP_CLOBBERED),
-        (BpHome::Saved(_), Depth::AtLeast(_)) => Err(SP_LOST),
+        (BpHome::Same, _) => Err(BP_NOT_SAVED),
+        (BpHome::Saved(_), Depth::AtLeast(_)) => Err(STACK_POINTER_LOST),
         (BpHome::Saved(o), Depth::Known(n)) => {
             if is_same(minus(n, at), o) {
                 to(State::Live {
@@ -168,8 +168,8 @@ fn leave(fp: Option<i64>, bp: BpHome) -> Result<State, u8>
     ensures { result ≡ leave fp bp }
 {
     match (fp, bp) {
-        (None, _) => Err(SP_LOST),
-        (Some(_), BpHome::Same) => Err(SLOT_DROPPED),
+        (None, _) => Err(STACK_POINTER_LOST),
+        (Some(_), BpHome::Same) => Err(SAVED_SLOT_DROPPED),
         (Some(m), BpHome::Saved(o)) => pop_at(m, o),
     }
 }
@@ -181,7 +181,7 @@ fn drop_interrupt(depth: Depth, fp: Option<i64>, bp: BpHome) -> Result<State, u8
 {
     match raise(INTERRUPT_WORDS, depth, fp, bp) {
         Ok(state) => Ok(state),
-        Err(_) => Err(RETURN_NOT_ALLOWED),
+        Err(_) => Err(EXIT_NOT_ALLOWED),
     }
 }
 
@@ -190,8 +190,8 @@ fn lose_bp(depth: Depth, bp: BpHome) -> Result<State, u8>
     ensures { result ≡ lose_bp depth bp }
 {
     match (bp, depth) {
-        (BpHome::Same, _) => Err(BP_CLOBBERED),
-        (BpHome::Saved(_), Depth::AtLeast(_)) => Err(SP_LOST),
+        (BpHome::Same, _) => Err(BP_NOT_SAVED),
+        (BpHome::Saved(_), Depth::AtLeast(_)) => Err(STACK_POINTER_LOST),
         (BpHome::Saved(_), Depth::Known(_)) => to(State::Live {
             depth,
             fp: None,
@@ -217,7 +217,7 @@ pub fn step_live(depth: Depth, fp: Option<i64>, bp: BpHome, op: Op) -> Result<St
         Op::LoadBp { at } => load_bp(at, depth, bp),
         Op::Leave => leave(fp, bp),
         Op::BpOther => lose_bp(depth, bp),
-        Op::SpOther => Err(SP_WRITTEN),
+        Op::SpOther => Err(UNSUPPORTED_SP_WRITE),
         Op::IretNext => drop_interrupt(depth, fp, bp),
         _ => to(State::Live { depth, fp, bp }),
     }

@@ -21,9 +21,10 @@ pub fn initial() -> State
 
 /// The state after an operation, from the state before it. All numbers are bytes.
 ///
-/// A refusal is the number of the rule that the operation breaks: 7 an unsupported write of rsp, 8
-/// rbp written before it is saved, 9 the stack pointer lost, 10 an offset beyond a gigabyte, 11 the
-/// saved slot dropped, 15 a return from an interrupt where there is none. An ended stack stays so.
+/// A refusal is the number of the rule that the operation breaks, one of `ot_base::rules`: 7 an
+/// unsupported write of rsp, 8 rbp written before it is saved, 9 the stack pointer lost, 10 an offset
+/// beyond a gigabyte, 11 the saved slot dropped, 15 a return from an interrupt that isn't allowed. An
+/// ended stack stays so.
 pub fn step(state: State, op: Op) -> Result<State, u8>
     ensures { result ≡ move state op }
 {

@@ -1,10 +1,11 @@
 //! The numbers in states: bytes, in 64 bits, with their sums in 128 bits.
 
 ghost use Rattle.std.specs.Prelude.{◌≡◌, ◌+ℤ◌, ◌-ℤ◌, true, false, MatchResult};
+ghost use Rattle.ot_base.specs.declared.rules.TheConstants.{OFFSET_OUT_OF_RANGE};
 ghost use Rattle.state_defs.specs.Move.{int_same, is_near, has_near_numbers, to};
 ghost use Rattle.state_defs.specs.State.{depth_of, with_depth};
 
-use crate::rules::OUT_OF_RANGE;
+use ot_base::rules::OFFSET_OUT_OF_RANGE;
 use state_defs::{BpHome, Depth, State};
 
 /// The greatest number of bytes, up or down, that a state may hold: a gigabyte.
@@ -70,10 +71,10 @@ fn has_near_numbers(state: State) -> bool
 
 /// The number, refused where it is out of range.
 pub fn in_range(n: i128) -> Result<i64, u8>
-    ensures { MatchResult result (λ m. (is_near n ≡ true) × (m ≡ n)) (λ rule. (is_near n ≡ false) × (rule ≡ 10)) }
+    ensures { MatchResult result (λ m. (is_near n ≡ true) × (m ≡ n)) (λ rule. (is_near n ≡ false) × (rule ≡ OFFSET_OUT_OF_RANGE)) }
 {
     if n < -i128::from(LIMIT) || i128::from(LIMIT) < n {
-        return Err(OUT_OF_RANGE);
+        return Err(OFFSET_OUT_OF_RANGE);
     }
     Ok(n as i64)
 }
@@ -85,7 +86,7 @@ pub fn to(state: State) -> Result<State, u8>
     if has_near_numbers(state) {
         Ok(state)
     } else {
-        Err(OUT_OF_RANGE)
+        Err(OFFSET_OUT_OF_RANGE)
     }
 }
 

@@ -4,7 +4,7 @@ ghost use Rattle.std.specs.Prelude.{◌≡◌};
 ghost use Rattle.state_defs.specs.Move.{raise_regs, pop_bp_regs, lose_bp_regs, move_regs};
 
 use crate::numbers::{minus, plus, to_regs};
-use crate::rules::{BP_CLOBBERED, RETURN_NOT_ALLOWED, SLOT_DROPPED, SP_LOST, SP_WRITTEN};
+use ot_base::rules::{BP_NOT_SAVED, EXIT_NOT_ALLOWED, SAVED_SLOT_DROPPED, STACK_POINTER_LOST, UNSUPPORTED_SP_WRITE};
 use operation_defs::Op;
 use state_defs::State;
 
@@ -21,7 +21,7 @@ fn raise(by: i64, full: bool, depth: i64) -> Result<State, u8>
     let floor = if full { FULL_FLOOR } else { 0 };
     let left = minus(depth, by);
     if left < i128::from(floor) {
-        return Err(SLOT_DROPPED);
+        return Err(SAVED_SLOT_DROPPED);
     }
     to_regs(full, left)
 }
@@ -31,7 +31,7 @@ fn pop_bp(full: bool, depth: i64) -> Result<State, u8>
     ensures { result ≡ pop_bp_regs full depth }
 {
     if !full {
-        return Err(BP_CLOBBERED);
+        return Err(BP_NOT_SAVED);
     }
     if depth == FULL_FLOOR {
         return Ok(State::Regs {
@@ -47,7 +47,7 @@ fn lose_bp(full: bool, depth: i64) -> Result<State, u8>
     ensures { result ≡ lose_bp_regs full depth }
 {
     if !full {
-        return Err(BP_CLOBBERED);
+        return Err(BP_NOT_SAVED);
     }
     to_regs(full, i128::from(depth))
 }
@@ -62,9 +62,9 @@ pub fn step_regs(full: bool, depth: i64, op: Op) -> Result<State, u8>
         Op::AddSp { by } => raise(by, full, depth),
         Op::PopBp => pop_bp(full, depth),
         Op::LeaBpSp { .. } | Op::LoadBp { .. } | Op::BpOther => lose_bp(full, depth),
-        Op::AndSp { .. } | Op::LeaSpBp { .. } | Op::Leave => Err(SP_LOST),
-        Op::SpOther => Err(SP_WRITTEN),
-        Op::IretNext => Err(RETURN_NOT_ALLOWED),
+        Op::AndSp { .. } | Op::LeaSpBp { .. } | Op::Leave => Err(STACK_POINTER_LOST),
+        Op::SpOther => Err(UNSUPPORTED_SP_WRITE),
+        Op::IretNext => Err(EXIT_NOT_ALLOWED),
         _ => to_regs(full, i128::from(depth)),
     }
 }

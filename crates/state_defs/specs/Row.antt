@@ -2,6 +2,7 @@
 -- numbers.
 use Rattle.std.specs.Prelude.{ℕ, Bool, true, false, ◌&&◌, Option, Some, None, if◌then◌else◌, ℤ, pos, negsuc, neg_ℤ, int_le}
 use Rattle.ot_base.specs.declared.row.Row.{Row}
+use Rattle.ot_base.specs.declared.codes.TheConstants.{REG_UNDEFINED, REG_PREV_SP, REG_BP, REG_SP, KIND_UNDEFINED, KIND_END_OF_STACK, KIND_CALL, KIND_REGS, KIND_REGS_PARTIAL}
 use Rattle.state_defs.specs.declared.state.Depth.{Depth}
 use Rattle.state_defs.specs.declared.state.BpHome.{BpHome}
 use Rattle.state_defs.specs.declared.state.BpHome.TheVariants.{Same, Saved}
@@ -12,32 +13,32 @@ use Rattle.state_defs.specs.declared.state.State.TheVariants.{Live, Ended, Regs}
 use Rattle.state_defs.specs.State.{depth_of}
 pub use Rattle.ot_base.specs.Rows.{zero_row}
 
--- Registers: 0 undefined, 1 the frame's top, 4 rbp, 5 rsp. Kinds: 0 undefined, 1 the end of the stack,
--- 2 a call frame, 3 all saved registers, 4 some.
+-- The frame's top is counted from rsp, or from rbp where that is the frame's base.
 abbrev pub sp_reg_of : Option ℤ → ℕ
-sp_reg_of None = 5
-sp_reg_of (Some m) = 4
+sp_reg_of None = REG_SP
+sp_reg_of (Some m) = REG_BP
 
 abbrev pub sp_offset_of : Depth → Option ℤ → ℤ
 sp_offset_of depth None = depth_of depth
 sp_offset_of depth (Some m) = m
 
+-- The caller's rbp is in rbp, or in a word that is counted from the frame's top.
 abbrev pub bp_reg_of : BpHome → ℕ
-bp_reg_of Same = 0
-bp_reg_of (Saved o) = 1
+bp_reg_of Same = REG_UNDEFINED
+bp_reg_of (Saved o) = REG_PREV_SP
 
 abbrev pub bp_offset_of : BpHome → ℤ
 bp_offset_of Same = pos 0
 bp_offset_of (Saved o) = neg_ℤ o
 
 abbrev pub end_number : EndKind → ℕ
-end_number Undefined = 0
-end_number EndOfStack = 1
+end_number Undefined = KIND_UNDEFINED
+end_number EndOfStack = KIND_END_OF_STACK
 
 abbrev pub row_of : State → Row
-row_of (Live depth fp bp) = record { sp_offset = sp_offset_of depth fp; bp_offset = bp_offset_of bp; sp_reg = sp_reg_of fp; bp_reg = bp_reg_of bp; kind = 2; signal = false }
-row_of (Ended kind) = record { sp_offset = pos 0; bp_offset = pos 0; sp_reg = 0; bp_reg = 0; kind = end_number kind; signal = false }
-row_of (Regs full depth) = record { sp_offset = depth; bp_offset = pos 0; sp_reg = 5; bp_reg = 0; kind = if full then 3 else 4; signal = true }
+row_of (Live depth fp bp) = record { sp_offset = sp_offset_of depth fp; bp_offset = bp_offset_of bp; sp_reg = sp_reg_of fp; bp_reg = bp_reg_of bp; kind = KIND_CALL; signal = false }
+row_of (Ended kind) = record { sp_offset = pos 0; bp_offset = pos 0; sp_reg = REG_UNDEFINED; bp_reg = REG_UNDEFINED; kind = end_number kind; signal = false }
+row_of (Regs full depth) = record { sp_offset = depth; bp_offset = pos 0; sp_reg = REG_SP; bp_reg = REG_UNDEFINED; kind = if full then KIND_REGS else KIND_REGS_PARTIAL; signal = true }
 
 -- whether an offset has 16 bits, as the format wants it
 abbrev pub has_16_bits : ℤ → Bool

@@ -1,7 +1,6 @@
--- The rules that a state alone decides. A rule is told by its number: 5 a return with a modified stack,
--- 6 a sibling call with one, 10 an offset out of range, 15 a return or context switch where there is
--- none, 21 a call without a frame.
+-- The rules that a state alone decides.
 use Rattle.std.specs.Prelude.{ℕ, Bool, true, false, ◌&&◌, Option, Some, None, if◌then◌else◌, is_some, ℤ, pos, neg_ℤ}
+use Rattle.ot_base.specs.declared.rules.TheConstants.{MODIFIED_RETURN, MODIFIED_SIBLING_CALL, OFFSET_OUT_OF_RANGE, EXIT_NOT_ALLOWED, CALL_WITHOUT_FRAME}
 use Rattle.state_defs.specs.declared.state.Depth.TheVariants.{Known, AtLeast}
 use Rattle.state_defs.specs.declared.state.BpHome.{BpHome}
 use Rattle.state_defs.specs.declared.state.BpHome.TheVariants.{Same, Saved}
@@ -21,28 +20,28 @@ is_initial (Regs full depth) = false
 
 -- at a return
 abbrev pub return_rule : State → Option ℕ
-return_rule (Live depth fp bp) = if is_initial (Live depth fp bp) then None else Some 5
-return_rule (Ended kind) = Some 15
-return_rule (Regs full depth) = Some 15
+return_rule (Live depth fp bp) = if is_initial (Live depth fp bp) then None else Some MODIFIED_RETURN
+return_rule (Ended kind) = Some EXIT_NOT_ALLOWED
+return_rule (Regs full depth) = Some EXIT_NOT_ALLOWED
 
 -- at a jump to another function
 abbrev pub sibling_rule : State → Option ℕ
-sibling_rule (Live depth fp bp) = if is_initial (Live depth fp bp) then None else Some 6
-sibling_rule (Ended kind) = Some 15
-sibling_rule (Regs full depth) = Some 15
+sibling_rule (Live depth fp bp) = if is_initial (Live depth fp bp) then None else Some MODIFIED_SIBLING_CALL
+sibling_rule (Ended kind) = Some EXIT_NOT_ALLOWED
+sibling_rule (Regs full depth) = Some EXIT_NOT_ALLOWED
 
 -- at a far branch or a system call
 abbrev pub switch_rule : State → Option ℕ
-switch_rule (Live depth fp bp) = Some 15
+switch_rule (Live depth fp bp) = Some EXIT_NOT_ALLOWED
 switch_rule (Ended kind) = None
-switch_rule (Regs full depth) = Some 15
+switch_rule (Regs full depth) = Some EXIT_NOT_ALLOWED
 
 -- at a return from an interrupt: rsp has to be at the saved ip
 abbrev pub iret_rule : State → Option ℕ
-iret_rule (Live depth fp bp) = Some 15
+iret_rule (Live depth fp bp) = Some EXIT_NOT_ALLOWED
 iret_rule (Ended kind) = None
-iret_rule (Regs true depth) = Some 15
-iret_rule (Regs false depth) = if int_same depth (pos 0) then None else Some 15
+iret_rule (Regs true depth) = Some EXIT_NOT_ALLOWED
+iret_rule (Regs false depth) = if int_same depth (pos 0) then None else Some EXIT_NOT_ALLOWED
 
 -- whether a live state has rbp saved right below the return address, and rbp points there
 abbrev pub has_frame : Option ℤ → BpHome → Bool
@@ -52,13 +51,13 @@ has_frame (Some m) (Saved o) = int_same m (pos 16) && int_same o (pos 16)
 
 -- at a call, where frame pointers are asked for
 abbrev pub call_rule : State → Option ℕ
-call_rule (Live depth fp bp) = if has_frame fp bp then None else Some 21
+call_rule (Live depth fp bp) = if has_frame fp bp then None else Some CALL_WITHOUT_FRAME
 call_rule (Ended kind) = None
 call_rule (Regs full depth) = None
 
 -- at any point
 abbrev pub fit_rule : State → Option ℕ
-fit_rule s = if is_some (unfit_offset s) then Some 10 else None
+fit_rule s = if is_some (unfit_offset s) then Some OFFSET_OUT_OF_RANGE else None
 
 -- the number that a warning tells of a state
 abbrev pub depth_number : State → ℤ

@@ -8,10 +8,9 @@ use Rattle.state_defs.specs.Effect.{Core, IsInStack, HasSignedNumber, Effect}
 use Rattle.state_defs.specs.State.{ended_by, IsConsistent, Means}
 use Rattle.state_defs.specs.Move.{move}
 
--- A state that isn't ended tells the truth of registers and memory whose top frame is f, over the
--- frames below: it means them; the top frame ends in the stack; its protected slots lie at or above
--- rsp and hold their values; and those of the frames below it that a walk is to find lie above it, and
--- hold theirs.
+-- A state is true of registers and memory whose top frame is f, over the frames below: it means them;
+-- the top frame ends in the stack; its protected slots lie at or above rsp and hold their values; those
+-- of the frames below it that a walk is to find lie at or above its top, and hold theirs.
 pub record IsTold (s : State) (core : Core) (f : Frame) (below : List Frame) : Type 0 where
   pub frames : core.shadow ≡ f ∷ below
   pub means : Means s core.rsp core.rbp f
@@ -19,12 +18,13 @@ pub record IsTold (s : State) (core : Core) (f : Frame) (below : List Frame) : T
   pub kept : AreKept core.rsp core.region (f ∷ listed f.ended_caller below)
   pub above : LieAbove f.cfa (listed f.ended_caller below)
 
--- Move is sound: from registers and memory that a consistent state which isn't ended tells of, each
--- effect that stays in the stack ends in ones that the moved state tells of, with the frames below as
--- they were. Nothing in the top frame but its slot has changed.
+-- nothing in a frame but its slot has changed
 pub record IsSameFrame (before after : Frame) : Type 0 where
   pub same : after ≡ record before { slot = after.slot }
 
+-- Moves are sound: from registers and memory that a consistent state is true of, where a hint
+-- hasn't ended the stack, each effect of an operation that stays in the stack ends in ones that the moved state is
+-- true of. The frames below are as they were, and so is the top frame but for its slot.
 abbrev pub MoveIsSound : Type 0
 MoveIsSound =
     (s t : State) (op : Op) (before after : Core) (f : Frame) (below : List Frame)
