@@ -22,9 +22,9 @@ pub record IsTold (s : State) (core : Core) (f : Frame) (below : List Frame) : T
 pub record IsSameFrame (before after : Frame) : Type 0 where
   pub same : after ≡ record before { slot = after.slot }
 
--- Moves are sound: from registers and memory that a consistent state is true of, where a hint
--- hasn't ended the stack, each effect of an operation that stays in the stack ends in ones that the moved state is
--- true of. The frames below are as they were, and so is the top frame but for its slot.
+-- Moves are sound: from registers and memory that a consistent state is true of, in a stack that no
+-- hint has ended, each effect of an operation that stays in the stack ends in ones that the moved state
+-- is true of. The frames below are as they were, and so is the top frame but for its slot.
 abbrev pub MoveIsSound : Type 0
 MoveIsSound =
     (s t : State) (op : Op) (before after : Core) (f : Frame) (below : List Frame)

@@ -1,7 +1,7 @@
 -- One more instruction of straight code.
 use Rattle.std.proofs.Common.{◌≡◌, ℕ, ◌+◌, ◌*◌, ◌<◌, Bool, true, false, not, cond, List, [], ◌∷◌, ◌++◌, length, take, drop, get_or, refl, sym, ap, ◌∙◌, arith, append_assoc}
 use Rattle.std.specs.Prelude.{Some, slice_get}
-use Rattle.std.proofs.lemmas.Bool.{false≢true}
+use Rattle.std.proofs.lemmas.Bool.{false≢true, not-true, not-false}
 use Rattle.std.proofs.lemmas.List.{at_drop_more, get_or-map, length-map}
 use Rattle.std.proofs.lemmas.List.Sums.{sum_by_more}
 use Rattle.std.proofs.lemmas.Option.{get_or_from_slice_get}
@@ -83,16 +83,8 @@ other_step sec off w w' before rows all insns i d h p e other so =
     rest w = rows_from sec (off + (get_or insns i d).len) (depth_after (8 + 8 * w) (get_or insns i d).op) (drop (i + 1) insns)
 
 -- what the test of two rows says
-not_false : (b : Bool) → not b ≡ false → b ≡ true
-not_false true h = refl
-not_false false h = absurd (false≢true (sym h))
-
-not_true : (b : Bool) → not b ≡ true → b ≡ false
-not_true true h = absurd (false≢true h)
-not_true false h = refl
-
 pub same_from : (r : Bool) (row row' before : Row) → r ≡ not (same_row row before) → row ≡ row' → r ≡ false → same_row row' before ≡ true
-same_from r row row' before e k h = not_false (same_row row' before) (ap (λ (x : Row). not (same_row x before)) (sym k) ∙ sym e ∙ h)
+same_from r row row' before e k h = not-false (same_row row' before) (ap (λ (x : Row). not (same_row x before)) (sym k) ∙ sym e ∙ h)
 
 pub other_from : (r : Bool) (row row' before : Row) → r ≡ not (same_row row before) → row ≡ row' → r ≡ true → same_row row' before ≡ false
-other_from r row row' before e k h = not_true (same_row row' before) (ap (λ (x : Row). not (same_row x before)) (sym k) ∙ sym e ∙ h)
+other_from r row row' before e k h = not-true (same_row row' before) (ap (λ (x : Row). not (same_row x before)) (sym k) ∙ sym e ∙ h)

@@ -3,6 +3,7 @@ use Rattle.std.proofs.Common.{◌≡◌, ℕ, ◌+◌, ◌-◌, ◌<◌, ◌≤�
 use Rattle.std.specs.Prelude.{All, Some, None, Option, slice_get, ◌==◌, ◌&&◌}
 use Rattle.std.proofs.lemmas.Bool.{false≢true}
 use Rattle.std.proofs.lemmas.Bool.Decides.{nat_tests}
+use Rattle.std.proofs.lemmas.Option.{none-some}
 use Rattle.std.proofs.lemmas.List.Sums.{sum_by-append}
 use Rattle.std.proofs.lemmas.List.Elements.{All-cons, All-nil}
 use Rattle.std.proofs.lemmas.List.{at_drop_more}
@@ -52,15 +53,12 @@ more n m op ops s r d e f = record {
   ];
 }
 
-none_some : {X : Type 0} {x : X} → ◌≡◌ {A = Option X} None (Some x) → ⊥
-none_some h = cc
-
 -- the return alone
 only_return : From 0 (Ret ∷ [])
 only_return = record {
   some = omega arith;
   each = All-cons (λ o. is_straight_op o ≡ true) Ret [] refl (All-nil (λ o. is_straight_op o ≡ true));
-  return_last = elim [ zero ↦ (λ h. omega arith, λ h. refl) | suc i ↦ (λ h. absurd (none_some h), λ h. absurd (omega arith)) ];
+  return_last = elim [ zero ↦ (λ h. omega arith, λ h. refl) | suc i ↦ (λ h. absurd (none-some _ h), λ h. absurd (omega arith)) ];
   no_underflow = elim [ zero ↦ (λ h. omega arith) | suc i ↦ (λ h. absurd (omega arith)) ];
   no_overflow = elim [ zero ↦ (λ h. omega arith) | suc i ↦ (λ h. absurd (omega arith)) ];
   balanced = elim [ zero ↦ (λ h. refl) | suc i ↦ (λ h. absurd (omega arith)) ];

@@ -3,6 +3,7 @@ use Rattle.std.proofs.Common.{◌≡◌, ℕ, ◌+◌, ◌*◌, ◌<◌, ◌≤�
 use Rattle.std.specs.Prelude.{All, option_map}
 use Rattle.std.proofs.lemmas.Bool.{ltb-true, ltb-false, lt-ltb, cases_Bool}
 use Rattle.std.proofs.lemmas.Bool.Decides.{nat_tests}
+use Rattle.std.proofs.lemmas.Option.{none-some}
 use Rattle.std.proofs.lemmas.List.Elements.{All-nil, All-cons, All-append, All-weaker, All-head, All-tail}
 use Rattle.ot_base.specs.declared.codes.TheConstants.{KIND_UNDEFINED}
 use Rattle.walk_defs.specs.Lookup.{AddressedRow, addressed, at_or_below, comes_before, IsLast, RowHoldsAt, later, last_of, find_row}
@@ -91,10 +92,7 @@ last_more y ys x z is part h =
 
 -- what a maximum over the list gives is its last row
 pub last_is : (xs : List AddressedRow) (x : AddressedRow) → last_of xs ≡ Some x → IsLast xs x
-last_is [] x h = absurd (none_some h)
-  where
-    none_some : {A : Type 0} {x : A} → None ≡ Some x → ⊥
-    none_some h = cc
+last_is [] x h = absurd (none-some x h)
 last_is (y ∷ ys) x h =
     elim (some_or_none (last_of ys)) [
       | inl none ↦ last_alone y ys x none h

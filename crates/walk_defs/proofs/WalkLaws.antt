@@ -2,6 +2,7 @@
 use Rattle.std.proofs.Common.{◌≡◌, ℕ, ◌+◌, ◌^◌, ◌<◌, ◌≤◌, ◌⊎◌, zero, suc, Bool, true, false, cond, not, ◌||◌, List, [], ◌∷◌, Option, Some, None, Result, Ok, Err, ℤ, refl, sym, ◌∙◌, ap, subst, inl, inr, eqb, ltb, arith}
 use Rattle.std.specs.Prelude.{IfSome}
 use Rattle.std.proofs.lemmas.Bool.{ltb-true, cases_Bool, false≢true}
+use Rattle.std.proofs.lemmas.Option.{none-some}
 use Rattle.ot_base.specs.declared.row.Row.{Row}
 use Rattle.ot_base.specs.declared.row.PlacedRow.{PlacedRow}
 use Rattle.walk_defs.specs.declared.range.Range.{Range}
@@ -31,9 +32,6 @@ err_ok h = cc
 same_answer : {o : Option Row} (f : Row → Result Frame Stop) {row other : Row} {r s : Result Frame Stop} → o ≡ Some row → o ≡ Some other → f row ≡ r → f other ≡ s → r ≡ s
 same_answer f one two first second = sym first ∙ ap f (Some-injective (sym one ∙ two)) ∙ second
 
-none_some : {A : Type 0} {x : A} → None ≡ Some x → ⊥
-none_some h = cc
-
 joined : {x y : Frame} {xs ys : List Frame} → x ≡ y → xs ≡ ys → (x ∷ xs) ≡ (y ∷ ys)
 joined h k = cc
 
@@ -44,14 +42,14 @@ determined rows ranges memory (outside out) (stops inside row is) = absurd (fals
 determined rows ranges memory (outside out) (goes_on inside row is rest) = absurd (false≢true (sym out ∙ inside))
 determined rows ranges memory (no_row inside none) (outside out) = absurd (false≢true (sym out ∙ inside))
 determined rows ranges memory (no_row inside none) (no_row inside' none') = (refl, refl)
-determined rows ranges memory (no_row inside none) (stops inside' row is) = absurd (none_some (sym none ∙ row))
-determined rows ranges memory (no_row inside none) (goes_on inside' row is rest) = absurd (none_some (sym none ∙ row))
+determined rows ranges memory (no_row inside none) (stops inside' row is) = absurd (none-some _ (sym none ∙ row))
+determined rows ranges memory (no_row inside none) (goes_on inside' row is rest) = absurd (none-some _ (sym none ∙ row))
 determined rows ranges memory (stops inside row is) (outside out) = absurd (false≢true (sym out ∙ inside))
-determined rows ranges memory (stops inside row is) (no_row inside' none) = absurd (none_some (sym none ∙ row))
+determined rows ranges memory (stops inside row is) (no_row inside' none) = absurd (none-some _ (sym none ∙ row))
 determined rows ranges memory {regs = regs} (stops inside row is) (stops inside' row' is') = (refl, Err-injective (same_answer (unwound memory regs) row row' is is'))
 determined rows ranges memory {regs = regs} (stops inside row is) (goes_on inside' row' is' rest) = absurd (err_ok (same_answer (unwound memory regs) row row' is is'))
 determined rows ranges memory (goes_on inside row is rest) (outside out) = absurd (false≢true (sym out ∙ inside))
-determined rows ranges memory (goes_on inside row is rest) (no_row inside' none) = absurd (none_some (sym none ∙ row))
+determined rows ranges memory (goes_on inside row is rest) (no_row inside' none) = absurd (none-some _ (sym none ∙ row))
 determined rows ranges memory {regs = regs} (goes_on inside row is rest) (stops inside' row' is') = absurd (err_ok (same_answer (unwound memory regs) row' row is' is))
 determined rows ranges memory {regs = regs} (goes_on {row = one} {frame = frame} {frames = frames} inside row is rest) (goes_on {row = two} {frame = frame'} {frames = frames'} {stop = other} inside' row' is' rest') =
     let same_row : two ≡ one = Some-injective (sym row' ∙ row) in
