@@ -1,10 +1,11 @@
 /// What an instruction does to rsp, rbp, the stack and the flow of control (Intel SDM, volume 2).
 ///
-/// Encodings are given by opcode and ModRM digit; `wide` ones have REX.W. An instruction writes a
-/// register where its opcode or ModRM names one as a destination, in any width but the high bytes AH,
-/// CH, DH and BH. Displacements and immediates are sign-extended; `rel` counts from the instruction's
-/// end. Operations that address memory by rsp or rbp have that base alone, without an index, another
-/// address size or a segment override by FS or GS.
+/// Encodings are given by opcode and ModRM digit. ADD, SUB, AND, LEA, MOV and IRET are meant with
+/// REX.W where an operation names them. Those that address memory by rsp or rbp have that base alone,
+/// without an index, another address size or a segment override by FS or GS. An instruction writes a
+/// register where its opcode or ModRM names one as a destination, in any width; AH, CH, DH and BH
+/// belong to no register that counts here. Displacements and immediates are sign-extended; `rel`
+/// counts from the instruction's end.
 #[derive(Clone, Copy, Debug, PartialEq, Eq)]
 pub enum Op {
     /// None of the others: writes neither rsp nor rbp, may store, and goes on.
@@ -24,20 +25,20 @@ pub enum Op {
     PopBp,
     /// Pops the flags, and with them the access flag AC: POPF.
     Popf,
-    /// Adds `by` to rsp: wide ADD and SUB of an immediate (81 and 83, /0 and /5), and wide LEA of rsp
-    /// from rsp and a displacement.
+    /// Adds `by` to rsp: ADD and SUB of an immediate (81 and 83, /0 and /5), and LEA of rsp from rsp and
+    /// a displacement.
     AddSp { by: i64 },
-    /// Masks rsp: wide AND of an immediate (81 and 83, /4).
+    /// Masks rsp: AND of an immediate (81 and 83, /4).
     AndSp { mask: i64 },
-    /// Sets rsp to rbp plus `by`: wide LEA of rsp from rbp and a displacement, and wide MOV of rbp to
-    /// rsp, where `by` is 0.
+    /// Sets rsp to rbp plus `by`: LEA of rsp from rbp and a displacement, and MOV of rbp to rsp, where
+    /// `by` is 0.
     LeaSpBp { by: i64 },
-    /// Sets rbp to rsp plus `by`: wide LEA of rbp from rsp and a displacement, and wide MOV of rsp to
-    /// rbp, where `by` is 0.
+    /// Sets rbp to rsp plus `by`: LEA of rbp from rsp and a displacement, and MOV of rsp to rbp, where
+    /// `by` is 0.
     LeaBpSp { by: i64 },
-    /// Stores rbp at rsp plus `at`: wide MOV (89).
+    /// Stores rbp at rsp plus `at`: MOV (89).
     StoreBp { at: i64 },
-    /// Loads rbp from rsp plus `at`: wide MOV (8B).
+    /// Loads rbp from rsp plus `at`: MOV (8B).
     LoadBp { at: i64 },
     /// Sets rsp to rbp, then pops rbp: LEAVE.
     Leave,
@@ -63,9 +64,9 @@ pub enum Op {
     Ret,
     /// A near return that drops bytes of the caller's stack (C2).
     RetImm,
-    /// A return from an interrupt: wide IRET (CF), which pops ip, cs, flags, rsp and ss.
+    /// A return from an interrupt: IRET with REX.W (CF), which pops ip, cs, flags, rsp and ss.
     Iret,
-    /// A wide IRET that goes on right behind itself, as a function executes one to serialize the
+    /// An IRET with REX.W that goes on right behind itself, as a function executes one to serialize the
     /// processor.
     ///
     /// Five words were pushed right before it, with the address behind it as ip and the address right
@@ -74,7 +75,7 @@ pub enum Op {
     /// of whoever takes an IRET for one: the decoder never does.
     IretNext,
     /// A way out of the code by a far branch or the system: far CALL and JMP (FF /3 and /5), far RET
-    /// (CA, CB), IRET that isn't wide, SYSCALL, SYSRET, SYSENTER and SYSEXIT.
+    /// (CA, CB), IRET without REX.W, SYSCALL, SYSRET, SYSENTER and SYSEXIT.
     Switch,
     /// An undefined instruction on purpose: UD2 and UD1 (0F 0B, 0F B9).
     Ud2,
