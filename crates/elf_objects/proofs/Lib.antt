@@ -5,3 +5,4 @@ pub mod Homes
 pub mod FirstFault
 pub mod Read
 pub mod Crowding
+pub mod UpToZero

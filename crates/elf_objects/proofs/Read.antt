@@ -83,6 +83,12 @@ IsSlice-body b h s kind offset size body placed = record {
   nobits = λ e. (let k : h.kind ≡ sht_nobits = sym kind ∙ e in rw (body, k) refl);
 }
 
+-- and so is that of the section with an index
+pub IsSlice-entry : (b : List ℕ) (o : Elf) (i : ℕ) → elf_of b ≡ o → i < section_count b → IsWellFormed b → IsSlice o.bytes (section_at o i)
+unfolding section_entry
+IsSlice-entry b o i e known well =
+    rw (← e) (rw (section_at-entry b (elf_of b) i refl known) (IsSlice-body b (section_header b i) (section_entry b i) refl refl refl refl (well.bodies i known).placed))
+
 -- a test that agrees with what stands in a list finds the same
 pub section_symbol-found : (b : List ℕ) (o : Elf) (s : ℕ) → elf_of b ≡ o → least_below (stands_for_section b s) (symbol_count b) ≡ section_symbol_of o s
 section_symbol-found b o s e =

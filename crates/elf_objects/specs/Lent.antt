@@ -5,9 +5,10 @@ use Rattle.elf_objects.specs.declared.symbol.Symbol.{Symbol}
 use Rattle.elf_objects.specs.Elf.{SectionEntry, SymbolEntry}
 use Rattle.elf_objects.specs.Kind.{sht_null, sht_nobits}
 
-abbrev pub lent_section : Section → SectionEntry
-lent_section s = record {
-  name = s.name.now;
+-- a section that is lent, with its name
+abbrev pub lent_section : List ℕ → Section → SectionEntry
+lent_section name s = record {
+  name = name;
   kind = s.kind;
   flags = s.flags;
   addr = s.addr;
@@ -20,9 +21,10 @@ lent_section s = record {
   body = s.body.now;
 }
 
-abbrev pub lent_symbol : Symbol → SymbolEntry
-lent_symbol s = record {
-  name = s.name.now;
+-- a symbol that is lent, with its name
+abbrev pub lent_symbol : List ℕ → Symbol → SymbolEntry
+lent_symbol name s = record {
+  name = name;
   bind = s.bind;
   kind = s.kind;
   other = s.other;

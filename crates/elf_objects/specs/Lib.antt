@@ -1,4 +1,5 @@
 pub mod Number
+pub mod Strings
 pub mod Below
 pub mod Kind
 pub mod Header

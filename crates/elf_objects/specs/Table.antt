@@ -1,6 +1,5 @@
 -- The special tables among the sections, and what stands in them.
-use Rattle.std.specs.Prelude.{ℕ, ◌+◌, ◌*◌, ◌/◌, ◌%◌, ◌^◌, ◌==◌, ◌&&◌, not, Bool, List, [], Option, Some, None, drop, slice_index, slice_range, if◌then◌else◌}
-use Rattle.std.specs.List.{take_while}
+use Rattle.std.specs.Prelude.{ℕ, ◌+◌, ◌*◌, ◌/◌, ◌%◌, ◌^◌, ◌==◌, ◌&&◌, Bool, List, [], Option, Some, None, drop, slice_index, slice_range, if◌then◌else◌}
 use Rattle.std.specs.Int.{w64, cast_signed}
 use Rattle.elf_objects.specs.declared.header.SectionHeader.{SectionHeader}
 use Rattle.elf_objects.specs.declared.symbol.Home.{Home}
@@ -12,6 +11,7 @@ use Rattle.elf_objects.specs.File.{section_count, section_header, name_table}
 use Rattle.elf_objects.specs.Header.{has_body, null_header}
 use Rattle.elf_objects.specs.Kind.{sht_symtab, sht_symtab_shndx, sht_rela, shn_undef, shn_abs, shn_common, shn_xindex}
 use Rattle.elf_objects.specs.Number.{half, word, xword}
+use Rattle.elf_objects.specs.Strings.{up_to_zero}
 
 -- the section has this type
 abbrev pub is_kind : List ℕ → ℕ → ℕ → Bool
@@ -52,7 +52,7 @@ body_of b h = if has_body h then slice_range b h.offset (h.offset + h.size) else
 
 -- the text in a string table from an offset up to its zero byte
 unfoldable pub string_at : List ℕ → ℕ → List ℕ
-string_at table at = take_while (λ c. not (c == 0)) (drop at table)
+string_at table at = up_to_zero (drop at table)
 
 -- the symbol in the 24 bytes from an offset, Elf64_Sym
 unfoldable pub raw_symbol_at : List ℕ → ℕ → RawSymbol

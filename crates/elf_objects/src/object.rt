@@ -13,7 +13,8 @@ use crate::links::check_links;
 use crate::names::{check_names, check_text};
 use crate::relocs::{check_relocs, nth_reloc, rela_header};
 use crate::section::Section;
-use crate::slices::{slice_body, slice_string};
+use crate::slices::slice_body;
+use crate::strings::{tail, text_begins, text_is, text_of};
 use crate::symbol::{Reloc, Symbol};
 use crate::symbols::{Symbols, find_home};
 use ot_base::Names;
@@ -91,9 +92,10 @@ impl<'a> Object<'a> {
 }
 
 impl<'a> Object<'a> {
-    ghost use Rattle.std.specs.Prelude.{Some, slice_get};
+    ghost use Rattle.std.specs.Prelude.{◌↔◌, Some, IsTrue, slice_get};
     ghost use Rattle.elf_objects.specs.Contents.{is_text, relocs_at, section_at, section_symbol_of, symbol_at};
     ghost use Rattle.elf_objects.specs.Lent.{lent_section, lent_symbol, IsSlice};
+    ghost use Rattle.elf_objects.specs.Strings.{BeginsWith, up_to_zero};
 
     /// The whole file.
     pub fn bytes(&self) -> &'a [u8]
@@ -123,21 +125,20 @@ impl<'a> Object<'a> {
     pub fn sections(&self) -> u32
         ensures value { result ≡ length self.now.sections }
         ensures few { result ≤ 262144 }
+        ensures object { IsObject self.now.bytes self.now }
     {
         self.symbols.headers.count
     }
 
-    /// The section with an index.
+    /// The section with an index. It takes the same time for each section, since it reads no name.
     pub fn section(&self, i: u32) -> Section<'a>
         requires { i < length self.now.sections }
-        ensures value { lent_section result ≡ section_at self.now i }
-        ensures slice { IsSlice self.now.bytes (lent_section result) }
+        ensures value { lent_section (section_at self.now i).name result ≡ section_at self.now i }
+        ensures slice { IsSlice self.now.bytes (section_at self.now i) }
     {
         let headers = &self.symbols.headers;
         let h = headers.get(i);
-        let names = slice_body(headers.bytes, &self.names);
         Section {
-            name: slice_string(names, h.name as usize),
             kind: h.kind,
             flags: h.flags,
             addr: h.addr,
@@ -149,6 +150,41 @@ impl<'a> Object<'a> {
             entsize: h.entsize,
             body: slice_body(headers.bytes, &h),
         }
+    }
+
+    /// The table of section names from where the name of a section begins.
+    fn section_name_on(&self, i: u32) -> &'a [u8]
+        requires { i < length self.now.sections }
+        ensures { up_to_zero result.now ≡ (section_at self.now i).name }
+    {
+        let headers = &self.symbols.headers;
+        let h = headers.get(i);
+        let names = slice_body(headers.bytes, &self.names);
+        tail(names, h.name as usize)
+    }
+
+    /// The name of a section, without its zero byte. It takes the time of the name's length.
+    pub fn name_of_section(&self, i: u32) -> &'a [u8]
+        requires { i < length self.now.sections }
+        ensures { result.now ≡ (section_at self.now i).name }
+    {
+        text_of(self.section_name_on(i))
+    }
+
+    /// Whether the name of a section is this one. It reads one byte more than this name has at most.
+    pub fn section_is_named(&self, i: u32, name: &[u8]) -> bool
+        requires { i < length self.now.sections }
+        ensures { IsTrue result ↔ (section_at self.now i).name ≡ name.now }
+    {
+        text_is(self.section_name_on(i), name)
+    }
+
+    /// Whether the name of a section begins with these bytes. It reads so many bytes at most.
+    pub fn section_name_begins(&self, i: u32, prefix: &[u8]) -> bool
+        requires { i < length self.now.sections }
+        ensures { IsTrue result ↔ BeginsWith (section_at self.now i).name prefix.now }
+    {
+        text_begins(self.section_name_on(i), prefix)
     }
 
     /// Whether a section has code: `SHT_PROGBITS` with `SHF_EXECINSTR`.
@@ -170,22 +206,21 @@ impl<'a> Object<'a> {
     pub fn symbols(&self) -> u32
         ensures value { result ≡ length self.now.symbols }
         ensures few { result ≤ 4194304 }
+        ensures object { IsObject self.now.bytes self.now }
     {
         self.symbol_count
     }
 
-    /// The symbol with an index.
-    pub fn symbol(&self, k: u32) -> Symbol<'a>
+    /// The symbol with an index. It takes the same time for each symbol, since it reads no name.
+    pub fn symbol(&self, k: u32) -> Symbol
         requires { k < length self.now.symbols }
-        ensures { lent_symbol result ≡ symbol_at self.now k }
+        ensures { lent_symbol (symbol_at self.now k).name result ≡ symbol_at self.now k }
     {
         let raw = self.symbols.raw(k);
         let Some(home) = find_home(&self.symbols, k) else {
             unreachable!()
         };
-        let strings = slice_body(self.symbols.headers.bytes, &self.strings);
         Symbol {
-            name: slice_string(strings, raw.name as usize),
             bind: raw.info / 16,
             kind: raw.info % 16,
             other: raw.other,
@@ -193,6 +228,40 @@ impl<'a> Object<'a> {
             value: raw.value,
             size: raw.size,
         }
+    }
+
+    /// The symbols' string table from where the name of a symbol begins.
+    fn symbol_name_on(&self, k: u32) -> &'a [u8]
+        requires { k < length self.now.symbols }
+        ensures { up_to_zero result.now ≡ (symbol_at self.now k).name }
+    {
+        let raw = self.symbols.raw(k);
+        let strings = slice_body(self.symbols.headers.bytes, &self.strings);
+        tail(strings, raw.name as usize)
+    }
+
+    /// The name of a symbol, without its zero byte. It takes the time of the name's length.
+    pub fn name_of_symbol(&self, k: u32) -> &'a [u8]
+        requires { k < length self.now.symbols }
+        ensures { result.now ≡ (symbol_at self.now k).name }
+    {
+        text_of(self.symbol_name_on(k))
+    }
+
+    /// Whether the name of a symbol is this one. It reads one byte more than this name has at most.
+    pub fn symbol_is_named(&self, k: u32, name: &[u8]) -> bool
+        requires { k < length self.now.symbols }
+        ensures { IsTrue result ↔ (symbol_at self.now k).name ≡ name.now }
+    {
+        text_is(self.symbol_name_on(k), name)
+    }
+
+    /// Whether the name of a symbol begins with these bytes. It reads so many bytes at most.
+    pub fn symbol_name_begins(&self, k: u32, prefix: &[u8]) -> bool
+        requires { k < length self.now.symbols }
+        ensures { IsTrue result ↔ BeginsWith (symbol_at self.now k).name prefix.now }
+    {
+        text_begins(self.symbol_name_on(k), prefix)
     }
 
     /// The first symbol that stands for a section: its type is `STT_SECTION`, its home is the section, and
@@ -236,7 +305,7 @@ impl<'a> Names for Object<'a> {
 
     fn section_name(&self, sec: u32) -> &[u8] {
         if sec < self.sections() {
-            self.section(sec).name
+            self.name_of_section(sec)
         } else {
             &[]
         }
@@ -244,7 +313,7 @@ impl<'a> Names for Object<'a> {
 
     fn symbol_name(&self, sym: u32) -> &[u8] {
         if sym < self.symbols() {
-            self.symbol(sym).name
+            self.name_of_symbol(sym)
         } else {
             &[]
         }

@@ -1,10 +1,10 @@
 //! A section as it is lent.
 
-/// A section: the fields of its header, its name, and its body.
+/// A section: the fields of its header, and its body. Its name is read by
+/// [`name_of_section`](crate::Object::name_of_section) and its kin alone, since that takes the time
+/// of the name's length.
 #[derive(Clone, Copy)]
 pub struct Section<'a> {
-    /// The name without its zero byte.
-    pub name: &'a [u8],
     /// `sh_type`.
     pub kind: u32,
     /// `sh_flags`.

@@ -13,11 +13,10 @@ pub enum Home {
     Common,
 }
 
-/// A symbol, `Elf64_Sym`.
-#[derive(Clone, Copy)]
-pub struct Symbol<'a> {
-    /// The name without its zero byte.
-    pub name: &'a [u8],
+/// A symbol, `Elf64_Sym`. Its name is read by [`name_of_symbol`](crate::Object::name_of_symbol) and
+/// its kin alone, since that takes the time of the name's length.
+#[derive(Clone, Copy, Debug, PartialEq, Eq)]
+pub struct Symbol {
     /// The high four bits of `st_info`.
     pub bind: u8,
     /// The low four bits of `st_info`.

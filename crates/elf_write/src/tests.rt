@@ -205,8 +205,8 @@ fn reads_back(rt: HostRuntime) -> Result<(), Fail> {
     let read = Object::parse(rt.alloc(), &file)?;
     assert_eq!(rt; read.sections(), 8);
     assert_eq!(rt; read.symbols(), 3);
-    assert_eq!(rt; read.section(1).name, b".text".as_slice());
-    assert_eq!(rt; read.section(6).name, b".orc_unwind_ip".as_slice());
+    assert_eq!(rt; read.name_of_section(1), b".text".as_slice());
+    assert_eq!(rt; read.name_of_section(6), b".orc_unwind_ip".as_slice());
     assert_eq!(rt; read.section(6).body, [0x22; 20].as_slice());
     Ok(())
 }

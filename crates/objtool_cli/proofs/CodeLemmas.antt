@@ -93,9 +93,9 @@ pub record Sizes (o : Elf) (sec : ℕ) (insns : List Insn) : Type 0 where
   pub count : length insns ≤ size_of insns
   pub small : size_of insns ≤ 67108864
 
-pub sizes : (o : Elf) (sec : ℕ) (insns : List Insn) (lent : SectionEntry) → length o.bytes ≤ 67108864 → is_text (section_at o sec) ≡ true → IsStraightText (record { sec = sec; size = (section_at o sec).size }) insns → lent ≡ section_at o sec → IsSlice o.bytes lent → Sizes o sec insns
-sizes o sec insns lent little text fills is slice =
-    let body = body_size o.bytes (section_at o sec) text (subst (IsSlice o.bytes) is slice) in
+pub sizes : (o : Elf) (sec : ℕ) (insns : List Insn) → length o.bytes ≤ 67108864 → is_text (section_at o sec) ≡ true → IsStraightText (record { sec = sec; size = (section_at o sec).size }) insns → IsSlice o.bytes (section_at o sec) → Sizes o sec insns
+sizes o sec insns little text fills slice =
+    let body = body_size o.bytes (section_at o sec) text slice in
     record {
       bytes = sym fills.size;
       count = few_insns insns fills.lengths;

@@ -1,7 +1,6 @@
-ghost use Rattle.std.specs.Prelude.{◌≡◌, ◌↔◌, ◌<◌, true, ◌∷◌, [], All, IsTrue, IfOk, IfSome, IfNone, filter, map, length, option_map};
-ghost use Rattle.elf_objects.specs.Contents.{section_at};
+ghost use Rattle.std.specs.Prelude.{◌≡◌, ◌↔◌, ◌<◌, true, ◌∷◌, [], All, IsTrue, IfOk, IfSome, IfNone, filter, map, length, option_map, bytes_eq};
+ghost use Rattle.elf_objects.specs.Contents.{section_at, symbol_at};
 ghost use Rattle.elf_objects.specs.Elf.{SymbolEntry};
-ghost use Rattle.elf_objects.specs.Lent.{lent_section, lent_symbol};
 ghost use Rattle.objtool_cli.specs.Form.{hint_names, is_among, is_simple, is_special, orc_names, patch_names, is_function, IsFunctionAround, IsStraightCode};
 ghost use Rattle.objtool_cli.specs.Checked.{HasForm};
 ghost use Rattle.objtool_cli.specs.Texts.{bodies_of, body_in, insns_of};
@@ -9,11 +8,11 @@ ghost use Rattle.straight_law.specs.Laws.{IsStraightText};
 ghost use Rattle.x86_text.specs.Code.{IsCode, LeadsTo, code_of};
 
 use crate::texts::SectionText;
-use elf_objects::{Home, Object, Section, Symbol};
+use elf_objects::{Home, Object, Symbol};
 use operation_defs::Insn;
-use straight_table::is_straight;
 use ot_base::NoMemory;
 use std::alloc::Global;
+use straight_table::is_straight;
 use x86_text::Text;
 
 /// How many bytes an object may have.
@@ -25,47 +24,61 @@ const SHT_GROUP: u32 = 17;
 
 const STT_FUNC: u8 = 2;
 
-/// Whether a name is that of an ORC section.
-fn is_orc_name(name: &[u8]) -> bool
-    ensures { result ≡ is_among orc_names name.now }
+/// Whether the name of a section is this one.
+fn is_named(object: &Object<'_>, i: u32, name: &[u8]) -> bool
+    requires { i < length object.now.sections }
+    ensures { result ≡ bytes_eq (section_at object.now i).name name.now }
 {
-    name == b".orc_unwind".as_slice()
-        || name == b".orc_unwind_ip".as_slice()
-        || name == b".rela.orc_unwind_ip".as_slice()
+    object.section_is_named(i, name)
 }
 
-/// Whether a name is that of a section that tells of alternatives, static branches or exceptions.
-fn is_patch_name(name: &[u8]) -> bool
-    ensures { result ≡ is_among patch_names name.now }
+/// Whether a section is an ORC section.
+fn has_orc_name(object: &Object<'_>, i: u32) -> bool
+    requires { i < length object.now.sections }
+    ensures { result ≡ is_among orc_names (section_at object.now i).name }
 {
-    name == b".altinstructions".as_slice()
-        || name == b"__jump_table".as_slice()
-        || name == b"__ex_table".as_slice()
+    is_named(object, i, b".orc_unwind")
+        || is_named(object, i, b".orc_unwind_ip")
+        || is_named(object, i, b".rela.orc_unwind_ip")
 }
 
-/// Whether a name is that of a section of hints to the checker.
-fn is_hint_name(name: &[u8]) -> bool
-    ensures { result ≡ is_among hint_names name.now }
+/// Whether a section tells of alternatives, static branches or exceptions.
+fn has_patch_name(object: &Object<'_>, i: u32) -> bool
+    requires { i < length object.now.sections }
+    ensures { result ≡ is_among patch_names (section_at object.now i).name }
 {
-    name == b".discard.unwind_hints".as_slice()
-        || name == b".discard.reachable".as_slice()
-        || name == b".discard.unreachable".as_slice()
-        || name == b".discard.func_stack_frame_non_standard".as_slice()
-        || name == b".discard.retpoline_safe".as_slice()
+    is_named(object, i, b".altinstructions")
+        || is_named(object, i, b"__jump_table")
+        || is_named(object, i, b"__ex_table")
 }
 
-/// Whether a name is that of a section that says more of the code, or of an ORC section.
-fn is_special(name: &[u8]) -> bool
-    ensures { result ≡ is_special name.now }
+/// Whether a section has hints to the checker.
+fn has_hint_name(object: &Object<'_>, i: u32) -> bool
+    requires { i < length object.now.sections }
+    ensures { result ≡ is_among hint_names (section_at object.now i).name }
 {
-    is_patch_name(name) || is_hint_name(name) || is_orc_name(name)
+    is_named(object, i, b".discard.unwind_hints")
+        || is_named(object, i, b".discard.reachable")
+        || is_named(object, i, b".discard.unreachable")
+        || is_named(object, i, b".discard.func_stack_frame_non_standard")
+        || is_named(object, i, b".discard.retpoline_safe")
+}
+
+/// Whether a section says more of the code, or is an ORC section, by its name.
+fn has_special_name(object: &Object<'_>, i: u32) -> bool
+    requires { i < length object.now.sections }
+    ensures { result ≡ is_special (section_at object.now i).name }
+{
+    has_patch_name(object, i) || has_hint_name(object, i) || has_orc_name(object, i)
 }
 
 /// Whether a section has no relocations, is no group, and has no special name.
-fn is_simple(section: &Section<'_>) -> bool
-    ensures { result ≡ is_simple (lent_section section.now) }
+fn is_simple(object: &Object<'_>, i: u32) -> bool
+    requires { i < length object.now.sections }
+    ensures { result ≡ is_simple (section_at object.now i) }
 {
-    !(section.kind == SHT_RELA || section.kind == SHT_GROUP || is_special(section.name))
+    let kind = object.section(i).kind;
+    !(kind == SHT_RELA || kind == SHT_GROUP || has_special_name(object, i))
 }
 
 /// Whether each section is simple.
@@ -73,16 +86,17 @@ fn are_simple(object: &Object<'_>) -> bool
     ensures { IsTrue result ↔ All (λ s. is_simple s ≡ true) object.now.sections }
 {
     for i in 0..object.sections() {
-        if !is_simple(&object.section(i)) {
+        if !is_simple(object, i) {
             return false;
         }
     }
     true
 }
 
-/// The one function symbol, where there is exactly one.
-fn only_function<'a>(object: &Object<'a>) -> Option<Symbol<'a>>
-    ensures found { IfSome result (λ s. filter is_function object.now.symbols ≡ lent_symbol s ∷ []) }
+/// The number of the one function symbol, where there is exactly one.
+fn only_function(object: &Object<'_>) -> Option<u32>
+    ensures found { IfSome result (λ k. filter is_function object.now.symbols ≡ symbol_at object.now k ∷ []) }
+    ensures known { IfSome result (λ k. k < length object.now.symbols) }
     ensures none { IfNone result ((s : SymbolEntry) → filter is_function object.now.symbols ≡ s ∷ [] → ⊥) }
 {
     let mut found = None;
@@ -92,7 +106,7 @@ fn only_function<'a>(object: &Object<'a>) -> Option<Symbol<'a>>
             if found.is_some() {
                 return None;
             }
-            found = Some(symbol);
+            found = Some(k);
         }
     }
     found
@@ -108,7 +122,7 @@ pub struct StraightCode {
 }
 
 /// Whether a symbol covers exactly a section: it is defined at its beginning, and has its size.
-fn covers(symbol: &Symbol<'_>, sec: u32, size: u64) -> bool
+fn covers(symbol: &Symbol, sec: u32, size: u64) -> bool
     ensures { IsTrue result ↔ ((symbol.now.home ≡ Home.Section sec) × (symbol.now.value ≡ 0) × (symbol.now.size ≡ size)) }
 {
     symbol.home == Home::Section(sec) && symbol.value == 0 && symbol.size == size
@@ -126,7 +140,7 @@ fn is_function_around(object: &Object<'_>, sec: u32) -> bool
         return false;
     }
     match only_function(object) {
-        Some(function) => covers(&function, sec, object.section(sec).size),
+        Some(k) => covers(&object.symbol(k), sec, object.section(sec).size),
         None => false,
     }
 }

@@ -10,12 +10,12 @@ ghost use Rattle.objtool_cli.specs.Unwinding.{UnwindsBy};
 
 use crate::form::StraightCode;
 use elf_objects::Object;
-use straight_table::straight_rows;
 use orc_bytes::rows_are_determined;
 use orc_output::with_orc;
 use ot_base::{NoMemory, PlacedRow};
 use std::alloc::Global;
 use straight_law::laws::straight_unwinds;
+use straight_table::straight_rows;
 
 /// The rows of an object that is straight code.
 pub fn code_rows(

@@ -6,7 +6,7 @@ ghost use Rattle.x86_text.specs.Refused.{IsTextFault};
 ghost use Rattle.objtool_cli.specs.Command.{IsUnread, TellsFault};
 
 use crate::stop::{Refusal, Stop, Undecoded};
-use elf_objects::{Object, Section};
+use elf_objects::Object;
 use std::alloc::Global;
 use x86_text::{Text, TextFault};
 
@@ -20,16 +20,16 @@ pub struct SectionText<'a> {
 }
 
 /// Why a section's body isn't code.
-fn text_stop<'a>(section: &Section<'a>, fault: TextFault) -> Stop<'a>
-    requires { IsTextFault section.now.body.now fault }
-    ensures { TellsFault section.now.name.now section.now.body.now fault result }
+fn text_stop<'a>(name: &'a [u8], body: &'a [u8], fault: TextFault) -> Stop<'a>
+    requires { IsTextFault body.now fault }
+    ensures { TellsFault name.now body.now fault result }
 {
     match fault {
         TextFault::NoMemory => Stop::NoMemory,
         TextFault::At { off, why } => Stop::Refused(Refusal::Undecoded(Undecoded {
-            section: section.name,
+            section: name,
             off,
-            code: &section.body[off as usize..],
+            code: &body[off as usize..],
             why,
         })),
     }
@@ -48,7 +48,7 @@ fn read_text<'a>(alloc: Global, object: &Object<'a>, sec: u32) -> Result<Text<'a
     let section = object.section(sec);
     match Text::read(alloc, section.body) {
         Ok(text) => Ok(text),
-        Err(fault) => Err(text_stop(&section, fault)),
+        Err(fault) => Err(text_stop(object.name_of_section(sec), section.body, fault)),
     }
 }
 

@@ -1,6 +1,5 @@
 use Rattle.std.proofs.Common.{◌≡◌, ℕ, Bool, true, false, List, [], ◌∷◌, length, get_or, sym, ap, ◌∙◌, subst, arith}
 use Rattle.std.proofs.lemmas.Bool.{false≢true}
-use Rattle.elf_objects.specs.Lent.{IsSlice}
 use Rattle.straight_table.specs.Straight.{IsStraight, ops_of}
 use Rattle.x86_text.specs.Code.{IsCode}
 use Rattle.objtool_cli.specs.declared.texts.SectionText.{SectionText}
@@ -57,7 +56,7 @@ returns-then-is_straight-clause-fills c =
     let t = c.index-texts-0.result in
     let only = only_text o c.args.texts.now t c.requires (one c.args.texts.now t c.if-texts-ne1.false c.index-texts-0.is) in
     straight_text o.bytes o t.sec t.text c.in_ok-insns.insns.items only.text.is_code
-    (subst (IsSlice o.bytes) c.section-section.ensures.value c.section-section.ensures.slice) only.body c.insns_of.ensures.some c.insns_of.ensures.whole c.in_ok-insns.ensures.insns
+    c.section-section.ensures.slice only.body c.insns_of.ensures.some c.insns_of.ensures.whole c.in_ok-insns.ensures.insns
     (subst (λ insns. IsStraight (ops_of insns)) c.deref.ensures.value (c.is_straight.ensures.0 c.if-is_straight.true))
 
 pub returns-else-is_straight-clause-none : goal.returns-else-is_straight-clause-none
