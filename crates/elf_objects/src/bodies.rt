@@ -12,7 +12,7 @@ use crate::extents::find_shared;
 use crate::fault::ElfFault;
 use crate::header::SectionHeader;
 use crate::headers::Headers;
-use crate::kind::{SHT_NULL, SHT_RELA};
+use crate::{SHT_NULL, SHT_RELA};
 use std::alloc::Global;
 
 /// Whether the body of a section lies in a file of this many bytes, behind the file header.

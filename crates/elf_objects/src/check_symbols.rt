@@ -12,13 +12,10 @@ ghost use Rattle.elf_objects.specs.Table.{symbol_count, string_header};
 
 use crate::earliest::{earliest, nothing};
 use crate::fault::{Counted, ElfFault, NameOf};
-use crate::kind::{STB_LOCAL, STT_SECTION};
 use crate::symbol::Home;
 use crate::symbols::{Symbols, find_home};
+use crate::{MAX_SYMBOLS, STB_LOCAL, STT_SECTION};
 use std::alloc::Global;
-
-/// Most symbols that an object may have.
-const MAX_SYMBOLS: u64 = 4_194_304;
 
 /// How many symbols there are, where there are not too many.
 pub(crate) fn check_symbol_count(symbols: &Symbols) -> Result<u32, ElfFault>

@@ -11,7 +11,7 @@ use crate::earliest::earliest;
 use crate::fault::ElfFault;
 use crate::header::SectionHeader;
 use crate::headers::Headers;
-use crate::kind::{SHF_COMPRESSED, SHT_REL, SHT_RELA, SHT_STRTAB, SHT_SYMTAB, SHT_SYMTAB_SHNDX};
+use crate::{SHF_COMPRESSED, SHT_REL, SHT_RELA, SHT_STRTAB, SHT_SYMTAB, SHT_SYMTAB_SHNDX};
 
 /// The symbol table and the table of section numbers, as far as they are found.
 #[derive(Clone, Copy)]

@@ -3,8 +3,8 @@
 ghost use Rattle.std.specs.Prelude.{◌≡◌, ◌+◌, ◌≤◌, length};
 ghost use Rattle.elf_objects.specs.Header.{header_at};
 
-use crate::kind::{SHF_EXECINSTR, SHT_NOBITS, SHT_NULL, SHT_PROGBITS};
 use crate::number::{word_at, xword_at};
+use crate::{SHF_EXECINSTR, SHT_NOBITS, SHT_NULL, SHT_PROGBITS};
 
 /// The fields of a section header, as they stand in the file.
 #[derive(Clone, Copy)]

@@ -6,11 +6,8 @@ ghost use Rattle.elf_objects.specs.File.{HasFileHeader, IsElfRel64, HasFirstHead
 
 use crate::fault::{Counted, ElfFault};
 use crate::header::{SectionHeader, read_header};
-use crate::kind::{SHN_LORESERVE, SHN_XINDEX};
 use crate::number::{half_at, word_at, xword_at};
-
-/// Most sections that an object may have.
-const MAX_SECTIONS: u64 = 262_144;
+use crate::{MAX_SECTIONS, SHN_LORESERVE, SHN_XINDEX};
 
 /// The bytes of a file with the place of its section header table.
 #[derive(Clone, Copy)]

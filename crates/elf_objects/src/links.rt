@@ -11,8 +11,8 @@ ghost use Rattle.elf_objects.specs.Table.{symbol_table};
 use crate::earliest::{earliest, nothing};
 use crate::fault::ElfFault;
 use crate::headers::Headers;
-use crate::kind::{SHT_GROUP, SHT_RELA, SHT_STRTAB, SHT_SYMTAB, SHT_SYMTAB_SHNDX};
 use crate::symbols::Symbols;
+use crate::{SHT_GROUP, SHT_RELA, SHT_STRTAB, SHT_SYMTAB, SHT_SYMTAB_SHNDX};
 use std::alloc::Global;
 
 /// Whether an index is that of a string table.

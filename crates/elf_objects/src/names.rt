@@ -4,12 +4,10 @@ ghost use Rattle.std.specs.Prelude.{◌≡◌, MatchResult, IfErr, OnOk};
 ghost use Rattle.elf_objects.specs.Steps.{EachSection, FirstSection, file};
 ghost use Rattle.elf_objects.specs.Sections.{HasBody, HasName, NameFault, HasLittleText, IsMuchText, text_bytes, text_size};
 
+use crate::MAX_TEXT_BYTES;
 use crate::fault::{Counted, ElfFault, NameOf};
 use crate::header::SectionHeader;
 use crate::headers::Headers;
-
-/// Most bytes that the text sections may have together.
-const MAX_TEXT: u64 = 16_777_216;
 
 /// Whether the name of each section begins in the table of section names, in ascending order.
 pub(crate) fn check_names(headers: &Headers) -> Result<(), ElfFault>
@@ -55,7 +53,7 @@ pub(crate) fn check_text(headers: &Headers) -> Result<(), ElfFault>
         (λ _. HasLittleText (file headers.now)) (IsMuchText (file headers.now)) }
 {
     let count = count_text(headers);
-    if count > MAX_TEXT {
+    if count > MAX_TEXT_BYTES {
         return Err(ElfFault::TooMany {
             what: Counted::TextBytes,
             count,

@@ -13,11 +13,9 @@ use crate::entry::read_reloc;
 use crate::fault::ElfFault;
 use crate::header::SectionHeader;
 use crate::headers::Headers;
-use crate::kind::{
-    R_X86_64_32, R_X86_64_32S, R_X86_64_64, R_X86_64_PC32, R_X86_64_PLT32, SHT_RELA,
-};
 use crate::symbol::Reloc;
 use crate::symbols::{Symbols, header_or_null};
+use crate::{R_X86_64_32, R_X86_64_32S, R_X86_64_64, R_X86_64_PC32, R_X86_64_PLT32, SHT_RELA};
 
 /// A relocation of a section of relocations.
 #[tactic(auto, unfolding(crate::specs::Table::reloc_of))]

@@ -14,9 +14,9 @@ use crate::entry::read_symbol;
 use crate::forms::Tables;
 use crate::header::SectionHeader;
 use crate::headers::Headers;
-use crate::kind::{SHN_ABS, SHN_COMMON, SHN_LORESERVE, SHN_UNDEF, SHN_XINDEX};
 use crate::number::word_at;
 use crate::symbol::{Home, RawSymbol};
+use crate::{SHN_ABS, SHN_COMMON, SHN_LORESERVE, SHN_UNDEF, SHN_XINDEX};
 
 /// The sections of a file with its symbol table, where there is one.
 #[derive(Clone, Copy)]
@@ -116,9 +116,10 @@ impl<'a> Symbols<'a> {
 fn home_in(i: u32) -> Home
     ensures { result ≡ section_home i }
 {
-    match i {
-        SHN_UNDEF => Home::Undefined,
-        i => Home::Section(i),
+    if i == u32::from(SHN_UNDEF) {
+        Home::Undefined
+    } else {
+        Home::Section(i)
     }
 }
 

@@ -7,6 +7,7 @@ use Rattle.std.proofs.lemmas.List.{append_assoc, append-nil, drop-append-le, dro
 use Rattle.std.proofs.lemmas.List.Concat.{flat_map-append}
 use Rattle.std.proofs.lemmas.List.Elements.{All-head, All-tail}
 use Rattle.std.proofs.lemmas.List.Sums.{take_while-cons}
+use Rattle.elf_objects.specs.Strings.{up_to_zero}
 use Rattle.elf_objects.specs.Table.{string_at}
 use Rattle.elf_write.specs.Layout.{NewEntry, new_names}
 use Rattle.elf_write.proofs.Facts.{split_at}
@@ -40,7 +41,7 @@ take_while-ends (x ∷ (y ∷ r)) ys h e =
 -- a string in a table that ends in a zero byte is there in a longer one
 pub string_at-longer : (xs ys : List ℕ) (at : ℕ) → at < length xs → get_or xs (length xs - 1) 0 ≡ 0
     → string_at (xs ++ ys) at ≡ string_at xs at
-unfolding string_at
+unfolding string_at up_to_zero
 string_at-longer xs ys at h e =
     let l : length (drop at xs) ≡ length xs - at = length-drop at xs in
     let last : get_or (drop at xs) (length (drop at xs) - 1) 0 ≡ 0 =
@@ -74,7 +75,7 @@ names_cut names new k e h =
 
 pub string_at-new : (names : List ℕ) (new : List NewEntry) (k : ℕ) (e : NewEntry) → k < length new → All (λ (c : ℕ). c ≢ 0) (get_or new k e).name
     → string_at (names ++ new_names new) (length names + length (new_names (take k new))) ≡ (get_or new k e).name
-unfolding string_at
+unfolding string_at up_to_zero
 string_at-new names new k e h all =
     ap (take_while is_some_byte) (names_cut names new k e h)
     ∙ take_while-whole (get_or new k e).name (new_names (drop (k + 1) new)) all
