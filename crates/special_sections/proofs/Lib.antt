@@ -1,0 +1,2 @@
+mod FirstFault
+mod Gathered

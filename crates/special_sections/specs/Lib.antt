@@ -1,0 +1,9 @@
+pub mod Reasons
+pub mod Kinds
+pub mod Fields
+pub mod Tables
+pub mod Hints
+pub mod HintPlaces
+pub mod PlaceLists
+pub mod Special
+pub mod FaultText

@@ -1,0 +1,50 @@
+-- What the special sections of an object say, and what keeps them from being read.
+use Rattle.std.specs.Prelude.{List, ◌++◌, false, filter}
+use Rattle.ot_base.specs.declared.place.Place.{Place}
+use Rattle.elf_objects.specs.Elf.{Elf}
+use Rattle.special_sections.specs.declared.entries.AltEntry.{AltEntry}
+use Rattle.special_sections.specs.declared.entries.BranchEntry.{BranchEntry}
+use Rattle.special_sections.specs.declared.entries.FixEntry.{FixEntry}
+use Rattle.special_sections.specs.declared.entries.HintEntry.{HintEntry}
+use Rattle.special_sections.specs.declared.fault.SpecialFault.{SpecialFault}
+use Rattle.special_sections.specs.Fields.{is_text_place}
+use Rattle.special_sections.specs.Kinds.{entries, faults}
+use Rattle.special_sections.specs.Tables as tables
+use Rattle.special_sections.specs.Hints as hint
+use Rattle.special_sections.specs.PlaceLists as lists
+
+-- the entries of each kind, those of one kind by section and then by their order in it
+pub record SpecialEntries : Type 0 where
+  pub alternatives : List AltEntry
+  pub branches : List BranchEntry
+  pub fixes : List FixEntry
+  pub hints : List HintEntry
+  pub after_reachable : List Place
+  pub after_unreachable : List Place
+  pub unchecked : List Place
+  pub safe_branches : List Place
+
+-- what the special sections of an object say; a place of the unchecked list that is not in a text section is passed by
+abbrev pub special_of : Elf → SpecialEntries
+special_of o = record {
+  alternatives = entries tables.alternatives o;
+  branches = entries tables.branches o;
+  fixes = entries tables.fixes o;
+  hints = entries hint.hints o;
+  after_reachable = entries lists.after_reachable o;
+  after_unreachable = entries lists.after_unreachable o;
+  unchecked = filter (is_text_place o false) (entries lists.unchecked o);
+  safe_branches = entries lists.safe_branches o;
+}
+
+-- their faults, in order
+abbrev pub special_faults : Elf → List SpecialFault
+special_faults o =
+    faults tables.alternatives o
+    ++ (faults tables.branches o
+    ++ (faults tables.fixes o
+    ++ (faults hint.hints o
+    ++ (faults lists.after_reachable o
+    ++ (faults lists.after_unreachable o
+    ++ (faults lists.unchecked o
+    ++ faults lists.safe_branches o))))))

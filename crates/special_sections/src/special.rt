@@ -1,0 +1,183 @@
+//! What the special sections of an object say.
+
+ghost use Rattle.std.specs.Prelude.{◌≡◌, [], false, filter, IfOk, IfErr, OnOk};
+ghost use Rattle.special_sections.specs.Fields.{is_text_place as is_in_text};
+ghost use Rattle.special_sections.specs.Reasons.{TellsFirst};
+ghost use Rattle.special_sections.specs.Special.{special_of, special_faults};
+
+use crate::entries::{AltEntry, BranchEntry, FixEntry, HintEntry};
+use crate::fault::SpecialFault;
+use crate::fields::is_text_place;
+use crate::hints::read_hints;
+use crate::lists::{Judged, PlaceList};
+use crate::read::read_all;
+use crate::tables::{Alternatives, Branches, Fixes};
+use elf_objects::Object;
+use ot_base::Place;
+use std::alloc::Global;
+use std::marker::Model;
+
+/// Places behind which code goes on.
+const REACHABLE: PlaceList = PlaceList {
+    name: b".discard.reachable",
+    judged: Judged::UpToItsEnd,
+};
+
+/// Places behind which code doesn't go on.
+const UNREACHABLE: PlaceList = PlaceList {
+    name: b".discard.unreachable",
+    judged: Judged::UpToItsEnd,
+};
+
+/// Functions that are not checked.
+const UNCHECKED: PlaceList = PlaceList {
+    name: b".discard.func_stack_frame_non_standard",
+    judged: Judged::Anywhere,
+};
+
+/// Indirect branches and returns that may stay.
+const SAFE_BRANCHES: PlaceList = PlaceList {
+    name: b".discard.retpoline_safe",
+    judged: Judged::InText,
+};
+
+/// The entries of the special sections of an object, each kind by section and then by their order in it.
+/// Contracts see it as the lists of them.
+#[derive(Drop)]
+pub struct Special {
+    alternatives: Vec<AltEntry>,
+    branches: Vec<BranchEntry>,
+    fixes: Vec<FixEntry>,
+    hints: Vec<HintEntry>,
+    after_reachable: Vec<Place>,
+    after_unreachable: Vec<Place>,
+    unchecked: Vec<Place>,
+    safe_branches: Vec<Place>,
+}
+
+impl Model for Special {
+    ghost use Rattle.special_sections.specs.Special.{SpecialEntries};
+
+    ghost Value = { SpecialEntries };
+
+    ghost view = { λ s. record {
+      alternatives = s.alternatives.items;
+      branches = s.branches.items;
+      fixes = s.fixes.items;
+      hints = s.hints.items;
+      after_reachable = s.after_reachable.items;
+      after_unreachable = s.after_unreachable.items;
+      unchecked = s.unchecked.items;
+      safe_branches = s.safe_branches.items;
+    } };
+}
+
+impl Special {
+    /// Reads the special sections of an object.
+    ///
+    /// Sections of one name are read in ascending order. Entries are refused in the order of
+    /// `special_faults`: by kind, then by section, then by entry.
+    ///
+    /// # Errors
+    ///
+    /// The first fault in that order; [`SpecialFault::NoMemory`] may come at any object.
+    pub fn read(alloc: Global, object: &Object<'_>) -> Result<Special, SpecialFault>
+        ensures ok { IfOk result (λ special. special ≡ special_of object.now) }
+        ensures right { OnOk result (special_faults object.now ≡ []) }
+        ensures err { IfErr result (TellsFirst (special_faults object.now)) }
+    {
+        let alternatives = read_all(alloc, object, &Alternatives)?;
+        let branches = read_all(alloc, object, &Branches)?;
+        let fixes = read_all(alloc, object, &Fixes)?;
+        let hints = read_hints(alloc, object)?;
+        let after_reachable = read_all(alloc, object, &REACHABLE)?;
+        let after_unreachable = read_all(alloc, object, &UNREACHABLE)?;
+        let unchecked = read_all(alloc, object, &UNCHECKED)?;
+        let safe_branches = read_all(alloc, object, &SAFE_BRANCHES)?;
+        Ok(Special {
+            alternatives,
+            branches,
+            fixes,
+            hints,
+            after_reachable,
+            after_unreachable,
+            unchecked: text_places(alloc, object, &unchecked)?,
+            safe_branches,
+        })
+    }
+
+    /// The alternatives, `.altinstructions`.
+    pub fn alternatives(&self) -> &[AltEntry]
+        ensures { result.now ≡ self.now.alternatives }
+    {
+        &self.alternatives
+    }
+
+    /// The static branches, `__jump_table`.
+    pub fn branches(&self) -> &[BranchEntry]
+        ensures { result.now ≡ self.now.branches }
+    {
+        &self.branches
+    }
+
+    /// The exception entries, `__ex_table`.
+    pub fn fixes(&self) -> &[FixEntry]
+        ensures { result.now ≡ self.now.fixes }
+    {
+        &self.fixes
+    }
+
+    /// The hints on the stack, `.discard.unwind_hints`.
+    pub fn hints(&self) -> &[HintEntry]
+        ensures { result.now ≡ self.now.hints }
+    {
+        &self.hints
+    }
+
+    /// The ends of instructions behind which code goes on, `.discard.reachable`.
+    pub fn after_reachable(&self) -> &[Place]
+        ensures { result.now ≡ self.now.after_reachable }
+    {
+        &self.after_reachable
+    }
+
+    /// The ends of instructions behind which code doesn't go on, `.discard.unreachable`.
+    pub fn after_unreachable(&self) -> &[Place]
+        ensures { result.now ≡ self.now.after_unreachable }
+    {
+        &self.after_unreachable
+    }
+
+    /// The starts of functions that are not checked, `.discard.func_stack_frame_non_standard`. What isn't
+    /// in a text section, below its size, is passed by.
+    pub fn unchecked(&self) -> &[Place]
+        ensures { result.now ≡ self.now.unchecked }
+    {
+        &self.unchecked
+    }
+
+    /// The indirect branches and returns that may stay as they are, `.discard.retpoline_safe`.
+    pub fn safe_branches(&self) -> &[Place]
+        ensures { result.now ≡ self.now.safe_branches }
+    {
+        &self.safe_branches
+    }
+}
+
+/// Those of some places that are in a text section, below its size.
+fn text_places(
+    alloc: Global,
+    object: &Object<'_>,
+    places: &[Place],
+) -> Result<Vec<Place>, SpecialFault>
+    ensures ok { IfOk result (λ list. list.items ≡ filter (is_in_text object.now false) places.now) }
+    ensures err { IfErr result (λ e. e ≡ SpecialFault.NoMemory) }
+{
+    let mut list = Vec::new(alloc);
+    for place in places {
+        if is_text_place(object, false, *place) {
+            list.push(*place)?;
+        }
+    }
+    Ok(list)
+}
