@@ -4,16 +4,10 @@ ghost use Rattle.std.specs.Prelude.{◌≡◌, ◌+ℤ◌, pos};
 ghost use Rattle.object_places.specs.Places.{offset_of, place_named};
 ghost use Rattle.object_places.specs.Relocs.{is_pointer_kind};
 
-use elf_objects::{Home, Object, Reloc};
+use elf_objects::{
+    Home, Object, R_X86_64_32, R_X86_64_32S, R_X86_64_64, R_X86_64_PC32, Reloc,
+};
 use ot_base::Place;
-
-const R_X86_64_64: u32 = 1;
-
-const R_X86_64_PC32: u32 = 2;
-
-const R_X86_64_32: u32 = 10;
-
-const R_X86_64_32S: u32 = 11;
 
 /// Whether a relocation of this type stands for a place: `R_X86_64_64`, `R_X86_64_PC32`, `R_X86_64_32`
 /// and `R_X86_64_32S`.

@@ -16,7 +16,7 @@ pub(crate) fn is_named(object: &Object<'_>, sec: u32, name: &[u8]) -> bool
     requires { sec < length object.now.sections }
     ensures { result ≡ bytes_eq (section_at object.now sec).name name.now }
 {
-    object.section(sec).name == name
+    object.section_is_named(sec, name)
 }
 
 /// Adds the entries of a section, or tells the first fault of one of them.

@@ -12,12 +12,10 @@ ghost use Rattle.special_sections.specs.Tables.{table_count};
 use crate::fault::Why;
 use crate::fields::names_text;
 use byteorder::{ByteOrder, LittleEndian};
-use elf_objects::Object;
+use elf_objects::{Object, SHF_COMPRESSED};
 use object_places::RelocIndex;
 use ot_base::{NoMemory, Place};
 use std::alloc::Global;
-
-const SHF_COMPRESSED: u64 = 0x800;
 
 /// A section of entries: its flags, its body, and its relocations by offset.
 #[derive(Drop)]
