@@ -1,5 +1,5 @@
 -- The rows of a program's ORC table, from the state that each point has.
-use Rattle.std.specs.Prelude.{ℕ, Bool, ◌&&◌, not, List, [], ◌∷◌, ◌++◌, Option, Some, None, ◌==◌, find, filter_map, flat_map, option_map, option_and_then, if◌then◌else◌, is_some}
+use Rattle.std.specs.Prelude.{ℕ, Bool, ◌&&◌, List, [], ◌∷◌, ◌++◌, Option, Some, None, ◌==◌, find, filter_map, flat_map, option_map, option_and_then, if◌then◌else◌, is_some}
 use Rattle.ot_base.specs.declared.place.Place.{Place}
 use Rattle.ot_base.specs.declared.row.Row.{Row}
 use Rattle.ot_base.specs.declared.row.PlacedRow.{PlacedRow}

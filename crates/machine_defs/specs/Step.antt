@@ -6,7 +6,7 @@ use Rattle.operation_defs.specs.declared.op.Op.TheVariants.{RetImm, Iret}
 use Rattle.program_defs.specs.declared.flow.EdgeKind.{EdgeKind}
 use Rattle.program_defs.specs.declared.flow.EdgeKind.TheVariants.{Fixup, Sibling}
 use Rattle.program_defs.specs.declared.flow.Role.{Role}
-use Rattle.program_defs.specs.declared.flow.Role.TheVariants.{CallIn, CallEither, CallOut, CallAny, Return, JumpOut, JumpAny}
+use Rattle.program_defs.specs.declared.flow.Role.TheVariants.{CallIn, CallEither, CallAny, Return, JumpOut, JumpAny}
 use Rattle.state_defs.specs.declared.state.State.TheVariants.{Regs}
 use Rattle.state_defs.specs.declared.state.HintState.TheVariants.{Set}
 use Rattle.state_defs.specs.Address.{up, down}

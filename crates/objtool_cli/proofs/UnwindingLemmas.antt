@@ -11,7 +11,6 @@ use Rattle.orc_bytes.specs.Laws.{OneListFits}
 use Rattle.orc_bytes.specs.Sections.{HoldsOrc}
 use Rattle.orc_output.specs.OrcOutput.{with_orc_object}
 use Rattle.straight_table.specs.Rows.{straight_rows}
-use Rattle.table_defs.specs.Placed.{placed_section}
 use Rattle.straight_law.specs.Laws.{IsStraightText, StraightUnwinds}
 use Rattle.straight_law.specs.Program.{program_of}
 use Rattle.objtool_cli.specs.Form.{IsStraightCode}
@@ -24,7 +23,7 @@ abbrev text_of : Elf → ℕ → TextSection
 text_of o sec = record { sec = sec; size = (section_at o sec).size }
 
 -- the placed section is the object's one text section
-placed : (o : Elf) (sec : ℕ) (insns : List Insn) (ranges : List Range) → IsStraightCode o sec insns → IsPlacement (texts_of o) ranges → IsPlacement (placed_section (text_of o sec) ∷ []) ranges
+placed : (o : Elf) (sec : ℕ) (insns : List Insn) (ranges : List Range) → IsStraightCode o sec insns → IsPlacement (texts_of o) ranges → IsPlacement (text_of o sec ∷ []) ranges
 placed o sec insns ranges code h = subst (λ texts. IsPlacement texts ranges) (one_text o sec code.text) h
 
 -- an object is straight code in one way

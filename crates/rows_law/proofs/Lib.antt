@@ -12,9 +12,6 @@ pub mod Enters
 pub mod Runs
 pub mod Visited
 pub mod Tells
-pub mod KeptPoints
 pub mod Refusals
 pub mod TwoPaths
-pub mod Still
-pub mod WorkedProgram
 pub mod WorkedLaid

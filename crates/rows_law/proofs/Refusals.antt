@@ -1,15 +1,15 @@
 -- The rules by which a move is refused.
-use Rattle.std.proofs.Common.{◌≡◌, ℕ, ◌≤◌, Bool, true, false, if◌then◌else◌, Option, Some, None, ℤ, pos, ◌+ℤ◌, ◌-ℤ◌, negsuc, subst, lit≤}
+use Rattle.std.proofs.Common.{◌≡◌, ℕ, ◌≤◌, Bool, true, false, if◌then◌else◌, Option, Some, None, ℤ, pos, ◌-ℤ◌, negsuc, subst, lit≤}
 use Rattle.std.specs.Prelude.{Result, Ok, Err, int_lt, int_le, ◌&&◌}
 use Rattle.operation_defs.specs.declared.op.Op.{Op}
-use Rattle.operation_defs.specs.declared.op.Op.TheVariants.{Push, PushBp, Pop, PopBp, Popf, AddSp, AndSp, LeaSpBp, LeaBpSp, StoreBp, LoadBp, Leave, SpOther, BpOther, IretNext}
+use Rattle.operation_defs.specs.declared.op.Op.TheVariants.{PushBp, Pop, PopBp, Popf, AddSp, AndSp, LeaSpBp, LeaBpSp, StoreBp, LoadBp, Leave, SpOther, BpOther, IretNext}
 use Rattle.state_defs.specs.declared.state.Depth.{Depth}
 use Rattle.state_defs.specs.declared.state.Depth.TheVariants.{Known, AtLeast}
 use Rattle.state_defs.specs.declared.state.BpHome.{BpHome}
 use Rattle.state_defs.specs.declared.state.BpHome.TheVariants.{Same, Saved}
 use Rattle.state_defs.specs.declared.state.State.{State}
 use Rattle.state_defs.specs.declared.state.State.TheVariants.{Live, Ended, Regs}
-use Rattle.state_defs.specs.State.{depth_of, with_depth}
+use Rattle.state_defs.specs.State.{depth_of}
 use Rattle.state_defs.specs.Move.{int_same, has_near_numbers, to, floor_of, raise, pop_at, push_bp, pop_bp, align, rsp_from_bp, bp_from_rsp, store_bp, load_bp, leave, lose_bp, where_allowed, move_live, regs_floor, raise_regs, pop_bp_regs, lose_bp_regs, move_regs, move}
 
 -- a state, or a refusal by a rule from 7 on

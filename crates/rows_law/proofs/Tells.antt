@@ -28,7 +28,7 @@ use Rattle.rows_law.proofs.RowAt.{outside_or_in}
 use Rattle.rows_law.proofs.InForce.{in_force_outside, in_force_here, in_force_behind}
 use Rattle.rows_law.proofs.Enters.{IsEntered}
 use Rattle.rows_law.proofs.Visited.{visited_entered}
-use Rattle.rows_law.proofs.KeptPoints.{kept_are_points}
+use Rattle.unwinding_law.proofs.KeptPoints.{kept_are_points}
 
 -- the byte right below an address
 down_one : (address : ℕ) → 1 ≤ address → address < 2 ^ 64 → down address 1 ≡ address - 1

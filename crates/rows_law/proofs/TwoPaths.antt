@@ -1,5 +1,5 @@
 -- Rule 4 is broken somewhere exactly where two paths disagree.
-use Rattle.std.proofs.Common.{◌≡◌, ℕ, ◌≤◌, zero, suc, ◌⊎◌, true, false, Bool, if◌then◌else◌, Option, Some, None, ℤ, Contains, refl, sym, ap, ◌∙◌, subst, inl, inr, arith}
+use Rattle.std.proofs.Common.{◌≡◌, ℕ, ◌≤◌, zero, suc, ◌⊎◌, true, false, if◌then◌else◌, Option, Some, None, ℤ, Contains, refl, sym, ap, ◌∙◌, subst, inl, inr, arith}
 use Rattle.ot_base.specs.declared.place.Place.{Place}
 use Rattle.state_defs.specs.declared.state.State.{State}
 use Rattle.state_defs.specs.declared.state.HintState.{HintState}
@@ -7,14 +7,14 @@ use Rattle.state_defs.specs.declared.state.HintState.TheVariants.{Set, Save, Res
 use Rattle.state_defs.specs.Order.{least}
 use Rattle.program_defs.specs.Program.{Program, below}
 use Rattle.program_defs.specs.IsProgram.{IsProgram, HintsStandAtPoints}
-use Rattle.checker_defs.specs.Kept.{Brings, brought_from, brought, later_state, kept_or, state_at, Kept, is_free, Path, begins, restored, goes_on}
+use Rattle.checker_defs.specs.Kept.{brought_from, brought, later_state, kept_or, state_at, Kept, is_free, Path, begins, restored, goes_on}
 use Rattle.checker_defs.specs.Broken.{Warns, HasTwoPaths, HasMismatch, MismatchIsTwoPaths}
 use Rattle.checker_defs.specs.Broken as broken
 use Rattle.checker_defs.proofs.KeptLemmas.{kept_is_one}
 use Rattle.unwinding_law.proofs.Lists.{nowhere, from_flat_map}
 use Rattle.unwinding_law.proofs.KeptStates.{least_member, unless_unchecked, kept_checked, brought_kept}
 use Rattle.unwinding_law.proofs.Same.{same_state}
-use Rattle.rows_law.proofs.KeptPoints.{kept_are_points}
+use Rattle.unwinding_law.proofs.KeptPoints.{kept_are_points}
 use Rattle.rows_law.proofs.Refusals.{refusal}
 
 module _ (p : Program) where
@@ -82,7 +82,9 @@ module _ (p : Program) where
       | inl m ↦ m
       | inr k ↦ elim (along h.point h.other h.other_path) [
         | inl m ↦ m
-        | inr l ↦ absurd (h.different (kept_is_one p h.point h.one h.other k l)) ] ]
+        | inr l ↦ absurd (h.different (kept_is_one p h.point h.one h.other k l))
+      ]
+    ]
 
 pub mismatch_is_two_paths : MismatchIsTwoPaths
 mismatch_is_two_paths p is hints = (λ m. two_paths p m.place 4 m.kept m.found m.warning refl, mismatch p is hints)

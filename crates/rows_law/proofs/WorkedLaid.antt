@@ -1,128 +1,129 @@
--- How the worked program is laid out and placed, and a run of it.
-use Rattle.std.proofs.Common.{◌≡◌, ◌≢◌, ℕ, zero, suc, ◌+◌, ◌^◌, ◌<◌, ◌≤◌, true, [], ◌∷◌, Contains, map, refl, sym, ap, ◌∙◌, subst, inl, inr, arith, lit<, lit≤}
-use Rattle.std.proofs.lemmas.List.Elements.{All-nil, All-cons}
-use Rattle.std.proofs.lemmas.List.Sorted.{IsPermutation-refl}
-use Rattle.state_defs.specs.Frame.{Unsaved}
-use Rattle.program_defs.specs.Program.{TextSection, Site, in_site, entry_points}
-use Rattle.machine_defs.specs.Machine.{IsOutside, At}
-use Rattle.machine_defs.specs.Run.{Run, at_entry, started}
+-- How the worked program is laid out, how control comes into its site, and which states it keeps.
+use Rattle.std.proofs.Common.{◌≡◌, ◌≢◌, ℕ, zero, suc, ◌+◌, ◌<◌, ◌≤◌, Bool, true, false, ◌&&◌, if◌then◌else◌, List, [], ◌∷◌, Some, Contains, All, slice_index_or, nat_le, nat_lt, refl, sym, ap, ◌∙◌, subst, inl, inr, arith, lit<, lit≤, leb-true}
+use Rattle.std.specs.Prelude.{◌==◌}
+use Rattle.std.specs.List.{list_all}
+use Rattle.std.proofs.lemmas.Bool.{eq-eqb, eqb-true, lt-ltb}
+use Rattle.ot_base.specs.declared.place.Place.{Place}
+use Rattle.program_defs.specs.declared.flow.Edge.{Edge}
+use Rattle.program_defs.specs.declared.flow.EdgeKind.TheVariants.{Next, Table, Fixup, Sibling}
+use Rattle.state_defs.specs.declared.state.State.{State}
+use Rattle.program_defs.specs.Program.{TextSection, Site, below, in_site, entry_points, edge}
 use Rattle.program_defs.specs.IsProgram.{IsLaidOut}
-use Rattle.machine_defs.specs.Worked.{at, caller}
-use Rattle.machine_defs.specs.Worked as w
-use Rattle.machine_defs.proofs.WorkedRun.{zeros_are_bytes}
-use Rattle.walk_defs.specs.declared.range.Range.{Range}
-use Rattle.table_defs.specs.Placed.{placed_section, IsPlacedBy}
-use Rattle.table_defs.specs.Visited.{IsVisited}
+use Rattle.checker_defs.specs.Kept.{Kept, AreKeptStates}
 use Rattle.table_defs.specs.Enters.{EntersSites}
-use Rattle.unwinding_law.proofs.Lists.{here, cases, nowhere}
-use Rattle.rows_law.specs.Worked.{site, patched, bases, ranges}
-use Rattle.rows_law.proofs.WorkedProgram.{no_edge}
+use Rattle.unwinding_law.specs.Worked.{site, worked, state_of}
+use Rattle.unwinding_law.proofs.Elements.{each, none, one, two}
+use Rattle.unwinding_law.proofs.Lists.{here, cases, nowhere, in_below}
+use Rattle.unwinding_law.proofs.WorkedProgram.{along, never, no_state, hint_points}
+use Rattle.unwinding_law.proofs.WorkedStates.{only_site, kept_state}
+use Rattle.walk_law.proofs.WorkedProgram.{in_text}
 
--- its section
-text : TextSection
-text = record { sec = 1; size = 5 }
+-- a test that all numbers below one pass
+passes : (test : ℕ → Bool) (xs : List ℕ) → list_all test xs ≡ true → (q : ℕ) → Contains xs q → test q ≡ true
+passes test [] h q c = nowhere q c
+passes test (x ∷ xs) h q c = elim (cases x xs q c) [ inl e ↦ subst (λ (z : ℕ). test z ≡ true) e (first (test x) (list_all test xs) h) | inr d ↦ passes test xs (rest (test x) (list_all test xs) h) q d ]
+  where
+    first : (a b : Bool) → (a && b) ≡ true → a ≡ true
+    first true b e = refl
+    first false b e = e
 
--- there is one site
-only_site : (s : Site) → Contains patched.sites s → s ≡ site
-only_site s c = elim (cases site [] s c) [ inl e ↦ sym e | inr d ↦ nowhere s d ]
+    rest : (a b : Bool) → (a && b) ≡ true → b ≡ true
+    rest true b e = e
+    rest false b e = absurd (let k : ⊥ = cc in k)
 
--- instructions have bytes
-lengths : (q : ℕ) → 1 ≤ (patched.insn q).len
-lengths zero = lit≤ tt
-lengths (suc q) = lit≤ tt
+-- two instructions of one variant and section share no byte, and are one where they begin at one place
+abbrev shares_none : ℕ → ℕ → Bool
+shares_none q r =
+    if worked.variant q == worked.variant r && ((worked.address q).sec == (worked.address r).sec && nat_lt (worked.address q).off (worked.address r).off)
+    then nat_le ((worked.address q).off + (worked.insn q).len) (worked.address r).off else true
 
--- they lie in the section
-in_section : (q : ℕ) → q < 2 → (t : TextSection) × Contains patched.texts t × (t.sec ≡ (patched.address q).sec) × ((patched.address q).off + (patched.insn q).len ≤ t.size)
-unfolding text
-in_section zero h = (text, here text [], refl, lit≤ tt)
-in_section (suc zero) h = (text, here text [], refl, lit≤ tt)
-in_section (suc (suc q)) h = absurd (omega arith)
+abbrev are_one : ℕ → ℕ → Bool
+are_one q r =
+    if worked.variant q == worked.variant r && ((worked.address q).sec == (worked.address r).sec && (worked.address q).off == (worked.address r).off)
+    then q == r else true
 
--- the plain one runs where it stands
-plain : (q : ℕ) → q < 2 → patched.variant q ≡ 0 → patched.address q ≡ patched.place q
-plain zero h e = refl
-plain (suc zero) h e = absurd (omega arith)
-plain (suc (suc q)) h e = absurd (omega arith)
+all_pairs : (test : ℕ → ℕ → Bool) → list_all (λ q. list_all (test q) (below 11)) (below 11) ≡ true → (q r : ℕ) → q < 11 → r < 11 → test q r ≡ true
+all_pairs test h q r a b = passes (test q) (below 11) (passes (λ q. list_all (test q) (below 11)) (below 11) h q (in_below 11 q a)) r (in_below 11 r b)
 
--- the other runs in the site
-replaced : (q : ℕ) → q < 2 → patched.variant q ≢ 0 → in_site site (patched.address q) ≡ true
-replaced zero h n = refl
-replaced (suc zero) h n = refl
-replaced (suc (suc q)) h n = absurd (omega arith)
+implied : (a b c d : Bool) → (if a && (b && c) then d else true) ≡ true → a ≡ true → b ≡ true → c ≡ true → d ≡ true
+implied true true true d h e f g = h
+implied false b c d h e f g = absurd (let k : ⊥ = cc in k)
+implied true false c d h e f g = absurd (let k : ⊥ = cc in k)
+implied true true false d h e f g = absurd (let k : ⊥ = cc in k)
 
--- both stay in the site
-in_the_site : (q : ℕ) → q < 2 → (patched.address q).off + (patched.insn q).len ≤ 5
-in_the_site zero h = lit≤ tt
-in_the_site (suc zero) h = lit≤ tt
-in_the_site (suc (suc q)) h = absurd (omega arith)
+in_order : (q r : ℕ) → q < 11 → r < 11 → worked.variant q ≡ worked.variant r → (worked.address q).sec ≡ (worked.address r).sec → (worked.address q).off < (worked.address r).off → (worked.address q).off + (worked.insn q).len ≤ (worked.address r).off
+in_order q r a b e f l =
+    leb-true ((worked.address q).off + (worked.insn q).len) (worked.address r).off
+    (implied (worked.variant q == worked.variant r) ((worked.address q).sec == (worked.address r).sec) (nat_lt (worked.address q).off (worked.address r).off) (nat_le ((worked.address q).off + (worked.insn q).len) (worked.address r).off)
+    (all_pairs shares_none refl q r a b) (eq-eqb _ _ e) (eq-eqb _ _ f) (lt-ltb _ _ l))
 
--- they are of two variants
-apart : (q r : ℕ) → q < 2 → r < 2 → patched.variant q ≡ patched.variant r → q ≡ r
-apart zero zero h k e = refl
-apart zero (suc zero) h k e = absurd (omega arith)
-apart (suc zero) zero h k e = absurd (omega arith)
-apart (suc zero) (suc zero) h k e = refl
-apart (suc (suc q)) r h k e = absurd (omega arith)
-apart q (suc (suc r)) h k e = absurd (omega arith)
+apart : (q r : ℕ) → q < 11 → r < 11 → worked.variant q ≡ worked.variant r → worked.address q ≡ worked.address r → q ≡ r
+apart q r a b e f =
+    eqb-true q r
+    (implied (worked.variant q == worked.variant r) ((worked.address q).sec == (worked.address r).sec) ((worked.address q).off == (worked.address r).off) (q == r)
+    (all_pairs are_one refl q r a b) (eq-eqb _ _ e) (eq-eqb _ _ (ap (λ (x : Place). x.sec) f)) (eq-eqb _ _ (ap (λ (x : Place). x.off) f)))
 
--- both instructions begin at 0
-begin : (q : ℕ) → q < 2 → (patched.address q).off ≡ 0
-begin zero h = refl
-begin (suc zero) h = refl
-begin (suc (suc q)) h = absurd (omega arith)
+-- plain points run where they stand, the others in the site
+plain : (q : ℕ) → worked.variant q ≡ 0 → worked.address q ≡ worked.place q
+plain = each (λ q. worked.variant q ≡ 0 → worked.address q ≡ worked.place q) (λ _. refl) (λ _. refl) (λ _. refl) (λ _. refl) (λ _. refl) (λ _. refl) (λ _. refl) (λ _. refl) (λ _. refl) (λ e. absurd (omega arith)) (λ e. absurd (omega arith)) (λ q _. refl)
+
+replaced : (q : ℕ) → worked.variant q ≢ 0 → in_site site (worked.address q) ≡ true
+replaced = each (λ q. worked.variant q ≢ 0 → in_site site (worked.address q) ≡ true) (λ n. absurd (n refl)) (λ n. absurd (n refl)) (λ n. absurd (n refl)) (λ n. absurd (n refl)) (λ n. absurd (n refl)) (λ n. absurd (n refl)) (λ n. absurd (n refl)) (λ n. absurd (n refl)) (λ n. absurd (n refl)) (λ _. refl) (λ _. refl) (λ q n. absurd (n refl))
+
+-- what runs in the site stays in it
+stays : (q : ℕ) → in_site site (worked.address q) ≡ true → (worked.address q).off + (worked.insn q).len ≤ 5
+stays = each (λ q. in_site site (worked.address q) ≡ true → (worked.address q).off + (worked.insn q).len ≤ 5) (λ _. lit≤ tt) never never never never never never never never (λ _. lit≤ tt) (λ _. lit≤ tt) (λ q. never)
 
 -- so it is laid out
-pub laid_out : IsLaidOut patched
+pub laid_out : IsLaidOut worked
 laid_out = record {
-  in_text = record { lengths = λ q point. lengths q; within = λ q point. in_section q point };
-  plain = λ q point e. plain q point e;
-  replaced = λ q point n. (site, here site [], replaced q point n);
-  in_sites = λ q s point c inside. subst (λ (x : Site). (patched.address q).off + (patched.insn q).len ≤ x.start.off + x.len) (sym (only_site s c)) (in_the_site q point);
+  in_text = in_text;
+  plain = λ q point e. plain q e;
+  replaced = λ q point n. (site, here site [], replaced q n);
+  in_sites = λ q s point c inside. subst (λ (x : Site). (worked.address q).off + (worked.insn q).len ≤ x.start.off + x.len) (sym (only_site s c)) (stays q (subst (λ (x : Site). in_site x (worked.address q) ≡ true) (only_site s c) inside));
   site_lengths = λ s c. subst (λ (x : Site). 1 ≤ x.len) (sym (only_site s c)) (lit≤ tt);
   site_starts = λ s c. (0, lit< tt, refl, ap (λ (x : Site). x.start) (sym (only_site s c)));
   sites_apart = λ one other place c d a b. only_site one c ∙ sym (only_site other d);
-  apart = λ q r a b e f. apart q r a b e;
-  in_order = λ q r a b e f l. let x = begin q a in let y = begin r b in absurd (omega arith);
-  sections = λ i j d l m. absurd (omega arith);
-  hint_points = λ q hint e. absurd (let k : ⊥ = cc in k);
+  apart = λ q r a b e f. apart q r a b e f;
+  in_order = λ q r a b e f l. in_order q r a b e f l;
+  sections = λ i j d l m. ascend i j d l m;
+  hint_points = hint_points;
 }
+  where
+    ascend : (i j : ℕ) (d : TextSection) → i < j → j < 2 → (slice_index_or worked.texts i d).sec < (slice_index_or worked.texts j d).sec
+    ascend zero zero d h k = absurd (omega arith)
+    ascend zero (suc zero) d h k = lit< tt
+    ascend zero (suc (suc j)) d h k = absurd (omega arith)
+    ascend (suc i) zero d h k = absurd (omega arith)
+    ascend (suc i) (suc zero) d h k = absurd (omega arith)
+    ascend (suc i) (suc (suc j)) d h k = absurd (omega arith)
+
+-- only an edge in the site leads past the site's start
+abbrev IsWithin : ℕ → Edge → Type 0
+IsWithin q e = in_site site (worked.address e.to) ≡ true → in_site site (worked.address q) ≡ true
+
+stay : (q : ℕ) → All (IsWithin q) (worked.goes q)
+stay = each (λ q. All (IsWithin q) (worked.goes q)) (one (IsWithin 0) (edge 1 Next) never) (one (IsWithin 1) (edge 2 Table) never) (two (IsWithin 2) (edge 3 Next) (edge 3 Fixup) never never) (one (IsWithin 3) (edge 4 Sibling) never) (one (IsWithin 4) (edge 5 Next) never) (one (IsWithin 5) (edge 6 Next) never) (none (IsWithin 6)) (none (IsWithin 7)) (none (IsWithin 8)) (one (IsWithin 9) (edge 10 Next) (λ _. refl)) (one (IsWithin 10) (edge 1 Next) never) (λ q. none (IsWithin (suc (suc (suc (suc (suc (suc (suc (suc (suc (suc (suc q)))))))))))))
 
 -- control comes to the start of the site
-pub enters : EntersSites patched
+pub enters : EntersSites worked
 enters = record {
-  edges = λ q r kind s point c listed inside. absurd (no_edge q _ c);
-  entries = λ entry q s c d listed inside. (
-    0,
-    record { point = lit< tt; plain = refl; place = ap (λ (x : Site). x.start) (sym (only_site s listed)) },
-    subst (λ (x : ℕ). Contains (entry_points patched x) 0) (elim (cases 0 [] entry c) [ inl e ↦ e | inr k ↦ nowhere entry k ]) (here 0 (1 ∷ [])),
-  );
+  edges = λ q r kind s point c listed inside. inl (subst (λ (x : Site). in_site x (worked.address q) ≡ true) (sym (only_site s listed)) (along (IsWithin q) q (stay q) (edge r kind) c (subst (λ (x : Site). in_site x (worked.address r) ≡ true) (only_site s listed) inside)));
+  entries = λ entry q s c d listed inside. elim (cases 0 (4 ∷ []) entry c) [
+    | inl e ↦ (0, record { point = lit< tt; plain = refl; place = ap (λ (x : Site). x.start) (sym (only_site s listed)) }, subst (λ (x : ℕ). Contains (entry_points worked x) 0) e (here 0 (9 ∷ [])))
+    | inr k ↦ elim (cases 4 [] entry k) [
+      | inl e ↦ never (of_g q (subst (λ (x : ℕ). Contains (entry_points worked x) q) (sym e) d) (subst (λ (x : Site). in_site x (worked.address q) ≡ true) (only_site s listed) inside))
+      | inr z ↦ nowhere entry z
+    ]
+  ];
 }
+  where
+    of_g : (q : ℕ) → Contains (4 ∷ []) q → in_site site (worked.address q) ≡ true → false ≡ true
+    of_g q c h = elim (cases 4 [] q c) [ inl e ↦ subst (λ (x : ℕ). in_site site (worked.address x) ≡ true) (sym e) h | inr z ↦ nowhere q z ]
 
--- the range places the section
-pub placed_by : IsPlacedBy patched bases ranges
-placed_by = record {
-  placement = record {
-    sections = IsPermutation-refl (map placed_section patched.texts);
-    in_memory = All-cons (λ (range : Range). range.base + range.size < 2 ^ 64) (record { sec = 1; base = 0x1000; size = 5 }) [] (lit< tt) (All-nil (λ (range : Range). range.base + range.size < 2 ^ 64));
-    apart = λ i j d l m. absurd (omega arith);
-  };
-  begin = All-cons (λ (range : Range). range.base ≡ bases range.sec) (record { sec = 1; base = 0x1000; size = 5 }) [] refl (All-nil (λ (range : Range). range.base ≡ bases range.sec));
-}
+-- its states are those that are kept
+kept : (q : ℕ) (s : State) → state_of q ≡ Some s → Kept worked q s
+kept = each (λ q. (s : State) → state_of q ≡ Some s → Kept worked q s) (λ s e. (0, e)) (λ s e. (1, e)) (λ s e. (2, e)) (λ s e. (3, e)) (λ s e. (0, e)) (λ s e. (1, e)) (λ s e. (2, e)) (λ s e. (0, e)) (no_state _) (λ s e. (0, e)) (λ s e. (1, e)) (λ q. no_state _)
 
--- the highest address is outside
-outside : IsOutside patched bases 18446744073709551615
-outside t c = inr (subst (λ (x : TextSection). bases x.sec + x.size ≤ 18446744073709551615) (elim (cases (record { sec = 1; size = 5 }) [] t c) [ inl e ↦ e | inr k ↦ nowhere t k ]) (lit≤ tt))
-
--- it is called from outside, and stands at its call
-pub run : Run patched bases (At w.at_entry)
-run =
-    started w.at_entry
-    (at_entry w.at_entry w.at_entry (caller Unsaved) 0 (0, lit< tt, refl) (0, lit< tt, refl)
-    (record { ra = 0; cfa = 0x8010; bp = 0; shadow = refl; outside = outside; pushed = refl; below_hi = lit≤ tt })
-    (record { shadow = refl; cfa = refl; bp = refl })
-    (record { ended = refl; mark = refl; hinted = w.at_entry; lands = refl; start = refl }))
-    (record { rbp = lit< tt; region = record { below_end = lit< tt; bytes = zeros_are_bytes 16 }; above_lo = lit≤ tt; below_hi = lit≤ tt })
-
--- so its call is visited
-pub visited : IsVisited patched bases 0
-visited = record { standing = w.at_entry; run = run; here = refl }
+pub states : AreKeptStates worked state_of
+states q s = (kept q s, kept_state q s)

@@ -6,9 +6,9 @@ ghost use Rattle.checker_defs.specs.Broken.{MismatchIsTwoPaths};
 ghost use Rattle.rows_law.specs.Laws.{KeptArePoints};
 ghost use Rattle.rows_law.specs.Worked.{TellsWorked};
 
+use unwinding_law::unwinding_law;
 use walk_defs::find_is_exact;
 use walk_law::walk_law;
-use unwinding_law::unwinding_law;
 
 /// The rows of an accepted program tell its kept states: at the address of each point to which runs come,
 /// and of a call also at its last byte, the row of the point's state is found in the table. Where nothing
@@ -40,10 +40,10 @@ pub fn mismatch_is_two_paths()
     ensures { MismatchIsTwoPaths }
 {}
 
-/// A call that may be replaced meets every premise: its rows tell its state, and unwind it there.
+/// A program with a hint, a gate, a call, a tail call, a fixup, a jump table and an alternatives site meets
+/// every premise: the rows of its states are those of its table, and unwind it.
 pub fn tells_worked()
     ensures { TellsWorked }
 {
-    rows_tell();
     rows_unwind();
 }

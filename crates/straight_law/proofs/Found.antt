@@ -10,7 +10,6 @@ use Rattle.walk_defs.specs.Lookup.{find_row}
 use Rattle.walk_defs.specs.Laws.{RowAmongOthers, OneRange}
 use Rattle.straight_table.specs.Rows.{call_row, placed_at, size_of, straight_rows}
 use Rattle.straight_law.specs.Program.{program_of, insn_at, place_of}
-use Rattle.table_defs.specs.Placed.{placed_section}
 use Rattle.straight_law.specs.Laws.{IsStraightText, StraightRowsAreFound}
 use Rattle.straight_law.proofs.Table.{range, address_in, found_at, inside_at}
 
@@ -27,7 +26,7 @@ stands_inside text insns fills q h =
 -- so the row is found, and the address is inside
 pub rows_are_found : OneRange → RowAmongOthers → StraightRowsAreFound
 rows_are_found one among text insns ranges fills placement q address h at =
-    let r = one (placed_section text) ranges placement in
+    let r = one text ranges placement in
     let is : ranges ≡ range text.sec r.0 text.size ∷ [] = r.2 in
     let here : Some address ≡ Some (r.0 + size_of (take q insns)) = sym at ∙ ap (λ (rs : List Range). address_of rs (place_of text insns q)) is ∙ address_in text.sec r.0 text.size (placed_at text.sec (size_of (take q insns)) (call_row 0)) refl in
     let same : address ≡ r.0 + size_of (take q insns) = cc in (

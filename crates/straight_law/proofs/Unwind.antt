@@ -11,7 +11,7 @@ use Rattle.walk_defs.specs.declared.range.Range.{Range}
 use Rattle.walk_defs.specs.Placement.{IsPlacement, address_of}
 use Rattle.walk_defs.specs.Laws.{OneRange}
 use Rattle.straight_table.specs.Rows.{call_row, placed_at, size_of, straight_rows}
-use Rattle.table_defs.specs.Placed.{placed_section, BeginAt}
+use Rattle.table_defs.specs.Placed.{BeginAt}
 use Rattle.table_defs.specs.Tells.{TellsStates}
 use Rattle.table_defs.specs.Laws.{WalkLaw}
 use Rattle.straight_law.specs.Program.{program_of, returns_at, place_of}
@@ -20,11 +20,11 @@ use Rattle.straight_law.proofs.Table.{range, address_in}
 use Rattle.straight_law.proofs.KeptStates.{kept_is}
 use Rattle.straight_law.proofs.Laid.{not_call}
 
-module _ (text : TextSection) (insns : List Insn) (bases : Bases) (ranges : List Range) (fills : IsStraightText text insns) (placement : IsPlacement (placed_section text ∷ []) ranges) (begin : BeginAt bases ranges) where
+module _ (text : TextSection) (insns : List Insn) (bases : Bases) (ranges : List Range) (fills : IsStraightText text insns) (placement : IsPlacement (text ∷ []) ranges) (begin : BeginAt bases ranges) where
   -- the table places an instruction where the machine does
   placed_alike : OneRange → (q : ℕ) → address_of ranges (place_of text insns q) ≡ Some (bases text.sec + size_of (take q insns))
   placed_alike one q =
-      let r = one (placed_section text) ranges placement in
+      let r = one text ranges placement in
       let is : ranges ≡ range text.sec r.0 text.size ∷ [] = r.2 in
       let at : r.0 ≡ bases text.sec = All-head (λ (x : Range). x.base ≡ bases x.sec) (range text.sec r.0 text.size) [] (subst (λ (rs : List Range). BeginAt bases rs) is begin) in
       ap (λ (rs : List Range). address_of rs (place_of text insns q)) is

@@ -15,7 +15,7 @@ use Rattle.walk_defs.specs.declared.range.Range.{Range}
 use Rattle.walk_defs.specs.Placement.{IsPlacement}
 use Rattle.straight_table.specs.Straight.{ops_of}
 use Rattle.straight_table.proofs.StraightLemmas.{straight_exactly}
-use Rattle.table_defs.specs.Placed.{placed_section, BeginAt}
+use Rattle.table_defs.specs.Placed.{BeginAt}
 use Rattle.straight_law.specs.Laws.{IsStraightText, StraightUnwinds}
 use Rattle.straight_law.specs.Worked.{insns, text, program, base, ranges, standing_at, HasWorkedRun}
 
@@ -29,9 +29,9 @@ fills = record {
     one : (op : Op) (xs : List Insn) → All (λ insn. 1 ≤ insn.len) xs → All (λ insn. 1 ≤ insn.len) (record { len = 1; op = op } ∷ xs)
     one op xs h = All-cons (λ insn. 1 ≤ insn.len) (record { len = 1; op = op }) xs (lit≤ tt) h
 
-placed : IsPlacement (placed_section text ∷ []) ranges
+placed : IsPlacement (text ∷ []) ranges
 placed = record {
-  sections = IsPermutation-refl (placed_section text ∷ []);
+  sections = IsPermutation-refl (text ∷ []);
   in_memory = All-cons (λ (range : Range). range.base + range.size < 2 ^ 64) (record { sec = 1; base = 0x1000; size = 4 }) [] (lit< tt) (All-nil (λ (range : Range). range.base + range.size < 2 ^ 64));
   apart = λ i j d h k. absurd (omega (arith, h, k));
 }

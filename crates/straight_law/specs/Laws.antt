@@ -17,7 +17,7 @@ use Rattle.walk_defs.specs.Placement.{IsPlacement, address_of, is_inside}
 use Rattle.walk_defs.specs.Lookup.{find_row}
 use Rattle.straight_table.specs.Straight.{IsStraight, ops_of}
 use Rattle.straight_table.specs.Rows.{call_row, size_of, straight_rows}
-use Rattle.table_defs.specs.Placed.{placed_section, BeginAt}
+use Rattle.table_defs.specs.Placed.{BeginAt}
 use Rattle.table_defs.specs.Walks.{WalksToFrames}
 use Rattle.straight_law.specs.Program.{program_of, place_of, depth_before, state_before}
 
@@ -46,7 +46,7 @@ StraightIsAccepted = (text : TextSection) (insns : List Insn) → IsStraightText
 abbrev pub StraightRowsAreFound : Type 0
 StraightRowsAreFound =
     (text : TextSection) (insns : List Insn) (ranges : List Range)
-    → IsStraightText text insns → IsPlacement (placed_section text ∷ []) ranges
+    → IsStraightText text insns → IsPlacement (text ∷ []) ranges
     → (q address : ℕ) → q < (program_of text insns).count → address_of ranges (place_of text insns q) ≡ Some address
     → (find_row (straight_rows text.sec insns) ranges address ≡ Some (call_row (depth_before insns q))) × (is_inside ranges address ≡ true)
 
@@ -66,7 +66,7 @@ StraightRowsFit = (text : TextSection) (insns : List Insn) → IsStraightText te
 abbrev pub StraightUnwinds : Type 0
 StraightUnwinds =
     (text : TextSection) (insns : List Insn) (bases : Bases) (ranges : List Range)
-    → IsStraightText text insns → IsPlacement (placed_section text ∷ []) ranges → BeginAt bases ranges
+    → IsStraightText text insns → IsPlacement (text ∷ []) ranges → BeginAt bases ranges
     → (m : Machine) → Run (program_of text insns) bases m
     → WalksToFrames (program_of text insns) (straight_rows text.sec insns) bases ranges m
 

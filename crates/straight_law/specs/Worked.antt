@@ -19,7 +19,7 @@ use Rattle.machine_defs.specs.Machine.{Bases, Standing, At}
 use Rattle.machine_defs.specs.Run.{outermost, Run}
 use Rattle.walk_defs.specs.Placement.{IsPlacement}
 use Rattle.straight_law.specs.Program.{program_of}
-use Rattle.table_defs.specs.Placed.{placed_section, BeginAt}
+use Rattle.table_defs.specs.Placed.{BeginAt}
 use Rattle.table_defs.specs.Walks.{WalksToFrames}
 use Rattle.straight_law.specs.Laws.{IsStraightText}
 
@@ -87,7 +87,7 @@ standing_at point rsp = record {
 -- here the one after its push, where rsp has come from 0x8008 to 0x8000.
 pub record HasWorkedRun : Type 0 where
   pub fills : IsStraightText text insns
-  pub placed : IsPlacement (placed_section text ∷ []) ranges
+  pub placed : IsPlacement (text ∷ []) ranges
   pub begin : BeginAt base ranges
   pub run : Run program base (At (standing_at 1 0x8000))
   pub unwinds : WalksToFrames program (straight_rows 1 insns) base ranges (At (standing_at 1 0x8000))

@@ -1,14 +1,9 @@
 -- A program's sections in memory, as the machine places them and as a table does.
-use Rattle.std.specs.Prelude.{◌≡◌, List, map, All}
-use Rattle.program_defs.specs.Program.{Program, TextSection}
+use Rattle.std.specs.Prelude.{◌≡◌, List, All}
+use Rattle.program_defs.specs.Program.{Program}
 use Rattle.machine_defs.specs.Machine.{Bases}
 use Rattle.walk_defs.specs.declared.range.Range.{Range}
 use Rattle.walk_defs.specs.Placement.{IsPlacement}
-use Rattle.walk_defs.specs.Placement as placement
-
--- a text section, as one that is placed
-abbrev pub placed_section : TextSection → placement.TextSection
-placed_section text = record { sec = text.sec; size = text.size }
 
 -- each range begins where the bases place its section
 abbrev pub BeginAt : Bases → List Range → Type 0
@@ -16,5 +11,5 @@ BeginAt bases ranges = All (λ range. range.base ≡ bases range.sec) ranges
 
 -- the ranges place the text sections of the program, each at its base
 pub record IsPlacedBy (p : Program) (bases : Bases) (ranges : List Range) : Type 0 where
-  pub placement : IsPlacement (map placed_section p.texts) ranges
+  pub placement : IsPlacement p.texts ranges
   pub begin : BeginAt bases ranges

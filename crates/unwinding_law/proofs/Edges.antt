@@ -1,5 +1,5 @@
 -- Where edges lead, in a program without a broken rule.
-use Rattle.std.proofs.Common.{◌≡◌, ◌≢◌, ℕ, Bool, true, false, if◌then◌else◌, [], Result, Ok, Err, Contains, refl, sym, ◌∙◌, subst}
+use Rattle.std.proofs.Common.{◌≡◌, ◌≢◌, ℕ, Bool, true, false, if◌then◌else◌, [], Result, Ok, Err, Contains, refl, sym, subst}
 use Rattle.operation_defs.specs.declared.op.Op.{Op}
 use Rattle.operation_defs.specs.declared.op.Op.TheVariants.{Call, CallInd}
 use Rattle.program_defs.specs.declared.flow.Edge.{Edge}

@@ -15,5 +15,9 @@ pub mod Backs
 pub mod Wrecks
 pub mod Starts
 pub mod Unwind
+pub mod KeptPoints
+pub mod Elements
 pub mod WorkedProgram
+pub mod WorkedStates
+pub mod WorkedRun
 pub mod Unbalanced

@@ -25,7 +25,6 @@ use Rattle.machine_defs.specs.Worked as w
 use Rattle.machine_defs.proofs.WorkedRun.{zeros_are_bytes}
 use Rattle.unwinding_law.specs.Worked.{base, unbalanced}
 use Rattle.unwinding_law.proofs.Lists.{here, cases, nowhere, from_filter, from_below}
-use Rattle.unwinding_law.proofs.WorkedProgram.{only_text}
 
 one_edge : (q : ℕ) (e : Edge) → Contains (unbalanced.goes q) e → e ≡ edge 1 Next
 one_edge zero e c = elim (cases (edge 1 Next) [] e c) [ inl k ↦ sym k | inr k ↦ nowhere e k ]
@@ -76,10 +75,14 @@ program = record {
   may_return = λ q point. (λ e. may_return q, λ m. refl);
 }
 
+-- it has one section
+only_text : (text : TextSection) → Contains unbalanced.texts text → record { sec = 1; size = 2 } ≡ text
+only_text text c = elim (cases (record { sec = 1; size = 2 }) [] text c) [ inl e ↦ e | inr d ↦ nowhere text d ]
+
 pub placed : IsPlacement unbalanced base
 placed = record {
-  in_memory = λ text c. subst (λ (x : TextSection). base x.sec + x.size < 2 ^ 64) (only_text 2 text c) (lit< tt);
-  apart = λ one other address c d a b. sym (only_text 2 one c) ∙ only_text 2 other d;
+  in_memory = λ text c. subst (λ (x : TextSection). base x.sec + x.size < 2 ^ 64) (only_text text c) (lit< tt);
+  apart = λ one other address c d a b. sym (only_text one c) ∙ only_text other d;
 }
 
 -- its state at the return

@@ -1,269 +1,201 @@
 -- The worked program meets the premises of the law.
-use Rattle.std.proofs.Common.{◌≡◌, ℕ, zero, suc, ◌+◌, ◌^◌, ◌<◌, ◌⊎◌, Bool, true, false, ◌||◌, ◌==◌, if◌then◌else◌, List, [], ◌∷◌, Option, Some, None, Ok, Err, slice_index_or, Contains, ℤ, pos, refl, sym, ap, ◌∙◌, subst, inl, inr, arith, lit<}
-use Rattle.std.proofs.lemmas.Bool.{eqb-true}
+use Rattle.std.proofs.Common.{◌≡◌, ℕ, ◌<◌, Bool, true, false, ◌&&◌, ◌==◌, if◌then◌else◌, List, [], ◌∷◌, Some, None, Contains, All, filter, refl, sym, ap, subst, inl, inr, arith, lit<}
+use Rattle.std.proofs.lemmas.List.Elements.{All-contains}
 use Rattle.ot_base.specs.declared.place.Place.{Place}
+use Rattle.operation_defs.specs.declared.op.Op.{Op}
 use Rattle.operation_defs.specs.declared.op.Op.TheVariants.{RetImm, Iret, Switch}
 use Rattle.program_defs.specs.declared.flow.Edge.{Edge}
-use Rattle.program_defs.specs.declared.flow.EdgeKind.TheVariants.{Next, Sibling}
+use Rattle.program_defs.specs.declared.flow.EdgeKind.{EdgeKind}
+use Rattle.program_defs.specs.declared.flow.EdgeKind.TheVariants.{Next, Fixup, Table, Sibling}
 use Rattle.program_defs.specs.declared.flow.Role.{Role}
 use Rattle.program_defs.specs.declared.flow.Role.TheVariants.{CallIn, CallEither, Return, JumpOut, JumpAny}
-use Rattle.state_defs.specs.declared.state.Depth.TheVariants.{Known}
-use Rattle.state_defs.specs.declared.state.BpHome.TheVariants.{Saved}
 use Rattle.state_defs.specs.declared.state.State.{State}
-use Rattle.state_defs.specs.declared.state.State.TheVariants.{Live}
-use Rattle.state_defs.specs.State.{initial}
+use Rattle.state_defs.specs.declared.state.HintState.{HintState}
+use Rattle.state_defs.specs.declared.state.HintState.TheVariants.{Set}
 use Rattle.state_defs.specs.Effect.{HasSignedNumber}
-use Rattle.state_defs.specs.Order.{least}
-use Rattle.state_defs.specs.Move.{move}
-use Rattle.state_defs.specs.Row.{unfit_offset}
-use Rattle.state_defs.specs.Rules.{return_rule}
-use Rattle.program_defs.specs.Program.{Program, TextSection, same_place, below, is_call, edge}
-use Rattle.machine_defs.specs.Machine.{IsPlacement}
-use Rattle.program_defs.specs.MayReturn.{MayReturn}
+use Rattle.state_defs.specs.State.{IsConsistent}
+use Rattle.program_defs.specs.Program.{same_place, below, entry_points, is_call, is_call_op, edge}
+use Rattle.program_defs.specs.MayReturn.{MayReturn, may_call_out}
 use Rattle.program_defs.specs.MayReturn as may
-use Rattle.checker_defs.specs.Kept.{can_go, moved, brought_along, Brings, brought_from, brought, kept_or, state_at, Kept}
-use Rattle.checker_defs.specs.Broken.{LeavesByJump, sibling, outside, anywhere, IsAccepted, Warns}
-use Rattle.checker_defs.specs.Broken as broken
-use Rattle.program_defs.specs.IsProgram.{IsProgram}
-use Rattle.machine_defs.specs.Worked.{at, places, framed}
-use Rattle.unwinding_law.specs.Worked.{base}
-use Rattle.unwinding_law.proofs.Lists.{here, cases, nowhere, from_filter, from_flat_map, from_below}
-use Rattle.unwinding_law.proofs.KeptStates.{least_member, moved_ok, brings_edge}
+use Rattle.program_defs.specs.IsProgram.{IsProgram, HintsStandAtPoints}
+use Rattle.unwinding_law.specs.Worked.{place_at, point, worked, interrupted}
+use Rattle.unwinding_law.proofs.Elements.{each, none, one, two}
+use Rattle.unwinding_law.proofs.Lists.{here, cases, nowhere, from_filter, from_below}
 
-abbrev pushed : State
-pushed = Live (Known (pos 16)) None (Saved (pos 16))
+-- what holds of all edges of a point, and of all points that follow it
+pub along : (P : Edge → Type 0) (q : ℕ) → All P (worked.goes q) → (e : Edge) → Contains (worked.goes q) e → P e
+along P q h e c = All-contains P (worked.goes q) e h c
 
-abbrev pointed : State
-pointed = Live (Known (pos 16)) (Some (pos 16)) (Saved (pos 16))
+-- edges lead to points
+abbrev IsInside : Edge → Type 0
+IsInside e = e.to < 11
 
--- the state of each point
-data IsWorked : ℕ → State → Type 0 where
-  at_push : IsWorked 0 initial
-  at_set : IsWorked 1 pushed
-  at_pop : IsWorked 2 pointed
-  at_return : IsWorked 3 initial
+inside : (q : ℕ) → All IsInside (worked.goes q)
+inside = each (λ q. All IsInside (worked.goes q)) (one IsInside (edge 1 Next) (lit< tt)) (one IsInside (edge 2 Table) (lit< tt)) (two IsInside (edge 3 Next) (edge 3 Fixup) (lit< tt) (lit< tt)) (one IsInside (edge 4 Sibling) (lit< tt)) (one IsInside (edge 5 Next) (lit< tt)) (one IsInside (edge 6 Next) (lit< tt)) (none IsInside) (none IsInside) (none IsInside) (one IsInside (edge 10 Next) (lit< tt)) (one IsInside (edge 1 Next) (lit< tt)) (λ q. none IsInside)
 
--- an instruction with one next one, to which its state moves
-one_next : (p : Program) (a b q : ℕ) (s u t : State) → p.goes a ≡ edge b Next ∷ [] → move s (p.insn a).op ≡ Ok u → Brings p a s q t → (b ≡ q) × (u ≡ t)
-one_next p a b q s u t goes moves brings =
-    let r = brings_edge p a q s t brings in
-    let inside : Contains (p.goes a) r.0 = (from_filter (λ (e : Edge). can_go p a e.kind) (p.goes a) r.0 r.1).0 in
-    same (cases (edge b Next) [] r.0 (subst (λ (x : List Edge). Contains x r.0) goes inside)) r.2 r.3
+-- points follow points
+abbrev IsBelow : ℕ → Type 0
+IsBelow r = r < 11
+
+followed : (q : ℕ) → All IsBelow (worked.after q)
+followed = each (λ q. All IsBelow (worked.after q)) (one IsBelow 1 (lit< tt)) (one IsBelow 2 (lit< tt)) (one IsBelow 3 (lit< tt)) (one IsBelow 4 (lit< tt)) (one IsBelow 5 (lit< tt)) (one IsBelow 6 (lit< tt)) (one IsBelow 7 (lit< tt)) (none IsBelow) (none IsBelow) (one IsBelow 10 (lit< tt)) (one IsBelow 1 (lit< tt)) (λ q. none IsBelow)
+
+-- control arrives at points
+arrives : (place : Place) (q : ℕ) → Contains (worked.arrive place) q → q < 11
+arrives place q c = go (same_place (place_at 1 0) place) c
   where
-    same : {e : Edge} → (edge b Next ≡ e) ⊎ Contains [] e → e.to ≡ q → Contains (brought_along s (p.insn a).op e.kind) t → (b ≡ q) × (u ≡ t)
-    same {e} (inl k) to c =
-        let m : Contains (moved (move s (p.insn a).op)) t = subst (λ (x : Edge). Contains (brought_along s (p.insn a).op x.kind) t) (sym k) c in
-        let n : Ok u ≡ Ok t = sym moves ∙ moved_ok (move s (p.insn a).op) t m in
-        (ap (λ (x : Edge). x.to) k ∙ to, let o : u ≡ t = cc in o)
-    same {e} (inr k) to c = nowhere e k
+    go : (b : Bool) → Contains (if b then 0 ∷ 9 ∷ [] else filter (λ q. (point q).variant == 0 && same_place (point q).place place) (below 11)) q → q < 11
+    go true c = elim (cases 0 (9 ∷ []) q c) [ inl e ↦ subst (λ (x : ℕ). x < 11) e (lit< tt) | inr d ↦ elim (cases 9 [] q d) [ inl e ↦ subst (λ (x : ℕ). x < 11) e (lit< tt) | inr k ↦ nowhere q k ] ]
+    go false c = from_below 11 q (from_filter (λ q. (point q).variant == 0 && same_place (point q).place place) (below 11) q c).0
 
-no_next : (a q : ℕ) (s t : State) → framed.goes a ≡ [] → Brings framed a s q t → ⊥
-no_next a q s t goes brings =
-    let r = brings_edge framed a q s t brings in
-    let inside : Contains (framed.goes a) r.0 = (from_filter (λ (e : Edge). can_go framed a e.kind) (framed.goes a) r.0 r.1).0 in
-    nowhere r.0 (subst (λ (x : List Edge). Contains x r.0) goes inside)
+-- what isn't so
+pub never : {P : Type 0} → false ≡ true → P
+never e = absurd (let k : ⊥ = cc in k)
 
-worked_at : (b q : ℕ) (u t : State) → IsWorked b u → (b ≡ q) × (u ≡ t) → IsWorked q t
-worked_at b q u t w e = subst (λ (x : ℕ). IsWorked x t) e.0 (subst (λ (x : State). IsWorked b x) e.1 w)
+no_hint : (P : HintState → Type 0) (h : HintState) → None ≡ Some h → P h
+no_hint P h e = absurd (let k : ⊥ = cc in k)
 
-worked_next : (a q : ℕ) (s t : State) → IsWorked a s → Brings framed a s q t → IsWorked q t
-worked_next a q s t at_push b = worked_at 1 q pushed t at_set (one_next framed 0 1 q initial pushed t refl refl b)
-worked_next a q s t at_set b = worked_at 2 q pointed t at_pop (one_next framed 1 2 q pushed pointed t refl refl b)
-worked_next a q s t at_pop b = worked_at 3 q initial t at_return (one_next framed 2 3 q pointed initial t refl refl b)
-worked_next a q s t at_return b = absurd (no_next 3 q initial t refl b)
+pub no_state : (P : State → Type 0) (s : State) → None ≡ Some s → P s
+no_state P s e = absurd (let k : ⊥ = cc in k)
 
-worked_first : (q : ℕ) (s : State) → state_at framed 0 q ≡ Some s → IsWorked q s
-worked_first zero s e = let k : initial ≡ s = cc in subst (λ (x : State). IsWorked 0 x) k at_push
-worked_first (suc q) s e = go (0 == suc q) refl e
+-- which roles, edges and instructions there are
+abbrev pub is_return : Role → Bool
+is_return Return = true
+is_return _ = false
+
+abbrev pub is_jump : Role → Bool
+is_jump (JumpOut sym) = true
+is_jump JumpAny = true
+is_jump _ = false
+
+abbrev is_sibling : EdgeKind → Bool
+is_sibling Sibling = true
+is_sibling _ = false
+
+abbrev pub is_imm_or_switch : Op → Bool
+is_imm_or_switch RetImm = true
+is_imm_or_switch Switch = true
+is_imm_or_switch _ = false
+
+abbrev pub is_iret : Op → Bool
+is_iret Iret = true
+is_iret _ = false
+
+pub one_call : (q : ℕ) → is_call (worked.role q) ≡ true → q ≡ 0
+one_call = each (λ q. is_call (worked.role q) ≡ true → q ≡ 0) (λ _. refl) never never never never never never never never never never (λ q. never)
+
+pub one_return : (q : ℕ) → is_return (worked.role q) ≡ true → q ≡ 6
+one_return = each (λ q. is_return (worked.role q) ≡ true → q ≡ 6) never never never never never never (λ _. refl) never never never never (λ q. never)
+
+pub no_jump : (q : ℕ) → is_jump (worked.role q) ≡ true → ⊥
+no_jump = each (λ q. is_jump (worked.role q) ≡ true → ⊥) never never never never never never never never never never never (λ q. never)
+
+pub no_imm_or_switch : (q : ℕ) → is_imm_or_switch (worked.insn q).op ≡ true → ⊥
+no_imm_or_switch = each (λ q. is_imm_or_switch (worked.insn q).op ≡ true → ⊥) never never never never never never never never never never never (λ q. never)
+
+pub one_iret : (q : ℕ) → is_iret (worked.insn q).op ≡ true → q ≡ 7
+one_iret = each (λ q. is_iret (worked.insn q).op ≡ true → q ≡ 7) never never never never never never never (λ _. refl) never never never (λ q. never)
+
+pub one_hint : (q : ℕ) (h : HintState) → worked.hint q ≡ Some h → (q ≡ 7) × (Set interrupted ≡ h)
+one_hint = each (λ q. (h : HintState) → worked.hint q ≡ Some h → (q ≡ 7) × (Set interrupted ≡ h)) (no_hint _) (no_hint _) (no_hint _) (no_hint _) (no_hint _) (no_hint _) (no_hint _) (λ h e. (refl, let k : Set interrupted ≡ h = cc in k)) (no_hint _) (no_hint _) (no_hint _) (λ q. no_hint _)
+
+-- there is one tail call
+abbrev IsTail : ℕ → Edge → Type 0
+IsTail q e = is_sibling e.kind ≡ true → (q ≡ 3) × (e.to ≡ 4)
+
+tails : (q : ℕ) → All (IsTail q) (worked.goes q)
+tails = each (λ q. All (IsTail q) (worked.goes q)) (one (IsTail 0) (edge 1 Next) never) (one (IsTail 1) (edge 2 Table) never) (two (IsTail 2) (edge 3 Next) (edge 3 Fixup) never never) (one (IsTail 3) (edge 4 Sibling) (λ _. (refl, refl))) (one (IsTail 4) (edge 5 Next) never) (one (IsTail 5) (edge 6 Next) never) (none (IsTail 6)) (none (IsTail 7)) (none (IsTail 8)) (one (IsTail 9) (edge 10 Next) never) (one (IsTail 10) (edge 1 Next) never) (λ q. none (IsTail _))
+
+pub one_tail : (q r : ℕ) → Contains (worked.goes q) (edge r Sibling) → (q ≡ 3) × (r ≡ 4)
+one_tail q r c = along (IsTail q) q (tails q) (edge r Sibling) c refl
+
+-- from where a return may come
+from_ret : MayReturn worked 6
+from_ret = may.returns 6 refl
+
+from_g : MayReturn worked 4
+from_g = may.goes_on 4 (edge 5 Next) refl (here (edge 5 Next) []) (may.goes_on 5 (edge 6 Next) refl (here (edge 6 Next) []) from_ret)
+
+from_tail : MayReturn worked 3
+from_tail = may.branches 3 (edge 4 Sibling) (λ e. let k : ⊥ = cc in k) (here (edge 4 Sibling) []) from_g
+
+from_load : MayReturn worked 2
+from_load = may.goes_on 2 (edge 3 Next) refl (here (edge 3 Next) (edge 3 Fixup ∷ [])) from_tail
+
+from_table : MayReturn worked 1
+from_table = may.goes_on 1 (edge 2 Table) refl (here (edge 2 Table) []) from_load
+
+from_call : MayReturn worked 0
+from_call = may.comes_back_in 0 1 4 4 refl refl (0, lit< tt, refl) from_g (here (edge 1 Next) []) from_table
+
+from_padding : MayReturn worked 10
+from_padding = may.goes_on 10 (edge 1 Next) refl (here (edge 1 Next) []) from_table
+
+comes : (q : ℕ) → worked.may_return q ≡ true → MayReturn worked q
+comes = each (λ q. worked.may_return q ≡ true → MayReturn worked q) (λ _. from_call) (λ _. from_table) (λ _. from_load) (λ _. from_tail) (λ _. from_g) (λ _. may.goes_on 5 (edge 6 Next) refl (here (edge 6 Next) []) from_ret) (λ _. from_ret) never never (λ _. may.goes_on 9 (edge 10 Next) refl (here (edge 10 Next) []) from_padding) (λ _. from_padding) (λ q. never)
+
+-- and from where none
+abbrev goes_out : Role → Bool
+goes_out Return = true
+goes_out (JumpOut sym) = true
+goes_out JumpAny = true
+goes_out _ = false
+
+stuck : (q : ℕ) → worked.goes q ≡ [] → goes_out (worked.role q) ≡ false → MayReturn worked q → ⊥
+stuck q g l (may.returns q2 e) = let k : goes_out (worked.role q) ≡ true = ap goes_out e in cc
+stuck q g l (may.jumps_anywhere q2 e) = let k : goes_out (worked.role q) ≡ true = ap goes_out e in cc
+stuck q g l (may.jumps_out q2 symbol e n) = let k : goes_out (worked.role q) ≡ true = ap goes_out e in cc
+stuck q g l (may.goes_on q2 e call c m) = nowhere e (subst (λ (xs : List Edge). Contains xs e) g c)
+stuck q g l (may.branches q2 e kind c m) = nowhere e (subst (λ (xs : List Edge). Contains xs e) g c)
+stuck q g l (may.comes_back q2 r out passed c m) = nowhere (edge r Next) (subst (λ (xs : List Edge). Contains xs (edge r Next)) g c)
+stuck q g l (may.comes_back_in q2 r entry start role passed c m d n) = nowhere (edge r Next) (subst (λ (xs : List Edge). Contains xs (edge r Next)) g d)
+
+told : (q : ℕ) → MayReturn worked q → worked.may_return q ≡ true
+told = each (λ q. MayReturn worked q → worked.may_return q ≡ true) (λ _. refl) (λ _. refl) (λ _. refl) (λ _. refl) (λ _. refl) (λ _. refl) (λ _. refl) (λ m. absurd (stuck 7 refl refl m)) (λ m. absurd (stuck 8 refl refl m)) (λ _. refl) (λ _. refl) (λ q m. absurd (stuck _ refl refl m))
+
+-- its one call goes to an entry, and back to the next point
+call_in : (q entry : ℕ) → worked.role q ≡ CallIn entry → Contains worked.entries entry
+call_in q entry e =
+    let k : worked.role 0 ≡ CallIn entry = subst (λ (x : ℕ). worked.role x ≡ CallIn entry) (one_call q (ap is_call e)) e in
+    let m : 4 ≡ entry = cc in
+    subst (λ (x : ℕ). Contains worked.entries x) m (1, lit< tt, refl)
+
+no_weak_call : (q entry symbol : ℕ) → worked.role q ≡ CallEither entry symbol → ⊥
+no_weak_call q entry symbol e = let k : worked.role 0 ≡ CallEither entry symbol = subst (λ (x : ℕ). worked.role x ≡ CallEither entry symbol) (one_call q (ap is_call e)) e in cc
+
+call_next : (q r : ℕ) → is_call (worked.role q) ≡ true → Contains (worked.after q) r → Contains (worked.goes q) (edge r Next)
+call_next q r e c = go (subst (λ (x : ℕ). Contains (worked.after x) r) zero_is c)
   where
-    go : (b : Bool) → (0 == suc q) ≡ b → (if ((b || false) || false) then Some initial else None) ≡ Some s → IsWorked (suc q) s
-    go true k h = let m : 0 ≡ suc q = eqb-true 0 (suc q) k in absurd (omega arith)
-    go false k h = cc
+    zero_is : q ≡ 0
+    zero_is = one_call q e
 
-worked_level : (n q : ℕ) (s : State) → state_at framed n q ≡ Some s → IsWorked q s
-worked_level zero q s e = worked_first q s e
-worked_level (suc n) q s e = go (state_at framed n q) refl e (λ r t k. worked_level n r t k)
-  where
-    one : (a : ℕ) (o : Option State) → state_at framed n a ≡ o → Contains (brought_from framed a o q) s → ((r : ℕ) (t : State) → state_at framed n r ≡ Some t → IsWorked r t) → IsWorked q s
-    one a None k c ih = nowhere s c
-    one a (Some t) k c ih = worked_next a q t s (ih a t k) c
+    go : Contains (1 ∷ []) r → Contains (worked.goes q) (edge r Next)
+    go d = elim (cases 1 [] r d) [ inl k ↦ subst (λ (x : ℕ). Contains (worked.goes x) (edge r Next)) (sym zero_is) (subst (λ (x : ℕ). Contains (worked.goes 0) (edge x Next)) k (here (edge 1 Next) [])) | inr k ↦ nowhere r k ]
 
-    go : (o : Option State) → state_at framed n q ≡ o → kept_or o (least (brought framed (state_at framed n) q)) ≡ Some s → ((r : ℕ) (t : State) → state_at framed n r ≡ Some t → IsWorked r t) → IsWorked q s
-    go None k h ih =
-        let r = from_flat_map (λ a. brought_from framed a (state_at framed n a) q) (below 4) s (least_member (brought framed (state_at framed n) q) s h) in
-        one r.0 (state_at framed n r.0) refl r.2 ih
-    go (Some t) k h ih = ih q s (k ∙ h)
+consistent : (q : ℕ) (s : State) → worked.hint q ≡ Some (Set s) → IsConsistent s
+consistent q s e = let k : Set interrupted ≡ Set s = (one_hint q (Set s) e).1 in let m : interrupted ≡ s = cc in subst IsConsistent m (omega arith)
 
-worked : (q : ℕ) (s : State) → Kept framed q s → IsWorked q s
-worked q s (n, e) = worked_level n q s e
-
-state_of : ℕ → Option State
-state_of zero = Some initial
-state_of (suc zero) = Some pushed
-state_of (suc (suc zero)) = Some pointed
-state_of (suc (suc (suc q))) = Some initial
-
-has_state : (q : ℕ) (s : State) → IsWorked q s → state_of q ≡ Some s
-unfolding state_of
-has_state q s at_push = refl
-has_state q s at_set = refl
-has_state q s at_pop = refl
-has_state q s at_return = refl
-
-one_state : (q : ℕ) (s t : State) → IsWorked q s → IsWorked q t → s ≡ t
-one_state q s t v w = let k : Some s ≡ Some t = sym (has_state q s v) ∙ has_state q t w in cc
-
-returns_well : (q rule : ℕ) (s : State) → IsWorked q s → framed.role q ≡ Return → return_rule s ≡ Some rule → ⊥
-returns_well q rule s at_push e r = cc
-returns_well q rule s at_set e r = cc
-returns_well q rule s at_pop e r = cc
-returns_well q rule s at_return e r = cc
-
-moves_well : (q rule : ℕ) (s : State) → IsWorked q s → move s (framed.insn q).op ≡ Err rule → ⊥
-moves_well q rule s at_push e = cc
-moves_well q rule s at_set e = cc
-moves_well q rule s at_pop e = cc
-moves_well q rule s at_return e = cc
-
-fits : (q : ℕ) (s : State) (a : ℤ) → IsWorked q s → unfit_offset s ≡ Some a → ⊥
-fits q s a at_push e = cc
-fits q s a at_set e = cc
-fits q s a at_pop e = cc
-fits q s a at_return e = cc
-
-no_switch : (q : ℕ) (s : State) → IsWorked q s → (framed.insn q).op ≡ Switch → ⊥
-no_switch q s at_push e = cc
-no_switch q s at_set e = cc
-no_switch q s at_pop e = cc
-no_switch q s at_return e = cc
-
-no_iret : (q : ℕ) (s : State) → IsWorked q s → (framed.insn q).op ≡ Iret → ⊥
-no_iret q s at_push e = cc
-no_iret q s at_set e = cc
-no_iret q s at_pop e = cc
-no_iret q s at_return e = cc
-
-no_bytes : (q : ℕ) (s : State) → IsWorked q s → (framed.insn q).op ≡ RetImm → ⊥
-no_bytes q s at_push e = cc
-no_bytes q s at_set e = cc
-no_bytes q s at_pop e = cc
-no_bytes q s at_return e = cc
-
--- all edges are Next, and no role is that of a jump
-next_edges : (q : ℕ) (e : Edge) → Contains (framed.goes q) e → e ≡ edge (q + 1) Next
-next_edges zero e c = elim (cases (edge 1 Next) [] e c) [ inl k ↦ sym k | inr k ↦ nowhere e k ]
-next_edges (suc zero) e c = elim (cases (edge 2 Next) [] e c) [ inl k ↦ sym k | inr k ↦ nowhere e k ]
-next_edges (suc (suc zero)) e c = elim (cases (edge 3 Next) [] e c) [ inl k ↦ sym k | inr k ↦ nowhere e k ]
-next_edges (suc (suc (suc q))) e c = nowhere e c
-
-no_jump_out : (q symbol : ℕ) → framed.role q ≡ JumpOut symbol → ⊥
-no_jump_out zero symbol e = cc
-no_jump_out (suc zero) symbol e = cc
-no_jump_out (suc (suc zero)) symbol e = cc
-no_jump_out (suc (suc (suc q))) symbol e = cc
-
-no_jump_any : (q : ℕ) → framed.role q ≡ JumpAny → ⊥
-no_jump_any zero e = cc
-no_jump_any (suc zero) e = cc
-no_jump_any (suc (suc zero)) e = cc
-no_jump_any (suc (suc (suc q))) e = cc
-
-no_jump : (q : ℕ) → LeavesByJump framed q → ⊥
-no_jump q (sibling r c) = let k : edge r Sibling ≡ edge (q + 1) Next = next_edges q (edge r Sibling) (from_filter (λ (e : Edge). can_go framed q e.kind) (framed.goes q) (edge r Sibling) c).0 in let l : Sibling ≡ Next = ap (λ (e : Edge). e.kind) k in cc
-no_jump q (outside symbol e) = no_jump_out q symbol e
-no_jump q (anywhere e) = no_jump_any q e
-
-refuted : (place : Place) (rule : ℕ) (a b : ℤ) → Warns framed place rule a b → ⊥
-refuted place rule a b (broken.bad_target q s k e) = cc
-refuted place rule a b (broken.falls_through q r s k c ne) = ne refl
-refuted place rule a b (broken.runs_off q s k e) = cc
-refuted place rule a b (broken.mismatch q r s t u kq brings kr free ne) = ne (one_state r t u (worked_next q r s t (worked q s kq) brings) (worked r u kr))
-refuted place rule a b (broken.modified_return q s k role r) = returns_well q 5 s (worked q s k) role r
-refuted place rule a b (broken.drops_bytes q s k role op n) = no_bytes q s (worked q s k) op
-refuted place rule a b (broken.modified_sibling q s k l r) = no_jump q l
-refuted place rule a b (broken.refused q n s k e) = moves_well q n s (worked q s k) e
-refuted place rule a b (broken.unfit q s n k e) = fits q s n (worked q s k) e
-refuted place rule a b (broken.variants_disagree site q r s t kq kr e ne) = nowhere site kq.listed
-refuted place rule a b (broken.call_disagrees site q r s t kq c f ne) = nowhere site kq.listed
-refuted place rule a b (broken.into_site q s k e) = cc
-refuted place rule a b (broken.unallowed_return q s k role r) = returns_well q 15 s (worked q s k) role r
-refuted place rule a b (broken.unallowed_sibling q s k l r) = no_jump q l
-refuted place rule a b (broken.unallowed_switch q s k op r) = no_switch q s (worked q s k) op
-refuted place rule a b (broken.unallowed_iret q s k op r) = no_iret q s (worked q s k) op
-refuted place rule a b (broken.into_function q s k e) = cc
-refuted place rule a b (broken.without_size where_at c) = nowhere where_at c
-refuted place rule a b (broken.entered_restore q entry e n c d) = cc
-refuted place rule a b (broken.reached_restore q r s e h n k c t) = cc
-
-pub accepted : IsAccepted framed
-accepted place rule a b w = refuted place rule a b w
-
-no_edge_beyond : (q : ℕ) (e : Edge) → Contains (framed.goes q) e → e.to < 4
-no_edge_beyond zero e c = subst (λ (x : Edge). x.to < 4) (sym (next_edges zero e c)) (lit< tt)
-no_edge_beyond (suc zero) e c = subst (λ (x : Edge). x.to < 4) (sym (next_edges 1 e c)) (lit< tt)
-no_edge_beyond (suc (suc zero)) e c = subst (λ (x : Edge). x.to < 4) (sym (next_edges 2 e c)) (lit< tt)
-no_edge_beyond (suc (suc (suc q))) e c = nowhere e c
-
-no_point_beyond : (q r : ℕ) → Contains (framed.after q) r → r < 4
-no_point_beyond zero r c = elim (cases 1 [] r c) [ inl e ↦ subst (λ (x : ℕ). x < 4) e (lit< tt) | inr d ↦ nowhere r d ]
-no_point_beyond (suc zero) r c = elim (cases 2 [] r c) [ inl e ↦ subst (λ (x : ℕ). x < 4) e (lit< tt) | inr d ↦ nowhere r d ]
-no_point_beyond (suc (suc zero)) r c = elim (cases 3 [] r c) [ inl e ↦ subst (λ (x : ℕ). x < 4) e (lit< tt) | inr d ↦ nowhere r d ]
-no_point_beyond (suc (suc (suc q))) r c = nowhere r c
-
-no_call : (q : ℕ) → is_call (framed.role q) ≡ false
-no_call zero = refl
-no_call (suc zero) = refl
-no_call (suc (suc zero)) = refl
-no_call (suc (suc (suc q))) = refl
-
-no_call_of : (q : ℕ) (x : Role) → is_call x ≡ true → framed.role q ≡ x → ⊥
-no_call_of q x e h = let k : is_call x ≡ false = ap is_call (sym h) ∙ no_call q in cc
-
-whole_returns : (q : ℕ) → (framed.insn q).op ≡ RetImm → ⊥
-whole_returns zero e = cc
-whole_returns (suc zero) e = cc
-whole_returns (suc (suc zero)) e = cc
-whole_returns (suc (suc (suc zero))) e = cc
-whole_returns (suc (suc (suc (suc q)))) e = cc
-
-signed : (q : ℕ) → HasSignedNumber (framed.insn q).op
-signed zero = tt
-signed (suc zero) = record { sfits = lit< tt }
-signed (suc (suc zero)) = tt
-signed (suc (suc (suc zero))) = tt
-signed (suc (suc (suc (suc q)))) = tt
-
-may_return : (q : ℕ) → MayReturn framed q
-may_return zero = may.goes_on 0 (edge 1 Next) refl (here (edge 1 Next) []) (may.goes_on 1 (edge 2 Next) refl (here (edge 2 Next) []) (may.goes_on 2 (edge 3 Next) refl (here (edge 3 Next) []) (may.returns 3 refl)))
-may_return (suc zero) = may.goes_on 1 (edge 2 Next) refl (here (edge 2 Next) []) (may.goes_on 2 (edge 3 Next) refl (here (edge 3 Next) []) (may.returns 3 refl))
-may_return (suc (suc zero)) = may.goes_on 2 (edge 3 Next) refl (here (edge 3 Next) []) (may.returns 3 refl)
-may_return (suc (suc (suc q))) = may.returns (suc (suc (suc q))) refl
-
-pub program : IsProgram framed
+-- so it is a program
+pub program : IsProgram worked
 program = record {
-  edges = λ q e point c. no_edge_beyond q e c;
-  arrivals = λ place q c. from_below 4 q (from_filter (λ q. same_place (slice_index_or places q (at 6)) place) (below 4) q c).0;
-  followers = λ q r point c. no_point_beyond q r c;
+  edges = λ q e point c. along IsInside q (inside q) e c;
+  arrivals = λ place q c. arrives place q c;
+  followers = λ q r point c. All-contains IsBelow (worked.after q) r (followed q) c;
   saves = λ q r point e. absurd (let k : ⊥ = cc in k);
-  checked = λ q e h u c k. refl;
+  checked = λ q e point u c k. refl;
   unowned = λ q point e. refl;
   entries_checked = λ entry q c d. refl;
-  calls_entry = λ q entry point e. absurd (no_call_of q (CallIn entry) refl e);
-  calls_weak_entry = λ q entry symbol point e. absurd (no_call_of q (CallEither entry symbol) refl e);
-  siblings = λ q r point c. absurd (let k : Sibling ≡ Next = ap (λ (e : Edge). e.kind) (next_edges q (edge r Sibling) c) in let m : ⊥ = cc in m);
-  calls = λ q point e. absurd (no_call_of q (framed.role q) e refl);
-  call_next = λ q r point u e d c. absurd (no_call_of q (framed.role q) e refl);
-  returns = λ q point e. absurd (whole_returns q e);
-  numbers = λ q point. signed q;
-  hints = λ q s point e. absurd (let k : ⊥ = cc in k);
-  may_return = λ q point. (λ e. may_return q, λ m. refl);
+  calls_entry = λ q entry point e. call_in q entry e;
+  calls_weak_entry = λ q entry symbol point e. absurd (no_weak_call q entry symbol e);
+  siblings = λ q r point c. (4, (1, lit< tt, refl), subst (λ (x : ℕ). Contains (entry_points worked 4) x) (sym (one_tail q r c).1) (0, lit< tt, refl));
+  calls = λ q point e. subst (λ (x : ℕ). is_call_op (worked.insn x).op ≡ true) (sym (one_call q e)) refl;
+  call_next = λ q r point u e d c. call_next q r e c;
+  returns = λ q point e. absurd (no_imm_or_switch q (ap is_imm_or_switch e));
+  numbers = λ q point. each (λ q. HasSignedNumber (worked.insn q).op) tt tt tt tt tt tt tt tt tt tt tt (λ q. tt) q;
+  hints = λ q s point e. consistent q s e;
+  may_return = λ q point. (comes q, told q);
 }
 
-pub only_text : (size : ℕ) (text : TextSection) → Contains (record { sec = 1; size = size } ∷ []) text → record { sec = 1; size = size } ≡ text
-only_text size text c = elim (cases (record { sec = 1; size = size }) [] text c) [ inl e ↦ e | inr d ↦ nowhere text d ]
-
-pub placed : IsPlacement framed base
-placed = record {
-  in_memory = λ text c. subst (λ (x : TextSection). base x.sec + x.size < 2 ^ 64) (only_text 6 text c) (lit< tt);
-  apart = λ one other address c d a b. sym (only_text 6 one c) ∙ only_text 6 other d;
-}
+-- hints stand at points
+pub hint_points : HintsStandAtPoints worked
+hint_points q h e = subst (λ (x : ℕ). x < 11) (sym (one_hint q h e).0) (lit< tt)

@@ -16,8 +16,8 @@ pub fn unwinding_law()
     move_is_consistent();
 }
 
-/// A function with a frame pointer meets every premise of the law, and each state of its runs is in
-/// order: here the one after its push.
+/// A program with a hint, a gate, a call, a tail call, a fixup, a jump table and an alternatives site meets
+/// every premise of the law, and each state of its runs is in order: here the one after a push.
 pub fn unwinds_worked()
     ensures { UnwindsWorked }
 {

@@ -1,5 +1,5 @@
 -- What a walk over a stack gives (Linux 6.6, `orc-unwinder.rst`).
-use Rattle.std.specs.Prelude.{◌≡◌, ℕ, ◌+◌, ◌-◌, ◌%◌, ◌^◌, Bool, true, false, not, ◌||◌, List, [], ◌∷◌, Option, Some, None, Result, Ok, Err, ◌==◌, nat_lt, if◌then◌else◌, ℤ}
+use Rattle.std.specs.Prelude.{◌≡◌, ℕ, ◌+◌, ◌%◌, ◌^◌, Bool, true, false, not, ◌||◌, List, [], ◌∷◌, Option, Some, None, Result, Ok, Err, ◌==◌, nat_lt, if◌then◌else◌, ℤ}
 use Rattle.std.specs.Int.{cast_unsigned, w64}
 use Rattle.ot_base.specs.Address.{up, down}
 use Rattle.ot_base.specs.declared.row.Row.{Row}

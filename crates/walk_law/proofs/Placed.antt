@@ -10,9 +10,8 @@ use Rattle.machine_defs.specs.Machine.{Bases, HasAddress, IsPlacement, IsOutside
 use Rattle.program_defs.specs.IsProgram.{IsInText}
 use Rattle.walk_defs.specs.declared.range.Range.{Range}
 use Rattle.walk_defs.specs.Placement.{section_in, covers, is_inside}
-use Rattle.walk_defs.specs.Placement as placement
 use Rattle.unwinding_law.proofs.Lists.{here, there, cases, nowhere, found, find_one, in_map}
-use Rattle.table_defs.specs.Placed.{placed_section, IsPlacedBy}
+use Rattle.table_defs.specs.Placed.{IsPlacedBy}
 use Rattle.table_defs.specs.Laws.{RangesArePlacement}
 
 -- an element of a list's image comes from an element
@@ -40,20 +39,20 @@ AreApart one other = (address : ℕ) → IsTrue (covers one address) → IsTrue 
 pub record HasRange (bases : Bases) (ranges : List Range) (text : TextSection) : Type 0 where
   pub range : Range
   pub among : Contains ranges range
-  pub is : section_in range ≡ placed_section text
+  pub is : section_in range ≡ text
   pub base : range.base ≡ bases text.sec
 
 module _ (p : Program) (bases : Bases) (ranges : List Range) (placed : IsPlacedBy p bases ranges) where
   -- each section has one, at its base
   pub has_range : (text : TextSection) → Contains p.texts text → HasRange bases ranges text
   has_range text c =
-      let one : Contains (map section_in ranges) (placed_section text) = Contains-permutation (map placed_section p.texts) (map section_in ranges) (placed_section text) placed.placement.sections (in_map placed_section p.texts text c) in
-      let r = from_map section_in ranges (placed_section text) one in
+      let one : Contains (map section_in ranges) text = Contains-permutation p.texts (map section_in ranges) text placed.placement.sections c in
+      let r = from_map section_in ranges text one in
       record {
         range = r.0;
         among = r.1;
         is = r.2;
-        base = All-contains (λ (range : Range). range.base ≡ bases range.sec) ranges r.0 placed.begin r.1 ∙ ap (λ (s : placement.TextSection). bases s.sec) r.2;
+        base = All-contains (λ (range : Range). range.base ≡ bases range.sec) ranges r.0 placed.begin r.1 ∙ ap (λ (s : TextSection). bases s.sec) r.2;
       }
 
   -- so it lies in memory
@@ -61,13 +60,13 @@ module _ (p : Program) (bases : Bases) (ranges : List Range) (placed : IsPlacedB
   in_memory text c =
       let h = has_range text c in
       let fits : h.range.base + h.range.size < 2 ^ 64 = All-contains (λ (range : Range). range.base + range.size < 2 ^ 64) ranges h.range placed.placement.in_memory h.among in
-      let size : h.range.size ≡ text.size = ap (λ (s : placement.TextSection). s.size) h.is in
+      let size : h.range.size ≡ text.size = ap (λ (s : TextSection). s.size) h.is in
       omega (arith, h.base, size)
 
   -- and its range covers its addresses
   covered : (text : TextSection) (h : HasRange bases ranges text) (address : ℕ) → bases text.sec ≤ address → address < bases text.sec + text.size → covers h.range address ≡ true
   covered text h address low high =
-      let size : h.range.size ≡ text.size = ap (λ (s : placement.TextSection). s.size) h.is in
+      let size : h.range.size ≡ text.size = ap (λ (s : TextSection). s.size) h.is in
       let a : nat_le h.range.base address ≡ true = le-leb h.range.base address (omega (arith, h.base)) in
       let b : nat_lt address (h.range.base + h.range.size) ≡ true = lt-ltb address (h.range.base + h.range.size) (omega (arith, h.base, size)) in
       rw (a, b) refl
@@ -82,9 +81,7 @@ module _ (p : Program) (bases : Bases) (ranges : List Range) (placed : IsPlacedB
       go h k x y (related AreApart ranges h.range k.range placed.placement.apart h.among k.among)
     where
       same : (h : HasRange bases ranges one) (k : HasRange bases ranges other) → h.range ≡ k.range → one ≡ other
-      same h k e =
-          let s : placed_section one ≡ placed_section other = sym h.is ∙ ap section_in e ∙ k.is in
-          ap (λ (t : placement.TextSection). record { sec = t.sec; size = t.size }) s
+      same h k e = sym h.is ∙ ap section_in e ∙ k.is
 
       go : (h : HasRange bases ranges one) (k : HasRange bases ranges other) → covers h.range address ≡ true → covers k.range address ≡ true
           → (h.range ≡ k.range) ⊎ (AreApart h.range k.range ⊎ AreApart k.range h.range)
@@ -132,12 +129,9 @@ module _ (p : Program) (bases : Bases) (ranges : List Range) (placed : IsPlacedB
     where
       beyond : (range : Range) → Contains ranges range → covers range address ≡ true → ⊥
       beyond range c e =
-          let one : Contains (map placed_section p.texts) (section_in range) = Contains-permutation (map section_in ranges) (map placed_section p.texts) (section_in range) (IsPermutation-sym (map placed_section p.texts) (map section_in ranges) placed.placement.sections) (in_map section_in ranges range c) in
-          let r = from_map placed_section p.texts (section_in range) one in
+          let one : Contains p.texts (section_in range) = Contains-permutation (map section_in ranges) p.texts (section_in range) (IsPermutation-sym p.texts (map section_in ranges) placed.placement.sections) (in_map section_in ranges range c) in
           let base : range.base ≡ bases range.sec = All-contains (λ (x : Range). x.base ≡ bases x.sec) ranges range placed.begin c in
-          let sec : bases (r.0).sec ≡ bases range.sec = ap (λ (s : placement.TextSection). bases s.sec) r.2 in
-          let size : (r.0).size ≡ range.size = ap (λ (s : placement.TextSection). s.size) r.2 in
-          clash range.base (range.base + range.size) (bases (r.0).sec) (bases (r.0).sec + (r.0).size) (omega (arith, base, sec)) (omega (arith, base, sec, size)) e (out r.0 r.1)
+          clash range.base (range.base + range.size) (bases range.sec) (bases range.sec + range.size) base (ap (λ (x : ℕ). x + range.size) base) e (out (section_in range) one)
         where
           clash : (low high from to : ℕ) → low ≡ from → high ≡ to → (nat_le low address && nat_lt address high) ≡ true → (address < from) ⊎ (to ≤ address) → ⊥
           clash low high from to a b e o = pick (nat_le low address) (nat_lt address high) refl refl e o

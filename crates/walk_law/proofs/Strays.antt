@@ -2,8 +2,7 @@
 use Rattle.std.proofs.Common.{◌≡◌, ℕ, ◌<◌, [], ◌∷◌, List, map, refl, ap, arith, lit<}
 use Rattle.state_defs.specs.Region.{word_at}
 use Rattle.machine_defs.specs.Machine.{frames}
-use Rattle.machine_defs.specs.Worked.{framed, after_push}
-use Rattle.unwinding_law.specs.Worked.{base}
+use Rattle.unwinding_law.specs.Worked.{worked, base, after_push}
 use Rattle.walk_defs.specs.declared.frame.Frame.{Frame}
 use Rattle.walk_defs.specs.declared.frame.Stop.TheVariants.{Outside}
 use Rattle.walk_defs.specs.Walk.{Memory, Walks, outside, goes_on}
@@ -20,13 +19,13 @@ abbrev stray : Frame
 stray = record { ra = 0; cfa = 0x8008; bp = 0 }
 
 -- it gives no other
-walks_astray : Walks stray_rows ranges memory (registers_of framed base after_push) (stray ∷ []) Outside
+walks_astray : Walks stray_rows ranges memory (registers_of worked base after_push) (stray ∷ []) Outside
 walks_astray = goes_on refl refl refl (outside refl)
 
 -- so it doesn't give the machine's
 pub strays : WalkIsDetermined → StraysWorked
 strays one (stop, walk, end) =
-    let e : map walk_frame (frames after_push) ≡ stray ∷ [] = (one stray_rows ranges memory (registers_of framed base after_push) (map walk_frame (frames after_push)) (stray ∷ []) stop Outside walk walks_astray).0 in
+    let e : map walk_frame (frames after_push) ≡ stray ∷ [] = (one stray_rows ranges memory (registers_of worked base after_push) (map walk_frame (frames after_push)) (stray ∷ []) stop Outside walk walks_astray).0 in
     different 0x8010 0x8008 (ap (map (λ (f : Frame). f.cfa)) e) (lit< tt)
   where
     different : (x y : ℕ) → ◌≡◌ {A = List ℕ} (x ∷ []) (y ∷ []) → y < x → ⊥

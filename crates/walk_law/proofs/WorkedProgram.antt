@@ -1,97 +1,103 @@
 -- The worked program meets the premises of the walk law.
-use Rattle.std.proofs.Common.{◌≡◌, ℕ, zero, suc, ◌+◌, ◌*◌, ◌/◌, ◌^◌, ◌<◌, ◌≤◌, false, [], ◌∷◌, Some, Contains, refl, ap, ◌∙◌, subst, inl, arith, lit<, lit≤}
-use Rattle.std.proofs.lemmas.List.Elements.{All-nil, All-cons}
+use Rattle.std.proofs.Common.{◌≡◌, ℕ, zero, suc, ◌+◌, ◌^◌, ◌<◌, ◌≤◌, Bool, true, false, ◌&&◌, [], ◌∷◌, Some, IfSome, IsTrue, Contains, slice_index_or, nat_le, nat_lt, refl, sym, subst, inl, arith, lit<, lit≤, leb-true}
+use Rattle.std.proofs.lemmas.Bool.{ltb-true}
 use Rattle.std.proofs.lemmas.List.Sorted.{IsPermutation-refl}
-use Rattle.ot_base.specs.declared.place.Place.{Place}
-use Rattle.state_defs.specs.declared.state.State.{State}
-use Rattle.state_defs.specs.State.{initial}
+use Rattle.state_defs.specs.Address.{down}
 use Rattle.state_defs.specs.Row.{row_of}
 use Rattle.program_defs.specs.Program.{TextSection, is_call}
-use Rattle.machine_defs.specs.Machine.{At, point_address}
-use Rattle.checker_defs.specs.Kept.{Kept}
 use Rattle.program_defs.specs.IsProgram.{IsInText}
-use Rattle.machine_defs.specs.Law.{UnwindingLaw}
-use Rattle.machine_defs.specs.Worked.{framed, after_push}
-use Rattle.checker_defs.proofs.KeptLemmas.{kept_is_one}
-use Rattle.machine_defs.proofs.WorkedRun as run
-use Rattle.unwinding_law.specs.Worked.{base}
-use Rattle.unwinding_law.proofs.Lists.{here, nowhere}
-use Rattle.unwinding_law.proofs.WorkedProgram as worked
+use Rattle.machine_defs.specs.Machine.{At, point_address, return_address}
 use Rattle.walk_defs.specs.declared.range.Range.{Range}
 use Rattle.walk_defs.specs.Lookup.{find_row}
+use Rattle.walk_defs.specs.Placement.{covers}
 use Rattle.table_defs.specs.Placed.{IsPlacedBy}
-use Rattle.table_defs.specs.Tells.{TellsState, TellsStates}
+use Rattle.table_defs.specs.Tells.{TellsStates}
 use Rattle.table_defs.specs.Laws.{WalkLaw}
-use Rattle.walk_law.specs.Worked.{ranges, rows, pushed, pointed, WalksWorked}
+use Rattle.unwinding_law.specs.Worked.{worked, state_of, base, after_push}
+use Rattle.unwinding_law.proofs.Elements.{each, two}
+use Rattle.unwinding_law.proofs.Lists.{here, there}
+use Rattle.unwinding_law.proofs.WorkedProgram.{one_call, program}
+use Rattle.unwinding_law.proofs.WorkedStates.{of_state, accepted}
+use Rattle.unwinding_law.proofs.WorkedRun.{text, replacement, runs}
+use Rattle.walk_law.specs.Worked.{ranges, rows, WalksWorked}
 
--- each has a byte
-has_byte : (q : ℕ) → q < 4 → 1 ≤ (framed.insn q).len
-has_byte zero h = lit≤ tt
-has_byte (suc zero) h = lit≤ tt
-has_byte (suc (suc zero)) h = lit≤ tt
-has_byte (suc (suc (suc zero))) h = lit≤ tt
-has_byte (suc (suc (suc (suc q)))) h = absurd (omega arith)
+-- the instruction's bytes lie in a section
+abbrev LiesInText : ℕ → Type 0
+LiesInText q = (t : TextSection) × Contains worked.texts t × (t.sec ≡ (worked.address q).sec) × ((worked.address q).off + (worked.insn q).len ≤ t.size)
 
--- in the one section
-abbrev text : TextSection
-text = record { sec = 1; size = 6 }
+in_first : (q : ℕ) → 1 ≡ (worked.address q).sec → (worked.address q).off + (worked.insn q).len ≤ 21 → LiesInText q
+in_first q sec fits = (text, here text (replacement ∷ []), sec, fits)
 
--- where its bytes lie
-within : (q : ℕ) → q < 4 → (t : TextSection) × Contains (text ∷ []) t × (t.sec ≡ (framed.address q).sec) × ((framed.address q).off + (framed.insn q).len ≤ t.size)
-within zero h = (text, here text [], refl, lit≤ tt)
-within (suc zero) h = (text, here text [], refl, lit≤ tt)
-within (suc (suc zero)) h = (text, here text [], refl, lit≤ tt)
-within (suc (suc (suc zero))) h = (text, here text [], refl, lit≤ tt)
-within (suc (suc (suc (suc q)))) h = absurd (omega arith)
+within : (q : ℕ) → q < 11 → LiesInText q
+within = each (λ q. q < 11 → LiesInText q) (λ _. in_first 0 refl (lit≤ tt)) (λ _. in_first 1 refl (lit≤ tt)) (λ _. in_first 2 refl (lit≤ tt)) (λ _. in_first 3 refl (lit≤ tt)) (λ _. in_first 4 refl (lit≤ tt)) (λ _. in_first 5 refl (lit≤ tt)) (λ _. in_first 6 refl (lit≤ tt)) (λ _. in_first 7 refl (lit≤ tt)) (λ _. (replacement, there text (replacement ∷ []) replacement (here replacement []), refl, lit≤ tt)) (λ _. in_first 9 refl (lit≤ tt)) (λ _. in_first 10 refl (lit≤ tt)) (λ q h. absurd (omega arith))
 
--- so they are in the text
-pub in_text : IsInText framed
-in_text = record { lengths = has_byte; within = within }
-
--- and placed
-pub placed : IsPlacedBy framed base ranges
-placed = record {
-  placement = record {
-    sections = IsPermutation-refl (record { sec = 1; size = 6 } ∷ []);
-    in_memory = All-cons (λ (range : Range). range.base + range.size < 2 ^ 64) (record { sec = 1; base = 0x1000; size = 6 }) [] (lit< tt) (All-nil (λ (range : Range). range.base + range.size < 2 ^ 64));
-    apart = λ i j d h k. absurd (omega (arith, h, k));
-  };
-  begin = All-cons (λ (range : Range). range.base ≡ base range.sec) (record { sec = 1; base = 0x1000; size = 6 }) [] refl (All-nil (λ (range : Range). range.base ≡ base range.sec));
+pub in_text : IsInText worked
+in_text = record {
+  lengths = λ q h. each (λ q. 1 ≤ (worked.insn q).len) (lit≤ tt) (lit≤ tt) (lit≤ tt) (lit≤ tt) (lit≤ tt) (lit≤ tt) (lit≤ tt) (lit≤ tt) (lit≤ tt) (lit≤ tt) (lit≤ tt) (λ q. lit≤ tt) q;
+  within = within;
 }
 
+-- its sections are placed apart
+abbrev first : Range
+first = record { sec = 1; base = 0x1000; size = 21 }
+
+abbrev second : Range
+second = record { sec = 2; base = 0x2000; size = 1 }
+
+pub placed : IsPlacedBy worked base ranges
+placed = record {
+  placement = record {
+    sections = IsPermutation-refl worked.texts;
+    in_memory = two (λ (range : Range). range.base + range.size < 2 ^ 64) first second (lit< tt) (lit< tt);
+    apart = λ i j d h k. apart i j d h k;
+  };
+  begin = two (λ (range : Range). range.base ≡ base range.sec) first second refl refl;
+}
+  where
+    clash : (address : ℕ) → covers first address ≡ true → covers second address ≡ true → ⊥
+    clash address a b =
+        let low : address < 4117 = ltb-true address 4117 (right (nat_le 4096 address) (nat_lt address 4117) a) in
+        let high : 8192 ≤ address = leb-true 8192 address (left (nat_le 8192 address) (nat_lt address 8193) b) in
+        omega arith
+      where
+        left : (x y : Bool) → (x && y) ≡ true → x ≡ true
+        left true y e = refl
+        left false y e = e
+
+        right : (x y : Bool) → (x && y) ≡ true → y ≡ true
+        right true y e = e
+        right false y e = absurd (let k : ⊥ = cc in k)
+
+    apart : (i j : ℕ) (d : Range) → i < j → j < 2 → (address : ℕ) → IsTrue (covers (slice_index_or ranges i d) address) → IsTrue (covers (slice_index_or ranges j d) address) → ⊥
+    apart zero zero d h k = absurd (omega arith)
+    apart zero (suc zero) d h k = clash
+    apart zero (suc (suc j)) d h k = absurd (omega arith)
+    apart (suc i) zero d h k = absurd (omega arith)
+    apart (suc i) (suc zero) d h k = absurd (omega arith)
+    apart (suc i) (suc (suc j)) d h k = absurd (omega arith)
+
 -- the row found at each point
-told_as : (q : ℕ) (known state : State) → Kept framed q known → find_row rows ranges (point_address framed base q) ≡ Some (row_of known) → Kept framed q state → TellsState state (find_row rows ranges (point_address framed base q))
-told_as q known state k e kept = inl (e ∙ ap (λ (x : State). Some (row_of x)) (kept_is_one framed q known state k kept))
+found : (q : ℕ) → IfSome (state_of q) (λ s. find_row rows ranges (point_address worked base q) ≡ Some (row_of s))
+found = each (λ q. IfSome (state_of q) (λ s. find_row rows ranges (point_address worked base q) ≡ Some (row_of s))) refl refl refl refl refl refl refl refl tt refl refl (λ q. tt)
 
--- it is that of the state
-told : (q : ℕ) (state : State) → q < 4 → Kept framed q state → TellsState state (find_row rows ranges (point_address framed base q))
-told zero state h kept = told_as 0 initial state (0, refl) refl kept
-told (suc zero) state h kept = told_as 1 pushed state (1, refl) refl kept
-told (suc (suc zero)) state h kept = told_as 2 pointed state (2, refl) refl kept
-told (suc (suc (suc zero))) state h kept = told_as 3 initial state (3, refl) refl kept
-told (suc (suc (suc (suc q)))) state h kept = absurd (omega arith)
-
--- none of them is a call
-no_call : (q : ℕ) → is_call (framed.role q) ≡ false
-no_call zero = refl
-no_call (suc zero) = refl
-no_call (suc (suc zero)) = refl
-no_call (suc (suc (suc q))) = refl
+-- and at the call's last byte
+found_last : (q : ℕ) → is_call (worked.role q) ≡ true → IfSome (state_of q) (λ s. find_row rows ranges (down (return_address worked base q) 1) ≡ Some (row_of s))
+found_last q e = subst (λ (x : ℕ). IfSome (state_of x) (λ s. find_row rows ranges (down (return_address worked base x) 1) ≡ Some (row_of s))) (sym (one_call q e)) refl
 
 -- so the rows tell the states
-pub tells : UnwindingLaw → TellsStates framed base rows ranges
-tells law q state seen kept = record {
-  at = told q state (subst (λ (x : ℕ). x < 4) seen.here (law framed base worked.program worked.placed worked.accepted (At seen.standing) seen.run).0.point) kept;
-  last_byte = λ e. absurd (let n = no_call q in let k : ⊥ = cc in k);
+pub tells : TellsStates worked base rows ranges
+tells q state seen kept = record {
+  at = inl (of_state (λ s. find_row rows ranges (point_address worked base q) ≡ Some (row_of s)) q state kept (found q));
+  last_byte = λ e. inl (of_state (λ s. find_row rows ranges (down (return_address worked base q) 1) ≡ Some (row_of s)) q state kept (found_last q e));
 }
 
 -- and the walk gives the frames
-pub walks : UnwindingLaw → WalkLaw → WalksWorked
-walks law walk = record {
-  program = worked.program;
+pub walks : WalkLaw → WalksWorked
+walks walk = record {
+  program = program;
   in_text = in_text;
   placed = placed;
-  accepted = worked.accepted;
-  tells = tells law;
-  walks = walk framed base rows ranges worked.program in_text placed worked.accepted (tells law) (At after_push) run.runs;
+  accepted = accepted;
+  tells = tells;
+  walks = walk worked base rows ranges program in_text placed accepted tells (At after_push) runs;
 }

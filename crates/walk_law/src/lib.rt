@@ -4,9 +4,9 @@
 ghost use Rattle.table_defs.specs.Laws.{RangesArePlacement, WalkLaw};
 ghost use Rattle.walk_law.specs.Worked.{StraysWorked, WalksWorked};
 
-use walk_defs::walk_is_determined;
 use stack_state::laws::move_is_consistent;
 use unwinding_law::unwinding_law;
+use walk_defs::walk_is_determined;
 
 /// Where a table places each text section of a program at its base, the machine has a placement: each
 /// section lies in memory, and no two share an address.
@@ -25,12 +25,11 @@ pub fn walk_law()
     ranges_are_placement();
 }
 
-/// A function with a frame pointer meets every premise of the law with the rows of its states, and the
-/// walk from after its push gives its one frame.
+/// A program with a hint, a gate, a call, a tail call, a fixup, a jump table and an alternatives site meets
+/// every premise of the law with the rows of its states, and the walk from after a push gives the one frame.
 pub fn walks_worked()
     ensures { WalksWorked }
 {
-    unwinding_law();
     walk_law();
 }
 

@@ -1,4 +1,4 @@
-use Rattle.rows_law.proofs.KeptPoints as points
+use Rattle.unwinding_law.proofs.KeptPoints as points
 use Rattle.rows_law.proofs.kept_are_points.Goals as goal
 
 pub returns : goal.returns

@@ -1,23 +1,22 @@
 use Rattle.std.proofs.Common.{refl}
-use Rattle.state_defs.specs.State.{initial}
 use Rattle.machine_defs.specs.Machine.{At}
-use Rattle.checker_defs.specs.Kept.{state_at}
-use Rattle.machine_defs.specs.Worked.{at_entry}
-use Rattle.rows_law.specs.Worked.{patched, bases, ranges}
-use Rattle.rows_law.proofs.WorkedProgram as worked
-use Rattle.rows_law.proofs.WorkedLaid as laid
+use Rattle.unwinding_law.specs.Worked.{worked, state_of, base, after_push}
+use Rattle.unwinding_law.proofs.WorkedProgram.{program}
+use Rattle.unwinding_law.proofs.WorkedStates.{accepted}
+use Rattle.unwinding_law.proofs.WorkedRun.{runs}
+use Rattle.walk_law.specs.Worked.{ranges}
+use Rattle.walk_law.proofs.WorkedProgram.{placed}
+use Rattle.rows_law.proofs.WorkedLaid.{laid_out, enters, states}
 use Rattle.rows_law.proofs.tells_worked.Goals as goal
 
 pub returns : goal.returns
 returns c = record {
-  program = worked.program;
-  laid_out = laid.laid_out;
-  enters = laid.enters;
-  placed_by = laid.placed_by;
-  accepted = worked.accepted;
-  states = worked.states;
-  visited = laid.visited;
+  program = program;
+  laid_out = laid_out;
+  enters = enters;
+  placed_by = placed;
+  accepted = accepted;
+  states = states;
   rows = refl;
-  tells = c.rows_tell.ensures patched bases ranges (state_at patched 0) worked.program laid.laid_out laid.enters laid.placed_by worked.accepted worked.states 0 initial laid.visited (0, refl);
-  unwinds = c.rows_unwind.ensures patched bases ranges (state_at patched 0) worked.program laid.laid_out laid.enters laid.placed_by worked.accepted worked.states (At at_entry) laid.run;
+  unwinds = c.rows_unwind.ensures worked base ranges state_of program laid_out enters placed accepted states (At after_push) runs;
 }

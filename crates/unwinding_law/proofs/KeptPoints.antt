@@ -8,27 +8,27 @@ use Rattle.state_defs.specs.declared.state.HintState.{HintState}
 use Rattle.state_defs.specs.State.{initial}
 use Rattle.state_defs.specs.Order.{least}
 use Rattle.program_defs.specs.Program.{Program, IsPoint, entry_points, below}
-use Rattle.checker_defs.specs.Kept.{can_go, brought_from, brought, is_entry_point, first_state, later_state, kept_or, state_at}
+use Rattle.checker_defs.specs.Kept.{can_go, brought_from, brought, is_entry_point, first_state, later_state, kept_or, state_at, Kept}
 use Rattle.program_defs.specs.IsProgram.{IsProgram, HintsStandAtPoints}
 use Rattle.unwinding_law.proofs.Lists.{nowhere, find_one, from_filter, from_flat_map, from_below}
 use Rattle.unwinding_law.proofs.KeptStates.{least_member, unless_unchecked, brings_edge}
-use Rattle.rows_law.specs.Laws.{KeptArePoints}
 
-module _ (p : Program) (is : IsProgram p) (hints : HintsStandAtPoints p) where
+module _ (p : Program) (is : IsProgram p) where
   -- control comes to points
-  entry_is_point : (q : ℕ) → is_entry_point p q ≡ true → IsPoint p q
+  pub entry_is_point : (q : ℕ) → is_entry_point p q ≡ true → IsPoint p q
   entry_is_point q h =
       let entry = find_one (λ entry. list_any (λ x. x == q) (entry_points p entry)) p.entries h in
       let x = find_one (λ x. x == q) (entry_points p entry.0) entry.2 in
       subst (λ (z : ℕ). IsPoint p z) (eqb-true x.0 q x.2) (is.arrivals (p.place entry.0) x.0 x.1)
 
+module _ (p : Program) (is : IsProgram p) (hints : HintsStandAtPoints p) where
   -- what has a state at level 0 is a point
   first_is_point : (q : ℕ) (s : State) (h : Option HintState) → p.hint q ≡ h → first_state p q h ≡ Some s → IsPoint p q
   first_is_point q s (Some hint) h e = hints q hint h
   first_is_point q s None h e = go (is_entry_point p q) refl e
     where
       go : (b : Bool) → is_entry_point p q ≡ b → (if b then Some initial else None) ≡ Some s → IsPoint p q
-      go true k e = entry_is_point q k
+      go true k e = entry_is_point p is q k
       go false k e = absurd (let z : ⊥ = cc in z)
 
   -- what a state is brought to is a point
@@ -59,5 +59,5 @@ module _ (p : Program) (is : IsProgram p) (hints : HintsStandAtPoints p) where
       go (Some t) k e f = f t k
 
 -- only points are kept
-pub kept_are_points : KeptArePoints
+pub kept_are_points : (p : Program) → IsProgram p → HintsStandAtPoints p → (q : ℕ) (s : State) → Kept p q s → IsPoint p q
 kept_are_points p is hints q s (level, e) = level_is_point p is hints level q s e
