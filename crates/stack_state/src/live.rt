@@ -4,8 +4,10 @@ ghost use Rattle.std.specs.Prelude.{◌≡◌, pos};
 ghost use Rattle.state_defs.specs.Move.{floor_of, raise, pop_at, push_bp, pop_bp, align, rsp_from_bp, bp_from_rsp, store_bp, load_bp, leave, lose_bp, where_allowed, move_live};
 
 use crate::numbers::{in_range, is_same, minus, number_of, plus, to, to_live};
-use ot_base::rules::{BP_NOT_SAVED, EXIT_NOT_ALLOWED, SAVED_SLOT_DROPPED, STACK_POINTER_LOST, UNSUPPORTED_SP_WRITE};
 use operation_defs::Op;
+use ot_base::rules::{
+    BP_NOT_SAVED, EXIT_NOT_ALLOWED, SAVED_SLOT_DROPPED, STACK_POINTER_LOST, UNSUPPORTED_SP_WRITE,
+};
 use state_defs::{BpHome, Depth, State};
 
 /// Where the return address stands: this many bytes below the frame's top.

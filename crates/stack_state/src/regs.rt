@@ -4,8 +4,10 @@ ghost use Rattle.std.specs.Prelude.{◌≡◌};
 ghost use Rattle.state_defs.specs.Move.{raise_regs, pop_bp_regs, lose_bp_regs, move_regs};
 
 use crate::numbers::{minus, plus, to_regs};
-use ot_base::rules::{BP_NOT_SAVED, EXIT_NOT_ALLOWED, SAVED_SLOT_DROPPED, STACK_POINTER_LOST, UNSUPPORTED_SP_WRITE};
 use operation_defs::Op;
+use ot_base::rules::{
+    BP_NOT_SAVED, EXIT_NOT_ALLOWED, SAVED_SLOT_DROPPED, STACK_POINTER_LOST, UNSUPPORTED_SP_WRITE,
+};
 use state_defs::State;
 
 /// The lowest depth of a whole pt_regs: its bp, at 32, is the last that may be popped.
