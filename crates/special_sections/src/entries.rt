@@ -46,8 +46,7 @@ pub struct HintEntry {
     pub sp_offset: i16,
     /// The number of the base register.
     pub sp_reg: u8,
-    /// The hint's type: 0 UNDEFINED, 1 END_OF_STACK, 2 CALL, 3 REGS, 4 REGS_PARTIAL, 5 FUNC, 6 SAVE and
-    /// 7 RESTORE.
+    /// The hint's type, of [`crate::hint_type`].
     pub kind: u8,
     /// Whether the signal byte isn't 0.
     pub signal: bool,

@@ -9,6 +9,7 @@ ghost use Rattle.special_sections.specs.Tables.{table_count};
 
 use crate::entries::HintEntry;
 use crate::fault::{SpecialFault, Why};
+use crate::hint_type::{CALL, FUNC, REGS, REGS_PARTIAL, RESTORE};
 use crate::read::is_named;
 use crate::section::EntrySection;
 use elf_objects::Object;
@@ -21,21 +22,6 @@ const NAME: &[u8] = b".discard.unwind_hints";
 
 /// Bytes of an entry.
 const SIZE: usize = 12;
-
-/// The hint's type CALL: a call frame, whose top is above rsp.
-const CALL: u8 = 2;
-
-/// REGS: all saved registers are on the stack.
-const REGS: u8 = 3;
-
-/// REGS_PARTIAL: some of them are.
-const REGS_PARTIAL: u8 = 4;
-
-/// FUNC: as at a function's entry.
-const FUNC: u8 = 5;
-
-/// RESTORE, the last type.
-const RESTORE: u8 = 7;
 
 /// The number of rsp as a base.
 const SP: u8 = 5;

@@ -9,6 +9,7 @@ mod entries;
 mod fault;
 mod fields;
 mod format;
+pub mod hint_type;
 mod hints;
 mod lists;
 mod read;

@@ -1,0 +1,2 @@
+pub mod HintStates
+pub mod Places

@@ -1,0 +1,19 @@
+-- Hints in the order of their places.
+use Rattle.std.specs.Prelude.{◌≡◌, ◌<◌, ◌≤◌, ℕ, Bool, false, List, length, slice_index_or}
+use Rattle.std.specs.Ordering.{is_lt}
+use Rattle.ot_base.specs.declared.place.Place.{Place}
+use Rattle.special_sections.specs.declared.entries.HintEntry.{HintEntry}
+use Rattle.special_sections.specs.HintPlaces.{place_cmp}
+use Rattle.unwind_hints.specs.HintStates.{first_hint_at}
+
+-- a place is before another: in an earlier section, or in the same one at a lower offset
+abbrev pub is_before : Place → Place → Bool
+is_before p q = is_lt (place_cmp p q)
+
+-- no hint is before one that stands in front of it
+abbrev pub AreByPlace : List HintEntry → Type 0
+AreByPlace hints = (i j : ℕ) (d : HintEntry) → i ≤ j → j < length hints → is_before (slice_index_or hints j d).place (slice_index_or hints i d).place ≡ false
+
+-- the same hints come first at each place
+pub record HaveSameFirst (hints sorted : List HintEntry) : Type 0 where
+  pub same : (place : Place) → first_hint_at sorted place ≡ first_hint_at hints place
