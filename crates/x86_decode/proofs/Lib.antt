@@ -9,3 +9,4 @@ pub mod Parsed
 pub mod Fronts
 pub mod Decided
 pub mod Exact
+pub mod NoNext

@@ -2,7 +2,7 @@
 //! (Intel SDM, volume 2).
 #![tactic(auto)]
 
-ghost use Rattle.std.specs.Prelude.{◌≡◌, ◌<◌, ◌≤◌, ◌↔◌, ℕ, length, IfOk};
+ghost use Rattle.std.specs.Prelude.{◌≡◌, ◌≢◌, ◌<◌, ◌≤◌, ◌↔◌, ℕ, length, IfOk};
 ghost use Rattle.x86_decode.specs.MapLaw.{MapIsExact};
 ghost use Rattle.x86_decode.specs.Decoding.{StandsInFront, EndsOutside, IsCut, IsTooLong, OneOutcome, OneSpelling, decoded};
 
@@ -39,6 +39,8 @@ pub fn decode(bytes: &[u8]) -> Result<Insn, DecodeFault>
     // An instruction has 1 to 15 bytes, all of them among the bytes given.
     ensures within { IfOk result (λ insn.
         (0 < insn.len) × (insn.len ≤ 15) × (insn.len ≤ length bytes.now)) }
+    // An IRET is told as one that returns; whether it goes on behind itself is nothing that its bytes say.
+    ensures no_next { IfOk result (λ insn. insn.op ≢ Op.IretNext) }
 {
     decode_front(bytes)
 }

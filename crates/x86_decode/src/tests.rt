@@ -2,6 +2,7 @@ use super::*;
 use std::process::Abort;
 
 mod lengths;
+mod rows;
 
 fn expect(rt: &impl Abort, bytes: &[u8], len: u8, op: Op) {
     assert_eq!(rt; decode(bytes), Ok(Insn { len, op }));
