@@ -57,8 +57,7 @@ pub record IsLaidOut (p : Program) : Type 0 where
   pub plain : (q : ℕ) → IsPoint p q → p.variant q ≡ 0 → p.address q ≡ p.place q
   pub replaced : (q : ℕ) → IsPoint p q → p.variant q ≢ 0 → (site : Site) × Contains p.sites site × (in_site site (p.address q) ≡ true)
   pub in_sites : (q : ℕ) (site : Site) → IsPoint p q → Contains p.sites site → in_site site (p.address q) ≡ true → (p.address q).off + (p.insn q).len ≤ site.start.off + site.len
-  -- a site isn't empty, begins with a plain point, and shares no byte with another
-  pub site_lengths : (site : Site) → Contains p.sites site → 1 ≤ site.len
+  -- a site begins with a plain point, and shares no byte with another
   pub site_starts : (site : Site) → Contains p.sites site → (q : ℕ) × IsPoint p q × (p.variant q ≡ 0) × (p.place q ≡ site.start)
   pub sites_apart : (one other : Site) (place : Place) → Contains p.sites one → Contains p.sites other → in_site one place ≡ true → in_site other place ≡ true → one ≡ other
   -- points of one variant are told apart by their addresses, and share no byte

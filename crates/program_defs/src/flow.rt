@@ -1,12 +1,13 @@
 /// How control goes from one point to another without a call or a return.
 ///
-/// A target that is bad, or that lies inside an alternatives site (`Marks`), has no edge. Arriving at a
-/// site's start means one edge to the first instruction of its code and of each of its replacements.
+/// A target that is bad, or that lies inside an alternatives site (`Marks`), has no edge, and neither has a
+/// point of an unchecked function. Arriving at a site's start means one edge to the first instruction of its
+/// code and of each of its replacements.
 #[derive(Clone, Copy, Debug, PartialEq, Eq, PartialOrd, Ord)]
 pub enum EdgeKind {
     /// To what follows the point, behind which execution goes on: from every instruction but an
-    /// unconditional or indirect jump, a return, a far branch or system call, a return from an interrupt,
-    /// and a dead end. Calls have one too, to where they return, and so has a conditional jump to
+    /// unconditional or indirect jump, a return, a far branch or system call, a return from an interrupt (but
+    /// `IretNext`), and a dead end. Calls have one too, to where they return, and so has a conditional jump to
     /// `__x86_return_thunk`. The code of a static branch always has one, be it a jump or a dead end. It may
     /// run into another function.
     Next,
@@ -37,8 +38,8 @@ pub struct Edge {
 /// function's symbol.
 #[derive(Clone, Copy, Debug, PartialEq, Eq)]
 pub enum Role {
-    /// Neither a call nor a way out of its function: also a branch or call with a bad target, a call of a
-    /// place that is no entry, and a jump through a recognised jump table.
+    /// Neither a call nor a way out of its function: also a branch or call whose own target is bad, a call of
+    /// a place that is no entry, and a jump through a recognised jump table.
     Plain,
     /// Calls an entry of this object.
     CallIn { entry: u32 },
@@ -71,8 +72,8 @@ pub struct Marks {
     /// have an owner or one of them is unchecked; a static branch or an exception entry also where that is the
     /// start of an unchecked function.
     pub bad: bool,
-    /// It has a next instruction, and that would lie past its section's end. A point without a Next has none,
-    /// nor has a call that can't return.
+    /// Execution goes on behind it (`EdgeKind::Next`), and there its section ends. Behind a call that can't
+    /// return it doesn't go on, as it doesn't behind a jump, a return or a dead end.
     pub past_end: bool,
     /// A target is a boundary inside an alternatives site, past its start, and this isn't an instruction of
     /// that site's original code. A jump that stays in its replacement has no such target.

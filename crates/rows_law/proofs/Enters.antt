@@ -1,4 +1,5 @@
 -- Where control comes into a site, the site's start is kept.
+use Rattle.std.proofs.lemmas.Option.{none-some}
 use Rattle.std.proofs.Common.{◌≡◌, ℕ, true, false, Option, Some, None, Contains, refl, sym, ap, ◌∙◌, inl, inr}
 use Rattle.program_defs.specs.declared.flow.EdgeKind.{EdgeKind}
 use Rattle.program_defs.specs.declared.flow.EdgeKind.TheVariants.{Fixup, Sibling}
@@ -13,7 +14,7 @@ use Rattle.program_defs.specs.IsProgram.{IsProgram}
 use Rattle.table_defs.specs.Enters.{IsSiteStart, EntersSites}
 use Rattle.unwinding_law.proofs.KeptStates.{set_kept, entry_kept}
 use Rattle.unwinding_law.proofs.Edges.{edge_in, local_checked, fixup_checked, moves, local_kept, fixup_kept}
-use Rattle.rows_law.proofs.Lists.{none_some, some_or_none}
+use Rattle.rows_law.proofs.Lists.{some_or_none}
 use Rattle.rows_law.proofs.InForce.{HasKeptStart}
 
 -- the start of each site that the point lies in is kept
@@ -27,7 +28,7 @@ IsKept p q = (s : State) × Kept p q s
 module _ (p : Program) (is : IsProgram p) (acc : IsAccepted p) (states : ℕ → Option State) (kept : AreKeptStates p states) where
   -- what isn't among the kept states isn't kept
   not_kept : (q : ℕ) → states q ≡ None → NotKept p q
-  not_kept q e level = elim (some_or_none (state_at p level q)) [ inl none ↦ none | inr some ↦ none_some (sym e ∙ (kept q some.0).1 (level, some.1)) ]
+  not_kept q e level = elim (some_or_none (state_at p level q)) [ inl none ↦ none | inr some ↦ absurd (none-some _ (sym e ∙ (kept q some.0).1 (level, some.1))) ]
 
   -- a RESTORE is kept where a warning would tell that it isn't
   restore_kept : (q : ℕ) → (NotKept p q → ⊥) → IsKept p q

@@ -5,7 +5,7 @@ use Rattle.std.specs.Ordering.{int_eq}
 use Rattle.std.specs.Bool.{beq}
 use Rattle.std.proofs.Math.IntN.{ℤ_discrete}
 use Rattle.std.proofs.Math.Decide.{ℕ_discrete}
-use Rattle.std.proofs.lemmas.Bool.{eq-eqb, eqb-true, lt-ltb, ltb-true}
+use Rattle.std.proofs.lemmas.Bool.{and_parts, eq-eqb, eqb-true, lt-ltb, ltb-true}
 use Rattle.std.proofs.lemmas.Bool.Decides.{nat_tests, Decides-int_eq}
 use Rattle.ot_base.specs.declared.place.Place.{Place}
 use Rattle.ot_base.specs.Rows.{same_row}
@@ -16,15 +16,6 @@ use Rattle.state_defs.specs.declared.state.State.TheVariants.{Live, Ended, Regs}
 use Rattle.state_defs.specs.Row.{zero_row, row_of}
 use Rattle.program_defs.specs.Program.{Site, same_place, in_site}
 use Rattle.unwinding_law.proofs.Same.{same_bool}
-
--- both parts of a test that passes pass
-pub both : {a b : Bool} → (a && b) ≡ true → (a ≡ true) × (b ≡ true)
-both {a} {b} h = go a b h
-  where
-    go : (a b : Bool) → (a && b) ≡ true → (a ≡ true) × (b ≡ true)
-    go true true h = (refl, refl)
-    go true false h = absurd (let k : ⊥ = cc in k)
-    go false b h = absurd (let k : ⊥ = cc in k)
 
 -- two flags that compare as equal are
 same_flag : (a b : Bool) → beq a b ≡ true → a ≡ b
@@ -49,11 +40,11 @@ equal_rows a b e f g h i j = let k : made a.sp_offset a.bp_offset a.sp_reg a.bp_
 -- rows that compare as equal are
 pub same_row_is : (a b : Row) → same_row a b ≡ true → a ≡ b
 same_row_is a b h =
-    let one = both {a = int_eq a.sp_offset b.sp_offset} h in
-    let two = both {a = int_eq a.bp_offset b.bp_offset} one.1 in
-    let three = both {a = a.sp_reg == b.sp_reg} two.1 in
-    let four = both {a = a.bp_reg == b.bp_reg} three.1 in
-    let five = both {a = a.kind == b.kind} four.1 in
+    let one = and_parts (int_eq a.sp_offset b.sp_offset) _ h in
+    let two = and_parts (int_eq a.bp_offset b.bp_offset) _ one.1 in
+    let three = and_parts (a.sp_reg == b.sp_reg) _ two.1 in
+    let four = and_parts (a.bp_reg == b.bp_reg) _ three.1 in
+    let five = and_parts (a.kind == b.kind) _ four.1 in
     equal_rows a b ((Decides-int_eq a.sp_offset b.sp_offset).0 one.0) ((Decides-int_eq a.bp_offset b.bp_offset).0 two.0) (eqb-true a.sp_reg b.sp_reg three.0) (eqb-true a.bp_reg b.bp_reg four.0) (eqb-true a.kind b.kind five.0) (same_flag a.signal b.signal five.1)
 
 -- what is decided, and not false, holds
@@ -95,7 +86,7 @@ equal_places a b e f = let k : spot a.sec a.off ≡ spot b.sec b.off = cc in sym
 
 -- places that compare as equal are
 pub same_place_is : (a b : Place) → same_place a b ≡ true → a ≡ b
-same_place_is a b h = let k = both {a = a.sec == b.sec} h in equal_places a b (eqb-true a.sec b.sec k.0) (eqb-true a.off b.off k.1)
+same_place_is a b h = let k = and_parts (a.sec == b.sec) _ h in equal_places a b (eqb-true a.sec b.sec k.0) (eqb-true a.off b.off k.1)
 
 -- equal places compare as equal
 pub is_same_place : (a b : Place) → a ≡ b → same_place a b ≡ true
@@ -114,8 +105,8 @@ low_is x y h = grind (arith, nat_tests)
 -- what the test says
 pub inside_is : (site : Site) (place : Place) → in_site site place ≡ true → IsInside site place
 inside_is site place h =
-    let one = both {a = site.start.sec == place.sec} h in
-    let two = both {a = leb site.start.off place.off} one.1 in
+    let one = and_parts (site.start.sec == place.sec) _ h in
+    let two = and_parts (leb site.start.off place.off) _ one.1 in
     record { sec = eqb-true site.start.sec place.sec one.0; low = low_is site.start.off place.off two.0; high = ltb-true place.off (site.start.off + site.len) two.1 }
 
 -- and the other way round

@@ -1,4 +1,5 @@
 -- The row in force at the address of a kept point, and at the last byte of a call, is that of its state.
+use Rattle.std.proofs.lemmas.Bool.{and_parts}
 use Rattle.std.proofs.Common.{◌≡◌, ◌≢◌, ℕ, ◌+◌, ◌-◌, ◌<◌, ◌≤◌, ◌⊎◌, Bool, true, false, ◌&&◌, Option, Some, Contains, leb, refl, sym, ap, ◌∙◌, subst, inl, inr, le-leb, arith}
 use Rattle.std.specs.Prelude.{is_some}
 use Rattle.ot_base.specs.declared.place.Place.{Place}
@@ -9,7 +10,7 @@ use Rattle.checker_defs.specs.Kept.{Kept, AreKeptStates}
 use Rattle.checker_defs.specs.Broken.{IsAccepted, KeptInSite, IsInForce, call_disagrees}
 use Rattle.checker_defs.specs.Rows.{place_in, row_at}
 use Rattle.program_defs.specs.IsProgram.{IsLaidOut}
-use Rattle.rows_law.proofs.Equal.{both, row_stable, equal_places, IsInside, inside_is, is_inside, low_is}
+use Rattle.rows_law.proofs.Equal.{row_stable, equal_places, IsInside, inside_is, is_inside, low_is}
 use Rattle.rows_law.proofs.RowAt.{IsOutside, outside_plain, row_outside, none_outside, row_inside, none_inside, in_kept, some_kept, kept_some}
 use Rattle.rows_law.proofs.LastPoint.{IsLastBelow, last_of_some}
 use Rattle.rows_law.proofs.Sections.{IsInForceAt}
@@ -107,8 +108,8 @@ module _ (p : Program) (laid : IsLaidOut p) (states : ℕ → Option State) (kep
       begins_is : (r : ℕ) → begins_there r ≡ true → (is_some (states r) ≡ true) × (in_site site (p.address r) ≡ true) × ((p.address r).off ≤ at)
       unfolding begins_there
       begins_is r h =
-          let a = both {a = is_some (states r)} h in
-          let b = both {a = in_site site (p.address r)} a.1 in
+          let a = and_parts (is_some (states r)) _ h in
+          let b = and_parts (in_site site (p.address r)) _ a.1 in
           (a.0, b.0, low_is (p.address r).off at b.1)
 
       -- at the call's last byte the row in force is the call's, or rule 12 would warn

@@ -8,10 +8,6 @@ use Rattle.unwinding_law.proofs.Lists.{here, there, cases, nowhere}
 pub some_is : {X : Type 0} {x y : X} → Some x ≡ Some y → x ≡ y
 some_is e = cc
 
--- nothing is not something
-pub none_some : {X P : Type 0} {x : X} → None ≡ Some x → P
-none_some e = absurd (let k : ⊥ = cc in k)
-
 -- there is nothing or something
 pub some_or_none : {X : Type 0} (o : Option X) → (o ≡ None) ⊎ ((x : X) × (o ≡ Some x))
 some_or_none None = inl refl

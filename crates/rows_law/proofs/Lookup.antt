@@ -1,4 +1,5 @@
 -- The look-up of a row, whatever the order of the table.
+use Rattle.std.proofs.lemmas.Option.{none-some}
 use Rattle.std.proofs.Common.{◌≡◌, ◌≢◌, ℕ, ◌+◌, ◌*◌, ◌<◌, ◌≤◌, ◌⊎◌, true, false, cond, not, ◌&&◌, ◌||◌, List, ◌∷◌, Option, Some, None, Contains, eqb, ltb, leb, refl, sym, ap, ◌∙◌, subst, inl, inr, arith}
 use Rattle.std.specs.Prelude.{option_map}
 use Rattle.std.proofs.lemmas.Bool.{ltb-true, le-leb}
@@ -14,7 +15,7 @@ use Rattle.walk_defs.specs.Lookup.{AddressedRow, addressed_row, addressed, at_or
 use Rattle.walk_defs.specs.Laws.{FoundIsLast, NoneFoundIsNone}
 use Rattle.unwinding_law.proofs.Lists.{here, cases, nowhere, in_filter, from_filter}
 use Rattle.rows_law.proofs.Equal.{low_is}
-use Rattle.rows_law.proofs.Lists.{some_is, none_some, some_or_none, in_filter_map, from_filter_map}
+use Rattle.rows_law.proofs.Lists.{some_is, some_or_none, in_filter_map, from_filter_map}
 
 -- a row at an address
 abbrev pub at_address : ℕ → Row → AddressedRow
@@ -70,7 +71,7 @@ module _ (rows : List PlacedRow) (ranges : List Range) (address : ℕ) where
 
   -- what a row with an address is
   addressed_is : (x : PlacedRow) (o : Option ℕ) (a : AddressedRow) → address_of ranges x.place ≡ o → option_map (λ (n : ℕ). at_address n x.row) o ≡ Some a → (address_of ranges x.place ≡ Some a.address) × (x.row ≡ a.row)
-  addressed_is x None a e h = none_some h
+  addressed_is x None a e h = absurd (none-some _ h)
   addressed_is x (Some n) a e h = let k = some_is h in (e ∙ ap (λ (z : AddressedRow). Some z.address) k, ap (λ (z : AddressedRow). z.row) k)
 
   -- each that the look-up sees is a row that lies there

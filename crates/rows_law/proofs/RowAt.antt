@@ -1,7 +1,7 @@
 -- The row that begins at the place of a kept point is that of its state.
 use Rattle.std.proofs.Common.{◌≡◌, ◌≢◌, ℕ, ◌⊎◌, Bool, true, false, ◌&&◌, Option, Some, None, Contains, refl, sym, ap, ◌∙◌, subst, inl, inr, arith}
 use Rattle.std.specs.Prelude.{◌==◌, if◌then◌else◌, option_map, option_and_then, is_some}
-use Rattle.std.proofs.lemmas.Bool.{eq-eqb, eqb-true}
+use Rattle.std.proofs.lemmas.Bool.{and_parts, eq-eqb, eqb-true}
 use Rattle.ot_base.specs.declared.place.Place.{Place}
 use Rattle.state_defs.specs.declared.state.State.{State}
 use Rattle.state_defs.specs.Row.{zero_row, row_of}
@@ -12,7 +12,7 @@ use Rattle.checker_defs.specs.Rows.{row_or_zero, plain_at, site_at, kept_at, row
 use Rattle.program_defs.specs.IsProgram.{IsLaidOut}
 use Rattle.unwinding_law.proofs.Lists.{in_below, from_below}
 use Rattle.rows_law.proofs.Lists.{some_or_none, finds, finds_one, finds_none}
-use Rattle.rows_law.proofs.Equal.{both, row_stable, same_place_is, is_same_place}
+use Rattle.rows_law.proofs.Equal.{row_stable, same_place_is, is_same_place}
 
 -- the place lies in no site
 abbrev pub IsOutside : Program → Place → Type 0
@@ -42,7 +42,7 @@ module _ (p : Program) (laid : IsLaidOut p) where
   plain_found q place point plain at =
       let test : ℕ → Bool = λ q. p.variant q == 0 && same_place (p.place q) place in
       let r = finds_one (λ (q : ℕ). p.variant q == 0 && same_place (p.place q) place) (below p.count) q (in_below p.count q point) (both_true (eq-eqb (p.variant q) 0 plain) (is_same_place (p.place q) place at)) in
-      let k = both {a = p.variant r.0 == 0} r.3 in
+      let k = and_parts (p.variant r.0 == 0) _ r.3 in
       let there : IsPoint p r.0 = from_below p.count r.0 r.2 in
       let plain_there : p.variant r.0 ≡ 0 = eqb-true (p.variant r.0) 0 k.0 in
       let same : p.place r.0 ≡ p.place q = same_place_is (p.place r.0) place k.1 ∙ sym at in
@@ -51,7 +51,7 @@ module _ (p : Program) (laid : IsLaidOut p) where
   -- where no plain point stands none is found
   pub plain_none : (place : Place) → ((q : ℕ) → IsPoint p q → p.variant q ≡ 0 → p.place q ≡ place → ⊥) → plain_at p place ≡ None
   plain_none place f = finds_none (λ (q : ℕ). p.variant q == 0 && same_place (p.place q) place) (below p.count) (λ q c h.
-      let k = both {a = p.variant q == 0} h in
+      let k = and_parts (p.variant q == 0) _ h in
       f q (from_below p.count q c) (eqb-true (p.variant q) 0 k.0) (same_place_is (p.place q) place k.1))
 
   -- what runs outside sites is plain
@@ -112,7 +112,7 @@ module _ (p : Program) (laid : IsLaidOut p) where
       pub row_inside : IsAccepted p → (q : ℕ) (s : State) → IsPoint p q → in_site site (p.address q) ≡ true → Kept p q s → row_at p states (p.address q) ≡ Some (row_of s)
       row_inside acc q s q_point inside k =
           let r = finds_one (λ (r : ℕ). is_some (states r) && same_place (p.address r) (p.address q)) (below p.count) q (in_below p.count q q_point) (both_true (kept_some q s k) (is_same_place (p.address q) (p.address q) refl)) in
-          let h = both {a = is_some (states r.0)} r.3 in
+          let h = and_parts (is_some (states r.0)) _ r.3 in
           let u = some_kept r.0 h.0 in
           let same : p.address r.0 ≡ p.address q = same_place_is (p.address r.0) (p.address q) h.1 in
           let there : in_site site (p.address r.0) ≡ true = subst (λ (z : Place). in_site site z ≡ true) (sym same) inside in
@@ -125,6 +125,6 @@ module _ (p : Program) (laid : IsLaidOut p) where
       none_inside at inside f =
           row_there at inside
           ∙ ap (option_map (row_of_point states)) (finds_none (λ (r : ℕ). is_some (states r) && same_place (p.address r) at) (below p.count) (λ r c h.
-          let k = both {a = is_some (states r)} h in
+          let k = and_parts (is_some (states r)) _ h in
           let u = some_kept r k.0 in
           f r u.0 (from_below p.count r c) u.1 (same_place_is (p.address r) at k.1)))

@@ -1,4 +1,5 @@
 -- The rows of one section, from the row that begins at each of its places.
+use Rattle.std.proofs.lemmas.Option.{none-some}
 use Rattle.std.proofs.Common.{◌≡◌, ℕ, ◌<◌, ◌≤◌, ◌⊎◌, List, [], ◌∷◌, Option, Some, None, Contains, refl, sym, ap, ◌∙◌, subst, inl, inr, arith}
 use Rattle.std.specs.Prelude.{filter_map, option_map}
 use Rattle.std.proofs.lemmas.List.Elements.{Contains-append_left, Contains-append_right, Contains-append_cases}
@@ -9,7 +10,7 @@ use Rattle.state_defs.specs.Row.{zero_row}
 use Rattle.program_defs.specs.Program.{TextSection, below}
 use Rattle.checker_defs.specs.Rows.{placed, place_in, without_repeats, with_end}
 use Rattle.unwinding_law.proofs.Lists.{here, cases, nowhere, in_below, from_below}
-use Rattle.rows_law.proofs.Lists.{some_is, none_some, in_filter_map, from_filter_map}
+use Rattle.rows_law.proofs.Lists.{some_is, in_filter_map, from_filter_map}
 use Rattle.rows_law.proofs.Compress.{left_in, IsLastUpTo, Rises, rises_below, StaysLast, stays_last}
 
 -- the row that says that nothing is known behind a section
@@ -50,7 +51,7 @@ module _ (row : Place → Option Row) (text : TextSection) where
 
   -- what the row of an offset is
   placed_is : (off : ℕ) (o : Option Row) (x : PlacedRow) → option_map (placed (place_in text off)) o ≡ Some x → (x.place ≡ place_in text off) × (o ≡ Some x.row)
-  placed_is off None x e = none_some e
+  placed_is off None x e = absurd (none-some _ e)
   placed_is off (Some r) x e = let k = some_is e in (sym (ap (λ (z : PlacedRow). z.place) k), ap (λ (z : PlacedRow). Some z.row) k)
 
   -- what a row of the section is
@@ -101,7 +102,7 @@ module _ (row : Place → Option Row) (text : TextSection) where
     where
       go : (y : PlacedRow) → IsRowIn y → y.place.off ≤ at → (y.place.off < h.from) ⊎ ((h.from < y.place.off) ⊎ (h.from ≡ y.place.off)) → (y.place.off < h.from) ⊎ (y ≡ placed (place_in text h.from) r)
       go y k l (inl m) = inl m
-      go y k l (inr (inl m)) = none_some (sym (h.none y.place.off m l) ∙ k.row_is)
+      go y k l (inr (inl m)) = absurd (none-some _ (sym (h.none y.place.off m l) ∙ k.row_is))
       go y k l (inr (inr e)) = inr (same_placed y (place_in text h.from) r (k.place ∙ ap (place_in text) (sym e)) (some_is (sym k.row_is ∙ (ap (λ (n : ℕ). row (place_in text n)) (sym e) ∙ h.begins))))
 
   -- the last row of the section at or below an offset has the contents of the row in force there

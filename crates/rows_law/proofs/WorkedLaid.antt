@@ -2,7 +2,7 @@
 use Rattle.std.proofs.Common.{◌≡◌, ◌≢◌, ℕ, zero, suc, ◌+◌, ◌<◌, ◌≤◌, Bool, true, false, ◌&&◌, if◌then◌else◌, List, [], ◌∷◌, Some, Contains, All, slice_index_or, nat_le, nat_lt, refl, sym, ap, ◌∙◌, subst, inl, inr, arith, lit<, lit≤, leb-true}
 use Rattle.std.specs.Prelude.{◌==◌}
 use Rattle.std.specs.List.{list_all}
-use Rattle.std.proofs.lemmas.Bool.{eq-eqb, eqb-true, lt-ltb}
+use Rattle.std.proofs.lemmas.Bool.{and_parts, eq-eqb, eqb-true, lt-ltb}
 use Rattle.ot_base.specs.declared.place.Place.{Place}
 use Rattle.program_defs.specs.declared.flow.Edge.{Edge}
 use Rattle.program_defs.specs.declared.flow.EdgeKind.TheVariants.{Next, Table, Fixup, Sibling}
@@ -21,15 +21,7 @@ use Rattle.walk_law.proofs.WorkedProgram.{in_text}
 -- a test that all numbers below one pass
 passes : (test : ℕ → Bool) (xs : List ℕ) → list_all test xs ≡ true → (q : ℕ) → Contains xs q → test q ≡ true
 passes test [] h q c = nowhere q c
-passes test (x ∷ xs) h q c = elim (cases x xs q c) [ inl e ↦ subst (λ (z : ℕ). test z ≡ true) e (first (test x) (list_all test xs) h) | inr d ↦ passes test xs (rest (test x) (list_all test xs) h) q d ]
-  where
-    first : (a b : Bool) → (a && b) ≡ true → a ≡ true
-    first true b e = refl
-    first false b e = e
-
-    rest : (a b : Bool) → (a && b) ≡ true → b ≡ true
-    rest true b e = e
-    rest false b e = absurd (let k : ⊥ = cc in k)
+passes test (x ∷ xs) h q c = elim (cases x xs q c) [ inl e ↦ subst (λ (z : ℕ). test z ≡ true) e (and_parts (test x) (list_all test xs) h).0 | inr d ↦ passes test xs (and_parts (test x) (list_all test xs) h).1 q d ]
 
 -- two instructions of one variant and section share no byte, and are one where they begin at one place
 abbrev shares_none : ℕ → ℕ → Bool
@@ -81,7 +73,6 @@ laid_out = record {
   plain = λ q point e. plain q e;
   replaced = λ q point n. (site, here site [], replaced q n);
   in_sites = λ q s point c inside. subst (λ (x : Site). (worked.address q).off + (worked.insn q).len ≤ x.start.off + x.len) (sym (only_site s c)) (stays q (subst (λ (x : Site). in_site x (worked.address q) ≡ true) (only_site s c) inside));
-  site_lengths = λ s c. subst (λ (x : Site). 1 ≤ x.len) (sym (only_site s c)) (lit≤ tt);
   site_starts = λ s c. (0, lit< tt, refl, ap (λ (x : Site). x.start) (sym (only_site s c)));
   sites_apart = λ one other place c d a b. only_site one c ∙ sym (only_site other d);
   apart = λ q r a b e f. apart q r a b e f;

@@ -1,4 +1,5 @@
 -- Straight code breaks no rule.
+use Rattle.std.proofs.lemmas.Option.{none-some}
 use Rattle.std.proofs.Common.{◌≡◌, ℕ, ◌+◌, ◌<◌, ◌≤◌, Bool, true, false, cond, List, Some, None, length, refl, sym, ap, ◌∙◌, arith, pos}
 use Rattle.std.specs.Prelude.{Option, Ok, Err}
 use Rattle.std.proofs.lemmas.Bool.{false≢true, ltb-true, ltb-false}
@@ -26,9 +27,6 @@ use Rattle.straight_law.proofs.Points.{ret_is, straight_at, return_is_last, last
 use Rattle.straight_law.proofs.Edges.{no_jump, only_next, no_other, not_out}
 use Rattle.straight_law.proofs.Fits.{short}
 use Rattle.straight_law.proofs.KeptStates.{kept_is, brings_is}
-
-none_some : {X : Type 0} (x : X) → ◌≡◌ {A = Option X} None (Some x) → ⊥
-none_some x h = cc
 
 no_jump_out : (b : Bool) (sym : ℕ) → cond b Return Plain ≡ JumpOut sym → ⊥
 no_jump_out true sym h = cc
@@ -76,7 +74,7 @@ straight_is_accepted text insns fills place rule a b (bad_target q s k h) = fals
 straight_is_accepted text insns fills place rule a b (falls_through q r s k c ne) = ne refl
 straight_is_accepted text insns fills place rule a b (runs_off q s k h) = false≢true (sym (not_out text insns fills q (returns_at insns q) (goes_further insns q) (kept_is text insns fills q s k).point refl refl) ∙ h)
 straight_is_accepted text insns fills place rule a b (mismatch q r s t u k c l free ne) = ne ((brings_is text insns fills q r s t (kept_is text insns fills q s k).state c).state ∙ sym (kept_is text insns fills r u l).state)
-straight_is_accepted text insns fills place rule a b (modified_return q s k role h) = none_some 5 (sym (returns_well text insns fills q s k role) ∙ h)
+straight_is_accepted text insns fills place rule a b (modified_return q s k role h) = none-some 5 (sym (returns_well text insns fills q s k role) ∙ h)
 straight_is_accepted text insns fills place rule a b (drops_bytes q s k role op h) = no_other (insn_at insns q).op RetImm refl op (straight_at insns fills.straight q (kept_is text insns fills q s k).point)
 straight_is_accepted text insns fills place rule a b (modified_sibling q s k l h) = no_leap text insns fills q l
 straight_is_accepted text insns fills place rule a b (refused q r s k h) =
@@ -84,15 +82,15 @@ straight_is_accepted text insns fills place rule a b (refused q r s k h) =
     not_refused text insns fills q r x.point (goes_further insns q) refl (ap (λ (y : State). move y (insn_at insns q).op) (sym x.state) ∙ h)
 straight_is_accepted text insns fills place rule a b (unfit q s n k h) =
     let x = kept_is text insns fills q s k in
-    none_some n (sym (ap unfit_offset x.state ∙ all_fit (depth_before insns q) (depth_most insns fills.straight q x.point)) ∙ h)
+    none-some n (sym (ap unfit_offset x.state ∙ all_fit (depth_before insns q) (depth_most insns fills.straight q x.point)) ∙ h)
 straight_is_accepted text insns fills place rule a b (variants_disagree site q r s t k l e ne) = nowhere site k.listed
 straight_is_accepted text insns fills place rule a b (call_disagrees site q r s t k op f ne) = nowhere site k.listed
 straight_is_accepted text insns fills place rule a b (into_site q s k h) = false≢true h
-straight_is_accepted text insns fills place rule a b (unallowed_return q s k role h) = none_some 15 (sym (returns_well text insns fills q s k role) ∙ h)
+straight_is_accepted text insns fills place rule a b (unallowed_return q s k role h) = none-some 15 (sym (returns_well text insns fills q s k role) ∙ h)
 straight_is_accepted text insns fills place rule a b (unallowed_sibling q s k l h) = no_leap text insns fills q l
 straight_is_accepted text insns fills place rule a b (unallowed_switch q s k op h) = no_other (insn_at insns q).op Switch refl op (straight_at insns fills.straight q (kept_is text insns fills q s k).point)
 straight_is_accepted text insns fills place rule a b (unallowed_iret q s k op h) = no_other (insn_at insns q).op Iret refl op (straight_at insns fills.straight q (kept_is text insns fills q s k).point)
 straight_is_accepted text insns fills place rule a b (into_function q s k h) = false≢true h
 straight_is_accepted text insns fills place rule a b (without_size at c) = nowhere at c
-straight_is_accepted text insns fills place rule a b (entered_restore q entry h n c d) = none_some Restore h
-straight_is_accepted text insns fills place rule a b (reached_restore q r s e h n k c to) = none_some Restore h
+straight_is_accepted text insns fills place rule a b (entered_restore q entry h n c d) = none-some Restore h
+straight_is_accepted text insns fills place rule a b (reached_restore q r s e h n k c to) = none-some Restore h

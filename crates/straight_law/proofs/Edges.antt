@@ -1,7 +1,7 @@
 -- Where control goes in straight code.
 use Rattle.std.proofs.Common.{◌≡◌, ℕ, zero, suc, ◌+◌, ◌<◌, ◌≤◌, Bool, true, false, cond, ◌&&◌, List, [], ◌∷◌, All, Contains, length, take, map, refl, sym, ap, ◌∙◌, arith, inl, inr}
 use Rattle.std.specs.Prelude.{◌==◌}
-use Rattle.std.proofs.lemmas.Bool.{false≢true, ltb-true, ltb-false, eqb-true}
+use Rattle.std.proofs.lemmas.Bool.{and_parts, false≢true, ltb-true, ltb-false, eqb-true}
 use Rattle.std.proofs.lemmas.List.Elements.{All-head, All-tail}
 use Rattle.std.proofs.lemmas.List.Sums.{sum_by-cons}
 use Rattle.operation_defs.specs.declared.insn.Insn.{Insn}
@@ -40,16 +40,12 @@ offset_grows (x ∷ xs) (suc q) lens h =
     let rest = offset_grows xs q (All-tail (λ (insn : Insn). 1 ≤ insn.len) x xs lens) (omega arith) in
     omega (arith, sum_by-cons (λ (insn : Insn). insn.len) x (take q xs))
 
-both : (a b : Bool) → (a && b) ≡ true → (a ≡ true) × (b ≡ true)
-both true b e = (refl, e)
-both false b e = absurd (false≢true e)
-
 -- an instruction at the section's start is the first
 pub arrives_first : (text : TextSection) (insns : List Insn) (q : ℕ) → All (λ insn. 1 ≤ insn.len) insns → Contains (points_at text insns (place_of text insns 0)) q → (q < length insns) × (q ≡ 0)
 arrives_first text insns q lens c =
     let f = from_filter (λ (r : ℕ). same_place (place_of text insns r) (place_of text insns 0)) (below (length insns)) q c in
     let h : q < length insns = from_below (length insns) q f.0 in
-    let same = both (text.sec == text.sec) (size_of (take q insns) == size_of (take 0 insns)) f.1 in
+    let same = and_parts (text.sec == text.sec) (size_of (take q insns) == size_of (take 0 insns)) f.1 in
     let e : size_of (take q insns) ≡ 0 = eqb-true (size_of (take q insns)) 0 same.1 in
     (h, omega (arith, offset_grows insns q lens (omega arith)))
 

@@ -118,7 +118,6 @@ module _ (text : TextSection) (insns : List Insn) (fills : IsStraightText text i
     plain = λ q h e. refl;
     replaced = λ q h ne. absurd (ne refl);
     in_sites = λ q site h c e. nowhere site c;
-    site_lengths = λ site c. nowhere site c;
     site_starts = λ site c. nowhere site c;
     sites_apart = λ one other place c d e f. nowhere one c;
     apart = λ q r h k v e. same_point q r h k (ap (λ (x : Place). x.off) e);

@@ -3,9 +3,9 @@
 ghost use Rattle.straight_law.specs.Laws.{StraightEndsOutside, StraightIsAccepted, StraightIsKept, StraightIsProgram, StraightRowsAreFound, StraightRowsFit, StraightUnwinds};
 ghost use Rattle.straight_law.specs.Worked.{HasWorkedProgram, HasWorkedRun, HasWorkedTable, HasWorkedWalk};
 
+use unwinding_law::unwinding_law;
 use walk_defs::{one_section_has_one_range, row_is_found_among_others};
 use walk_law::walk_law;
-use unwinding_law::unwinding_law;
 
 /// Straight code unwinds: wherever its section is placed, no run's stack is wrecked, and at each state
 /// of each run the walk over the section's rows gives the frames of the machine and stops where they end.

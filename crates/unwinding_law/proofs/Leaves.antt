@@ -16,7 +16,7 @@ use Rattle.program_defs.specs.MayReturn.{MayReturn}
 use Rattle.program_defs.specs.MayReturn as may
 use Rattle.checker_defs.specs.Kept.{Kept}
 use Rattle.checker_defs.specs.Broken.{LeavesByJump, outside, anywhere, IsAccepted, modified_return, modified_sibling, unallowed_return, unallowed_sibling, unallowed_iret}
-use Rattle.unwinding_law.proofs.Numbers.{int_same_is}
+use Rattle.stack_state.proofs.Consistent.{int_same_is}
 
 initial_is : (s : State) → is_initial s ≡ true → s ≡ initial
 initial_is (Live (Known n) None Same) e = ap (λ (x : ℤ). Live (Known x) None Same) (int_same_is n (pos 8) e)

@@ -20,16 +20,6 @@ up_inside x hi a b = omega arith
 pub up_none : (x : ℕ) → x < 2 ^ 64 → up x 0 ≡ x
 up_none x h = omega arith
 
-both : (a b : Bool) → (a && b) ≡ true → (a ≡ true) × (b ≡ true)
-both true b e = (refl, e)
-both false b e = absurd (let k : ⊥ = cc in k)
-
-pub int_same_is : (x y : ℤ) → int_same x y ≡ true → x ≡ y
-int_same_is (pos a) (pos b) e = let h = both (int_le (pos a) (pos b)) (int_le (pos b) (pos a)) e in let k : a ≡ b = omega (arith, leb-true a b h.0, leb-true b a h.1) in ap pos k
-int_same_is (pos a) (negsuc b) e = absurd (let k : ⊥ = cc in k)
-int_same_is (negsuc a) (pos b) e = absurd (let k : ⊥ = cc in k)
-int_same_is (negsuc a) (negsuc b) e = let h = both (int_le (negsuc a) (negsuc b)) (int_le (negsuc b) (negsuc a)) e in let k : a ≡ b = omega (arith, leb-true b a h.0, leb-true a b h.1) in ap negsuc k
-
 -- a word that is read inside the region is held there
 pub reads_holds : (r : Region) (a w : ℕ) → r.lo ≤ a → a + 8 ≤ hi_of r → Reads r a w → Holds r a w
 reads_holds r a w l h e = go (has_word r a) inside e

@@ -1,6 +1,6 @@
 -- The worked program meets the premises of the walk law.
 use Rattle.std.proofs.Common.{◌≡◌, ℕ, zero, suc, ◌+◌, ◌^◌, ◌<◌, ◌≤◌, Bool, true, false, ◌&&◌, [], ◌∷◌, Some, IfSome, IsTrue, Contains, slice_index_or, nat_le, nat_lt, refl, sym, subst, inl, arith, lit<, lit≤, leb-true}
-use Rattle.std.proofs.lemmas.Bool.{ltb-true}
+use Rattle.std.proofs.lemmas.Bool.{and_parts, ltb-true}
 use Rattle.std.proofs.lemmas.List.Sorted.{IsPermutation-refl}
 use Rattle.state_defs.specs.Address.{down}
 use Rattle.state_defs.specs.Row.{row_of}
@@ -56,17 +56,9 @@ placed = record {
   where
     clash : (address : ℕ) → covers first address ≡ true → covers second address ≡ true → ⊥
     clash address a b =
-        let low : address < 4117 = ltb-true address 4117 (right (nat_le 4096 address) (nat_lt address 4117) a) in
-        let high : 8192 ≤ address = leb-true 8192 address (left (nat_le 8192 address) (nat_lt address 8193) b) in
+        let low : address < 4117 = ltb-true address 4117 (and_parts (nat_le 4096 address) (nat_lt address 4117) a).1 in
+        let high : 8192 ≤ address = leb-true 8192 address (and_parts (nat_le 8192 address) (nat_lt address 8193) b).0 in
         omega arith
-      where
-        left : (x y : Bool) → (x && y) ≡ true → x ≡ true
-        left true y e = refl
-        left false y e = e
-
-        right : (x y : Bool) → (x && y) ≡ true → y ≡ true
-        right true y e = e
-        right false y e = absurd (let k : ⊥ = cc in k)
 
     apart : (i j : ℕ) (d : Range) → i < j → j < 2 → (address : ℕ) → IsTrue (covers (slice_index_or ranges i d) address) → IsTrue (covers (slice_index_or ranges j d) address) → ⊥
     apart zero zero d h k = absurd (omega arith)
