@@ -12,7 +12,7 @@ pub enum EdgeKind {
     /// run into another function.
     Next,
     /// A branch that is taken, or a static branch, to a place of the same owner (an entry or not), or,
-    /// where one of the two places has no owner, to a place that is no entry.
+    /// where one of the two places has no owner, to a checked place that is no entry.
     Taken,
     /// From an instruction that an exception entry names to its fixup, where that is a place as for `Taken`.
     Fixup,
@@ -68,9 +68,9 @@ pub struct Marks {
     /// A target is no place to go. A branch or call is named by a relocation of a type other than PC32 and
     /// PLT32, or on a short branch, or by a symbol that is defined outside the text; it goes to no boundary of
     /// a text section, or without a relocation out of its replacement; or it calls the return thunk. A branch,
-    /// static branch or exception entry leads to a place of another owner that is no entry, where both places
-    /// have an owner or one of them is unchecked; a static branch or an exception entry also where that is the
-    /// start of an unchecked function.
+    /// static branch or exception entry leads to a place of another owner that is neither an entry nor the
+    /// start of an unchecked function, where both places have an owner or one of them is unchecked. A static
+    /// branch or an exception entry leads to no boundary, or to the start of an unchecked function.
     pub bad: bool,
     /// Execution goes on behind it (`EdgeKind::Next`), and there its section ends. Behind a call that can't
     /// return it doesn't go on, as it doesn't behind a jump, a return or a dead end.
