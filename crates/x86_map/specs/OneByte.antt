@@ -1,5 +1,5 @@
--- The one-byte opcodes (SDM, volume 2, table A-2, with the groups of table A-6). In 64-bit mode.
--- Each row: opcodes, operand, immediate, what it writes beside the stack, prefixes.
+-- The one-byte opcodes that the map has, in 64-bit mode (SDM, volume 2, table A-2, with the groups of table A-6).
+-- Each row: opcodes, operand, immediate, which of the named registers it writes, prefixes.
 use Rattle.std.specs.Prelude.{List, [], ◌∷◌}
 use Rattle.x86_map.specs.declared.form.Immediate.TheVariants.{Ib, Iw, IwIb, Iz, Iv, Moffs}
 use Rattle.x86_map.specs.Row.{Row, row, ◌to◌, one_of, none, E, M, E-of, M-of, no_imm, Jb, Jz, nothing, Eb, Ev, Gb, Gv, EGb, EGv, Zb, Zv, any, no_66, no_67, with_REX_B, no_REX_B}

@@ -1,5 +1,5 @@
--- The opcodes behind 0F (SDM, volume 2, table A-3, with the groups of table A-6), but for the vector instructions.
--- Each row: opcodes, operand, immediate, what it writes beside the stack, prefixes.
+-- The opcodes behind 0F that the map has (SDM, volume 2, table A-3, with the groups of table A-6).
+-- Each row: opcodes, operand, immediate, which of the named registers it writes, prefixes.
 use Rattle.std.specs.Prelude.{List, [], ◌∷◌}
 use Rattle.x86_map.specs.declared.form.Immediate.TheVariants.{Ib}
 use Rattle.x86_map.specs.Row.{Row, row, ◌to◌, one_of, none, E, M, R, E-of, M-of, R-of, bytes, no_imm, Jz, nothing, Eb, Ev, Gv, EGb, EGv, Zv, no_66, no_F2_F3, no_66_F2_F3, no_F2, with_F3, with_F3_no_66}

@@ -46,7 +46,7 @@ boundary_stands body code b listing (behind before off insn bd here is inside) =
     let behind_it : LeadsTo off s.back (length body) = subst (λ o. LeadsTo o s.back (length body)) to leads.1.1 in
     let t : StandsAt ((s.front ++ s.p ∷ []) ++ s.back) off = first_stands off (length body) (s.front ++ s.p ∷ []) s.back inside behind_it in
     let same_code : (s.front ++ s.p ∷ []) ++ s.back ≡ code = append_assoc s.front (s.p ∷ []) s.back ∙ sym s.split in
-    record { front = t.front; p = t.p; back = t.back; split = sym same_code ∙ t.split; at = t.at }
+    subst (λ (c : List PlacedInsn). StandsAt c b) same_code t
 
 -- its number among them
 pub listed_at : (body : List ℕ) (code : List PlacedInsn) (b : ℕ) → IsListing body code → IsBoundary body b → (i : ℕ) × ((i < length code) × ((d : PlacedInsn) → (get_or code i d).off ≡ b))
