@@ -135,6 +135,7 @@ impl<'a> Object<'a> {
         requires { i < length self.now.sections }
         ensures value { lent_section (section_at self.now i).name result ≡ section_at self.now i }
         ensures slice { IsSlice self.now.bytes (section_at self.now i) }
+        ensures short { length result.body.now < 2 ^ 32 }
     {
         let headers = &self.symbols.headers;
         let h = headers.get(i);

@@ -62,6 +62,18 @@ home_section i j home.Undefined one two = absurd (false≢true one)
 home_section i j home.Absolute one two = absurd (false≢true one)
 home_section i j home.Common one two = absurd (false≢true one)
 
+-- the symbol that stands for a section is defined there
+home_is : (i : ℕ) (h : Home) → is_home i h ≡ true → h ≡ home.Section i
+home_is i (home.Section n) one = ap home.Section (sym (eqb-true i n one))
+home_is i home.Undefined one = absurd (false≢true one)
+home_is i home.Absolute one = absurd (false≢true one)
+home_is i home.Common one = absurd (false≢true one)
+
+pub symbol_home : (object : Elf) (i k : ℕ) → section_symbol_of object i ≡ Some k → (symbol_at object k).home ≡ home.Section i
+symbol_home object i k h =
+    home_is i (symbol_at object k).home
+    (and_parts _ _ (found_passes (λ n. stands_for i (symbol_at object n)) (length object.symbols) k h)).1
+
 symbol_section : (object : Elf) (i j k : ℕ) → section_symbol_of object i ≡ Some k → section_symbol_of object j ≡ Some k → i ≡ j
 symbol_section object i j k one two =
     home_section i j (symbol_at object k).home

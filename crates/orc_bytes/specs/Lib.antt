@@ -1,4 +1,6 @@
 pub mod RowBytes
 pub mod RelocBytes
 pub mod Sections
+pub mod Faults
+pub mod Parts
 pub mod Laws

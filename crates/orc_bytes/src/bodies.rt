@@ -6,12 +6,9 @@ ghost use Rattle.orc_bytes.specs.Sections.{IsRowOf, row_section, ip_section, rel
 
 use crate::relocs::reloc_bytes;
 use crate::rows::row_bytes;
-use elf_objects::{Object, Reloc};
+use elf_objects::{Object, R_X86_64_PC32, Reloc};
 use ot_base::{NoMemory, PlacedRow};
 use std::alloc::Global;
-
-/// `R_X86_64_PC32` of the x86-64 psABI: symbol plus addend less the place itself, in 32 bits.
-const R_X86_64_PC32: u32 = 2;
 
 /// The bodies of the three ORC sections.
 #[derive(Debug, Drop)]

@@ -2,7 +2,9 @@
 #![tactic(auto)]
 
 mod bodies;
+mod fault;
 mod laws;
+mod reading;
 mod relocs;
 mod rows;
 #[cfg(test)]
@@ -10,5 +12,7 @@ mod tests;
 mod worked;
 
 pub use bodies::{OrcSections, encode};
+pub use fault::{OrcFault, SlotWhy};
 pub use laws::{bodies_are_held, relocs_read_back, rows_are_determined};
+pub use reading::decode;
 pub use worked::{worked_relocs, worked_rows};
