@@ -1,17 +1,18 @@
 -- How many rows lie below an address, and in a block.
-use Rattle.std.proofs.Common.{◌≡◌, ℕ, zero, suc, ◌+◌, ◌*◌, ◌/◌, ◌<◌, ◌≤◌, Bool, cond, List, [], ◌∷◌, refl, sym, ◌∙◌, ap, subst, inl, inr, ltb, eqb, length, get_or, zero-add, arith}
+use Rattle.std.proofs.Common.{◌≡◌, ℕ, zero, suc, ◌+◌, ◌*◌, ◌/◌, ◌<◌, ◌≤◌, Bool, true, false, cond, List, [], ◌∷◌, refl, sym, ◌∙◌, ap, subst, inl, inr, ltb, eqb, length, get_or, zero-add, arith}
 use Rattle.std.specs.Prelude.{count_by}
 use Rattle.std.specs.List.{AllWithin}
 use Rattle.std.specs.List.Sorted.{IsNonDecreasingBy, IsPartitionPoint}
-use Rattle.std.proofs.lemmas.Bool.{cases_lt, lt-ltb, le-ltb}
+use Rattle.std.proofs.lemmas.Bool.{cases_lt, ltb-true, ltb-false, lt-ltb, le-ltb}
 use Rattle.std.proofs.lemmas.Bool.Decides.{nat_tests}
-use Rattle.std.proofs.lemmas.List.Sums.{sum_by-cons}
+use Rattle.std.proofs.lemmas.List.{length-map}
+use Rattle.std.proofs.lemmas.List.Sums.{sum_by-cons, count_by-le-length}
 use Rattle.ot_base.specs.declared.row.Row.{Row}
 use Rattle.walk_defs.specs.Lookup.{AddressedRow}
 use Rattle.orc_table.specs.Rows.{addressed_row, rows_of}
 use Rattle.orc_table.specs.Cost.{block_of, rows_in_block}
 use Rattle.orc_table.specs.Blocks.{beginning_of, rows_below}
-use Rattle.orc_table.proofs.Order.{Items}
+use Rattle.orc_table.proofs.LastRow.{Items}
 
 count-cons : {X : Type 0} (p : X → Bool) (x : X) (xs : List X) → count_by p (x ∷ xs) ≡ cond (p x) 1 0 + count_by p xs
 count-cons p x xs = sum_by-cons (λ x. cond (p x) 1 0) x xs
@@ -62,3 +63,26 @@ rows_of_block (row ∷ rows) block =
     let more = rows_of_block rows block in
     let here = block_row row.address block in
     omega (arith, more, here, count-cons (λ row. ltb row.address (beginning_of (block + 1))) row rows, count-cons (λ row. ltb row.address (beginning_of block)) row rows, count-cons (λ row. eqb (block_of row.address) block) row rows)
+
+pub blocks_ascend : (items : Items) → IsNonDecreasingBy (λ item. item.0) items → IsNonDecreasingBy (λ item. item.0 / 256) items
+blocks_ascend items up i j d le lt = let h : (get_or items i d).0 ≤ (get_or items j d).0 = up i j d le lt in omega arith
+
+pub some_item : (items : Items) (i : ℕ) → i < length items → ℕ × Row
+some_item [] i lt = absurd (omega arith)
+some_item (x ∷ items) i lt = x
+
+-- where the first n items are those of blocks before one, so many are below its beginning
+pub below_at : (items : Items) (block n : ℕ) → IsNonDecreasingBy (λ item. item.0) items → n ≤ length items
+    → IsPartitionPoint (λ item. ltb (item.0 / 256) block ≡ true) (λ item. ltb (item.0 / 256) block ≡ false) items n
+    → n ≡ rows_below (beginning_of block) (rows_of items)
+below_at items block n up le split =
+    let count : ℕ = rows_below (beginning_of block) (rows_of items) in
+    let counted = below_split items (block * 256) up in
+    let most : rows_below (beginning_of block) (rows_of items) ≤ length items = omega (arith, length-map items addressed_row, count_by-le-length (λ row. ltb row.address (beginning_of block)) (rows_of items)) in
+    elim (cases_lt n (rows_below (beginning_of block) (rows_of items))) [
+      | inl less ↦ let item = some_item items n (omega arith) in let high : block ≤ (get_or items n item).0 / 256 = ltb-false _ _ (split.1 n item (omega arith) (omega arith)) in let low : (get_or items n item).0 < block * 256 = counted.0 n item (omega arith) less in absurd (omega arith)
+      | inr not_less ↦ elim (cases_lt (rows_below (beginning_of block) (rows_of items)) n) [
+        | inl more ↦ let k = rows_below (beginning_of block) (rows_of items) in let item = some_item items k (omega arith) in let low : (get_or items k item).0 / 256 < block = ltb-true _ _ (split.0 k item (omega arith) more) in let high : block * 256 ≤ (get_or items k item).0 = counted.1 k item (omega arith) (omega arith) in absurd (omega arith)
+        | inr same ↦ omega arith
+      ]
+    ]

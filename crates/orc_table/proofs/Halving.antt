@@ -9,7 +9,7 @@ use Rattle.std.specs.Prelude.{Some, slice_get}
 use Rattle.ot_base.specs.declared.row.Row.{Row}
 use Rattle.ot_base.specs.CountedItems.{one_more}
 use Rattle.orc_table.specs.Cost.{ReadsFew}
-use Rattle.orc_table.proofs.Order.{Items}
+use Rattle.orc_table.proofs.LastRow.{Items}
 
 -- all items up to one at or below the address are at or below it
 pub below_middle : (items : Items) (address middle : ℕ) → IsNonDecreasingBy (λ item. item.0) items → middle < length items → ((d : _) → (get_or items middle d).0 ≤ address) → AllWithin (λ item. item.0 ≤ address) items 0 (middle + 1)

@@ -1,4 +1,9 @@
-pub mod Order
+pub mod LastRow
 pub mod Halving
 pub mod Counts
 pub mod Near
+pub mod BaseLemmas
+pub mod Sorting
+pub mod Layouts
+pub mod Values
+pub mod Placing

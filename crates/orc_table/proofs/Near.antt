@@ -13,7 +13,7 @@ use Rattle.std.proofs.lemmas.List.Sums.{count_by-le-length}
 use Rattle.orc_table.specs.Rows.{addressed_row, rows_of}
 use Rattle.orc_table.specs.Cost.{block_of, rows_in_block, rows_to_search}
 use Rattle.orc_table.specs.Blocks.{IsAscending, HasFirsts, ranges_of, beginning_of, rows_below, first_block, last_block}
-use Rattle.orc_table.proofs.Order.{Items}
+use Rattle.orc_table.proofs.LastRow.{Items}
 use Rattle.orc_table.proofs.Counts.{below_split, rows_of_block}
 
 none_passes : {X : Type 0} (p : X → Bool) (xs : List X) → All (λ x. p x ≡ false) xs → list_any p xs ≡ false

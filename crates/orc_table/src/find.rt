@@ -32,7 +32,7 @@ pub fn find_in(tape: &mut Tape, blocks: &[Blocks], addr: u64) -> Option<Row>
 }
 
 /// How many ranges begin at or below an address.
-fn begun(blocks: &[Blocks], addr: u64) -> usize
+pub(crate) fn begun(blocks: &[Blocks], addr: u64) -> usize
     requires { IsAscending (ranges_of blocks.now) }
     ensures bound { result ≤ length blocks.now }
     ensures split { IsPartitionPoint (λ b. b.range.base ≤ addr) (λ b. addr < b.range.base)

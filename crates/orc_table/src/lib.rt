@@ -2,9 +2,16 @@
 //! `orc-unwinder.rst`).
 #![tactic(auto)]
 
+mod bases;
 mod blocks;
+mod faults;
 mod find;
+mod layout;
+mod order;
+mod table;
 
 pub use blocks::{BLOCK_SIZE, Blocks};
+pub use faults::{PlaceFault, PlaceWhy};
 pub use find::find_in;
+pub use table::Table;
 pub use walk_defs::Range;

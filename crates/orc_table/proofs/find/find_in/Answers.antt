@@ -2,7 +2,7 @@ use Rattle.std.proofs.Common.{◌≡◌, ◌-◌, Some, arith, sym, ap, subst}
 use Rattle.std.proofs.lemmas.Option.{get_or_from_slice_get}
 use Rattle.std.specs.Prelude.{slice_get}
 use Rattle.ot_base.specs.CountedItems.{CountedItems, one_more}
-use Rattle.orc_table.proofs.Order.{IsSplit, ascends, none_below, last_below}
+use Rattle.orc_table.proofs.LastRow.{IsSplit, ascends, none_below, last_below}
 use Rattle.orc_table.proofs.Halving.{reads_few, one_more_counted}
 use Rattle.orc_table.proofs.find.find_in.Goals as goal
 

@@ -72,17 +72,27 @@ low_rows items address n le split =
 pub none_below : (items : Items) (address n : ℕ) → n ≡ 0 → n ≤ length items → IsSplit items address n → row_at address (rows_of items) ≡ None
 none_below items address n none le split = ap (λ rows. option_map (λ last. last.row) (last_of rows)) (low_rows items address n le split ∙ ap (λ k. take k (rows_of items)) none)
 
-pub last_below : (items : Items) (address k : ℕ) (item : ℕ × Row) → IsInOrder (rows_of items) → k < length items → IsSplit items address (k + 1) → item ≡ get_or items k item → row_at address (rows_of items) ≡ Some item.1
-last_below items address k item order lt split is =
+-- these end with the last one
+pub ends_at : (items : Items) (address k : ℕ) (item : ℕ × Row) → k < length items → IsSplit items address (k + 1) → item ≡ get_or items k item → at_or_below address (rows_of items) ≡ take k (rows_of items) ++ addressed_row item ∷ []
+ends_at items address k item lt split is =
     let long : length (rows_of items) ≡ length items = length-map items addressed_row in
     let row : AddressedRow = addressed_row item in
     let here : get_or (rows_of items) k row ≡ row = get_or-map addressed_row items k item row lt ∙ ap addressed_row (sym is) in
-    let low : at_or_below address (rows_of items) ≡ take k (rows_of items) ++ row ∷ [] = low_rows items address (k + 1) (omega arith) split ∙ take_more (rows_of items) k row (omega arith) ∙ ap (λ r. take k (rows_of items) ++ r ∷ []) here in
-    let ahead : All (λ other. comes_before row other ≡ false) (take k (rows_of items)) = (λ i d i_lt.
+    low_rows items address (k + 1) (omega arith) split ∙ take_more (rows_of items) k row (omega arith) ∙ ap (λ r. take k (rows_of items) ++ r ∷ []) here
+
+-- it comes before none ahead of it
+pub none_behind : (items : Items) (address k : ℕ) (item : ℕ × Row) → IsInOrder (rows_of items) → k < length items → item ≡ get_or items k item → All (λ other. comes_before (addressed_row item) other ≡ false) (take k (rows_of items))
+none_behind items address k item order lt is i d i_lt =
+    let long : length (rows_of items) ≡ length items = length-map items addressed_row in
+    let row : AddressedRow = addressed_row item in
+    let here : get_or (rows_of items) k row ≡ row = get_or-map addressed_row items k item row lt ∙ ap addressed_row (sym is) in
     let short : length (take k (rows_of items)) ≡ k = length-take-le k (rows_of items) (omega arith) in
     let there : get_or (take k (rows_of items)) i d ≡ get_or (rows_of items) i d = get_or-take k (rows_of items) i d (omega arith) in
     let pair : comes_before (get_or (rows_of items) k d) (get_or (rows_of items) i d) ≡ false = order i k d (omega arith) (omega arith) in
     let last : get_or (rows_of items) k d ≡ row = get_or_default (rows_of items) k d row (omega arith) ∙ here in
-    subst (λ other. comes_before row other ≡ false) (sym there) (subst (λ one. comes_before one (get_or (rows_of items) i d) ≡ false) last pair)) in
-    ap (λ rows. option_map (λ last. last.row) (last_of rows)) low
-    ∙ ap (option_map (λ last. last.row)) (last-push (take k (rows_of items)) row ahead)
+    subst (λ other. comes_before row other ≡ false) (sym there) (subst (λ one. comes_before one (get_or (rows_of items) i d) ≡ false) last pair)
+
+pub last_below : (items : Items) (address k : ℕ) (item : ℕ × Row) → IsInOrder (rows_of items) → k < length items → IsSplit items address (k + 1) → item ≡ get_or items k item → row_at address (rows_of items) ≡ Some item.1
+last_below items address k item order lt split is =
+    ap (λ rows. option_map (λ last. last.row) (last_of rows)) (ends_at items address k item lt split is)
+    ∙ ap (option_map (λ last. last.row)) (last-push (take k (rows_of items)) (addressed_row item) (none_behind items address k item order lt is))
