@@ -1,45 +1,56 @@
--- A run of the worked program.
-use Rattle.std.proofs.Common.{ℕ, zero, suc, sym, ◌<◌, All, replicate, refl, inr, arith, lit<, lit≤}
+-- Runs of worked programs, in a stack of sixteen zero bytes.
+use Rattle.std.proofs.Common.{◌≡◌, ℕ, zero, suc, ◌<◌, ◌≤◌, ◌^◌, true, false, List, [], ◌∷◌, Option, None, Contains, All, replicate, refl, sym, subst, inr, arith, lit<, lit≤}
 use Rattle.std.proofs.lemmas.List.Elements.{All-nil, All-cons}
+use Rattle.program_defs.specs.Program.{Program, entry_points, edge, is_local}
+use Rattle.program_defs.specs.declared.flow.EdgeKind.{EdgeKind}
 use Rattle.program_defs.specs.declared.flow.EdgeKind.TheVariants.{Next}
-use Rattle.state_defs.specs.Frame.{Unsaved}
-use Rattle.machine_defs.specs.Machine.{Bases, IsOutside, At}
-use Rattle.machine_defs.specs.Step.{goes_on}
-use Rattle.machine_defs.specs.Run.{Run, at_entry, started, stepped}
-use Rattle.machine_defs.specs.Worked.{framed, zeros, caller, after_push, HasWorkedRun}
+use Rattle.state_defs.specs.declared.state.HintState.{HintState}
+use Rattle.state_defs.specs.Frame.{Unsaved, Frame}
+use Rattle.state_defs.specs.Effect.{IsInStack, Effect}
+use Rattle.machine_defs.specs.Machine.{Bases, IsOutside, Standing, At}
+use Rattle.machine_defs.specs.Hint.{Hinted, Lands}
+use Rattle.machine_defs.specs.Step.{SameLevel, goes_on}
+use Rattle.machine_defs.specs.Run.{outermost, Run, at_entry, started, stepped}
+use Rattle.machine_defs.specs.Worked.{framed, zeros, after_push, HasWorkedRun}
 use Rattle.machine_defs.specs.Worked as w
 
 -- zeros are bytes
-pub zeros_are_bytes : (n : ℕ) → All (λ b. b < 256) (replicate n 0)
+zeros_are_bytes : (n : ℕ) → All (λ b. b < 256) (replicate n 0)
 zeros_are_bytes zero = All-nil (λ b. b < 256)
 zeros_are_bytes (suc n) = All-cons (λ b. b < 256) 0 (replicate n 0) (lit< tt) (zeros_are_bytes n)
 
-abbrev base : Bases
-base = λ _. 0x1000
+-- rsp is in that stack
+pub in_zeros : (rsp rbp : ℕ) (shadow : List Frame) → 0x8000 ≤ rsp → rsp ≤ 0x8010 → rbp < 2 ^ 64 → IsInStack (record { rsp = rsp; rbp = rbp; region = zeros; ac = false; shadow = shadow })
+in_zeros rsp rbp shadow low high small = record { rbp = small; region = record { below_end = lit< tt; bytes = zeros_are_bytes 16 }; above_lo = low; below_hi = high }
 
-outside : IsOutside framed base 18446744073709551615
+-- where no hint is, nothing more is to be true
+lands : (p : Program) (s : Standing) → p.hint s.point ≡ None → Lands p s s
+lands p s none = subst (λ (h : Option HintState). Hinted h (p.save_of s.point) s s) (sym none) refl
+
+-- right after a call from outside, with this rbp
+abbrev pub entered : ℕ → ℕ → Standing
+entered q bp = record { point = q; core = record { rsp = 0x8008; rbp = bp; region = zeros; ac = false; shadow = outermost 0 0x8010 bp Unsaved false ∷ [] }; ended = None; mark = None }
+
+pub called : (p : Program) (bases : Bases) (entry q bp : ℕ) → Contains p.entries entry → Contains (entry_points p entry) q → p.hint q ≡ None → bp < 2 ^ 64 → IsOutside p bases 18446744073709551615 → Run p bases (At (entered q bp))
+called p bases entry q bp listed arrives none small outside =
+    started (entered q bp)
+    (at_entry (entered q bp) (entered q bp) (outermost 0 0x8010 bp Unsaved false) entry listed arrives
+    (record { ra = 0; cfa = 0x8010; bp = bp; shadow = refl; outside = outside; pushed = refl; below_hi = lit≤ tt })
+    (record { shadow = refl; cfa = refl; bp = refl })
+    (record { ended = refl; mark = refl; hinted = entered q bp; lands = lands p (entered q bp) none; start = refl }))
+    (in_zeros 0x8008 bp (outermost 0 0x8010 bp Unsaved false ∷ []) (lit≤ tt) (lit≤ tt) small)
+
+-- an instruction goes on to a point without a hint
+pub goes : (p : Program) (bases : Bases) (s t : Standing) (kind : EdgeKind) → Run p bases (At s) → is_local kind ≡ true → Contains (p.goes s.point) (edge t.point kind) → Effect (p.insn s.point).op s.core t.core → SameLevel s t → p.hint t.point ≡ None → IsInStack t.core → Run p bases (At t)
+goes p bases s t kind run local along effect level none stack = stepped (At s) (At t) run (goes_on s t t (record { kind = kind; local = local; along = along; effect = effect; level = level }) (lands p t none)) stack
+
+outside : IsOutside framed (λ _. 0x1000) 18446744073709551615
 outside text (zero, below, is) = inr (rw (sym is) (lit≤ tt))
 outside text (suc k, below, is) = absurd (omega (arith, below))
 
-started_run : Run framed base (At w.at_entry)
-started_run =
-    started w.at_entry
-    (at_entry w.at_entry w.at_entry (caller Unsaved) 0 (0, lit< tt, refl) (0, lit< tt, refl)
-    (record { ra = 0; cfa = 0x8010; bp = 0; shadow = refl; outside = outside; pushed = refl; below_hi = lit≤ tt })
-    (record { shadow = refl; cfa = refl; bp = refl })
-    (record { ended = refl; mark = refl; hinted = w.at_entry; lands = refl; start = refl }))
-    (record { rbp = lit< tt; region = record { below_end = lit< tt; bytes = zeros_are_bytes 16 }; above_lo = lit≤ tt; below_hi = lit≤ tt })
-
+-- the worked function is called, and pushes rbp
 pub runs : HasWorkedRun
 runs =
-    stepped (At w.at_entry) (At after_push) started_run
-    (goes_on w.at_entry after_push after_push
-    (record {
-      kind = Next;
-      local = refl;
-      along = (0, lit< tt, refl);
-      effect = (record { only = record { addresses = record { lo = refl; size = refl }; others = λ address h. refl }; word = refl }, refl);
-      level = record { ended = refl; mark = refl };
-    })
-    refl)
-    (record { rbp = lit< tt; region = record { below_end = lit< tt; bytes = zeros_are_bytes 16 }; above_lo = lit≤ tt; below_hi = lit≤ tt })
+    goes framed (λ _. 0x1000) w.at_entry after_push Next (called framed (λ _. 0x1000) 0 0 0 (0, lit< tt, refl) (0, lit< tt, refl) refl (lit< tt) outside) refl (0, lit< tt, refl)
+    (record { only = record { addresses = record { lo = refl; size = refl }; others = λ address h. refl }; word = refl }, refl)
+    (record { ended = refl; mark = refl }) refl (in_zeros 0x8000 0 after_push.core.shadow (lit≤ tt) (lit≤ tt) (lit< tt))

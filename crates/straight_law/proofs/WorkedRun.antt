@@ -1,16 +1,15 @@
 -- The worked section meets the premises of the law.
-use Rattle.std.proofs.Common.{◌≡◌, ℕ, zero, suc, ◌+◌, ◌<◌, ◌^◌, List, [], ◌∷◌, All, replicate, refl, sym, inr, arith, lit<, lit≤}
-use Rattle.std.specs.Prelude.{false, ◌≤◌}
+use Rattle.std.proofs.Common.{◌≡◌, zero, suc, ◌+◌, ◌<◌, ◌^◌, List, [], ◌∷◌, All, refl, sym, inr, arith, lit<, lit≤}
+use Rattle.std.specs.Prelude.{◌≤◌}
 use Rattle.std.proofs.lemmas.List.Elements.{All-nil, All-cons}
 use Rattle.std.proofs.lemmas.List.Sorted.{IsPermutation-refl}
 use Rattle.operation_defs.specs.declared.insn.Insn.{Insn}
 use Rattle.operation_defs.specs.declared.op.Op.TheVariants.{Push, Pop, Nop, Ret}
 use Rattle.operation_defs.specs.declared.op.Op.{Op}
 use Rattle.program_defs.specs.declared.flow.EdgeKind.TheVariants.{Next}
-use Rattle.state_defs.specs.Frame.{Unsaved}
 use Rattle.machine_defs.specs.Machine.{IsOutside, At}
-use Rattle.machine_defs.specs.Step.{goes_on}
-use Rattle.machine_defs.specs.Run.{outermost, Run, at_entry, started, stepped}
+use Rattle.machine_defs.specs.Run.{Run}
+use Rattle.machine_defs.proofs.WorkedRun as worked
 use Rattle.walk_defs.specs.declared.range.Range.{Range}
 use Rattle.walk_defs.specs.Placement.{IsPlacement}
 use Rattle.straight_table.specs.Straight.{ops_of}
@@ -39,36 +38,15 @@ placed = record {
 begin : BeginAt base ranges
 begin = All-cons (λ (range : Range). range.base ≡ base range.sec) (record { sec = 1; base = 0x1000; size = 4 }) [] refl (All-nil (λ (range : Range). range.base ≡ base range.sec))
 
-zeros_are_bytes : (n : ℕ) → All (λ b. b < 256) (replicate n 0)
-zeros_are_bytes zero = All-nil (λ b. b < 256)
-zeros_are_bytes (suc n) = All-cons (λ b. b < 256) 0 (replicate n 0) (lit< tt) (zeros_are_bytes n)
-
 outside : IsOutside program base 18446744073709551615
 outside text (zero, below, is) = inr (rw (sym is) (lit≤ tt))
 outside text (suc k, below, is) = absurd (omega (arith, below))
 
-entered : Run program base (At (standing_at 0 0x8008))
-entered =
-    started (standing_at 0 0x8008)
-    (at_entry (standing_at 0 0x8008) (standing_at 0 0x8008) (outermost 0 0x8010 5 Unsaved false) 0 (0, lit< tt, refl) (0, lit< tt, refl)
-    (record { ra = 0; cfa = 0x8010; bp = 5; shadow = refl; outside = outside; pushed = refl; below_hi = lit≤ tt })
-    (record { shadow = refl; cfa = refl; bp = refl })
-    (record { ended = refl; mark = refl; hinted = standing_at 0 0x8008; lands = refl; start = refl }))
-    (record { rbp = lit< tt; region = record { below_end = lit< tt; bytes = zeros_are_bytes 16 }; above_lo = lit≤ tt; below_hi = lit≤ tt })
-
 run : Run program base (At (standing_at 1 0x8000))
 run =
-    stepped (At (standing_at 0 0x8008)) (At (standing_at 1 0x8000)) entered
-    (goes_on (standing_at 0 0x8008) (standing_at 1 0x8000) (standing_at 1 0x8000)
-    (record {
-      kind = Next;
-      local = refl;
-      along = (0, lit< tt, refl);
-      effect = (record { addresses = record { lo = refl; size = refl }; others = λ address h. refl }, refl);
-      level = record { ended = refl; mark = refl };
-    })
-    refl)
-    (record { rbp = lit< tt; region = record { below_end = lit< tt; bytes = zeros_are_bytes 16 }; above_lo = lit≤ tt; below_hi = lit≤ tt })
+    worked.goes program base (standing_at 0 0x8008) (standing_at 1 0x8000) Next (worked.called program base 0 0 5 (0, lit< tt, refl) (0, lit< tt, refl) refl (lit< tt) outside) refl (0, lit< tt, refl)
+    (record { addresses = record { lo = refl; size = refl }; others = λ address h. refl }, refl)
+    (record { ended = refl; mark = refl }) refl (worked.in_zeros 0x8000 5 (standing_at 1 0x8000).core.shadow (lit≤ tt) (lit≤ tt) (lit< tt))
 
 pub unwinds : StraightUnwinds → HasWorkedRun
 unwinds law = record {

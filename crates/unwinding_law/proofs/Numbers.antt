@@ -1,8 +1,7 @@
 -- Sums of addresses that don't wrap, words that are read, and equal numbers.
-use Rattle.std.proofs.Common.{◌≡◌, ℕ, ◌+◌, ◌-◌, ◌^◌, ◌<◌, ◌≤◌, Bool, true, false, ◌&&◌, Option, Some, None, if◌then◌else◌, take, drop, nat_le, MatchOption, ℤ, pos, negsuc, int_le, refl, sym, ap, subst, arith, le-leb, leb-true}
+use Rattle.std.proofs.Common.{◌≡◌, ℕ, ◌+◌, ◌-◌, ◌^◌, ◌<◌, ◌≤◌, Bool, true, false, ◌&&◌, Option, Some, None, if◌then◌else◌, take, drop, nat_le, MatchOption, refl, sym, ap, subst, arith, le-leb, leb-true}
 use Rattle.state_defs.specs.Address.{up, down}
 use Rattle.state_defs.specs.Region.{Region, hi_of, little_endian, has_word, Reads, Holds}
-use Rattle.state_defs.specs.Move.{int_same}
 
 pub up_down : (x : ℕ) → x < 2 ^ 64 → up (down x 8) 8 ≡ x
 up_down x h = omega arith

@@ -14,15 +14,15 @@ use Rattle.state_defs.specs.Effect.{HasSignedNumber}
 use Rattle.state_defs.specs.Frame.{Unsaved}
 use Rattle.program_defs.specs.Program.{TextSection, same_place, below, is_call, edge}
 use Rattle.machine_defs.specs.Machine.{IsPlacement, IsOutside, Standing, Wrecked, At}
-use Rattle.machine_defs.specs.Step.{goes_on, wrecks, wrong_return}
-use Rattle.machine_defs.specs.Run.{Run, at_entry, started, stepped}
+use Rattle.machine_defs.specs.Step.{wrecks, wrong_return}
+use Rattle.machine_defs.specs.Run.{Run, stepped}
 use Rattle.program_defs.specs.MayReturn.{MayReturn}
 use Rattle.program_defs.specs.MayReturn as may
 use Rattle.checker_defs.specs.Broken.{Warns, modified_return}
 use Rattle.program_defs.specs.IsProgram.{IsProgram}
 use Rattle.machine_defs.specs.Worked.{at, zeros, caller}
 use Rattle.machine_defs.specs.Worked as w
-use Rattle.machine_defs.proofs.WorkedRun.{zeros_are_bytes}
+use Rattle.machine_defs.proofs.WorkedRun as run
 use Rattle.unwinding_law.specs.Worked.{base, unbalanced}
 use Rattle.unwinding_law.proofs.Lists.{here, cases, nowhere, from_filter, from_below}
 
@@ -101,28 +101,11 @@ outside text (suc k, below, is) = absurd (omega (arith, below))
 abbrev at_return : Standing
 at_return = record { point = 1; core = record { rsp = 0x8000; rbp = 0; region = zeros; ac = false; shadow = caller Unsaved ∷ [] }; ended = None; mark = None }
 
-enters : Run unbalanced base (At w.at_entry)
-enters =
-    started w.at_entry
-    (at_entry w.at_entry w.at_entry (caller Unsaved) 0 (0, lit< tt, refl) (0, lit< tt, refl)
-    (record { ra = 0; cfa = 0x8010; bp = 0; shadow = refl; outside = outside; pushed = refl; below_hi = lit≤ tt })
-    (record { shadow = refl; cfa = refl; bp = refl })
-    (record { ended = refl; mark = refl; hinted = w.at_entry; lands = refl; start = refl }))
-    (record { rbp = lit< tt; region = record { below_end = lit< tt; bytes = zeros_are_bytes 16 }; above_lo = lit≤ tt; below_hi = lit≤ tt })
-
 pushes : Run unbalanced base (At at_return)
 pushes =
-    stepped (At w.at_entry) (At at_return) enters
-    (goes_on w.at_entry at_return at_return
-    (record {
-      kind = Next;
-      local = refl;
-      along = (0, lit< tt, refl);
-      effect = (record { addresses = record { lo = refl; size = refl }; others = λ address h. refl }, refl);
-      level = record { ended = refl; mark = refl };
-    })
-    refl)
-    (record { rbp = lit< tt; region = record { below_end = lit< tt; bytes = zeros_are_bytes 16 }; above_lo = lit≤ tt; below_hi = lit≤ tt })
+    run.goes unbalanced base w.at_entry at_return Next (run.called unbalanced base 0 0 0 (0, lit< tt, refl) (0, lit< tt, refl) refl (lit< tt) outside) refl (0, lit< tt, refl)
+    (record { addresses = record { lo = refl; size = refl }; others = λ address h. refl }, refl)
+    (record { ended = refl; mark = refl }) refl (run.in_zeros 0x8000 0 at_return.core.shadow (lit≤ tt) (lit≤ tt) (lit< tt))
 
 pub wrecked : Run unbalanced base Wrecked
 wrecked = stepped (At at_return) Wrecked pushes (wrecks at_return (wrong_return refl (inr (inr (inl (λ e. let k : 0x8000 ≡ 0x8008 = e in absurd (omega arith))))))) tt

@@ -2,14 +2,10 @@
 use Rattle.std.proofs.Common.{◌≡◌, ℕ, ◌+◌, ◌^◌, ◌<◌, ◌≤◌, ◌⊎◌, [], ◌∷◌, Contains, refl, sym, ◌∙◌, subst, inl, inr, arith, lit<, lit≤}
 use Rattle.std.proofs.lemmas.List.Elements.{All-contains}
 use Rattle.program_defs.specs.declared.flow.EdgeKind.TheVariants.{Next}
-use Rattle.state_defs.specs.Frame.{Unsaved}
 use Rattle.program_defs.specs.Program.{TextSection}
 use Rattle.machine_defs.specs.Machine.{HasAddress, IsPlacement, IsOutside, At}
-use Rattle.machine_defs.specs.Step.{goes_on}
-use Rattle.machine_defs.specs.Run as start
-use Rattle.machine_defs.specs.Run.{Run, started, stepped}
-use Rattle.machine_defs.specs.Worked.{caller}
-use Rattle.machine_defs.proofs.WorkedRun.{zeros_are_bytes}
+use Rattle.machine_defs.specs.Run.{Run}
+use Rattle.machine_defs.proofs.WorkedRun as run
 use Rattle.unwinding_law.specs.Worked.{worked, base, at_entry, after_push}
 use Rattle.unwinding_law.proofs.Elements.{two}
 use Rattle.unwinding_law.proofs.Lists.{cases, nowhere}
@@ -44,27 +40,9 @@ placed = record {
 outside : IsOutside worked base 18446744073709551615
 outside t c = inr (All-contains (λ (t : TextSection). base t.sec + t.size ≤ 18446744073709551615) worked.texts t (two (λ (t : TextSection). base t.sec + t.size ≤ 18446744073709551615) text replacement (lit≤ tt) (lit≤ tt)) c)
 
--- g is called from outside
-pub started_run : Run worked base (At at_entry)
-started_run =
-    started at_entry
-    (start.at_entry at_entry at_entry (caller Unsaved) 4 (1, lit< tt, refl) (0, lit< tt, refl)
-    (record { ra = 0; cfa = 0x8010; bp = 0; shadow = refl; outside = outside; pushed = refl; below_hi = lit≤ tt })
-    (record { shadow = refl; cfa = refl; bp = refl })
-    (record { ended = refl; mark = refl; hinted = at_entry; lands = refl; start = refl }))
-    (record { rbp = lit< tt; region = record { below_end = lit< tt; bytes = zeros_are_bytes 16 }; above_lo = lit≤ tt; below_hi = lit≤ tt })
-
--- and pushes rbp
+-- g is called from outside, and pushes rbp
 pub runs : Run worked base (At after_push)
 runs =
-    stepped (At at_entry) (At after_push) started_run
-    (goes_on at_entry after_push after_push
-    (record {
-      kind = Next;
-      local = refl;
-      along = (0, lit< tt, refl);
-      effect = (record { only = record { addresses = record { lo = refl; size = refl }; others = λ address h. refl }; word = refl }, refl);
-      level = record { ended = refl; mark = refl };
-    })
-    refl)
-    (record { rbp = lit< tt; region = record { below_end = lit< tt; bytes = zeros_are_bytes 16 }; above_lo = lit≤ tt; below_hi = lit≤ tt })
+    run.goes worked base at_entry after_push Next (run.called worked base 4 4 0 (1, lit< tt, refl) (0, lit< tt, refl) refl (lit< tt) outside) refl (0, lit< tt, refl)
+    (record { only = record { addresses = record { lo = refl; size = refl }; others = λ address h. refl }; word = refl }, refl)
+    (record { ended = refl; mark = refl }) refl (run.in_zeros 0x8000 0 after_push.core.shadow (lit≤ tt) (lit≤ tt) (lit< tt))
