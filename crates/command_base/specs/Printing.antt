@@ -1,0 +1,41 @@
+-- How a command prints its text, and which status it ends with.
+use Rattle.std.specs.Prelude.{◌≡◌, ◌≢◌, ℕ, List, Result, Ok, Err}
+use Rattle.ot_files.specs.Causes.{Rose}
+use Rattle.ot_files.specs.Output.{AppendsPrefix, appending}
+use Rattle.ot_files.specs.declared.output.SinkError.{SinkError}
+use Rattle.ot_files.specs.declared.output.SinkError.TheVariants as sink
+use Rattle.command_base.specs.declared.status.Status.{Status}
+use Rattle.command_base.specs.declared.status.Status.TheVariants.{FileFault, SinkFault, NoMemory}
+use Rattle.command_base.specs.declared.stop.Stop.{Stop}
+use Rattle.command_base.specs.declared.stop.Stop.TheVariants as stop
+use Rattle.command_base.specs.Stop.{line_of, status_of}
+use Rattle.command_base.specs.Outside.{Output}
+
+-- This text was to be printed, and then the command to end with the status `end`. It was printed whole, and the command
+-- ends so; or writing it failed, which changes no status of a file's fault, or memory ran out, and a beginning of it was
+-- printed.
+pub data Prints (end : Status) (text : List ℕ) (before after : Output) : Status → Type 0 where
+  whole : {s : Status} → s ≡ end → after.written ≡ appending before.written text → Prints end text before after s
+  fault_stays :
+      AppendsPrefix before.written after.written text
+      → Rose before.faults after.faults
+      → end ≡ FileFault
+      → Prints end text before after FileFault
+  fails :
+      AppendsPrefix before.written after.written text
+      → Rose before.faults after.faults
+      → end ≢ FileFault
+      → Prints end text before after SinkFault
+  runs_out : AppendsPrefix before.written after.written text → Prints end text before after NoMemory
+
+-- the status of a command whose text was written so
+abbrev pub ended : {U : Type 0} → Status → Result U SinkError → Status
+ended s (Ok _) = s
+ended s (Err sink.NoMemory) = NoMemory
+ended FileFault (Err sink.Failed) = FileFault
+ended s (Err sink.Failed) = SinkFault
+
+-- The line of a stop was printed; or the stop is want of memory, of which nothing is told.
+pub data Concludes (why : Stop) (before after : Output) : Status → Type 0 where
+  tells : {s : Status} → why ≢ stop.NoMemory → Prints (status_of why) (line_of why) before after s → Concludes why before after s
+  silent : why ≡ stop.NoMemory → after ≡ before → Concludes why before after NoMemory

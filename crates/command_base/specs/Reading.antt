@@ -1,0 +1,34 @@
+-- What an input file may read as, and why a command stops that can't read it or its object.
+use Rattle.std.specs.Prelude.{◌≡◌, ◌⊎◌, ℕ, ◌≤◌, List, length, Option, Some, None, Result, Ok, Err}
+use Rattle.ot_files.specs.Causes.{Rose}
+use Rattle.ot_files.specs.Content.{Content, reading}
+use Rattle.ot_files.specs.declared.access.FileError.{FileError}
+use Rattle.ot_files.specs.declared.access.FileError.TheVariants as file
+use Rattle.elf_objects.specs.declared.fault.ElfFault.{ElfFault}
+use Rattle.elf_objects.specs.declared.fault.ElfFault.TheVariants as elf
+use Rattle.command_base.specs.declared.refusal.Refusal.TheVariants.{Malformed}
+use Rattle.command_base.specs.declared.stop.Stop.{Stop}
+use Rattle.command_base.specs.declared.stop.Stop.TheVariants.{Usage, Missing, TooLong, Refused, FileFault, NoMemory}
+use Rattle.command_base.specs.Outside.{Outside}
+
+-- what a name may read as, at most so many bytes: what the content says, where it is told, and else any file within the
+-- limit
+abbrev pub MayRead : ℕ → Option Content → List ℕ → Result (List ℕ) FileError → Type 0
+MayRead limit (Some content) name read = read ≡ reading content name limit
+MayRead limit None name (Ok bytes) = length bytes ≤ limit
+MayRead limit None name (Err error) = (error ≡ file.Missing) ⊎ (error ≡ file.TooLong limit)
+
+-- A command stops so that can't read the file of this name: there is none, or it is too long; or reading it failed, and
+-- the count of faults rose; or memory ran out.
+abbrev pub StopsAtRead : ℕ → List ℕ → Outside → Outside → Stop → Type 0
+StopsAtRead limit name before after (Missing told) = (told.now ≡ name) × MayRead limit before.content name (Err file.Missing)
+StopsAtRead limit name before after (TooLong told at) = (told.now ≡ name) × ((at ≡ limit) × MayRead limit before.content name (Err (file.TooLong limit)))
+StopsAtRead limit name before after (FileFault told) = (told.now ≡ name) × Rose before.faults after.faults
+StopsAtRead limit name before after NoMemory = Unit {0}
+StopsAtRead limit name before after (Refused refusal) = ⊥
+StopsAtRead limit name before after Usage = ⊥
+
+-- why a command stops whose input is no object
+abbrev pub parse_stop : ElfFault → Stop
+parse_stop elf.NoMemory = NoMemory
+parse_stop fault = Refused (Malformed fault)

@@ -1,0 +1,28 @@
+-- The line that says why a command stops, and the status that goes with it.
+use Rattle.std.specs.Prelude.{ℕ, List, [], ◌++◌, codes}
+use Rattle.std.specs.Fmt.{decimal}
+use Rattle.ot_base.specs.PlaceText.{escaped}
+use Rattle.command_base.specs.Refusal.{refusal_text}
+use Rattle.command_base.specs.declared.status.Status.{Status}
+use Rattle.command_base.specs.declared.status.Status.TheVariants as status
+use Rattle.command_base.specs.declared.stop.Stop.{Stop}
+use Rattle.command_base.specs.declared.stop.Stop.TheVariants.{Usage, Missing, TooLong, Refused, FileFault, NoMemory}
+
+abbrev pub longer_text : List ℕ → ℕ → List ℕ
+longer_text file limit = escaped file ++ codes " is longer than " ++ decimal limit ++ codes " bytes"
+
+abbrev pub line_of : Stop → List ℕ
+line_of Usage = codes "usage: not built yet\n"
+line_of (Missing file) = codes "refused: " ++ escaped file.now ++ codes " is missing\n"
+line_of (TooLong file limit) = codes "refused: " ++ longer_text file.now limit ++ codes "\n"
+line_of (Refused refusal) = codes "refused: " ++ refusal_text refusal ++ codes "\n"
+line_of (FileFault file) = codes "file fault: " ++ escaped file.now ++ codes "\n"
+line_of NoMemory = []
+
+abbrev pub status_of : Stop → Status
+status_of Usage = status.Usage
+status_of (Missing file) = status.Refused
+status_of (TooLong file limit) = status.Refused
+status_of (Refused refusal) = status.Refused
+status_of (FileFault file) = status.FileFault
+status_of NoMemory = status.NoMemory

@@ -1,0 +1,15 @@
+//! What the commands of objtool share: how an input file is read, why a command stops, the line that
+//! says so, how text is printed, and the status that a command ends with.
+#![tactic(auto)]
+
+mod printing;
+mod reading;
+mod refusal;
+mod status;
+mod stop;
+
+pub use printing::{conclude, print_line};
+pub use reading::{parse_stop, read_file};
+pub use refusal::Refusal;
+pub use status::Status;
+pub use stop::Stop;

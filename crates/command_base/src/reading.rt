@@ -1,0 +1,43 @@
+ghost use Rattle.std.specs.Prelude.{◌≡◌, ◌≤◌, Ok, length, IfOk, IfErr};
+ghost use Rattle.command_base.specs.Reading.{MayRead, StopsAtRead, parse_stop};
+
+use crate::refusal::Refusal;
+use crate::stop::Stop;
+use elf_objects::ElfFault;
+use ot_files::{FileError, Files};
+use std::alloc::Global;
+
+/// Reads an input file whole, at most `limit` bytes, or tells why a command stops that needs it.
+pub fn read_file<'a, F: Files>(
+    alloc: Global,
+    file: &'a str,
+    limit: u64,
+    files: &mut F,
+) -> Result<Vec<u8>, Stop<'a>>
+    ensures ok { IfOk result (λ bytes. MayRead limit (F.content files.old) file.now (Ok bytes.items)) }
+    ensures few { IfOk result (λ bytes. length bytes.items ≤ limit) }
+    ensures stopped { IfErr result (StopsAtRead limit file.now
+        (record { content = F.content files.old; faults = F.faults files.old })
+        (record { content = F.content files.new; faults = F.faults files.new })) }
+    ensures unchanged { F.content files.new ≡ F.content files.old }
+    ensures later { F.faults files.old ≤ F.faults files.new }
+{
+    let mut bytes = Vec::new(alloc);
+    match files.read(file, limit, &mut bytes) {
+        Ok(()) => Ok(bytes),
+        Err(FileError::Failed) => Err(Stop::FileFault { file }),
+        Err(FileError::Missing) => Err(Stop::Missing { file }),
+        Err(FileError::TooLong { limit }) => Err(Stop::TooLong { file, limit }),
+        Err(FileError::NoMemory) => Err(Stop::NoMemory),
+    }
+}
+
+/// Why a command stops whose input is no object.
+pub fn parse_stop<'a>(fault: ElfFault) -> Stop<'a>
+    ensures { result ≡ parse_stop fault }
+{
+    match fault {
+        ElfFault::NoMemory => Stop::NoMemory,
+        fault => Stop::Refused(Refusal::Malformed(fault)),
+    }
+}

@@ -1,0 +1,35 @@
+use elf_objects::{Counted, ElfFault};
+use std::fmt;
+use x86_text::TextFaultText;
+
+/// Why an input is refused.
+#[derive(Clone, Copy, Debug, PartialEq, Eq)]
+pub enum Refusal<'a> {
+    /// The object file is no well-formed object.
+    Malformed(ElfFault),
+    /// The code of a text section doesn't decode.
+    Undecoded(TextFaultText<'a>),
+    /// The object has `count` sections, so that those of the tables would be too many.
+    TooManySections { count: u64 },
+    /// It is a well-formed object of no form that is checked so far.
+    NotBuilt,
+}
+
+impl fmt::Display for Refusal<'_> {
+    ghost use Rattle.std.specs.Prelude.{Some};
+    ghost use Rattle.command_base.specs.Refusal.{refusal_text};
+
+    ghost output = { λ r. Some (refusal_text r) };
+
+    fn fmt<W: fmt::Write>(&self, f: &mut fmt::Formatter<W>) -> fmt::Result {
+        match *self {
+            Refusal::Malformed(fault) => write!(f, "{fault}"),
+            Refusal::Undecoded(fault) => write!(f, "{fault}"),
+            Refusal::TooManySections { count } => {
+                let what = Counted::Sections;
+                write!(f, "{}", ElfFault::TooMany { what, count })
+            }
+            Refusal::NotBuilt => write!(f, "not built yet"),
+        }
+    }
+}

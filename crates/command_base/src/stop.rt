@@ -1,0 +1,84 @@
+use crate::refusal::Refusal;
+use crate::status::Status;
+use ot_base::Escaped;
+use std::fmt;
+
+/// Why a command stopped before it was done. Its `Display` is the line that says so, with its line end;
+/// of want of memory nothing is said.
+#[derive(Clone, Copy, Debug, PartialEq, Eq)]
+pub enum Stop<'a> {
+    /// The words are no command.
+    Usage,
+    /// No file has an input's name.
+    Missing { file: &'a str },
+    /// An input has more than `limit` bytes.
+    TooLong { file: &'a str, limit: u64 },
+    /// The bytes of an input are refused.
+    Refused(Refusal<'a>),
+    /// A file couldn't be read or written.
+    FileFault { file: &'a str },
+    /// Memory ran out.
+    NoMemory,
+}
+
+impl Stop<'_> {
+    ghost use Rattle.std.specs.Prelude.{◌≡◌};
+    ghost use Rattle.command_base.specs.Stop.{status_of};
+
+    /// The status that a command ends with which stops so.
+    pub fn status(self) -> Status
+        ensures { result ≡ status_of self.entry }
+    {
+        match self {
+            Stop::Usage => Status::Usage,
+            Stop::Missing { .. } | Stop::TooLong { .. } | Stop::Refused(_) => Status::Refused,
+            Stop::FileFault { .. } => Status::FileFault,
+            Stop::NoMemory => Status::NoMemory,
+        }
+    }
+}
+
+/// That a file is longer than a limit.
+#[derive(Clone, Copy)]
+struct Longer<'a> {
+    file: Escaped<'a>,
+    limit: u64,
+}
+
+impl fmt::Display for Longer<'_> {
+    ghost use Rattle.std.specs.Prelude.{Some};
+    ghost use Rattle.command_base.specs.Stop.{longer_text};
+
+    ghost output = { λ l. Some (longer_text l.file.0.now l.limit) };
+
+    fn fmt<W: fmt::Write>(&self, f: &mut fmt::Formatter<W>) -> fmt::Result {
+        write!(f, "{} is longer than {} bytes", self.file, self.limit)
+    }
+}
+
+impl fmt::Display for Stop<'_> {
+    ghost use Rattle.std.specs.Prelude.{Some};
+    ghost use Rattle.command_base.specs.Stop.{line_of};
+
+    ghost output = { λ s. Some (line_of s) };
+
+    fn fmt<W: fmt::Write>(&self, f: &mut fmt::Formatter<W>) -> fmt::Result {
+        match *self {
+            Stop::Usage => write!(f, "usage: not built yet\n"),
+            Stop::Missing { file } => {
+                let file = Escaped(file.as_bytes());
+                write!(f, "refused: {file} is missing\n")
+            }
+            Stop::TooLong { file, limit } => {
+                let file = Escaped(file.as_bytes());
+                write!(f, "refused: {}\n", Longer { file, limit })
+            }
+            Stop::Refused(refusal) => write!(f, "refused: {refusal}\n"),
+            Stop::FileFault { file } => {
+                let file = Escaped(file.as_bytes());
+                write!(f, "file fault: {file}\n")
+            }
+            Stop::NoMemory => Ok(()),
+        }
+    }
+}
