@@ -1,1 +1,2 @@
+pub mod ConcludeLemmas
 pub mod PrintLemmas

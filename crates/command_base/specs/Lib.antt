@@ -4,3 +4,4 @@ pub mod Reading
 pub mod Refusal
 pub mod Status
 pub mod Stop
+pub mod TextSections

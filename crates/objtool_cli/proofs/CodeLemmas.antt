@@ -91,15 +91,15 @@ straight_text bytes o sec body insns text slice same some whole are straight =
 pub record Sizes (o : Elf) (sec : ℕ) (insns : List Insn) : Type 0 where
   pub bytes : size_of insns ≡ (section_at o sec).size
   pub count : length insns ≤ size_of insns
-  pub small : size_of insns ≤ 67108864
+  pub small : size_of insns ≤ 16777216
 
-pub sizes : (o : Elf) (sec : ℕ) (insns : List Insn) → length o.bytes ≤ 67108864 → is_text (section_at o sec) ≡ true → IsStraightText (record { sec = sec; size = (section_at o sec).size }) insns → IsSlice o.bytes (section_at o sec) → Sizes o sec insns
-sizes o sec insns little text fills slice =
-    let body = body_size o.bytes (section_at o sec) text slice in
+pub sizes : (o : Elf) (sec : ℕ) (insns : List Insn) → IsObject o.bytes o → sec < length o.sections → is_text (section_at o sec) ≡ true → IsStraightText (record { sec = sec; size = (section_at o sec).size }) insns → Sizes o sec insns
+sizes o sec insns is inside text fills =
+    let small = text_small o.bytes o sec is inside text in
     record {
       bytes = sym fills.size;
       count = few_insns insns fills.lengths;
-      small = omega (arith, fills.size, body.1, little);
+      small = omega (arith, fills.size, small);
     }
 
 is_row : (row : Row) → IsCallOrZero row → IsRow row

@@ -9,9 +9,11 @@ use Rattle.std.specs.FinMap.{get, insert, get-insert}
 use Rattle.ot_files.specs.Content.{Content, reading_of, writing}
 use Rattle.ot_files.specs.declared.access.FileError.{FileError}
 use Rattle.ot_files.specs.declared.access.FileError.TheVariants.{Missing, TooLong}
-use Rattle.objtool_cli.specs.declared.check.TheConstants.{MOST_BYTES}
+use Rattle.elf_objects.specs.declared.TheConstants.{MAX_FILE_BYTES}
 use Rattle.objtool_cli.specs.Checked.{Accepts}
-use Rattle.objtool_cli.specs.Command.{IsDone, MayRead, Outside}
+use Rattle.command_base.specs.Outside.{Outside}
+use Rattle.command_base.specs.Reading.{MayRead}
+use Rattle.objtool_cli.specs.Command.{IsDone}
 use Rattle.objtool_cli.specs.Unwinding.{OutUnwinds, Unwinds}
 
 not_same : (a b : List ℕ) → a ≢ b → eq_by_cmp (slice_cmp nat_cmp) a b ≡ false
@@ -43,24 +45,22 @@ held_is limit (Some read) bytes is = within (nat_lt limit (length read)) is
     within false e = let u : ◌≡◌ {A = Result (List ℕ) FileError} (Ok bytes) (Ok read) = e in cc
 
 -- the bytes that are written unwind those that were read
-pub out_unwinds : (input output bytes table : List ℕ) (before after : Option Content) → MayRead before input (Ok bytes) → after ≡ writing before output table → Unwinds bytes table → OutUnwinds input output before after
+pub out_unwinds : (input output bytes table : List ℕ) (before after : Option Content) → MayRead MAX_FILE_BYTES before input (Ok bytes) → after ≡ writing before output table → Unwinds bytes table → OutUnwinds input output before after
 out_unwinds input output bytes table None after may e h = tt
 out_unwinds input output bytes table (Some content) after may e h =
     subst (λ (c : Option Content). OutUnwinds input output (Some content) c) (sym e) (record {
       read = bytes;
-      held = held_is MOST_BYTES (get content input) bytes may;
+      held = held_is MAX_FILE_BYTES (get content input) bytes may;
       written = table;
       left = get-insert_same content output table;
       unwinds = h;
     })
 
 -- what stands where the command is done
-pub is_done : (input output bytes table : List ℕ) (before after : Outside) → MayRead before.content input (Ok bytes) → Accepts bytes table → Unwinds bytes table → after.content ≡ writing before.content output table → IsDone input output before after
+pub is_done : (input output bytes table : List ℕ) (before after : Outside) → MayRead MAX_FILE_BYTES before.content input (Ok bytes) → Accepts bytes table → Unwinds bytes table → after.content ≡ writing before.content output table → IsDone input output before after
 is_done input output bytes table before after may accepted unwinds e = record {
-  read = Ok bytes;
-  may = may;
   table = table;
-  wanted = accepted;
+  accepted = record { read = bytes; may = may; accepts = accepted };
   written = e;
   unwinds = out_unwinds input output bytes table before.content after.content may e unwinds;
 }

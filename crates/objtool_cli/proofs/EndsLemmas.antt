@@ -1,168 +1,159 @@
 -- What follows from how a command ends.
-use Rattle.std.proofs.Common.{◌≡◌, ℕ, List, refl, sym, ap, ◌∙◌, subst}
-use Rattle.std.specs.Prelude.{◌≢◌, [], Some, None, Option}
+use Rattle.std.proofs.Common.{◌≡◌, ℕ, List, refl, sym, ap, ◌∙◌, subst, inl, inr}
+use Rattle.std.specs.Prelude.{◌≢◌, ◌⊎◌, [], Some, None, Option}
 use Rattle.ot_files.specs.Causes.{Rose}
 use Rattle.ot_files.specs.Content.{Content, ChangesAtMost, writing}
-use Rattle.objtool_cli.specs.declared.status.Status.{Status}
-use Rattle.objtool_cli.specs.declared.status.Status.TheVariants.{Done, Warnings, FileFault, SinkFault, NoMemory}
-use Rattle.objtool_cli.specs.declared.stop.Stop.{Stop}
-use Rattle.objtool_cli.specs.declared.stop.Stop.TheVariants as stop
-use Rattle.objtool_cli.specs.Command.{Ends, no_command, done, stopped, tells, silent, Outside, Output, Stops, Tells, told, fault_not_told, not_told, not_all_told}
-use Rattle.objtool_cli.specs.Stop.{status_of}
+use Rattle.command_base.specs.declared.status.Status.{Status}
+use Rattle.command_base.specs.declared.status.Status.TheVariants.{Done, Warnings, FileFault, SinkFault, NoMemory}
+use Rattle.command_base.specs.declared.stop.Stop.{Stop}
+use Rattle.command_base.specs.declared.stop.Stop.TheVariants as stop
+use Rattle.command_base.specs.Outside.{Outside, Output}
+use Rattle.command_base.specs.Printing.{Concludes}
+use Rattle.command_base.specs.Reading.{StopsAtRead}
+use Rattle.command_base.specs.Stop.{status_of}
+use Rattle.command_base.proofs.ConcludeLemmas.{concluded_after_fault, concluded_fault, concluded_no_memory, concluded_no_warnings, concluded_not_done, concluded_sink_fault}
+use Rattle.elf_objects.specs.declared.TheConstants.{MAX_FILE_BYTES}
+use Rattle.objtool_cli.specs.Checked.{IsRefusal}
+use Rattle.objtool_cli.specs.Command.{Ends, EndsCheck, IsDone, MayChange, Stops, StopsAtWrite, checked, done, no_command, output_of_check, refused, stopped, unread, unwritten}
 use Rattle.objtool_cli.specs.Unwinding.{OutUnwinds}
+use Rattle.objtool_cli.specs.Words.{Command, check}
 use Rattle.objtool_cli.proofs.ContentLemmas.{get-insert_other}
-use Rattle.objtool_cli.proofs.CommandLemmas.{changed_nothing}
 
 -- a stop with the status of a file's fault is one
+read_fault : (s : Stop) (name : List ℕ) (before after : Outside) → StopsAtRead MAX_FILE_BYTES name before after s → status_of s ≡ FileFault → Rose before.faults after.faults
+read_fault stop.Usage name before after h e = absurd h
+read_fault (stop.Missing file) name before after h e = cc
+read_fault (stop.TooLong file limit) name before after h e = cc
+read_fault (stop.Refused refusal) name before after h e = absurd h
+read_fault (stop.FileFault file) name before after h e = h.1
+read_fault stop.NoMemory name before after h e = cc
+
+write_fault : (s : Stop) (name : List ℕ) (before after : Outside) → StopsAtWrite name before after s → status_of s ≡ FileFault → Rose before.faults after.faults
+write_fault stop.Usage name before after h e = absurd h
+write_fault (stop.Missing file) name before after h e = absurd h
+write_fault (stop.TooLong file limit) name before after h e = absurd h
+write_fault (stop.Refused refusal) name before after h e = absurd h
+write_fault (stop.FileFault file) name before after h e = h.1
+write_fault stop.NoMemory name before after h e = cc
+
+refusal_no_fault : (s : Stop) (bytes : List ℕ) → IsRefusal bytes s → status_of s ≢ FileFault
+refusal_no_fault stop.Usage bytes h e = absurd h
+refusal_no_fault (stop.Missing file) bytes h e = absurd h
+refusal_no_fault (stop.TooLong file limit) bytes h e = absurd h
+refusal_no_fault (stop.Refused refusal) bytes h e = cc
+refusal_no_fault (stop.FileFault file) bytes h e = absurd h
+refusal_no_fault stop.NoMemory bytes h e = cc
+
 stop_fault : (s : Stop) (input output : List ℕ) (before after : Outside) → Stops input output before after s → status_of s ≡ FileFault → Rose before.faults after.faults
-stop_fault stop.Usage input output before after h e = absurd h
-stop_fault stop.Missing input output before after h e = cc
-stop_fault (stop.TooLong limit) input output before after h e = cc
-stop_fault (stop.Refused refusal) input output before after h e = cc
-stop_fault stop.ReadFault input output before after h e = h.fault
-stop_fault stop.WriteFault input output before after h e = h.fault
-stop_fault stop.NoMemory input output before after h e = cc
+stop_fault s input output before after (unread h kept) e = read_fault s input before after h e
+stop_fault s input output before after (refused read may h kept) e = absurd (refusal_no_fault s read h e)
+stop_fault s input output before after (unwritten table accepted h others) e = write_fault s output before after h e
 
--- no stop has the status of a failed output, of a warning or of what is done
-no_sink_fault : (s : Stop) → status_of s ≡ SinkFault → ⊥
-no_sink_fault stop.Usage e = cc
-no_sink_fault stop.Missing e = cc
-no_sink_fault (stop.TooLong limit) e = cc
-no_sink_fault (stop.Refused refusal) e = cc
-no_sink_fault stop.ReadFault e = cc
-no_sink_fault stop.WriteFault e = cc
-no_sink_fault stop.NoMemory e = cc
+fault_of_check : (input output : List ℕ) (before after : Outside) (out out' : Output) (x : Status) → EndsCheck input output before after out out' x → x ≡ FileFault → Rose before.faults after.faults
+fault_of_check input output before after out out' Done (done is same) e = cc
+fault_of_check input output before after out out' x (stopped s h t) e = stop_fault s input output before after h (concluded_fault s out out' x t e)
 
-no_warnings : (s : Stop) → status_of s ≡ Warnings → ⊥
-no_warnings stop.Usage e = cc
-no_warnings stop.Missing e = cc
-no_warnings (stop.TooLong limit) e = cc
-no_warnings (stop.Refused refusal) e = cc
-no_warnings stop.ReadFault e = cc
-no_warnings stop.WriteFault e = cc
-no_warnings stop.NoMemory e = cc
+no_usage_fault : status_of stop.Usage ≢ FileFault
+no_usage_fault e = cc
 
-not_done : (s : Stop) → status_of s ≡ Done → ⊥
-not_done stop.Usage e = cc
-not_done stop.Missing e = cc
-not_done (stop.TooLong limit) e = cc
-not_done (stop.Refused refusal) e = cc
-not_done stop.ReadFault e = cc
-not_done stop.WriteFault e = cc
-not_done stop.NoMemory e = cc
+pub file_fault : (command : Option Command) (before after : Outside) (out out' : Output) (x : Status) → Ends command before after out out' x → x ≡ FileFault → Rose before.faults after.faults
+file_fault command before after out out' x (no_command none same t) e = absurd (no_usage_fault (concluded_fault stop.Usage out out' x t e))
+file_fault command before after out out' x (checked input output is h) e = fault_of_check input output before after out out' x h e
 
--- what the status of what is told says
-tells_fault : (s : Stop) (line : List ℕ) (before after : Output) (x : Status) → Tells s line before after x → x ≡ FileFault → status_of s ≡ FileFault
-tells_fault s line before after x (told at whole) e = sym at ∙ e
-tells_fault s line before after FileFault (fault_not_told prefix rose at) e = at
-tells_fault s line before after SinkFault (not_told prefix rose other) e = cc
-tells_fault s line before after NoMemory (not_all_told prefix) e = cc
+sink_fault_of_check : (input output : List ℕ) (before after : Outside) (out out' : Output) (x : Status) → EndsCheck input output before after out out' x → x ≡ SinkFault → Rose out.faults out'.faults
+sink_fault_of_check input output before after out out' Done (done is same) e = cc
+sink_fault_of_check input output before after out out' x (stopped s h t) e = concluded_sink_fault s out out' x t e
 
-tells_sink_fault : (s : Stop) (line : List ℕ) (before after : Output) (x : Status) → Tells s line before after x → x ≡ SinkFault → Rose before.faults after.faults
-tells_sink_fault s line before after x (told at whole) e = absurd (no_sink_fault s (sym at ∙ e))
-tells_sink_fault s line before after FileFault (fault_not_told prefix rose at) e = rose
-tells_sink_fault s line before after SinkFault (not_told prefix rose other) e = rose
-tells_sink_fault s line before after NoMemory (not_all_told prefix) e = cc
+pub sink_fault : (command : Option Command) (before after : Outside) (out out' : Output) (x : Status) → Ends command before after out out' x → x ≡ SinkFault → Rose out.faults out'.faults
+sink_fault command before after out out' x (no_command none same t) e = concluded_sink_fault stop.Usage out out' x t e
+sink_fault command before after out out' x (checked input output is h) e = sink_fault_of_check input output before after out out' x h e
 
-tells_no_warnings : (s : Stop) (line : List ℕ) (before after : Output) (x : Status) → Tells s line before after x → x ≢ Warnings
-tells_no_warnings s line before after x (told at whole) e = no_warnings s (sym at ∙ e)
-tells_no_warnings s line before after FileFault (fault_not_told prefix rose at) e = cc
-tells_no_warnings s line before after SinkFault (not_told prefix rose other) e = cc
-tells_no_warnings s line before after NoMemory (not_all_told prefix) e = cc
+-- where OUT may have changed, a fault of it or want of memory is told
+neither : (x : Status) → (x ≡ FileFault) ⊎ (x ≡ NoMemory) → x ≢ FileFault → x ≢ NoMemory → ⊥
+neither x (inl e) f m = f e
+neither x (inr e) f m = m e
 
-tells_not_done : (s : Stop) (line : List ℕ) (before after : Output) (x : Status) → Tells s line before after x → x ≢ Done
-tells_not_done s line before after x (told at whole) e = not_done s (sym at ∙ e)
-tells_not_done s line before after FileFault (fault_not_told prefix rose at) e = cc
-tells_not_done s line before after SinkFault (not_told prefix rose other) e = cc
-tells_not_done s line before after NoMemory (not_all_told prefix) e = cc
+write_told : (s : Stop) (name : List ℕ) (before after : Outside) (out out' : Output) (x : Status) → StopsAtWrite name before after s → Concludes s out out' x → (x ≡ FileFault) ⊎ (x ≡ NoMemory)
+write_told stop.Usage name before after out out' x h t = absurd h
+write_told (stop.Missing file) name before after out out' x h t = absurd h
+write_told (stop.TooLong file limit) name before after out out' x h t = absurd h
+write_told (stop.Refused refusal) name before after out out' x h t = absurd h
+write_told (stop.FileFault file) name before after out out' x h t = concluded_after_fault (stop.FileFault file) out out' x refl t
+write_told stop.NoMemory name before after out out' x h t = inr (concluded_no_memory out out' x t)
 
--- the status of a fault in writing OUT
-tells_write_fault : (line : List ℕ) (before after : Output) (x : Status) → Tells stop.WriteFault line before after x → x ≢ FileFault → x ≢ NoMemory → ⊥
-tells_write_fault line before after x (told at whole) f m = f at
-tells_write_fault line before after FileFault (fault_not_told prefix rose at) f m = f refl
-tells_write_fault line before after SinkFault (not_told prefix rose other) f m = other refl
-tells_write_fault line before after NoMemory (not_all_told prefix) f m = m refl
+stop_keeps : (s : Stop) (input output : List ℕ) (before after : Outside) (out out' : Output) (x : Status) → Stops input output before after s → Concludes s out out' x → x ≢ FileFault → x ≢ NoMemory → after.content ≡ before.content
+stop_keeps s input output before after out out' x (unread h kept) t f m = kept
+stop_keeps s input output before after out out' x (refused read may h kept) t f m = kept
+stop_keeps s input output before after out out' x (unwritten table accepted h others) t f m = absurd (neither x (write_told s output before after out out' x h t) f m)
 
-pub file_fault : (names : Option (List ℕ × List ℕ)) (before after : Outside) (out out' : Output) (x : Status) → Ends names before after out out' x → x ≡ FileFault → Rose before.faults after.faults
-file_fault names before after out out' x (no_command none same t) e = let u = tells_fault stop.Usage _ out out' x t e in cc
-file_fault names before after out out' Done (done input output some is same) e = cc
-file_fault names before after out out' x (stopped input output s some stops (tells other t)) e =
-    stop_fault s input output before after stops (tells_fault s _ out out' x t e)
-file_fault names before after out out' NoMemory (stopped input output s some stops (silent none same)) e = cc
+check_keeps : (input output : List ℕ) (before after : Outside) (out out' : Output) (x : Status) → EndsCheck input output before after out out' x → x ≢ Done → x ≢ FileFault → x ≢ NoMemory → after.content ≡ before.content
+check_keeps input output before after out out' Done (done is same) d f m = absurd (d refl)
+check_keeps input output before after out out' x (stopped s h t) d f m = stop_keeps s input output before after out out' x h t f m
 
-pub sink_fault : (names : Option (List ℕ × List ℕ)) (before after : Outside) (out out' : Output) (x : Status) → Ends names before after out out' x → x ≡ SinkFault → Rose out.faults out'.faults
-sink_fault names before after out out' x (no_command none same t) e = tells_sink_fault stop.Usage _ out out' x t e
-sink_fault names before after out out' Done (done input output some is same) e = cc
-sink_fault names before after out out' x (stopped input output s some stops (tells other t)) e = tells_sink_fault s _ out out' x t e
-sink_fault names before after out out' NoMemory (stopped input output s some stops (silent none same)) e = cc
+pub unchanged : (command : Option Command) (before after : Outside) (out out' : Output) (x : Status) → Ends command before after out out' x → x ≢ Done → x ≢ FileFault → x ≢ NoMemory → after.content ≡ before.content
+unchanged command before after out out' x (no_command none same t) d f m = ap (λ (o : Outside). o.content) same
+unchanged command before after out out' x (checked input output is h) d f m = check_keeps input output before after out out' x h d f m
 
-stop_keeps : (s : Stop) (input output line : List ℕ) (before after : Outside) (out out' : Output) (x : Status) → s ≢ stop.NoMemory → Stops input output before after s → Tells s line out out' x → x ≢ FileFault → x ≢ NoMemory → after.content ≡ before.content
-stop_keeps stop.Usage input output line before after out out' x o h t f m = absurd h
-stop_keeps stop.Missing input output line before after out out' x o h t f m = h.unchanged
-stop_keeps (stop.TooLong limit) input output line before after out out' x o h t f m = h.unchanged
-stop_keeps (stop.Refused refusal) input output line before after out out' x o h t f m = h.unchanged
-stop_keeps stop.ReadFault input output line before after out out' x o h t f m = h.unchanged
-stop_keeps stop.WriteFault input output line before after out out' x o h t f m = absurd (tells_write_fault line out out' x t f m)
-stop_keeps stop.NoMemory input output line before after out out' x o h t f m = absurd (o refl)
+-- what writes OUT changes at most OUT
+written_others : (output table : List ℕ) (before after : Option Content) → after ≡ writing before output table → ChangesAtMost output before after
+written_others output table None after is = subst (λ (c : Option Content). ChangesAtMost output None c) (sym is) tt
+written_others output table (Some held) after is = subst (λ (c : Option Content). ChangesAtMost output (Some held) c) (sym is) (λ other differs. get-insert_other held output table other differs)
 
-pub unchanged : (names : Option (List ℕ × List ℕ)) (before after : Outside) (out out' : Output) (x : Status) → Ends names before after out out' x → x ≢ Done → x ≢ FileFault → x ≢ NoMemory → after.content ≡ before.content
-unchanged names before after out out' x (no_command none same t) d f m = ap (λ (o : Outside). o.content) same
-unchanged names before after out out' Done (done input output some is same) d f m = absurd (d refl)
-unchanged names before after out out' x (stopped input output s some stops (tells other t)) d f m = stop_keeps s input output _ before after out out' x other stops t f m
-unchanged names before after out out' NoMemory (stopped input output s some stops (silent none same)) d f m = absurd (m refl)
+abbrev Left : Option Command → Outside → Outside → Type 0
+Left command before after = (after.content ≡ before.content) ⊎ MayChange command before.content after.content
 
-stop_others : (s : Stop) (input output : List ℕ) (before after : Outside) → Stops input output before after s → ChangesAtMost output before.content after.content
-stop_others stop.Usage input output before after h = absurd h
-stop_others stop.Missing input output before after h = changed_nothing output before.content after.content h.unchanged
-stop_others (stop.TooLong limit) input output before after h = changed_nothing output before.content after.content h.unchanged
-stop_others (stop.Refused refusal) input output before after h = changed_nothing output before.content after.content h.unchanged
-stop_others stop.ReadFault input output before after h = changed_nothing output before.content after.content h.unchanged
-stop_others stop.WriteFault input output before after h = h.others
-stop_others stop.NoMemory input output before after h = h
+stop_changes : (s : Stop) (command : Option Command) (input output : List ℕ) (before after : Outside) → command ≡ Some (check input output) → Stops input output before after s → Left command before after
+stop_changes s command input output before after is (unread h kept) = inl kept
+stop_changes s command input output before after is (refused read may h kept) = inl kept
+stop_changes s command input output before after is (unwritten table accepted h others) = inr (output_of_check input output table is accepted others)
 
-pub tells_nothing : (names : Option (List ℕ × List ℕ)) (before after : Outside) (out out' : Output) (x : Status) → Ends names before after out out' x → x ≡ Done → out'.written ≡ out.written
-tells_nothing names before after out out' x (no_command none same t) e = absurd (tells_not_done stop.Usage _ out out' x t e)
-tells_nothing names before after out out' Done (done input output some is same) e = ap (λ (o : Output). o.written) same
-tells_nothing names before after out out' x (stopped input output s some stops (tells other t)) e = absurd (tells_not_done s _ out out' x t e)
-tells_nothing names before after out out' NoMemory (stopped input output s some stops (silent none same)) e = ap (λ (o : Output). o.written) same
+check_changes : (command : Option Command) (input output : List ℕ) (before after : Outside) (out out' : Output) (x : Status) → command ≡ Some (check input output) → EndsCheck input output before after out out' x → Left command before after
+check_changes command input output before after out out' Done is (done d same) = inr (output_of_check input output d.table is d.accepted (written_others output d.table before.content after.content d.written))
+check_changes command input output before after out out' x is (stopped s h t) = stop_changes s command input output before after is h
 
-pub without_warnings : (names : Option (List ℕ × List ℕ)) (before after : Outside) (out out' : Output) (x : Status) → Ends names before after out out' x → x ≢ Warnings
-without_warnings names before after out out' x (no_command none same t) e = tells_no_warnings stop.Usage _ out out' x t e
-without_warnings names before after out out' Done (done input output some is same) e = cc
-without_warnings names before after out out' x (stopped input output s some stops (tells other t)) e = tells_no_warnings s _ out out' x t e
-without_warnings names before after out out' NoMemory (stopped input output s some stops (silent none same)) e = cc
+pub changes : (command : Option Command) (before after : Outside) (out out' : Output) (x : Status) → Ends command before after out out' x → Left command before after
+changes command before after out out' x (no_command none same t) = inl (ap (λ (o : Outside). o.content) same)
+changes command before after out out' x (checked input output is h) = check_changes command input output before after out out' x is h
 
--- each other name than OUT
-one_name : (names : Option (List ℕ × List ℕ)) (input output input' output' : List ℕ) → names ≡ Some (input, output) → names ≡ Some (input', output') → output ≡ output'
-one_name names input output input' output' p q = ap (λ (o : Option (List ℕ × List ℕ)). output_of o) (sym p ∙ q)
-  where
-    output_of : Option (List ℕ × List ℕ) → List ℕ
-    output_of None = []
-    output_of (Some both) = both.1
+silent_check : (input output : List ℕ) (before after : Outside) (out out' : Output) (x : Status) → EndsCheck input output before after out out' x → x ≡ Done → out'.written ≡ out.written
+silent_check input output before after out out' Done (done is same) e = ap (λ (o : Output). o.written) same
+silent_check input output before after out out' x (stopped s h t) e = absurd (concluded_not_done s out out' x t e)
 
-done_others : (output table : List ℕ) (before after : Option Content) → after ≡ writing before output table → ChangesAtMost output before after
-done_others output table None after e = subst (λ (c : Option Content). ChangesAtMost output None c) (sym e) tt
-done_others output table (Some content) after e = subst (λ (c : Option Content). ChangesAtMost output (Some content) c) (sym e) (λ other differs. get-insert_other content output table other differs)
+pub tells_nothing : (command : Option Command) (before after : Outside) (out out' : Output) (x : Status) → Ends command before after out out' x → x ≡ Done → out'.written ≡ out.written
+tells_nothing command before after out out' x (no_command none same t) e = absurd (concluded_not_done stop.Usage out out' x t e)
+tells_nothing command before after out out' x (checked input output is h) e = silent_check input output before after out out' x h e
 
-pub others : (names : Option (List ℕ × List ℕ)) (before after : Outside) (out out' : Output) (x : Status) (input output : List ℕ) → Ends names before after out out' x → names ≡ Some (input, output) → ChangesAtMost output before.content after.content
-others names before after out out' x input output (no_command none same t) e = let u : ◌≡◌ {A = Option (List ℕ × List ℕ)} None (Some (input, output)) = sym none ∙ e in cc
-others names before after out out' Done input output (done i o some is same) e = subst (λ (n : List ℕ). ChangesAtMost n before.content after.content) (one_name names i o input output some e) (done_others o is.table before.content after.content is.written)
-others names before after out out' x input output (stopped i o s some stops concludes) e = subst (λ (n : List ℕ). ChangesAtMost n before.content after.content) (one_name names i o input output some e) (stop_others s i o before after stops)
+no_warnings_of_check : (input output : List ℕ) (before after : Outside) (out out' : Output) (x : Status) → EndsCheck input output before after out out' x → x ≢ Warnings
+no_warnings_of_check input output before after out out' Done (done is same) e = cc
+no_warnings_of_check input output before after out out' x (stopped s h t) e = concluded_no_warnings s out out' x t e
 
-pub both_names : (names : Option (List ℕ × List ℕ)) (input output input' output' : List ℕ) → names ≡ Some (input, output) → names ≡ Some (input', output') → (input ≡ input') × (output ≡ output')
-both_names names input output input' output' p q =
-    let same : ◌≡◌ {A = Option (List ℕ × List ℕ)} (Some (input, output)) (Some (input', output')) = sym p ∙ q in
-    (ap input_of same, one_name names input output input' output' p q)
-  where
-    input_of : Option (List ℕ × List ℕ) → List ℕ
-    input_of None = []
-    input_of (Some both) = both.0
+pub without_warnings : (command : Option Command) (before after : Outside) (out out' : Output) (x : Status) → Ends command before after out out' x → x ≢ Warnings
+without_warnings command before after out out' x (no_command none same t) e = concluded_no_warnings stop.Usage out out' x t e
+without_warnings command before after out out' x (checked input output is h) e = no_warnings_of_check input output before after out out' x h e
 
--- a stop isn't done
-pub out_unwinds : (names : Option (List ℕ × List ℕ)) (before after : Outside) (out out' : Output) (x : Status) (input output : List ℕ) → Ends names before after out out' x → x ≡ Done → names ≡ Some (input, output) → OutUnwinds input output before.content after.content
-out_unwinds names before after out out' x input output (no_command none same t) e n = absurd (tells_not_done stop.Usage _ out out' x t e)
-out_unwinds names before after out out' Done input output (done i o some is same) e n =
-    let both = both_names names i o input output some n in
-    subst (λ (m : List ℕ). OutUnwinds m output before.content after.content) both.0 (subst (λ (m : List ℕ). OutUnwinds i m before.content after.content) both.1 is.unwinds)
-out_unwinds names before after out out' x input output (stopped i o s some stops (tells other t)) e n = absurd (tells_not_done s _ out out' x t e)
-out_unwinds names before after out out' NoMemory input output (stopped i o s some stops (silent none same)) e n = let u : ◌≡◌ {A = Status} NoMemory Done = e in cc
+-- ---- a command's names
+
+abbrev input_of : Command → List ℕ
+input_of (check input output) = input
+
+abbrev output_of : Command → List ℕ
+output_of (check input output) = output
+
+abbrev names_of : Option Command → List ℕ × List ℕ
+names_of None = ([], [])
+names_of (Some command) = (input_of command, output_of command)
+
+pub both_names : (command : Option Command) (input output input' output' : List ℕ) → command ≡ Some (check input output) → command ≡ Some (check input' output') → (input ≡ input') × (output ≡ output')
+both_names command input output input' output' p q =
+    let same = ap names_of (sym p ∙ q) in
+    (ap (λ (both : List ℕ × List ℕ). both.0) same, ap (λ (both : List ℕ × List ℕ). both.1) same)
+
+unwound : (input output : List ℕ) (before after : Outside) (out out' : Output) (x : Status) → EndsCheck input output before after out out' x → x ≡ Done → OutUnwinds input output before.content after.content
+unwound input output before after out out' Done (done is same) e = is.unwinds
+unwound input output before after out out' x (stopped s h t) e = absurd (concluded_not_done s out out' x t e)
+
+pub out_unwinds : (command : Option Command) (before after : Outside) (out out' : Output) (x : Status) (input output : List ℕ) → Ends command before after out out' x → x ≡ Done → command ≡ Some (check input output) → OutUnwinds input output before.content after.content
+out_unwinds command before after out out' x input output (no_command none same t) e n = absurd (concluded_not_done stop.Usage out out' x t e)
+out_unwinds command before after out out' x input output (checked i o is h) e n =
+    let both = both_names command i o input output is n in
+    subst (λ (m : List ℕ). OutUnwinds m output before.content after.content) both.0 (subst (λ (m : List ℕ). OutUnwinds i m before.content after.content) both.1 (unwound i o before after out out' x h e))

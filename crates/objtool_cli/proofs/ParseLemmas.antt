@@ -5,11 +5,11 @@ use Rattle.elf_objects.specs.Elf.{Elf}
 use Rattle.elf_objects.specs.Object.{FirstFault, IsObject, Refuses}
 use Rattle.elf_objects.specs.declared.fault.ElfFault.{ElfFault}
 use Rattle.elf_objects.specs.declared.fault.ElfFault.TheVariants.{Short, NotElfRel64, BadTable, BadRange, BadName, BadLink, BadSymbol, BadReloc, TooMany, NoMemory}
-use Rattle.objtool_cli.specs.declared.stop.Refusal.TheVariants as refusal
-use Rattle.objtool_cli.specs.declared.stop.Stop.{Stop}
-use Rattle.objtool_cli.specs.declared.stop.Stop.TheVariants as stop
-use Rattle.objtool_cli.specs.Checked.{malformed, undecoded}
-use Rattle.objtool_cli.specs.Command.{IsRefusal, IsUnread, parse_stop}
+use Rattle.command_base.specs.declared.refusal.Refusal.TheVariants as refusal
+use Rattle.command_base.specs.declared.stop.Stop.{Stop}
+use Rattle.command_base.specs.declared.stop.Stop.TheVariants as stop
+use Rattle.command_base.specs.Reading.{parse_stop}
+use Rattle.objtool_cli.specs.Checked.{IsRefusal, IsUnread, malformed, undecoded}
 
 -- a refusal is a fault where it isn't want of memory
 fault_of : (bytes : List ℕ) (e : ElfFault) → Refuses (FirstFault bytes) e → e ≢ NoMemory → FirstFault bytes e
@@ -36,7 +36,6 @@ text_refusal bytes o (stop.Refused (refusal.TooManySections count)) is h = absur
 text_refusal bytes o (stop.Refused refusal.NotBuilt) is h = absurd h
 text_refusal bytes o stop.NoMemory is h = tt
 text_refusal bytes o stop.Usage is h = absurd h
-text_refusal bytes o stop.Missing is h = absurd h
-text_refusal bytes o (stop.TooLong limit) is h = absurd h
-text_refusal bytes o stop.ReadFault is h = absurd h
-text_refusal bytes o stop.WriteFault is h = absurd h
+text_refusal bytes o (stop.Missing file) is h = absurd h
+text_refusal bytes o (stop.TooLong file limit) is h = absurd h
+text_refusal bytes o (stop.FileFault file) is h = absurd h

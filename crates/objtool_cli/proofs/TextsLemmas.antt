@@ -5,12 +5,12 @@ use Rattle.std.specs.List.{enumerate_from}
 use Rattle.std.proofs.lemmas.Bool.{false≢true}
 use Rattle.std.proofs.lemmas.List.{map-append, take_all, take_more}
 use Rattle.std.proofs.lemmas.List.Elements.{filter-append}
-use Rattle.walk_defs.specs.Placement.{TextSection}
+use Rattle.ot_base.specs.Section.{TextSection}
 use Rattle.elf_objects.specs.Contents.{is_text, no_section, section_at}
 use Rattle.elf_objects.specs.Elf.{Elf, SectionEntry}
 use Rattle.objtool_cli.specs.Form.{IsOnlyText}
 use Rattle.objtool_cli.specs.Texts.{bodies_of}
-use Rattle.objtool_cli.specs.Unwinding.{texts_of}
+use Rattle.command_base.specs.TextSections.{texts_of}
 
 left_out : {X : Type 0} (p : ℕ × X → Bool) (n : ℕ) (x : X) (rest : List (ℕ × X)) → p (n, x) ≡ false → filter p ((n, x) ∷ rest) ≡ filter p rest
 left_out p n x rest h = ap (λ b. cond b ((n, x) ∷ filter p rest) (filter p rest)) h

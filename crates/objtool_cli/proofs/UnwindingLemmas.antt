@@ -1,7 +1,8 @@
 -- From the law of straight code to the theorem of an object.
 use Rattle.std.proofs.Common.{◌≡◌, ℕ, List, [], ◌∷◌, refl, sym, ap, ◌∙◌, subst}
 use Rattle.operation_defs.specs.declared.insn.Insn.{Insn}
-use Rattle.program_defs.specs.Program.{Program, TextSection}
+use Rattle.ot_base.specs.Section.{TextSection}
+use Rattle.program_defs.specs.Program.{Program}
 use Rattle.walk_defs.specs.declared.range.Range.{Range}
 use Rattle.walk_defs.specs.Placement.{IsPlacement}
 use Rattle.elf_objects.specs.Elf.{Elf}
@@ -13,9 +14,10 @@ use Rattle.orc_output.specs.OrcOutput.{with_orc_object}
 use Rattle.straight_table.specs.Rows.{straight_rows}
 use Rattle.straight_law.specs.Laws.{IsStraightText, StraightUnwinds}
 use Rattle.straight_law.specs.Program.{program_of}
+use Rattle.command_base.specs.TextSections.{texts_of}
 use Rattle.objtool_cli.specs.Form.{IsStraightCode}
 use Rattle.objtool_cli.specs.Texts.{insns_of}
-use Rattle.objtool_cli.specs.Unwinding.{IsProgramOf, UnwindsBy, straight_code, texts_of}
+use Rattle.objtool_cli.specs.Unwinding.{IsProgramOf, UnwindsBy, straight_code}
 use Rattle.objtool_cli.proofs.TextsLemmas.{one_text}
 
 -- the section of the code

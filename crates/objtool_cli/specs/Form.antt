@@ -6,6 +6,7 @@ use Rattle.elf_objects.specs.declared.symbol.Home.TheVariants as home
 use Rattle.elf_objects.specs.Elf.{Elf, SectionEntry, SymbolEntry}
 use Rattle.elf_objects.specs.Contents.{is_text, section_at, section_symbol_of}
 use Rattle.elf_objects.specs.Kind.{sht_rela, sht_group}
+use Rattle.elf_objects.specs.declared.TheConstants.{MAX_FILE_BYTES, STT_FUNC}
 use Rattle.straight_table.specs.Straight.{IsStraight, ops_of}
 use Rattle.x86_text.specs.Code.{IsCode}
 use Rattle.objtool_cli.specs.Texts.{insns_of}
@@ -30,16 +31,12 @@ is_among names name = list_any (λ known. bytes_eq name known) names
 abbrev pub is_special : List ℕ → Bool
 is_special name = is_among patch_names name || (is_among hint_names name || is_among orc_names name)
 
--- the section has no relocations, is no group, and has no special name
+-- the section is no table of relocations and no group, and has no special name
 abbrev pub is_simple : SectionEntry → Bool
 is_simple s = not ((s.kind == sht_rela) || ((s.kind == sht_group) || is_special s.name))
 
--- the type STT_FUNC of a symbol
-abbrev pub stt_func : ℕ
-stt_func = 2
-
 abbrev pub is_function : SymbolEntry → Bool
-is_function s = s.kind == stt_func
+is_function s = s.kind == STT_FUNC
 
 -- The symbol covers exactly the section: it is defined at its beginning, and has its size.
 pub record Covers (o : Elf) (text : ℕ) (s : SymbolEntry) : Type 0 where
@@ -54,9 +51,9 @@ pub record IsOnlyText (o : Elf) (text : ℕ) : Type 0 where
   pub only : (i : ℕ) → i < length o.sections → is_text (section_at o i) ≡ true → i ≡ text
 
 -- The sections and symbols are those of one function in this section: it has a section symbol, it is covered by the one
--- function, and there is nothing else that says more of code.
+-- function, and no section has relocations, is a group, or has a special name.
 pub record IsFunctionAround (o : Elf) (sec : ℕ) : Type 0 where
-  pub little : length o.bytes ≤ 67108864
+  pub little : length o.bytes ≤ MAX_FILE_BYTES
   pub symbol : IsSome (section_symbol_of o sec)
   pub simple : All (λ s. is_simple s ≡ true) o.sections
   pub function : SymbolEntry

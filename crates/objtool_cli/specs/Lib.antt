@@ -1,9 +1,6 @@
-pub mod Texts
-pub mod Words
-pub mod Refusal
-pub mod Stop
-pub mod Status
 pub mod Checked
 pub mod Command
 pub mod Form
+pub mod Texts
 pub mod Unwinding
+pub mod Words

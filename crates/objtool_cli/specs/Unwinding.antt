@@ -1,8 +1,7 @@
 -- The unwinding theorem: wherever the code of an object is placed, and whatever it does, a walk over the tables in the bytes
 -- that are written for it finds exactly the callers that it has.
-use Rattle.std.specs.Prelude.{◌≡◌, ⊤, ℕ, List, map, filter, Option, Some, None}
+use Rattle.std.specs.Prelude.{◌≡◌, ⊤, ℕ, List, Option, Some, None}
 use Rattle.std.specs.FinMap.{get}
-use Rattle.std.specs.List.{enumerate_from}
 use Rattle.ot_base.specs.declared.row.PlacedRow.{PlacedRow}
 use Rattle.ot_files.specs.Content.{Content}
 use Rattle.operation_defs.specs.declared.insn.Insn.{Insn}
@@ -10,8 +9,8 @@ use Rattle.program_defs.specs.Program.{Program}
 use Rattle.machine_defs.specs.Machine.{Bases, Machine}
 use Rattle.machine_defs.specs.Run.{Run}
 use Rattle.walk_defs.specs.declared.range.Range.{Range}
-use Rattle.walk_defs.specs.Placement.{TextSection, IsPlacement}
-use Rattle.elf_objects.specs.Contents.{is_text, section_at}
+use Rattle.walk_defs.specs.Placement.{IsPlacement}
+use Rattle.elf_objects.specs.Contents.{section_at}
 use Rattle.elf_objects.specs.Elf.{Elf}
 use Rattle.elf_objects.specs.Object.{IsObject}
 use Rattle.orc_bytes.specs.Sections.{HoldsOrc}
@@ -19,11 +18,8 @@ use Rattle.orc_output.specs.OrcOutput.{with_orc_object}
 use Rattle.table_defs.specs.Placed.{BeginAt}
 use Rattle.table_defs.specs.Walks.{WalksToFrames}
 use Rattle.straight_law.specs.Program.{program_of}
+use Rattle.command_base.specs.TextSections.{texts_of}
 use Rattle.objtool_cli.specs.Form.{IsStraightCode}
-
--- the text sections of an object, ascending
-abbrev pub texts_of : Elf → List TextSection
-texts_of o = map (λ e. record { sec = e.0; size = e.1.size }) (filter (λ e. is_text e.1) (enumerate_from 0 o.sections))
 
 -- The program that an object is, by the form of the object: of straight code, that of its instructions.
 pub data IsProgramOf (o : Elf) : Program → Type 0 where

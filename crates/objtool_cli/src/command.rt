@@ -1,58 +1,18 @@
 ghost use Rattle.std.specs.Prelude.{◌≡◌, ◌≢◌, ◌⊎◌, ◌≤◌, ℕ, List, Ok, Some, map, string_bytes};
 ghost use Rattle.ot_files.specs.Causes.{Rose};
-ghost use Rattle.ot_files.specs.Content.{ChangesAtMost, Content, reading};
+ghost use Rattle.ot_files.specs.Content.{Content, reading};
 ghost use Rattle.objtool_cli.specs.Checked.{Accepts};
-ghost use Rattle.objtool_cli.specs.Stop.{line_of};
-ghost use Rattle.objtool_cli.specs.Words.{check_of};
+ghost use Rattle.objtool_cli.specs.Words.{check, command_of};
 ghost use Rattle.objtool_cli.specs.Unwinding.{OutUnwinds};
-ghost use Rattle.objtool_cli.specs.Command.{Concludes, Ends, Tells, ended};
+ghost use Rattle.objtool_cli.specs.Command.{Ends, EndsCheck, MayChange};
 
-use crate::check::{MOST_BYTES, check, read_input};
-use crate::status::Status;
-use crate::stop::{Stop, StopLine};
+use crate::check::check;
 use crate::words::{Check, read_words};
-use ot_files::{Files, Sink, SinkError, write_line};
+use command_base::{Status, Stop, conclude, read_file};
+use elf_objects::MAX_FILE_BYTES;
+use ot_files::{Files, Sink};
 use std::alloc::Global;
 use x86_decode::one_outcome;
-
-/// The status of a command whose line was written so. A file's fault stays one.
-fn ended(status: Status, written: Result<(), SinkError>) -> Status
-    ensures { result ≡ ended status written }
-{
-    match (written, status) {
-        (Ok(()), _) => status,
-        (Err(SinkError::NoMemory), _) => Status::NoMemory,
-        (Err(SinkError::Failed), Status::FileFault) => Status::FileFault,
-        (Err(SinkError::Failed), _) => Status::SinkFault,
-    }
-}
-
-/// Writes the line of a stop, and gives the status that the command ends with.
-fn tell<S: Sink>(alloc: Global, line: StopLine<'_, '_>, out: &mut S) -> Status
-    ensures told { Tells line.entry.stop (line_of line.entry.stop line.entry.input.now line.entry.output.now)
-        (record { written = S.written out.old; faults = S.faults out.old })
-        (record { written = S.written out.new; faults = S.faults out.new }) result }
-    ensures later { S.faults out.old ≤ S.faults out.new }
-{
-    let status = line.stop.status();
-    let Ok(text) = format!(in alloc; "{line}") else {
-        return Status::NoMemory;
-    };
-    ended(status, write_line(out, text.as_bytes()))
-}
-
-/// Tells why a command stopped, unless memory ran out, and gives the status that it ends with.
-fn conclude<S: Sink>(alloc: Global, line: StopLine<'_, '_>, out: &mut S) -> Status
-    ensures concluded { Concludes line.entry.stop (line_of line.entry.stop line.entry.input.now line.entry.output.now)
-        (record { written = S.written out.old; faults = S.faults out.old })
-        (record { written = S.written out.new; faults = S.faults out.new }) result }
-    ensures later { S.faults out.old ≤ S.faults out.new }
-{
-    match line.stop {
-        Stop::NoMemory => Status::NoMemory,
-        _ => tell(alloc, line, out),
-    }
-}
 
 /// Reads the input, checks it, writes it with its tables, and tells why where it stops.
 fn read_and_check<F: Files, S: Sink>(
@@ -61,7 +21,7 @@ fn read_and_check<F: Files, S: Sink>(
     files: &mut F,
     out: &mut S,
 ) -> Status
-    ensures ends { Ends (Some (names.entry.input.now, names.entry.output.now))
+    ensures ends { EndsCheck names.entry.input.now names.entry.output.now
         (record { content = F.content files.old; faults = F.faults files.old })
         (record { content = F.content files.new; faults = F.faults files.new })
         (record { written = S.written out.old; faults = S.faults out.old })
@@ -69,28 +29,13 @@ fn read_and_check<F: Files, S: Sink>(
     ensures files_later { F.faults files.old ≤ F.faults files.new }
     ensures out_later { S.faults out.old ≤ S.faults out.new }
 {
-    let Check { input, output } = names;
-    let bytes = match read_input(alloc, input, files) {
+    let bytes = match read_file(alloc, names.input, MAX_FILE_BYTES, files) {
         Ok(bytes) => bytes,
-        Err(stop) => {
-            let line = StopLine {
-                stop,
-                input,
-                output,
-            };
-            return conclude(alloc, line, out);
-        }
+        Err(stop) => return conclude(alloc, stop, out),
     };
     match check(alloc, names, bytes.as_slice(), files) {
         Ok(()) => Status::Done,
-        Err(stop) => {
-            let line = StopLine {
-                stop,
-                input,
-                output,
-            };
-            conclude(alloc, line, out)
-        }
+        Err(stop) => conclude(alloc, stop, out),
     }
 }
 
@@ -101,7 +46,7 @@ fn dispatch<F: Files, S: Sink>(
     files: &mut F,
     out: &mut S,
 ) -> Status
-    ensures ends { Ends (check_of (map string_bytes words.now))
+    ensures ends { Ends (command_of (map string_bytes words.now))
         (record { content = F.content files.old; faults = F.faults files.old })
         (record { content = F.content files.new; faults = F.faults files.new })
         (record { written = S.written out.old; faults = S.faults out.old })
@@ -111,14 +56,7 @@ fn dispatch<F: Files, S: Sink>(
 {
     match read_words(words) {
         Some(names) => read_and_check(alloc, names, files, out),
-        None => {
-            let line = StopLine {
-                stop: Stop::Usage,
-                input: "",
-                output: "",
-            };
-            tell(alloc, line, out)
-        }
+        None => conclude(alloc, Stop::Usage, out),
     }
 }
 
@@ -131,7 +69,7 @@ fn dispatch<F: Files, S: Sink>(
 /// memory.
 pub fn run<F: Files, S: Sink>(alloc: Global, words: &[String], files: &mut F, out: &mut S) -> Status
     // What was done to the files and told to the output, and why.
-    ensures ends { Ends (check_of (map string_bytes words.now))
+    ensures ends { Ends (command_of (map string_bytes words.now))
         (record { content = F.content files.old; faults = F.faults files.old })
         (record { content = F.content files.new; faults = F.faults files.new })
         (record { written = S.written out.old; faults = S.faults out.old })
@@ -141,12 +79,12 @@ pub fn run<F: Files, S: Sink>(alloc: Global, words: &[String], files: &mut F, ou
     // of every run of the stack machine on IN, walking the tables in the bytes that OUT holds gives exactly the frames of
     // the machine's shadow call stack, innermost first, down to the outermost frame or to the first place whose unwind
     // hint ends the stack.
-    ensures unwinds { (input output : List ℕ) → result ≡ Status.Done → check_of (map string_bytes words.now) ≡ Some (input, output)
+    ensures unwinds { (input output : List ℕ) → result ≡ Status.Done → command_of (map string_bytes words.now) ≡ Some (check input output)
         → OutUnwinds input output (F.content files.old) (F.content files.new) }
 
     // An input that is accepted is refused nowhere: it is done, unless a file's fault or want of memory is answered.
-    ensures accepts { (input output read table : List ℕ) (held : Content) → check_of (map string_bytes words.now) ≡ Some (input, output)
-        → F.content files.old ≡ Some held → reading held input MOST_BYTES ≡ Ok read → Accepts read table
+    ensures accepts { (input output read table : List ℕ) (held : Content) → command_of (map string_bytes words.now) ≡ Some (check input output)
+        → F.content files.old ≡ Some held → reading held input MAX_FILE_BYTES ≡ Ok read → Accepts read table
         → (result ≡ Status.Done) ⊎ ((result ≡ Status.FileFault) ⊎ (result ≡ Status.NoMemory)) }
 
     // A fault is answered only where its count rose in this call, and no count falls.
@@ -155,11 +93,11 @@ pub fn run<F: Files, S: Sink>(alloc: Global, words: &[String], files: &mut F, ou
     ensures files_later { F.faults files.old ≤ F.faults files.new }
     ensures out_later { S.faults out.old ≤ S.faults out.new }
 
-    // No file but OUT is changed, and OUT only at these answers.
+    // A file is changed only at these answers, only where IN was accepted, and only OUT.
     ensures unchanged { result ≢ Status.Done → result ≢ Status.FileFault → result ≢ Status.NoMemory
         → F.content files.new ≡ F.content files.old }
-    ensures others { (input output : List ℕ) → check_of (map string_bytes words.now) ≡ Some (input, output)
-        → ChangesAtMost output (F.content files.old) (F.content files.new) }
+    ensures changes { (F.content files.new ≡ F.content files.old)
+        ⊎ MayChange (command_of (map string_bytes words.now)) (F.content files.old) (F.content files.new) }
 
     // Nothing is told where all was done, and no warning is made so far.
     ensures silent { result ≡ Status.Done → S.written out.new ≡ S.written out.old }

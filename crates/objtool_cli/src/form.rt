@@ -1,6 +1,7 @@
 ghost use Rattle.std.specs.Prelude.{◌≡◌, ◌↔◌, ◌<◌, true, ◌∷◌, [], All, IsTrue, IfOk, IfSome, IfNone, filter, map, length, option_map, bytes_eq};
 ghost use Rattle.elf_objects.specs.Contents.{section_at, symbol_at};
 ghost use Rattle.elf_objects.specs.Elf.{SymbolEntry};
+ghost use Rattle.elf_objects.specs.Lent.{IsSlice};
 ghost use Rattle.objtool_cli.specs.Form.{hint_names, is_among, is_simple, is_special, orc_names, patch_names, is_function, IsFunctionAround, IsStraightCode};
 ghost use Rattle.objtool_cli.specs.Checked.{HasForm};
 ghost use Rattle.objtool_cli.specs.Texts.{bodies_of, body_in, insns_of};
@@ -8,21 +9,12 @@ ghost use Rattle.straight_law.specs.Laws.{IsStraightText};
 ghost use Rattle.x86_text.specs.Code.{IsCode, LeadsTo, code_of};
 
 use crate::texts::SectionText;
-use elf_objects::{Home, Object, Symbol};
+use elf_objects::{Home, MAX_FILE_BYTES, Object, SHT_GROUP, SHT_RELA, STT_FUNC, Symbol};
 use operation_defs::Insn;
 use ot_base::NoMemory;
 use std::alloc::Global;
 use straight_table::is_straight;
 use x86_text::Text;
-
-/// How many bytes an object may have.
-const MOST_BYTES: usize = 67_108_864;
-
-const SHT_RELA: u32 = 4;
-
-const SHT_GROUP: u32 = 17;
-
-const STT_FUNC: u8 = 2;
 
 /// Whether the name of a section is this one.
 fn is_named(object: &Object<'_>, i: u32, name: &[u8]) -> bool
@@ -131,9 +123,11 @@ fn covers(symbol: &Symbol, sec: u32, size: u64) -> bool
 /// Whether the symbols and the other sections are those of one function in this text section.
 fn is_function_around(object: &Object<'_>, sec: u32) -> bool
     requires { sec < length object.now.sections }
-    ensures { IsTrue result ↔ IsFunctionAround object.now sec }
+    ensures around { IsTrue result ↔ IsFunctionAround object.now sec }
+    // What the size says lies in the file.
+    ensures slice { IsTrue result → IsSlice object.now.bytes (section_at object.now sec) }
 {
-    if object.bytes().len() > MOST_BYTES
+    if object.bytes().len() as u64 > MAX_FILE_BYTES
         || object.section_symbol(sec).is_none()
         || !are_simple(object)
     {
@@ -179,8 +173,6 @@ pub fn straight_code(
     if !is_function_around(object, only.sec) {
         return Ok(None);
     }
-    let _bytes = object.bytes();
-    let _section = object.section(only.sec);
     let insns = insns_of(alloc, &only.text)?;
     if is_straight(&insns) {
         Ok(Some(StraightCode {

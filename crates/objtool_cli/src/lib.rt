@@ -3,16 +3,10 @@
 
 mod check;
 mod command;
-mod fault_text;
 mod form;
-mod status;
-mod stop;
 mod tables;
-#[cfg(test)]
-mod tests;
 mod texts;
-mod undecoded_text;
 mod words;
 
 pub use command::run;
-pub use status::Status;
+pub use command_base::Status;

@@ -1,14 +1,14 @@
 ghost use Rattle.std.specs.Prelude.{◌≡◌, ◌<◌, map, length, IfOk, IfErr, OnOk, true};
 ghost use Rattle.elf_objects.specs.Contents.{is_text, section_at};
+ghost use Rattle.elf_objects.specs.Object.{IsObject};
 ghost use Rattle.x86_text.specs.Code.{IsCode};
-ghost use Rattle.objtool_cli.specs.Texts.{AreCode, bodies_of, body_in, IsFirstUndecoded};
-ghost use Rattle.x86_text.specs.Refused.{IsTextFault};
-ghost use Rattle.objtool_cli.specs.Command.{IsUnread, TellsFault};
+ghost use Rattle.objtool_cli.specs.Checked.{IsUnread};
+ghost use Rattle.objtool_cli.specs.Texts.{AreCode, bodies_of, body_in};
 
-use crate::stop::{Refusal, Stop, Undecoded};
+use command_base::{Refusal, Stop};
 use elf_objects::Object;
 use std::alloc::Global;
-use x86_text::{Text, TextFault};
+use x86_text::{Text, TextFault, TextFaultText};
 
 /// The instructions of a text section.
 #[derive(Drop)]
@@ -19,36 +19,25 @@ pub struct SectionText<'a> {
     pub text: Text<'a>,
 }
 
-/// Why a section's body isn't code.
-fn text_stop<'a>(name: &'a [u8], body: &'a [u8], fault: TextFault) -> Stop<'a>
-    requires { IsTextFault body.now fault }
-    ensures { TellsFault name.now body.now fault result }
-{
-    match fault {
-        TextFault::NoMemory => Stop::NoMemory,
-        TextFault::At { off, why } => Stop::Refused(Refusal::Undecoded(Undecoded {
-            section: name,
-            off,
-            code: &body[off as usize..],
-            why,
-        })),
-    }
-}
-
 /// Decodes a text section, or tells the first place of it where an instruction ought to stand and none
 /// does.
 fn read_text<'a>(alloc: Global, object: &Object<'a>, sec: u32) -> Result<Text<'a>, Stop<'a>>
+    requires object { IsObject object.now.bytes object.now }
     requires inside { sec < length object.now.sections }
     requires text { is_text (section_at object.now sec) ≡ true }
     ensures read { IfOk result (λ text. text ≡ (section_at object.now sec).body) }
     ensures code { OnOk result (IsCode (section_at object.now sec).body) }
     ensures fault { AreCode object.now sec → IfErr result (IsUnread object.now) }
 {
-    let _bytes = object.bytes();
-    let section = object.section(sec);
-    match Text::read(alloc, section.body) {
+    let body = object.section(sec).body;
+    match Text::read(alloc, body) {
         Ok(text) => Ok(text),
-        Err(fault) => Err(text_stop(object.name_of_section(sec), section.body, fault)),
+        Err(TextFault::NoMemory) => Err(Stop::NoMemory),
+        Err(TextFault::At { off, why }) => Err(Stop::Refused(Refusal::Undecoded(TextFaultText {
+            fault: TextFault::At { off, why },
+            section: object.name_of_section(sec),
+            body,
+        }))),
     }
 }
 

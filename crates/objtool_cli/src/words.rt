@@ -1,7 +1,7 @@
 ghost use Rattle.std.specs.Prelude.{◌≡◌, map, option_map, string_bytes};
-ghost use Rattle.objtool_cli.specs.Words.{check_of, is_name};
+ghost use Rattle.objtool_cli.specs.Words.{check, command_of, is_name};
 
-/// What the words `check IN OUT` ask for.
+/// The names of the files of `check IN OUT`.
 #[derive(Clone, Copy, Debug)]
 pub struct Check<'a> {
     /// The name of the object to check.
@@ -20,9 +20,9 @@ fn is_name(word: &str) -> bool
     }
 }
 
-/// The names of the words `check IN OUT`, or `None` for all other words.
+/// The command of these words, or `None` where they are none.
 pub fn read_words(words: &[String]) -> Option<Check<'_>>
-    ensures { option_map (λ c. (c.input.now, c.output.now)) result ≡ check_of (map string_bytes words.now) }
+    ensures { option_map (λ c. check c.input.now c.output.now) result ≡ command_of (map string_bytes words.now) }
 {
     match words {
         [command, input, output]

@@ -1,6 +1,7 @@
-use Rattle.std.proofs.Common.{◌≡◌, ℕ, List, ap, ◌∙◌}
-use Rattle.std.specs.Prelude.{Option}
+use Rattle.std.proofs.Common.{◌≡◌, ℕ, List, ap, ◌∙◌, refl}
+use Rattle.std.specs.Prelude.{Option, Err}
 use Rattle.ot_files.specs.Content.{Content, writing}
+use Rattle.objtool_cli.specs.Command.{refused, unwritten}
 use Rattle.objtool_cli.proofs.ContentLemmas.{is_done}
 use Rattle.objtool_cli.proofs.check.check.Goals as goal
 
@@ -13,3 +14,14 @@ returns-in-Ok-write-clause-done g c =
     let output : List ℕ = c.args.names.output.now in
     is_done c.args.names.input.now output c.args.bytes.now c.in-Ok.table.items _ _ c.requires.read c.in-Ok.ensures.accepted c.in-Ok.ensures.unwinds
     (written_as output _ c.in-Ok.table.items _ _ c.in-Ok-write.ensures.ok c.as_slice.ensures.value)
+
+pub returns-in-Err-clause-stopped : goal.returns-in-Err-clause-stopped
+returns-in-Err-clause-stopped g c = refused c.args.bytes.now c.requires.read c.in-Err.ensures.refused refl
+
+pub returns-in-Err-NoMemory-clause-stopped : goal.returns-in-Err-NoMemory-clause-stopped
+returns-in-Err-NoMemory-clause-stopped g c =
+    unwritten c.in-Ok.table.items (record { read = c.args.bytes.now; may = c.requires.read; accepts = c.in-Ok.ensures.accepted }) tt c.in-Err-NoMemory.ensures.err
+
+pub returns-in-Err-Failed-clause-stopped : goal.returns-in-Err-Failed-clause-stopped
+returns-in-Err-Failed-clause-stopped g c =
+    unwritten c.in-Ok.table.items (record { read = c.args.bytes.now; may = c.requires.read; accepts = c.in-Ok.ensures.accepted }) (refl, c.in-Err-Failed.ensures.failed (ap Err c.in-Err-Failed.field-0-is)) c.in-Err-Failed.ensures.err

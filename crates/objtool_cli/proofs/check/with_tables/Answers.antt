@@ -1,5 +1,5 @@
 use Rattle.std.proofs.Common.{sym, subst}
-use Rattle.objtool_cli.specs.Command.{IsRefusal}
+use Rattle.objtool_cli.specs.Checked.{IsRefusal}
 use Rattle.objtool_cli.proofs.ParseLemmas.{parse_refusal, text_refusal}
 use Rattle.objtool_cli.proofs.check.with_tables.Goals as goal
 

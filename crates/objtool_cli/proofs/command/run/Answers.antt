@@ -1,4 +1,4 @@
-use Rattle.objtool_cli.proofs.EndsLemmas.{file_fault, others, out_unwinds, sink_fault, tells_nothing, unchanged, without_warnings}
+use Rattle.objtool_cli.proofs.EndsLemmas.{changes, file_fault, out_unwinds, sink_fault, tells_nothing, unchanged, without_warnings}
 use Rattle.objtool_cli.proofs.AcceptsLemmas.{left}
 use Rattle.objtool_cli.proofs.command.run.Goals as goal
 
@@ -11,8 +11,8 @@ returns-clause-sink_fault g c e = sink_fault _ _ _ _ _ _ c.dispatch.ensures.ends
 pub returns-clause-unchanged : goal.returns-clause-unchanged
 returns-clause-unchanged g c d f m = unchanged _ _ _ _ _ _ c.dispatch.ensures.ends d f m
 
-pub returns-clause-others : goal.returns-clause-others
-returns-clause-others g c input output e = others _ _ _ _ _ _ input output c.dispatch.ensures.ends e
+pub returns-clause-changes : goal.returns-clause-changes
+returns-clause-changes g c = changes _ _ _ _ _ _ c.dispatch.ensures.ends
 
 pub returns-clause-silent : goal.returns-clause-silent
 returns-clause-silent g c e = tells_nothing _ _ _ _ _ _ c.dispatch.ensures.ends e

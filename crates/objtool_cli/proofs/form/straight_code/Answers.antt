@@ -21,11 +21,6 @@ is_function_around-requires c =
     let t = c.index-texts-0.result in
     (only_text c.args.object.now c.args.texts.now t c.requires (one c.args.texts.now t c.if-texts-ne1.false c.index-texts-0.is)).text.inside
 
-pub section-section-requires : goal.section-section-requires
-section-section-requires c =
-    let t = c.index-texts-0.result in
-    (only_text c.args.object.now c.args.texts.now t c.requires (one c.args.texts.now t c.if-texts-ne1.false c.index-texts-0.is)).text.inside
-
 not_so : (r : Bool) (P : Type 0) → r ≡ false → (P → r ≡ true) → P → ⊥
 not_so r P h f p = false≢true (sym h ∙ f p)
 
@@ -34,7 +29,7 @@ returns-then-not-is_function_around-clause-none c form =
     let o = c.args.object.now in
     let t = c.index-texts-0.result in
     let only = only_text o c.args.texts.now t c.requires (one c.args.texts.now t c.if-texts-ne1.false c.index-texts-0.is) in
-    not_so c.is_function_around.result (IsFunctionAround o t.sec) c.if-not-is_function_around.true c.is_function_around.ensures.1
+    not_so c.is_function_around.result (IsFunctionAround o t.sec) c.if-not-is_function_around.true c.is_function_around.ensures.around.1
     (subst (λ (n : ℕ). IsFunctionAround o n) (form_of o t.sec t.text only form).0 form.form.around)
 
 pub returns-then-is_straight-clause-found : goal.returns-then-is_straight-clause-found
@@ -44,7 +39,7 @@ returns-then-is_straight-clause-found c =
     let only = only_text o c.args.texts.now t c.requires (one c.args.texts.now t c.if-texts-ne1.false c.index-texts-0.is) in
     record {
       text = only.text;
-      around = c.is_function_around.ensures.0 c.if-not-is_function_around.false;
+      around = c.is_function_around.ensures.around.0 c.if-not-is_function_around.false;
       code = subst IsCode only.body c.insns_of.ensures.code;
       listed = c.in_ok-insns.ensures.insns ∙ ap insns_of only.body;
       straight = subst (λ insns. IsStraight (ops_of insns)) c.deref.ensures.value (c.is_straight.ensures.0 c.if-is_straight.true);
@@ -56,7 +51,7 @@ returns-then-is_straight-clause-fills c =
     let t = c.index-texts-0.result in
     let only = only_text o c.args.texts.now t c.requires (one c.args.texts.now t c.if-texts-ne1.false c.index-texts-0.is) in
     straight_text o.bytes o t.sec t.text c.in_ok-insns.insns.items only.text.is_code
-    c.section-section.ensures.slice only.body c.insns_of.ensures.some c.insns_of.ensures.whole c.in_ok-insns.ensures.insns
+    (c.is_function_around.ensures.slice c.if-not-is_function_around.false) only.body c.insns_of.ensures.some c.insns_of.ensures.whole c.in_ok-insns.ensures.insns
     (subst (λ insns. IsStraight (ops_of insns)) c.deref.ensures.value (c.is_straight.ensures.0 c.if-is_straight.true))
 
 pub returns-else-is_straight-clause-none : goal.returns-else-is_straight-clause-none

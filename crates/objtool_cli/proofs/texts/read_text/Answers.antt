@@ -1,4 +1,4 @@
-use Rattle.std.proofs.Common.{length, ap, subst, arith}
+use Rattle.std.proofs.Common.{length, ap, arith}
 use Rattle.elf_objects.specs.Elf.{SectionEntry}
 use Rattle.objtool_cli.proofs.CodeLemmas.{body_size, text_small}
 use Rattle.objtool_cli.proofs.texts.read_text.Goals as goal
@@ -6,7 +6,6 @@ use Rattle.objtool_cli.proofs.texts.read_text.Goals as goal
 pub read-requires : goal.read-requires
 read-requires c =
     let o = c.args.object.now in
-    let value = c.section-section.ensures.value in
-    let own = body_size o.bytes _ c.requires.text c.section-section.ensures.slice in
-    let small = text_small c.bytes-bytes.result.now o c.args.sec c.bytes-bytes.ensures.object c.requires.inside c.requires.text in
-    omega (arith, own.0, small, ap (λ (s : SectionEntry). length s.body) value)
+    let own = body_size o.bytes _ c.requires.text c.section.ensures.slice in
+    let small = text_small o.bytes o c.args.sec c.requires.object c.requires.inside c.requires.text in
+    omega (arith, own.0, small, ap (λ (s : SectionEntry). length s.body) c.section.ensures.value)

@@ -4,7 +4,7 @@
 use super::object::make;
 use super::reading::section;
 use super::{only_in, words};
-use crate::{Status, run};
+use objtool_cli::{Status, run};
 use ot_files::{SureFiles, SureSink};
 use std::process::Abort;
 use std::test::Fail;

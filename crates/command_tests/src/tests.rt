@@ -7,8 +7,8 @@ mod object;
 mod reading;
 mod walking;
 
-use crate::{Status, run};
 use object::make;
+use objtool_cli::{Status, run};
 use ot_files::{FileError, Files, MemFiles, MemSink, SureFiles, SureSink};
 use reading::section;
 use std::alloc::{AllocError, Global};
