@@ -3,6 +3,7 @@
 
 mod bodies;
 mod fault;
+mod fault_text;
 mod laws;
 mod reading;
 mod relocs;
