@@ -1,5 +1,5 @@
 //! One instruction of x86-64 code: its length, and what it does to rsp, rbp, the stack and the flow of control
-//! (Intel SDM, volume 2).
+//! (Intel SDM, volume 2, cut to the opcode map of `x86_map`).
 #![tactic(auto)]
 
 ghost use Rattle.std.specs.Prelude.{◌≡◌, ◌≢◌, ◌<◌, ◌≤◌, ◌↔◌, ℕ, length, IfOk};

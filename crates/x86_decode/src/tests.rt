@@ -61,13 +61,6 @@ fn outside_the_map(rt: HostRuntime) {
     refuse(&rt, b"\xFF\xF8", DecodeFault::Outside { seen: 2 });
 }
 
-// MOV CH, AL and MOV BPL, AL.
-#[test]
-fn byte_registers(rt: HostRuntime) {
-    expect(&rt, b"\x88\xC5", 2, Op::Plain);
-    expect(&rt, b"\x40\x88\xC5", 3, Op::BpOther);
-}
-
 #[test]
 fn stack(rt: HostRuntime) {
     expect(&rt, b"\x55", 1, Op::PushBp);

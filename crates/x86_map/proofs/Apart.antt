@@ -1,8 +1,9 @@
 -- No two forms of an opcode fit at once.
-use Rattle.std.proofs.Common.{◌≡◌, ℕ, ◌+◌, ◌<◌, Bool, true, false, cond, List, [], ◌∷◌, get_or, length, refl, sym, ap, ◌∙◌, arith, inl, inr, zero, suc}
-use Rattle.std.specs.Prelude.{◌&&◌, ◌||◌, not, Option, Some, None, IfSome, map}
+use Rattle.std.proofs.Common.{◌≡◌, ℕ, ◌+◌, ◌<◌, Bool, true, false, cond, List, [], ◌∷◌, get_or, length, refl, sym, ◌∙◌, arith, inl, inr, zero, suc}
+use Rattle.std.specs.Prelude.{◌&&◌, ◌||◌, not, Option, Some, None, IfSome}
 use Rattle.std.specs.List.{list_all, range_with_len, AllByRecursion}
-use Rattle.std.proofs.lemmas.List.FromFn.{get_or-map-range_with_len, get_or-range_with_len, length-range_with_len}
+use Rattle.std.proofs.lemmas.Bool.{not-true}
+use Rattle.std.proofs.lemmas.List.FromFn.{get_or-range_with_len, length-range_with_len}
 use Rattle.x86_map.specs.declared.prefixes.Prefixes.{Prefixes}
 use Rattle.x86_map.specs.declared.shape.Shape.{Shape}
 use Rattle.x86_map.specs.declared.shape.Look.TheVariants.{Refused, NeedModrm, Fits}
@@ -10,25 +11,16 @@ use Rattle.x86_map.specs.declared.form.PrefixUse.{PrefixUse}
 use Rattle.x86_map.specs.declared.form.PrefixUse.TheVariants.{Allowed, Required, Forbidden}
 use Rattle.x86_map.specs.declared.form.PrefixUses.{PrefixUses}
 use Rattle.x86_map.specs.declared.form.Operand.{Operand}
-use Rattle.x86_map.specs.declared.form.Operand.TheVariants.{NoModrm, Digits, Bytes}
 use Rattle.x86_map.specs.declared.form.Form.{Form}
 use Rattle.x86_map.specs.Prefixes.{rex_b}
 use Rattle.x86_map.specs.Form.{allows, accepts, takes, has_modrm, shape_of, look_operand, look_form}
 use Rattle.x86_map.specs.OpcodeMap.{forms_at}
 use Rattle.x86_map.specs.Apart.{FitsOnce, FormsAreApart}
-use Rattle.x86_map.proofs.Accepting.{and_left, and_right, or_true, one_to_three}
+use Rattle.x86_map.proofs.Accepting.{and_left, and_right, or_true}
+use Rattle.x86_map.proofs.EachOpcode.{conflict, uses_apart, holds, may_answer, apart_from, all_apart, are_apart, is_uniform, each_opcode}
 use Rattle.x86_map.proofs.Modrm.{refused_form, accepted_form}
 
 -- ---- uses of prefixes that no prefixes meet both
-
-abbrev conflict : PrefixUse → PrefixUse → Bool
-conflict Required Forbidden = true
-conflict Required Allowed = false
-conflict Required Required = false
-conflict Forbidden Required = true
-conflict Forbidden Allowed = false
-conflict Forbidden Forbidden = false
-conflict Allowed r = false
 
 conflict-allows : (r q : PrefixUse) (b : Bool) → conflict r q ≡ true → allows r b ≡ true → allows q b ≡ false
 conflict-allows Required Forbidden b h a = rw a
@@ -39,9 +31,6 @@ conflict-allows Forbidden Required false h a = refl
 conflict-allows Forbidden Allowed b h a = absurd cc
 conflict-allows Forbidden Forbidden b h a = absurd cc
 conflict-allows Allowed q b h a = absurd cc
-
-abbrev uses_apart : PrefixUses → PrefixUses → Bool
-uses_apart r q = conflict r.of_66 q.of_66 || (conflict r.of_f3 q.of_f3 || (conflict r.of_f2 q.of_f2 || conflict r.of_rex_b q.of_rex_b))
 
 record Accepted (r : PrefixUses) (p : Prefixes) : Type 0 where
   of_66 : allows r.of_66 p.has_66 ≡ true
@@ -81,62 +70,10 @@ refused_by_uses r q p apart h =
           ]
     ] refl
 
--- ---- what is tested
-
--- the operand takes the ModRM byte, or has none where there is none
-abbrev holds : Option ℕ → Operand → Bool
-holds None o = not (has_modrm o)
-holds (Some m) o = takes o m
-
--- a form of this operand may answer otherwise than by refusing
-abbrev may_answer : Option ℕ → Operand → Bool
-may_answer None o = true
-may_answer (Some m) o = takes o m
-
--- the forms that may answer are apart by their prefixes
-abbrev apart_from : Option ℕ → Form → List Form → Bool
-apart_from modrm f [] = true
-apart_from modrm f (g ∷ forms) = (not (may_answer modrm g.operand) || uses_apart f.prefixes g.prefixes) && apart_from modrm f forms
-
-abbrev all_apart : Option ℕ → List Form → Bool
-all_apart modrm [] = true
-all_apart modrm (f ∷ forms) = (not (holds modrm f.operand) || apart_from modrm f forms) && all_apart modrm forms
-
-abbrev are_apart : List Form → Bool
-are_apart [] = true
-are_apart (f ∷ []) = true
-are_apart (f ∷ g ∷ forms) = all_apart None (f ∷ g ∷ forms) && list_all (λ m. all_apart (Some m) (f ∷ g ∷ forms)) (range_with_len 0 256)
-
-one_byte_apart : map (λ o. are_apart (forms_at 1 o)) (range_with_len 0 256) ≡ map (λ o. true) (range_with_len 0 256)
-unfolding forms_at
-one_byte_apart = refl
-
-two_byte_apart : map (λ o. are_apart (forms_at 2 o)) (range_with_len 0 256) ≡ map (λ o. true) (range_with_len 0 256)
-unfolding forms_at
-two_byte_apart = refl
-
-three_byte_apart : map (λ o. are_apart (forms_at 3 o)) (range_with_len 0 256) ≡ map (λ o. true) (range_with_len 0 256)
-unfolding forms_at
-three_byte_apart = refl
-
-at_each : (test : ℕ → Bool) (opcode : ℕ) → opcode < 256 → map test (range_with_len 0 256) ≡ map (λ o. true) (range_with_len 0 256) → test opcode ≡ true
-at_each test opcode lt same =
-    sym (get_or-map-range_with_len test 0 256 opcode opcode false lt (omega arith))
-    ∙ ap (λ (bs : List Bool). get_or bs opcode false) same
-    ∙ get_or-map-range_with_len (λ o. true) 0 256 opcode opcode false lt (omega arith)
-
 apart_at : (number opcode : ℕ) → 0 < number → number < 4 → opcode < 256 → are_apart (forms_at number opcode) ≡ true
-apart_at number opcode low high lt = elim (one_to_three number low high) [
-  | inl first ↦ rw first (at_each (λ o. are_apart (forms_at 1 o)) opcode lt one_byte_apart)
-  | inr (inl second) ↦ rw second (at_each (λ o. are_apart (forms_at 2 o)) opcode lt two_byte_apart)
-  | inr (inr third) ↦ rw third (at_each (λ o. are_apart (forms_at 3 o)) opcode lt three_byte_apart)
-]
+apart_at number opcode low high lt = and_right (is_uniform (forms_at number opcode)) (are_apart (forms_at number opcode)) (each_opcode number opcode low high lt)
 
 -- ---- from the test to the forms
-
-not_true : (b : Bool) → not b ≡ true → b ≡ false
-not_true true h = absurd cc
-not_true false h = refl
 
 cond_fits : (b : Bool) (s t : Shape) → cond b (Fits s) Refused ≡ Fits t → b ≡ true
 cond_fits true s t h = refl
@@ -174,7 +111,7 @@ others_refuse : (modrm : Option ℕ) (f : Form) (forms : List Form) (p : Prefixe
 others_refuse modrm f [] p h accept = tt
 others_refuse modrm f (g ∷ forms) p h accept =
     let here : look_form g p modrm ≡ Refused = elim (or_true (not (may_answer modrm g.operand)) (uses_apart f.prefixes g.prefixes) (and_left (not (may_answer modrm g.operand) || uses_apart f.prefixes g.prefixes) (apart_from modrm f forms) h)) [
-      | inl silent ↦ form_refuses g p modrm (not_true (may_answer modrm g.operand) silent)
+      | inl silent ↦ form_refuses g p modrm (not-true (may_answer modrm g.operand) silent)
       | inr apart ↦ refused_form g p modrm (refused_by_uses f.prefixes g.prefixes p apart accept)
     ] in
     (here, others_refuse modrm f forms p (and_right (not (may_answer modrm g.operand) || uses_apart f.prefixes g.prefixes) (apart_from modrm f forms) h) accept)

@@ -1,4 +1,5 @@
 pub mod Tables
 pub mod Accepting
+pub mod EachOpcode
 pub mod Modrm
 pub mod Apart

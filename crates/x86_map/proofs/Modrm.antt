@@ -1,68 +1,23 @@
 -- An opcode has a ModRM byte under all the prefixes that it stands with, or under none.
-use Rattle.std.proofs.Common.{◌≡◌, ℕ, ◌+◌, ◌*◌, ◌<◌, Bool, true, false, cond, ltb, List, [], ◌∷◌, get_or, refl, sym, ap, ◌∙◌, arith, inl, inr}
-use Rattle.std.specs.Prelude.{◌&&◌, ◌||◌, ◌⊎◌, not, Option, Some, None, map}
-use Rattle.std.specs.List.{list_all, range_with_len}
-use Rattle.std.proofs.lemmas.Bool.{ltb-true}
-use Rattle.std.proofs.lemmas.List.FromFn.{get_or-map-range_with_len}
+use Rattle.std.proofs.Common.{◌≡◌, ℕ, ◌<◌, true, false, cond, ltb, List, [], ◌∷◌, refl, sym, ◌∙◌, inl, inr}
+use Rattle.std.specs.Prelude.{◌&&◌, ◌||◌, ◌⊎◌, not, Option, Some, None}
+use Rattle.std.specs.List.{list_all}
+use Rattle.std.proofs.lemmas.Bool.{ltb-true, not-true}
 use Rattle.x86_map.specs.declared.prefixes.Prefixes.{Prefixes}
 use Rattle.x86_map.specs.declared.shape.Shape.{Shape}
 use Rattle.x86_map.specs.declared.shape.Look.{Look}
 use Rattle.x86_map.specs.declared.shape.Look.TheVariants.{Refused, NeedModrm, Fits}
-use Rattle.x86_map.specs.declared.form.Mode.TheVariants.{Either, Memory, Register}
 use Rattle.x86_map.specs.declared.form.Operand.{Operand}
 use Rattle.x86_map.specs.declared.form.Operand.TheVariants.{NoModrm, Digits, Bytes}
 use Rattle.x86_map.specs.declared.form.Form.{Form}
 use Rattle.x86_map.specs.Prefixes.{is_rex_valid}
 use Rattle.x86_map.specs.Form.{accepts, takes, has_modrm, shape_of, look_operand, look_form}
 use Rattle.x86_map.specs.OpcodeMap.{forms_at, or_else, look_forms, look}
-use Rattle.x86_map.proofs.Accepting.{and_left, and_right, or_true, one_to_three}
-
--- ---- what is tested of the forms of each opcode
-
--- a ModRM byte that the operand takes
-abbrev example : Operand → ℕ
-example NoModrm = 0
-example (Digits Either first last) = 8 * first
-example (Digits Memory first last) = 8 * first
-example (Digits Register first last) = 192 + 8 * first
-example (Bytes first last) = first
-
-abbrev takes_example : Form → Bool
-takes_example f = not (has_modrm f.operand) || (takes f.operand (example f.operand) && ltb (example f.operand) 256)
-
-abbrev all_with : List Form → Bool
-all_with forms = list_all (λ f. has_modrm f.operand) forms
-
-abbrev all_without : List Form → Bool
-all_without forms = list_all (λ f. not (has_modrm f.operand)) forms
-
-abbrev is_uniform : List Form → Bool
-is_uniform forms = (all_with forms || all_without forms) && list_all takes_example forms
-
-one_byte_uniform : map (λ o. is_uniform (forms_at 1 o)) (range_with_len 0 256) ≡ map (λ o. true) (range_with_len 0 256)
-unfolding forms_at
-one_byte_uniform = refl
-
-two_byte_uniform : map (λ o. is_uniform (forms_at 2 o)) (range_with_len 0 256) ≡ map (λ o. true) (range_with_len 0 256)
-unfolding forms_at
-two_byte_uniform = refl
-
-three_byte_uniform : map (λ o. is_uniform (forms_at 3 o)) (range_with_len 0 256) ≡ map (λ o. true) (range_with_len 0 256)
-unfolding forms_at
-three_byte_uniform = refl
-
-at_each : (test : ℕ → Bool) (opcode : ℕ) → opcode < 256 → map test (range_with_len 0 256) ≡ map (λ o. true) (range_with_len 0 256) → test opcode ≡ true
-at_each test opcode lt same =
-    sym (get_or-map-range_with_len test 0 256 opcode opcode false lt (omega arith))
-    ∙ ap (λ (bs : List Bool). get_or bs opcode false) same
-    ∙ get_or-map-range_with_len (λ o. true) 0 256 opcode opcode false lt (omega arith)
+use Rattle.x86_map.proofs.Accepting.{and_left, and_right, or_true}
+use Rattle.x86_map.proofs.EachOpcode.{example, takes_example, all_with, all_without, is_uniform, are_apart, each_opcode}
 
 uniform : (number opcode : ℕ) → 0 < number → number < 4 → opcode < 256 → is_uniform (forms_at number opcode) ≡ true
-uniform number opcode low high lt = elim (one_to_three number low high) [
-  | inl first ↦ rw first (at_each (λ o. is_uniform (forms_at 1 o)) opcode lt one_byte_uniform)
-  | inr (inl second) ↦ rw second (at_each (λ o. is_uniform (forms_at 2 o)) opcode lt two_byte_uniform)
-  | inr (inr third) ↦ rw third (at_each (λ o. is_uniform (forms_at 3 o)) opcode lt three_byte_uniform)
-]
+uniform number opcode low high lt = and_left (is_uniform (forms_at number opcode)) (are_apart (forms_at number opcode)) (each_opcode number opcode low high lt)
 
 -- ---- one form
 
@@ -85,10 +40,6 @@ without_operand (Bytes first last) s m h = absurd cc
 fits_operand : (o : Operand) (s : Shape) (m : ℕ) → takes o m ≡ true → look_operand o (Some m) s ≡ Fits s
 fits_operand o s m h = rw h
 
-not_true : (b : Bool) → not b ≡ true → b ≡ false
-not_true true h = absurd cc
-not_true false h = refl
-
 -- ---- the forms of one opcode
 
 -- forms without a ModRM byte refuse each
@@ -99,7 +50,7 @@ none_fits : (forms : List Form) (p : Prefixes) (m : ℕ) → all_without forms �
 none_fits [] p m h = refl
 none_fits (f ∷ forms) p m h =
     let rest : look_forms forms p (Some m) ≡ Refused = none_fits forms p m (and_right (not (has_modrm f.operand)) (all_without forms) h) in
-    let without : has_modrm f.operand ≡ false = not_true (has_modrm f.operand) (and_left (not (has_modrm f.operand)) (all_without forms) h) in
+    let without : has_modrm f.operand ≡ false = not-true (has_modrm f.operand) (and_left (not (has_modrm f.operand)) (all_without forms) h) in
     let here : look_form f p (Some m) ≡ Refused = elim (accepts f.prefixes p) as (λ b. accepts f.prefixes p ≡ b → look_form f p (Some m) ≡ Refused) [
       | true ↦ λ e. accepted_form f p (Some m) e ∙ without_operand f.operand (shape_of f p) m without
       | false ↦ λ e. refused_form f p (Some m) e
@@ -144,7 +95,7 @@ some_fits (f ∷ forms) p h examples asked =
 without_asks : (forms : List Form) (p : Prefixes) → all_without forms ≡ true → look_forms forms p None ≡ NeedModrm → ⊥
 without_asks [] p h asked = cc
 without_asks (f ∷ forms) p h asked =
-    let without : has_modrm f.operand ≡ false = not_true (has_modrm f.operand) (and_left (not (has_modrm f.operand)) (all_without forms) h) in
+    let without : has_modrm f.operand ≡ false = not-true (has_modrm f.operand) (and_left (not (has_modrm f.operand)) (all_without forms) h) in
     elim (accepts f.prefixes p) as (λ b. accepts f.prefixes p ≡ b → ⊥) [
       | true ↦ λ e. let fits : look_form f p None ≡ Fits (shape_of f p) = accepted_form f p None e ∙ plain_operand f.operand (shape_of f p) without in
           let all : look_forms (f ∷ forms) p None ≡ Fits (shape_of f p) = rw fits in cc

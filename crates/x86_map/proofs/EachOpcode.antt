@@ -1,0 +1,106 @@
+-- What is tested of the forms of each opcode of the map: each map is gone through once.
+use Rattle.std.proofs.Common.{◌≡◌, ℕ, ◌+◌, ◌*◌, ◌<◌, Bool, true, false, ltb, List, [], ◌∷◌, get_or, refl, sym, ap, ◌∙◌, arith, inl, inr}
+use Rattle.std.specs.Prelude.{◌&&◌, ◌||◌, not, Option, Some, None, map}
+use Rattle.std.specs.List.{list_all, range_with_len}
+use Rattle.std.proofs.lemmas.List.FromFn.{get_or-map-range_with_len}
+use Rattle.x86_map.specs.declared.form.Mode.TheVariants.{Either, Memory, Register}
+use Rattle.x86_map.specs.declared.form.Operand.{Operand}
+use Rattle.x86_map.specs.declared.form.Operand.TheVariants.{NoModrm, Digits, Bytes}
+use Rattle.x86_map.specs.declared.form.PrefixUse.{PrefixUse}
+use Rattle.x86_map.specs.declared.form.PrefixUse.TheVariants.{Allowed, Required, Forbidden}
+use Rattle.x86_map.specs.declared.form.PrefixUses.{PrefixUses}
+use Rattle.x86_map.specs.declared.form.Form.{Form}
+use Rattle.x86_map.specs.Form.{takes, has_modrm}
+use Rattle.x86_map.specs.OpcodeMap.{forms_at}
+use Rattle.x86_map.proofs.Accepting.{one_to_three}
+
+-- ---- all have a ModRM byte, or none has
+
+-- a ModRM byte that the operand takes
+abbrev pub example : Operand → ℕ
+example NoModrm = 0
+example (Digits Either first last) = 8 * first
+example (Digits Memory first last) = 8 * first
+example (Digits Register first last) = 192 + 8 * first
+example (Bytes first last) = first
+
+abbrev pub takes_example : Form → Bool
+takes_example f = not (has_modrm f.operand) || (takes f.operand (example f.operand) && ltb (example f.operand) 256)
+
+abbrev pub all_with : List Form → Bool
+all_with forms = list_all (λ f. has_modrm f.operand) forms
+
+abbrev pub all_without : List Form → Bool
+all_without forms = list_all (λ f. not (has_modrm f.operand)) forms
+
+abbrev pub is_uniform : List Form → Bool
+is_uniform forms = (all_with forms || all_without forms) && list_all takes_example forms
+
+-- ---- no two fit at once
+
+-- no prefixes meet both uses
+abbrev pub conflict : PrefixUse → PrefixUse → Bool
+conflict Required Forbidden = true
+conflict Required Allowed = false
+conflict Required Required = false
+conflict Forbidden Required = true
+conflict Forbidden Allowed = false
+conflict Forbidden Forbidden = false
+conflict Allowed r = false
+
+abbrev pub uses_apart : PrefixUses → PrefixUses → Bool
+uses_apart r q = conflict r.of_66 q.of_66 || (conflict r.of_f3 q.of_f3 || (conflict r.of_f2 q.of_f2 || conflict r.of_rex_b q.of_rex_b))
+
+-- the operand takes the ModRM byte, or has none where there is none
+abbrev pub holds : Option ℕ → Operand → Bool
+holds None o = not (has_modrm o)
+holds (Some m) o = takes o m
+
+-- a form of this operand may answer otherwise than by refusing
+abbrev pub may_answer : Option ℕ → Operand → Bool
+may_answer None o = true
+may_answer (Some m) o = takes o m
+
+-- the forms that may answer are apart by their prefixes
+abbrev pub apart_from : Option ℕ → Form → List Form → Bool
+apart_from modrm f [] = true
+apart_from modrm f (g ∷ forms) = (not (may_answer modrm g.operand) || uses_apart f.prefixes g.prefixes) && apart_from modrm f forms
+
+abbrev pub all_apart : Option ℕ → List Form → Bool
+all_apart modrm [] = true
+all_apart modrm (f ∷ forms) = (not (holds modrm f.operand) || apart_from modrm f forms) && all_apart modrm forms
+
+abbrev pub are_apart : List Form → Bool
+are_apart [] = true
+are_apart (f ∷ []) = true
+are_apart (f ∷ g ∷ forms) = all_apart None (f ∷ g ∷ forms) && list_all (λ m. all_apart (Some m) (f ∷ g ∷ forms)) (range_with_len 0 256)
+
+-- ---- each opcode
+
+abbrev is_tested : ℕ → ℕ → Bool
+is_tested number opcode = is_uniform (forms_at number opcode) && are_apart (forms_at number opcode)
+
+one_byte_tested : map (is_tested 1) (range_with_len 0 256) ≡ map (λ o. true) (range_with_len 0 256)
+unfolding forms_at
+one_byte_tested = refl
+
+two_byte_tested : map (is_tested 2) (range_with_len 0 256) ≡ map (λ o. true) (range_with_len 0 256)
+unfolding forms_at
+two_byte_tested = refl
+
+three_byte_tested : map (is_tested 3) (range_with_len 0 256) ≡ map (λ o. true) (range_with_len 0 256)
+unfolding forms_at
+three_byte_tested = refl
+
+at_each : (test : ℕ → Bool) (opcode : ℕ) → opcode < 256 → map test (range_with_len 0 256) ≡ map (λ o. true) (range_with_len 0 256) → test opcode ≡ true
+at_each test opcode lt same =
+    sym (get_or-map-range_with_len test 0 256 opcode opcode false lt (omega arith))
+    ∙ ap (λ (bs : List Bool). get_or bs opcode false) same
+    ∙ get_or-map-range_with_len (λ o. true) 0 256 opcode opcode false lt (omega arith)
+
+pub each_opcode : (number opcode : ℕ) → 0 < number → number < 4 → opcode < 256 → (is_uniform (forms_at number opcode) && are_apart (forms_at number opcode)) ≡ true
+each_opcode number opcode low high lt = elim (one_to_three number low high) [
+  | inl first ↦ rw first (at_each (is_tested 1) opcode lt one_byte_tested)
+  | inr (inl second) ↦ rw second (at_each (is_tested 2) opcode lt two_byte_tested)
+  | inr (inr third) ↦ rw third (at_each (is_tested 3) opcode lt three_byte_tested)
+]
