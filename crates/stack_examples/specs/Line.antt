@@ -6,7 +6,8 @@ use Rattle.operation_defs.specs.declared.op.Op.TheVariants.{Jmp, JmpInd, Ret, Re
 use Rattle.program_defs.specs.declared.flow.EdgeKind.{EdgeKind}
 use Rattle.program_defs.specs.declared.flow.Role.{Role}
 use Rattle.program_defs.specs.declared.flow.Role.TheVariants as role
-use Rattle.stack_examples.specs.declared.builder.Line.{Line}
+use Rattle.program_model.specs.declared.program.Site.{Site}
+use Rattle.stack_examples.specs.declared.lines.Line.{Line}
 
 -- whether control goes on behind an instruction: not behind a jump, a return, a context switch or ud2
 abbrev pub goes_on : Op → Bool
@@ -47,3 +48,7 @@ address_by (Some replaces) off = replaces.1
 
 abbrev pub line_address : Line → ℕ
 line_address line = address_by line.replaces line.off
+
+-- a site of a table stands in section 1
+abbrev pub site_at : ℕ × ℕ → Site
+site_at (off, len) = record { start = record { sec = 1; off = off }; len = len }

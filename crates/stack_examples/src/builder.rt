@@ -1,207 +1,20 @@
 //! Programs from tables of their instructions.
 
-ghost use Rattle.std.specs.Prelude.{◌≡◌, Some, None, IfOk, length, vec_len};
-ghost use Rattle.stack_examples.specs.Line.{goes_on, role_of, next_branches, line_place, line_address};
+ghost use Rattle.std.specs.Prelude.{◌≡◌, IfOk, length, map, vec_len};
+ghost use Rattle.stack_examples.specs.Line.{site_at};
 
-use operation_defs::{Insn, Op};
-use program_defs::{Edge, EdgeKind, Marks, Role};
-use state_defs::HintState;
+use crate::lines::{Line, Table, instruction};
+use operation_defs::Insn;
 use ot_base::Place;
-use stack_model::{Point, Program, Site, TextSection};
+use program_defs::{Edge, EdgeKind};
+use program_model::{Point, Program, Site, TextSection};
 use std::alloc::{AllocError, Global};
 
-/// Nothing is wrong with where an instruction goes.
-pub const NO_MARKS: Marks = Marks {
-    bad: false,
-    past_end: false,
-    into_site: false,
-    into_function: false,
-};
-
-/// A line of a table: an instruction of section 1, or one of a replacement in section 2.
-#[derive(Clone, Copy)]
-pub struct Line {
-    pub off: u64,
-    pub len: u8,
-    pub op: Op,
-    pub function: Option<u32>,
-    pub owner: Option<u32>,
-    pub is_unchecked: bool,
-    pub hint: Option<HintState>,
-    pub save_of: Option<u32>,
-    pub goes_on: bool,
-    pub branches: [Option<(u64, EdgeKind)>; 2],
-    pub role: Role,
-    pub is_dead_end: bool,
-    pub marks: Marks,
-    /// The variant of a replacement, and the offset in section 1 where the instruction runs.
-    pub replaces: Option<(u32, u64)>,
-}
-
-/// Whether an instruction goes on to the one behind it.
-fn goes_on(op: Op) -> bool
-    ensures { result ≡ goes_on op }
-{
-    !matches!(
-        op,
-        Op::Jmp { .. } | Op::JmpInd { .. } | Op::Ret | Op::RetImm | Op::Iret | Op::Switch | Op::Ud2
-    )
-}
-
-/// What an instruction is to its function, where it neither calls nor jumps to another.
-fn role_of(op: Op) -> Role
-    ensures { result ≡ role_of op }
-{
-    match op {
-        Op::Ret | Op::RetImm => Role::Return,
-        Op::Iret | Op::Switch => Role::Switch,
-        _ => Role::Plain,
-    }
-}
-
-/// An instruction of function 0 at an offset of section 1.
-pub fn insn(off: u64, len: u8, op: Op) -> Line
-    ensures function { result.function ≡ Some 0 }
-    ensures owner { result.owner ≡ Some 0 }
-    ensures goes_on { result.goes_on ≡ goes_on op }
-    ensures role { result.role ≡ role_of op }
-    ensures stands { line_place result ≡ record { sec = 1; off = off } }
-    ensures runs { line_address result ≡ off }
-{
-    Line {
-        off,
-        len,
-        op,
-        function: Some(0),
-        owner: Some(0),
-        is_unchecked: false,
-        hint: None,
-        save_of: None,
-        goes_on: goes_on(op),
-        branches: [None, None],
-        role: role_of(op),
-        is_dead_end: false,
-        marks: NO_MARKS,
-        replaces: None,
-    }
-}
-
-impl Line {
-    /// It is of another function, which is its own parent.
-    pub fn of(self, function: u32) -> Line
-        ensures { result ≡ record self { function = Some function; owner = Some function } }
-    {
-        Line {
-            function: Some(function),
-            owner: Some(function),
-            ..self
-        }
-    }
-
-    /// It is of a part of function 0.
-    pub fn of_part(self, function: u32) -> Line
-        ensures { result ≡ record self { function = Some function } }
-    {
-        Line {
-            function: Some(function),
-            ..self
-        }
-    }
-
-    /// It is of no function.
-    pub fn of_none(self) -> Line
-        ensures { result ≡ record self { function = None; owner = None } }
-    {
-        Line {
-            function: None,
-            owner: None,
-            ..self
-        }
-    }
-
-    pub fn unchecked(self) -> Line {
-        Line {
-            is_unchecked: true,
-            ..self
-        }
-    }
-
-    /// It also goes to this offset of section 1, in this way.
-    pub fn to(self, off: u64, kind: EdgeKind) -> Line
-        ensures { result ≡ record self { branches = next_branches self.branches off kind } }
-    {
-        let [first, _] = self.branches;
-        Line {
-            branches: match first {
-                None => [Some((off, kind)), None],
-                Some(_) => [first, Some((off, kind))],
-            },
-            ..self
-        }
-    }
-
-    pub fn role(self, role: Role) -> Line {
-        Line { role, ..self }
-    }
-
-    pub fn hint(self, hint: HintState) -> Line {
-        Line {
-            hint: Some(hint),
-            ..self
-        }
-    }
-
-    /// A RESTORE of the SAVE at a point.
-    pub fn restore(self, save: u32) -> Line {
-        Line {
-            hint: Some(HintState::Restore),
-            save_of: Some(save),
-            ..self
-        }
-    }
-
-    pub fn marks(self, marks: Marks) -> Line {
-        Line { marks, ..self }
-    }
-
-    /// It is one of a replacement, at its offset of section 2, and runs at this offset of section 1.
-    pub fn runs_at(self, variant: u32, off: u64) -> Line
-        ensures { result ≡ record self { replaces = Some (variant, off) } }
-    {
-        Line {
-            replaces: Some((variant, off)),
-            ..self
-        }
-    }
-
-    fn place(self) -> Place
-        ensures { result ≡ line_place self }
-    {
-        let sec = if self.replaces.is_some() { 2 } else { 1 };
-        Place { sec, off: self.off }
-    }
-
-    /// The offset of section 1 where it runs.
-    fn address(self) -> u64
-        ensures { result ≡ line_address self }
-    {
-        self.replaces.map_or(self.off, |(_, off)| off)
-    }
-
-    /// The offset behind it there.
-    fn end(self) -> u64 {
-        self.address().wrapping_add(u64::from(self.len))
-    }
-
-    fn variant(self) -> u32 {
-        self.replaces.map_or(0, |(variant, _)| variant)
-    }
-}
-
 /// A site in section 1.
-pub fn site(off: u64, len: u64) -> Site
-    ensures { result ≡ record { start = record { sec = 1; off = off }; len = len } }
+fn site(at: &(u64, u64)) -> Site
+    ensures { result ≡ site_at at.now }
 {
+    let (off, len) = *at;
     Site {
         start: Place { sec: 1, off },
         len,
@@ -293,31 +106,40 @@ fn goes(alloc: Global, p: &Program, line: Line) -> Result<Vec<Edge>, AllocError>
     Ok(edges)
 }
 
-/// The program of a table, whose points are numbered by its lines.
-pub fn program(
-    alloc: Global,
-    lines: &[Line],
-    entries: &[u32],
-    sites: &[Site],
-) -> Result<Program, AllocError>
+/// The program of these lines, without what its points go to.
+fn unlinked(alloc: Global, lines: &[Line], table: &Table) -> Result<Program, AllocError>
     ensures points { IfOk result (λ p. vec_len p.points ≡ length lines.now) }
-    ensures entries { IfOk result (λ p. p.entries.items ≡ entries.now) }
-    ensures sites { IfOk result (λ p. p.sites.items ≡ sites.now) }
+    ensures entries { IfOk result (λ p. p.entries.items ≡ table.now.entries.now) }
+    ensures sites { IfOk result (λ p. p.sites.items ≡ map site_at table.now.sites.now) }
 {
     let mut points = Vec::new(alloc);
+    let mut without_size = Vec::new(alloc);
     let mut size = 0;
     for line in lines {
         points.push(point(alloc, lines, *line))?;
+        if line.is_without_size {
+            without_size.push(line.place())?;
+        }
         size = size.max(line.end());
     }
-    let mut p = Program {
+    Ok(Program {
         points,
-        entries: entries.to_vec(alloc)?,
+        entries: table.entries.to_vec(alloc)?,
         never_returning: Vec::new(alloc),
-        sites: sites.to_vec(alloc)?,
+        sites: table.sites.iter().map(site).collect(alloc)?,
         texts: vec![in alloc; TextSection { sec: 1, size }]?,
-        without_size: Vec::new(alloc),
-    };
+        without_size,
+    })
+}
+
+/// The program of a table, whose points are numbered by its rows.
+pub fn program(alloc: Global, table: &Table) -> Result<Program, AllocError>
+    ensures points { IfOk result (λ p. vec_len p.points ≡ length table.now.rows.now) }
+    ensures entries { IfOk result (λ p. p.entries.items ≡ table.now.entries.now) }
+    ensures sites { IfOk result (λ p. p.sites.items ≡ map site_at table.now.sites.now) }
+{
+    let lines: Vec<Line> = table.rows.iter().map(instruction).collect(alloc)?;
+    let mut p = unlinked(alloc, lines.as_slice(), table)?;
     for (i, line) in lines.iter().enumerate() {
         let goes = goes(alloc, &p, *line)?;
         let after = after(alloc, &p, *line)?;

@@ -3,5 +3,6 @@
 #![tactic(auto)]
 
 pub mod builder;
+pub mod lines;
 #[cfg(test)]
 mod tests;

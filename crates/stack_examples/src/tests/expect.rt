@@ -1,39 +1,26 @@
-//! What is expected of a program: its warnings, its kept states, and its runs.
+//! What is expected of a program: its states, its warnings, and how it runs.
 
-use program_defs::{Edge, EdgeKind};
-use state_defs::{BpHome, Depth, State};
-use walk_defs::{Frame as WalkedFrame, Range, Regs, Stop};
-use ot_base::{Options, Place, PlacedRow, Warning};
-use stack_model::{
-    Anything, Choice, Core, Frame, Kept, Machine, Program, Region, Slot, Standing, Start,
-    all_warnings, next_state, rows_of, started, walk, warnings,
+use super::case::{Accepted, Broken, End, From, How, LO, NO_OPTIONS, Run, Wrong};
+use crate::builder::program;
+use checker_model::{kept_states, rows, walk, warnings};
+use machine_model::{
+    Anything, Choice, Core, InterruptWords, Machine, Standing, next_state, started,
 };
+use ot_base::{Place, PlacedRow, Warning};
+use program_defs::{Edge, EdgeKind};
+use program_model::{Program, Region};
+use state_defs::{EndKind, State};
 use std::alloc::{AllocError, Global};
 use std::process::Abort;
 use std::test::Fail;
+use walk_defs::{Frame as WalkedFrame, Range, Regs, Stop};
 
 /// Where section 1 begins.
-pub const BASE: u64 = 0x1000;
+const BASE: u64 = 0x1000;
 
-/// Where the stack begins, and where it ends.
-pub const LO: u64 = 0x8000;
-
-pub const HI: u64 = 0x8100;
-
-/// Where the caller outside goes on, and its rbp.
-pub const OUTSIDE: u64 = 0xA000_0000;
-
-pub const RBP: u64 = 0x5555;
-
-/// The frame of the call from outside.
-pub const CALLER: WalkedFrame = WalkedFrame {
-    ra: OUTSIDE,
-    cfa: HI,
-    bp: RBP,
-};
-
-/// A word that is pushed, or read outside the stack, and registers that are written in another way.
-pub const ANYTHING: Anything<'static> = Anything {
+/// What else a run chooses: a word that is pushed, or read outside the stack, and registers that are
+/// written in another way.
+const ANYTHING: Anything<'static> = Anything {
     stores: &[],
     word: 0xDD,
     rsp: 0x8080,
@@ -41,18 +28,52 @@ pub const ANYTHING: Anything<'static> = Anything {
     ac: false,
 };
 
-/// A program with what a checker keeps of it, and its table.
-#[derive(Drop)]
-pub struct Example {
-    pub program: Program,
-    pub kept: Kept,
-    pub rows: Vec<PlacedRow>,
-    pub placement: [Range; 1],
+/// The step along an edge.
+fn goes(to: u32, kind: EdgeKind, any: Anything<'static>) -> Choice<'static> {
+    Choice::GoesOn {
+        edge: Edge { to, kind },
+        any,
+    }
 }
 
-pub fn checked(alloc: Global, program: Program) -> Result<Example, AllocError> {
-    let kept = Kept::of(alloc, &program)?;
-    let rows = rows_of(alloc, &program, &kept)?;
+impl How {
+    fn choice(self, to: u32) -> Choice<'static> {
+        match self {
+            How::Next => goes(to, EdgeKind::Next, ANYTHING),
+            How::Stores(stores) => goes(to, EdgeKind::Next, Anything { stores, ..ANYTHING }),
+            How::WritesBp(rbp) => goes(to, EdgeKind::Next, Anything { rbp, ..ANYTHING }),
+            How::Taken => goes(to, EdgeKind::Taken, ANYTHING),
+            How::Table => goes(to, EdgeKind::Table, ANYTHING),
+            How::Faults(stores) => Choice::Faults { to, stores },
+            How::Calls => Choice::CallsIn { entry: to, at: to },
+            How::CallsOut(stores) => Choice::CallsOut { to, stores },
+            How::Returns(stores) => Choice::Returns { to, stores },
+            How::TailCalls => Choice::TailCalls { to },
+            How::IsInterrupted => Choice::IsInterrupted {
+                gate: to,
+                words: InterruptWords {
+                    cs: 0x10,
+                    flags: 0x246,
+                    ss: 0x18,
+                    error: 0xE,
+                },
+            },
+            How::Irets => Choice::ReturnsFromInterrupt,
+            How::Wrecks(wreck) => Choice::Wrecks(wreck),
+        }
+    }
+}
+
+/// A program with what a checker keeps of it, and its table.
+#[derive(Drop)]
+struct Example {
+    program: Program,
+    states: Vec<Option<State>>,
+    rows: Vec<PlacedRow>,
+    placement: [Range; 1],
+}
+
+fn checked(alloc: Global, program: Program) -> Result<Example, AllocError> {
     let size = program.texts.first().map_or(0, |text| text.size);
     let placement = [Range {
         sec: 1,
@@ -60,369 +81,282 @@ pub fn checked(alloc: Global, program: Program) -> Result<Example, AllocError> {
         size,
     }];
     Ok(Example {
+        states: kept_states(alloc, &program)?,
+        rows: rows(alloc, &program)?,
         program,
-        kept,
-        rows,
         placement,
     })
 }
 
-/// A live state whose depth is known.
-pub fn live(depth: i64, fp: Option<i64>, bp: BpHome) -> State {
-    let depth = Depth::Known(depth);
-    State::Live { depth, fp, bp }
-}
-
-/// A live state with rbp still the caller's.
-pub fn plain(depth: i64) -> State {
-    live(depth, None, BpHome::Same)
-}
-
-/// A live state with rbp saved right below the return address, and rbp pointing there.
-pub fn framed(depth: i64) -> State {
-    live(depth, Some(16), BpHome::Saved(16))
-}
-
-pub fn frame(ra: u64, cfa: u64, bp: u64) -> WalkedFrame {
-    WalkedFrame { ra, cfa, bp }
-}
-
-/// A warning at an offset of section 1.
-pub fn warns(off: u64, rule: u8, a: i64, b: i64) -> Warning {
-    Warning {
-        place: Place { sec: 1, off },
-        rule,
-        a,
-        b,
-    }
-}
-
-/// The step along an edge.
-pub fn go(to: u32, kind: EdgeKind) -> Choice<'static> {
-    Choice::GoesOn {
-        edge: Edge { to, kind },
-        any: ANYTHING,
-    }
-}
-
-/// The step to the instruction that follows.
-pub fn next(to: u32) -> Choice<'static> {
-    go(to, EdgeKind::Next)
-}
-
-/// A call of an entry, where control stands at it.
-pub fn call(entry: u32) -> Choice<'static> {
-    Choice::CallsIn { entry, at: entry }
-}
-
-/// A jump to a point of another function.
-pub fn tail_call(to: u32) -> Choice<'static> {
-    Choice::TailCalls { to }
-}
-
-/// A return to a point.
-pub fn back(to: u32) -> Choice<'static> {
-    Choice::Returns { to, stores: &[] }
-}
-
-/// The only frame, where the caller goes on outside.
-pub fn outermost(cfa: u64, slot: Slot) -> Frame {
-    Frame {
-        call: None,
-        ra: OUTSIDE,
-        cfa,
-        bp: RBP,
-        slot,
-        ac: false,
-        ended_caller: None,
-        mark_caller: None,
-    }
-}
-
-/// A stack of so many bytes below its end with this rsp, these words in it, and these frames.
-pub fn standing(
-    alloc: Global,
-    point: u32,
-    rsp: u64,
-    words: &[(u64, u64)],
-    frames: &[Frame],
-) -> Result<Standing, AllocError> {
+/// Where the machine stands before a run.
+fn standing(alloc: Global, from: &From) -> Result<Standing, AllocError> {
     let mut region = Region {
         lo: LO,
-        bytes: vec![in alloc; 0u8; 256]?,
+        bytes: vec![in alloc; 0u8; from.stack.size]?,
     };
-    for (address, word) in words {
+    for (address, word) in from.stack.words {
         region.write_word(*address, *word);
     }
     Ok(Standing {
-        point,
+        point: from.point,
         core: Core {
-            rsp,
-            rbp: RBP,
+            rsp: from.rsp,
+            rbp: from.stack.rbp,
             region,
             ac: false,
-            shadow: frames.to_vec(alloc)?,
+            shadow: from.stack.shadow.to_vec(alloc)?,
         },
         ended: None,
         mark: None,
     })
 }
 
-/// Called from outside at a point.
-pub fn called(alloc: Global, point: u32) -> Result<Standing, AllocError> {
-    let words = [(0x80F8, OUTSIDE)];
-    standing(
-        alloc,
-        point,
-        0x80F8,
-        &words,
-        &[outermost(HI, Slot::Unsaved)],
-    )
+/// What a walk from a standing has to give, and why it has to end.
+fn frames_of(alloc: Global, s: &Standing) -> Result<(Vec<WalkedFrame>, Stop), AllocError> {
+    let frames = s
+        .frames()
+        .iter()
+        .map(|f| WalkedFrame {
+            ra: f.ra,
+            cfa: f.cfa,
+            bp: f.bp,
+        })
+        .collect(alloc)?;
+    let stop = match s.frames_end() {
+        None => Stop::Outside,
+        Some(EndKind::Undefined) => Stop::Undefined,
+        Some(EndKind::EndOfStack) => Stop::EndOfStack,
+    };
+    Ok((frames, stop))
 }
 
-/// No rule warns.
-pub fn expect_accepted(rt: &impl Abort, alloc: Global, example: &Example) -> Result<(), Fail> {
-    let found = warnings(alloc, &example.program, &example.kept)?;
-    assert_eq!(rt; found.as_slice(), [].as_slice());
-    Ok(())
+impl Example {
+    fn state(&self, q: u32) -> Option<State> {
+        *self.states.get(q as usize)?
+    }
+
+    fn start(&self, alloc: Global, from: &From) -> Result<Option<Machine>, AllocError> {
+        let t = standing(alloc, from)?;
+        let s = started(alloc, &self.program, &self.placement, from.start, t)?;
+        Ok(s.map(Machine::At))
+    }
+
+    fn step(
+        &self,
+        alloc: Global,
+        machine: &Machine,
+        how: How,
+        to: u32,
+    ) -> Result<Option<Machine>, AllocError> {
+        let choice = how.choice(to);
+        next_state(alloc, &self.program, &self.placement, machine, &choice)
+    }
+
+    /// What the walk from a standing gives.
+    fn walked(&self, alloc: Global, s: &Standing) -> Result<(Vec<WalkedFrame>, Stop), AllocError> {
+        let off = self.program.address(s.point).off;
+        let regs = Regs {
+            ip: BASE.wrapping_add(off),
+            sp: s.core.rsp,
+            bp: s.core.rbp,
+        };
+        let rows = self.rows.as_slice();
+        let walked = walk(alloc, rows, &self.placement, &s.core.region, regs)?;
+        Ok((walked.frames, walked.stop))
+    }
+
+    /// What is wrong with a state of a run.
+    fn wrong_of(&self, alloc: Global, machine: &Machine) -> Result<Option<Wrong>, AllocError> {
+        let Machine::At(s) = machine else {
+            return Ok(Some(Wrong::Wrecked));
+        };
+        if self.state(s.point).is_none() {
+            return Ok(Some(Wrong::NotKept(s.point)));
+        }
+        let (frames, stop) = frames_of(alloc, s)?;
+        let (walked, ended) = self.walked(alloc, s)?;
+        let is_told = ended == stop && walked.as_slice() == frames.as_slice();
+        Ok((!is_told).then_some(Wrong::Walk(s.point, ended)))
+    }
 }
 
 /// The warnings are these, each as often as may be.
-pub fn expect_same(rt: &impl Abort, found: &[Warning], expected: &[Warning]) {
+fn expect_warnings(
+    rt: &impl Abort,
+    name: &str,
+    found: &[Warning],
+    expected: &[(u64, u8, i64, i64)],
+) {
+    let is_one = |warning: &Warning, other: &(u64, u8, i64, i64)| {
+        let (off, rule, a, b) = *other;
+        let place = Place { sec: 1, off };
+        *warning == Warning { place, rule, a, b }
+    };
     for warning in found {
-        assert!(rt; expected.contains(warning), "{warning:?} isn't expected");
-    }
-    for warning in expected {
         assert!(rt;
-            found.contains(warning),
-            "{warning:?} isn't found in {found:?}"
+            expected.iter().any(|other| is_one(warning, other)),
+            "{name}: {warning:?}"
+        );
+    }
+    for other in expected {
+        assert!(rt;
+            found.iter().any(|warning| is_one(warning, other)),
+            "{name}: {other:?}"
         );
     }
 }
 
-pub fn expect_warnings(
+/// The machine stands at a point with this rsp; its frames are these and end so, and the walk gives them.
+fn expect_stands(
     rt: &impl Abort,
     alloc: Global,
-    example: &Example,
-    expected: &[Warning],
-) -> Result<(), Fail> {
-    let found = warnings(alloc, &example.program, &example.kept)?;
-    expect_same(rt, found.as_slice(), expected);
-    Ok(())
-}
-
-/// The warnings of a check under options.
-pub fn expect_warnings_under(
-    rt: &impl Abort,
-    alloc: Global,
-    example: &Example,
-    options: &Options,
-    expected: &[Warning],
-) -> Result<(), Fail> {
-    let found = all_warnings(alloc, &example.program, &example.kept, options)?;
-    expect_same(rt, found.as_slice(), expected);
-    Ok(())
-}
-
-/// The points are kept with these states, in order.
-pub fn expect_states(rt: &impl Abort, example: &Example, states: &[Option<State>]) {
-    assert_eq!(rt; example.kept.states.as_slice(), states);
-}
-
-/// What is expected where the machine stands: its point, rsp, the frames and why the walk stops.
-#[derive(Clone, Copy)]
-pub struct Scene<'a> {
-    pub point: u32,
-    pub rsp: u64,
-    pub frames: &'a [WalkedFrame],
-    pub stop: Stop,
-}
-
-/// Where the frames lead outside.
-pub fn stands<'a>(point: u32, rsp: u64, frames: &'a [WalkedFrame]) -> Scene<'a> {
-    Scene {
-        point,
-        rsp,
-        frames,
-        stop: Stop::Outside,
-    }
-}
-
-/// What a walk from a standing has to give.
-fn frames_of(alloc: Global, s: &Standing) -> Result<Vec<WalkedFrame>, AllocError> {
-    s.frames()
-        .iter()
-        .map(|f| frame(f.ra, f.cfa, f.bp))
-        .collect(alloc)
-}
-
-fn stop_of(s: &Standing) -> Stop {
-    match s.frames_end() {
-        None => Stop::Outside,
-        Some(state_defs::EndKind::Undefined) => Stop::Undefined,
-        Some(state_defs::EndKind::EndOfStack) => Stop::EndOfStack,
-    }
-}
-
-/// What the walk from a standing gives.
-fn walked_from(
-    alloc: Global,
-    example: &Example,
-    s: &Standing,
-) -> Result<stack_model::Walked, AllocError> {
-    let off = example
-        .program
-        .point(s.point)
-        .map_or(0, |point| point.address.off);
-    let regs = Regs {
-        ip: BASE.wrapping_add(off),
-        sp: s.core.rsp,
-        bp: s.core.rbp,
-    };
-    walk(
-        alloc,
-        example.rows.as_slice(),
-        &example.placement,
-        &s.core.region,
-        regs,
-    )
-}
-
-/// The machine stands as the scene says, and the walk gives its frames and stops where they end.
-fn expect_scene(
-    rt: &impl Abort,
-    alloc: Global,
-    example: &Example,
-    s: &Standing,
-    scene: &Scene<'_>,
-) -> Result<(), Fail> {
-    let Scene {
-        point,
-        rsp,
-        frames,
-        stop,
-    } = *scene;
-    assert_eq!(rt; s.point, point);
-    assert_eq!(rt; s.core.rsp, rsp, "rsp at {point}");
-    assert!(rt; example.kept.state(point).is_some(), "{point} isn't kept");
-    let found = frames_of(alloc, s)?;
-    assert!(rt; found.as_slice() == frames, "frames at {point}: {found:?}");
-    assert!(rt; stop_of(s) == stop, "the end of the frames at {point}");
-    let walked = walked_from(alloc, example, s)?;
-    let walked_frames = &walked.frames;
-    let walked_stop = walked.stop;
-    assert!(rt;
-        walked_frames.as_slice() == frames,
-        "walk at {point}: {walked_frames:?}"
-    );
-    assert!(rt; walked_stop == stop, "stop at {point}: {walked_stop:?}");
-    Ok(())
-}
-
-/// A run starts in the first scene, and each choice leads to the next one.
-pub fn expect_run(
-    rt: &impl Abort,
-    alloc: Global,
-    example: &Example,
-    start: Start,
-    t: Standing,
-    first: Scene<'_>,
-    steps: &[(Choice<'_>, Scene<'_>)],
-) -> Result<(), Fail> {
-    let Some(s) = started(alloc, &example.program, &example.placement, start, t)? else {
-        return Err(Fail::from("no start"));
-    };
-    expect_scene(rt, alloc, example, &s, &first)?;
-    let mut machine = Machine::At(s);
-    for (choice, scene) in steps {
-        let to = scene.point;
-        let p = &example.program;
-        let Some(after) = next_state(alloc, p, &example.placement, &machine, choice)? else {
-            assert!(rt; false, "no step to {to}");
-            break;
-        };
-        match &after {
-            Machine::At(s) => expect_scene(rt, alloc, example, s, scene)?,
-            Machine::Wrecked => assert!(rt; false, "wrecked before {to}"),
-        }
-        machine = after;
-    }
-    Ok(())
-}
-
-/// The run from an entry takes these choices, and the last one is no step.
-pub fn expect_no_step(
-    rt: &impl Abort,
-    alloc: Global,
-    example: &Example,
-    t: Standing,
-    choices: &[Choice<'_>],
-    last: &Choice<'_>,
-) -> Result<(), Fail> {
-    let p = &example.program;
-    let start = Start::AtEntry { entry: 0 };
-    let states = stack_model::run(alloc, p, &example.placement, start, t, choices)?;
-    assert_eq!(rt; states.len(), choices.len() + 1);
-    if let Some(machine) = states.last() {
-        let after = next_state(alloc, p, &example.placement, machine, last)?;
-        assert!(rt; after.is_none(), "a step");
-    }
-    Ok(())
-}
-
-/// How a run goes wrong.
-#[derive(Clone, Copy, Debug, PartialEq)]
-pub enum Wrong {
-    /// The stack is wrecked.
-    Wrecked,
-    /// It stands at a point that isn't kept.
-    NotKept(u32),
-    /// It stands at a point where the walk doesn't give its frames.
-    Walk(u32),
-}
-
-/// What is wrong with a state of a run.
-pub fn wrong_of(
-    alloc: Global,
+    name: &str,
     example: &Example,
     machine: &Machine,
-) -> Result<Option<Wrong>, AllocError> {
-    let Machine::At(s) = machine else {
-        return Ok(Some(Wrong::Wrecked));
-    };
-    if example.kept.state(s.point).is_none() {
-        return Ok(Some(Wrong::NotKept(s.point)));
-    }
-    let walked = walked_from(alloc, example, s)?;
-    let is_told = walked.stop == stop_of(s)
-        && walked.frames.as_slice() == frames_of(alloc, s)?.as_slice();
-    Ok(if is_told {
-        None
-    } else {
-        Some(Wrong::Walk(s.point))
-    })
-}
-
-/// A run takes each choice; its last state, and no earlier one, is wrong in this way.
-pub fn expect_wrong(
-    rt: &impl Abort,
-    alloc: Global,
-    example: &Example,
-    start: Start,
-    t: Standing,
-    choices: &[Choice<'_>],
-    wrong: Wrong,
+    (point, rsp): (u32, u64),
+    (frames, stop): (&[WalkedFrame], Stop),
 ) -> Result<(), Fail> {
-    let p = &example.program;
-    let states = stack_model::run(alloc, p, &example.placement, start, t, choices)?;
-    assert_eq!(rt; states.len(), choices.len() + 1);
-    for (i, machine) in states.iter().enumerate() {
-        let expected = if i == choices.len() {
-            Some(wrong)
-        } else {
-            None
-        };
-        assert_eq!(rt; wrong_of(alloc, example, machine)?, expected, "state {i}");
+    assert_eq!(rt;
+        example.wrong_of(alloc, machine)?,
+        None,
+        "{name} at {point}"
+    );
+    if let Machine::At(s) = machine {
+        assert_eq!(rt; (s.point, s.core.rsp), (point, rsp), "{name} at {point}");
+        let (found, found_stop) = frames_of(alloc, s)?;
+        assert!(rt; found.as_slice() == frames, "{name} at {point}: {found:?}");
+        assert!(rt; found_stop == stop, "{name} at {point}: {found_stop:?}");
     }
     Ok(())
+}
+
+/// A run starts, and each of its steps is possible and leads where it says; what is refused isn't possible.
+fn expect_run(
+    rt: &impl Abort,
+    alloc: Global,
+    name: &str,
+    example: &Example,
+    run: &Run,
+) -> Result<(), Fail> {
+    let Some(mut machine) = example.start(alloc, &run.from)? else {
+        assert!(rt; false, "{name}: no start");
+        return Ok(());
+    };
+    let at = (run.from.point, run.from.rsp);
+    expect_stands(
+        rt,
+        alloc,
+        name,
+        example,
+        &machine,
+        at,
+        (run.from.stack.frames, run.from.stack.stop),
+    )?;
+    for (how, to, rsp, frames) in run.steps {
+        let Some(after) = example.step(alloc, &machine, *how, *to)? else {
+            assert!(rt; false, "{name}: no step to {to}");
+            return Ok(());
+        };
+        machine = after;
+        expect_stands(
+            rt,
+            alloc,
+            name,
+            example,
+            &machine,
+            (*to, *rsp),
+            (frames, run.from.stack.stop),
+        )?;
+    }
+    for (how, to) in run.refused {
+        let after = example.step(alloc, &machine, *how, *to)?;
+        assert!(rt; after.is_none(), "{name}: a step to {to}");
+    }
+    Ok(())
+}
+
+/// No rule warns, the states are kept, and the runs are as they should be.
+pub fn expect_accepted(rt: &impl Abort, alloc: Global, case: &Accepted) -> Result<(), Fail> {
+    let name = case.name;
+    let program = program(alloc, &case.table)?;
+    let found = warnings(alloc, &program, &NO_OPTIONS)?;
+    expect_warnings(rt, name, found.as_slice(), &[]);
+    let example = checked(alloc, program)?;
+    assert!(rt;
+        example.states.as_slice() == case.states,
+        "{name}: {:?}",
+        example.states
+    );
+    for run in case.runs {
+        expect_run(rt, alloc, name, &example, run)?;
+    }
+    Ok(())
+}
+
+/// A run goes on so; its last state, and no earlier one, is wrong in this way.
+fn expect_wrong(
+    rt: &impl Abort,
+    alloc: Global,
+    name: &str,
+    example: &Example,
+    from: &From,
+    steps: &[(How, u32)],
+    wrong: Wrong,
+) -> Result<(), Fail> {
+    let mut next = example.start(alloc, from)?;
+    for (how, to) in steps {
+        let Some(machine) = next else {
+            break;
+        };
+        assert_eq!(rt;
+            example.wrong_of(alloc, &machine)?,
+            None,
+            "{name} before {to}"
+        );
+        next = example.step(alloc, &machine, *how, *to)?;
+    }
+    let Some(last) = next else {
+        assert!(rt; false, "{name}: no step");
+        return Ok(());
+    };
+    assert_eq!(rt; example.wrong_of(alloc, &last)?, Some(wrong), "{name}");
+    Ok(())
+}
+
+/// What becomes of a run is this.
+fn expect_end(
+    rt: &impl Abort,
+    alloc: Global,
+    name: &str,
+    example: &Example,
+    end: &End,
+) -> Result<(), Fail> {
+    match end {
+        End::IsWrong(from, steps, wrong) => {
+            expect_wrong(rt, alloc, name, example, from, steps, *wrong)
+        }
+        End::HasNoStep(from, how, to) => {
+            let start = example.start(alloc, from)?;
+            let after = match &start {
+                Some(machine) => example.step(alloc, machine, *how, *to)?,
+                None => None,
+            };
+            assert!(rt; start.is_some() && after.is_none(), "{name}: a step");
+            Ok(())
+        }
+        End::IsNone(from) => {
+            assert!(rt; example.start(alloc, from)?.is_none(), "{name}: a start");
+            Ok(())
+        }
+        End::IsNotRun => Ok(()),
+    }
+}
+
+/// The rules warn so, and the run ends so.
+pub fn expect_broken(rt: &impl Abort, alloc: Global, case: &Broken) -> Result<(), Fail> {
+    let program = program(alloc, &case.table)?;
+    let found = warnings(alloc, &program, &case.options)?;
+    expect_warnings(rt, case.name, found.as_slice(), case.warnings);
+    let example = checked(alloc, program)?;
+    expect_end(rt, alloc, case.name, &example, &case.run)
 }

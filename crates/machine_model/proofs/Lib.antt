@@ -1,0 +1,4 @@
+pub mod Chosen
+pub mod Frames
+pub mod Hints
+pub mod Lines

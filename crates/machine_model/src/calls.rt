@@ -1,0 +1,124 @@
+//! Calls.
+
+ghost use Rattle.std.specs.Prelude.{◌≡◌, ◌≤◌, ◌^◌, not, IfOk, IfSome, IsTrue, List, Bool};
+ghost use Rattle.state_defs.specs.Region.{hi_of};
+ghost use Rattle.machine_defs.specs.Step.{MayCall, CallsIn, CallsOut};
+ghost use Rattle.program_defs.specs.MayReturn.{may_call_out};
+ghost use Rattle.program_model.specs.Region.{region_of};
+ghost use Rattle.machine_model.specs.Standing.{standing_of};
+ghost use Rattle.program_model.specs.Program.{program_of};
+ghost use Rattle.program_model.specs.Placement.{bases_of};
+ghost use Rattle.machine_model.specs.Frame.{frame_of};
+ghost use Rattle.machine_model.specs.Called.{frame_called, IsCalled};
+
+use crate::effect::store_ordinarily;
+use crate::frame::Frame;
+use crate::slot::Slot;
+use crate::standing::Standing;
+use program_defs::Role;
+use program_model::{Program, Store, down, return_address};
+use std::alloc::{AllocError, Global};
+use walk_defs::Range;
+
+/// Whether a call may go to this entry.
+fn may_call(p: &Program, role: Role, target: u32) -> bool
+    ensures { (set : List Bool) → IsTrue result → MayCall (program_of p.now set) role target }
+{
+    match role {
+        Role::CallIn { entry } | Role::CallEither { entry, .. } => target == entry,
+        Role::CallAny => p.is_entry(target),
+        _ => false,
+    }
+}
+
+/// The frame that a call makes, with its return address.
+fn call_frame(s: &Standing, ra: u64) -> Frame
+    ensures { frame_of result ≡ frame_called (standing_of s.now) ra }
+{
+    Frame {
+        call: Some(s.point),
+        ra,
+        cfa: s.core.rsp,
+        bp: s.core.rbp,
+        slot: Slot::Unsaved,
+        ac: s.core.ac,
+        ended_caller: s.ended,
+        mark_caller: s.mark,
+    }
+}
+
+/// A call with this return address, to this point.
+fn called(s: Standing, ra: u64, at: u32) -> Result<Standing, AllocError>
+    ensures { IfOk result (λ t. IsCalled ra at (standing_of s) (standing_of t)) }
+{
+    let frame = call_frame(&s, ra);
+    let mut s = s;
+    let rsp = down(s.core.rsp, 8);
+    s.core.shadow.insert(0, frame)?;
+    s.core.rsp = rsp;
+    s.core.region.write_word(rsp, ra);
+    s.point = at;
+    s.ended = None;
+    s.mark = None;
+    Ok(s)
+}
+
+/// It calls an entry of the program: its return address is pushed, and a frame is made.
+pub fn calls_in(
+    p: &Program,
+    placement: &[Range],
+    s: Standing,
+    entry: u32,
+    at: u32,
+) -> Result<Option<Standing>, AllocError>
+    ensures { (set : List Bool) → IfOk result (λ called. IfSome called (λ t. hi_of (region_of s.core.region) ≤ 2 ^ 64 → CallsIn (program_of p.now set) (bases_of placement.now) (standing_of s) (standing_of t))) }
+{
+    if !may_call(p, p.role(s.point), entry) || !p.enters(entry, at) {
+        return Ok(None);
+    }
+    match return_address(p, placement, s.point) {
+        None => Ok(None),
+        Some(ra) => Ok(Some(called(s, ra, at)?)),
+    }
+}
+
+/// Whether a call may go to code outside that returns.
+fn may_call_out(p: &Program, role: Role) -> bool
+    ensures { (set : List Bool) → result ≡ may_call_out (program_of p.now set) role }
+{
+    match role {
+        Role::CallOut { sym } => !p.never_returns(sym),
+        Role::CallEither { .. } | Role::CallAny => true,
+        _ => false,
+    }
+}
+
+/// It calls code outside, which returns: it keeps rsp, rbp, user access and protected slots.
+pub fn calls_out(
+    alloc: Global,
+    p: &Program,
+    s: Standing,
+    to: u32,
+    stores: &[Store],
+) -> Result<Option<Standing>, AllocError>
+    ensures { (set : List Bool) → IfOk result (λ called. IfSome called (λ t. CallsOut (program_of p.now set) (standing_of s) (standing_of t))) }
+{
+    if !may_call_out(p, p.role(s.point)) || p.is_dead_end(s.point) || !p.follows(s.point, to) {
+        return Ok(None);
+    }
+    let Standing {
+        core,
+        ended,
+        mark,
+        ..
+    } = s;
+    match store_ordinarily(alloc, core, stores)? {
+        None => Ok(None),
+        Some(core) => Ok(Some(Standing {
+            point: to,
+            core,
+            ended,
+            mark,
+        })),
+    }
+}

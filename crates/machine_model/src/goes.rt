@@ -1,0 +1,114 @@
+//! Steps within a function, and from one function to another by a jump.
+
+ghost use Rattle.std.specs.Prelude.{◌≡◌, ◌≤◌, ◌^◌, IfOk, IfSome, IsTrue, List, Bool};
+ghost use Rattle.state_defs.specs.Region.{hi_of};
+ghost use Rattle.program_defs.specs.Program.{is_local};
+ghost use Rattle.machine_defs.specs.Step.{GoesOn, Faults, JumpsTo, TailCalls};
+ghost use Rattle.program_model.specs.Region.{region_of};
+ghost use Rattle.machine_model.specs.Standing.{standing_of};
+ghost use Rattle.program_model.specs.Program.{program_of};
+
+use crate::choice::Anything;
+use crate::effect::{effect, store_ordinarily};
+use crate::standing::Standing;
+use program_defs::{Edge, EdgeKind, Role};
+use program_model::{Program, Store};
+use std::alloc::{AllocError, Global};
+
+/// Whether an edge of this kind runs the instruction, and stays on the level.
+fn is_local(kind: EdgeKind) -> bool
+    ensures { result ≡ is_local kind }
+{
+    match kind {
+        EdgeKind::Next | EdgeKind::Taken | EdgeKind::Table => true,
+        EdgeKind::Fixup | EdgeKind::Sibling => false,
+    }
+}
+
+/// An instruction goes on in its function, with its effect.
+pub fn goes_on(
+    alloc: Global,
+    p: &Program,
+    s: Standing,
+    edge: Edge,
+    any: &Anything<'_>,
+) -> Result<Option<Standing>, AllocError>
+    ensures { (set : List Bool) → IfOk result (λ gone. IfSome gone (λ t. hi_of (region_of s.core.region) ≤ 2 ^ 64 → GoesOn (program_of p.now set) (standing_of s) (standing_of t))) }
+{
+    let op = p.insn(s.point).op;
+    if !is_local(edge.kind) || !p.has_edge(s.point, edge) {
+        return Ok(None);
+    }
+    let Standing {
+        core,
+        ended,
+        mark,
+        ..
+    } = s;
+    match effect(alloc, op, core, any)? {
+        None => Ok(None),
+        Some(core) => Ok(Some(Standing {
+            point: edge.to,
+            core,
+            ended,
+            mark,
+        })),
+    }
+}
+
+/// It faults, and goes to its fixup. Ordinary stores may happen.
+pub fn faults(
+    alloc: Global,
+    p: &Program,
+    s: Standing,
+    to: u32,
+    stores: &[Store],
+) -> Result<Option<Standing>, AllocError>
+    ensures { (set : List Bool) → IfOk result (λ gone. IfSome gone (λ t. Faults (program_of p.now set) (standing_of s) (standing_of t))) }
+{
+    let kind = EdgeKind::Fixup;
+    if !p.has_edge(s.point, Edge { to, kind }) {
+        return Ok(None);
+    }
+    let Standing {
+        core,
+        ended,
+        mark,
+        ..
+    } = s;
+    match store_ordinarily(alloc, core, stores)? {
+        None => Ok(None),
+        Some(core) => Ok(Some(Standing {
+            point: to,
+            core,
+            ended,
+            mark,
+        })),
+    }
+}
+
+/// Whether the point is where a jump to another function of the program may go.
+fn jumps_to(p: &Program, q: u32, to: u32) -> bool
+    ensures { (set : List Bool) → IsTrue result → JumpsTo (program_of p.now set) q to }
+{
+    let kind = EdgeKind::Sibling;
+    if p.has_edge(q, Edge { to, kind }) {
+        return true;
+    }
+    match p.role(q) {
+        Role::JumpAny => p.is_entry_point(to),
+        _ => false,
+    }
+}
+
+/// It jumps to the entry of another function.
+pub fn tail_calls(p: &Program, s: Standing, to: u32) -> Option<Standing>
+    ensures { (set : List Bool) → IfSome result (λ t. TailCalls (program_of p.now set) (standing_of s) (standing_of t)) }
+{
+    if !jumps_to(p, s.point, to) {
+        return None;
+    }
+    let mut s = s;
+    s.point = to;
+    Some(s)
+}

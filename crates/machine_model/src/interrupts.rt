@@ -1,0 +1,168 @@
+//! Interrupts, and returns from them.
+
+ghost use Rattle.std.specs.Prelude.{◌∷◌, IfSome, IsTrue, List, Bool};
+ghost use Rattle.state_defs.specs.Frame.{Frame as DefinedFrame};
+ghost use Rattle.machine_defs.specs.Step.{IsAtIret, MissesIret, ReturnsFromInterrupt};
+ghost use Rattle.machine_model.specs.Frame.{frame_of, frames_of};
+ghost use Rattle.machine_model.specs.Standing.{core_of, standing_of};
+ghost use Rattle.program_model.specs.Program.{program_of};
+ghost use Rattle.machine_model.specs.Left.{IsResumed};
+
+use crate::choice::InterruptWords;
+use crate::frame::Frame;
+use crate::returns::pop_frame;
+use crate::slot::Slot;
+use crate::standing::{Core, Standing};
+use operation_defs::Op;
+use program_model::{Program, down, point_address, up};
+use state_defs::{HintState, State};
+use std::alloc::AllocError;
+use walk_defs::Range;
+
+/// How many bytes the processor pushes below the five words at a gate: those of an error code, 8, or
+/// none. A gate is a plain point without owner and outside sites, whose hint says so.
+fn gate_bytes(p: &Program, gate: u32) -> Option<u64> {
+    let point = p.point(gate)?;
+    if point.variant != 0 || point.owner.is_some() || p.site_at(point.place).is_some() {
+        return None;
+    }
+    match point.hint {
+        Some(
+            HintState::Set(
+                State::Regs {
+                    full: false,
+                    depth: 0,
+                },
+            ),
+        ) => Some(0),
+        Some(
+            HintState::Set(
+                State::Regs {
+                    full: false,
+                    depth: 8,
+                },
+            ),
+        ) => Some(8),
+        _ => None,
+    }
+}
+
+/// Where the processor puts the five words: right below rsp, rounded down to a multiple of 16.
+fn interrupt_slot(rsp: u64) -> u64 {
+    down(rsp - rsp % 16, 40)
+}
+
+/// The frame that an interrupt makes, at this address of the interrupted instruction.
+fn interrupt_frame(s: &Standing, ra: u64) -> Frame {
+    Frame {
+        call: Some(s.point),
+        ra,
+        cfa: s.core.rsp,
+        bp: s.core.rbp,
+        slot: Slot::PartialAt(interrupt_slot(s.core.rsp)),
+        ac: s.core.ac,
+        ended_caller: s.ended,
+        mark_caller: s.mark,
+    }
+}
+
+/// The processor pushes the five words, and an error code where `n` is 8.
+fn push_words(core: &mut Core, ra: u64, n: u64, words: &InterruptWords) {
+    let slot = interrupt_slot(core.rsp);
+    let rsp = core.rsp;
+    let pushed = [ra, words.cs, words.flags, rsp, words.ss];
+    if n == 8 {
+        core.region.write_word(down(slot, 8), words.error);
+    }
+    for (i, word) in pushed.iter().enumerate() {
+        core.region.write_word(up(slot, 8 * i as u64), *word);
+    }
+    core.rsp = down(slot, n);
+}
+
+/// An interrupt comes, at any point.
+pub fn is_interrupted(
+    p: &Program,
+    placement: &[Range],
+    s: Standing,
+    gate: u32,
+    words: &InterruptWords,
+) -> Result<Option<Standing>, AllocError> {
+    let Some(n) = gate_bytes(p, gate) else {
+        return Ok(None);
+    };
+    let Some(ra) = point_address(p, placement, s.point) else {
+        return Ok(None);
+    };
+    let mut s = s;
+    let frame = interrupt_frame(&s, ra);
+    s.core.shadow.insert(0, frame)?;
+    push_words(&mut s.core, ra, n, words);
+    s.point = gate;
+    s.ended = None;
+    s.mark = None;
+    Ok(Some(s))
+}
+
+/// Whether the stack may be as it has to be for a return from this interrupt.
+fn is_at_iret(core: &Core, frame: &Frame) -> bool
+    ensures { IsTrue result → IsAtIret (core_of core.now) (frame_of frame.now) }
+{
+    !frame.slot.is_of_call()
+        && core.region.may_read(core.rsp, frame.ra)
+        && core.region.may_read(up(core.rsp, 24), frame.cfa)
+        && core.rbp == frame.bp
+}
+
+/// Whether it may be otherwise.
+pub fn misses_iret(core: &Core) -> bool
+    ensures { IsTrue result → MissesIret (core_of core.now) (frames_of core.now.shadow.items) }
+{
+    match core.shadow.as_slice() {
+        [] => true,
+        [top, ..] => misses_interrupt(core, top),
+    }
+}
+
+/// Whether the stack may be otherwise than for a return from this interrupt.
+fn misses_interrupt(core: &Core, frame: &Frame) -> bool
+    ensures { (others : List DefinedFrame) → IsTrue result → MissesIret (core_of core.now) (frame_of frame.now ∷ others) }
+{
+    let sp = up(core.rsp, 24);
+    frame.slot.is_of_call()
+        || core.region.may_read_another(core.rsp, frame.ra)
+        || core.region.may_read_another(sp, frame.cfa)
+        || core.rbp != frame.bp
+}
+
+/// It returns from an interrupt, to the interrupted instruction.
+pub fn returns_from_interrupt(p: &Program, s: Standing) -> Option<Standing>
+    ensures { (set : List Bool) → IfSome result (λ t. ReturnsFromInterrupt (program_of p.now set) (standing_of s) (standing_of t)) }
+{
+    match p.insn(s.point).op {
+        Op::Iret => {}
+        _ => return None,
+    }
+    if s.ended.is_some() {
+        return None;
+    }
+    let (frame, popped) = pop_frame(s)?;
+    let to = frame.call?;
+    if !is_at_iret(&popped.core, &frame) {
+        return None;
+    }
+    Some(resumed(popped, frame, to))
+}
+
+/// The interrupted standing, below a frame that was taken off.
+fn resumed(popped: Standing, frame: Frame, to: u32) -> Standing
+    ensures { IsResumed popped frame to result }
+{
+    let mut t = popped;
+    t.core.rsp = frame.cfa;
+    t.core.ac = frame.ac;
+    t.point = to;
+    t.ended = frame.ended_caller;
+    t.mark = frame.mark_caller;
+    t
+}

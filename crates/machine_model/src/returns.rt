@@ -1,0 +1,145 @@
+//! Returns.
+
+ghost use Rattle.std.specs.Prelude.{◌≡◌, ◌∷◌, IfOk, IfSome, IsTrue, List, Bool};
+ghost use Rattle.state_defs.specs.Address.{up};
+ghost use Rattle.state_defs.specs.Frame.{Frame as DefinedFrame};
+ghost use Rattle.machine_defs.specs.Step.{IsAtReturn, MissesReturn, LeavesMemory, Returns, may_leave};
+ghost use Rattle.program_model.specs.Region.{region_of};
+ghost use Rattle.machine_model.specs.Frame.{frame_of, frames_of};
+ghost use Rattle.machine_model.specs.Standing.{core_of, standing_of};
+ghost use Rattle.program_model.specs.Program.{program_of};
+ghost use Rattle.machine_model.specs.Left.{IsPopped, IsBack};
+
+use crate::frame::Frame;
+use crate::shadow::protected_addresses;
+use crate::standing::{Core, Standing};
+use program_defs::Role;
+use program_model::{Program, Region, Store, down, up};
+use std::alloc::{AllocError, Global};
+
+/// Whether a point may leave its function: by a return, or by a jump to code outside that returns.
+pub fn may_leave(p: &Program, role: Role) -> bool
+    ensures { (set : List Bool) → result ≡ may_leave (program_of p.now set) role }
+{
+    match role {
+        Role::Return | Role::JumpAny => true,
+        Role::JumpOut { sym } => !p.never_returns(sym),
+        _ => false,
+    }
+}
+
+/// Whether the stack may be as it has to be for a return from this frame.
+fn is_at_return(core: &Core, frame: &Frame) -> bool
+    ensures { IsTrue result → IsAtReturn (core_of core.now) (frame_of frame.now) }
+{
+    frame.slot.is_of_call()
+        && core.region.may_read(core.rsp, frame.ra)
+        && core.rsp == down(frame.cfa, 8)
+        && core.rbp == frame.bp
+}
+
+/// Whether it may be otherwise.
+pub fn misses_return(core: &Core) -> bool
+    ensures { IsTrue result → MissesReturn (core_of core.now) (frames_of core.now.shadow.items) }
+{
+    match core.shadow.as_slice() {
+        [] => true,
+        [top, ..] => misses_frame(core, top),
+    }
+}
+
+/// Whether the stack may be otherwise than for a return from this frame.
+fn misses_frame(core: &Core, frame: &Frame) -> bool
+    ensures { (others : List DefinedFrame) → IsTrue result → MissesReturn (core_of core.now) (frame_of frame.now ∷ others) }
+{
+    !frame.slot.is_of_call()
+        || core.region.may_read_another(core.rsp, frame.ra)
+        || core.rsp != down(frame.cfa, 8)
+        || core.rbp != frame.bp
+}
+
+/// Takes the top frame off, where there is one.
+pub fn pop_frame(s: Standing) -> Option<(Frame, Standing)>
+    ensures { IfSome result (λ popped. IsPopped s popped.0 popped.1) }
+{
+    let frame = match s.core.shadow.as_slice() {
+        [] => return None,
+        [top, ..] => *top,
+    };
+    let mut s = s;
+    let _ = s.core.shadow.remove(0);
+    Some((frame, s))
+}
+
+/// Goes back below a frame that was taken off, with this memory and rsp.
+pub fn back(popped: Standing, frame: Frame, rsp: u64, region: Region, to: u32) -> Standing
+    ensures { IsBack popped frame rsp region to result }
+{
+    let mut t = popped;
+    t.core.region = region;
+    t.core.rsp = rsp;
+    t.point = to;
+    t.ended = frame.ended_caller;
+    t.mark = frame.mark_caller;
+    t
+}
+
+/// Memory after a point has left its function: code outside that was jumped to may store, but spares
+/// the slots of the frames that are left.
+fn left_memory(
+    alloc: Global,
+    role: Role,
+    below: &[Frame],
+    before: &Region,
+    stores: &[Store],
+) -> Result<Option<Region>, AllocError>
+    ensures { IfOk result (λ left. IfSome left (λ after. LeavesMemory role (frames_of below.now) (region_of before.now) (region_of after))) }
+{
+    match role {
+        Role::Return => Ok(Some(before.clone()?)),
+        Role::JumpAny
+        | Role::JumpOut { .. }
+        | Role::Plain
+        | Role::CallIn { .. }
+        | Role::CallEither { .. }
+        | Role::CallOut { .. }
+        | Role::CallAny
+        | Role::Switch => {
+            let spared = protected_addresses(alloc, below)?;
+            before.stored(stores, spared.as_slice())
+        }
+    }
+}
+
+/// It returns to the caller in the program, itself or by code outside.
+pub fn returns(
+    alloc: Global,
+    p: &Program,
+    s: Standing,
+    to: u32,
+    stores: &[Store],
+) -> Result<Option<Standing>, AllocError>
+    ensures { (set : List Bool) → IfOk result (λ left. IfSome left (λ t. Returns (program_of p.now set) (standing_of s) (standing_of t))) }
+{
+    let role = p.role(s.point);
+    if !may_leave(p, role) {
+        return Ok(None);
+    }
+    let Some((frame, popped)) = pop_frame(s) else {
+        return Ok(None);
+    };
+    let Some(call) = frame.call else {
+        return Ok(None);
+    };
+    if !is_at_return(&popped.core, &frame) || p.is_dead_end(call) || !p.follows(call, to) {
+        return Ok(None);
+    }
+    let below = popped.core.shadow.as_slice();
+    match left_memory(alloc, role, below, &popped.core.region, stores)? {
+        None => Ok(None),
+        Some(region) => {
+            let rsp = up(popped.core.rsp, 8);
+            Ok(Some(back(popped, frame, rsp, region, to)))
+        }
+    }
+}

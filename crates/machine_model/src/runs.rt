@@ -1,0 +1,151 @@
+//! Runs: a start, then steps in which rsp stays in the stack.
+
+use crate::choice::Choice;
+use crate::frame::Frame;
+use crate::hint::lands;
+use crate::standing::{Core, Machine, Standing};
+use crate::steps::{interrupt, step};
+use program_model::{Point, Program, down, is_inside, up};
+use state_defs::{HintState, State};
+use std::alloc::{AllocError, Global};
+use walk_defs::Range;
+
+/// Where a run starts.
+#[derive(Clone, Copy)]
+pub enum Start {
+    /// At this entry, called from outside.
+    AtEntry { entry: u32 },
+    /// At a hint that tells a call frame, called from outside.
+    AtCallHint,
+    /// At a hint that tells saved registers, in an interrupt that came outside.
+    AtRegsHint,
+    /// At a hint that ends the stack, with no frame.
+    AtEndHint,
+}
+
+/// The only frame, where there is one frame alone, and it was there at the start.
+fn outermost(core: &Core) -> Option<Frame> {
+    let frame = *core.shadow.first()?;
+    let was_there = frame.call.is_none()
+        && frame.ended_caller.is_none()
+        && frame.mark_caller.is_none()
+        && frame.ac == core.ac
+        && u128::from(frame.cfa) <= core.region.end();
+    (was_there && core.shadow.len() == 1).then_some(frame)
+}
+
+/// The only frame, where it is one of a call from outside, whose return address is on the stack.
+fn called_from(placement: &[Range], core: &Core) -> Option<Frame> {
+    let frame = outermost(core)?;
+    let was_called = frame.slot == crate::slot::Slot::Unsaved
+        && !is_inside(placement, down(frame.ra, 1))
+        && core.region.may_read(down(frame.cfa, 8), frame.ra);
+    was_called.then_some(frame)
+}
+
+/// Whether the only frame is one of an interrupt that came outside.
+fn was_interrupted(placement: &[Range], core: &Core) -> bool {
+    outermost(core).is_some_and(|frame| !frame.slot.is_of_call() && !is_inside(placement, frame.ra))
+}
+
+/// Whether a run may start at a point by its hint: a plain point of checked code, not inside a site, but
+/// for its first instruction.
+fn may_start(p: &Program, point: &Point) -> bool {
+    point.variant == 0
+        && !point.is_unchecked
+        && p.sites.iter().all(|site| !site.contains(point.place) || site.start == point.place)
+}
+
+/// Whether this kind of start is possible where the machine stands, before the hint there.
+fn is_start(p: &Program, placement: &[Range], start: Start, t: &Standing) -> bool {
+    let Some(point) = p.point(t.point) else {
+        return false;
+    };
+    let is_hint_start = may_start(p, point);
+    match (start, point.hint) {
+        (Start::AtEntry { entry }, _) => {
+            p.entries.contains(&entry)
+                && p.enters(entry, t.point)
+                && called_from(placement, &t.core).is_some_and(|frame| {
+                    frame.cfa == up(t.core.rsp, 8) && frame.bp == t.core.rbp
+                })
+        }
+        (Start::AtCallHint, Some(HintState::Set(State::Live { .. }))) => {
+            is_hint_start && called_from(placement, &t.core).is_some()
+        }
+        (Start::AtRegsHint, Some(HintState::Set(State::Regs { .. }))) => {
+            is_hint_start && was_interrupted(placement, &t.core)
+        }
+        (Start::AtEndHint, Some(HintState::Set(State::Ended(_)))) => {
+            is_hint_start && t.core.shadow.is_empty()
+        }
+        _ => false,
+    }
+}
+
+/// The start: what the hint where the machine stands makes of that, where nothing has ended the stack;
+/// it has no mark.
+pub fn started(
+    alloc: Global,
+    p: &Program,
+    placement: &[Range],
+    start: Start,
+    t: Standing,
+) -> Result<Option<Standing>, AllocError> {
+    if t.ended.is_some() || t.mark.is_some() || !is_start(p, placement, start, &t) {
+        return Ok(None);
+    }
+    let Some(mut s) = lands(alloc, p, t)? else {
+        return Ok(None);
+    };
+    s.mark = None;
+    Ok(if s.core.is_in_stack() { Some(s) } else { None })
+}
+
+/// The next state of a run; none where the chosen step isn't possible, or rsp leaves the stack.
+pub fn next_state(
+    alloc: Global,
+    p: &Program,
+    placement: &[Range],
+    machine: &Machine,
+    choice: &Choice<'_>,
+) -> Result<Option<Machine>, AllocError> {
+    let Machine::At(s) = machine else {
+        return Ok(None);
+    };
+    let stepped = match choice {
+        Choice::IsInterrupted { gate, words } => {
+            interrupt(alloc, p, placement, s.clone()?, *gate, words)?
+        }
+        _ => step(alloc, p, placement, s.clone()?, choice)?,
+    };
+    match stepped {
+        Some(Machine::At(t)) if !t.core.is_in_stack() => Ok(None),
+        next => Ok(next),
+    }
+}
+
+/// The states of a run, from its start on, as far as the choices are possible.
+pub fn run(
+    alloc: Global,
+    p: &Program,
+    placement: &[Range],
+    start: Start,
+    t: Standing,
+    choices: &[Choice<'_>],
+) -> Result<Vec<Machine>, AllocError> {
+    let mut states = Vec::new(alloc);
+    let Some(s) = started(alloc, p, placement, start, t)? else {
+        return Ok(states);
+    };
+    let mut machine = Machine::At(s);
+    for choice in choices {
+        let Some(next) = next_state(alloc, p, placement, &machine, choice)? else {
+            break;
+        };
+        states.push(machine)?;
+        machine = next;
+    }
+    states.push(machine)?;
+    Ok(states)
+}

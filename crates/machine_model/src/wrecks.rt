@@ -1,0 +1,30 @@
+ghost use Rattle.std.specs.Prelude.{IsTrue, List, Bool};
+ghost use Rattle.machine_defs.specs.Step.{Wrecks};
+ghost use Rattle.machine_model.specs.Standing.{standing_of};
+ghost use Rattle.program_model.specs.Program.{program_of};
+
+use crate::choice::Wreck;
+use crate::interrupts::misses_iret;
+use crate::returns::{may_leave, misses_return};
+use crate::standing::Standing;
+use operation_defs::Op;
+use program_model::Program;
+
+/// Whether the stack may be wrecked in this way: it returns with a wrong stack, or goes where there is
+/// nothing to go to.
+pub fn may_wreck(p: &Program, s: &Standing, wreck: Wreck) -> bool
+    ensures { (set : List Bool) → IsTrue result → Wrecks (program_of p.now set) (standing_of s.now) }
+{
+    let marks = p.marks(s.point);
+    match (wreck, p.insn(s.point).op) {
+        (Wreck::WrongReturn, _) => may_leave(p, p.role(s.point)) && misses_return(&s.core),
+        (Wreck::WrongIret, Op::Iret) => s.ended.is_none() && misses_iret(&s.core),
+        (Wreck::WrongIret, _) => false,
+        (Wreck::DropsBytes, Op::RetImm) => true,
+        (Wreck::DropsBytes, _) => false,
+        (Wreck::BadTarget, _) => marks.bad,
+        (Wreck::IntoSite, _) => marks.into_site,
+        (Wreck::IntoFunction, _) => marks.into_function,
+        (Wreck::PastEnd, _) => marks.past_end,
+    }
+}

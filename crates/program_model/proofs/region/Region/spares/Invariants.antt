@@ -1,0 +1,9 @@
+-- Of the words that are to be spared those looked at so far are.
+use Rattle.std.proofs.Common.{◌≡◌, take}
+use Rattle.std.specs.Prelude.{All}
+use Rattle.state_defs.specs.Region.{word_at}
+use Rattle.program_model.specs.Region.{region_of}
+use Rattle.program_model.proofs.region.Region.spares.Given as goal
+
+abbrev pub invariant-loop-address : goal.invariant-loop-address
+invariant-loop-address l = All (λ a. word_at (region_of l.self) a ≡ word_at (region_of l.before) a) (take l.address-index l.spared)

@@ -1,0 +1,83 @@
+-- The model's program, as the definitions have it. May-return is a set that stands beside it, with a
+-- flag for each point.
+use Rattle.std.specs.Prelude.{ℕ, Bool, false, ◌&&◌, ◌||◌, List, [], Option, Some, None, ◌==◌, filter, map, Contains, length, slice_get, slice_index_or}
+use Rattle.std.specs.List.{list_any}
+use Rattle.ot_base.specs.declared.place.Place.{Place}
+use Rattle.operation_defs.specs.declared.op.Op.TheVariants.{Nop}
+use Rattle.operation_defs.specs.declared.insn.Insn.{Insn}
+use Rattle.program_defs.specs.declared.flow.Role.TheVariants.{Plain}
+use Rattle.program_defs.specs.declared.flow.Marks.{Marks}
+use Rattle.program_defs.specs.Program.{Program, TextSection, Site, below, same_place, entry_points}
+use Rattle.program_model.specs.declared.program.Program.{Program as OwnProgram}
+use Rattle.program_model.specs.declared.program.Point.{Point}
+use Rattle.program_model.specs.declared.program.Site.{Site as OwnSite}
+use Rattle.program_model.specs.declared.program.TextSection.{TextSection as OwnTextSection}
+
+abbrev pub site_of : OwnSite → Site
+site_of s = record { start = s.start; len = s.len }
+
+abbrev pub text_of : OwnTextSection → TextSection
+text_of t = record { sec = t.sec; size = t.size }
+
+-- what a point has, or another where there is no point
+abbrev pub point_or : {A : Type 0} → A → (Point → A) → Option Point → A
+point_or other field None = other
+point_or other field (Some point) = field point
+
+abbrev pub of_point : {A : Type 0} → OwnProgram → A → (Point → A) → ℕ → A
+of_point p other field q = point_or other field (slice_get p.points.items q)
+
+-- no point's instruction, place and marks
+abbrev pub no_insn : Insn
+no_insn = record { len = 0; op = Nop }
+
+abbrev pub no_place : Place
+no_place = record { sec = 0; off = 0 }
+
+abbrev pub no_marks : Marks
+no_marks = record { bad = false; past_end = false; into_site = false; into_function = false }
+
+-- whether control that comes to a place may stand at a point: at the start of a site at the first of the
+-- original code and of each replacement, elsewhere at the plain point
+abbrev pub starts_site : OwnProgram → Place → Bool
+starts_site p place = list_any (λ s. same_place s.start place) p.sites.items
+
+abbrev pub stands_at : OwnProgram → Place → Point → Bool
+stands_at p place point = same_place point.address place && (point.variant == 0 || starts_site p place)
+
+abbrev pub arrives : OwnProgram → Place → ℕ → Bool
+arrives p place q = of_point p false (stands_at p place) q
+
+abbrev pub program_of : OwnProgram → List Bool → Program
+program_of p may_return = record {
+  count = length p.points.items;
+  insn = λ q. of_point p no_insn (λ x. x.insn) q;
+  place = λ q. of_point p no_place (λ x. x.place) q;
+  address = λ q. of_point p no_place (λ x. x.address) q;
+  variant = λ q. of_point p 0 (λ x. x.variant) q;
+  function = λ q. of_point p None (λ x. x.function) q;
+  owner = λ q. of_point p None (λ x. x.owner) q;
+  unchecked = λ q. of_point p false (λ x. x.is_unchecked) q;
+  previous = λ q. of_point p None (λ x. x.previous) q;
+  hint = λ q. of_point p None (λ x. x.hint) q;
+  save_of = λ q. of_point p None (λ x. x.save_of) q;
+  goes = λ q. of_point p [] (λ x. x.goes.items) q;
+  role = λ q. of_point p Plain (λ x. x.role) q;
+  dead_end = λ q. of_point p false (λ x. x.is_dead_end) q;
+  marks = λ q. of_point p no_marks (λ x. x.marks) q;
+  after = λ q. of_point p [] (λ x. x.after.items) q;
+  arrive = λ place. filter (λ q. arrives p place q) (below (length p.points.items));
+  entries = p.entries.items;
+  never_returns = λ sym. list_any (λ other. other == sym) p.never_returning.items;
+  calls_fentry = λ q. of_point p false (λ x. x.calls_fentry) q;
+  may_return = λ q. slice_index_or may_return q false;
+  sites = map site_of p.sites.items;
+  texts = map text_of p.texts.items;
+  unsized = p.without_size.items;
+}
+
+-- control that comes to some entry may stand at the point
+pub record IsEntryPoint (p : OwnProgram) (may_return : List Bool) (q : ℕ) : Type 0 where
+  pub entry : ℕ
+  pub listed : Contains p.entries.items entry
+  pub arrives : Contains (entry_points (program_of p may_return) entry) q

@@ -1,0 +1,271 @@
+//! The rows of a table, and the instructions that they tell.
+
+ghost use Rattle.std.specs.Prelude.{◌≡◌, Some, None};
+ghost use Rattle.stack_examples.specs.Line.{goes_on, role_of, next_branches, line_place, line_address};
+
+use operation_defs::Op;
+use ot_base::Place;
+use program_defs::{EdgeKind, Marks, Role};
+use state_defs::HintState;
+
+/// Nothing is wrong with where an instruction goes.
+const NO_MARKS: Marks = Marks {
+    bad: false,
+    past_end: false,
+    into_site: false,
+    into_function: false,
+};
+
+/// What an instruction of a table has besides its place, length and operation.
+#[derive(Clone, Copy)]
+pub enum With {
+    /// It is of this other function, which is its own parent.
+    Of(u32),
+    /// It is of this part of function 0.
+    OfPart(u32),
+    /// It is of no function.
+    OfNone,
+    /// Its function isn't checked.
+    Unchecked,
+    /// It begins a function without a size.
+    WithoutSize,
+    /// It also goes to this offset of section 1, in this way.
+    To(u64, EdgeKind),
+    /// It is this to its function.
+    Is(Role),
+    /// A hint stands there.
+    Hint(HintState),
+    /// The RESTORE there means the SAVE at this point.
+    SaveOf(u32),
+    /// This is wrong with where it goes.
+    Marks(Marks),
+    /// It is one of this replacement, at its offset of section 2, and runs at this offset of section 1.
+    RunsAt(u32, u64),
+}
+
+/// A row of a table: an instruction's offset in section 1 (in section 2 where it is one of a replacement),
+/// its length and operation, and what it has besides. Without that it is of function 0.
+pub type Row = (u64, u8, Op, &'static [With]);
+
+/// A table: its rows, the points at which functions are entered, and the offset and length of each site
+/// in section 1.
+#[derive(Clone, Copy)]
+pub struct Table {
+    pub rows: &'static [Row],
+    pub entries: &'static [u32],
+    pub sites: &'static [(u64, u64)],
+}
+
+/// An instruction of section 1, or one of a replacement in section 2.
+#[derive(Clone, Copy)]
+pub struct Line {
+    pub off: u64,
+    pub len: u8,
+    pub op: Op,
+    pub function: Option<u32>,
+    pub owner: Option<u32>,
+    pub is_unchecked: bool,
+    pub is_without_size: bool,
+    pub hint: Option<HintState>,
+    pub save_of: Option<u32>,
+    pub goes_on: bool,
+    pub branches: [Option<(u64, EdgeKind)>; 2],
+    pub role: Role,
+    pub is_dead_end: bool,
+    pub marks: Marks,
+    /// The variant of a replacement, and the offset in section 1 where the instruction runs.
+    pub replaces: Option<(u32, u64)>,
+}
+
+/// Whether an instruction goes on to the one behind it.
+fn goes_on(op: Op) -> bool
+    ensures { result ≡ goes_on op }
+{
+    !matches!(
+        op,
+        Op::Jmp { .. } | Op::JmpInd { .. } | Op::Ret | Op::RetImm | Op::Iret | Op::Switch | Op::Ud2
+    )
+}
+
+/// What an instruction is to its function, where it neither calls nor jumps to another.
+fn role_of(op: Op) -> Role
+    ensures { result ≡ role_of op }
+{
+    match op {
+        Op::Ret | Op::RetImm => Role::Return,
+        Op::Iret | Op::Switch => Role::Switch,
+        _ => Role::Plain,
+    }
+}
+
+/// An instruction of function 0 at an offset of section 1.
+fn insn(off: u64, len: u8, op: Op) -> Line
+    ensures function { result.function ≡ Some 0 }
+    ensures owner { result.owner ≡ Some 0 }
+    ensures goes_on { result.goes_on ≡ goes_on op }
+    ensures role { result.role ≡ role_of op }
+    ensures stands { line_place result ≡ record { sec = 1; off = off } }
+    ensures runs { line_address result ≡ off }
+{
+    Line {
+        off,
+        len,
+        op,
+        function: Some(0),
+        owner: Some(0),
+        is_unchecked: false,
+        is_without_size: false,
+        hint: None,
+        save_of: None,
+        goes_on: goes_on(op),
+        branches: [None, None],
+        role: role_of(op),
+        is_dead_end: false,
+        marks: NO_MARKS,
+        replaces: None,
+    }
+}
+
+impl Line {
+    /// It is of another function, which is its own parent.
+    fn of(self, function: u32) -> Line
+        ensures { result ≡ record self { function = Some function; owner = Some function } }
+    {
+        Line {
+            function: Some(function),
+            owner: Some(function),
+            ..self
+        }
+    }
+
+    /// It is of a part of function 0.
+    fn of_part(self, function: u32) -> Line
+        ensures { result ≡ record self { function = Some function } }
+    {
+        Line {
+            function: Some(function),
+            ..self
+        }
+    }
+
+    /// It is of no function.
+    fn of_none(self) -> Line
+        ensures { result ≡ record self { function = None; owner = None } }
+    {
+        Line {
+            function: None,
+            owner: None,
+            ..self
+        }
+    }
+
+    fn unchecked(self) -> Line {
+        Line {
+            is_unchecked: true,
+            ..self
+        }
+    }
+
+    fn without_size(self) -> Line {
+        Line {
+            is_without_size: true,
+            ..self
+        }
+    }
+
+    /// It also goes to this offset of section 1, in this way.
+    fn to(self, off: u64, kind: EdgeKind) -> Line
+        ensures { result ≡ record self { branches = next_branches self.branches off kind } }
+    {
+        let [first, _] = self.branches;
+        Line {
+            branches: match first {
+                None => [Some((off, kind)), None],
+                Some(_) => [first, Some((off, kind))],
+            },
+            ..self
+        }
+    }
+
+    fn role(self, role: Role) -> Line {
+        Line { role, ..self }
+    }
+
+    fn hint(self, hint: HintState) -> Line {
+        Line {
+            hint: Some(hint),
+            ..self
+        }
+    }
+
+    fn save_of(self, save: u32) -> Line {
+        Line {
+            save_of: Some(save),
+            ..self
+        }
+    }
+
+    fn marks(self, marks: Marks) -> Line {
+        Line { marks, ..self }
+    }
+
+    /// It is one of a replacement, at its offset of section 2, and runs at this offset of section 1.
+    fn runs_at(self, variant: u32, off: u64) -> Line
+        ensures { result ≡ record self { replaces = Some (variant, off) } }
+    {
+        Line {
+            replaces: Some((variant, off)),
+            ..self
+        }
+    }
+
+    /// It has this besides.
+    fn with(self, with: With) -> Line {
+        match with {
+            With::Of(function) => self.of(function),
+            With::OfPart(function) => self.of_part(function),
+            With::OfNone => self.of_none(),
+            With::Unchecked => self.unchecked(),
+            With::WithoutSize => self.without_size(),
+            With::To(off, kind) => self.to(off, kind),
+            With::Is(role) => self.role(role),
+            With::Hint(hint) => self.hint(hint),
+            With::SaveOf(save) => self.save_of(save),
+            With::Marks(marks) => self.marks(marks),
+            With::RunsAt(variant, off) => self.runs_at(variant, off),
+        }
+    }
+
+    pub fn place(self) -> Place
+        ensures { result ≡ line_place self }
+    {
+        let sec = if self.replaces.is_some() { 2 } else { 1 };
+        Place { sec, off: self.off }
+    }
+
+    /// The offset of section 1 where it runs.
+    pub fn address(self) -> u64
+        ensures { result ≡ line_address self }
+    {
+        self.replaces.map_or(self.off, |(_, off)| off)
+    }
+
+    /// The offset behind it there.
+    pub fn end(self) -> u64 {
+        self.address().wrapping_add(u64::from(self.len))
+    }
+
+    pub fn variant(self) -> u32 {
+        self.replaces.map_or(0, |(variant, _)| variant)
+    }
+}
+
+/// The instruction of a row.
+pub fn instruction(row: &Row) -> Line {
+    let (off, len, op, besides) = *row;
+    let mut line = insn(off, len, op);
+    for with in besides {
+        line = line.with(*with);
+    }
+    line
+}

@@ -1,0 +1,187 @@
+//! A wrong program for each rule of ways out: exactly that rule warns of it, and a run of it goes wrong.
+
+use super::case::{Broken, CALLED, ENDED, End, How, NO_OPTIONS, Wrong};
+use super::targets::JMP;
+use crate::lines::{Table, With};
+use machine_model::Wreck;
+use operation_defs::Op;
+use ot_base::rules;
+use program_defs::{EdgeKind, Role};
+use state_defs::{EndKind, HintState, State};
+use walk_defs::Stop;
+
+/// It returns with a stack that isn't ready for that.
+const WRONG_RETURN: How = How::Wrecks(Wreck::WrongReturn);
+
+const RETURN: Broken = Broken {
+    name: "a return that leaves a push on the stack",
+    table: Table {
+        rows: &[(0, 1, Op::Push, &[]), (1, 1, Op::Ret, &[])],
+        entries: &[0],
+        sites: &[],
+    },
+    options: NO_OPTIONS,
+    warnings: &[(1, rules::MODIFIED_RETURN, 16, 0)],
+    run: End::IsWrong(CALLED, &[(How::Next, 1), (WRONG_RETURN, 0)], Wrong::Wrecked),
+};
+
+const DROPS_BYTES: Broken = Broken {
+    name: "a return that drops bytes",
+    table: Table {
+        rows: &[(0, 1, Op::Nop, &[]), (1, 3, Op::RetImm, &[])],
+        entries: &[0],
+        sites: &[],
+    },
+    options: NO_OPTIONS,
+    warnings: &[(1, rules::MODIFIED_RETURN, 8, 0)],
+    run: End::IsWrong(
+        CALLED,
+        &[(How::Next, 1), (How::Wrecks(Wreck::DropsBytes), 0)],
+        Wrong::Wrecked,
+    ),
+};
+
+const JUMP: Broken = Broken {
+    name: "a jump to a function with a push on the stack",
+    table: Table {
+        rows: &[
+            (0, 1, Op::Push, &[]),
+            (1, 2, JMP, &[With::To(3, EdgeKind::Sibling)]),
+            (3, 1, Op::Ret, &[With::Of(1)]),
+        ],
+        entries: &[0, 2],
+        sites: &[],
+    },
+    options: NO_OPTIONS,
+    warnings: &[(1, rules::MODIFIED_SIBLING_CALL, 16, 0)],
+    run: End::IsWrong(
+        CALLED,
+        &[(How::Next, 1), (How::TailCalls, 2)],
+        Wrong::Walk(2, Stop::Outside),
+    ),
+};
+
+const JUMP_OUT: Broken = Broken {
+    name: "a jump outside with a push on the stack",
+    table: Table {
+        rows: &[
+            (0, 1, Op::Push, &[]),
+            (1, 5, JMP, &[With::Is(Role::JumpOut { sym: 7 })]),
+        ],
+        entries: &[0],
+        sites: &[],
+    },
+    options: NO_OPTIONS,
+    warnings: &[(1, rules::MODIFIED_SIBLING_CALL, 16, 0)],
+    run: End::IsWrong(CALLED, &[(How::Next, 1), (WRONG_RETURN, 0)], Wrong::Wrecked),
+};
+
+/// A hint that tells the five words of an interrupt.
+const GATE: With = With::Hint(HintState::Set(State::Regs {
+    full: false,
+    depth: 0,
+}));
+
+const GATE_RETURNS: Broken = Broken {
+    name: "a gate that returns",
+    table: Table {
+        rows: &[(0, 1, Op::Ret, &[]), (1, 1, Op::Ret, &[With::OfNone, GATE])],
+        entries: &[0],
+        sites: &[],
+    },
+    options: NO_OPTIONS,
+    warnings: &[(1, rules::EXIT_NOT_ALLOWED, 0, 0)],
+    run: End::IsWrong(
+        CALLED,
+        &[(How::IsInterrupted, 1), (WRONG_RETURN, 0)],
+        Wrong::Wrecked,
+    ),
+};
+
+const GATE_JUMPS: Broken = Broken {
+    name: "a gate that jumps to a function",
+    table: Table {
+        rows: &[
+            (0, 1, Op::Ret, &[]),
+            (
+                1,
+                2,
+                JMP,
+                &[With::OfNone, GATE, With::To(0, EdgeKind::Sibling)],
+            ),
+        ],
+        entries: &[0],
+        sites: &[],
+    },
+    options: NO_OPTIONS,
+    warnings: &[(1, rules::EXIT_NOT_ALLOWED, 0, 0)],
+    run: End::IsWrong(
+        CALLED,
+        &[(How::IsInterrupted, 1), (How::TailCalls, 0)],
+        Wrong::Walk(0, Stop::Outside),
+    ),
+};
+
+const IRET: Broken = Broken {
+    name: "a function that returns as from an interrupt",
+    table: Table {
+        rows: &[(0, 1, Op::Nop, &[]), (1, 2, Op::Iret, &[])],
+        entries: &[0],
+        sites: &[],
+    },
+    options: NO_OPTIONS,
+    warnings: &[(1, rules::EXIT_NOT_ALLOWED, 0, 0)],
+    run: End::IsWrong(
+        CALLED,
+        &[(How::Next, 1), (How::Wrecks(Wreck::WrongIret), 0)],
+        Wrong::Wrecked,
+    ),
+};
+
+const ENDED_RETURNS: Broken = Broken {
+    name: "a return where the stack has ended",
+    table: Table {
+        rows: &[
+            (
+                0,
+                1,
+                Op::Nop,
+                &[
+                    With::OfNone,
+                    With::Hint(HintState::Set(State::Ended(EndKind::EndOfStack))),
+                ],
+            ),
+            (1, 1, Op::Ret, &[With::OfNone]),
+        ],
+        entries: &[],
+        sites: &[],
+    },
+    options: NO_OPTIONS,
+    warnings: &[(1, rules::EXIT_NOT_ALLOWED, 0, 0)],
+    run: End::IsWrong(ENDED, &[(How::Next, 1), (WRONG_RETURN, 0)], Wrong::Wrecked),
+};
+
+/// It has no step that could go wrong.
+const SYSTEM_CALL: Broken = Broken {
+    name: "a system call in a function",
+    table: Table {
+        rows: &[(0, 1, Op::Nop, &[]), (1, 2, Op::Switch, &[])],
+        entries: &[0],
+        sites: &[],
+    },
+    options: NO_OPTIONS,
+    warnings: &[(1, rules::EXIT_NOT_ALLOWED, 0, 0)],
+    run: End::IsNotRun,
+};
+
+pub const CASES: &[Broken] = &[
+    RETURN,
+    DROPS_BYTES,
+    JUMP,
+    JUMP_OUT,
+    GATE_RETURNS,
+    GATE_JUMPS,
+    IRET,
+    ENDED_RETURNS,
+    SYSTEM_CALL,
+];

@@ -1,0 +1,107 @@
+//! What options ask for. By these rules no run goes wrong.
+
+use super::case::{Broken, End};
+use crate::lines::{Table, With};
+use operation_defs::Op;
+use ot_base::{Options, rules};
+use program_defs::Role;
+
+/// Unreachable instructions are asked for, frame pointers, or both.
+const UNREACHABLE: Options = Options {
+    fp: false,
+    retpoline: false,
+    rethunk: false,
+    uaccess: false,
+    unreachable: true,
+};
+
+const FP: Options = Options {
+    fp: true,
+    retpoline: false,
+    rethunk: false,
+    uaccess: false,
+    unreachable: false,
+};
+
+const BOTH: Options = Options {
+    fp: true,
+    retpoline: false,
+    rethunk: false,
+    uaccess: false,
+    unreachable: true,
+};
+
+const UNREACHED_TABLE: Table = Table {
+    rows: &[
+        (0, 1, Op::Ret, &[]),
+        (1, 1, Op::Nop, &[]),
+        (2, 1, Op::Push, &[]),
+        (3, 1, Op::Pop, &[]),
+        (4, 1, Op::Ret, &[]),
+        (5, 1, Op::Int3, &[]),
+    ],
+    entries: &[0],
+    sites: &[],
+};
+
+const UNREACHED: Broken = Broken {
+    name: "unreached instructions, of which the first is told, and nop and int3 are not",
+    table: UNREACHED_TABLE,
+    options: UNREACHABLE,
+    warnings: &[(2, rules::UNREACHABLE_INSTRUCTION, 0, 0)],
+    run: End::IsNotRun,
+};
+
+const UNREACHED_UNASKED: Broken = Broken {
+    name: "unreached instructions, where they aren't asked for",
+    options: FP,
+    warnings: &[],
+    table: UNREACHED_TABLE,
+    run: End::IsNotRun,
+};
+
+const WITHOUT_FRAME_TABLE: Table = Table {
+    rows: &[
+        (
+            0,
+            5,
+            Op::Call { rel: 0 },
+            &[With::Is(Role::CallOut { sym: 7 })],
+        ),
+        (5, 1, Op::PushBp, &[]),
+        (6, 3, Op::LeaBpSp { by: 0 }, &[]),
+        (
+            9,
+            5,
+            Op::Call { rel: 0 },
+            &[With::Is(Role::CallOut { sym: 7 })],
+        ),
+        (14, 1, Op::PopBp, &[]),
+        (15, 1, Op::Ret, &[]),
+    ],
+    entries: &[0],
+    sites: &[],
+};
+
+const WITHOUT_FRAME: Broken = Broken {
+    name: "a call without a frame, and one with a frame",
+    table: WITHOUT_FRAME_TABLE,
+    options: BOTH,
+    warnings: &[(0, rules::CALL_WITHOUT_FRAME, 0, 0)],
+    run: End::IsNotRun,
+};
+
+const WITHOUT_FRAME_UNASKED: Broken = Broken {
+    name: "a call without a frame, where frames aren't asked for",
+    options: UNREACHABLE,
+    warnings: &[],
+    table: WITHOUT_FRAME_TABLE,
+    run: End::IsNotRun,
+};
+
+pub const CASES: &[Broken] = &[
+    UNREACHED,
+    UNREACHED_UNASKED,
+    WITHOUT_FRAME,
+    WITHOUT_FRAME_UNASKED,
+];

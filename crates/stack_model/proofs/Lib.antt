@@ -1,6 +1,0 @@
-pub mod Chosen
-pub mod Frames
-pub mod Lines
-pub mod Points
-pub mod Words
-pub mod Writes

@@ -1,5 +1,0 @@
-use Rattle.std.proofs.Common.{length}
-use Rattle.stack_model.proofs.shadow.+listed_count.Given as goal
-
-abbrev pub decreases-listed_count : goal.decreases-listed_count
-decreases-listed_count l = length l.frames.now
