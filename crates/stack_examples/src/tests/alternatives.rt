@@ -3,10 +3,12 @@
 use super::case::{
     Accepted, CALLED, CALLER, DEEPER, ENTERED, FRAMED, How, PUSHED, RBP, Run, SAVED,
 };
+use super::expect::expect_accepted;
 use crate::lines::{Table, With};
 use operation_defs::Op;
 use program_defs::{EdgeKind, Role};
 use state_defs::HintState;
+use std::test::Fail;
 use walk_defs::Frame;
 
 /// The frame of the call at 1, of five bytes, behind a push.
@@ -237,4 +239,17 @@ const STRICT_RESTORE: Accepted = Accepted {
     ],
 };
 
-pub const CASES: &[Accepted] = &[TWO_VARIANTS, SLOW_PATH, STRICT_RESTORE];
+#[test]
+fn accepts_two_variants(rt: HostRuntime) -> Result<(), Fail> {
+    expect_accepted(&rt, rt.alloc(), &TWO_VARIANTS)
+}
+
+#[test]
+fn accepts_slow_path(rt: HostRuntime) -> Result<(), Fail> {
+    expect_accepted(&rt, rt.alloc(), &SLOW_PATH)
+}
+
+#[test]
+fn accepts_strict_restore(rt: HostRuntime) -> Result<(), Fail> {
+    expect_accepted(&rt, rt.alloc(), &STRICT_RESTORE)
+}

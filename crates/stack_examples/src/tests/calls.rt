@@ -1,11 +1,13 @@
 //! Programs that break no rule, with calls and jumps from function to function.
 
 use super::case::{Accepted, CALLED, CALLER, ENDED, ENTERED, FRAMED, How, PUSHED, RBP, Run, SAVED};
+use super::expect::expect_accepted;
 use crate::lines::{Table, With};
 use operation_defs::Op;
 use program_defs::{EdgeKind, Role};
 use program_model::Store;
 use state_defs::{EndKind, HintState, State};
+use std::test::Fail;
 use walk_defs::Frame;
 
 /// The frame of the call at 4, of five bytes, with 8 bytes of its caller's frame.
@@ -204,4 +206,17 @@ const END_OF_THE_STACK: Accepted = Accepted {
     }],
 };
 
-pub const CASES: &[Accepted] = &[CALL_THAT_NEVER_RETURNS, CALLS_ANYWHERE, END_OF_THE_STACK];
+#[test]
+fn accepts_call_that_never_returns(rt: HostRuntime) -> Result<(), Fail> {
+    expect_accepted(&rt, rt.alloc(), &CALL_THAT_NEVER_RETURNS)
+}
+
+#[test]
+fn accepts_calls_anywhere(rt: HostRuntime) -> Result<(), Fail> {
+    expect_accepted(&rt, rt.alloc(), &CALLS_ANYWHERE)
+}
+
+#[test]
+fn accepts_end_of_the_stack(rt: HostRuntime) -> Result<(), Fail> {
+    expect_accepted(&rt, rt.alloc(), &END_OF_THE_STACK)
+}

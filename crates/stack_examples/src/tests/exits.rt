@@ -1,6 +1,7 @@
 //! A wrong program for each rule of ways out: exactly that rule warns of it, and a run of it goes wrong.
 
 use super::case::{Broken, CALLED, ENDED, End, How, NO_OPTIONS, Wrong};
+use super::expect::expect_broken;
 use super::targets::JMP;
 use crate::lines::{Table, With};
 use machine_model::Wreck;
@@ -8,6 +9,7 @@ use operation_defs::Op;
 use ot_base::rules;
 use program_defs::{EdgeKind, Role};
 use state_defs::{EndKind, HintState, State};
+use std::test::Fail;
 use walk_defs::Stop;
 
 /// It returns with a stack that isn't ready for that.
@@ -174,14 +176,47 @@ const SYSTEM_CALL: Broken = Broken {
     run: End::IsNotRun,
 };
 
-pub const CASES: &[Broken] = &[
-    RETURN,
-    DROPS_BYTES,
-    JUMP,
-    JUMP_OUT,
-    GATE_RETURNS,
-    GATE_JUMPS,
-    IRET,
-    ENDED_RETURNS,
-    SYSTEM_CALL,
-];
+#[test]
+fn warns_of_return(rt: HostRuntime) -> Result<(), Fail> {
+    expect_broken(&rt, rt.alloc(), &RETURN)
+}
+
+#[test]
+fn warns_of_drops_bytes(rt: HostRuntime) -> Result<(), Fail> {
+    expect_broken(&rt, rt.alloc(), &DROPS_BYTES)
+}
+
+#[test]
+fn warns_of_jump(rt: HostRuntime) -> Result<(), Fail> {
+    expect_broken(&rt, rt.alloc(), &JUMP)
+}
+
+#[test]
+fn warns_of_jump_out(rt: HostRuntime) -> Result<(), Fail> {
+    expect_broken(&rt, rt.alloc(), &JUMP_OUT)
+}
+
+#[test]
+fn warns_of_gate_returns(rt: HostRuntime) -> Result<(), Fail> {
+    expect_broken(&rt, rt.alloc(), &GATE_RETURNS)
+}
+
+#[test]
+fn warns_of_gate_jumps(rt: HostRuntime) -> Result<(), Fail> {
+    expect_broken(&rt, rt.alloc(), &GATE_JUMPS)
+}
+
+#[test]
+fn warns_of_iret(rt: HostRuntime) -> Result<(), Fail> {
+    expect_broken(&rt, rt.alloc(), &IRET)
+}
+
+#[test]
+fn warns_of_ended_returns(rt: HostRuntime) -> Result<(), Fail> {
+    expect_broken(&rt, rt.alloc(), &ENDED_RETURNS)
+}
+
+#[test]
+fn warns_of_system_call(rt: HostRuntime) -> Result<(), Fail> {
+    expect_broken(&rt, rt.alloc(), &SYSTEM_CALL)
+}

@@ -3,10 +3,12 @@
 use super::case::{
     Accepted, CALLED, CALLED_STACK, CALLER, ENTERED, FRAMED, From, How, PUSHED, Run, SAVED,
 };
+use super::expect::expect_accepted;
 use crate::lines::{Table, With};
 use machine_model::Start;
 use operation_defs::Op;
 use state_defs::HintState;
+use std::test::Fail;
 use walk_defs::Stop;
 
 /// 55 48 89 E5 90 48 89 C5 48 89 C5 90 C9 C3: push rbp; mov rsp to rbp; a SAVE at a nop; rbp is written
@@ -105,4 +107,12 @@ const CALL_FRAME_BY_A_HINT: Accepted = Accepted {
     }],
 };
 
-pub const CASES: &[Accepted] = &[SAVE_AND_RESTORE, CALL_FRAME_BY_A_HINT];
+#[test]
+fn accepts_save_and_restore(rt: HostRuntime) -> Result<(), Fail> {
+    expect_accepted(&rt, rt.alloc(), &SAVE_AND_RESTORE)
+}
+
+#[test]
+fn accepts_call_frame_by_a_hint(rt: HostRuntime) -> Result<(), Fail> {
+    expect_accepted(&rt, rt.alloc(), &CALL_FRAME_BY_A_HINT)
+}

@@ -4,10 +4,12 @@
 use super::case::{
     Accepted, CALLED, CALLER, ENTERED, FRAMED, From, How, OUTSIDE, PUSHED, RBP, Run, SAVED, Stack,
 };
+use super::expect::expect_accepted;
 use crate::lines::{Table, With};
 use machine_model::{Frame as ShadowFrame, Slot, Start};
 use operation_defs::Op;
 use state_defs::{BpHome, Depth, HintState, State};
+use std::test::Fail;
 use walk_defs::{Frame, Stop};
 
 /// The five words of an interrupt, at rsp and 8 bytes above it.
@@ -276,4 +278,17 @@ const IRET_TO_ITSELF: Accepted = Accepted {
     }],
 };
 
-pub const CASES: &[Accepted] = &[PROLOGUE_AND_GATES, OUTSIDE_INTERRUPTED, IRET_TO_ITSELF];
+#[test]
+fn accepts_prologue_and_gates(rt: HostRuntime) -> Result<(), Fail> {
+    expect_accepted(&rt, rt.alloc(), &PROLOGUE_AND_GATES)
+}
+
+#[test]
+fn accepts_outside_interrupted(rt: HostRuntime) -> Result<(), Fail> {
+    expect_accepted(&rt, rt.alloc(), &OUTSIDE_INTERRUPTED)
+}
+
+#[test]
+fn accepts_iret_to_itself(rt: HostRuntime) -> Result<(), Fail> {
+    expect_accepted(&rt, rt.alloc(), &IRET_TO_ITSELF)
+}

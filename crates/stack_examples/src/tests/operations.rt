@@ -3,11 +3,13 @@
 use super::case::{
     Broken, CALLED, CALLER, End, From, How, NO_OPTIONS, OUTERMOST, OUTSIDE, RBP, Stack, Wrong,
 };
+use super::expect::expect_broken;
 use crate::lines::{Table, With};
 use machine_model::{Frame, Slot, Start};
 use operation_defs::Op;
 use ot_base::rules;
 use state_defs::{BpHome, Depth, HintState, State};
+use std::test::Fail;
 use walk_defs::Stop;
 
 const SP_WRITTEN: Broken = Broken {
@@ -213,13 +215,42 @@ const IRET_TOO_HIGH: Broken = Broken {
     run: End::IsWrong(LOW, &[(How::Next, 1), (How::Next, 2)], Wrong::NotKept(2)),
 };
 
-pub const CASES: &[Broken] = &[
-    SP_WRITTEN,
-    BP_WRITTEN,
-    SP_ALIGNED,
-    SAVED_SLOT_POPPED,
-    LEAVE_UNSAVED,
-    FAR,
-    UNFIT,
-    IRET_TOO_HIGH,
-];
+#[test]
+fn warns_of_sp_written(rt: HostRuntime) -> Result<(), Fail> {
+    expect_broken(&rt, rt.alloc(), &SP_WRITTEN)
+}
+
+#[test]
+fn warns_of_bp_written(rt: HostRuntime) -> Result<(), Fail> {
+    expect_broken(&rt, rt.alloc(), &BP_WRITTEN)
+}
+
+#[test]
+fn warns_of_sp_aligned(rt: HostRuntime) -> Result<(), Fail> {
+    expect_broken(&rt, rt.alloc(), &SP_ALIGNED)
+}
+
+#[test]
+fn warns_of_saved_slot_popped(rt: HostRuntime) -> Result<(), Fail> {
+    expect_broken(&rt, rt.alloc(), &SAVED_SLOT_POPPED)
+}
+
+#[test]
+fn warns_of_leave_unsaved(rt: HostRuntime) -> Result<(), Fail> {
+    expect_broken(&rt, rt.alloc(), &LEAVE_UNSAVED)
+}
+
+#[test]
+fn warns_of_far(rt: HostRuntime) -> Result<(), Fail> {
+    expect_broken(&rt, rt.alloc(), &FAR)
+}
+
+#[test]
+fn warns_of_unfit(rt: HostRuntime) -> Result<(), Fail> {
+    expect_broken(&rt, rt.alloc(), &UNFIT)
+}
+
+#[test]
+fn warns_of_iret_too_high(rt: HostRuntime) -> Result<(), Fail> {
+    expect_broken(&rt, rt.alloc(), &IRET_TOO_HIGH)
+}

@@ -1,10 +1,12 @@
 //! What options ask for. By these rules no run goes wrong.
 
 use super::case::{Broken, End};
+use super::expect::expect_broken;
 use crate::lines::{Table, With};
 use operation_defs::Op;
 use ot_base::{Options, rules};
 use program_defs::Role;
+use std::test::Fail;
 
 /// Unreachable instructions are asked for, frame pointers, or both.
 const UNREACHABLE: Options = Options {
@@ -99,9 +101,22 @@ const WITHOUT_FRAME_UNASKED: Broken = Broken {
     run: End::IsNotRun,
 };
 
-pub const CASES: &[Broken] = &[
-    UNREACHED,
-    UNREACHED_UNASKED,
-    WITHOUT_FRAME,
-    WITHOUT_FRAME_UNASKED,
-];
+#[test]
+fn warns_of_unreached(rt: HostRuntime) -> Result<(), Fail> {
+    expect_broken(&rt, rt.alloc(), &UNREACHED)
+}
+
+#[test]
+fn warns_of_unreached_unasked(rt: HostRuntime) -> Result<(), Fail> {
+    expect_broken(&rt, rt.alloc(), &UNREACHED_UNASKED)
+}
+
+#[test]
+fn warns_of_without_frame(rt: HostRuntime) -> Result<(), Fail> {
+    expect_broken(&rt, rt.alloc(), &WITHOUT_FRAME)
+}
+
+#[test]
+fn warns_of_without_frame_unasked(rt: HostRuntime) -> Result<(), Fail> {
+    expect_broken(&rt, rt.alloc(), &WITHOUT_FRAME_UNASKED)
+}

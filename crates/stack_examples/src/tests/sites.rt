@@ -1,12 +1,14 @@
 //! Wrong programs of sites and of RESTORE hints, and one of a function without a size.
 
 use super::case::{Broken, CALLED, CALLED_STACK, End, From, How, NO_OPTIONS, Wrong};
+use super::expect::expect_broken;
 use crate::lines::{Table, With};
 use machine_model::Start;
 use operation_defs::Op;
 use ot_base::rules;
 use program_defs::Role;
 use state_defs::HintState;
+use std::test::Fail;
 use walk_defs::Stop;
 
 /// Called from outside, where control stands at the first instruction of a replacement.
@@ -154,11 +156,32 @@ const RESTORE_AT_AN_ENTRY: Broken = Broken {
     run: End::IsNone(CALLED),
 };
 
-pub const CASES: &[Broken] = &[
-    VARIANTS,
-    CALL_IN_A_SITE,
-    RESTORE_IN_A_SITE,
-    RESTORE_BEHIND_A_NOP,
-    RESTORE_AT_AN_ENTRY,
-    UNSIZED,
-];
+#[test]
+fn warns_of_variants(rt: HostRuntime) -> Result<(), Fail> {
+    expect_broken(&rt, rt.alloc(), &VARIANTS)
+}
+
+#[test]
+fn warns_of_call_in_a_site(rt: HostRuntime) -> Result<(), Fail> {
+    expect_broken(&rt, rt.alloc(), &CALL_IN_A_SITE)
+}
+
+#[test]
+fn warns_of_restore_in_a_site(rt: HostRuntime) -> Result<(), Fail> {
+    expect_broken(&rt, rt.alloc(), &RESTORE_IN_A_SITE)
+}
+
+#[test]
+fn warns_of_restore_behind_a_nop(rt: HostRuntime) -> Result<(), Fail> {
+    expect_broken(&rt, rt.alloc(), &RESTORE_BEHIND_A_NOP)
+}
+
+#[test]
+fn warns_of_restore_at_an_entry(rt: HostRuntime) -> Result<(), Fail> {
+    expect_broken(&rt, rt.alloc(), &RESTORE_AT_AN_ENTRY)
+}
+
+#[test]
+fn warns_of_unsized(rt: HostRuntime) -> Result<(), Fail> {
+    expect_broken(&rt, rt.alloc(), &UNSIZED)
+}

@@ -2,11 +2,13 @@
 //! these numbers, and a run of it goes wrong.
 
 use super::case::{Broken, CALLED, End, How, NO_OPTIONS, Wrong};
+use super::expect::expect_broken;
 use crate::lines::{Table, With};
 use machine_model::Wreck;
 use operation_defs::Op;
 use ot_base::rules;
 use program_defs::{EdgeKind, Marks};
+use std::test::Fail;
 use walk_defs::Stop;
 
 pub const JMP: Op = Op::Jmp {
@@ -159,11 +161,32 @@ const MISMATCH: Broken = Broken {
     ),
 };
 
-pub const CASES: &[Broken] = &[
-    BAD_TARGET,
-    PAST_END,
-    INTO_SITE,
-    INTO_FUNCTION,
-    FALLS_THROUGH,
-    MISMATCH,
-];
+#[test]
+fn warns_of_bad_target(rt: HostRuntime) -> Result<(), Fail> {
+    expect_broken(&rt, rt.alloc(), &BAD_TARGET)
+}
+
+#[test]
+fn warns_of_past_end(rt: HostRuntime) -> Result<(), Fail> {
+    expect_broken(&rt, rt.alloc(), &PAST_END)
+}
+
+#[test]
+fn warns_of_into_site(rt: HostRuntime) -> Result<(), Fail> {
+    expect_broken(&rt, rt.alloc(), &INTO_SITE)
+}
+
+#[test]
+fn warns_of_into_function(rt: HostRuntime) -> Result<(), Fail> {
+    expect_broken(&rt, rt.alloc(), &INTO_FUNCTION)
+}
+
+#[test]
+fn warns_of_falls_through(rt: HostRuntime) -> Result<(), Fail> {
+    expect_broken(&rt, rt.alloc(), &FALLS_THROUGH)
+}
+
+#[test]
+fn warns_of_mismatch(rt: HostRuntime) -> Result<(), Fail> {
+    expect_broken(&rt, rt.alloc(), &MISMATCH)
+}
