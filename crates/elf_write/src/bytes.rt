@@ -16,8 +16,8 @@ pub(crate) fn next_multiple(n: usize) -> usize
     (n + 7) / 8 * 8
 }
 
-/// Adds the bytes.
-pub(crate) fn push_bytes(out: &mut Vec<u8>, bytes: &[u8]) -> Result<(), NoMemory>
+/// Adds bytes at the end of a vector.
+pub fn push_bytes(out: &mut Vec<u8>, bytes: &[u8]) -> Result<(), NoMemory>
     ensures { OnOk result (out.new.items ≡ out.old.items ++ bytes.now) }
 {
     out.extend_from_slice(bytes)?;
@@ -47,7 +47,8 @@ pub(crate) fn pad(out: &mut Vec<u8>) -> Result<(), NoMemory>
     push_bytes(out, &ZEROS[..gap])
 }
 
-pub(crate) fn push_u16(out: &mut Vec<u8>, n: u16) -> Result<(), NoMemory>
+/// Adds an `Elf64_Half`, the low byte first.
+pub fn push_u16(out: &mut Vec<u8>, n: u16) -> Result<(), NoMemory>
     ensures { OnOk result (out.new.items ≡ out.old.items ++ encoded 2 n) }
 {
     let mut bytes = [0; 2];
@@ -55,7 +56,8 @@ pub(crate) fn push_u16(out: &mut Vec<u8>, n: u16) -> Result<(), NoMemory>
     push_bytes(out, &bytes)
 }
 
-pub(crate) fn push_u32(out: &mut Vec<u8>, n: u32) -> Result<(), NoMemory>
+/// Adds an `Elf64_Word`, the low byte first.
+pub fn push_u32(out: &mut Vec<u8>, n: u32) -> Result<(), NoMemory>
     ensures { OnOk result (out.new.items ≡ out.old.items ++ encoded 4 n) }
 {
     let mut bytes = [0; 4];
@@ -63,7 +65,8 @@ pub(crate) fn push_u32(out: &mut Vec<u8>, n: u32) -> Result<(), NoMemory>
     push_bytes(out, &bytes)
 }
 
-pub(crate) fn push_u64(out: &mut Vec<u8>, n: u64) -> Result<(), NoMemory>
+/// Adds an `Elf64_Xword`, the low byte first.
+pub fn push_u64(out: &mut Vec<u8>, n: u64) -> Result<(), NoMemory>
     ensures { OnOk result (out.new.items ≡ out.old.items ++ encoded 8 n) }
 {
     let mut bytes = [0; 8];

@@ -9,21 +9,31 @@ use ot_base::NoMemory;
 
 /// The fields of a section header (ELF-64 gABI, Elf64_Shdr).
 #[derive(Clone, Copy)]
-pub(crate) struct Header {
-    pub(crate) name: u32,
-    pub(crate) kind: u32,
-    pub(crate) flags: u64,
-    pub(crate) addr: u64,
-    pub(crate) offset: u64,
-    pub(crate) size: u64,
-    pub(crate) link: u32,
-    pub(crate) info: u32,
-    pub(crate) align: u64,
-    pub(crate) entsize: u64,
+pub struct Header {
+    /// sh_name, an offset in the name table.
+    pub name: u32,
+    /// sh_type.
+    pub kind: u32,
+    /// sh_flags.
+    pub flags: u64,
+    /// sh_addr.
+    pub addr: u64,
+    /// sh_offset, in bytes from the file's beginning.
+    pub offset: u64,
+    /// sh_size, in bytes.
+    pub size: u64,
+    /// sh_link.
+    pub link: u32,
+    /// sh_info.
+    pub info: u32,
+    /// sh_addralign, in bytes.
+    pub align: u64,
+    /// sh_entsize, in bytes.
+    pub entsize: u64,
 }
 
 /// Adds the 64 bytes of the header.
-pub(crate) fn push_header(out: &mut Vec<u8>, header: &Header) -> Result<(), NoMemory>
+pub fn push_header(out: &mut Vec<u8>, header: &Header) -> Result<(), NoMemory>
     ensures { OnOk result (out.new.items ≡ out.old.items ++ header_bytes (header_fields header.now)) }
 {
     push_u32(out, header.name)?;

@@ -10,5 +10,7 @@ mod section;
 mod tests;
 mod write;
 
+pub use bytes::{push_bytes, push_u16, push_u32, push_u64};
+pub use header::{Header, push_header};
 pub use section::NewSection;
 pub use write::append;

@@ -1,0 +1,116 @@
+-- What can be made has room in memory and in the numbers of the format.
+use Rattle.std.proofs.Common.{◌≡◌, ℕ, zero, suc, ◌+◌, ◌-◌, ◌*◌, ◌^◌, ◌<◌, ◌≤◌, Bool, true, false, List, [], ◌∷◌, ◌++◌, length, map, replicate, refl, sym, ap, subst, ◌∙◌, arith, length-append}
+use Rattle.std.specs.Prelude.{All, codes, if◌then◌else◌}
+use Rattle.std.specs.List.{flat_map}
+use Rattle.std.proofs.lemmas.Grind.{flat_map-append}
+use Rattle.std.proofs.lemmas.List.{append_assoc}
+use Rattle.std.proofs.lemmas.List.Elements.{All-append, All-head, All-tail}
+use Rattle.elf_write.specs.Layout.{NewEntry, encoded, new_names}
+use Rattle.elf_write.proofs.Lists.{length-encoded}
+use Rattle.demo_objects.specs.CanMake.{CanMake, IsSection}
+use Rattle.demo_objects.specs.Layout.{bodies_end, file_of, names_entry, next_multiple, with_names}
+use Rattle.demo_objects.specs.Made.{all_sections, indices_entry, made, name_place, name_text, needs_indices, rela_entry, strings_body, strings_entry, symbol_bytes, symbol_tables, symbols_body, symbols_entry, symbols_from, targets}
+use Rattle.demo_objects.specs.Spec.{NewSymbol, Spec}
+use Rattle.demo_objects.proofs.Sizes.{AreAligned, Fits, fits, le-bodies_end, le-next_multiple}
+
+-- the parts of the sections
+abbrev pub given_part : Spec → List NewEntry
+given_part s = s.sections ++ map (rela_entry s) (targets s)
+
+abbrev pub front_part : Spec → List NewEntry
+front_part s = given_part s ++ symbol_tables s
+
+all-two : (P : NewEntry → Type 0) (x y : NewEntry) → P x → P y → All P (x ∷ y ∷ [])
+all-two P x y p q zero d h = p
+all-two P x y p q (suc zero) d h = q
+all-two P x y p q (suc (suc k)) d h = absurd (omega arith)
+
+all-one : (P : NewEntry → Type 0) (x : NewEntry) → P x → All P (x ∷ [])
+all-one P x p zero d h = p
+all-one P x p (suc k) d h = absurd (omega arith)
+
+all-map : {X : Type 0} (P : NewEntry → Type 0) (f : X → NewEntry) (xs : List X) → ((x : X) → P (f x)) → All P (map f xs)
+all-map P f [] each k d h = absurd (omega arith)
+all-map P f (x ∷ xs) each zero d h = each x
+all-map P f (x ∷ xs) each (suc k) d h = all-map P f xs each k d (omega arith)
+
+all-given : (xs : List NewEntry) → All IsSection xs → AreAligned xs
+all-given xs ok k d h = (ok k d h).align
+
+tables-aligned : (s : Spec) → AreAligned (symbol_tables s)
+tables-aligned s = by (needs_indices s.symbols)
+  where
+    by : (b : Bool) → AreAligned (if b then symbols_entry s ∷ indices_entry s ∷ [] else symbols_entry s ∷ [])
+    by true = all-two (λ e. 1 ≤ e.align) (symbols_entry s) (indices_entry s) (omega arith) (omega arith)
+    by false = all-one (λ e. 1 ≤ e.align) (symbols_entry s) (omega arith)
+
+pub all-aligned : (s : Spec) → All IsSection s.sections → AreAligned (all_sections s)
+all-aligned s ok =
+    let P : NewEntry → Type 0 = λ e. 1 ≤ e.align in
+    All-append P (front_part s ++ strings_entry s ∷ []) (names_entry (front_part s ++ strings_entry s ∷ []) ∷ [])
+    (All-append P (front_part s) (strings_entry s ∷ [])
+    (All-append P (given_part s) (symbol_tables s)
+    (All-append P s.sections (map (rela_entry s) (targets s)) (all-given s.sections ok) (all-map P (rela_entry s) (targets s) (λ x. omega arith)))
+    (tables-aligned s))
+    (all-one P (strings_entry s) (omega arith)))
+    (all-one P (names_entry (front_part s ++ strings_entry s ∷ [])) (omega arith))
+
+-- a body lies within what all take
+body-in : (at : ℕ) (pre : List NewEntry) (e : NewEntry) (post : List NewEntry) → AreAligned (pre ++ e ∷ post) → length e.body ≤ bodies_end at (pre ++ e ∷ post)
+body-in at [] e post ok =
+    let l = le-bodies_end (next_multiple e.align at + length e.body) post (All-tail (λ (x : NewEntry). 1 ≤ x.align) e post ok) in
+    omega arith
+body-in at (x ∷ pre) e post ok = body-in (next_multiple x.align at + length x.body) pre e post (All-tail (λ (y : NewEntry). 1 ≤ y.align) x (pre ++ e ∷ post) ok)
+
+-- the symbol table stands first among its tables
+tables-first : (s : Spec) → (rest : List NewEntry) × (symbol_tables s ≡ symbols_entry s ∷ rest)
+tables-first s = by (needs_indices s.symbols)
+  where
+    by : (b : Bool) → (rest : List NewEntry) × ((if b then symbols_entry s ∷ indices_entry s ∷ [] else symbols_entry s ∷ []) ≡ symbols_entry s ∷ rest)
+    by true = (indices_entry s ∷ [], refl)
+    by false = ([], refl)
+
+length-symbol_bytes : (name : ℕ) (x : NewSymbol) → length (symbol_bytes name x) ≡ 24
+length-symbol_bytes name x = simp (length-append, length-encoded) refl
+
+length-symbols_from : (at : ℕ) (xs : List NewSymbol) → length (symbols_from at xs) ≡ 24 * length xs
+length-symbols_from at [] = refl
+length-symbols_from at (x ∷ xs) =
+    let one = length-symbol_bytes (name_place at x.name) x in
+    let ih = length-symbols_from (at + length (name_text x.name)) xs in
+    omega (arith, length-append (symbol_bytes (name_place at x.name) x) (symbols_from (at + length (name_text x.name)) xs))
+
+pub length-symbols_body : (xs : List NewSymbol) → length (symbols_body xs) ≡ 24 * (length xs + 1)
+length-symbols_body xs = let l = length-symbols_from 1 xs in omega (arith, length-append (replicate 24 0) (symbols_from 1 xs))
+
+-- what the code has to know
+pub record Room (s : Spec) : Type 0 where
+  pub aligned : AreAligned (all_sections s)
+  pub symbols : length s.symbols < 2 ^ 32 - 1
+  pub strings : length (strings_body s.symbols) < 2 ^ 32
+  pub names : 1 + length (new_names (all_sections s)) < 2 ^ 32
+
+pub room : (s : Spec) → CanMake s → Room s
+room s can =
+    let aligned = all-aligned s can.sections in
+    let es : List NewEntry = front_part s ++ strings_entry s ∷ [] in
+    let f : Fits (all_sections s) = fits (all_sections s) aligned can.short in
+    let first = tables-first s in
+    let shape : all_sections s ≡ given_part s ++ symbols_entry s ∷ (first.0 ++ strings_entry s ∷ names_entry es ∷ []) =
+    ap (λ (xs : List NewEntry). ((given_part s ++ xs) ++ strings_entry s ∷ []) ++ names_entry es ∷ []) first.1 ∙ simp append_assoc refl in
+    let table = body-in 64 (given_part s) (symbols_entry s) (first.0 ++ strings_entry s ∷ names_entry es ∷ []) (subst AreAligned shape aligned) in
+    let in_all : bodies_end 64 (all_sections s) ≡ bodies_end 64 (given_part s ++ symbols_entry s ∷ (first.0 ++ strings_entry s ∷ names_entry es ∷ [])) = ap (bodies_end 64) shape in
+    let strings_shape : all_sections s ≡ front_part s ++ strings_entry s ∷ names_entry es ∷ [] = append_assoc (front_part s) (strings_entry s ∷ []) (names_entry es ∷ []) in
+    let strings = body-in 64 (front_part s) (strings_entry s) (names_entry es ∷ []) (subst AreAligned strings_shape aligned) in
+    let strings_all : bodies_end 64 (all_sections s) ≡ bodies_end 64 (front_part s ++ strings_entry s ∷ names_entry es ∷ []) = ap (bodies_end 64) strings_shape in
+    let names = body-in 64 es (names_entry es) [] aligned in
+    let l = length-symbols_body s.symbols in
+    let n : length (new_names (all_sections s)) ≡ length (new_names es ++ (codes ".shstrtab" ++ 0 ∷ [])) =
+    ap length (flat_map-append (λ (e : NewEntry). e.name ++ 0 ∷ []) es (names_entry es ∷ [])) in
+    let bodies = f.bodies in
+    record {
+      aligned = aligned;
+      symbols = omega arith;
+      strings = omega arith;
+      names = omega arith;
+    }

@@ -1,0 +1,5 @@
+pub mod Items
+pub mod Chain
+pub mod Sizes
+pub mod Targets
+pub mod Can

@@ -1,0 +1,6 @@
+pub mod Spec
+pub mod Layout
+pub mod Made
+pub mod Bodies
+pub mod CanMake
+pub mod Object
