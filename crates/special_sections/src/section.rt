@@ -43,7 +43,6 @@ impl<'o, 'a> EntrySection<'o, 'a> {
         ensures object { IfOk result (λ section. section.object.now ≡ object.now) }
         ensures sec { IfOk result (λ section. section.sec ≡ sec) }
     {
-        let _file = object.bytes();
         let section = object.section(sec);
         Ok(EntrySection {
             object,

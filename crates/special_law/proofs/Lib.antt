@@ -1,0 +1,5 @@
+mod Totals
+mod Intervals
+mod Relas
+mod Counted
+mod Few
