@@ -29,13 +29,12 @@ pub fn with_orc(alloc: Global, object: &Object<'_>, rows: &[PlacedRow]) -> Resul
     ensures object { IfOk result (λ file. IsObject file.items (with_orc_object object.now rows.now)) }
     ensures holds { IfOk result (λ _. HoldsOrc (with_orc_object object.now rows.now) rows.now) }
 {
-    // That these are the bytes of a well-formed object shows that the sections may be added.
-    let _bytes = object.bytes();
+    let ip_number = object.sections() + 1;
     let OrcSections { orc, ip, rela } = encode(alloc, object, rows)?;
     let sections = [
         orc_section(alloc, orc)?,
         ip_section(alloc, ip)?,
-        rela_section(alloc, object, rela)?,
+        rela_section(alloc, object, ip_number, rela)?,
     ];
     append(alloc, object, &sections)
 }

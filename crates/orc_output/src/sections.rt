@@ -4,22 +4,10 @@ ghost use Rattle.std.specs.Prelude.{◌≡◌, ◌+◌, ◌≤◌, IfOk, length}
 ghost use Rattle.elf_write.specs.New.{entry_of};
 ghost use Rattle.orc_output.specs.OrcOutput.{ip_entry, orc_entry, rela_entry};
 
-use elf_objects::Object;
+use elf_objects::{Object, SHF_ALLOC, SHF_INFO_LINK, SHT_PROGBITS, SHT_RELA};
 use elf_write::NewSection;
 use ot_base::NoMemory;
 use std::alloc::Global;
-
-/// Bytes that the program has (ELF-64 gABI, sh_type).
-const SHT_PROGBITS: u32 = 1;
-
-/// Relocations with addends (sh_type).
-const SHT_RELA: u32 = 4;
-
-/// The section is in memory (sh_flags).
-const SHF_ALLOC: u64 = 2;
-
-/// `sh_info` is the number of a section (sh_flags).
-const SHF_INFO_LINK: u64 = 0x40;
 
 /// `.orc_unwind`: six bytes for each row.
 pub(crate) fn orc_section(alloc: Global, body: Vec<u8>) -> Result<NewSection, NoMemory>
@@ -53,13 +41,15 @@ pub(crate) fn ip_section(alloc: Global, body: Vec<u8>) -> Result<NewSection, NoM
     })
 }
 
-/// `.rela.orc_unwind_ip`: a relocation for each four bytes of `.orc_unwind_ip`, the second of the sections behind those
-/// of the object.
+/// `.rela.orc_unwind_ip`: a relocation for each four bytes of `.orc_unwind_ip`, the section with this number, which is
+/// the second behind those of the object.
 pub(crate) fn rela_section(
     alloc: Global,
     object: &Object<'_>,
+    ip_number: u32,
     body: Vec<u8>,
 ) -> Result<NewSection, NoMemory>
+    requires { ip_number ≡ length object.now.sections + 1 }
     ensures { IfOk result (λ section. entry_of section ≡ rela_entry object.now body.items) }
 {
     Ok(NewSection {
@@ -67,7 +57,7 @@ pub(crate) fn rela_section(
         kind: SHT_RELA,
         flags: SHF_INFO_LINK,
         link: object.symbol_table().unwrap_or(0),
-        info: object.sections() + 1,
+        info: ip_number,
         align: 8,
         entsize: 24,
         body,

@@ -25,7 +25,7 @@ append-requires c =
     let o : Elf = c.args.object.now in
     let made = c.in_ok-orc.ensures in
     let is = three o c.args.rows.now _ _ _ _ _ _ c.in_ok-orc_section.ensures c.in_ok-ip_section.ensures c.in_ok-rela_section.ensures made.orc made.ip made.rela in
-    subst (CanAdd o) (sym is) (can_add o c.args.rows.now (known c.bytes-bytes.result.now o c.bytes-bytes.ensures.object) c.requires)
+    subst (CanAdd o) (sym is) (can_add o c.args.rows.now (known o.bytes o c.sections-ip_number.ensures.object) c.requires)
 
 pub returns-clause-layout : goal.returns-clause-layout
 returns-clause-layout c =
@@ -44,5 +44,5 @@ returns-clause-object c =
 pub returns-clause-holds : goal.returns-clause-holds
 returns-clause-holds c =
     let o : Elf = c.args.object.now in
-    let done = held o c.args.rows.now (known c.bytes-bytes.result.now o c.bytes-bytes.ensures.object) c.requires in
+    let done = held o c.args.rows.now (known o.bytes o c.sections-ip_number.ensures.object) c.requires in
     IfOk-weaker c.append.result (λ file. file.items ≡ _) (λ _. HoldsOrc (with_orc_object o c.args.rows.now) c.args.rows.now) (λ file e. done) c.append.ensures.layout
