@@ -1,6 +1,7 @@
 // Objects with sections added, byte by byte.
 
 ghost use Rattle.std.specs.Prelude.{◌≡◌, ◌≤◌, IfOk, length, replicate};
+ghost use Rattle.elf_objects.specs.Object.{IsObject};
 ghost use Rattle.elf_write.specs.New.{entry_of};
 
 use crate::{NewSection, append};
@@ -80,11 +81,11 @@ fn section(
 
 /// The object with three sections, as large as those of so many rows.
 fn with_rows(alloc: Global, object: &Object<'_>, rows: usize) -> Result<Vec<u8>, NoMemory>
+    requires object { IsObject object.now.bytes object.now }
     requires sections { length object.now.sections ≡ 5 }
     requires size { length object.now.bytes ≤ 504 }
     requires rows { rows ≤ 5 }
 {
-    let _ = object.bytes();
     let orc = section(alloc, b".orc_unwind", 1, 6, 0x11, 6 * rows)?;
     let ip = section(alloc, b".orc_unwind_ip", 4, 4, 0x22, 4 * rows)?;
     let rela = section(alloc, b".rela.orc_unwind_ip", 8, 24, 0x33, 24 * rows)?;
@@ -93,10 +94,10 @@ fn with_rows(alloc: Global, object: &Object<'_>, rows: usize) -> Result<Vec<u8>,
 
 /// The object with no section more.
 fn with_none(alloc: Global, object: &Object<'_>) -> Result<Vec<u8>, NoMemory>
+    requires object { IsObject object.now.bytes object.now }
     requires sections { length object.now.sections ≡ 5 }
     requires size { length object.now.bytes ≤ 504 }
 {
-    let _ = object.bytes();
     append(alloc, object, &[])
 }
 

@@ -34,10 +34,9 @@ fields name align entsize byte size a e = record {
 pub append-requires : goal.append-requires
 append-requires c =
     let o : Elf = c.args.object.now in
-    let ok = c.bytes.ensures.object in
+    let ok = c.requires.object in
     let n : ℕ = c.args.rows in
     let rows = c.requires.rows in
-    let lb : length c.bytes.result.now ≡ length o.bytes = ap (λ (xs : List ℕ). length xs) c.bytes.ensures.value in
     let l1 = length-replicate {A = ℕ} (6 * n) 0x11 in
     let l2 = length-replicate {A = ℕ} (4 * n) 0x22 in
     let l3 = length-replicate {A = ℕ} (24 * n) 0x33 in
@@ -48,7 +47,7 @@ append-requires c =
     let y : entry_of c.in_ok-ip.ip ≡ ip = c.in_ok-ip.ensures in
     let z : entry_of c.in_ok-rela.rela ≡ rela = c.in_ok-rela.ensures in
     let new : List NewEntry = orc ∷ ip ∷ rela ∷ [] in
-    let can : CanAdd o new = can_add-plain c.bytes.result.now o new ok
+    let can : CanAdd o new = can_add-plain o.bytes o new ok
     (omega (arith, c.requires.sections))
     (omega (arith, c.requires.size))
     (three (λ (e : NewEntry). All (λ (b : ℕ). b ≢ 0) e.name) orc ip rela (name-free (codes ".orc_unwind") refl) (name-free (codes ".orc_unwind_ip") refl) (name-free (codes ".rela.orc_unwind_ip") refl))
