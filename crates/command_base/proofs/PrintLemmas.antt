@@ -1,5 +1,5 @@
 -- What is printed, from what writing a line ensures.
-use Rattle.std.proofs.Common.{◌≡◌, ℕ, List, refl, sym, ap, ◌∙◌, append-nil}
+use Rattle.std.proofs.Common.{◌≡◌, ℕ, ◌≤◌, List, ◌++◌, refl, sym, ap, ◌∙◌, append-nil, append_assoc, arith, subst, ◌∷◌}
 use Rattle.std.specs.Prelude.{[], Some, None, Option, Result, Ok, Err, OnOk, OnErr, IsErrOf}
 use Rattle.ot_files.specs.Causes.{Rose}
 use Rattle.ot_files.specs.Output.{AppendsPrefix, appending}
@@ -8,7 +8,10 @@ use Rattle.ot_files.specs.declared.output.SinkError.TheVariants.{Failed, NoMemor
 use Rattle.command_base.specs.declared.status.Status.{Status}
 use Rattle.command_base.specs.declared.status.Status.TheVariants as status
 use Rattle.command_base.specs.Outside.{Output}
-use Rattle.command_base.specs.Printing.{Prints, ended, whole, fault_stays, fails, runs_out}
+use Rattle.command_base.specs.Printing.{FailsToPrint, Prints, ended, whole, fault_stays, fails, runs_out}
+
+rose_before : (before middle after : ℕ) → before ≤ middle → Rose middle after → Rose before after
+rose_before before middle after later rose = omega arith
 
 failed : (text : List ℕ) (before after : Output) (s : Status) → AppendsPrefix before.written after.written text → Rose before.faults after.faults → Prints s text before after (ended {U = Unit {0}} s (Err Failed))
 failed text before after status.FileFault prefix rose = fault_stays prefix rose refl
@@ -32,3 +35,39 @@ nothing_appended (Some written) = ap Some (sym (append-nil written))
 pub nothing_printed : (s : Status) (text : List ℕ) (before after : Output) → after ≡ before → Prints s text before after status.NoMemory
 nothing_printed s text before after same =
     runs_out (text, record { sent = []; parts = refl; appended = ap (λ (o : Output). o.written) same ∙ nothing_appended before.written })
+
+pub appended_twice : (told : Option (List ℕ)) (front sent : List ℕ) → appending (appending told front) sent ≡ appending told (front ++ sent)
+appended_twice None front sent = refl
+appended_twice (Some written) front sent = ap Some (append_assoc written front sent)
+
+seam : (front sent left rest : List ℕ) → front ++ (sent ++ left) ++ rest ≡ (front ++ sent) ++ (left ++ rest)
+seam [] sent left rest = append_assoc sent left rest
+seam (x ∷ front) sent left rest = ap (λ xs. x ∷ xs) (seam front sent left rest)
+
+parts_of_whole : (front part rest sent left : List ℕ) → part ≡ sent ++ left → front ++ part ++ rest ≡ (front ++ sent) ++ (left ++ rest)
+parts_of_whole front part rest sent left e = subst (λ (p : List ℕ). front ++ p ++ rest ≡ (front ++ sent) ++ (left ++ rest)) (sym e) (seam front sent left rest)
+
+-- a beginning of a part, behind the parts before it, is a beginning of the whole text
+prefix_of_whole : (before middle after : Option (List ℕ)) (front part rest : List ℕ) → middle ≡ appending before front → AppendsPrefix middle after part → AppendsPrefix before after (front ++ part ++ rest)
+prefix_of_whole before middle after front part rest so h = (
+  h.0 ++ rest,
+  record {
+    sent = front ++ h.1.sent;
+    parts = parts_of_whole front part rest h.1.sent h.0 h.1.parts;
+    appended = h.1.appended ∙ ap (λ (told : Option (List ℕ)). appending told h.1.sent) so ∙ appended_twice before front h.1.sent;
+  },
+)
+
+-- the text ends early so where one of its parts fails
+pub part_fails : (front part rest : List ℕ) (before middle after : Output) (s : Status) → middle.written ≡ appending before.written front → before.faults ≤ middle.faults → FailsToPrint part middle after s → Prints status.Done (front ++ part ++ rest) before after s
+part_fails front part rest before middle after status.SinkFault so later h = fails (prefix_of_whole before.written middle.written after.written front part rest so h.0) (rose_before before.faults middle.faults after.faults later h.1) (λ e. cc)
+part_fails front part rest before middle after status.NoMemory so later h = runs_out (prefix_of_whole before.written middle.written after.written front part rest so h)
+part_fails front part rest before middle after status.Done so later h = absurd h
+part_fails front part rest before middle after status.Warnings so later h = absurd h
+part_fails front part rest before middle after status.Refused so later h = absurd h
+part_fails front part rest before middle after status.Usage so later h = absurd h
+part_fails front part rest before middle after status.FileFault so later h = absurd h
+
+-- and where memory runs out before a part
+pub stops_short : (front rest : List ℕ) (before after : Output) → after.written ≡ appending before.written front → Prints status.Done (front ++ rest) before after status.NoMemory
+stops_short front rest before after so = runs_out (rest, record { sent = front; parts = refl; appended = so })

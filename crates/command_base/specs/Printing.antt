@@ -5,7 +5,7 @@ use Rattle.ot_files.specs.Output.{AppendsPrefix, appending}
 use Rattle.ot_files.specs.declared.output.SinkError.{SinkError}
 use Rattle.ot_files.specs.declared.output.SinkError.TheVariants as sink
 use Rattle.command_base.specs.declared.status.Status.{Status}
-use Rattle.command_base.specs.declared.status.Status.TheVariants.{FileFault, SinkFault, NoMemory}
+use Rattle.command_base.specs.declared.status.Status.TheVariants.{Done, Warnings, Refused, Usage, FileFault, SinkFault, NoMemory}
 use Rattle.command_base.specs.declared.stop.Stop.{Stop}
 use Rattle.command_base.specs.declared.stop.Stop.TheVariants as stop
 use Rattle.command_base.specs.Stop.{line_of, status_of}
@@ -27,6 +27,16 @@ pub data Prints (end : Status) (text : List ℕ) (before after : Output) : Statu
       → end ≢ FileFault
       → Prints end text before after SinkFault
   runs_out : AppendsPrefix before.written after.written text → Prints end text before after NoMemory
+
+-- A part of a longer text was to be printed: writing it failed, or memory ran out, and a beginning of it was printed.
+abbrev pub FailsToPrint : List ℕ → Output → Output → Status → Type 0
+FailsToPrint part before after SinkFault = AppendsPrefix before.written after.written part × Rose before.faults after.faults
+FailsToPrint part before after NoMemory = AppendsPrefix before.written after.written part
+FailsToPrint part before after Done = ⊥
+FailsToPrint part before after Warnings = ⊥
+FailsToPrint part before after Refused = ⊥
+FailsToPrint part before after Usage = ⊥
+FailsToPrint part before after FileFault = ⊥
 
 -- the status of a command whose text was written so
 abbrev pub ended : {U : Type 0} → Status → Result U SinkError → Status

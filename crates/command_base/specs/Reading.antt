@@ -6,7 +6,9 @@ use Rattle.ot_files.specs.declared.access.FileError.{FileError}
 use Rattle.ot_files.specs.declared.access.FileError.TheVariants as file
 use Rattle.elf_objects.specs.declared.fault.ElfFault.{ElfFault}
 use Rattle.elf_objects.specs.declared.fault.ElfFault.TheVariants as elf
-use Rattle.command_base.specs.declared.refusal.Refusal.TheVariants.{Malformed}
+use Rattle.orc_bytes.specs.declared.fault.OrcFault.{OrcFault}
+use Rattle.orc_bytes.specs.declared.fault.OrcFault.TheVariants as orc
+use Rattle.command_base.specs.declared.refusal.Refusal.TheVariants.{Malformed, Orc}
 use Rattle.command_base.specs.declared.stop.Stop.{Stop}
 use Rattle.command_base.specs.declared.stop.Stop.TheVariants.{Usage, Missing, TooLong, Refused, FileFault, NoMemory}
 use Rattle.command_base.specs.Outside.{Outside}
@@ -32,3 +34,8 @@ StopsAtRead limit name before after Usage = ⊥
 abbrev pub parse_stop : ElfFault → Stop
 parse_stop elf.NoMemory = NoMemory
 parse_stop fault = Refused (Malformed fault)
+
+-- why a command stops whose input's ORC sections hold no rows
+abbrev pub orc_stop : OrcFault → Stop
+orc_stop orc.NoMemory = NoMemory
+orc_stop fault = Refused (Orc fault)

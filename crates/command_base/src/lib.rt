@@ -8,8 +8,8 @@ mod refusal;
 mod status;
 mod stop;
 
-pub use printing::{conclude, print_line};
-pub use reading::{parse_stop, read_file};
+pub use printing::{conclude, print_part};
+pub use reading::{orc_stop, parse_stop, read_file};
 pub use refusal::Refusal;
 pub use status::Status;
 pub use stop::Stop;

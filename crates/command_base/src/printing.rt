@@ -2,7 +2,7 @@ ghost use Rattle.std.specs.Prelude.{◌≡◌, ◌≤◌, Some, OnOk, OnErr, IsE
 ghost use Rattle.ot_files.specs.Causes.{Rose};
 ghost use Rattle.ot_files.specs.Output.{appending};
 ghost use Rattle.command_base.specs.Stop.{line_of, status_of};
-ghost use Rattle.command_base.specs.Printing.{Concludes, Prints, ended};
+ghost use Rattle.command_base.specs.Printing.{Concludes, FailsToPrint, Prints, ended};
 
 use crate::status::Status;
 use crate::stop::Stop;
@@ -23,13 +23,29 @@ fn ended(status: Status, written: Result<(), SinkError>) -> Status
 
 /// Prints a whole line, and gives the status that a command ends with whose last line it is and whose
 /// status is this one where nothing fails.
-pub fn print_line<S: Sink>(status: Status, line: &[u8], out: &mut S) -> Status
+fn print_line<S: Sink>(status: Status, line: &[u8], out: &mut S) -> Status
     ensures printed { Prints status line.now
         (record { written = S.written out.old; faults = S.faults out.old })
         (record { written = S.written out.new; faults = S.faults out.new }) result }
     ensures later { S.faults out.old ≤ S.faults out.new }
 {
     ended(status, write_line(out, line))
+}
+
+/// Prints a whole line of a longer text. Where that fails, answers the status that the command then
+/// ends with, whose text was to end with `Done`.
+pub fn print_part<S: Sink>(line: &[u8], out: &mut S) -> Result<(), Status>
+    ensures ok { OnOk result (S.written out.new ≡ appending (S.written out.old) line.now) }
+    ensures err { IfErr result (FailsToPrint line.now
+        (record { written = S.written out.old; faults = S.faults out.old })
+        (record { written = S.written out.new; faults = S.faults out.new })) }
+    ensures later { S.faults out.old ≤ S.faults out.new }
+{
+    match write_line(out, line) {
+        Ok(()) => Ok(()),
+        Err(SinkError::Failed) => Err(Status::SinkFault),
+        Err(SinkError::NoMemory) => Err(Status::NoMemory),
+    }
 }
 
 /// Tells why a command stopped, unless memory ran out, and gives the status that it ends with.

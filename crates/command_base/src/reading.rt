@@ -1,9 +1,10 @@
 ghost use Rattle.std.specs.Prelude.{◌≡◌, ◌≤◌, Ok, length, IfOk, IfErr};
-ghost use Rattle.command_base.specs.Reading.{MayRead, StopsAtRead, parse_stop};
+ghost use Rattle.command_base.specs.Reading.{MayRead, StopsAtRead, orc_stop, parse_stop};
 
 use crate::refusal::Refusal;
 use crate::stop::Stop;
 use elf_objects::ElfFault;
+use orc_bytes::OrcFault;
 use ot_files::{FileError, Files};
 use std::alloc::Global;
 
@@ -39,5 +40,15 @@ pub fn parse_stop<'a>(fault: ElfFault) -> Stop<'a>
     match fault {
         ElfFault::NoMemory => Stop::NoMemory,
         fault => Stop::Refused(Refusal::Malformed(fault)),
+    }
+}
+
+/// Why a command stops whose input's ORC sections hold no rows.
+pub fn orc_stop<'a>(fault: OrcFault) -> Stop<'a>
+    ensures { result ≡ orc_stop fault }
+{
+    match fault {
+        OrcFault::NoMemory => Stop::NoMemory,
+        fault => Stop::Refused(Refusal::Orc(fault)),
     }
 }

@@ -1,4 +1,5 @@
 use elf_objects::{Counted, ElfFault};
+use orc_bytes::OrcFault;
 use std::fmt;
 use x86_text::TextFaultText;
 
@@ -7,6 +8,8 @@ use x86_text::TextFaultText;
 pub enum Refusal<'a> {
     /// The object file is no well-formed object.
     Malformed(ElfFault),
+    /// The object's ORC sections hold no rows.
+    Orc(OrcFault),
     /// The code of a text section doesn't decode.
     Undecoded(TextFaultText<'a>),
     /// The object has `count` sections, so that those of the tables would be too many.
@@ -24,6 +27,7 @@ impl fmt::Display for Refusal<'_> {
     fn fmt<W: fmt::Write>(&self, f: &mut fmt::Formatter<W>) -> fmt::Result {
         match *self {
             Refusal::Malformed(fault) => write!(f, "{fault}"),
+            Refusal::Orc(fault) => write!(f, "{fault}"),
             Refusal::Undecoded(fault) => write!(f, "{fault}"),
             Refusal::TooManySections { count } => {
                 let what = Counted::Sections;
