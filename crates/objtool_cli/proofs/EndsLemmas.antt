@@ -1,8 +1,8 @@
 -- What follows from how a command ends.
 use Rattle.std.proofs.Common.{◌≡◌, ℕ, List, refl, sym, ap, ◌∙◌, subst, inl, inr}
-use Rattle.std.specs.Prelude.{◌≢◌, ◌⊎◌, [], Some, None, Option}
+use Rattle.std.specs.Prelude.{◌≢◌, ◌⊎◌, [], Some, None, Option, Ok}
 use Rattle.ot_files.specs.Causes.{Rose}
-use Rattle.ot_files.specs.Content.{Content, ChangesAtMost, writing}
+use Rattle.ot_files.specs.Content.{Content, ChangesAtMost, reading, writing}
 use Rattle.command_base.specs.declared.status.Status.{Status}
 use Rattle.command_base.specs.declared.status.Status.TheVariants.{Done, Warnings, FileFault, SinkFault, NoMemory}
 use Rattle.command_base.specs.declared.stop.Stop.{Stop}
@@ -14,9 +14,13 @@ use Rattle.command_base.specs.Stop.{status_of}
 use Rattle.command_base.proofs.ConcludeLemmas.{concluded_after_fault, concluded_fault, concluded_no_memory, concluded_no_warnings, concluded_not_done, concluded_sink_fault}
 use Rattle.elf_objects.specs.declared.TheConstants.{MAX_FILE_BYTES}
 use Rattle.objtool_cli.specs.Checked.{IsRefusal}
-use Rattle.objtool_cli.specs.Command.{Ends, EndsCheck, IsDone, MayChange, Stops, StopsAtWrite, checked, done, no_command, output_of_check, refused, stopped, unread, unwritten}
+use Rattle.objtool_cli.specs.Command.{Ends, EndsCheck, IsDone, MayChange, Stops, StopsAtWrite, checked, done, no_command, output_of_check, refused, stopped, unread, unwritten, dumped}
 use Rattle.objtool_cli.specs.Unwinding.{OutUnwinds}
-use Rattle.objtool_cli.specs.Words.{Command, check}
+use Rattle.objtool_cli.specs.Words.{Command, check, dump}
+use Rattle.ot_base.specs.declared.row.PlacedRow.{PlacedRow}
+use Rattle.elf_objects.specs.Elf.{Elf}
+use Rattle.read_back.specs.Dump.{HoldsRows, IsAnswered, IsDumped}
+use Rattle.read_back.proofs.DumpLaws.{dump_fault, dump_left, dump_no_warnings, dump_sink_fault, dumped as file_dumped}
 use Rattle.objtool_cli.proofs.ContentLemmas.{get-insert_other}
 
 -- a stop with the status of a file's fault is one
@@ -59,6 +63,7 @@ no_usage_fault e = cc
 pub file_fault : (command : Option Command) (before after : Outside) (out out' : Output) (x : Status) → Ends command before after out out' x → x ≡ FileFault → Rose before.faults after.faults
 file_fault command before after out out' x (no_command none same t) e = absurd (no_usage_fault (concluded_fault stop.Usage out out' x t e))
 file_fault command before after out out' x (checked input output is h) e = fault_of_check input output before after out out' x h e
+file_fault command before after out out' x (dumped file is h kept) e = dump_fault file before after out out' x h e
 
 sink_fault_of_check : (input output : List ℕ) (before after : Outside) (out out' : Output) (x : Status) → EndsCheck input output before after out out' x → x ≡ SinkFault → Rose out.faults out'.faults
 sink_fault_of_check input output before after out out' Done (done is same) e = cc
@@ -67,6 +72,7 @@ sink_fault_of_check input output before after out out' x (stopped s h t) e = con
 pub sink_fault : (command : Option Command) (before after : Outside) (out out' : Output) (x : Status) → Ends command before after out out' x → x ≡ SinkFault → Rose out.faults out'.faults
 sink_fault command before after out out' x (no_command none same t) e = concluded_sink_fault stop.Usage out out' x t e
 sink_fault command before after out out' x (checked input output is h) e = sink_fault_of_check input output before after out out' x h e
+sink_fault command before after out out' x (dumped file is h kept) e = dump_sink_fault file before after out out' x h e
 
 -- where OUT may have changed, a fault of it or want of memory is told
 neither : (x : Status) → (x ≡ FileFault) ⊎ (x ≡ NoMemory) → x ≢ FileFault → x ≢ NoMemory → ⊥
@@ -93,6 +99,7 @@ check_keeps input output before after out out' x (stopped s h t) d f m = stop_ke
 pub unchanged : (command : Option Command) (before after : Outside) (out out' : Output) (x : Status) → Ends command before after out out' x → x ≢ Done → x ≢ FileFault → x ≢ NoMemory → after.content ≡ before.content
 unchanged command before after out out' x (no_command none same t) d f m = ap (λ (o : Outside). o.content) same
 unchanged command before after out out' x (checked input output is h) d f m = check_keeps input output before after out out' x h d f m
+unchanged command before after out out' x (dumped file is h kept) d f m = kept
 
 -- what writes OUT changes at most OUT
 written_others : (output table : List ℕ) (before after : Option Content) → after ≡ writing before output table → ChangesAtMost output before after
@@ -114,14 +121,19 @@ check_changes command input output before after out out' x is (stopped s h t) = 
 pub changes : (command : Option Command) (before after : Outside) (out out' : Output) (x : Status) → Ends command before after out out' x → Left command before after
 changes command before after out out' x (no_command none same t) = inl (ap (λ (o : Outside). o.content) same)
 changes command before after out out' x (checked input output is h) = check_changes command input output before after out out' x is h
+changes command before after out out' x (dumped file is h kept) = inl kept
+
+check_no_dump : (file input output : List ℕ) → ◌≡◌ {A = Option Command} (Some (dump file)) (Some (check input output)) → ⊥
+check_no_dump file input output e = cc
 
 silent_check : (input output : List ℕ) (before after : Outside) (out out' : Output) (x : Status) → EndsCheck input output before after out out' x → x ≡ Done → out'.written ≡ out.written
 silent_check input output before after out out' Done (done is same) e = ap (λ (o : Output). o.written) same
 silent_check input output before after out out' x (stopped s h t) e = absurd (concluded_not_done s out out' x t e)
 
-pub tells_nothing : (command : Option Command) (before after : Outside) (out out' : Output) (x : Status) → Ends command before after out out' x → x ≡ Done → out'.written ≡ out.written
-tells_nothing command before after out out' x (no_command none same t) e = absurd (concluded_not_done stop.Usage out out' x t e)
-tells_nothing command before after out out' x (checked input output is h) e = silent_check input output before after out out' x h e
+pub tells_nothing : (command : Option Command) (before after : Outside) (out out' : Output) (x : Status) (input output : List ℕ) → Ends command before after out out' x → command ≡ Some (check input output) → x ≡ Done → out'.written ≡ out.written
+tells_nothing command before after out out' x input output (no_command none same t) n e = absurd (concluded_not_done stop.Usage out out' x t e)
+tells_nothing command before after out out' x input output (dumped file is h kept) n e = absurd (check_no_dump file input output (sym is ∙ n))
+tells_nothing command before after out out' x input output (checked i o is h) n e = silent_check i o before after out out' x h e
 
 no_warnings_of_check : (input output : List ℕ) (before after : Outside) (out out' : Output) (x : Status) → EndsCheck input output before after out out' x → x ≢ Warnings
 no_warnings_of_check input output before after out out' Done (done is same) e = cc
@@ -130,14 +142,17 @@ no_warnings_of_check input output before after out out' x (stopped s h t) e = co
 pub without_warnings : (command : Option Command) (before after : Outside) (out out' : Output) (x : Status) → Ends command before after out out' x → x ≢ Warnings
 without_warnings command before after out out' x (no_command none same t) e = concluded_no_warnings stop.Usage out out' x t e
 without_warnings command before after out out' x (checked input output is h) e = no_warnings_of_check input output before after out out' x h e
+without_warnings command before after out out' x (dumped file is h kept) e = dump_no_warnings file before after out out' x h e
 
 -- ---- a command's names
 
 abbrev input_of : Command → List ℕ
 input_of (check input output) = input
+input_of (dump file) = file
 
 abbrev output_of : Command → List ℕ
 output_of (check input output) = output
+output_of (dump file) = []
 
 abbrev names_of : Option Command → List ℕ × List ℕ
 names_of None = ([], [])
@@ -154,6 +169,25 @@ unwound input output before after out out' x (stopped s h t) e = absurd (conclud
 
 pub out_unwinds : (command : Option Command) (before after : Outside) (out out' : Output) (x : Status) (input output : List ℕ) → Ends command before after out out' x → x ≡ Done → command ≡ Some (check input output) → OutUnwinds input output before.content after.content
 out_unwinds command before after out out' x input output (no_command none same t) e n = absurd (concluded_not_done stop.Usage out out' x t e)
+out_unwinds command before after out out' x input output (dumped file is h kept) e n = absurd (check_no_dump file input output (sym is ∙ n))
 out_unwinds command before after out out' x input output (checked i o is h) e n =
     let both = both_names command i o input output is n in
     subst (λ (m : List ℕ). OutUnwinds m output before.content after.content) both.0 (subst (λ (m : List ℕ). OutUnwinds i m before.content after.content) both.1 (unwound i o before after out out' x h e))
+
+-- ---- `dump`
+
+same_file : (file other : List ℕ) → ◌≡◌ {A = Option Command} (Some (dump file)) (Some (dump other)) → file ≡ other
+same_file file other e = ap (λ (both : List ℕ × List ℕ). both.0) (ap names_of e)
+
+pub rows_dumped : (command : Option Command) (before after : Outside) (out out' : Output) (x : Status) (file : List ℕ) → Ends command before after out out' x → x ≡ Done → command ≡ Some (dump file) → IsDumped file before.content out.written out'.written
+rows_dumped command before after out out' x file (no_command none same t) e n = absurd (concluded_not_done stop.Usage out out' x t e)
+rows_dumped command before after out out' x file (checked i o is h) e n = absurd (check_no_dump file i o (sym n ∙ is))
+rows_dumped command before after out out' x file (dumped other is h kept) e n = subst (λ (name : List ℕ). IsDumped name before.content out.written out'.written) (same_file other file (sym is ∙ n)) (file_dumped other before after out out' x h e)
+
+no_command_given : (file : List ℕ) → ◌≡◌ {A = Option Command} None (Some (dump file)) → ⊥
+no_command_given file e = cc
+
+pub dump_answered : (command : Option Command) (before after : Outside) (out out' : Output) (x : Status) (file bytes : List ℕ) (o : Elf) (rows : List PlacedRow) (content : Content) → Ends command before after out out' x → command ≡ Some (dump file) → before.content ≡ Some content → reading content file MAX_FILE_BYTES ≡ Ok bytes → HoldsRows bytes o rows → IsAnswered x
+dump_answered command before after out out' x file bytes o rows content (no_command none same t) n c r held = absurd (no_command_given file (sym none ∙ n))
+dump_answered command before after out out' x file bytes o rows content (checked i p is h) n c r held = absurd (check_no_dump file i p (sym n ∙ is))
+dump_answered command before after out out' x file bytes o rows content (dumped other is h kept) n c r held = dump_left other bytes o rows content before after out out' x c (subst (λ (name : List ℕ). reading content name MAX_FILE_BYTES ≡ Ok bytes) (sym (same_file other file (sym is ∙ n))) r) held h

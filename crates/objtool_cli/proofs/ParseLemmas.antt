@@ -32,6 +32,7 @@ parse_refusal bytes NoMemory h = tt
 pub text_refusal : (bytes : List ℕ) (o : Elf) (s : Stop) → IsObject bytes o → IsUnread o s → IsRefusal bytes s
 text_refusal bytes o (stop.Refused (refusal.Undecoded place)) is h = undecoded o is h
 text_refusal bytes o (stop.Refused (refusal.Malformed fault)) is h = absurd h
+text_refusal bytes o (stop.Refused (refusal.Orc fault)) is h = absurd h
 text_refusal bytes o (stop.Refused (refusal.TooManySections count)) is h = absurd h
 text_refusal bytes o (stop.Refused refusal.NotBuilt) is h = absurd h
 text_refusal bytes o stop.NoMemory is h = tt

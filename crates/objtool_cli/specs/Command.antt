@@ -1,4 +1,4 @@
--- What the command `check IN OUT` does, on whatever its files hold, and how it ends.
+-- What the commands do, on whatever their files hold, and how they end.
 use Rattle.std.specs.Prelude.{◌≡◌, ℕ, List, Option, Some, None, Ok}
 use Rattle.ot_files.specs.Causes.{Rose}
 use Rattle.ot_files.specs.Content.{Content, ChangesAtMost, writing}
@@ -10,9 +10,10 @@ use Rattle.command_base.specs.declared.stop.Stop.TheVariants.{Usage, Missing, To
 use Rattle.command_base.specs.Outside.{Outside, Output}
 use Rattle.command_base.specs.Printing.{Concludes}
 use Rattle.command_base.specs.Reading.{MayRead, StopsAtRead}
+use Rattle.read_back.specs.Dump.{EndsDump}
 use Rattle.objtool_cli.specs.Checked.{Accepts, IsRefusal}
 use Rattle.objtool_cli.specs.Unwinding.{OutUnwinds}
-use Rattle.objtool_cli.specs.Words.{Command, check}
+use Rattle.objtool_cli.specs.Words.{Command, check, dump}
 
 -- The file of this name may read as bytes that are accepted, and for which these are to be written.
 pub record IsAccepted (content : Option Content) (input table : List ℕ) : Type 0 where
@@ -64,6 +65,7 @@ pub data EndsCheck (input output : List ℕ) (before after : Outside) (out out' 
 -- How the command of the words ends: words that are no command are told, and nothing else is done.
 pub data Ends (command : Option Command) (before after : Outside) (out out' : Output) : Status → Type 0 where
   no_command : {s : Status} → command ≡ None → after ≡ before → Concludes Usage out out' s → Ends command before after out out' s
+  dumped : {s : Status} (file : List ℕ) → command ≡ Some (dump file) → EndsDump file before after out out' s → after.content ≡ before.content → Ends command before after out out' s
   checked : {s : Status} (input output : List ℕ) → command ≡ Some (check input output) → EndsCheck input output before after out out' s → Ends command before after out out' s
 
 -- The command may have changed a file: it is `check`, its input was accepted, and only OUT has changed.

@@ -1,16 +1,20 @@
 ghost use Rattle.std.specs.Prelude.{◌≡◌, ◌≢◌, ◌⊎◌, ◌≤◌, ℕ, List, Ok, Some, map, string_bytes};
 ghost use Rattle.ot_files.specs.Causes.{Rose};
 ghost use Rattle.ot_files.specs.Content.{Content, reading};
+ghost use Rattle.ot_base.specs.declared.row.PlacedRow.{PlacedRow};
+ghost use Rattle.elf_objects.specs.Elf.{Elf};
+ghost use Rattle.read_back.specs.Dump.{HoldsRows, IsAnswered, IsDumped};
 ghost use Rattle.objtool_cli.specs.Checked.{Accepts};
-ghost use Rattle.objtool_cli.specs.Words.{check, command_of};
+ghost use Rattle.objtool_cli.specs.Words.{check, command_of, dump};
 ghost use Rattle.objtool_cli.specs.Unwinding.{OutUnwinds};
 ghost use Rattle.objtool_cli.specs.Command.{Ends, EndsCheck, MayChange};
 
 use crate::check::check;
-use crate::words::{Check, read_words};
+use crate::words::{Check, Command, read_words};
 use command_base::{Status, Stop, conclude, read_file};
 use elf_objects::MAX_FILE_BYTES;
 use ot_files::{Files, Sink};
+use read_back::dump;
 use std::alloc::Global;
 use x86_decode::one_outcome;
 
@@ -55,7 +59,8 @@ fn dispatch<F: Files, S: Sink>(
     ensures out_later { S.faults out.old ≤ S.faults out.new }
 {
     match read_words(words) {
-        Some(names) => read_and_check(alloc, names, files, out),
+        Some(Command::Check(names)) => read_and_check(alloc, names, files, out),
+        Some(Command::Dump { file }) => dump(alloc, file, files, out),
         None => conclude(alloc, Stop::Usage, out),
     }
 }
@@ -63,10 +68,10 @@ fn dispatch<F: Files, S: Sink>(
 /// Runs the command of these words, which are those of the command line without the program's name,
 /// over files and an output, and gives the status that it ends with.
 ///
-/// `check IN OUT` reads the object IN, and writes it to OUT with its ORC tables added. Other words are
-/// a usage fault so far. Every refusal is told by one line to the output. Where the words, IN's bytes
-/// and faults of the files and of the output leave no other cause, the answer may still be want of
-/// memory.
+/// `check IN OUT` reads the object IN, and writes it to OUT with its ORC tables added. `dump FILE`
+/// prints the rows of the ORC tables of the object FILE, one line each. Other words are a usage fault so
+/// far. Every refusal is told by one line to the output. Where the words, the bytes of the input and
+/// faults of the files and of the output leave no other cause, the answer may still be want of memory.
 pub fn run<F: Files, S: Sink>(alloc: Global, words: &[String], files: &mut F, out: &mut S) -> Status
     // What was done to the files and told to the output, and why.
     ensures ends { Ends (command_of (map string_bytes words.now))
@@ -87,6 +92,14 @@ pub fn run<F: Files, S: Sink>(alloc: Global, words: &[String], files: &mut F, ou
         → F.content files.old ≡ Some held → reading held input MAX_FILE_BYTES ≡ Ok read → Accepts read table
         → (result ≡ Status.Done) ⊎ ((result ≡ Status.FileFault) ⊎ (result ≡ Status.NoMemory)) }
 
+    // Where `dump` is done, FILE is read as an object that holds rows, and exactly their lines were printed; and such a
+    // FILE isn't refused: it is done, unless a fault or want of memory is answered.
+    ensures dumps { (file : List ℕ) → result ≡ Status.Done → command_of (map string_bytes words.now) ≡ Some (dump file)
+        → IsDumped file (F.content files.old) (S.written out.old) (S.written out.new) }
+    ensures dump_accepts { (file bytes : List ℕ) (object : Elf) (rows : List PlacedRow) (held : Content)
+        → command_of (map string_bytes words.now) ≡ Some (dump file) → F.content files.old ≡ Some held
+        → reading held file MAX_FILE_BYTES ≡ Ok bytes → HoldsRows bytes object rows → IsAnswered result }
+
     // A fault is answered only where its count rose in this call, and no count falls.
     ensures file_fault { result ≡ Status.FileFault → Rose (F.faults files.old) (F.faults files.new) }
     ensures sink_fault { result ≡ Status.SinkFault → Rose (S.faults out.old) (S.faults out.new) }
@@ -99,8 +112,9 @@ pub fn run<F: Files, S: Sink>(alloc: Global, words: &[String], files: &mut F, ou
     ensures changes { (F.content files.new ≡ F.content files.old)
         ⊎ MayChange (command_of (map string_bytes words.now)) (F.content files.old) (F.content files.new) }
 
-    // Nothing is told where all was done, and no warning is made so far.
-    ensures silent { result ≡ Status.Done → S.written out.new ≡ S.written out.old }
+    // Nothing is told where `check` is done, and no warning is made so far.
+    ensures silent { (input output : List ℕ) → command_of (map string_bytes words.now) ≡ Some (check input output)
+        → result ≡ Status.Done → S.written out.new ≡ S.written out.old }
     ensures no_warnings { result ≢ Status.Warnings }
 {
     one_outcome();

@@ -1,8 +1,10 @@
 -- What the command `dump FILE` prints, on whatever FILE holds, and how it ends.
-use Rattle.std.specs.Prelude.{ℕ, List, Ok}
+use Rattle.std.specs.Prelude.{◌≡◌, ◌⊎◌, ℕ, List, Option, Ok}
 use Rattle.std.specs.List.{flat_map}
 use Rattle.ot_base.specs.declared.row.PlacedRow.{PlacedRow}
 use Rattle.ot_base.specs.RowText.{row_line}
+use Rattle.ot_files.specs.Content.{Content}
+use Rattle.ot_files.specs.Output.{appending}
 use Rattle.elf_objects.specs.declared.TheConstants.{MAX_FILE_BYTES}
 use Rattle.elf_objects.specs.declared.fault.ElfFault.{ElfFault}
 use Rattle.elf_objects.specs.Elf.{Elf}
@@ -46,3 +48,16 @@ pub data Dumps (bytes : List ℕ) (out out' : Output) : Status → Type 0 where
 pub data EndsDump (file : List ℕ) (before after : Outside) (out out' : Output) : Status → Type 0 where
   unread : {s : Status} (stop : Stop) → StopsAtRead MAX_FILE_BYTES file before after stop → Concludes stop out out' s → EndsDump file before after out out' s
   read : {s : Status} (bytes : List ℕ) → MayRead MAX_FILE_BYTES before.content file (Ok bytes) → Dumps bytes out out' s → EndsDump file before after out out' s
+
+-- FILE was read as an object whose ORC sections hold some rows, and the lines of these rows were printed.
+pub record IsDumped (file : List ℕ) (content : Option Content) (before after : Option (List ℕ)) : Type 0 where
+  pub bytes : List ℕ
+  pub may : MayRead MAX_FILE_BYTES content file (Ok bytes)
+  pub object : Elf
+  pub rows : List PlacedRow
+  pub held : HoldsRows bytes object rows
+  pub printed : after ≡ appending before (rows_text object rows)
+
+-- what the command may answer where nothing is refused
+abbrev pub IsAnswered : Status → Type 0
+IsAnswered s = (s ≡ status.Done) ⊎ ((s ≡ status.FileFault) ⊎ ((s ≡ status.SinkFault) ⊎ (s ≡ status.NoMemory)))

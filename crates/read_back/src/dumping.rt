@@ -1,12 +1,15 @@
 //! The command `dump FILE`.
 
-ghost use Rattle.std.specs.Prelude.{◌≡◌, ◌≤◌, length, IfErr, OnOk};
+ghost use Rattle.std.specs.Prelude.{◌≡◌, ◌≤◌, ℕ, List, length, Ok, Some, IfErr, OnOk};
+ghost use Rattle.ot_base.specs.declared.row.PlacedRow.{PlacedRow};
+ghost use Rattle.ot_files.specs.Content.{Content, reading};
+ghost use Rattle.elf_objects.specs.Elf.{Elf};
 ghost use Rattle.ot_base.specs.RowText.{row_line};
 ghost use Rattle.ot_files.specs.Output.{appending};
 ghost use Rattle.elf_objects.specs.Contents.{section_at};
 ghost use Rattle.command_base.specs.declared.status.Status.TheVariants as status;
 ghost use Rattle.command_base.specs.Printing.{FailsToPrint, Prints};
-ghost use Rattle.read_back.specs.Dump.{Dumps, EndsDump, rows_text};
+ghost use Rattle.read_back.specs.Dump.{Dumps, EndsDump, HoldsRows, IsAnswered, IsDumped, rows_text};
 
 use command_base::{Status, conclude, orc_stop, parse_stop, print_part, read_file};
 use elf_objects::{MAX_FILE_BYTES, Object};
@@ -79,11 +82,18 @@ fn dump_bytes<S: Sink>(alloc: Global, bytes: &[u8], out: &mut S) -> Status
 /// Prints the rows of the ORC sections of the object FILE, one line each, or why there are none, and
 /// gives the status that the command ends with. No file is changed.
 pub fn dump<F: Files, S: Sink>(alloc: Global, file: &str, files: &mut F, out: &mut S) -> Status
+    // What was told to the output, and why.
     ensures ends { EndsDump file.now
         (record { content = F.content files.old; faults = F.faults files.old })
         (record { content = F.content files.new; faults = F.faults files.new })
         (record { written = S.written out.old; faults = S.faults out.old })
         (record { written = S.written out.new; faults = S.faults out.new }) result }
+    // It is done only where FILE is read as an object that holds rows, and then their lines were printed.
+    ensures dumped { result ≡ Status.Done → IsDumped file.now (F.content files.old) (S.written out.old) (S.written out.new) }
+    // Such a FILE isn't refused.
+    ensures accepts { (bytes : List ℕ) (object : Elf) (rows : List PlacedRow) (held : Content)
+        → F.content files.old ≡ Some held → reading held file.now MAX_FILE_BYTES ≡ Ok bytes → HoldsRows bytes object rows
+        → IsAnswered result }
     ensures unchanged { F.content files.new ≡ F.content files.old }
     ensures files_later { F.faults files.old ≤ F.faults files.new }
     ensures out_later { S.faults out.old ≤ S.faults out.new }

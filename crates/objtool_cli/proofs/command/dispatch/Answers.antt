@@ -1,9 +1,19 @@
-use Rattle.std.proofs.Common.{refl, sym}
-use Rattle.objtool_cli.specs.Command.{checked, no_command}
+use Rattle.std.proofs.Common.{◌≡◌, Option, Some, None, refl, sym, ap, ◌∙◌}
+use Rattle.objtool_cli.specs.declared.words.Command as declared
+use Rattle.objtool_cli.specs.declared.words.Command.TheVariants.{Check, Dump}
+use Rattle.objtool_cli.specs.Command.{checked, dumped, no_command}
+use Rattle.objtool_cli.specs.Words.{Command, command_in}
 use Rattle.objtool_cli.proofs.command.dispatch.Goals as goal
 
 pub returns-in-None-clause-ends : goal.returns-in-None-clause-ends
 returns-in-None-clause-ends g c = let e = c.in-None.ensures in no_command (sym e) refl c.conclude.ensures.concluded
 
-pub returns-in-Some-clause-ends : goal.returns-in-Some-clause-ends
-returns-in-Some-clause-ends g c = let e = c.in-Some.ensures in checked _ _ (sym e) c.read_and_check.ensures.ends
+-- the command that the words are
+read_as : (given found : declared.Command) (words : Option Command) → given ≡ found → Some (command_in given) ≡ words → words ≡ Some (command_in found)
+read_as given found words is read = sym read ∙ ap (λ (c : declared.Command). Some (command_in c)) is
+
+pub returns-in-Some-Check-clause-ends : goal.returns-in-Some-Check-clause-ends
+returns-in-Some-Check-clause-ends g c = checked _ _ (read_as _ (Check c.in-Some-Check.names) _ c.in-Some-Check.field-0-is c.in-Some-Check.ensures) c.read_and_check.ensures.ends
+
+pub returns-in-Some-Dump-clause-ends : goal.returns-in-Some-Dump-clause-ends
+returns-in-Some-Dump-clause-ends g c = dumped _ (read_as _ (Dump c.in-Some-Dump.file) _ c.in-Some-Dump.field-0-is c.in-Some-Dump.ensures) c.dump.ensures.ends c.dump.ensures.unchanged

@@ -1,4 +1,4 @@
-use Rattle.objtool_cli.proofs.EndsLemmas.{changes, file_fault, out_unwinds, sink_fault, tells_nothing, unchanged, without_warnings}
+use Rattle.objtool_cli.proofs.EndsLemmas.{changes, file_fault, out_unwinds, dump_answered, rows_dumped, sink_fault, tells_nothing, unchanged, without_warnings}
 use Rattle.objtool_cli.proofs.AcceptsLemmas.{left}
 use Rattle.objtool_cli.proofs.command.run.Goals as goal
 
@@ -15,7 +15,7 @@ pub returns-clause-changes : goal.returns-clause-changes
 returns-clause-changes g c = changes _ _ _ _ _ _ c.dispatch.ensures.ends
 
 pub returns-clause-silent : goal.returns-clause-silent
-returns-clause-silent g c e = tells_nothing _ _ _ _ _ _ c.dispatch.ensures.ends e
+returns-clause-silent g c input output n e = tells_nothing _ _ _ _ _ _ input output c.dispatch.ensures.ends n e
 
 pub returns-clause-no_warnings : goal.returns-clause-no_warnings
 returns-clause-no_warnings g c = without_warnings _ _ _ _ _ _ c.dispatch.ensures.ends
@@ -25,3 +25,9 @@ returns-clause-unwinds g c input output e n = out_unwinds _ _ _ _ _ _ input outp
 
 pub returns-clause-accepts : goal.returns-clause-accepts
 returns-clause-accepts g c input output read table held n told is accepts = left c.one_outcome.ensures _ input output read table held _ _ _ _ _ n told is accepts c.dispatch.ensures.ends
+
+pub returns-clause-dumps : goal.returns-clause-dumps
+returns-clause-dumps g c file e n = rows_dumped _ _ _ _ _ _ file c.dispatch.ensures.ends e n
+
+pub returns-clause-dump_accepts : goal.returns-clause-dump_accepts
+returns-clause-dump_accepts g c file bytes object rows held n told is holds = dump_answered _ _ _ _ _ _ file bytes object rows held c.dispatch.ensures.ends n told is holds
