@@ -5,3 +5,4 @@ pub mod Bases
 pub mod Faults
 pub mod Table
 pub mod Layout
+pub mod FaultText

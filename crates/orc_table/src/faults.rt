@@ -1,5 +1,7 @@
 use ot_base::NoMemory;
 use std::alloc::{AllocError, AllocFailed};
+use std::error::Error;
+use std::fmt;
 
 /// Why a section can't be placed.
 #[derive(Clone, Copy, Debug, PartialEq, Eq)]
@@ -28,6 +30,37 @@ pub enum PlaceFault {
     /// Memory was wanted and not there.
     NoMemory,
 }
+
+impl fmt::Display for PlaceWhy {
+    ghost use Rattle.std.specs.Prelude.{Some};
+    ghost use Rattle.orc_table.specs.FaultText.{why_text};
+
+    ghost output = { λ why. Some (why_text why) };
+
+    fn fmt<W: fmt::Write>(&self, f: &mut fmt::Formatter<W>) -> fmt::Result {
+        match self {
+            PlaceWhy::Missing => write!(f, "not placed"),
+            PlaceWhy::Wraps => write!(f, "wraps"),
+            PlaceWhy::Overlaps { other } => write!(f, "overlaps {other}"),
+        }
+    }
+}
+
+impl fmt::Display for PlaceFault {
+    ghost use Rattle.std.specs.Prelude.{Some};
+    ghost use Rattle.orc_table.specs.FaultText.{fault_text};
+
+    ghost output = { λ fault. Some (fault_text fault) };
+
+    fn fmt<W: fmt::Write>(&self, f: &mut fmt::Formatter<W>) -> fmt::Result {
+        match self {
+            PlaceFault::At { sec, why } => write!(f, "section {sec}: {why}"),
+            PlaceFault::NoMemory => write!(f, "no memory"),
+        }
+    }
+}
+
+impl Error for PlaceFault {}
 
 impl From<NoMemory> for PlaceFault {
     ghost use Rattle.std.specs.Prelude.{◌≡◌};
