@@ -1,0 +1,5 @@
+pub mod LineLemmas
+pub mod NumberLemmas
+pub mod PieceLemmas
+pub mod SayingLemmas
+pub mod ImageLemmas

@@ -1,0 +1,6 @@
+pub mod Lines
+pub mod Numbers
+pub mod Statements
+pub mod ImageFile
+pub mod Reading
+pub mod FaultText
