@@ -1,17 +1,20 @@
 -- What can be made has room in memory and in the numbers of the format.
-use Rattle.std.proofs.Common.{◌≡◌, ℕ, zero, suc, ◌+◌, ◌-◌, ◌*◌, ◌^◌, ◌<◌, ◌≤◌, Bool, true, false, List, [], ◌∷◌, ◌++◌, length, map, replicate, refl, sym, ap, subst, ◌∙◌, arith, length-append}
-use Rattle.std.specs.Prelude.{All, codes, if◌then◌else◌}
-use Rattle.std.specs.List.{flat_map}
+use Rattle.std.proofs.Common.{◌≡◌, ℕ, zero, suc, ◌+◌, ◌-◌, ◌*◌, ◌^◌, ◌<◌, ◌≤◌, Bool, true, false, List, [], ◌∷◌, ◌++◌, length, map, replicate, refl, ap, subst, ◌∙◌, arith, length-append}
+use Rattle.std.specs.Prelude.{All, codes, not, if◌then◌else◌}
+use Rattle.std.specs.List.{range_with_len}
 use Rattle.std.proofs.lemmas.Grind.{flat_map-append}
-use Rattle.std.proofs.lemmas.List.{append_assoc}
-use Rattle.std.proofs.lemmas.List.Elements.{All-append, All-head, All-tail}
-use Rattle.elf_write.specs.Layout.{NewEntry, encoded, new_names}
+use Rattle.std.proofs.lemmas.List.{append_assoc, length-map}
+use Rattle.std.proofs.lemmas.List.Filters.{length-filter_both}
+use Rattle.std.proofs.lemmas.List.FromFn.{length-range_with_len}
+use Rattle.std.proofs.lemmas.List.Elements.{All-append, All-tail}
+use Rattle.elf_write.specs.Layout.{NewEntry, new_names}
 use Rattle.elf_write.proofs.Lists.{length-encoded}
-use Rattle.demo_objects.specs.CanMake.{CanMake, IsSection}
-use Rattle.demo_objects.specs.Layout.{bodies_end, file_of, names_entry, next_multiple, with_names}
-use Rattle.demo_objects.specs.Made.{all_sections, indices_entry, made, name_place, name_text, needs_indices, rela_entry, strings_body, strings_entry, symbol_bytes, symbol_tables, symbols_body, symbols_entry, symbols_from, targets}
+use Rattle.demo_objects.specs.CanMake.{CanLayOut, IsSection}
+use Rattle.demo_objects.specs.Checked.{PartsFit, SectionsFit}
+use Rattle.demo_objects.specs.Layout.{bodies_end, names_entry, next_multiple}
+use Rattle.demo_objects.specs.Made.{all_sections, has_relocs, indices_entry, name_place, name_text, needs_indices, rela_entry, strings_body, strings_entry, symbol_bytes, symbol_tables, symbols_body, symbols_entry, symbols_from, targets}
 use Rattle.demo_objects.specs.Spec.{NewSymbol, Spec}
-use Rattle.demo_objects.proofs.Sizes.{AreAligned, Fits, fits, le-bodies_end, le-next_multiple}
+use Rattle.demo_objects.proofs.Sizes.{AreAligned, Fits, fits, le-bodies_end}
 
 -- the parts of the sections
 abbrev pub given_part : Spec → List NewEntry
@@ -90,9 +93,9 @@ pub record Room (s : Spec) : Type 0 where
   pub strings : length (strings_body s.symbols) < 2 ^ 32
   pub names : 1 + length (new_names (all_sections s)) < 2 ^ 32
 
-pub room : (s : Spec) → CanMake s → Room s
+pub room : (s : Spec) → CanLayOut s → Room s
 room s can =
-    let aligned = all-aligned s can.sections in
+    let aligned = all-aligned s can.parts.sections in
     let es : List NewEntry = front_part s ++ strings_entry s ∷ [] in
     let f : Fits (all_sections s) = fits (all_sections s) aligned can.short in
     let first = tables-first s in
@@ -114,3 +117,40 @@ room s can =
       strings = omega arith;
       names = omega arith;
     }
+
+-- the sections are few where those given are
+pub few-sections : (s : Spec) → length s.sections < 262144 → length (all_sections s) < 2 ^ 32 - 1
+few-sections s h =
+    let given : length (given_part s) ≡ length s.sections + length (targets s) = length-append s.sections (map (rela_entry s) (targets s)) ∙ ap (λ (n : ℕ). length s.sections + n) (length-map (targets s) (rela_entry s)) in
+    let most : length (targets s) ≤ length s.sections = few-targets s in
+    let tables : length (symbol_tables s) ≤ 2 = few-tables (needs_indices s.symbols) in
+    omega (arith, length-append (given_part s) (symbol_tables s), length-append (front_part s) (strings_entry s ∷ []), length-append (front_part s ++ strings_entry s ∷ []) (names_entry (front_part s ++ strings_entry s ∷ []) ∷ []))
+  where
+    few-targets : (s : Spec) → length (targets s) ≤ length s.sections
+    few-targets s =
+        let b = length-filter_both (has_relocs s.relocs) (λ x. not (has_relocs s.relocs x)) (λ x. refl) (range_with_len 1 (length s.sections)) in
+        let l = length-range_with_len 1 (length s.sections) in
+        omega arith
+
+    few-tables : (b : Bool) → length (if b then symbols_entry s ∷ indices_entry s ∷ [] else symbols_entry s ∷ []) ≤ 2
+    few-tables true = omega arith
+    few-tables false = omega arith
+
+-- the sections given stand among all
+pub given-fewer : (s : Spec) → length s.sections ≤ length (all_sections s)
+given-fewer s =
+    omega (arith, length-append s.sections (map (rela_entry s) (targets s)), length-append (given_part s) (symbol_tables s), length-append (front_part s) (strings_entry s ∷ []), length-append (front_part s ++ strings_entry s ∷ []) (names_entry (front_part s ++ strings_entry s ∷ []) ∷ []))
+
+-- what can be laid out passes the tests of its parts and of its sections, and what passes can be
+pub parts-fit : (s : Spec) → CanLayOut s → PartsFit s
+parts-fit s can =
+    let r = room s can in
+    let g = given-fewer s in
+    let few = can.few in
+    record { few_sections = omega arith; few_symbols = r.symbols; parts = can.parts; strings = r.strings }
+
+pub sections-fit : (s : Spec) → CanLayOut s → SectionsFit (all_sections s) s.symbols
+sections-fit s can = record { few = can.few; homes = can.homes; short = can.short }
+
+pub can-lay-out : (s : Spec) → PartsFit s → SectionsFit (all_sections s) s.symbols → CanLayOut s
+can-lay-out s p f = record { parts = p.parts; few = f.few; homes = f.homes; short = f.short }

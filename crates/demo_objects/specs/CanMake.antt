@@ -1,5 +1,5 @@
 -- What can be made.
-use Rattle.std.specs.Prelude.{◌≡◌, ◌≢◌, ◌+◌, ◌<◌, ◌≤◌, ◌^◌, ℕ, List, [], length, All}
+use Rattle.std.specs.Prelude.{◌≡◌, ◌≢◌, ◌+◌, ◌-◌, ◌<◌, ◌≤◌, ◌≤ℤ◌, ◌<ℤ◌, ◌^◌, ℕ, pos, negsuc, List, [], length, All}
 use Rattle.elf_objects.specs.declared.TheConstants.{MAX_SECTIONS, SHT_NULL, SHT_NOBITS}
 use Rattle.elf_objects.specs.declared.symbol.Home.{Home}
 use Rattle.elf_objects.specs.declared.symbol.Home.TheVariants as home
@@ -30,11 +30,10 @@ IsHome count home.Absolute = Unit {0}
 IsHome count home.Common = Unit {0}
 
 -- a symbol by itself
-pub record IsNewSymbol (count : ℕ) (s : NewSymbol) : Type 0 where
+pub record IsNewSymbol (s : NewSymbol) : Type 0 where
   pub name : All (λ c. c ≢ 0) s.name
   pub bind : s.bind < 16
   pub kind : s.kind < 16
-  pub home : IsHome count s.home
   pub value : s.value < 2 ^ 64
   pub size : s.size < 2 ^ 64
 
@@ -45,15 +44,30 @@ pub record IsNewReloc (count : ℕ) (r : RelSpec) : Type 0 where
   pub offset : r.reloc.offset < 2 ^ 64
   pub kind : r.reloc.kind < 2 ^ 32
   pub sym : r.reloc.sym < 2 ^ 32
+  pub addend_low : negsuc (2 ^ 63 - 1) ≤ℤ r.reloc.addend
+  pub addend_high : r.reloc.addend <ℤ pos (2 ^ 63)
 
--- The parts are right by themselves, the file is not too large, and as they are laid out the types, links, symbols (the
--- local ones first) and relocations of the sections are those of a well-formed object.
-pub record CanMake (s : Spec) : Type 0 where
-  pub few : length (all_sections s) < MAX_SECTIONS
-  pub short : length (made s) < 2 ^ 32
+-- the parts are right by themselves
+pub record HasParts (s : Spec) : Type 0 where
   pub sections : All IsSection s.sections
-  pub symbols : All (IsNewSymbol (length (all_sections s) + 1)) s.symbols
+  pub symbols : All IsNewSymbol s.symbols
   pub relocs : All (IsNewReloc (length s.sections)) s.relocs
+
+-- the homes of the symbols are sections of the object, or none
+abbrev pub HaveHomes : ℕ → List NewSymbol → Type 0
+HaveHomes count symbols = All (λ x. IsHome count x.home) symbols
+
+-- The parts are right by themselves, and neither the sections nor the bytes are too many.
+pub record CanLayOut (s : Spec) : Type 0 where
+  pub parts : HasParts s
+  pub few : length (all_sections s) < MAX_SECTIONS
+  pub homes : HaveHomes (length (all_sections s) + 1) s.symbols
+  pub short : length (made s) < 2 ^ 32
+
+-- And as they are laid out the types, links, symbols (the local ones first) and relocations of the sections are those
+-- of a well-formed object.
+pub record CanMake (s : Spec) : Type 0 where
+  pub laid_out : CanLayOut s
   pub forms : AllBelow (HasForm (made s)) (section_count (made s))
   pub links : AllBelow (HasLinks (made s)) (section_count (made s))
   pub few_symbols : HasFewSymbols (made s)

@@ -1,6 +1,6 @@
 -- The layout of an object that is made: the file header; the bodies of its sections in their order,
 -- each at the next multiple of its alignment; the section headers (ELF-64 gABI).
-use Rattle.std.specs.Prelude.{ℕ, ◌+◌, ◌-◌, ◌*◌, ◌%◌, ◌==◌, List, [], ◌∷◌, ◌++◌, codes, length, replicate, nat_lt, if◌then◌else◌}
+use Rattle.std.specs.Prelude.{ℕ, ◌+◌, ◌-◌, ◌%◌, ◌==◌, List, [], ◌∷◌, ◌++◌, codes, length, replicate, nat_lt, if◌then◌else◌}
 use Rattle.elf_objects.specs.declared.TheConstants.{SHT_STRTAB, SHN_XINDEX}
 use Rattle.elf_objects.specs.declared.header.SectionHeader.{SectionHeader}
 use Rattle.elf_write.specs.Layout.{NewEntry, encoded, header_for, header_table, long_count, new_names, short_count}

@@ -4,3 +4,4 @@ pub mod Made
 pub mod Bodies
 pub mod CanMake
 pub mod Object
+pub mod Checked

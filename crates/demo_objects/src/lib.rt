@@ -5,10 +5,11 @@
 mod bytes;
 mod file;
 mod object;
+mod parts;
 mod relocs;
 mod sections;
 mod spec;
 mod symbols;
 
-pub use object::make;
+pub use object::{build, make};
 pub use spec::{RelSpec, Spec, SymSpec};

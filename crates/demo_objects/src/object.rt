@@ -1,13 +1,16 @@
-//! The public call.
+//! The public calls.
 
-ghost use Rattle.std.specs.Prelude.{◌≡◌, IfOk};
-ghost use Rattle.demo_objects.specs.CanMake.{CanMake};
+ghost use Rattle.std.specs.Prelude.{◌≡◌, ◌<◌, ◌^◌, ◌↔◌, IfOk, IfSome, IsSome, IsTrue, length};
+ghost use Rattle.elf_objects.specs.Object.{IsWellFormed};
+ghost use Rattle.demo_objects.specs.CanMake.{CanLayOut, CanMake};
 ghost use Rattle.demo_objects.specs.Made.{made};
 ghost use Rattle.demo_objects.specs.Spec.{spec_of};
 
 use crate::file::file_of;
+use crate::parts::{parts_fit, sections_fit};
 use crate::sections::all_sections;
 use crate::spec::Spec;
+use elf_objects::{ElfFault, Object};
 use ot_base::NoMemory;
 use std::alloc::Global;
 
@@ -29,4 +32,51 @@ pub fn make(alloc: Global, spec: &Spec) -> Result<Vec<u8>, NoMemory>
 {
     let sections = all_sections(alloc, spec)?;
     file_of(alloc, &sections)
+}
+
+/// Whether bytes are those of a well-formed object.
+fn is_well_formed(alloc: Global, file: &[u8]) -> Result<bool, NoMemory>
+    requires { length file.now < 2 ^ 32 }
+    ensures { IfOk result (λ yes. IsTrue yes ↔ IsWellFormed file.now) }
+{
+    match Object::parse(alloc, file) {
+        Ok(_) => Ok(true),
+        Err(ElfFault::NoMemory) => Err(NoMemory),
+        Err(_) => Ok(false),
+    }
+}
+
+/// The file of a spec whose parts are right by themselves.
+fn lay_out(alloc: Global, spec: &Spec) -> Result<Option<Vec<u8>>, NoMemory>
+    ensures exact { IfOk result (λ laid. IsSome laid ↔ CanLayOut (spec_of spec.now)) }
+    ensures layout { IfOk result (λ laid. IfSome laid (λ file. file.items ≡ made (spec_of spec.now))) }
+{
+    if !parts_fit(spec) {
+        return Ok(None);
+    }
+    let sections = all_sections(alloc, spec)?;
+    if !sections_fit(&sections, &spec.symbols) {
+        return Ok(None);
+    }
+    Ok(Some(file_of(alloc, &sections)?))
+}
+
+/// The file of an object that says what the spec does, as [`make`] makes it; or `None`
+/// of a spec of which no well-formed object can be made.
+///
+/// # Errors
+///
+/// [`NoMemory`] where memory was wanted and not there.
+pub fn build(alloc: Global, spec: &Spec) -> Result<Option<Vec<u8>>, NoMemory>
+    ensures exact { IfOk result (λ built. IsSome built ↔ (CanLayOut (spec_of spec.now) × IsWellFormed (made (spec_of spec.now)))) }
+    ensures layout { IfOk result (λ built. IfSome built (λ file. file.items ≡ made (spec_of spec.now))) }
+{
+    let Some(file) = lay_out(alloc, spec)? else {
+        return Ok(None);
+    };
+    if is_well_formed(alloc, &file)? {
+        Ok(Some(file))
+    } else {
+        Ok(None)
+    }
 }

@@ -86,7 +86,7 @@ fn push_symbol(out: &mut Vec<u8>, name: u32, symbol: &SymSpec) -> Result<(), NoM
 }
 
 /// How many bytes a name takes in the string table.
-fn room_of(name: &[u8]) -> usize
+pub(crate) fn room_of(name: &[u8]) -> usize
     requires { length name.now < 2 ^ 63 }
     ensures { result ≡ length (name_text name.now) }
 {

@@ -1,4 +1,4 @@
-use Rattle.std.proofs.Common.{ap, ◌∙◌, ◌++◌, List, ℕ}
+use Rattle.std.proofs.Common.{ap, ◌∙◌, ◌++◌, ℕ}
 use Rattle.elf_write.specs.Layout.{encoded}
 use Rattle.demo_objects.proofs.Chain.{fourteen}
 use Rattle.demo_objects.proofs.file.push_file_header.Goals as goal

@@ -1,4 +1,4 @@
-use Rattle.std.proofs.Common.{◌≡◌, ℕ, ◌+◌, ◌<◌, ◌≤◌, ◌^◌, List, length, sym, ap, subst, ◌∙◌, arith}
+use Rattle.std.proofs.Common.{◌≡◌, ◌+◌, ◌<◌, ◌^◌, List, length, sym, ap, subst, ◌∙◌, arith}
 use Rattle.std.specs.Prelude.{IfOk}
 use Rattle.std.proofs.lemmas.List.{length-map}
 use Rattle.elf_write.specs.Layout.{NewEntry, new_names}
@@ -13,7 +13,7 @@ use Rattle.demo_objects.proofs.object.make.Goals as goal
 pub all_sections-requires : goal.all_sections-requires
 all_sections-requires c =
     let s = spec_of c.args.spec.now in
-    let can = c.requires in
+    let can = c.requires.laid_out in
     let r = room s can in
     let symbols = length-map c.args.spec.now.symbols.items symbol_of in
     let sections = length-map c.args.spec.now.sections.items entry_of in
@@ -22,16 +22,16 @@ all_sections-requires c =
     record {
       few = omega arith;
       few_symbols = omega arith;
-      bind = λ k d h. (can.symbols k d h).bind;
-      kind = λ k d h. (can.symbols k d h).kind;
+      bind = λ k d h. (can.parts.symbols k d h).bind;
+      kind = λ k d h. (can.parts.symbols k d h).kind;
       fits = r.strings;
-      targets = λ k d h. (let t = (can.relocs k d h).known in omega arith);
+      targets = λ k d h. (let t = (can.parts.relocs k d h).known in omega arith);
     }
 
 pub file_of-requires : goal.file_of-requires
 file_of-requires c =
     let s = spec_of c.args.spec.now in
-    let can = c.requires in
+    let can = c.requires.laid_out in
     let r = room s can in
     let is : entries c.deref.result.now ≡ all_sections s = ap entries c.deref.ensures.value ∙ c.in_ok-sections.ensures in
     let l : length c.deref.result.now ≡ length (entries c.deref.result.now) = sym (length-map c.deref.result.now entry_of) in
