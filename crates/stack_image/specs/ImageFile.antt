@@ -17,7 +17,7 @@ pub record StackImage : Type 0 where
   pub places : List (ℕ × ℕ)
   pub memory : List Piece
 
--- what these lines say, but for those that say nothing that can be read
+-- what those of these lines say that can be read
 abbrev pub sayings : List (List ℕ) → List Said
 sayings lines = filter_map (λ line. result_ok (said line)) lines
 

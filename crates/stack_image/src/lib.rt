@@ -13,3 +13,6 @@ mod statements;
 pub use fault::{ImageFault, ImageWhy};
 pub use image::Image;
 pub use orc_unwind::{Memory, Regs};
+
+#[cfg(test)]
+mod tests;
