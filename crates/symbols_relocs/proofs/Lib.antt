@@ -1,0 +1,6 @@
+mod PlaceOrder
+mod Merging
+mod Least
+mod Listed
+mod Found
+mod Named

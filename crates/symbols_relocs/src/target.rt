@@ -1,0 +1,146 @@
+//! The targets of direct calls and branches.
+
+ghost use Rattle.std.specs.Prelude.{◌≡◌, ◌<◌, length, bytes_eq};
+ghost use Rattle.elf_objects.specs.Contents.{symbol_at};
+ghost use Rattle.object_places.specs.Places.{offset_of};
+ghost use Rattle.symbols_relocs.specs.Places.{is_in_text as is_in_text_of};
+ghost use Rattle.symbols_relocs.specs.Targets.{either as either_at, inside as inside_at, is_branch_kind as is_branch_type, is_indirect_thunk as is_indirect_thunk_name, relative_target as relative_target_of, reloc_target as reloc_target_of, return_thunk, symbol_target as symbol_target_of};
+
+use crate::symbols::section_size;
+use elf_objects::{Home, Object, R_X86_64_PC32, R_X86_64_PLT32, Reloc, STB_WEAK};
+use ot_base::Place;
+
+/// Where a direct call or branch goes.
+#[derive(Clone, Copy, Debug, PartialEq, Eq)]
+pub enum Target {
+    /// To this place of a text section.
+    Inside(Place),
+    /// To this place of a text section, or to another object's definition of the WEAK symbol there, which
+    /// has this number.
+    Either(Place, u32),
+    /// To an undefined symbol, which has this number.
+    Outside(u32),
+    /// To a thunk `__x86_indirect_thunk_..`: on to where a register points.
+    ThunkIndirect,
+    /// To `__x86_return_thunk`: it returns.
+    ThunkReturn,
+    /// To no place of a text section, or by a relocation that isn't one of a branch.
+    Bad,
+}
+
+/// What the names of the thunks that jump to where a register points begin with.
+const INDIRECT_THUNK: &[u8] = b"__x86_indirect_thunk_";
+
+/// The name of the thunk that returns.
+const RETURN_THUNK: &[u8] = b"__x86_return_thunk";
+
+/// Whether a relocation of this type is one of a branch.
+fn is_branch_kind(kind: u32) -> bool
+    ensures { result ≡ is_branch_type kind }
+{
+    kind == R_X86_64_PC32 || kind == R_X86_64_PLT32
+}
+
+/// A number as an offset, where 64 bits hold it.
+fn offset(sum: i128) -> Option<u64>
+    ensures { result ≡ offset_of sum }
+{
+    u64::try_from(sum).ok()
+}
+
+/// Whether a place is in a text section, below its size.
+fn is_in_text(object: &Object<'_>, place: Place) -> bool
+    ensures { result ≡ is_in_text_of object.now place }
+{
+    place.sec < object.sections()
+        && object.is_text(place.sec)
+        && place.off < section_size(object, place.sec)
+}
+
+/// The target at an offset of a section.
+fn inside(object: &Object<'_>, sec: u32, off: Option<u64>) -> Target
+    ensures { result ≡ inside_at object.now sec off }
+{
+    match off {
+        None => Target::Bad,
+        Some(off) => {
+            let place = Place { sec, off };
+            if is_in_text(object, place) {
+                Target::Inside(place)
+            } else {
+                Target::Bad
+            }
+        }
+    }
+}
+
+/// The same of a WEAK symbol.
+fn either(object: &Object<'_>, sym: u32, sec: u32, off: Option<u64>) -> Target
+    ensures { result ≡ either_at object.now sym sec off }
+{
+    match inside(object, sec, off) {
+        Target::Inside(place) => Target::Either(place, sym),
+        _ => Target::Bad,
+    }
+}
+
+/// The target at the symbol of a relocation.
+fn symbol_target(object: &Object<'_>, reloc: Reloc) -> Target
+    requires { reloc.sym < length object.now.symbols }
+    ensures { result ≡ symbol_target_of object.now reloc (symbol_at object.now reloc.sym).home }
+{
+    let symbol = object.symbol(reloc.sym);
+    let sec = match symbol.home {
+        Home::Undefined => return Target::Outside(reloc.sym),
+        Home::Section(sec) => sec,
+        Home::Absolute | Home::Common => return Target::Bad,
+    };
+    let off = offset(i128::from(symbol.value) + i128::from(reloc.addend) + 4);
+    if symbol.bind == STB_WEAK {
+        either(object, reloc.sym, sec, off)
+    } else {
+        inside(object, sec, off)
+    }
+}
+
+/// Whether the name of a symbol is that of a thunk that jumps to where a register points.
+fn is_indirect_thunk(object: &Object<'_>, sym: u32) -> bool
+    requires { sym < length object.now.symbols }
+    ensures { result ≡ is_indirect_thunk_name (symbol_at object.now sym).name }
+{
+    object.symbol_name_begins(sym, INDIRECT_THUNK)
+}
+
+/// Whether the name of a symbol is that of the thunk that returns.
+fn is_return_thunk(object: &Object<'_>, sym: u32) -> bool
+    requires { sym < length object.now.symbols }
+    ensures { result ≡ bytes_eq (symbol_at object.now sym).name return_thunk }
+{
+    object.symbol_is_named(sym, RETURN_THUNK)
+}
+
+/// The target that a relocation on the displacement names.
+pub(crate) fn reloc_target(object: &Object<'_>, reloc: Reloc) -> Target
+    ensures { result ≡ reloc_target_of object.now reloc }
+{
+    if !is_branch_kind(reloc.kind) {
+        Target::Bad
+    } else if reloc.sym >= object.symbols() {
+        // A symbol that isn't there is undefined.
+        Target::Outside(reloc.sym)
+    } else if is_indirect_thunk(object, reloc.sym) {
+        Target::ThunkIndirect
+    } else if is_return_thunk(object, reloc.sym) {
+        Target::ThunkReturn
+    } else {
+        symbol_target(object, reloc)
+    }
+}
+
+/// The target of a displacement without a relocation.
+pub(crate) fn relative_target(object: &Object<'_>, place: Place, len: u8, rel: i32) -> Target
+    ensures { result ≡ relative_target_of object.now place len rel }
+{
+    let off = offset(i128::from(place.off) + i128::from(len) + i128::from(rel));
+    inside(object, place.sec, off)
+}
