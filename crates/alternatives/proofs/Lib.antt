@@ -1,0 +1,9 @@
+pub mod Any
+pub mod Ends
+pub mod Ranges
+pub mod Entries
+pub mod Meets
+pub mod Overlaps
+pub mod Order
+pub mod Groups
+pub mod Whole

@@ -1,0 +1,6 @@
+pub mod Texts
+pub mod Originals
+pub mod Faults
+pub mod FaultText
+pub mod Sites
+pub mod Sorted

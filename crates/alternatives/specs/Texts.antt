@@ -1,0 +1,30 @@
+-- Where the code of an object may be cut: at boundaries, and at the end of a section.
+use Rattle.std.specs.Prelude.{ℕ, ◌+◌, ◌<◌, ◌≤◌, ◌==◌, ◌||◌, ◌&&◌, Bool, List, length, slice_index_or, All, is_some}
+use Rattle.std.specs.List.{list_any}
+use Rattle.ot_base.specs.declared.place.Place.{Place}
+use Rattle.x86_text.specs.Code.{code_of, insn_listed}
+use Rattle.alternatives.specs.declared.texts.SectionText.{SectionText}
+
+-- each section has one text at most, and they ascend by section
+abbrev pub AscendBySection : List SectionText → Type 0
+AscendBySection texts = (i j : ℕ) (d : SectionText) → i < j → j < length texts → (slice_index_or texts i d).sec < (slice_index_or texts j d).sec
+
+-- no text is longer than one that is read
+abbrev pub AreShort : List SectionText → Type 0
+AreShort texts = All (λ t. length t.text ≤ 16777216) texts
+
+-- an instruction of a body of code begins at the offset, or the body ends there
+abbrev pub is_cut_of : List ℕ → ℕ → Bool
+is_cut_of body off = off == length body || is_some (insn_listed (code_of body) off)
+
+-- a place is a boundary of a text section, or that section's size
+abbrev pub is_cut : List SectionText → Place → Bool
+is_cut texts place = list_any (λ t. t.sec == place.sec && is_cut_of t.text place.off) texts
+
+-- the place so many bytes behind another
+abbrev pub behind : Place → ℕ → Place
+behind place n = record { sec = place.sec; off = place.off + n }
+
+-- so many bytes from a place on begin and end at such places
+abbrev pub is_whole : List SectionText → Place → ℕ → Bool
+is_whole texts place len = is_cut texts place && is_cut texts (behind place len)

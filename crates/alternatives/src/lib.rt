@@ -1,0 +1,17 @@
+//! Alternatives: the sites of an object's code that may be patched over, and the replacements that they
+//! may be patched with (Linux 6.6, `struct alt_instr`).
+#![tactic(auto)]
+
+mod check;
+mod fault;
+mod original;
+mod overlap;
+mod site;
+mod sites;
+mod texts;
+
+pub use fault::{SiteFault, SiteWhy};
+pub use site::Site;
+pub use sites::Sites;
+pub use special_sections::AltEntry;
+pub use texts::SectionText;

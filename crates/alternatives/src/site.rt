@@ -1,0 +1,111 @@
+//! Sites: the places of code that may be patched over.
+
+ghost use Rattle.std.specs.Prelude.{◌≡◌, ◌+◌, ◌<◌, ◌≤◌, ◌^◌, ℕ, true, false, length, slice_index_or, IfOk, All, MatchOption};
+ghost use Rattle.special_sections.specs.Hints.{is_place};
+ghost use Rattle.alternatives.specs.declared.original.Original.{Original};
+ghost use Rattle.alternatives.specs.declared.site.Site.{Site};
+ghost use Rattle.alternatives.specs.Sites.{holds as site_holds, is_before as is_lower, AscendApart};
+ghost use Rattle.alternatives.specs.Sorted.{AreByPlace, NoneMeet, GroupsOf};
+
+use crate::original::Original;
+use ot_base::{NoMemory, Place};
+use std::alloc::Global;
+
+/// A place of code that may be patched over by any one of its replacements, or stay.
+#[derive(Clone, Copy, Debug, PartialEq, Eq)]
+pub struct Site {
+    /// Where it begins.
+    pub start: Place,
+    /// Its length in bytes, not 0.
+    pub len: u8,
+    /// Where its entries begin among [`crate::Sites::entry_numbers`].
+    pub first: u32,
+    /// How many entries it has, not 0.
+    pub count: u32,
+}
+
+/// The end of those originals, from one on, that begin where that one does.
+fn end_of_site(originals: &[Original], first: usize) -> usize
+    requires { first < length originals.now }
+    ensures behind { first < result }
+    ensures within { result ≤ length originals.now }
+    ensures alike { (k : ℕ) (d : Original) → first ≤ k → k < result → is_place (slice_index_or originals.now k d).place (slice_index_or originals.now first d).place ≡ true }
+    ensures other { result < length originals.now → (d : Original) → is_place (slice_index_or originals.now result d).place (slice_index_or originals.now first d).place ≡ false }
+{
+    let place = originals[first].place;
+    for end in first + 1..originals.len() {
+        if originals[end].place != place {
+            return end;
+        }
+    }
+    originals.len()
+}
+
+/// The sites of sorted originals of which no two meet.
+pub(crate) fn group_sites(alloc: Global, originals: &[Original]) -> Result<Vec<Site>, NoMemory>
+    requires few { length originals.now < 2 ^ 32 }
+    requires sorted { AreByPlace originals.now }
+    requires apart { NoneMeet originals.now }
+    requires some { All (λ o. 0 < o.len) originals.now }
+    ensures { IfOk result (λ sites. GroupsOf originals.now sites.items (length originals.now)) }
+{
+    let mut sites = Vec::new(alloc);
+    let mut first = 0usize;
+    while first < originals.len() {
+        let end = end_of_site(originals, first);
+        let original = originals[first];
+        sites.push(Site {
+            start: original.place,
+            len: original.len,
+            first: first as u32,
+            count: (end - first) as u32,
+        })?;
+        first = end;
+    }
+    Ok(sites)
+}
+
+/// Whether a place is in an earlier section, or in the same one at a lower offset.
+fn is_before(place: Place, other: Place) -> bool
+    ensures { result ≡ is_lower place other }
+{
+    place.sec < other.sec || place.sec == other.sec && place.off < other.off
+}
+
+/// Whether a place lies in a site.
+fn holds(site: &Site, place: Place) -> bool
+    ensures { result ≡ site_holds site.now place }
+{
+    let start = site.start;
+    start.sec == place.sec
+        && start.off <= place.off
+        && u128::from(place.off) < u128::from(start.off) + u128::from(site.len)
+}
+
+/// How many of these begin at a place or before it.
+fn count_to(sites: &[Site], place: Place) -> usize
+    requires { AscendApart sites.now }
+    ensures within { result ≤ length sites.now }
+    ensures from { (k : ℕ) (d : Site) → k < result → is_lower place (slice_index_or sites.now k d).start ≡ false }
+    ensures behind { (k : ℕ) (d : Site) → result ≤ k → k < length sites.now → is_lower place (slice_index_or sites.now k d).start ≡ true }
+{
+    sites.partition_point(|site| !is_before(place, site.start))
+}
+
+/// The number of the site that holds a place.
+pub(crate) fn find_site(sites: &[Site], place: Place) -> Option<u32>
+    requires few { length sites.now < 2 ^ 32 }
+    requires apart { AscendApart sites.now }
+    ensures { MatchOption result ((k : ℕ) (d : Site) → k < length sites.now → site_holds (slice_index_or sites.now k d) place ≡ false) (λ i. (i < length sites.now) × ((d : Site) → site_holds (slice_index_or sites.now i d) place ≡ true)) }
+{
+    let count = count_to(sites, place);
+    if count == 0 {
+        return None;
+    }
+    let last = count - 1;
+    if holds(&sites[last], place) {
+        Some(last as u32)
+    } else {
+        None
+    }
+}
