@@ -1,6 +1,7 @@
 -- The file header, Elf64_Ehdr, and the section header table that it names.
 use Rattle.std.specs.Prelude.{◌≡◌, ◌≢◌, ◌⊎◌, ◌<◌, ◌≤◌, ◌+◌, ◌*◌, ◌^◌, ◌-◌, min, ℕ, ◌==◌, not, List, [], ◌∷◌, length, slice_index, Option, Some, None, if◌then◌else◌}
 use Rattle.std.specs.List.{find}
+use Rattle.elf_objects.specs.declared.TheConstants.{MAX_SECTIONS}
 use Rattle.elf_objects.specs.declared.header.SectionHeader.{SectionHeader}
 use Rattle.elf_objects.specs.declared.fault.Counted.TheVariants.{Sections}
 use Rattle.elf_objects.specs.declared.fault.ElfFault.{ElfFault}
@@ -72,7 +73,7 @@ pub record HasCounts (b : List ℕ) : Type 0 where
 
 -- there are not too many
 abbrev pub HasFewSections : List ℕ → Type 0
-HasFewSections b = section_count b ≤ 262144
+HasFewSections b = section_count b ≤ MAX_SECTIONS
 
 -- the section header table lies in the file
 abbrev pub HoldsHeaders : List ℕ → Type 0

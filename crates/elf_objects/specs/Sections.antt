@@ -1,6 +1,7 @@
 -- What must hold of each section of an object, and the fault where it does not.
 use Rattle.std.specs.Prelude.{◌≡◌, ◌≢◌, ◌<◌, ◌≤◌, ◌+◌, ◌/◌, ◌%◌, ◌-◌, ℕ, List, length, slice_index, Option, Some, None, IsTrue, bit_and, map, if◌then◌else◌}
 use Rattle.std.specs.List.{range_with_len, sum_by}
+use Rattle.elf_objects.specs.declared.TheConstants.{MAX_TEXT_BYTES}
 use Rattle.elf_objects.specs.declared.header.SectionHeader.{SectionHeader}
 use Rattle.elf_objects.specs.declared.fault.NameOf.TheVariants as named
 use Rattle.elf_objects.specs.declared.fault.ElfFault.{ElfFault}
@@ -153,7 +154,7 @@ unfoldable pub text_bytes : List ℕ → ℕ
 text_bytes b = sum_by text_size (map (section_header b) (range_with_len 0 (section_count b)))
 
 abbrev pub HasLittleText : List ℕ → Type 0
-HasLittleText b = text_bytes b ≤ 16777216
+HasLittleText b = text_bytes b ≤ MAX_TEXT_BYTES
 
 pub record IsMuchText (b : List ℕ) (e : ElfFault) : Type 0 where
   pub fails : ¬ HasLittleText b

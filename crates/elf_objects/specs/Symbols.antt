@@ -1,5 +1,6 @@
 -- What must hold of each symbol and each relocation, and the fault where it does not.
 use Rattle.std.specs.Prelude.{◌≡◌, ◌↔◌, ◌<◌, ◌≤◌, ◌+◌, ◌/◌, ◌==◌, ◌||◌, ℕ, Bool, List, IsTrue, if◌then◌else◌}
+use Rattle.elf_objects.specs.declared.TheConstants.{MAX_SYMBOLS}
 use Rattle.elf_objects.specs.declared.fault.NameOf.TheVariants as named
 use Rattle.elf_objects.specs.declared.fault.ElfFault.{ElfFault}
 use Rattle.elf_objects.specs.declared.fault.ElfFault.TheVariants.{BadName, BadSymbol, BadReloc, TooMany}
@@ -12,7 +13,7 @@ use Rattle.elf_objects.specs.Table.{index_entry, index_table, raw_symbol, reloc_
 use Rattle.std.specs.Prelude.{IsSome}
 
 abbrev pub HasFewSymbols : List ℕ → Type 0
-HasFewSymbols b = symbol_count b ≤ 4194304
+HasFewSymbols b = symbol_count b ≤ MAX_SYMBOLS
 
 pub record AreManySymbols (b : List ℕ) (e : ElfFault) : Type 0 where
   pub fails : ¬ HasFewSymbols b

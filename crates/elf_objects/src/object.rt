@@ -17,6 +17,7 @@ use crate::slices::slice_body;
 use crate::strings::{tail, text_begins, text_is, text_of};
 use crate::symbol::{Reloc, Symbol};
 use crate::symbols::{Symbols, find_home};
+use crate::{MAX_SECTIONS, MAX_SYMBOLS};
 use ot_base::Names;
 use std::alloc::Global;
 use std::marker::Model;
@@ -124,7 +125,7 @@ impl<'a> Object<'a> {
     /// How many sections there are, that with the index 0 among them.
     pub fn sections(&self) -> u32
         ensures value { result ≡ length self.now.sections }
-        ensures few { result ≤ 262144 }
+        ensures few { result ≤ MAX_SECTIONS }
         ensures object { IsObject self.now.bytes self.now }
     {
         self.symbols.headers.count
@@ -206,7 +207,7 @@ impl<'a> Object<'a> {
     /// How many symbols there are, the null symbol with the index 0 among them.
     pub fn symbols(&self) -> u32
         ensures value { result ≡ length self.now.symbols }
-        ensures few { result ≤ 4194304 }
+        ensures few { result ≤ MAX_SYMBOLS }
         ensures object { IsObject self.now.bytes self.now }
     {
         self.symbol_count
