@@ -8,7 +8,7 @@ use Rattle.std.proofs.lemmas.Bool.Decides.{nat_tests, eqb_tells}
 use Rattle.std.proofs.Math.ListN.{length-set}
 use Rattle.std.proofs.lemmas.List.{length-replicate, get_or-replicate}
 use Rattle.elf_objects.specs.Header.{has_body}
-use Rattle.elf_objects.specs.Kind.{sht_rela, sht_symtab, sht_symtab_shndx}
+use Rattle.elf_objects.specs.declared.TheConstants.{SHT_RELA, SHT_SYMTAB, SHT_SYMTAB_SHNDX}
 use Rattle.elf_objects.specs.Sections.{IsFirstOfKind, IsFirstRelaOf}
 use Rattle.elf_objects.specs.Table.{is_kind, is_rela_of}
 use Rattle.elf_objects.proofs.LeastBelow.{least_below-none, least_below-zero, least_below-some, least_below-step, none-least_below, first_of-none}
@@ -63,15 +63,15 @@ AreLeast-none p size n found size_is e = record {
 }
 
 -- a section without relocations has those of none, and one with relocations has those of its sh_info
-pub is_rela_of-other : (b : List ℕ) (i : ℕ) → (section_header b i).kind ≢ sht_rela → (s : ℕ) → false ≡ is_rela_of b s i
-is_rela_of-other b i ne s = let kind = ne_eqb (section_header b i).kind sht_rela ne in rw kind refl
+pub is_rela_of-other : (b : List ℕ) (i : ℕ) → (section_header b i).kind ≢ SHT_RELA → (s : ℕ) → false ≡ is_rela_of b s i
+is_rela_of-other b i ne s = let kind = ne_eqb (section_header b i).kind SHT_RELA ne in rw kind refl
 
-pub is_rela_of-rela : (b : List ℕ) (i t : ℕ) → (section_header b i).kind ≡ sht_rela → (section_header b i).info ≡ t → (s : ℕ) → eqb t s ≡ is_rela_of b s i
-is_rela_of-rela b i t is info s = let kind = eq-eqb (section_header b i).kind sht_rela is in rw (kind, info) refl
+pub is_rela_of-rela : (b : List ℕ) (i t : ℕ) → (section_header b i).kind ≡ SHT_RELA → (section_header b i).info ≡ t → (s : ℕ) → eqb t s ≡ is_rela_of b s i
+is_rela_of-rela b i t is info s = let kind = eq-eqb (section_header b i).kind SHT_RELA is in rw (kind, info) refl
 
 -- a symbol table has a body, and so has a table of section numbers
-pub symtab-has_body : (b : List ℕ) (i : ℕ) → is_kind b sht_symtab i ≡ true → has_body (section_header b i) ≡ true
+pub symtab-has_body : (b : List ℕ) (i : ℕ) → is_kind b SHT_SYMTAB i ≡ true → has_body (section_header b i) ≡ true
 symtab-has_body b i e = grind (arith, nat_tests)
 
-pub symtab_shndx-has_body : (b : List ℕ) (i : ℕ) → is_kind b sht_symtab_shndx i ≡ true → has_body (section_header b i) ≡ true
+pub symtab_shndx-has_body : (b : List ℕ) (i : ℕ) → is_kind b SHT_SYMTAB_SHNDX i ≡ true → has_body (section_header b i) ≡ true
 symtab_shndx-has_body b i e = grind (arith, nat_tests)

@@ -3,7 +3,7 @@ use Rattle.std.proofs.Common.{◌≡◌, ◌<◌, ◌/◌, ℕ, List, Option, So
 use Rattle.std.proofs.lemmas.Bool.{eqb-true}
 use Rattle.elf_objects.specs.Below.{AllBelow}
 use Rattle.elf_objects.specs.File.{section_count, section_header}
-use Rattle.elf_objects.specs.Kind.{sht_symtab, sht_symtab_shndx}
+use Rattle.elf_objects.specs.declared.TheConstants.{SHT_SYMTAB, SHT_SYMTAB_SHNDX}
 use Rattle.elf_objects.specs.Sections.{HasLinks}
 use Rattle.elf_objects.specs.Table.{header_of, index_table, is_kind, symbol_count, symbol_table}
 use Rattle.elf_objects.proofs.LeastBelow.{least_below-some}
@@ -13,12 +13,12 @@ pub strings-exist : (b : List ℕ) (o : Option ℕ) → 0 < section_count b → 
 unfolding header_of
 strings-exist b None some links e = some
 strings-exist b (Some t) some links e =
-    let found = least_below-some (is_kind b sht_symtab) (section_count b) t e in
-    ((links t found.below).symbols (eqb-true (section_header b t).kind sht_symtab found.passes)).strings.0
+    let found = least_below-some (is_kind b SHT_SYMTAB) (section_count b) t e in
+    ((links t found.below).symbols (eqb-true (section_header b t).kind SHT_SYMTAB found.passes)).strings.0
 
 -- the table of section numbers has one for each symbol
 pub indices-count : (b : List ℕ) (t : ℕ) → AllBelow (HasLinks b) (section_count b) → index_table b ≡ Some t → (header_of b (Some t)).size / 4 ≡ symbol_count b
 unfolding header_of
 indices-count b t links e =
-    let found = least_below-some (is_kind b sht_symtab_shndx) (section_count b) t e in
-    ((links t found.below).indices (eqb-true (section_header b t).kind sht_symtab_shndx found.passes)).entries
+    let found = least_below-some (is_kind b SHT_SYMTAB_SHNDX) (section_count b) t e in
+    ((links t found.below).indices (eqb-true (section_header b t).kind SHT_SYMTAB_SHNDX found.passes)).entries

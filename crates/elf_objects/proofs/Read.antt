@@ -12,7 +12,7 @@ use Rattle.elf_objects.specs.Elf.{Elf, SectionEntry}
 use Rattle.elf_objects.specs.File.{name_table, section_count, section_header}
 use Rattle.elf_objects.specs.declared.header.SectionHeader.{SectionHeader}
 use Rattle.elf_objects.specs.Header.{has_body}
-use Rattle.elf_objects.specs.Kind.{sht_null, sht_nobits, sht_strtab, sht_symtab}
+use Rattle.elf_objects.specs.declared.TheConstants.{SHT_NULL, SHT_NOBITS, SHT_STRTAB, SHT_SYMTAB}
 use Rattle.elf_objects.specs.Lent.{IsSlice}
 use Rattle.elf_objects.specs.Object.{IsWellFormed}
 use Rattle.elf_objects.specs.Sections.{IsPlaced, NamesStrings}
@@ -43,7 +43,7 @@ unfolding body_of
 length-body_of b h body placed = let inside = placed.inside body in rw body (slice_range-length b h.offset h.size inside)
 
 -- a string table has a body
-strtab-has_body : (h : SectionHeader) → h.kind ≡ sht_strtab → has_body h ≡ true
+strtab-has_body : (h : SectionHeader) → h.kind ≡ SHT_STRTAB → has_body h ≡ true
 strtab-has_body h e = grind (arith, nat_tests)
 
 pub length-names : (b : List ℕ) → IsWellFormed b → length (body_of b (name_header b)) ≡ (name_header b).size
@@ -55,8 +55,8 @@ strings-are : (b : List ℕ) (o : Option ℕ) → IsWellFormed b → 0 < (header
 unfolding header_of
 strings-are b None well some e = absurd (omega arith)
 strings-are b (Some t) well some e =
-    let found = least_below-some (is_kind b sht_symtab) (section_count b) t e in
-    ((well.links t found.below).symbols (eqb-true (section_header b t).kind sht_symtab found.passes)).strings
+    let found = least_below-some (is_kind b SHT_SYMTAB) (section_count b) t e in
+    ((well.links t found.below).symbols (eqb-true (section_header b t).kind SHT_SYMTAB found.passes)).strings
 
 pub strings-placed : (b : List ℕ) (k : ℕ) → IsWellFormed b → k < symbol_count b → IsPlaced (length b) (string_header b)
 unfolding symbol_count
@@ -71,7 +71,7 @@ length-strings b k well known =
     length-body_of b (string_header b) (strtab-has_body (string_header b) are.1) (well.bodies _ are.0).placed
 
 -- the body that is lent is the section's bytes
-body-bytes : (b : List ℕ) (h : SectionHeader) → h.kind ≢ sht_null → h.kind ≢ sht_nobits → has_body h ≡ true
+body-bytes : (b : List ℕ) (h : SectionHeader) → h.kind ≢ SHT_NULL → h.kind ≢ SHT_NOBITS → has_body h ≡ true
 body-bytes b h null nobits = grind (arith, nat_tests)
 
 pub IsSlice-body : (b : List ℕ) (h : SectionHeader) (s : SectionEntry) → s.kind ≡ h.kind → s.offset ≡ h.offset → s.size ≡ h.size → s.body ≡ body_of b h → IsPlaced (length b) h → IsSlice b s
@@ -79,8 +79,8 @@ unfolding body_of
 IsSlice-body b h s kind offset size body placed = record {
   inside = λ null nobits. (let inside = placed.inside (body-bytes b h (λ e. null (kind ∙ e)) (λ e. nobits (kind ∙ e))) in rw (offset, size) inside);
   body = λ null nobits. (let has = body-bytes b h (λ e. null (kind ∙ e)) (λ e. nobits (kind ∙ e)) in rw (offset, size, body, has) refl);
-  null = λ e. (let k : h.kind ≡ sht_null = sym kind ∙ e in rw (body, k) refl);
-  nobits = λ e. (let k : h.kind ≡ sht_nobits = sym kind ∙ e in rw (body, k) refl);
+  null = λ e. (let k : h.kind ≡ SHT_NULL = sym kind ∙ e in rw (body, k) refl);
+  nobits = λ e. (let k : h.kind ≡ SHT_NOBITS = sym kind ∙ e in rw (body, k) refl);
 }
 
 -- and so is that of the section with an index

@@ -9,7 +9,7 @@ use Rattle.elf_objects.specs.declared.symbol.RawSymbol.{RawSymbol}
 use Rattle.elf_objects.specs.Below.{least_below}
 use Rattle.elf_objects.specs.Elf.{Elf, SectionEntry, SymbolEntry}
 use Rattle.elf_objects.specs.File.{headers_at, section_count, section_header, name_table}
-use Rattle.elf_objects.specs.Kind.{sht_progbits, shf_execinstr, stt_section}
+use Rattle.elf_objects.specs.declared.TheConstants.{SHT_PROGBITS, SHF_EXECINSTR, STT_SECTION}
 use Rattle.elf_objects.specs.Table.{body_of, header_of, name_header, raw_symbol, rela_of, reloc_of, string_at, string_header, symbol_count, symbol_home, symbol_table}
 
 abbrev pub entry_of_header : List ℕ → SectionHeader → SectionEntry
@@ -101,7 +101,7 @@ relocs_at o i = get_or o.relocs i []
 
 -- a text section has code: SHT_PROGBITS with SHF_EXECINSTR
 abbrev pub is_text : SectionEntry → Bool
-is_text s = (s.kind == sht_progbits) && not (bit_and s.flags shf_execinstr == 0)
+is_text s = (s.kind == SHT_PROGBITS) && not (bit_and s.flags SHF_EXECINSTR == 0)
 
 -- the symbol is defined in the section
 abbrev pub is_home : ℕ → Home → Bool
@@ -112,7 +112,7 @@ is_home i homes.Common = false
 
 -- the symbol stands for the section: its type is STT_SECTION, and it is defined at the beginning of the section
 abbrev pub stands_for : ℕ → SymbolEntry → Bool
-stands_for i s = (s.kind == stt_section) && (s.value == 0) && is_home i s.home
+stands_for i s = (s.kind == STT_SECTION) && (s.value == 0) && is_home i s.home
 
 -- the first symbol that stands for a section
 abbrev pub section_symbol_of : Elf → ℕ → Option ℕ

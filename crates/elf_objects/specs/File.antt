@@ -7,7 +7,7 @@ use Rattle.elf_objects.specs.declared.fault.Counted.TheVariants.{Sections}
 use Rattle.elf_objects.specs.declared.fault.ElfFault.{ElfFault}
 use Rattle.elf_objects.specs.declared.fault.ElfFault.TheVariants.{Short, NotElfRel64, BadTable, TooMany}
 use Rattle.elf_objects.specs.Header.{header_at}
-use Rattle.elf_objects.specs.Kind.{shn_loreserve, shn_xindex}
+use Rattle.elf_objects.specs.declared.TheConstants.{SHN_LORESERVE, SHN_XINDEX}
 use Rattle.elf_objects.specs.Number.{half, word, xword}
 
 -- a field of the file header: its offset, what stands there, and what must stand there
@@ -36,7 +36,7 @@ shstrndx b = half b 62
 
 -- a number that does not fit its field of the file header stands in the header of section 0
 abbrev pub IsExtended : List ℕ → Type 0
-IsExtended b = (shnum b ≡ 0) ⊎ (shstrndx b ≡ shn_xindex)
+IsExtended b = (shnum b ≡ 0) ⊎ (shstrndx b ≡ SHN_XINDEX)
 
 -- how many section headers there are
 unfoldable pub section_count : List ℕ → ℕ
@@ -44,7 +44,7 @@ section_count b = if shnum b == 0 then (header_at b (headers_at b)).size else sh
 
 -- the index of the table of section names
 unfoldable pub name_table : List ℕ → ℕ
-name_table b = if shstrndx b == shn_xindex then (header_at b (headers_at b)).link else shstrndx b
+name_table b = if shstrndx b == SHN_XINDEX then (header_at b (headers_at b)).link else shstrndx b
 
 -- the header of a section
 unfoldable pub section_header : List ℕ → ℕ → SectionHeader
@@ -68,7 +68,7 @@ pub record HasFirstHeader (b : List ℕ) : Type 0 where
 -- there are sections, and one of them is the table of their names
 pub record HasCounts (b : List ℕ) : Type 0 where
   pub some : section_count b ≢ 0
-  pub plain : shn_loreserve ≤ shstrndx b → shstrndx b ≡ shn_xindex
+  pub plain : SHN_LORESERVE ≤ shstrndx b → shstrndx b ≡ SHN_XINDEX
   pub names : name_table b < section_count b
 
 -- there are not too many

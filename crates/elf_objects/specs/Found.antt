@@ -3,14 +3,14 @@ use Rattle.std.specs.Prelude.{◌≡◌, ◌<◌, ℕ, Bool, List, Option, None,
 use Rattle.elf_objects.specs.declared.forms.Tables.{Tables}
 use Rattle.elf_objects.specs.Below.{least_below}
 use Rattle.elf_objects.specs.Contents.{stands_for, symbol_entry}
-use Rattle.elf_objects.specs.Kind.{sht_symtab, sht_symtab_shndx}
+use Rattle.elf_objects.specs.declared.TheConstants.{SHT_SYMTAB, SHT_SYMTAB_SHNDX}
 use Rattle.elf_objects.specs.File.{section_count}
 use Rattle.elf_objects.specs.Table.{is_kind, is_rela_of}
 
 -- the tables that are among the first n sections
 pub record AreTables (b : List ℕ) (n : ℕ) (t : Tables) : Type 0 where
-  pub symbols : t.symbols ≡ least_below (is_kind b sht_symtab) n
-  pub indices : t.indices ≡ least_below (is_kind b sht_symtab_shndx) n
+  pub symbols : t.symbols ≡ least_below (is_kind b SHT_SYMTAB) n
+  pub indices : t.indices ≡ least_below (is_kind b SHT_SYMTAB_SHNDX) n
 
 -- for each number below size, the least number below n that passes its test
 pub record AreLeast (p : ℕ → ℕ → Bool) (size n : ℕ) (found : List (Option ℕ)) : Type 0 where

@@ -1,7 +1,7 @@
 -- Section headers, Elf64_Shdr.
 use Rattle.std.specs.Prelude.{ℕ, ◌+◌, ◌==◌, ◌&&◌, not, Bool, List, bit_and}
 use Rattle.elf_objects.specs.declared.header.SectionHeader.{SectionHeader}
-use Rattle.elf_objects.specs.Kind.{sht_null, sht_progbits, sht_nobits, shf_execinstr}
+use Rattle.elf_objects.specs.declared.TheConstants.{SHT_NULL, SHT_PROGBITS, SHT_NOBITS, SHF_EXECINSTR}
 use Rattle.elf_objects.specs.Number.{word, xword}
 
 -- the header in the 64 bytes from an offset
@@ -36,8 +36,8 @@ null_header = record {
 
 -- the section has a body in the file
 abbrev pub has_body : SectionHeader → Bool
-has_body h = not (h.kind == sht_null) && not (h.kind == sht_nobits)
+has_body h = not (h.kind == SHT_NULL) && not (h.kind == SHT_NOBITS)
 
 -- a text section has code: SHT_PROGBITS with SHF_EXECINSTR
 abbrev pub is_text_header : SectionHeader → Bool
-is_text_header h = (h.kind == sht_progbits) && not (bit_and h.flags shf_execinstr == 0)
+is_text_header h = (h.kind == SHT_PROGBITS) && not (bit_and h.flags SHF_EXECINSTR == 0)

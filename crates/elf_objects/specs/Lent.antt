@@ -3,7 +3,7 @@ use Rattle.std.specs.Prelude.{◌≡◌, ◌≢◌, ◌≤◌, ◌+◌, ℕ, Lis
 use Rattle.elf_objects.specs.declared.section.Section.{Section}
 use Rattle.elf_objects.specs.declared.symbol.Symbol.{Symbol}
 use Rattle.elf_objects.specs.Elf.{SectionEntry, SymbolEntry}
-use Rattle.elf_objects.specs.Kind.{sht_null, sht_nobits}
+use Rattle.elf_objects.specs.declared.TheConstants.{SHT_NULL, SHT_NOBITS}
 
 -- a section that is lent, with its name
 abbrev pub lent_section : List ℕ → Section → SectionEntry
@@ -35,7 +35,7 @@ lent_symbol name s = record {
 
 -- the body of a section is its bytes of the file, unless its type has none there
 pub record IsSlice (bytes : List ℕ) (s : SectionEntry) : Type 0 where
-  pub inside : s.kind ≢ sht_null → s.kind ≢ sht_nobits → s.offset + s.size ≤ length bytes
-  pub body : s.kind ≢ sht_null → s.kind ≢ sht_nobits → s.body ≡ slice_range bytes s.offset (s.offset + s.size)
-  pub null : s.kind ≡ sht_null → s.body ≡ []
-  pub nobits : s.kind ≡ sht_nobits → s.body ≡ []
+  pub inside : s.kind ≢ SHT_NULL → s.kind ≢ SHT_NOBITS → s.offset + s.size ≤ length bytes
+  pub body : s.kind ≢ SHT_NULL → s.kind ≢ SHT_NOBITS → s.body ≡ slice_range bytes s.offset (s.offset + s.size)
+  pub null : s.kind ≡ SHT_NULL → s.body ≡ []
+  pub nobits : s.kind ≡ SHT_NOBITS → s.body ≡ []

@@ -1,7 +1,6 @@
 pub mod Number
 pub mod Strings
 pub mod Below
-pub mod Kind
 pub mod Header
 pub mod File
 pub mod Elf

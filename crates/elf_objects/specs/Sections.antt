@@ -10,7 +10,7 @@ use Rattle.elf_objects.specs.declared.fault.Counted.TheVariants.{TextBytes}
 use Rattle.elf_objects.specs.Below.{AllBelow}
 use Rattle.elf_objects.specs.File.{name_table, section_count, section_header}
 use Rattle.elf_objects.specs.Header.{has_body, is_text_header}
-use Rattle.elf_objects.specs.Kind.{sht_null, sht_symtab, sht_strtab, sht_rela, sht_rel, sht_group, sht_symtab_shndx, shf_compressed}
+use Rattle.elf_objects.specs.declared.TheConstants.{SHT_NULL, SHT_SYMTAB, SHT_STRTAB, SHT_RELA, SHT_REL, SHT_GROUP, SHT_SYMTAB_SHNDX, SHF_COMPRESSED}
 use Rattle.elf_objects.specs.Table.{name_header, symbol_count, symbol_table}
 
 -- a byte of the file belongs to the body of a section
@@ -32,20 +32,20 @@ pub record IsPlaced (n : ℕ) (h : SectionHeader) : Type 0 where
 
 -- Section 0 is that of no section. A body lies in the file, and that of relocations shares no byte with another.
 pub record HasBody (b : List ℕ) (i : ℕ) : Type 0 where
-  pub null : i ≡ 0 → (section_header b i).kind ≡ sht_null
+  pub null : i ≡ 0 → (section_header b i).kind ≡ SHT_NULL
   pub placed : IsPlaced (length b) (section_header b i)
-  pub alone : (section_header b i).kind ≡ sht_rela → IsAlone b i
+  pub alone : (section_header b i).kind ≡ SHT_RELA → IsAlone b i
 
 pub data BodyFault (b : List ℕ) (i : ℕ) (e : ElfFault) : Type 0 where
-  first_not_null : i ≡ 0 → (section_header b i).kind ≢ sht_null → e ≡ BadTable 0 → BodyFault b i e
-  bad_range : (i ≡ 0 → (section_header b i).kind ≡ sht_null) → ¬ HasBody b i → e ≡ BadRange i → BodyFault b i e
+  first_not_null : i ≡ 0 → (section_header b i).kind ≢ SHT_NULL → e ≡ BadTable 0 → BodyFault b i e
+  bad_range : (i ≡ 0 → (section_header b i).kind ≡ SHT_NULL) → ¬ HasBody b i → e ≡ BadRange i → BodyFault b i e
 
 -- A table has entries of the size that its type gives, and a whole number of them.
 abbrev pub HasEntries : SectionHeader → ℕ → Type 0
 HasEntries h n = (h.entsize ≡ n) × (h.size % n ≡ 0)
 
 abbrev pub IsPlain : SectionHeader → Type 0
-IsPlain h = bit_and h.flags shf_compressed ≡ 0
+IsPlain h = bit_and h.flags SHF_COMPRESSED ≡ 0
 
 -- no section before this one has that type
 abbrev pub IsFirstOfKind : List ℕ → ℕ → ℕ → Type 0
@@ -53,12 +53,12 @@ IsFirstOfKind b kind i = AllBelow (λ k. (section_header b k).kind ≢ kind) i
 
 pub record IsSymbolTable (b : List ℕ) (i : ℕ) : Type 0 where
   pub entries : HasEntries (section_header b i) 24
-  pub only : IsFirstOfKind b sht_symtab i
+  pub only : IsFirstOfKind b SHT_SYMTAB i
   pub plain : IsPlain (section_header b i)
 
 pub record IsIndexTable (b : List ℕ) (i : ℕ) : Type 0 where
   pub entries : HasEntries (section_header b i) 4
-  pub only : IsFirstOfKind b sht_symtab_shndx i
+  pub only : IsFirstOfKind b SHT_SYMTAB_SHNDX i
   pub plain : IsPlain (section_header b i)
 
 pub record IsRelocTable (h : SectionHeader) : Type 0 where
@@ -73,17 +73,17 @@ pub record IsStringTable (b : List ℕ) (h : SectionHeader) : Type 0 where
 
 -- The header of a section is as its type asks for.
 pub record HasKindForm (b : List ℕ) (i : ℕ) : Type 0 where
-  pub symbols : (section_header b i).kind ≡ sht_symtab → IsSymbolTable b i
-  pub indices : (section_header b i).kind ≡ sht_symtab_shndx → IsIndexTable b i
-  pub relocs : (section_header b i).kind ≡ sht_rela → IsRelocTable (section_header b i)
-  pub strings : (section_header b i).kind ≡ sht_strtab → IsStringTable b (section_header b i)
-  pub no_rel : (section_header b i).kind ≢ sht_rel
+  pub symbols : (section_header b i).kind ≡ SHT_SYMTAB → IsSymbolTable b i
+  pub indices : (section_header b i).kind ≡ SHT_SYMTAB_SHNDX → IsIndexTable b i
+  pub relocs : (section_header b i).kind ≡ SHT_RELA → IsRelocTable (section_header b i)
+  pub strings : (section_header b i).kind ≡ SHT_STRTAB → IsStringTable b (section_header b i)
+  pub no_rel : (section_header b i).kind ≢ SHT_REL
   pub text : IsTrue (is_text_header (section_header b i)) → IsPlain (section_header b i)
 
 -- And the table of section names is a string table.
 pub record HasForm (b : List ℕ) (i : ℕ) : Type 0 where
   pub form : HasKindForm b i
-  pub names : i ≡ name_table b → (section_header b i).kind ≡ sht_strtab
+  pub names : i ≡ name_table b → (section_header b i).kind ≡ SHT_STRTAB
 
 pub record FormFault (b : List ℕ) (i : ℕ) (e : ElfFault) : Type 0 where
   pub fails : ¬ HasForm b i
@@ -91,7 +91,7 @@ pub record FormFault (b : List ℕ) (i : ℕ) (e : ElfFault) : Type 0 where
 
 -- the index is that of a string table
 abbrev pub NamesStrings : List ℕ → ℕ → Type 0
-NamesStrings b i = (i < section_count b) × ((section_header b i).kind ≡ sht_strtab)
+NamesStrings b i = (i < section_count b) × ((section_header b i).kind ≡ SHT_STRTAB)
 
 -- sh_info of a symbol table: from 1 to the number of symbols, and 0 where there are none
 pub record IsBoundary (count info : ℕ) : Type 0 where
@@ -101,7 +101,7 @@ pub record IsBoundary (count info : ℕ) : Type 0 where
 
 -- the relocations are of a section that no section of relocations before has
 abbrev pub IsFirstRelaOf : List ℕ → ℕ → ℕ → Type 0
-IsFirstRelaOf b s i = AllBelow (λ k. (section_header b k).kind ≡ sht_rela → (section_header b k).info ≢ s) i
+IsFirstRelaOf b s i = AllBelow (λ k. (section_header b k).kind ≡ SHT_RELA → (section_header b k).info ≢ s) i
 
 pub record LinksSymbols (b : List ℕ) (h : SectionHeader) : Type 0 where
   pub strings : NamesStrings b h.link
@@ -128,10 +128,10 @@ pub record LinksGroup (b : List ℕ) (h : SectionHeader) : Type 0 where
 
 -- What sh_link and sh_info of a section name is there, as its type asks for.
 pub record HasLinks (b : List ℕ) (i : ℕ) : Type 0 where
-  pub symbols : (section_header b i).kind ≡ sht_symtab → LinksSymbols b (section_header b i)
-  pub indices : (section_header b i).kind ≡ sht_symtab_shndx → LinksIndices b (section_header b i)
-  pub relocs : (section_header b i).kind ≡ sht_rela → LinksRelocs b i (section_header b i)
-  pub group : (section_header b i).kind ≡ sht_group → LinksGroup b (section_header b i)
+  pub symbols : (section_header b i).kind ≡ SHT_SYMTAB → LinksSymbols b (section_header b i)
+  pub indices : (section_header b i).kind ≡ SHT_SYMTAB_SHNDX → LinksIndices b (section_header b i)
+  pub relocs : (section_header b i).kind ≡ SHT_RELA → LinksRelocs b i (section_header b i)
+  pub group : (section_header b i).kind ≡ SHT_GROUP → LinksGroup b (section_header b i)
 
 pub record LinkFault (b : List ℕ) (i : ℕ) (e : ElfFault) : Type 0 where
   pub fails : ¬ HasLinks b i

@@ -8,7 +8,7 @@ use Rattle.elf_objects.specs.declared.fault.Counted.TheVariants.{Symbols}
 use Rattle.elf_objects.specs.declared.symbol.Reloc.{Reloc}
 use Rattle.elf_objects.specs.Below.{AllBelow, FirstBelow}
 use Rattle.elf_objects.specs.File.{section_count, section_header}
-use Rattle.elf_objects.specs.Kind.{shn_loreserve, shn_abs, shn_common, shn_xindex, stb_local, sht_rela, r_64, r_pc32, r_plt32, r_32, r_32s}
+use Rattle.elf_objects.specs.declared.TheConstants.{SHN_LORESERVE, SHN_ABS, SHN_COMMON, SHN_XINDEX, STB_LOCAL, SHT_RELA, R_X86_64_64, R_X86_64_PC32, R_X86_64_PLT32, R_X86_64_32, R_X86_64_32S}
 use Rattle.elf_objects.specs.Table.{index_entry, index_table, raw_symbol, reloc_of, string_header, symbol_count, symbol_header}
 use Rattle.std.specs.Prelude.{IsSome}
 
@@ -21,10 +21,10 @@ pub record AreManySymbols (b : List ℕ) (e : ElfFault) : Type 0 where
 
 -- st_shndx tells where a symbol is defined: no section, one below SHN_LORESERVE, or one that the table of section numbers has.
 pub data HasHome (b : List ℕ) (k : ℕ) : Type 0 where
-  absolute : (raw_symbol b k).shndx ≡ shn_abs → HasHome b k
-  common : (raw_symbol b k).shndx ≡ shn_common → HasHome b k
-  plain : (raw_symbol b k).shndx < shn_loreserve → (raw_symbol b k).shndx < section_count b → HasHome b k
-  extended : (raw_symbol b k).shndx ≡ shn_xindex → IsSome (index_table b) → index_entry b k < section_count b → HasHome b k
+  absolute : (raw_symbol b k).shndx ≡ SHN_ABS → HasHome b k
+  common : (raw_symbol b k).shndx ≡ SHN_COMMON → HasHome b k
+  plain : (raw_symbol b k).shndx < SHN_LORESERVE → (raw_symbol b k).shndx < section_count b → HasHome b k
+  extended : (raw_symbol b k).shndx ≡ SHN_XINDEX → IsSome (index_table b) → index_entry b k < section_count b → HasHome b k
 
 -- the name of a symbol begins in the string table
 abbrev pub HasSymbolName : List ℕ → ℕ → Type 0
@@ -32,7 +32,7 @@ HasSymbolName b k = (raw_symbol b k).name < (string_header b).size
 
 -- a symbol is local exactly where it is before the boundary
 abbrev pub IsOnItsSide : List ℕ → ℕ → Type 0
-IsOnItsSide b k = ((raw_symbol b k).info / 16 ≡ stb_local) ↔ (k < (symbol_header b).info)
+IsOnItsSide b k = ((raw_symbol b k).info / 16 ≡ STB_LOCAL) ↔ (k < (symbol_header b).info)
 
 pub record IsSymbol (b : List ℕ) (k : ℕ) : Type 0 where
   pub name : HasSymbolName b k
@@ -45,10 +45,10 @@ pub data SymbolFault (b : List ℕ) (k : ℕ) (e : ElfFault) : Type 0 where
 
 -- the bytes of the field that a relocation changes, where its type is one that is read: 8 for R_X86_64_64, else 4
 abbrev pub is_read : ℕ → Bool
-is_read kind = (kind == r_64) || (kind == r_pc32) || (kind == r_plt32) || (kind == r_32) || (kind == r_32s)
+is_read kind = (kind == R_X86_64_64) || (kind == R_X86_64_PC32) || (kind == R_X86_64_PLT32) || (kind == R_X86_64_32) || (kind == R_X86_64_32S)
 
 abbrev pub field_size : ℕ → ℕ
-field_size kind = if kind == r_64 then 8 else 4
+field_size kind = if kind == R_X86_64_64 then 8 else 4
 
 -- a relocation names a symbol, and its field lies in the section that it changes
 pub record IsRelocOf (r : Reloc) (symbols target_size : ℕ) : Type 0 where
@@ -65,8 +65,8 @@ pub record RelocFault (b : List ℕ) (i k : ℕ) (e : ElfFault) : Type 0 where
 
 -- each relocation of a section of relocations
 abbrev pub HasRelocs : List ℕ → ℕ → Type 0
-HasRelocs b i = (section_header b i).kind ≡ sht_rela → AllBelow (IsReloc b i) ((section_header b i).size / 24)
+HasRelocs b i = (section_header b i).kind ≡ SHT_RELA → AllBelow (IsReloc b i) ((section_header b i).size / 24)
 
 pub record RelocsFault (b : List ℕ) (i : ℕ) (e : ElfFault) : Type 0 where
-  pub kind : (section_header b i).kind ≡ sht_rela
+  pub kind : (section_header b i).kind ≡ SHT_RELA
   pub first : FirstBelow (IsReloc b i) (RelocFault b i) ((section_header b i).size / 24) e

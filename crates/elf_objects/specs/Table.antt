@@ -9,7 +9,7 @@ use Rattle.elf_objects.specs.declared.symbol.RawSymbol.{RawSymbol}
 use Rattle.elf_objects.specs.Below.{least_below}
 use Rattle.elf_objects.specs.File.{section_count, section_header, name_table}
 use Rattle.elf_objects.specs.Header.{has_body, null_header}
-use Rattle.elf_objects.specs.Kind.{sht_symtab, sht_symtab_shndx, sht_rela, shn_undef, shn_abs, shn_common, shn_xindex}
+use Rattle.elf_objects.specs.declared.TheConstants.{SHT_SYMTAB, SHT_SYMTAB_SHNDX, SHT_RELA, SHN_UNDEF, SHN_ABS, SHN_COMMON, SHN_XINDEX}
 use Rattle.elf_objects.specs.Number.{half, word, xword}
 use Rattle.elf_objects.specs.Strings.{up_to_zero}
 
@@ -23,10 +23,10 @@ first_of_kind b kind = least_below (is_kind b kind) (section_count b)
 
 -- the symbol table, and the table of section numbers that do not fit st_shndx
 abbrev pub symbol_table : List ℕ → Option ℕ
-symbol_table b = first_of_kind b sht_symtab
+symbol_table b = first_of_kind b SHT_SYMTAB
 
 abbrev pub index_table : List ℕ → Option ℕ
-index_table b = first_of_kind b sht_symtab_shndx
+index_table b = first_of_kind b SHT_SYMTAB_SHNDX
 
 -- the header of a section that may be missing
 unfoldable pub header_of : List ℕ → Option ℕ → SectionHeader
@@ -87,14 +87,14 @@ index_entry b k = word b ((index_header b).offset + 4 * k)
 
 -- the section with a number, where 0 is none
 abbrev pub section_home : ℕ → Home
-section_home i = if i == shn_undef then home.Undefined else home.Section i
+section_home i = if i == SHN_UNDEF then home.Undefined else home.Section i
 
 -- where a symbol is defined, from its st_shndx and its entry in the table of section numbers
 abbrev pub home_of : ℕ → ℕ → Home
 home_of shndx entry =
-    if shndx == shn_abs then home.Absolute
-    else if shndx == shn_common then home.Common
-    else if shndx == shn_xindex then section_home entry
+    if shndx == SHN_ABS then home.Absolute
+    else if shndx == SHN_COMMON then home.Common
+    else if shndx == SHN_XINDEX then section_home entry
     else section_home shndx
 
 unfoldable pub symbol_home : List ℕ → ℕ → Home
@@ -102,7 +102,7 @@ symbol_home b k = home_of (raw_symbol b k).shndx (index_entry b k)
 
 -- the section i has the relocations of the section s
 abbrev pub is_rela_of : List ℕ → ℕ → ℕ → Bool
-is_rela_of b s i = ((section_header b i).kind == sht_rela) && ((section_header b i).info == s)
+is_rela_of b s i = ((section_header b i).kind == SHT_RELA) && ((section_header b i).info == s)
 
 -- the section with the relocations of the section s
 unfoldable pub rela_of : List ℕ → ℕ → Option ℕ

@@ -3,7 +3,7 @@
 ghost use Rattle.std.specs.Prelude.{◌≡◌, ◌<◌, ◌↔◌, IsTrue, IsFalse, IfErr, OnOk, MatchResult, length};
 ghost use Rattle.elf_objects.specs.Steps.{EachSection, FirstSection, file};
 ghost use Rattle.elf_objects.specs.File.{section_count, section_header};
-ghost use Rattle.elf_objects.specs.Kind.{sht_null, sht_rela};
+ghost use Rattle.elf_objects.specs.declared.TheConstants.{SHT_NULL, SHT_RELA};
 ghost use Rattle.elf_objects.specs.Object.{Refuses};
 ghost use Rattle.elf_objects.specs.Sections.{HasBody, BodyFault, IsAlone, IsPlaced};
 ghost use Rattle.elf_objects.specs.Extents.{TellsShared};
@@ -25,7 +25,7 @@ fn is_placed(h: &SectionHeader, len: usize) -> bool
 
 /// Whether section 0 is that of no section.
 fn is_null_first(h: &SectionHeader, i: u32) -> bool
-    ensures { IsTrue result ↔ (i ≡ 0 → h.now.kind ≡ sht_null) }
+    ensures { IsTrue result ↔ (i ≡ 0 → h.now.kind ≡ SHT_NULL) }
 {
     i != 0 || h.kind == SHT_NULL
 }
@@ -37,7 +37,7 @@ fn has_place(headers: &Headers, shared: &[bool], i: u32) -> bool
     ensures placed { IsTrue result →
         IsPlaced (length (file headers.now)) (section_header (file headers.now) i) }
     ensures alone { IsTrue result →
-        (section_header (file headers.now) i).kind ≡ sht_rela → IsAlone (file headers.now) i }
+        (section_header (file headers.now) i).kind ≡ SHT_RELA → IsAlone (file headers.now) i }
     ensures no { IsFalse result → ¬ HasBody (file headers.now) i }
 {
     let h = headers.get(i);

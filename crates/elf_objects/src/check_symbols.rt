@@ -3,7 +3,7 @@
 ghost use Rattle.std.specs.Prelude.{◌≡◌, ◌<◌, ◌+◌, ◌↔◌, ℕ, false, ◌==◌, ◌&&◌, IsTrue, IfSome, IfNone, IfErr, IfOk, OnOk, MatchResult};
 ghost use Rattle.elf_objects.specs.Steps.{EachSection, EachSymbol, FirstSymbol, symbols_file};
 ghost use Rattle.elf_objects.specs.Contents.{is_home};
-ghost use Rattle.elf_objects.specs.Kind.{stt_section};
+ghost use Rattle.elf_objects.specs.declared.TheConstants.{STT_SECTION};
 ghost use Rattle.elf_objects.specs.Found.{AreSectionSymbols};
 ghost use Rattle.elf_objects.specs.Object.{Refuses};
 ghost use Rattle.elf_objects.specs.Sections.{HasLinks};
@@ -65,9 +65,9 @@ fn check_symbol(symbols: &Symbols, string_size: u64, k: u32) -> Result<(), ElfFa
 fn stood_for(kind: u8, value: u64, home: Home) -> Option<u32>
     ensures some { IfSome result (λ i. home ≡ Home.Section i) }
     ensures only { IfSome result
-        (λ i. (s : ℕ) → (i == s) ≡ ((kind == stt_section) && (value == 0) && is_home s home)) }
+        (λ i. (s : ℕ) → (i == s) ≡ ((kind == STT_SECTION) && (value == 0) && is_home s home)) }
     ensures none { IfNone result
-        ((s : ℕ) → false ≡ ((kind == stt_section) && (value == 0) && is_home s home)) }
+        ((s : ℕ) → false ≡ ((kind == STT_SECTION) && (value == 0) && is_home s home)) }
 {
     if kind != STT_SECTION {
         return None;

@@ -3,7 +3,7 @@
 ghost use Rattle.std.specs.Prelude.{◌<◌, ◌≤◌, ◌+◌, ◌↔◌, IsTrue, IfErr, IfOk, OnOk, length};
 ghost use Rattle.elf_objects.specs.Steps.{EachSection, FirstSection, file};
 ghost use Rattle.elf_objects.specs.File.{section_count};
-ghost use Rattle.elf_objects.specs.Kind.{sht_symtab, sht_symtab_shndx};
+ghost use Rattle.elf_objects.specs.declared.TheConstants.{SHT_SYMTAB, SHT_SYMTAB_SHNDX};
 ghost use Rattle.elf_objects.specs.Sections.{HasBody, HasForm, HasKindForm, FormFault, HasEntries, IsPlain, IsRelocTable, IsStringTable, IsFirstOfKind};
 ghost use Rattle.elf_objects.specs.Found.{AreTables};
 
@@ -49,7 +49,7 @@ fn is_reloc_table(h: &SectionHeader) -> bool
 /// Whether no section before this one has the type of a symbol table.
 fn is_first_symbol_table(headers: &Headers, tables: Tables, i: u32) -> bool
     requires { AreTables (file headers.now) i tables }
-    ensures { IsTrue result ↔ IsFirstOfKind (file headers.now) sht_symtab i }
+    ensures { IsTrue result ↔ IsFirstOfKind (file headers.now) SHT_SYMTAB i }
 {
     tables.symbols.is_none()
 }
@@ -57,7 +57,7 @@ fn is_first_symbol_table(headers: &Headers, tables: Tables, i: u32) -> bool
 /// The same for tables of section numbers.
 fn is_first_index_table(headers: &Headers, tables: Tables, i: u32) -> bool
     requires { AreTables (file headers.now) i tables }
-    ensures { IsTrue result ↔ IsFirstOfKind (file headers.now) sht_symtab_shndx i }
+    ensures { IsTrue result ↔ IsFirstOfKind (file headers.now) SHT_SYMTAB_SHNDX i }
 {
     tables.indices.is_none()
 }

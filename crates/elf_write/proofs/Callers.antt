@@ -15,7 +15,7 @@ use Rattle.elf_objects.specs.Contents.{elf_of, no_section, relocs_at, section_at
 use Rattle.elf_objects.specs.Elf.{Elf, SectionEntry}
 use Rattle.elf_objects.specs.File.{name_table, section_header}
 use Rattle.elf_objects.specs.Header.{has_body}
-use Rattle.elf_objects.specs.Kind.{sht_progbits, sht_rela, shf_execinstr}
+use Rattle.elf_objects.specs.declared.TheConstants.{SHT_PROGBITS, SHT_RELA, SHF_EXECINSTR}
 use Rattle.elf_objects.specs.Object.{IsObject, IsWellFormed}
 use Rattle.elf_objects.specs.Table.{body_of, name_header}
 use Rattle.elf_write.specs.Added.{AreApart, CanAdd, HasFields, IsPlain, new_section, new_sections, object_with, old_section, relocs_in, relocs_with}
@@ -72,20 +72,20 @@ length-appended_to b o (e ∷ new) ok =
 
 -- no section of an object has relocations for a section that it does not have
 pub free-added : (b : List ℕ) (o : Elf) (t : ℕ) → IsObject b o → length o.sections ≤ t
-    → All (λ (s : SectionEntry). s.kind ≡ sht_rela → s.info ≢ t) o.sections
+    → All (λ (s : SectionEntry). s.kind ≡ SHT_RELA → s.info ≢ t) o.sections
 free-added b o t ok h =
-    subst (λ (x : Elf). length x.sections ≤ t → All (λ (s : SectionEntry). s.kind ≡ sht_rela → s.info ≢ t) x.sections) (sym ok.says)
+    subst (λ (x : Elf). length x.sections ≤ t → All (λ (s : SectionEntry). s.kind ≡ SHT_RELA → s.info ≢ t) x.sections) (sym ok.says)
     (λ g k d lt kind info.
     (let l = length-sections b in
     let at : get_or (elf_of b).sections k d ≡ section_entry b k = section-at b k d (omega arith) in
-    let ek : (section_header b k).kind ≡ sht_rela = sym (ap (λ (s : SectionEntry). s.kind) (at ∙ entry_is b k)) ∙ kind in
+    let ek : (section_header b k).kind ≡ SHT_RELA = sym (ap (λ (s : SectionEntry). s.kind) (at ∙ entry_is b k)) ∙ kind in
     let ei : (section_header b k).info ≡ t = sym (ap (λ (s : SectionEntry). s.info) (at ∙ entry_is b k)) ∙ info in
     let e = ((ok.well_formed.links k (omega arith)).relocs ek).exists in
     omega arith))
     h
 
 -- sections of type PROGBITS without code
-pub progbits : (e : NewEntry) → e.kind ≡ sht_progbits → bit_and e.flags shf_execinstr ≡ 0 → IsPlain e
+pub progbits : (e : NewEntry) → e.kind ≡ SHT_PROGBITS → bit_and e.flags SHF_EXECINSTR ≡ 0 → IsPlain e
 progbits e kind flags = record {
   no_symbols = λ x. omega arith;
   no_strings = λ x. omega arith;
@@ -99,7 +99,7 @@ progbits e kind flags = record {
 }
 
 -- one section of relocations, behind sections that are none
-pub apart-last : (new : List NewEntry) (e : NewEntry) → All (λ (x : NewEntry). x.kind ≢ sht_rela) new → AllPairs AreApart (new ++ e ∷ [])
+pub apart-last : (new : List NewEntry) (e : NewEntry) → All (λ (x : NewEntry). x.kind ≢ SHT_RELA) new → AllPairs AreApart (new ++ e ∷ [])
 apart-last new e none i j d lt inside kind =
     let l : length (new ++ e ∷ []) ≡ length new + 1 = length-append new (e ∷ []) in
     let at : get_or (new ++ e ∷ []) i d ≡ get_or new i d = get_or_append_left new (e ∷ []) d i (omega arith) in
@@ -155,7 +155,7 @@ kept-section o (e ∷ new) k h x y =
 
 -- the relocations of a section for which no new section has any
 pub kept-relocs : (o : Elf) (new : List NewEntry) (t : ℕ) → t < length o.sections + length new
-    → All (λ (e : NewEntry). e.kind ≡ sht_rela → e.info ≢ t) new → relocs_at (object_with o new) t ≡ relocs_at o t
+    → All (λ (e : NewEntry). e.kind ≡ SHT_RELA → e.info ≢ t) new → relocs_at (object_with o new) t ≡ relocs_at o t
 kept-relocs o [] t h none = refl
 kept-relocs o (e ∷ new) t h none =
     let all : List NewEntry = e ∷ new in
@@ -171,12 +171,12 @@ kept-relocs o (e ∷ new) t h none =
     get_or-map-range_with_len (relocs_with o all) 0 (length o.sections + length all) t t [] h (omega arith)
     ∙ rw found refl
 
-not_both : (t : ℕ) (e : NewEntry) → (e.kind ≡ sht_rela → e.info ≢ t) → for_section t e ≡ false
+not_both : (t : ℕ) (e : NewEntry) → (e.kind ≡ SHT_RELA → e.info ≢ t) → for_section t e ≡ false
 not_both t e none = grind (arith, nat_tests)
 
 -- those of a section for which a new section has some
 pub added-relocs : (o : Elf) (new : List NewEntry) (k t : ℕ) → t < length o.sections + length new → AllPairs AreApart new → k < length new
-    → (get_or new k no_entry).kind ≡ sht_rela → (get_or new k no_entry).info ≡ t
+    → (get_or new k no_entry).kind ≡ SHT_RELA → (get_or new k no_entry).info ≡ t
     → relocs_at (object_with o new) t ≡ relocs_in (get_or new k no_entry).body
 added-relocs o [] k t h apart inside kind info = absurd (omega arith)
 added-relocs o (e ∷ new) k t h apart inside kind info =

@@ -2,7 +2,7 @@
 use Rattle.std.proofs.Common.{◌≡◌, ◌≢◌, inl, inr, ℕ, ◌+◌, ◌-◌, ◌<◌, ◌≤◌, List, length, refl, sym, ap, ◌∙◌, arith}
 use Rattle.std.proofs.lemmas.Bool.{cases_eq, cases_lt}
 use Rattle.elf_objects.specs.File.{name_table, section_count, section_header}
-use Rattle.elf_objects.specs.Kind.{sht_null, sht_strtab}
+use Rattle.elf_objects.specs.declared.TheConstants.{SHT_NULL, SHT_STRTAB}
 use Rattle.elf_objects.specs.Object.{IsWellFormed}
 use Rattle.elf_objects.specs.declared.header.SectionHeader.{SectionHeader}
 use Rattle.elf_write.specs.Layout.{NewEntry}
@@ -32,16 +32,16 @@ pub named : (b : List ℕ) → IsWellFormed b → 1 ≤ name_table b
 named b w = elim (cases_eq (name_table b) 0) [
   | inl zero ↦
       let inside = w.table.counts.names in
-      let strings : (section_header b (name_table b)).kind ≡ sht_strtab = (w.forms (name_table b) inside).names refl in
-      let null : (section_header b (name_table b)).kind ≡ sht_null = (w.bodies (name_table b) inside).null zero in
+      let strings : (section_header b (name_table b)).kind ≡ SHT_STRTAB = (w.forms (name_table b) inside).names refl in
+      let null : (section_header b (name_table b)).kind ≡ SHT_NULL = (w.bodies (name_table b) inside).null zero in
       absurd (omega arith)
   | inr some ↦ omega arith
 ]
 
-pub table_kind : (b : List ℕ) → IsWellFormed b → (section_header b (name_table b)).kind ≡ sht_strtab
+pub table_kind : (b : List ℕ) → IsWellFormed b → (section_header b (name_table b)).kind ≡ SHT_STRTAB
 table_kind b w = (w.forms (name_table b) w.table.counts.names).names refl
 
-pub first_kind : (b : List ℕ) → IsWellFormed b → (section_header b 0).kind ≡ sht_null
+pub first_kind : (b : List ℕ) → IsWellFormed b → (section_header b 0).kind ≡ SHT_NULL
 first_kind b w = (w.bodies 0 (let n = w.table.counts.names in omega arith)).null refl
 
 -- what an old header keeps

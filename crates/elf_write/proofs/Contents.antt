@@ -7,7 +7,7 @@ use Rattle.elf_objects.specs.Contents.{elf_of}
 use Rattle.elf_objects.specs.File.{name_table, section_count, section_header}
 use Rattle.elf_objects.specs.Header.{has_body}
 use Rattle.elf_objects.specs.Number.{word}
-use Rattle.elf_objects.specs.Kind.{sht_null, sht_nobits, sht_strtab, sht_symtab, sht_symtab_shndx, shn_abs, shn_common, shn_loreserve, shn_xindex}
+use Rattle.elf_objects.specs.declared.TheConstants.{SHT_NULL, SHT_NOBITS, SHT_STRTAB, SHT_SYMTAB, SHT_SYMTAB_SHNDX, SHN_ABS, SHN_COMMON, SHN_LORESERVE, SHN_XINDEX}
 use Rattle.elf_objects.specs.Object.{IsWellFormed}
 use Rattle.elf_objects.specs.Symbols.{HasHome, absolute, common, plain, extended, IsSymbol}
 use Rattle.elf_objects.specs.Table.{body_of, first_of_kind, header_of, home_of, index_entry, index_header, index_table, is_kind, raw_symbol, raw_symbol_at, string_at, string_header, symbol_count, symbol_header, symbol_home, symbol_table}
@@ -28,14 +28,14 @@ pub record Lies (b : List ℕ) (h : SectionHeader) : Type 0 where
   pub behind : 64 ≤ h.offset
   pub within : h.offset + h.size ≤ length b
 
-pub lies_at : (b : List ℕ) → IsWellFormed b → (k kind : ℕ) → k < section_count b → (section_header b k).kind ≡ kind → kind ≢ sht_null → kind ≢ sht_nobits
+pub lies_at : (b : List ℕ) → IsWellFormed b → (k kind : ℕ) → k < section_count b → (section_header b k).kind ≡ kind → kind ≢ SHT_NULL → kind ≢ SHT_NOBITS
     → 0 < (section_header b k).size → Lies b (section_header b k)
 lies_at b w k kind h e null nobits some =
     let p = (w.bodies k h).placed in
     let t : has_body (section_header b k) ≡ true = grind (arith, nat_tests) in
     record { behind = p.behind t some; within = p.inside t }
 
-lies_found : (b : List ℕ) → IsWellFormed b → (kind : ℕ) → kind ≢ sht_null → kind ≢ sht_nobits → (f : Option ℕ) → first_of_kind b kind ≡ f
+lies_found : (b : List ℕ) → IsWellFormed b → (kind : ℕ) → kind ≢ SHT_NULL → kind ≢ SHT_NOBITS → (f : Option ℕ) → first_of_kind b kind ≡ f
     → 0 < (header_of b f).size → Lies b (header_of b f)
 unfolding header_of
 lies_found b w kind null nobits None e some = absurd (omega arith)
@@ -59,7 +59,7 @@ pub raw_symbol-output : (b : List ℕ) (new : List NewEntry) (q : List ℕ) (hp 
 raw_symbol-output b new q hp np nm place name o w ok k h =
     let sh = symbol_header-output b new q hp np nm place name o w ok in
     let s = count_lies b k h in
-    let l = lies_found b w sht_symtab (λ e. omega arith) (λ e. omega arith) (symbol_table b) refl (omega arith) in
+    let l = lies_found b w SHT_SYMTAB (λ e. omega arith) (λ e. omega arith) (symbol_table b) refl (omega arith) in
     let at : ℕ = (symbol_header b).offset + 24 * k in
     raw_at q k
     ∙ ap (λ (g : SectionHeader). raw_symbol_at q (g.offset + 24 * k)) sh
@@ -75,17 +75,17 @@ index_lies : (b : List ℕ) → IsWellFormed b → (f : Option ℕ) → index_ta
 unfolding header_of
 index_lies b w None e some = cc
 index_lies b w (Some i) e some =
-    let l = least_below-some (is_kind b sht_symtab_shndx) (section_count b) i e in
-    let is : (section_header b i).kind ≡ sht_symtab_shndx = (let t = l.passes in grind (arith, nat_tests)) in
+    let l = least_below-some (is_kind b SHT_SYMTAB_SHNDX) (section_count b) i e in
+    let is : (section_header b i).kind ≡ SHT_SYMTAB_SHNDX = (let t = l.passes in grind (arith, nat_tests)) in
     ((w.links i l.below).indices is).entries
 
 pub index_entry-output : (b : List ℕ) (new : List NewEntry) (q : List ℕ) (hp np : ℕ) (nm : List ℕ) (place name : ℕ → ℕ)
     → Output b new q hp np nm place name → IsWellFormed b → All (IsAddable (elf_of b) new) new → (k : ℕ) → k < symbol_count b → IsSome (index_table b)
     → index_entry q k ≡ index_entry b k
 index_entry-output b new q hp np nm place name o w ok k h some =
-    let ih : index_header q ≡ index_header b = special-output b new q hp np nm place name sht_symtab_shndx o w (λ e. omega arith) (λ e. omega arith) (no_shndx (elf_of b) new ok) in
+    let ih : index_header q ≡ index_header b = special-output b new q hp np nm place name SHT_SYMTAB_SHNDX o w (λ e. omega arith) (λ e. omega arith) (no_shndx (elf_of b) new ok) in
     let s : (index_header b).size / 4 ≡ symbol_count b = index_lies b w (index_table b) refl some in
-    let l = lies_found b w sht_symtab_shndx (λ e. omega arith) (λ e. omega arith) (index_table b) refl (omega arith) in
+    let l = lies_found b w SHT_SYMTAB_SHNDX (λ e. omega arith) (λ e. omega arith) (index_table b) refl (omega arith) in
     let at : ℕ = (index_header b).offset + 4 * k in
     entry_at q k
     ∙ ap (λ (g : SectionHeader). word q (g.offset + 4 * k)) ih
@@ -95,14 +95,14 @@ index_entry-output b new q hp np nm place name o w ok k h some =
 -- the section of the symbols' names
 pub record NamesSymbols (b : List ℕ) (l : ℕ) : Type 0 where
   pub inside : l < section_count b
-  pub kind : (section_header b l).kind ≡ sht_strtab
+  pub kind : (section_header b l).kind ≡ SHT_STRTAB
 
 strings_found : (b : List ℕ) → IsWellFormed b → (f : Option ℕ) → symbol_table b ≡ f → 0 < (header_of b f).size → NamesSymbols b (header_of b f).link
 unfolding header_of
 strings_found b w None e some = absurd (omega arith)
 strings_found b w (Some i) e some =
-    let l = least_below-some (is_kind b sht_symtab) (section_count b) i e in
-    let is : (section_header b i).kind ≡ sht_symtab = (let t = l.passes in grind (arith, nat_tests)) in
+    let l = least_below-some (is_kind b SHT_SYMTAB) (section_count b) i e in
+    let is : (section_header b i).kind ≡ SHT_SYMTAB = (let t = l.passes in grind (arith, nat_tests)) in
     let s = ((w.links i l.below).symbols is).strings in
     record { inside = s.0; kind = s.1 }
 
@@ -128,7 +128,7 @@ grows b new q hp np nm place name o w some l h nonzero = elim (cases_eq l (name_
 
 -- a string of a string table is there as it was
 pub string-output : (b : List ℕ) (new : List NewEntry) (q : List ℕ) (hp np : ℕ) (nm : List ℕ) (place name : ℕ → ℕ)
-    → Output b new q hp np nm place name → IsWellFormed b → (l at : ℕ) → l < section_count b → (section_header b l).kind ≡ sht_strtab
+    → Output b new q hp np nm place name → IsWellFormed b → (l at : ℕ) → l < section_count b → (section_header b l).kind ≡ SHT_STRTAB
     → at < (section_header b l).size
     → string_at (body_of q (section_header q l)) at ≡ string_at (body_of b (section_header b l)) at
 string-output b new q hp np nm place name o w l at h kind inside = elim (cases_eq l (name_table b)) [
@@ -142,17 +142,17 @@ string-output b new q hp np nm place name o w l at h kind inside = elim (cases_e
       ap (λ (xs : List ℕ). string_at xs at) body
       ∙ string_at-longer (body_of b (section_header b l)) (new_names new) at (omega arith) (strings-last b w l h kind)
   | inr other ↦
-      let nonzero : l ≢ 0 = λ z. (let f : (section_header b l).kind ≡ sht_null = ap (λ (k : ℕ). (section_header b k).kind) z ∙ first_kind b w in omega arith) in
+      let nonzero : l ≢ 0 = λ z. (let f : (section_header b l).kind ≡ SHT_NULL = ap (λ (k : ℕ). (section_header b k).kind) z ∙ first_kind b w in omega arith) in
       ap (λ (g : SectionHeader). string_at (body_of q g) at) (o.old l h nonzero other)
       ∙ ap (λ (xs : List ℕ). string_at xs at) (body_of-kept b new q hp np nm place name o w l h)
 ]
 
 -- where a symbol is defined does not depend on an entry that is not there
-home_plain : (shndx x y : ℕ) → shndx < shn_loreserve → home_of shndx x ≡ home_of shndx y
+home_plain : (shndx x y : ℕ) → shndx < SHN_LORESERVE → home_of shndx x ≡ home_of shndx y
 home_plain shndx x y h =
-    let a : eqb shndx shn_abs ≡ false = ne_eqb shndx shn_abs (λ e. omega arith) in
-    let c : eqb shndx shn_common ≡ false = ne_eqb shndx shn_common (λ e. omega arith) in
-    let d : eqb shndx shn_xindex ≡ false = ne_eqb shndx shn_xindex (λ e. omega arith) in
+    let a : eqb shndx SHN_ABS ≡ false = ne_eqb shndx SHN_ABS (λ e. omega arith) in
+    let c : eqb shndx SHN_COMMON ≡ false = ne_eqb shndx SHN_COMMON (λ e. omega arith) in
+    let d : eqb shndx SHN_XINDEX ≡ false = ne_eqb shndx SHN_XINDEX (λ e. omega arith) in
     rw (a, c, d) refl
 
 home_at : (b : List ℕ) (k : ℕ) → symbol_home b k ≡ home_of (raw_symbol b k).shndx (index_entry b k)
@@ -191,7 +191,7 @@ home_of_new b new q hp np nm place name o w ok k h (plain e i) =
 home_of_new b new q hp np nm place name o w ok k h (extended e s i) =
     let r = ap (λ (s : RawSymbol). s.shndx) (raw_symbol-output b new q hp np nm place name o w ok k h) in
     let c = o.count in
-    let it : index_table q ≡ index_table b = first_of_kind-output b new q hp np nm place name sht_symtab_shndx o (no_shndx (elf_of b) new ok) in
+    let it : index_table q ≡ index_table b = first_of_kind-output b new q hp np nm place name SHT_SYMTAB_SHNDX o (no_shndx (elf_of b) new ok) in
     let ie = index_entry-output b new q hp np nm place name o w ok k h s in
     extended (r ∙ e) (subst IsSome (sym it) s) (omega arith)
 
@@ -205,7 +205,7 @@ symbols-output b new q hp np nm place name o w some ok k h =
     let sh = symbol_header-output b new q hp np nm place name o w ok in
     let ns = symbol_names b w k lt in
     let kind = ns.kind in
-    let nonzero : (symbol_header b).link ≢ 0 = λ z. (let f : (section_header b (symbol_header b).link).kind ≡ sht_null = ap (λ (n : ℕ). (section_header b n).kind) z ∙ first_kind b w in omega arith) in
+    let nonzero : (symbol_header b).link ≢ 0 = λ z. (let f : (section_header b (symbol_header b).link).kind ≡ SHT_NULL = ap (λ (n : ℕ). (section_header b n).kind) z ∙ first_kind b w in omega arith) in
     let g = grows b new q hp np nm place name o w some (symbol_header b).link ns.inside nonzero in
     let strings : (string_header q).size ≡ (section_header q (symbol_header b).link).size = ap (λ (x : SectionHeader). (section_header q x.link).size) sh in
     let n : (raw_symbol q k).name ≡ (raw_symbol b k).name = ap (λ (x : RawSymbol). x.name) r in

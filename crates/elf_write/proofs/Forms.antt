@@ -5,7 +5,7 @@ use Rattle.std.proofs.lemmas.Bool.Decides.{nat_tests}
 use Rattle.elf_objects.specs.Elf.{Elf}
 use Rattle.elf_objects.specs.File.{name_table, section_count, section_header}
 use Rattle.elf_objects.specs.Header.{has_body, is_text_header}
-use Rattle.elf_objects.specs.Kind.{sht_null, sht_progbits, sht_strtab, sht_symtab, sht_symtab_shndx, sht_rela, sht_rel, sht_group, shf_execinstr}
+use Rattle.elf_objects.specs.declared.TheConstants.{SHT_NULL, SHT_PROGBITS, SHT_STRTAB, SHT_SYMTAB, SHT_SYMTAB_SHNDX, SHT_RELA, SHT_REL, SHT_GROUP, SHF_EXECINSTR}
 use Rattle.elf_objects.specs.Object.{IsWellFormed}
 use Rattle.elf_objects.specs.Sections.{HasEntries, HasForm, HasKindForm, IsFirstOfKind, IsPlain, IsRelocTable, IsStringTable}
 use Rattle.elf_objects.specs.declared.header.SectionHeader.{SectionHeader}
@@ -18,12 +18,12 @@ use Rattle.elf_write.proofs.Special.{index-in_part, longer}
 
 -- a section that may be added is no table but one of relocations, and no text
 pub record NoTable (e : NewEntry) : Type 0 where
-  pub symbols : e.kind ≢ sht_symtab
-  pub strings : e.kind ≢ sht_strtab
-  pub rels : e.kind ≢ sht_rel
-  pub group : e.kind ≢ sht_group
-  pub indices : e.kind ≢ sht_symtab_shndx
-  pub text : e.kind ≡ sht_progbits → bit_and e.flags shf_execinstr ≡ 0
+  pub symbols : e.kind ≢ SHT_SYMTAB
+  pub strings : e.kind ≢ SHT_STRTAB
+  pub rels : e.kind ≢ SHT_REL
+  pub group : e.kind ≢ SHT_GROUP
+  pub indices : e.kind ≢ SHT_SYMTAB_SHNDX
+  pub text : e.kind ≡ SHT_PROGBITS → bit_and e.flags SHF_EXECINSTR ≡ 0
 
 pub no_table : (o : Elf) (new : List NewEntry) (e : NewEntry) → IsAddable o new e → NoTable e
 no_table o new e ok = elim ok.form [
@@ -46,14 +46,14 @@ no_table o new e ok = elim ok.form [
 ]
 
 -- a section of type RELA that may be added has relocations
-pub relocs_of_new : (o : Elf) (new : List NewEntry) (e : NewEntry) → IsAddable o new e → e.kind ≡ sht_rela → IsRelocs o new e
+pub relocs_of_new : (o : Elf) (new : List NewEntry) (e : NewEntry) → IsAddable o new e → e.kind ≡ SHT_RELA → IsRelocs o new e
 relocs_of_new o new e ok k = elim ok.form [
   | inl plain ↦ absurd (plain.no_relas k)
   | inr relocs ↦ relocs
 ]
 
 -- a header of a type of which nothing is asked
-plain_form : (q : List ℕ) (j : ℕ) → (section_header q j).kind ≡ sht_null → HasKindForm q j
+plain_form : (q : List ℕ) (j : ℕ) → (section_header q j).kind ≡ SHT_NULL → HasKindForm q j
 plain_form q j e = record {
   symbols = λ x. absurd (omega arith);
   indices = λ x. absurd (omega arith);
@@ -65,7 +65,7 @@ plain_form q j e = record {
 
 -- a string table that stayed where it is
 strings_kept : (b : List ℕ) (new : List NewEntry) (q : List ℕ) (hp np : ℕ) (nm : List ℕ) (place name : ℕ → ℕ)
-    → Output b new q hp np nm place name → IsWellFormed b → (j : ℕ) → j < section_count b → (section_header b j).kind ≡ sht_strtab
+    → Output b new q hp np nm place name → IsWellFormed b → (j : ℕ) → j < section_count b → (section_header b j).kind ≡ SHT_STRTAB
     → IsStringTable q (section_header b j)
 strings_kept b new q hp np nm place name o w j h kind =
     let d : SectionHeader = section_header b j in
@@ -81,7 +81,7 @@ strings_kept b new q hp np nm place name o w j h kind =
       plain = f.plain;
     }
 
-pub no_text : (g : SectionHeader) → (g.kind ≡ sht_progbits → bit_and g.flags shf_execinstr ≡ 0) → IsTrue (is_text_header g) → ⊥
+pub no_text : (g : SectionHeader) → (g.kind ≡ SHT_PROGBITS → bit_and g.flags SHF_EXECINSTR ≡ 0) → IsTrue (is_text_header g) → ⊥
 no_text g none t = grind (arith, nat_tests)
 
 form_of : (a : Elf) (b : List ℕ) (new : List NewEntry) (q : List ℕ) (hp np : ℕ) (nm : List ℕ) (place name : ℕ → ℕ)
@@ -92,7 +92,7 @@ form_of a b new q hp np nm place name o w some ok j (first e) =
 form_of a b new q hp np nm place name o w some ok j (table e) =
     let inside = w.table.counts.names in
     let k = keeps b new q hp np nm place name o (name_table b) inside in
-    let kind : (section_header q j).kind ≡ sht_strtab = rw e (k.kind ∙ table_kind b w) in
+    let kind : (section_header q j).kind ≡ SHT_STRTAB = rw e (k.kind ∙ table_kind b w) in
     let is : section_header q j ≡ record (section_header b (name_table b)) { offset = np; size = length nm } = rw e o.names in
     let nl = longer b new q hp np nm place name o w some in
     let have = nl.some in
@@ -117,9 +117,9 @@ form_of a b new q hp np nm place name o w some ok j (old h x y) =
     let kind : (section_header q j).kind ≡ (section_header b j).kind = ap (λ (g : SectionHeader). g.kind) is in
     record {
       symbols = λ x. (let f = form.symbols (sym kind ∙ x) in
-          record { entries = subst (λ (g : SectionHeader). HasEntries g 24) (sym is) f.entries; only = before sht_symtab f.only; plain = subst IsPlain (sym is) f.plain });
+          record { entries = subst (λ (g : SectionHeader). HasEntries g 24) (sym is) f.entries; only = before SHT_SYMTAB f.only; plain = subst IsPlain (sym is) f.plain });
       indices = λ x. (let f = form.indices (sym kind ∙ x) in
-          record { entries = subst (λ (g : SectionHeader). HasEntries g 4) (sym is) f.entries; only = before sht_symtab_shndx f.only; plain = subst IsPlain (sym is) f.plain });
+          record { entries = subst (λ (g : SectionHeader). HasEntries g 4) (sym is) f.entries; only = before SHT_SYMTAB_SHNDX f.only; plain = subst IsPlain (sym is) f.plain });
       relocs = λ x. subst IsRelocTable (sym is) (form.relocs (sym kind ∙ x));
       strings = λ x. subst (IsStringTable q) (sym is) (strings_kept b new q hp np nm place name o w j h (sym kind ∙ x));
       no_rel = λ x. form.no_rel (sym kind ∙ x);

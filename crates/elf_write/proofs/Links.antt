@@ -6,7 +6,7 @@ use Rattle.std.proofs.lemmas.List.FromFn.{get_or-map-range_with_len, length-map-
 use Rattle.elf_objects.specs.Contents.{elf_of, section_entry}
 use Rattle.elf_objects.specs.Elf.{Elf, SectionEntry}
 use Rattle.elf_objects.specs.File.{name_table, section_count, section_header}
-use Rattle.elf_objects.specs.Kind.{sht_null, sht_strtab, sht_symtab, sht_symtab_shndx, sht_rela, sht_group}
+use Rattle.elf_objects.specs.declared.TheConstants.{SHT_NULL, SHT_STRTAB, SHT_SYMTAB, SHT_SYMTAB_SHNDX, SHT_RELA, SHT_GROUP}
 use Rattle.elf_objects.specs.Object.{IsWellFormed}
 use Rattle.elf_objects.specs.Sections.{HasLinks, HasName, IsBoundary, IsFirstRelaOf, LinksGroup, LinksIndices, LinksRelocs, LinksSymbols, link_of}
 use Rattle.elf_objects.specs.Table.{body_of, name_header, symbol_count, symbol_header, symbol_table}
@@ -20,21 +20,21 @@ use Rattle.elf_write.proofs.Special.{first_of_kind-output, longer, special-outpu
 use Rattle.elf_write.proofs.Strings.{name-inside}
 
 -- no new section is a symbol table
-pub no_symtab : (a : Elf) (new : List NewEntry) → All (IsAddable a new) new → All (λ (e : NewEntry). e.kind ≢ sht_symtab) new
+pub no_symtab : (a : Elf) (new : List NewEntry) → All (IsAddable a new) new → All (λ (e : NewEntry). e.kind ≢ SHT_SYMTAB) new
 no_symtab a new ok k d h = (no_table a new (get_or new k d) (ok k d h)).symbols
 
-pub no_shndx : (a : Elf) (new : List NewEntry) → All (IsAddable a new) new → All (λ (e : NewEntry). e.kind ≢ sht_symtab_shndx) new
+pub no_shndx : (a : Elf) (new : List NewEntry) → All (IsAddable a new) new → All (λ (e : NewEntry). e.kind ≢ SHT_SYMTAB_SHNDX) new
 no_shndx a new ok k d h = (no_table a new (get_or new k d) (ok k d h)).indices
 
 pub symbol_table-output : (b : List ℕ) (new : List NewEntry) (q : List ℕ) (hp np : ℕ) (nm : List ℕ) (place name : ℕ → ℕ)
     → Output b new q hp np nm place name → All (IsAddable (elf_of b) new) new → symbol_table q ≡ symbol_table b
 symbol_table-output b new q hp np nm place name o ok =
-    first_of_kind-output b new q hp np nm place name sht_symtab o (no_symtab (elf_of b) new ok)
+    first_of_kind-output b new q hp np nm place name SHT_SYMTAB o (no_symtab (elf_of b) new ok)
 
 pub symbol_header-output : (b : List ℕ) (new : List NewEntry) (q : List ℕ) (hp np : ℕ) (nm : List ℕ) (place name : ℕ → ℕ)
     → Output b new q hp np nm place name → IsWellFormed b → All (IsAddable (elf_of b) new) new → symbol_header q ≡ symbol_header b
 symbol_header-output b new q hp np nm place name o w ok =
-    special-output b new q hp np nm place name sht_symtab o w (λ e. omega arith) (λ e. omega arith) (no_symtab (elf_of b) new ok)
+    special-output b new q hp np nm place name SHT_SYMTAB o w (λ e. omega arith) (λ e. omega arith) (no_symtab (elf_of b) new ok)
 
 pub symbol_count-output : (b : List ℕ) (new : List NewEntry) (q : List ℕ) (hp np : ℕ) (nm : List ℕ) (place name : ℕ → ℕ)
     → Output b new q hp np nm place name → IsWellFormed b → All (IsAddable (elf_of b) new) new → symbol_count q ≡ symbol_count b
@@ -59,7 +59,7 @@ entry-info b k = refl
 
 -- a type of which nothing is asked
 no_links : (q : List ℕ) (j : ℕ) (kind : ℕ) → (section_header q j).kind ≡ kind
-    → kind ≢ sht_symtab → kind ≢ sht_symtab_shndx → kind ≢ sht_rela → kind ≢ sht_group → HasLinks q j
+    → kind ≢ SHT_SYMTAB → kind ≢ SHT_SYMTAB_SHNDX → kind ≢ SHT_RELA → kind ≢ SHT_GROUP → HasLinks q j
 no_links q j kind e a c d f = record {
   symbols = λ x. absurd (a (sym e ∙ x));
   indices = λ x. absurd (c (sym e ∙ x));
@@ -69,10 +69,10 @@ no_links q j kind e a c d f = record {
 
 -- the new sections of relocations are the first for their targets
 first_rela : (b : List ℕ) (new : List NewEntry) (q : List ℕ) (hp np : ℕ) (nm : List ℕ) (place name : ℕ → ℕ)
-    → Output b new q hp np nm place name → AllPairs AreApart new → (k s : ℕ) → k < length new → (get_or new k no_entry).kind ≡ sht_rela
+    → Output b new q hp np nm place name → AllPairs AreApart new → (k s : ℕ) → k < length new → (get_or new k no_entry).kind ≡ SHT_RELA
     → (get_or new k no_entry).info ≡ s
-    → All (λ (x : SectionEntry). x.kind ≡ sht_rela → x.info ≢ s) (elf_of b).sections
-    → (i : ℕ) → i < section_count b + k → (section_header q i).kind ≡ sht_rela → (section_header q i).info ≢ s
+    → All (λ (x : SectionEntry). x.kind ≡ SHT_RELA → x.info ≢ s) (elf_of b).sections
+    → (i : ℕ) → i < section_count b + k → (section_header q i).kind ≡ SHT_RELA → (section_header q i).info ≢ s
 first_rela b new q hp np nm place name o apart k s h is target free i lt kind = elim (cases_lt i (section_count b)) [
   | inl lower ↦
       let kp = keeps b new q hp np nm place name o i lower in
@@ -92,11 +92,11 @@ links_of : (b : List ℕ) (new : List NewEntry) (q : List ℕ) (hp np : ℕ) (nm
     → (j : ℕ) → Case b new j → HasLinks q j
 links_of b new q hp np nm place name o w ok apart j (first e) =
     let n = w.table.counts.names in
-    no_links q j sht_null (rw e ((keeps b new q hp np nm place name o 0 (omega arith)).kind ∙ first_kind b w))
+    no_links q j SHT_NULL (rw e ((keeps b new q hp np nm place name o 0 (omega arith)).kind ∙ first_kind b w))
     (λ x. omega arith) (λ x. omega arith) (λ x. omega arith) (λ x. omega arith)
 links_of b new q hp np nm place name o w ok apart j (table e) =
     let n = w.table.counts.names in
-    no_links q j sht_strtab (rw e ((keeps b new q hp np nm place name o (name_table b) n).kind ∙ table_kind b w))
+    no_links q j SHT_STRTAB (rw e ((keeps b new q hp np nm place name o (name_table b) n).kind ∙ table_kind b w))
     (λ x. omega arith) (λ x. omega arith) (λ x. omega arith) (λ x. omega arith)
 links_of b new q hp np nm place name o w ok apart j (old h x y) =
     let is : section_header q j ≡ section_header b j = o.old j h x y in

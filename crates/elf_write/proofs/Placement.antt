@@ -4,7 +4,7 @@ use Rattle.std.proofs.lemmas.Bool.{cases_lt}
 use Rattle.std.proofs.lemmas.Bool.Decides.{nat_tests}
 use Rattle.elf_objects.specs.File.{name_table, section_count, section_header}
 use Rattle.elf_objects.specs.Header.{has_body}
-use Rattle.elf_objects.specs.Kind.{sht_null, sht_rela}
+use Rattle.elf_objects.specs.declared.TheConstants.{SHT_NULL, SHT_RELA}
 use Rattle.elf_objects.specs.Object.{IsWellFormed}
 use Rattle.elf_objects.specs.Sections.{HasBody, IsInside, IsPlaced}
 use Rattle.elf_objects.specs.declared.header.SectionHeader.{SectionHeader}
@@ -12,7 +12,7 @@ use Rattle.elf_write.specs.Layout.{NewEntry, header_for}
 use Rattle.elf_write.proofs.Cases.{Case, added, case_of, first, first_kind, keeps, old, table, table_kind}
 use Rattle.elf_write.proofs.Facts.{Output, no_entry}
 
-no_body : (h : SectionHeader) (x : ℕ) → h.kind ≡ sht_null → IsInside x h → ⊥
+no_body : (h : SectionHeader) (x : ℕ) → h.kind ≡ SHT_NULL → IsInside x h → ⊥
 no_body h x e inside = let t : has_body h ≡ true = inside.0 in grind (arith, nat_tests)
 
 -- a header with the fields of another has its body where that has
@@ -26,7 +26,7 @@ placed : (b : List ℕ) (new : List NewEntry) (q : List ℕ) (hp np : ℕ) (nm :
     → Output b new q hp np nm place name → IsWellFormed b → (j : ℕ) → Case b new j → IsPlaced (length q) (section_header q j)
 placed b new q hp np nm place name o w j (first e) =
     let k = keeps b new q hp np nm place name o 0 (let n = w.table.counts.names in omega arith) in
-    let z : (section_header q j).kind ≡ sht_null = rw e (k.kind ∙ first_kind b w) in
+    let z : (section_header q j).kind ≡ SHT_NULL = rw e (k.kind ∙ first_kind b w) in
     record { inside = λ t. grind (arith, nat_tests); behind = λ t. grind (arith, nat_tests) }
 placed b new q hp np nm place name o w j (table e) =
     let file = w.table.file_header in
@@ -58,7 +58,7 @@ bytes_of : (b : List ℕ) (new : List NewEntry) (q : List ℕ) (hp np : ℕ) (nm
     → Bytes b new np hp nm place j x
 bytes_of b new q hp np nm place name o w j x (first e) inside =
     let k = keeps b new q hp np nm place name o 0 (let n = w.table.counts.names in omega arith) in
-    let z : (section_header q j).kind ≡ sht_null = rw e (k.kind ∙ first_kind b w) in
+    let z : (section_header q j).kind ≡ SHT_NULL = rw e (k.kind ∙ first_kind b w) in
     absurd (no_body (section_header q j) x z inside)
 bytes_of b new q hp np nm place name o w j x (table e) inside =
     let is : section_header q j ≡ record (section_header b (name_table b)) { offset = np; size = length nm } = rw e o.names in
@@ -76,12 +76,12 @@ bytes_of b new q hp np nm place name o w j x (added k h e) inside =
 
 -- two of them share none, where the first is that of relocations
 disjoint : (b : List ℕ) (new : List NewEntry) (q : List ℕ) (hp np : ℕ) (nm : List ℕ) (place name : ℕ → ℕ)
-    → Output b new q hp np nm place name → IsWellFormed b → (j k x : ℕ) → (j < section_count b → (section_header b j).kind ≡ sht_rela) → k ≢ j
+    → Output b new q hp np nm place name → IsWellFormed b → (j k x : ℕ) → (j < section_count b → (section_header b j).kind ≡ SHT_RELA) → k ≢ j
     → Bytes b new np hp nm place j x → Bytes b new np hp nm place k x → ⊥
 disjoint b new q hp np nm place name o w j k x rela ne (in_table e l u) other =
     let strings = table_kind b w in
     let inside = w.table.counts.names in
-    let kind : (section_header b (name_table b)).kind ≡ sht_rela = rw (← e) (rela (omega arith)) in
+    let kind : (section_header b (name_table b)).kind ≡ SHT_RELA = rw (← e) (rela (omega arith)) in
     omega arith
 disjoint b new q hp np nm place name o w j k x rela ne (in_old h i s) (in_table e l u) = omega (arith, o.behind)
 disjoint b new q hp np nm place name o w j k x rela ne (in_old h i s) (in_old g m t) =
@@ -108,7 +108,7 @@ bodies-output b new q hp np nm place name o w j h =
       placed = placed b new q hp np nm place name o w j mine;
       alone = λ kind. record {
         apart = λ k g ne shared.
-            (let was : j < section_count b → (section_header b j).kind ≡ sht_rela = λ lt. sym (keeps b new q hp np nm place name o j lt).kind ∙ kind in
+            (let was : j < section_count b → (section_header b j).kind ≡ SHT_RELA = λ lt. sym (keeps b new q hp np nm place name o j lt).kind ∙ kind in
             disjoint b new q hp np nm place name o w j k shared.0 was ne
             (bytes_of b new q hp np nm place name o w j shared.0 mine shared.1)
             (bytes_of b new q hp np nm place name o w k shared.0 (case_of b new k (omega arith)) shared.2));

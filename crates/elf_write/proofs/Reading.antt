@@ -13,7 +13,7 @@ use Rattle.elf_objects.specs.Below.{least_below}
 use Rattle.elf_objects.specs.Contents.{elf_of, entry_of_symbol, relocs_at, relocs_of, section_entry, symbol_entry}
 use Rattle.elf_objects.specs.Elf.{Elf, SectionEntry, SymbolEntry}
 use Rattle.elf_objects.specs.File.{headers_at, name_table, section_count, section_header}
-use Rattle.elf_objects.specs.Kind.{sht_rela}
+use Rattle.elf_objects.specs.declared.TheConstants.{SHT_RELA}
 use Rattle.elf_objects.specs.Object.{IsWellFormed}
 use Rattle.elf_objects.specs.Table.{body_of, header_of, is_rela_of, raw_symbol, rela_of, reloc_at, reloc_of, string_at, string_header, symbol_count, symbol_header, symbol_home, symbol_table}
 use Rattle.elf_objects.specs.declared.header.SectionHeader.{SectionHeader}
@@ -153,7 +153,7 @@ least_below-is p n k h passes none =
 
 -- the new section has relocations for the section with a number
 abbrev pub for_section : ℕ → NewEntry → Bool
-for_section s e = (e.kind == sht_rela) && (e.info == s)
+for_section s e = (e.kind == SHT_RELA) && (e.info == s)
 
 -- no new section has any for it: they are those that it had
 relocs_found : (b : List ℕ) (new : List NewEntry) (q : List ℕ) (hp np : ℕ) (nm : List ℕ) (place name : ℕ → ℕ)
@@ -163,8 +163,8 @@ unfolding header_of
 relocs_found b new q hp np nm place name o w s None e = refl
 relocs_found b new q hp np nm place name o w s (Some i) e =
     let l = least_below-some (is_rela_of b s) (section_count b) i (sym (rela_is b s) ∙ e) in
-    let kind : (section_header b i).kind ≡ sht_rela = (let t = l.passes in grind (arith, nat_tests)) in
-    let is : section_header q i ≡ section_header b i = plain-output b new q hp np nm place name o w i sht_rela l.below kind (λ x. omega arith) (λ x. omega arith) in
+    let kind : (section_header b i).kind ≡ SHT_RELA = (let t = l.passes in grind (arith, nat_tests)) in
+    let is : section_header q i ≡ section_header b i = plain-output b new q hp np nm place name o w i SHT_RELA l.below kind (λ x. omega arith) (λ x. omega arith) in
     ap (λ (g : SectionHeader). map (reloc_of q g) (range_with_len 0 (g.size / 24))) is
     ∙ map-same (reloc_of q (section_header b i)) (reloc_of b (section_header b i)) ((section_header b i).size / 24) (reloc_of b (section_header b i) 0)
     (λ k h. reloc-output b new q hp np nm place name o w i k l.below kind h)
@@ -178,7 +178,7 @@ is_rela_old b new q hp np nm place name o s k h =
 is_rela_new : (b : List ℕ) (new : List NewEntry) (q : List ℕ) (hp np : ℕ) (nm : List ℕ) (place name : ℕ → ℕ)
     → Output b new q hp np nm place name → (s k : ℕ) → k < length new → is_rela_of q s (section_count b + k) ≡ for_section s (get_or new k no_entry)
 is_rela_new b new q hp np nm place name o s k h =
-    ap (λ (g : SectionHeader). (g.kind == sht_rela) && (g.info == s)) (o.added k no_entry h)
+    ap (λ (g : SectionHeader). (g.kind == SHT_RELA) && (g.info == s)) (o.added k no_entry h)
 
 relocs_none : (b : List ℕ) (new : List NewEntry) (q : List ℕ) (hp np : ℕ) (nm : List ℕ) (place name : ℕ → ℕ)
     → Output b new q hp np nm place name → IsWellFormed b → (s : ℕ) → ((k : ℕ) → k < length new → for_section s (get_or new k no_entry) ≡ false)
@@ -206,7 +206,7 @@ entry_info : (b : List ℕ) (k : ℕ) → (section_entry b k).info ≡ (section_
 unfolding section_entry
 entry_info b k = refl
 
-no_rela : (b : List ℕ) (s j : ℕ) → ((section_header b j).kind ≡ sht_rela → (section_header b j).info ≢ s) → is_rela_of b s j ≡ false
+no_rela : (b : List ℕ) (s j : ℕ) → ((section_header b j).kind ≡ SHT_RELA → (section_header b j).info ≢ s) → is_rela_of b s j ≡ false
 no_rela b s j none = grind (arith, nat_tests)
 
 -- a new section has them
@@ -217,7 +217,7 @@ relocs_new : (b : List ℕ) (new : List NewEntry) (q : List ℕ) (hp np : ℕ) (
 relocs_new b new q hp np nm place name o w ok s k h passes none =
     let one : NewEntry = get_or new k no_entry in
     let g : SectionHeader = header_for (name k) (place k) one in
-    let kind : one.kind ≡ sht_rela = grind (arith, nat_tests) in
+    let kind : one.kind ≡ SHT_RELA = grind (arith, nat_tests) in
     let info : one.info ≡ s = grind (arith, nat_tests) in
     let r = relocs_of_new (elf_of b) new one (ok k no_entry h) kind in
     let c = o.count in

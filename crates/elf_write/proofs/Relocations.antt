@@ -10,7 +10,7 @@ use Rattle.elf_objects.specs.Contents.{elf_of, section_entry, symbol_entry}
 use Rattle.elf_objects.specs.Elf.{SectionEntry}
 use Rattle.elf_objects.specs.File.{name_table, section_count, section_header}
 use Rattle.elf_objects.specs.Header.{is_text_header}
-use Rattle.elf_objects.specs.Kind.{sht_null, sht_progbits, sht_strtab, sht_rela}
+use Rattle.elf_objects.specs.declared.TheConstants.{SHT_NULL, SHT_PROGBITS, SHT_STRTAB, SHT_RELA}
 use Rattle.elf_objects.specs.Object.{IsWellFormed}
 use Rattle.elf_objects.specs.Sections.{text_bytes, text_size}
 use Rattle.elf_objects.specs.Symbols.{HasRelocs, IsReloc, IsRelocOf}
@@ -34,11 +34,11 @@ reloc_is b h k = refl
 
 -- a relocation that the object had
 pub reloc-output : (b : List ℕ) (new : List NewEntry) (q : List ℕ) (hp np : ℕ) (nm : List ℕ) (place name : ℕ → ℕ)
-    → Output b new q hp np nm place name → IsWellFormed b → (i k : ℕ) → i < section_count b → (section_header b i).kind ≡ sht_rela
+    → Output b new q hp np nm place name → IsWellFormed b → (i k : ℕ) → i < section_count b → (section_header b i).kind ≡ SHT_RELA
     → k < (section_header b i).size / 24 → reloc_of q (section_header b i) k ≡ reloc_of b (section_header b i) k
 reloc-output b new q hp np nm place name o w i k h kind lt =
     let d = section_header b i in
-    let l : Lies b d = lies_at b w i sht_rela h kind (λ e. omega arith) (λ e. omega arith) (omega arith) in
+    let l : Lies b d = lies_at b w i SHT_RELA h kind (λ e. omega arith) (λ e. omega arith) (omega arith) in
     let at : ℕ = d.offset + 24 * k in
     reloc_is q d k
     ∙ reloc-same at at q b (o.kept at 24 (omega (arith, l.behind)) (omega (arith, l.within)))
@@ -104,8 +104,8 @@ relocs_of_old : (b : List ℕ) (new : List NewEntry) (q : List ℕ) (hp np : ℕ
     → (i : ℕ) → i < section_count b → HasRelocs q i
 relocs_of_old b new q hp np nm place name o w some ok i h kind k lt =
     let kp = keeps b new q hp np nm place name o i h in
-    let was : (section_header b i).kind ≡ sht_rela = sym kp.kind ∙ kind in
-    let is : section_header q i ≡ section_header b i = plain-output b new q hp np nm place name o w i sht_rela h was (λ e. omega arith) (λ e. omega arith) in
+    let was : (section_header b i).kind ≡ SHT_RELA = sym kp.kind ∙ kind in
+    let is : section_header q i ≡ section_header b i = plain-output b new q hp np nm place name o w i SHT_RELA h was (λ e. omega arith) (λ e. omega arith) in
     let sc = symbol_count-output b new q hp np nm place name o w ok in
     let inside : k < (section_header b i).size / 24 = subst (λ (g : SectionHeader). k < g.size / 24) is lt in
     let had : IsReloc b i k = w.relocs i h was k inside in
@@ -121,7 +121,7 @@ relocs_of_added : (b : List ℕ) (new : List NewEntry) (q : List ℕ) (hp np : �
 relocs_of_added b new q hp np nm place name o w some ok n i h e kind k lt =
     let one : NewEntry = get_or new n no_entry in
     let is : section_header q i ≡ header_for (name n) (place n) one = ap (section_header q) e ∙ o.added n no_entry h in
-    let rela : one.kind ≡ sht_rela = sym (ap (λ (g : SectionHeader). g.kind) is) ∙ kind in
+    let rela : one.kind ≡ SHT_RELA = sym (ap (λ (g : SectionHeader). g.kind) is) ∙ kind in
     let inside : k < length one.body / 24 = subst (λ (g : SectionHeader). k < g.size / 24) is lt in
     let r = relocs_of_new (elf_of b) new one (ok n no_entry h) rela in
     let sc = symbol_count-output b new q hp np nm place name o w ok in
@@ -169,7 +169,7 @@ sum_further p q g n (suc m) same none =
     ap (λ (x : ℕ). sum_by g (map q (range_with_len 0 x))) e ∙ a
     ∙ omega (arith, ih, here)
 
-no_text_size : (g : SectionHeader) → (g.kind ≡ sht_progbits → ⊥) → text_size g ≡ 0
+no_text_size : (g : SectionHeader) → (g.kind ≡ SHT_PROGBITS → ⊥) → text_size g ≡ 0
 no_text_size g none = grind (arith, nat_tests)
 
 none_text_size : (g : SectionHeader) → (IsTrue (is_text_header g) → ⊥) → text_size g ≡ 0
@@ -184,11 +184,11 @@ text_of b new q hp np nm place name o w k h =
     let kp = keeps b new q hp np nm place name o k h in
     elim (cases_eq k 0) [
       | inl zeroth ↦
-          let was : (section_header b k).kind ≡ sht_null = ap (λ (x : ℕ). (section_header b x).kind) zeroth ∙ first_kind b w in
+          let was : (section_header b k).kind ≡ SHT_NULL = ap (λ (x : ℕ). (section_header b x).kind) zeroth ∙ first_kind b w in
           no_text_size (section_header q k) (λ e. omega (arith, kp.kind)) ∙ sym (no_text_size (section_header b k) (λ e. omega arith))
       | inr some ↦ elim (cases_eq k (name_table b)) [
         | inl names ↦
-            let was : (section_header b k).kind ≡ sht_strtab = ap (λ (x : ℕ). (section_header b x).kind) names ∙ table_kind b w in
+            let was : (section_header b k).kind ≡ SHT_STRTAB = ap (λ (x : ℕ). (section_header b x).kind) names ∙ table_kind b w in
             no_text_size (section_header q k) (λ e. omega (arith, kp.kind)) ∙ sym (no_text_size (section_header b k) (λ e. omega arith))
         | inr other ↦ ap text_size (o.old k h some other)
       ]

@@ -9,7 +9,7 @@ use Rattle.elf_objects.specs.Contents.{elf_of, entry_of_header, no_section, sect
 use Rattle.elf_objects.specs.Elf.{SectionEntry}
 use Rattle.elf_objects.specs.File.{headers_at, name_table, section_count, section_header}
 use Rattle.elf_objects.specs.Header.{has_body}
-use Rattle.elf_objects.specs.Kind.{sht_null}
+use Rattle.elf_objects.specs.declared.TheConstants.{SHT_NULL}
 use Rattle.elf_objects.specs.Object.{IsWellFormed}
 use Rattle.elf_objects.specs.Table.{body_of, name_header, string_at}
 use Rattle.elf_objects.specs.declared.header.SectionHeader.{SectionHeader}
@@ -52,7 +52,7 @@ section_name b new q hp np nm place name o w k h =
     ap (λ (x : ℕ). string_at (body_of q (section_header q x)) (section_header b k).name) o.table
     ∙ string-output b new q hp np nm place name o w (name_table b) (section_header b k).name w.table.counts.names (table_kind b w) (w.names k h)
 
-no_body_null : (b : List ℕ) (h : SectionHeader) → h.kind ≡ sht_null → body_of b h ≡ []
+no_body_null : (b : List ℕ) (h : SectionHeader) → h.kind ≡ SHT_NULL → body_of b h ≡ []
 no_body_null b h e = body_none b h (grind (arith, nat_tests))
 
 -- section 0
@@ -104,7 +104,7 @@ body_new b new q hp np nm place name o k h ok =
     elim (bool_cases (has_body g)) [
       | inl there ↦ body_range q g there ∙ o.body_part k no_entry h
       | inr absent ↦ body_none q g absent ∙ sym (elim ok.form [
-        | inl plain ↦ elim (cases_eq one.kind sht_null) [
+        | inl plain ↦ elim (cases_eq one.kind SHT_NULL) [
           | inl null ↦ plain.no_null null
           | inr other ↦ plain.no_bits (grind (arith, nat_tests))
         ]

@@ -8,7 +8,7 @@ use Rattle.std.proofs.lemmas.List.{get_or-drop, get_or-take, length-take-le}
 use Rattle.elf_objects.specs.Below.{first_of, least_below}
 use Rattle.elf_objects.specs.File.{name_table, section_count, section_header}
 use Rattle.elf_objects.specs.Header.{has_body}
-use Rattle.elf_objects.specs.Kind.{sht_null, sht_strtab}
+use Rattle.elf_objects.specs.declared.TheConstants.{SHT_NULL, SHT_STRTAB}
 use Rattle.elf_objects.specs.Object.{IsWellFormed}
 use Rattle.elf_objects.specs.Table.{body_of, first_of_kind, header_of, is_kind, name_header}
 use Rattle.elf_objects.specs.declared.header.SectionHeader.{SectionHeader}
@@ -50,14 +50,14 @@ first_of_kind-output b new q hp np nm place name kind o none =
 -- the header of a section that is neither section 0 nor the name table
 pub plain-output : (b : List ℕ) (new : List NewEntry) (q : List ℕ) (hp np : ℕ) (nm : List ℕ) (place name : ℕ → ℕ)
     → Output b new q hp np nm place name → IsWellFormed b → (k kind : ℕ) → k < section_count b → (section_header b k).kind ≡ kind
-    → kind ≢ sht_null → kind ≢ sht_strtab → section_header q k ≡ section_header b k
+    → kind ≢ SHT_NULL → kind ≢ SHT_STRTAB → section_header q k ≡ section_header b k
 plain-output b new q hp np nm place name o w k kind h e null strings =
     o.old k h
     (λ z. null (sym e ∙ ap (λ (n : ℕ). (section_header b n).kind) z ∙ first_kind b w))
     (λ z. strings (sym e ∙ ap (λ (n : ℕ). (section_header b n).kind) z ∙ table_kind b w))
 
 header_found : (b : List ℕ) (new : List NewEntry) (q : List ℕ) (hp np : ℕ) (nm : List ℕ) (place name : ℕ → ℕ) (kind : ℕ)
-    → Output b new q hp np nm place name → IsWellFormed b → kind ≢ sht_null → kind ≢ sht_strtab → (f : Option ℕ) → first_of_kind b kind ≡ f
+    → Output b new q hp np nm place name → IsWellFormed b → kind ≢ SHT_NULL → kind ≢ SHT_STRTAB → (f : Option ℕ) → first_of_kind b kind ≡ f
     → header_of q f ≡ header_of b f
 unfolding header_of
 header_found b new q hp np nm place name kind o w null strings None e = refl
@@ -68,7 +68,7 @@ header_found b new q hp np nm place name kind o w null strings (Some i) e =
 
 -- the header of the first section of such a type
 pub special-output : (b : List ℕ) (new : List NewEntry) (q : List ℕ) (hp np : ℕ) (nm : List ℕ) (place name : ℕ → ℕ) (kind : ℕ)
-    → Output b new q hp np nm place name → IsWellFormed b → kind ≢ sht_null → kind ≢ sht_strtab → All (λ e. e.kind ≢ kind) new
+    → Output b new q hp np nm place name → IsWellFormed b → kind ≢ SHT_NULL → kind ≢ SHT_STRTAB → All (λ e. e.kind ≢ kind) new
     → header_of q (first_of_kind q kind) ≡ header_of b (first_of_kind b kind)
 special-output b new q hp np nm place name kind o w null strings none =
     ap (header_of q) (first_of_kind-output b new q hp np nm place name kind o none)
@@ -113,7 +113,7 @@ names-output b new q hp np nm place name o w =
     body_range q (name_header q) t ∙ rw is o.names_part
 
 -- the length and the end of a string table
-pub strings-length : (b : List ℕ) → IsWellFormed b → (k : ℕ) → k < section_count b → (section_header b k).kind ≡ sht_strtab
+pub strings-length : (b : List ℕ) → IsWellFormed b → (k : ℕ) → k < section_count b → (section_header b k).kind ≡ SHT_STRTAB
     → length (body_of b (section_header b k)) ≡ (section_header b k).size
 strings-length b w k h kind =
     let d = section_header b k in
@@ -122,7 +122,7 @@ strings-length b w k h kind =
     let l = length-drop d.offset b in
     ap length (body_range b d t) ∙ length-take-le d.size (drop d.offset b) (omega arith)
 
-pub strings-last : (b : List ℕ) → IsWellFormed b → (k : ℕ) → k < section_count b → (section_header b k).kind ≡ sht_strtab
+pub strings-last : (b : List ℕ) → IsWellFormed b → (k : ℕ) → k < section_count b → (section_header b k).kind ≡ SHT_STRTAB
     → get_or (body_of b (section_header b k)) (length (body_of b (section_header b k)) - 1) 0 ≡ 0
 strings-last b w k h kind =
     let d = section_header b k in

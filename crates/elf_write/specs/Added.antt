@@ -4,7 +4,7 @@ use Rattle.std.specs.List.{enumerate_from, find, range_with_len}
 use Rattle.elf_objects.specs.declared.symbol.Reloc.{Reloc}
 use Rattle.elf_objects.specs.Contents.{relocs_at}
 use Rattle.elf_objects.specs.Elf.{Elf, SectionEntry}
-use Rattle.elf_objects.specs.Kind.{sht_null, sht_progbits, sht_symtab, sht_strtab, sht_rela, sht_nobits, sht_rel, sht_group, sht_symtab_shndx, shf_execinstr, shf_compressed}
+use Rattle.elf_objects.specs.declared.TheConstants.{SHT_NULL, SHT_PROGBITS, SHT_SYMTAB, SHT_STRTAB, SHT_RELA, SHT_NOBITS, SHT_REL, SHT_GROUP, SHT_SYMTAB_SHNDX, SHF_EXECINSTR, SHF_COMPRESSED}
 use Rattle.elf_objects.specs.Sections.{link_of}
 use Rattle.elf_objects.specs.Symbols.{IsRelocOf}
 use Rattle.elf_objects.specs.Table.{reloc_at}
@@ -24,15 +24,15 @@ pub record HasFields (e : NewEntry) : Type 0 where
 
 -- a section that is no table and no text, and has a body only where its type has one
 pub record IsPlain (e : NewEntry) : Type 0 where
-  pub no_symbols : e.kind ≢ sht_symtab
-  pub no_strings : e.kind ≢ sht_strtab
-  pub no_relas : e.kind ≢ sht_rela
-  pub no_rels : e.kind ≢ sht_rel
-  pub no_group : e.kind ≢ sht_group
-  pub no_indices : e.kind ≢ sht_symtab_shndx
-  pub no_text : e.kind ≡ sht_progbits → bit_and e.flags shf_execinstr ≡ 0
-  pub no_null : e.kind ≡ sht_null → e.body ≡ []
-  pub no_bits : e.kind ≡ sht_nobits → e.body ≡ []
+  pub no_symbols : e.kind ≢ SHT_SYMTAB
+  pub no_strings : e.kind ≢ SHT_STRTAB
+  pub no_relas : e.kind ≢ SHT_RELA
+  pub no_rels : e.kind ≢ SHT_REL
+  pub no_group : e.kind ≢ SHT_GROUP
+  pub no_indices : e.kind ≢ SHT_SYMTAB_SHNDX
+  pub no_text : e.kind ≡ SHT_PROGBITS → bit_and e.flags SHF_EXECINSTR ≡ 0
+  pub no_null : e.kind ≡ SHT_NULL → e.body ≡ []
+  pub no_bits : e.kind ≡ SHT_NOBITS → e.body ≡ []
 
 -- the sizes of the sections, the new ones behind those of the object
 abbrev pub sizes : Elf → List NewEntry → List ℕ
@@ -44,14 +44,14 @@ relocs_in body = map (λ k. reloc_at body (24 * k)) (range_with_len 0 (length bo
 
 -- the relocations of a section that has none
 pub record IsRelocs (o : Elf) (new : List NewEntry) (e : NewEntry) : Type 0 where
-  pub kind : e.kind ≡ sht_rela
+  pub kind : e.kind ≡ SHT_RELA
   pub entries : e.entsize ≡ 24
   pub whole : length e.body % 24 ≡ 0
-  pub flags : bit_and e.flags shf_compressed ≡ 0
+  pub flags : bit_and e.flags SHF_COMPRESSED ≡ 0
   pub link : e.link ≡ link_of o.symbol_table
   pub info : 1 ≤ e.info
   pub target : e.info < length o.sections + length new
-  pub free : All (λ s. s.kind ≡ sht_rela → s.info ≢ e.info) o.sections
+  pub free : All (λ s. s.kind ≡ SHT_RELA → s.info ≢ e.info) o.sections
   pub relocs : All (λ r. IsRelocOf r (length o.symbols) (slice_index (sizes o new) e.info)) (relocs_in e.body)
 
 -- a section that may be added beside the others
@@ -62,7 +62,7 @@ pub record IsAddable (o : Elf) (new : List NewEntry) (e : NewEntry) : Type 0 whe
 
 -- no two have the relocations of one section
 abbrev pub AreApart : NewEntry → NewEntry → Type 0
-AreApart e f = e.kind ≡ sht_rela → f.kind ≡ sht_rela → e.info ≢ f.info
+AreApart e f = e.kind ≡ SHT_RELA → f.kind ≡ SHT_RELA → e.info ≢ f.info
 
 pub record CanAdd (o : Elf) (new : List NewEntry) : Type 0 where
   pub few : length o.sections + length new ≤ 262144
@@ -105,7 +105,7 @@ new_sections at (e ∷ new) = new_section (aligned at) e ∷ new_sections (align
 -- the relocations of the section with a number: those that a new section has for it, or those that
 -- it had
 abbrev pub relocs_with : Elf → List NewEntry → ℕ → List Reloc
-relocs_with o new k = chosen (find (λ e. (e.kind == sht_rela) && (e.info == k)) new) where
+relocs_with o new k = chosen (find (λ e. (e.kind == SHT_RELA) && (e.info == k)) new) where
   chosen : Option NewEntry → List Reloc
   chosen (Some e) = relocs_in e.body
   chosen None = relocs_at o k

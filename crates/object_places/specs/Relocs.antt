@@ -1,11 +1,11 @@
 -- The relocations of a section by the offset of their field.
 use Rattle.std.specs.Prelude.{◌≡◌, ℕ, ◌==◌, ◌||◌, Bool, List, filter, find, Option, slice_get}
 use Rattle.elf_objects.specs.declared.symbol.Reloc.{Reloc}
-use Rattle.elf_objects.specs.Kind.{r_64, r_pc32, r_32, r_32s}
+use Rattle.elf_objects.specs.declared.TheConstants.{R_X86_64_64, R_X86_64_PC32, R_X86_64_32, R_X86_64_32S}
 
 -- a relocation of this type puts a place into its field: R_X86_64_64, R_X86_64_PC32, R_X86_64_32 and R_X86_64_32S
 abbrev pub is_pointer_kind : ℕ → Bool
-is_pointer_kind kind = (kind == r_64) || (kind == r_pc32) || (kind == r_32) || (kind == r_32s)
+is_pointer_kind kind = (kind == R_X86_64_64) || (kind == R_X86_64_PC32) || (kind == R_X86_64_32) || (kind == R_X86_64_32S)
 
 -- those whose field begins at an offset, in their order
 abbrev pub at_offset : ℕ → List Reloc → List Reloc

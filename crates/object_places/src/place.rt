@@ -4,9 +4,7 @@ ghost use Rattle.std.specs.Prelude.{◌≡◌, ◌+ℤ◌, pos};
 ghost use Rattle.object_places.specs.Places.{offset_of, place_named};
 ghost use Rattle.object_places.specs.Relocs.{is_pointer_kind};
 
-use elf_objects::{
-    Home, Object, R_X86_64_32, R_X86_64_32S, R_X86_64_64, R_X86_64_PC32, Reloc,
-};
+use elf_objects::{Home, Object, R_X86_64_32, R_X86_64_32S, R_X86_64_64, R_X86_64_PC32, Reloc};
 use ot_base::Place;
 
 /// Whether a relocation of this type stands for a place: `R_X86_64_64`, `R_X86_64_PC32`, `R_X86_64_32`

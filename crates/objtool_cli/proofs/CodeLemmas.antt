@@ -13,7 +13,7 @@ use Rattle.std.proofs.lemmas.Int.{ints}
 use Rattle.ot_base.specs.declared.row.Row.{Row}
 use Rattle.elf_objects.specs.Elf.{Elf, SectionEntry}
 use Rattle.elf_objects.specs.Contents.{is_text, no_section, section_at, section_symbol_of}
-use Rattle.elf_objects.specs.Kind.{sht_null, sht_nobits}
+use Rattle.elf_objects.specs.declared.TheConstants.{SHT_NULL, SHT_NOBITS}
 use Rattle.elf_objects.specs.Lent.{IsSlice}
 use Rattle.straight_table.specs.Rows.{IsCallOrZero, IsRowIn}
 use Rattle.orc_bytes.specs.RowBytes.{IsRow}
@@ -58,8 +58,8 @@ is_progbits s h = grind (arith, nat_tests)
 pub body_size : (bytes : List ℕ) (s : SectionEntry) → is_text s ≡ true → IsSlice bytes s → (length s.body ≡ s.size) × (s.size ≤ length bytes)
 body_size bytes s text slice =
     let kind = is_progbits s text in
-    let not_null : s.kind ≢ sht_null = λ e. absurd (omega (arith, e)) in
-    let not_nobits : s.kind ≢ sht_nobits = λ e. absurd (omega (arith, e)) in
+    let not_null : s.kind ≢ SHT_NULL = λ e. absurd (omega (arith, e)) in
+    let not_nobits : s.kind ≢ SHT_NOBITS = λ e. absurd (omega (arith, e)) in
     let inside = slice.inside not_null not_nobits in
     (ap length (slice.body not_null not_nobits) ∙ simp (length-take, length-drop) (omega arith), omega (arith, inside))
 

@@ -5,7 +5,7 @@ use Rattle.operation_defs.specs.declared.insn.Insn.{Insn}
 use Rattle.elf_objects.specs.declared.symbol.Home.TheVariants as home
 use Rattle.elf_objects.specs.Elf.{Elf, SectionEntry, SymbolEntry}
 use Rattle.elf_objects.specs.Contents.{is_text, section_at, section_symbol_of}
-use Rattle.elf_objects.specs.Kind.{sht_rela, sht_group}
+use Rattle.elf_objects.specs.declared.TheConstants.{SHT_RELA, SHT_GROUP}
 use Rattle.elf_objects.specs.declared.TheConstants.{MAX_FILE_BYTES, STT_FUNC}
 use Rattle.straight_table.specs.Straight.{IsStraight, ops_of}
 use Rattle.x86_text.specs.Code.{IsCode}
@@ -33,7 +33,7 @@ is_special name = is_among patch_names name || (is_among hint_names name || is_a
 
 -- the section is no table of relocations and no group, and has no special name
 abbrev pub is_simple : SectionEntry → Bool
-is_simple s = not ((s.kind == sht_rela) || ((s.kind == sht_group) || is_special s.name))
+is_simple s = not ((s.kind == SHT_RELA) || ((s.kind == SHT_GROUP) || is_special s.name))
 
 abbrev pub is_function : SymbolEntry → Bool
 is_function s = s.kind == STT_FUNC

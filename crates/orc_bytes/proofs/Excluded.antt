@@ -12,7 +12,7 @@ use Rattle.elf_objects.specs.declared.symbol.Home.TheVariants as home
 use Rattle.elf_objects.specs.declared.symbol.Reloc.{Reloc}
 use Rattle.elf_objects.specs.Elf.{Elf, SectionEntry}
 use Rattle.elf_objects.specs.Contents.{section_symbol_of}
-use Rattle.elf_objects.specs.Kind.{r_pc32}
+use Rattle.elf_objects.specs.declared.TheConstants.{R_X86_64_PC32}
 use Rattle.elf_objects.specs.Number.{word}
 use Rattle.orc_bytes.specs.declared.fault.SlotWhy.{SlotWhy}
 use Rattle.orc_bytes.specs.declared.fault.OrcFault.{OrcFault}

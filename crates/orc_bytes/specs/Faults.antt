@@ -6,7 +6,7 @@ use Rattle.ot_base.specs.declared.row.Row.{Row}
 use Rattle.elf_objects.specs.declared.symbol.Reloc.{Reloc}
 use Rattle.elf_objects.specs.Elf.{Elf, SectionEntry}
 use Rattle.elf_objects.specs.Contents.{is_text, section_symbol_of}
-use Rattle.elf_objects.specs.Kind.{r_pc32}
+use Rattle.elf_objects.specs.declared.TheConstants.{R_X86_64_PC32}
 use Rattle.elf_objects.specs.Number.{half, word}
 use Rattle.walk_defs.specs.Fields.{HasKnownFields}
 use Rattle.orc_bytes.specs.declared.fault.SlotWhy.{SlotWhy}
@@ -59,7 +59,7 @@ pub record HasReloc (parts : OrcParts) (i : ℕ) (reloc : Reloc) : Type 0 where
 
 pub record IsAtRow (parts : OrcParts) (i : ℕ) (reloc : Reloc) : Type 0 where
   pub own : HasReloc parts i reloc
-  pub kind : reloc.kind ≡ r_pc32
+  pub kind : reloc.kind ≡ R_X86_64_PC32
   pub offset : reloc.offset ≡ 4 * i
 
 -- The relocation tells a place of a text section: its offset, up to the section's size.
@@ -80,8 +80,8 @@ pub record HasPlace (object : Elf) (parts : OrcParts) (i : ℕ) (place : Place) 
 pub data PlaceFault (object : Elf) (parts : OrcParts) (i : ℕ) : SlotWhy → Type 0 where
   no_reloc : slice_get parts.relocs i ≡ None → PlaceFault object parts i NoReloc
   more : i + 1 ≡ row_count parts → row_count parts < length parts.relocs → PlaceFault object parts i NoReloc
-  kind : (reloc : Reloc) → HasReloc parts i reloc → reloc.kind ≢ r_pc32 → PlaceFault object parts i Kind
-  offset : (reloc : Reloc) → HasReloc parts i reloc → reloc.kind ≡ r_pc32 → reloc.offset ≢ 4 * i → PlaceFault object parts i Offset
+  kind : (reloc : Reloc) → HasReloc parts i reloc → reloc.kind ≢ R_X86_64_PC32 → PlaceFault object parts i Kind
+  offset : (reloc : Reloc) → HasReloc parts i reloc → reloc.kind ≡ R_X86_64_PC32 → reloc.offset ≢ 4 * i → PlaceFault object parts i Offset
   symbol : (reloc : Reloc) → IsAtRow parts i reloc → ((sec : ℕ) (section : SectionEntry) → StandsForText object reloc.sym sec section → ⊥) → PlaceFault object parts i Symbol
   range : (reloc : Reloc) (sec : ℕ) (section : SectionEntry) → IsAtRow parts i reloc → StandsForText object reloc.sym sec section → ((off : ℕ) → reloc.addend ≡ pos off → section.size < off) → PlaceFault object parts i Range
   not_zero : (reloc : Reloc) (place : Place) → IsAtRow parts i reloc → TellsPlace object reloc place → word parts.ips (4 * i) ≢ 0 → PlaceFault object parts i NotZero

@@ -5,7 +5,7 @@ use Rattle.ot_base.specs.declared.row.PlacedRow.{PlacedRow}
 use Rattle.elf_objects.specs.declared.symbol.Reloc.{Reloc}
 use Rattle.elf_objects.specs.Elf.{Elf, SectionEntry}
 use Rattle.elf_objects.specs.Contents.{is_text, section_symbol_of}
-use Rattle.elf_objects.specs.Kind.{r_pc32}
+use Rattle.elf_objects.specs.declared.TheConstants.{R_X86_64_PC32}
 use Rattle.orc_bytes.specs.RowBytes.{bytes_of_row, IsRow}
 use Rattle.orc_bytes.specs.RelocBytes.{bytes_of_reloc}
 
@@ -22,7 +22,7 @@ ip_section rows = replicate (4 * length rows) 0
 abbrev pub slot : (ℕ → Option ℕ) → ℕ → PlacedRow → Reloc
 slot section_symbol offset placed = record {
   offset = offset;
-  kind = r_pc32;
+  kind = R_X86_64_PC32;
   sym = unwrap_or (section_symbol placed.place.sec) 0;
   addend = pos placed.place.off;
 }

@@ -8,7 +8,7 @@ use Rattle.std.proofs.lemmas.List.Sums.{AllPass-from_list_all}
 use Rattle.ot_base.specs.declared.row.PlacedRow.{PlacedRow}
 use Rattle.elf_objects.specs.Contents.{section_symbol_of}
 use Rattle.elf_objects.specs.Elf.{Elf, SectionEntry}
-use Rattle.elf_objects.specs.Kind.{sht_rela}
+use Rattle.elf_objects.specs.declared.TheConstants.{SHT_RELA}
 use Rattle.elf_objects.specs.Symbols.{IsRelocOf}
 use Rattle.elf_write.specs.Added.{AreApart, CanAdd, IsAddable, IsPlain, IsRelocs, relocs_in, sizes}
 use Rattle.elf_write.specs.Layout.{NewEntry}
@@ -82,7 +82,7 @@ rela_form o rows k can =
           (All-weaker (IsInside o (length rows)) (λ r. IsRelocOf r (length o.symbols) (4 * length rows)) (λ r h. h.inside) (slots (section_symbol_of o) rows) inside));
     }
 
-apart_of : (a b c : NewEntry) → a.kind ≢ sht_rela → b.kind ≢ sht_rela → AllPairs AreApart (a ∷ b ∷ c ∷ [])
+apart_of : (a b c : NewEntry) → a.kind ≢ SHT_RELA → b.kind ≢ SHT_RELA → AllPairs AreApart (a ∷ b ∷ c ∷ [])
 apart_of a b c na nb zero j d lt within = λ k l. absurd (na k)
 apart_of a b c na nb (suc zero) j d lt within = λ k l. absurd (nb k)
 apart_of a b c na nb (suc (suc i)) j d lt within = absurd (omega arith)

@@ -11,7 +11,7 @@ use Rattle.ot_base.specs.declared.row.PlacedRow.{PlacedRow}
 use Rattle.elf_objects.specs.declared.symbol.Reloc.{Reloc}
 use Rattle.elf_objects.specs.Contents.{is_text, no_section, section_symbol_of}
 use Rattle.elf_objects.specs.Elf.{Elf, SectionEntry}
-use Rattle.elf_objects.specs.Kind.{sht_progbits}
+use Rattle.elf_objects.specs.declared.TheConstants.{SHT_PROGBITS}
 use Rattle.elf_write.specs.Added.{new_sections, old_section, relocs_in, relocs_with}
 use Rattle.elf_write.specs.Layout.{NewEntry, Input, all_names, end_of, names_place, long_count}
 use Rattle.elf_write.specs.Object.{input_of_object}
@@ -79,8 +79,8 @@ relocs-new o rows =
     rw same refl
 
 -- an old text section is as it was
-text-kind : (s : SectionEntry) → is_text s ≡ true → s.kind ≡ sht_progbits
-text-kind s h = eqb-true s.kind sht_progbits (and_parts _ _ h).0
+text-kind : (s : SectionEntry) → is_text s ≡ true → s.kind ≡ SHT_PROGBITS
+text-kind s h = eqb-true s.kind SHT_PROGBITS (and_parts _ _ h).0
 
 stays : (o : Elf) (rows : List PlacedRow) → Known o → (k : ℕ) (s : SectionEntry) → slice_get o.sections k ≡ Some s → is_text s ≡ true
     → slice_get (with_orc_object o rows).sections k ≡ Some s
@@ -89,7 +89,7 @@ stays o rows known k s at text =
     let inside : k < length o.sections = slice_get_within o.sections k s at in
     let l = length-olds o rows in
     let is : get_or o.sections k no_section ≡ s = get_or_from_slice_get o.sections k s no_section at in
-    let kept : (get_or o.sections k no_section).kind ≡ sht_progbits = ap (λ (x : SectionEntry). x.kind) is ∙ kind in
+    let kept : (get_or o.sections k no_section).kind ≡ SHT_PROGBITS = ap (λ (x : SectionEntry). x.kind) is ∙ kind in
     let first : (k == 0) ≡ false = ne_eqb k 0 (λ e. let z = ap (λ (n : ℕ). (get_or o.sections n no_section).kind) e in let null = known.first_kind in omega arith) in
     let table : (k == o.name_table) ≡ false = ne_eqb k o.name_table (λ e. let z = ap (λ (n : ℕ). (get_or o.sections n no_section).kind) e in let strings = known.table_kind in omega arith) in
     let f = old_section (input_of_object o) (length o.sections + 3) (orc_sections o rows) in

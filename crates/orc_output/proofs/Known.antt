@@ -5,7 +5,7 @@ use Rattle.elf_objects.specs.Contents.{elf_of, no_section, section_at, section_e
 use Rattle.elf_objects.specs.Elf.{Elf, SectionEntry}
 use Rattle.elf_objects.specs.File.{name_table, section_count, section_header}
 use Rattle.elf_objects.specs.Header.{has_body}
-use Rattle.elf_objects.specs.Kind.{sht_null, sht_strtab, sht_symtab, sht_rela}
+use Rattle.elf_objects.specs.declared.TheConstants.{SHT_NULL, SHT_STRTAB, SHT_SYMTAB, SHT_RELA}
 use Rattle.elf_objects.specs.Object.{IsObject, IsWellFormed}
 use Rattle.elf_objects.specs.Sections.{link_of}
 use Rattle.elf_objects.specs.Table.{body_of, is_kind, symbol_table}
@@ -21,9 +21,9 @@ pub record Known (o : Elf) : Type 0 where
   pub named : 1 ≤ o.name_table
   pub in_table : o.name_table < length o.sections
   pub names : length (section_at o o.name_table).body ≤ length o.bytes
-  pub first_kind : (section_at o 0).kind ≡ sht_null
-  pub table_kind : (section_at o o.name_table).kind ≡ sht_strtab
-  pub infos : (k : ℕ) (d : SectionEntry) → k < length o.sections → (get_or o.sections k d).kind ≡ sht_rela → (get_or o.sections k d).info < length o.sections
+  pub first_kind : (section_at o 0).kind ≡ SHT_NULL
+  pub table_kind : (section_at o o.name_table).kind ≡ SHT_STRTAB
+  pub infos : (k : ℕ) (d : SectionEntry) → k < length o.sections → (get_or o.sections k d).kind ≡ SHT_RELA → (get_or o.sections k d).info < length o.sections
   pub link : link_of o.symbol_table < length o.sections
   pub few_symbols : length o.symbols ≤ 4194304
 
@@ -50,13 +50,13 @@ entry-body b k = refl
 
 table-below : (b : List ℕ) (t : Option ℕ) → 0 < section_count b → symbol_table b ≡ t → link_of t < section_count b
 table-below b None some e = some
-table-below b (Some i) some e = (least_below-some (is_kind b sht_symtab) (section_count b) i e).below
+table-below b (Some i) some e = (least_below-some (is_kind b SHT_SYMTAB) (section_count b) i e).below
 
-info-below : (b : List ℕ) → IsWellFormed b → (k : ℕ) (d : SectionEntry) → k < section_count b → (get_or (elf_of b).sections k d).kind ≡ sht_rela
+info-below : (b : List ℕ) → IsWellFormed b → (k : ℕ) (d : SectionEntry) → k < section_count b → (get_or (elf_of b).sections k d).kind ≡ SHT_RELA
     → (get_or (elf_of b).sections k d).info < section_count b
 info-below b w k d h kind =
     let at = section-at b k d h in
-    let rela : (section_header b k).kind ≡ sht_rela = sym (entry-kind b k) ∙ sym (ap (λ (s : SectionEntry). s.kind) at) ∙ kind in
+    let rela : (section_header b k).kind ≡ SHT_RELA = sym (entry-kind b k) ∙ sym (ap (λ (s : SectionEntry). s.kind) at) ∙ kind in
     let is : (get_or (elf_of b).sections k d).info ≡ (section_header b k).info = ap (λ (s : SectionEntry). s.info) at ∙ entry-info b k in
     let below = ((w.links k h).relocs rela).exists in
     omega arith

@@ -3,7 +3,7 @@ use Rattle.std.specs.Prelude.{◌≢◌, ℕ, ◌+◌, ◌≤◌, List, [], ◌�
 use Rattle.ot_base.specs.declared.row.PlacedRow.{PlacedRow}
 use Rattle.elf_objects.specs.Contents.{section_symbol_of}
 use Rattle.elf_objects.specs.Elf.{Elf, SectionEntry}
-use Rattle.elf_objects.specs.Kind.{sht_progbits, sht_rela}
+use Rattle.elf_objects.specs.declared.TheConstants.{SHT_PROGBITS, SHT_RELA}
 use Rattle.elf_objects.specs.Sections.{link_of}
 use Rattle.elf_write.specs.Added.{object_with}
 use Rattle.elf_write.specs.Layout.{NewEntry}
@@ -20,7 +20,7 @@ shf_info_link = 0x40
 abbrev pub orc_entry : List ℕ → NewEntry
 orc_entry body = record {
   name = codes ".orc_unwind";
-  kind = sht_progbits;
+  kind = SHT_PROGBITS;
   flags = shf_alloc;
   link = 0;
   info = 0;
@@ -33,7 +33,7 @@ orc_entry body = record {
 abbrev pub ip_entry : List ℕ → NewEntry
 ip_entry body = record {
   name = codes ".orc_unwind_ip";
-  kind = sht_progbits;
+  kind = SHT_PROGBITS;
   flags = shf_alloc;
   link = 0;
   info = 0;
@@ -50,7 +50,7 @@ ip_number o = length o.sections + 1
 abbrev pub rela_entry : Elf → List ℕ → NewEntry
 rela_entry o body = record {
   name = codes ".rela.orc_unwind_ip";
-  kind = sht_rela;
+  kind = SHT_RELA;
   flags = shf_info_link;
   link = link_of o.symbol_table;
   info = ip_number o;

@@ -6,7 +6,7 @@ use Rattle.std.proofs.lemmas.List.FromFn.{length-map-range_with_len}
 use Rattle.elf_objects.specs.Below.{least_below, first_of}
 use Rattle.elf_objects.specs.File.{section_count, section_header}
 use Rattle.elf_objects.specs.Header.{has_body}
-use Rattle.elf_objects.specs.Kind.{sht_rela}
+use Rattle.elf_objects.specs.declared.TheConstants.{SHT_RELA}
 use Rattle.elf_objects.specs.Object.{IsWellFormed}
 use Rattle.elf_objects.specs.Contents.{relocs_of}
 use Rattle.elf_objects.specs.Table.{header_of, is_rela_of, rela_of, reloc_of}
@@ -37,14 +37,14 @@ module _ (b : List ℕ) (well : IsWellFormed b) where
   -- the section i has the relocations of the section s
   record HasRelocsOf (s i : ℕ) : Type 0 where
     below : i < section_count b
-    kind : (section_header b i).kind ≡ sht_rela
+    kind : (section_header b i).kind ≡ SHT_RELA
     info : (section_header b i).info ≡ s
 
   has_relocs : (s i : ℕ) → rela_of b s ≡ Some i → HasRelocsOf s i
   unfolding rela_of
   has_relocs s i found =
       let l = least (is_rela_of b s) (section_count b) i found in
-      let kind : eqb (section_header b i).kind sht_rela ≡ true = grind (arith, nat_tests, l.passes) in
+      let kind : eqb (section_header b i).kind SHT_RELA ≡ true = grind (arith, nat_tests, l.passes) in
       record { below = l.below; kind = grind (arith, nat_tests, l.passes); info = grind (arith, nat_tests, l.passes) }
 
   has_body_there : (s i : ℕ) → HasRelocsOf s i → has_body (section_header b i) ≡ true

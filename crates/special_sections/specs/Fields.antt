@@ -3,7 +3,7 @@ use Rattle.std.specs.Prelude.{ℕ, ◌%◌, ◌+◌, ◌==◌, ◌&&◌, not, na
 use Rattle.ot_base.specs.declared.place.Place.{Place}
 use Rattle.elf_objects.specs.Elf.{Elf}
 use Rattle.elf_objects.specs.Contents.{is_text, section_at}
-use Rattle.elf_objects.specs.Kind.{shf_compressed}
+use Rattle.elf_objects.specs.declared.TheConstants.{SHF_COMPRESSED}
 use Rattle.object_places.specs.Places.{points_at, pointer_at}
 use Rattle.special_sections.specs.declared.fault.Why.{Why}
 use Rattle.special_sections.specs.declared.fault.Why.TheVariants.{Compressed, Size}
@@ -43,7 +43,7 @@ abbrev pub leaves_section : Elf → Place → ℕ → Bool
 leaves_section o place len = nat_lt (section_at o place.sec).size (place.off + len)
 
 abbrev pub is_compressed : Elf → ℕ → Bool
-is_compressed o sec = not (bit_and (section_at o sec).flags shf_compressed == 0)
+is_compressed o sec = not (bit_and (section_at o sec).flags SHF_COMPRESSED == 0)
 
 -- why a section whose entries have a number of bytes each is refused
 abbrev pub table_why : ℕ → Elf → ℕ → Option Why

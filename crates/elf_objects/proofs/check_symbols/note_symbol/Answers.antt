@@ -6,14 +6,14 @@ use Rattle.elf_objects.specs.declared.symbol.Home.{Home}
 use Rattle.elf_objects.specs.declared.symbol.RawSymbol.{RawSymbol}
 use Rattle.elf_objects.specs.File.{section_count}
 use Rattle.elf_objects.specs.Found.{stands_for_section}
-use Rattle.elf_objects.specs.Kind.{stt_section}
+use Rattle.elf_objects.specs.declared.TheConstants.{STT_SECTION}
 use Rattle.elf_objects.specs.Table.{raw_symbol, symbol_home}
 use Rattle.elf_objects.proofs.Found.{AreLeast-other, AreLeast-set}
 use Rattle.elf_objects.proofs.Homes.{home-exists}
 use Rattle.elf_objects.proofs.check_symbols.note_symbol.Goals as goal
 
 -- what a symbol stands for, by its fields and its home
-stands : (b : List ℕ) (k s : ℕ) (raw : RawSymbol) (home : Home) → raw ≡ raw_symbol b k → home ≡ symbol_home b k → ((raw.info % 16 == stt_section) && (raw.value == 0) && is_home s home) ≡ stands_for_section b s k
+stands : (b : List ℕ) (k s : ℕ) (raw : RawSymbol) (home : Home) → raw ≡ raw_symbol b k → home ≡ symbol_home b k → ((raw.info % 16 == STT_SECTION) && (raw.value == 0) && is_home s home) ≡ stands_for_section b s k
 unfolding symbol_entry
 stands b k s raw home e h = rw (e, h) refl
 
