@@ -9,7 +9,7 @@ use Rattle.elf_objects.specs.declared.symbol.Home.TheVariants as homes
 use Rattle.elf_objects.specs.declared.symbol.Reloc.{Reloc}
 use Rattle.elf_objects.specs.Elf.{Elf}
 use Rattle.elf_objects.specs.Contents.{symbol_at}
-use Rattle.elf_objects.specs.Kind.{r_pc32, r_plt32}
+use Rattle.elf_objects.specs.declared.TheConstants.{R_X86_64_PC32, R_X86_64_PLT32}
 use Rattle.object_places.specs.Places.{offset_of, reloc_at}
 use Rattle.symbols_relocs.specs.declared.target.Target.{Target}
 use Rattle.symbols_relocs.specs.declared.target.Target.TheVariants.{Inside, Either, Outside, ThunkIndirect, ThunkReturn, Bad}
@@ -27,7 +27,7 @@ return_thunk = codes "__x86_return_thunk"
 
 -- a relocation of a branch has the type R_X86_64_PC32 or R_X86_64_PLT32
 abbrev pub is_branch_kind : ℕ → Bool
-is_branch_kind kind = (kind == r_pc32) || (kind == r_plt32)
+is_branch_kind kind = (kind == R_X86_64_PC32) || (kind == R_X86_64_PLT32)
 
 abbrev pub is_indirect_thunk : List ℕ → Bool
 is_indirect_thunk name = bytes_eq (take (length thunk_prefix) name) thunk_prefix
