@@ -1,0 +1,115 @@
+//! The command `dump`.
+
+use super::object::{SIZE, changed, without_tables};
+use super::{Command, NEVER, expect};
+use objtool_cli::Status;
+use std::alloc::{AllocError, Global};
+use std::process::Abort;
+use std::test::Fail;
+
+/// The rows of the object.
+const LINES: &[u8] = b"\
+.text+0x0: call cfa sp+8 bp undef+0
+.text+0x1: call cfa sp+16 bp prev-16
+.text+0x4: call cfa bp+16 bp prev-16
+.text+0x5: call cfa sp+8 bp undef+0
+.text+0x6: undefined cfa undef+0 bp undef+0
+";
+
+/// `dump` of these bytes, where nothing fails.
+fn dump(object: &[u8]) -> Command<'_> {
+    Command {
+        words: &["dump", "OBJECT"],
+        object,
+        image: b"",
+        file_call: NEVER,
+        most: 100,
+        write: NEVER,
+    }
+}
+
+#[test]
+fn the_rows_are_printed(rt: HostRuntime) -> Result<(), Fail> {
+    let alloc = rt.alloc();
+    let object = changed(alloc, SIZE, &[])?;
+    let whole = dump(&object);
+    assert_eq!(rt; LINES.len(), 190);
+    expect(&rt, alloc, whole, Status::Done, LINES)?;
+    expect(
+        &rt,
+        alloc,
+        Command { most: 1, ..whole },
+        Status::Done,
+        LINES,
+    )?;
+    Ok(())
+}
+
+#[test]
+fn an_output_that_fails_has_the_bytes_before(rt: HostRuntime) -> Result<(), Fail> {
+    let alloc = rt.alloc();
+    let object = changed(alloc, SIZE, &[])?;
+    for (write, _) in LINES.iter().enumerate() {
+        let failing = Command {
+            most: 1,
+            write: write as u64,
+            ..dump(&object)
+        };
+        let before = LINES.get(..write).unwrap_or(LINES);
+        expect(&rt, alloc, failing, Status::SinkFault, before)?;
+    }
+    Ok(())
+}
+
+#[test]
+fn no_table_and_no_file(rt: HostRuntime) -> Result<(), Fail> {
+    let alloc = rt.alloc();
+    let plain = without_tables(alloc)?;
+    let plain = dump(&plain);
+    let line = b"refused: no section .orc_unwind\n";
+    expect(&rt, alloc, plain, Status::Refused, line)?;
+    let unread = Command {
+        file_call: 0,
+        ..plain
+    };
+    let line = b"file fault: OBJECT\n";
+    expect(&rt, alloc, unread, Status::FileFault, line)?;
+    let missing = Command {
+        words: &["dump", "OTHER"],
+        ..plain
+    };
+    let line = b"refused: OTHER is missing\n";
+    expect(&rt, alloc, missing, Status::Refused, line)?;
+    Ok(())
+}
+
+/// The object with one other byte is refused by this line.
+fn expect_bad(
+    rt: &impl Abort,
+    alloc: Global,
+    at: usize,
+    byte: u8,
+    line: &[u8],
+) -> Result<(), AllocError> {
+    let object = changed(alloc, SIZE, &[(at, &[byte])])?;
+    expect(rt, alloc, dump(&object), Status::Refused, line)
+}
+
+#[test]
+fn a_table_with_a_changed_byte_is_refused(rt: HostRuntime) -> Result<(), Fail> {
+    let table: [(usize, u8, &[u8]); 6] = [
+        // Bit 12 of the third field of row 0.
+        (589, 0x12, b"refused: row 0: bad bits\n"),
+        // The place of row 0 isn't zero.
+        (616, 1, b"refused: row 0: bad slot: NotZero\n"),
+        // Offset, type, symbol and addend of its relocation.
+        (640, 1, b"refused: row 0: bad slot: Offset\n"),
+        (648, 4, b"refused: row 0: bad slot: Kind\n"),
+        (652, 2, b"refused: row 0: bad slot: Symbol\n"),
+        (656, 7, b"refused: row 0: bad slot: Range\n"),
+    ];
+    for (at, byte, line) in table {
+        expect_bad(&rt, rt.alloc(), at, byte, line)?;
+    }
+    Ok(())
+}
