@@ -3,3 +3,4 @@ pub mod NumberLemmas
 pub mod PieceLemmas
 pub mod SayingLemmas
 pub mod ImageLemmas
+pub mod ByteLemmas

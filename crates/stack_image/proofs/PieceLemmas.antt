@@ -47,7 +47,7 @@ overlaps one other h k = overlap_bits one.base (end_of one) other.base (end_of o
 true_false : {A : Type 0} {b : Bool} → b ≡ true → b ≡ false → A
 true_false one other = cc
 
-none_some : {A B : Type 0} {o : Option A} {x : A} → o ≡ None → o ≡ Some x → B
+pub none_some : {A B : Type 0} {o : Option A} {x : A} → o ≡ None → o ≡ Some x → B
 none_some one other = cc
 
 Some-same : {A : Type 0} {o : Option A} {x y : A} → o ≡ Some x → o ≡ Some y → x ≡ y
@@ -126,13 +126,13 @@ inserted (e ∷ es) k v some full alone =
 pub more_pieces : (es : List Entry) (k : ℕ) (v : Vec ℕ Global) → 0 < length v.items → All (λ p. 0 < length p.bytes) (pieces_of es) → All (λ p. overlap p (made k v) ≡ false) (pieces_of es) → IsPermutation (made k v ∷ pieces_of es) (pieces_of (insert_entry nat_cmp es k v))
 more_pieces es k v some full alone = IsPermutation-map piece_of ((k, v) ∷ es) (insert_entry nat_cmp es k v) (inserted es k v some full alone)
 
-abbrev Before : Piece → Piece → Type 0
+abbrev pub Before : Piece → Piece → Type 0
 Before one other = end_of one ≤ other.base
 
 pairs_head : (p : Piece) (ps : List Piece) → AllPairs Before (p ∷ ps) → All (Before p) ps
 pairs_head p ps pairs = λ k d lt. pairs 0 (suc k) d (omega arith) (omega arith)
 
-pairs_tail : (p : Piece) (ps : List Piece) → AllPairs Before (p ∷ ps) → AllPairs Before ps
+pub pairs_tail : (p : Piece) (ps : List Piece) → AllPairs Before (p ∷ ps) → AllPairs Before ps
 pairs_tail p ps pairs = λ i j d less lt. pairs (suc i) (suc j) d (omega arith) (omega arith)
 
 below_first : (p x : Piece) → 0 < length p.bytes → overlap p x ≡ false → x.base < p.base → Before x p

@@ -4,3 +4,4 @@ pub mod Statements
 pub mod ImageFile
 pub mod Reading
 pub mod FaultText
+pub mod Laws

@@ -4,6 +4,7 @@
 mod fault;
 mod fault_text;
 mod image;
+mod laws;
 mod lines;
 mod numbers;
 mod ranges;
@@ -12,6 +13,7 @@ mod statements;
 
 pub use fault::{ImageFault, ImageWhy};
 pub use image::Image;
+pub use laws::memory_is_said;
 pub use orc_unwind::{Memory, Regs};
 
 #[cfg(test)]
