@@ -3,7 +3,7 @@
 ghost use Rattle.std.specs.Prelude.{◌≡◌, ◌<◌, ◌≤◌, ◌+◌, ◌^◌, ℕ, None, [], length, slice_index_or, IfOk, IfErr, OnOk};
 ghost use Rattle.elf_objects.specs.Contents.{relocs_at};
 ghost use Rattle.object_places.specs.Places as places;
-ghost use Rattle.object_places.specs.Relocs.{IsIndexOf};
+ghost use Rattle.object_places.specs.Relocs.{at_offset, IsIndexOf};
 ghost use Rattle.symbols_relocs.specs.Faults.{Tells};
 ghost use Rattle.symbols_relocs.specs.Functions.{first_bad, function_at as function_symbol_at, starts_at as starts_symbol_at};
 ghost use Rattle.symbols_relocs.specs.Lists.{AreFunctions, HaveParents, IsIndexOfSymbol};
@@ -74,6 +74,13 @@ impl<'o, 'a> Index<'o, 'a> {
         })
     }
 
+    /// The object that it was built from.
+    pub fn object(&self) -> &'o Object<'a>
+        ensures { result.now ≡ self.now.elf }
+    {
+        self.object
+    }
+
     /// The functions, each once, in the order of their starts.
     pub fn functions(&self) -> &[Function]
         ensures value { result.now ≡ self.now.functions }
@@ -111,6 +118,16 @@ impl<'o, 'a> Index<'o, 'a> {
     {
         let index = find_start(&self.functions, place)?;
         Some(index as u32)
+    }
+
+    /// The relocations whose field begins at a place, in the order of the file.
+    pub fn relocs_at(&self, place: Place) -> &[Reloc]
+        ensures { result.now ≡ at_offset place.off (relocs_at self.now.elf place.sec) }
+    {
+        if place.sec >= self.object.sections() {
+            return &[];
+        }
+        self.relocs[place.sec as usize].at(place.off)
     }
 
     /// The relocation whose field begins at a place, whatever its type: the first in the order of the file.
