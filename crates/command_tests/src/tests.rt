@@ -304,8 +304,11 @@ fn a_file_that_is_too_long_is_refused(rt: HostRuntime) -> Result<(), Fail> {
 #[test]
 fn other_words_are_no_command(rt: HostRuntime) -> Result<(), Fail> {
     let alloc = rt.alloc();
-    let table: [&[&str]; 10] = [
+    let table: [&[&str]; 13] = [
         &[],
+        &["dump"],
+        &["dump", "-f"],
+        &["dump", "IN", "OUT"],
         &["check"],
         &["check", "IN"],
         &["check", "IN", "OUT", "x"],
