@@ -3,3 +3,8 @@ pub mod Chain
 pub mod Sizes
 pub mod Targets
 pub mod Can
+pub mod FileHeader
+pub mod Placed
+pub mod Fields
+pub mod ReadBack
+pub mod WellFormed

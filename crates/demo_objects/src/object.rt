@@ -29,6 +29,7 @@ use std::alloc::Global;
 pub fn make(alloc: Global, spec: &Spec) -> Result<Vec<u8>, NoMemory>
     requires { CanMake (spec_of spec.now) }
     ensures layout { IfOk result (λ file. file.items ≡ made (spec_of spec.now)) }
+    ensures well_formed { IfOk result (λ file. IsWellFormed file.items) }
 {
     let sections = all_sections(alloc, spec)?;
     file_of(alloc, &sections)
@@ -68,7 +69,7 @@ fn lay_out(alloc: Global, spec: &Spec) -> Result<Option<Vec<u8>>, NoMemory>
 ///
 /// [`NoMemory`] where memory was wanted and not there.
 pub fn build(alloc: Global, spec: &Spec) -> Result<Option<Vec<u8>>, NoMemory>
-    ensures exact { IfOk result (λ built. IsSome built ↔ (CanLayOut (spec_of spec.now) × IsWellFormed (made (spec_of spec.now)))) }
+    ensures exact { IfOk result (λ built. IsSome built ↔ CanMake (spec_of spec.now)) }
     ensures layout { IfOk result (λ built. IfSome built (λ file. file.items ≡ made (spec_of spec.now))) }
 {
     let Some(file) = lay_out(alloc, spec)? else {

@@ -1,13 +1,16 @@
 use Rattle.std.proofs.Common.{◌≡◌, ◌+◌, ◌<◌, ◌^◌, List, length, sym, ap, subst, ◌∙◌, arith}
 use Rattle.std.specs.Prelude.{IfOk}
 use Rattle.std.proofs.lemmas.List.{length-map}
+use Rattle.std.proofs.lemmas.Result.{IfOk-weaker}
+use Rattle.elf_objects.specs.Object.{IsWellFormed}
 use Rattle.elf_write.specs.Layout.{NewEntry, new_names}
 use Rattle.elf_write.specs.New.{entries, entry_of}
 use Rattle.demo_objects.specs.Layout.{file_of}
-use Rattle.demo_objects.specs.Made.{all_sections}
+use Rattle.demo_objects.specs.Made.{all_sections, made}
 use Rattle.demo_objects.specs.Spec.{spec_of, symbol_of}
 use Rattle.demo_objects.proofs.Can.{room}
 use Rattle.demo_objects.proofs.Sizes.{AreAligned}
+use Rattle.demo_objects.proofs.WellFormed.{well-formed}
 use Rattle.demo_objects.proofs.object.make.Goals as goal
 
 pub all_sections-requires : goal.all_sections-requires
@@ -46,5 +49,10 @@ file_of-requires c =
 
 pub returns : goal.returns
 returns c =
-    let is : entries c.deref.result.now ≡ all_sections (spec_of c.args.spec.now) = ap entries c.deref.ensures.value ∙ c.in_ok-sections.ensures in
-    record { layout = subst (λ (es : List NewEntry). IfOk c.file_of.result (λ file. file.items ≡ file_of es)) is c.file_of.ensures }
+    let s = spec_of c.args.spec.now in
+    let is : entries c.deref.result.now ≡ all_sections s = ap entries c.deref.ensures.value ∙ c.in_ok-sections.ensures in
+    let layout : IfOk c.file_of.result (λ file. file.items ≡ made s) = subst (λ (es : List NewEntry). IfOk c.file_of.result (λ file. file.items ≡ file_of es)) is c.file_of.ensures in
+    record {
+      layout = layout;
+      well_formed = IfOk-weaker c.file_of.result (λ file. file.items ≡ made s) (λ file. IsWellFormed file.items) (λ file e. subst IsWellFormed (sym e) (well-formed s c.requires)) layout;
+    }
