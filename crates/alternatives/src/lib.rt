@@ -15,3 +15,6 @@ pub use site::Site;
 pub use sites::Sites;
 pub use special_sections::AltEntry;
 pub use texts::SectionText;
+
+#[cfg(test)]
+mod tests;
