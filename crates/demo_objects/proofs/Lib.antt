@@ -8,3 +8,4 @@ pub mod Placed
 pub mod Fields
 pub mod ReadBack
 pub mod WellFormed
+pub mod SaysSections

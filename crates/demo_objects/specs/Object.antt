@@ -1,5 +1,5 @@
 -- What an object that is made says.
-use Rattle.std.specs.Prelude.{ℕ, ◌+◌, ◌-◌, ◌==◌, ◌&&◌, List, [], ◌∷◌, length, map, Option, Some, None, if◌then◌else◌}
+use Rattle.std.specs.Prelude.{◌≡◌, ℕ, ◌+◌, ◌-◌, ◌==◌, ◌&&◌, List, [], ◌∷◌, length, map, Option, Some, None, if◌then◌else◌}
 use Rattle.std.specs.List.{find, range_with_len}
 use Rattle.elf_objects.specs.declared.TheConstants.{SHT_RELA}
 use Rattle.elf_objects.specs.declared.symbol.Reloc.{Reloc}
@@ -66,3 +66,10 @@ object_of s = record {
   symbols = no_symbol ∷ map said_symbol s.symbols;
   relocs = map (said_relocs s) (range_with_len 0 (length (all_sections s) + 1));
 }
+
+-- one says of its sections what the other does
+pub record SaysSections (o other : Elf) : Type 0 where
+  pub bytes : o.bytes ≡ other.bytes
+  pub headers_at : o.headers_at ≡ other.headers_at
+  pub name_table : o.name_table ≡ other.name_table
+  pub sections : o.sections ≡ other.sections

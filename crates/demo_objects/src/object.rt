@@ -1,9 +1,11 @@
 //! The public calls.
 
 ghost use Rattle.std.specs.Prelude.{◌≡◌, ◌<◌, ◌^◌, ◌↔◌, IfOk, IfSome, IsSome, IsTrue, length};
+ghost use Rattle.elf_objects.specs.Contents.{elf_of};
 ghost use Rattle.elf_objects.specs.Object.{IsWellFormed};
 ghost use Rattle.demo_objects.specs.CanMake.{CanLayOut, CanMake};
 ghost use Rattle.demo_objects.specs.Made.{made};
+ghost use Rattle.demo_objects.specs.Object.{SaysSections, object_of};
 ghost use Rattle.demo_objects.specs.Spec.{spec_of};
 
 use crate::file::file_of;
@@ -30,6 +32,7 @@ pub fn make(alloc: Global, spec: &Spec) -> Result<Vec<u8>, NoMemory>
     requires { CanMake (spec_of spec.now) }
     ensures layout { IfOk result (λ file. file.items ≡ made (spec_of spec.now)) }
     ensures well_formed { IfOk result (λ file. IsWellFormed file.items) }
+    ensures sections { IfOk result (λ file. SaysSections (elf_of file.items) (object_of (spec_of spec.now))) }
 {
     let sections = all_sections(alloc, spec)?;
     file_of(alloc, &sections)

@@ -1,8 +1,10 @@
-use Rattle.std.proofs.Common.{◌≡◌, ◌+◌, ◌<◌, ◌^◌, List, length, sym, ap, subst, ◌∙◌, arith}
+use Rattle.std.proofs.Common.{◌≡◌, ℕ, ◌+◌, ◌<◌, ◌^◌, List, length, sym, ap, subst, ◌∙◌, arith}
 use Rattle.std.specs.Prelude.{IfOk}
 use Rattle.std.proofs.lemmas.List.{length-map}
 use Rattle.std.proofs.lemmas.Result.{IfOk-weaker}
+use Rattle.elf_objects.specs.Contents.{elf_of}
 use Rattle.elf_objects.specs.Object.{IsWellFormed}
+use Rattle.demo_objects.specs.Object.{SaysSections, object_of}
 use Rattle.elf_write.specs.Layout.{NewEntry, new_names}
 use Rattle.elf_write.specs.New.{entries, entry_of}
 use Rattle.demo_objects.specs.Layout.{file_of}
@@ -10,6 +12,7 @@ use Rattle.demo_objects.specs.Made.{all_sections, made}
 use Rattle.demo_objects.specs.Spec.{spec_of, symbol_of}
 use Rattle.demo_objects.proofs.Can.{room}
 use Rattle.demo_objects.proofs.Sizes.{AreAligned}
+use Rattle.demo_objects.proofs.SaysSections.{says-sections}
 use Rattle.demo_objects.proofs.WellFormed.{well-formed}
 use Rattle.demo_objects.proofs.object.make.Goals as goal
 
@@ -55,4 +58,5 @@ returns c =
     record {
       layout = layout;
       well_formed = IfOk-weaker c.file_of.result (λ file. file.items ≡ made s) (λ file. IsWellFormed file.items) (λ file e. subst IsWellFormed (sym e) (well-formed s c.requires)) layout;
+      sections = IfOk-weaker c.file_of.result (λ file. file.items ≡ made s) (λ file. SaysSections (elf_of file.items) (object_of s)) (λ file e. subst (λ (b : List ℕ). SaysSections (elf_of b) (object_of s)) (sym e) (says-sections s c.requires.laid_out)) layout;
     }
