@@ -5,6 +5,7 @@ ghost use Rattle.ot_files.specs.Memory.{names_of, names_differ};
 
 mod dumping;
 mod object;
+mod tables;
 
 use objtool_cli::Status;
 use ot_files::{MemFiles, MemSink};

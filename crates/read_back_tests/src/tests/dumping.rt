@@ -1,6 +1,7 @@
 //! The command `dump`.
 
 use super::object::{SIZE, changed, without_tables};
+use super::tables::{INTERRUPT_CODE, INTERRUPT_ROWS, with_rows};
 use super::{Command, NEVER, expect};
 use objtool_cli::Status;
 use std::alloc::{AllocError, Global};
@@ -112,4 +113,22 @@ fn a_table_with_a_changed_byte_is_refused(rt: HostRuntime) -> Result<(), Fail> {
         expect_bad(&rt, rt.alloc(), at, byte, line)?;
     }
     Ok(())
+}
+
+/// The rows of an interrupt's entry, behind those of a function.
+const INTERRUPT_LINES: &[u8] = b"\
+.text+0x0: call cfa sp+8 bp undef+0
+.text+0x1: call cfa sp+16 bp undef+0
+.text+0x2: call cfa sp+8 bp undef+0
+.text+0x3: partial cfa sp+0 bp undef+0 signal
+.text+0x4: partial cfa sp+8 bp undef+0 signal
+.text+0x5: partial cfa sp+0 bp undef+0 signal
+.text+0x7: undefined cfa undef+0 bp undef+0
+";
+
+#[test]
+fn rows_of_an_interrupt_are_printed(rt: HostRuntime) -> Result<(), Fail> {
+    let alloc = rt.alloc();
+    let object = with_rows(alloc, INTERRUPT_CODE, INTERRUPT_ROWS)?;
+    Ok(expect(&rt, alloc, dump(&object), Status::Done, INTERRUPT_LINES)?)
 }
