@@ -25,6 +25,9 @@ use std::alloc::Global;
 /// headers stand at the next multiple of 8. From 0xFF00 sections on header 0 tells how many there
 /// are, and which is the name table (ELF-64 gABI).
 ///
+/// The result is a well-formed object, and its sections are those. `CanMake` says of which specs one
+/// can be made; [`build`] takes any spec.
+///
 /// # Errors
 ///
 /// [`NoMemory`] where memory was wanted and not there.
