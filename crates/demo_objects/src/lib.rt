@@ -13,3 +13,6 @@ mod symbols;
 
 pub use object::{build, make};
 pub use spec::{RelSpec, Spec, SymSpec};
+
+#[cfg(test)]
+mod tests;
