@@ -2,18 +2,15 @@
 -- and have a size. Those with one start are one function, which is told by the lowest of their numbers.
 use Rattle.std.specs.Prelude.{ℕ, ◌+◌, ◌==◌, ◌&&◌, ◌||◌, not, nat_lt, nat_le, Bool, Option, is_some, option_and_then, length}
 use Rattle.ot_base.specs.declared.place.Place.{Place}
+use Rattle.elf_objects.specs.declared.TheConstants.{STT_FUNC}
 use Rattle.elf_objects.specs.Elf.{Elf}
 use Rattle.elf_objects.specs.Contents.{section_at, symbol_at}
 use Rattle.elf_objects.specs.Below.{least_below}
 use Rattle.symbols_relocs.specs.Places.{earlier, home_section, is_text_home, same_place}
 
--- the type STT_FUNC of a symbol
-abbrev pub stt_func : ℕ
-stt_func = 2
-
 -- the symbol is of type STT_FUNC and defined in a text section
 abbrev pub is_code : Elf → ℕ → Bool
-is_code o k = ((symbol_at o k).kind == stt_func) && is_text_home o (symbol_at o k).home
+is_code o k = ((symbol_at o k).kind == STT_FUNC) && is_text_home o (symbol_at o k).home
 
 -- the place of a symbol
 abbrev pub start_of : Elf → ℕ → Place

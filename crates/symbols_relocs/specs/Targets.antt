@@ -9,15 +9,11 @@ use Rattle.elf_objects.specs.declared.symbol.Home.TheVariants as homes
 use Rattle.elf_objects.specs.declared.symbol.Reloc.{Reloc}
 use Rattle.elf_objects.specs.Elf.{Elf}
 use Rattle.elf_objects.specs.Contents.{symbol_at}
-use Rattle.elf_objects.specs.declared.TheConstants.{R_X86_64_PC32, R_X86_64_PLT32}
+use Rattle.elf_objects.specs.declared.TheConstants.{STB_WEAK, R_X86_64_PC32, R_X86_64_PLT32}
 use Rattle.object_places.specs.Places.{offset_of, reloc_at}
 use Rattle.symbols_relocs.specs.declared.target.Target.{Target}
 use Rattle.symbols_relocs.specs.declared.target.Target.TheVariants.{Inside, Either, Outside, ThunkIndirect, ThunkReturn, Bad}
 use Rattle.symbols_relocs.specs.Places.{is_in_text}
-
--- the bind STB_WEAK of a symbol: another object may define it, and that definition goes before this one
-abbrev pub stb_weak : ℕ
-stb_weak = 2
 
 abbrev pub thunk_prefix : List ℕ
 thunk_prefix = codes "__x86_indirect_thunk_"
@@ -48,7 +44,7 @@ abbrev pub symbol_target : Elf → Reloc → Home → Target
 symbol_target o r homes.Undefined = Outside r.sym
 symbol_target o r (homes.Section i) =
     let off = offset_of (pos (symbol_at o r.sym).value +ℤ r.addend +ℤ pos 4) in
-    if (symbol_at o r.sym).bind == stb_weak then either o r.sym i off else inside o i off
+    if (symbol_at o r.sym).bind == STB_WEAK then either o r.sym i off else inside o i off
 symbol_target o r homes.Absolute = Bad
 symbol_target o r homes.Common = Bad
 

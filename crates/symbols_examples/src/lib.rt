@@ -1,0 +1,7 @@
+//! Small objects with functions and branches, and what is read of them. The functions, owners and targets
+//! are written by hand.
+#![tactic(auto)]
+
+pub mod objects;
+#[cfg(test)]
+mod tests;
