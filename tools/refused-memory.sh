@@ -54,23 +54,47 @@ object straight 'push %rbx\n\tmov %rax, (%rdi)\n\tpop %rbx\n\tret'
 object vector 'vzeroupper\n\tret'
 object jumping 'jmp leaf'
 
-# try NAME STATUS: `check NAME.o`, which ends so with ample memory.
+# The table of push %rbp; mov %rsp, %rbp; pop %rbp; ret.
+cat >"$scratch/table.s" <<'S'
+	.text
+	push %rbp
+	mov %rsp, %rbp
+	pop %rbp
+	ret
+	.section .orc_unwind, "a"
+	.byte 8, 0, 0, 0, 5, 2
+	.byte 16, 0, 0xf0, 0xff, 0x15, 2
+	.byte 16, 0, 0xf0, 0xff, 0x14, 2
+	.byte 8, 0, 0, 0, 5, 2
+	.byte 0, 0, 0, 0, 0, 0
+	.section .orc_unwind_ip, "a"
+	.long .text - .
+	.long .text + 1 - .
+	.long .text + 4 - .
+	.long .text + 5 - .
+	.long .text + 6 - .
+S
+as -o "$scratch/table.o" "$scratch/table.s"
+
+# try STATUS COMMAND NAME WORD..: the command on NAME.o, with these words behind it, ends so with ample memory.
 try() {
-    local name=$1 wanted=$2 line told status number
-    line=$("$program" check "$scratch/$name.o" "$scratch/$name.checked") && status=0 || status=$?
-    [ "$status" = "$wanted" ] || { echo "refused memory: $name ends with status $status, not $wanted"; exit 1; }
-    rm -f "$scratch/$name.checked"
+    local wanted=$1 command=$2 name=$3 line told status number
+    shift 3
+    line=$("$program" "$command" "$scratch/$name.o" "$@") && status=0 || status=$?
+    [ "$status" = "$wanted" ] || { echo "refused memory: $command $name ends with status $status, not $wanted"; exit 1; }
+    rm -f "$scratch/out"
     for ((number = 1; number < 1000; number++)); do
-        told=$(REFUSED=$number LD_PRELOAD="$scratch/refuse.so" "$program" check "$scratch/$name.o" "$scratch/$name.checked") && status=0 || status=$?
+        told=$(REFUSED=$number LD_PRELOAD="$scratch/refuse.so" "$program" "$command" "$scratch/$name.o" "$@") && status=0 || status=$?
         [ "$status" = 6 ] || break
-        [ "${line#"$told"}" != "$line" ] || [ -z "$told" ] || { echo "refused memory: $name, request $number: told '$told'"; exit 1; }
-        [ ! -e "$scratch/$name.checked" ] || { echo "refused memory: $name, request $number: OUT was written"; exit 1; }
+        [ "${line#"$told"}" != "$line" ] || [ -z "$told" ] || { echo "refused memory: $command $name, request $number: told '$told'"; exit 1; }
+        [ ! -e "$scratch/out" ] || { echo "refused memory: $command $name, request $number: OUT was written"; exit 1; }
     done
-    [ "$status" = "$wanted" ] && [ "$told" = "$line" ] || { echo "refused memory: $name, request $number: status $status, told '$told'"; exit 1; }
-    [ "$number" -gt 1 ] || { echo "refused memory: $name: no request was refused"; exit 1; }
-    echo "refused memory: $name: each of $((number - 1)) requests refused in turn"
+    [ "$status" = "$wanted" ] && [ "$told" = "$line" ] || { echo "refused memory: $command $name, request $number: status $status, told '$told'"; exit 1; }
+    [ "$number" -gt 1 ] || { echo "refused memory: $command $name: no request was refused"; exit 1; }
+    echo "refused memory: $command $name: each of $((number - 1)) requests refused in turn"
 }
-try straight 0
-try vector 2
-try jumping 2
-try missing 2
+try 0 check straight "$scratch/out"
+try 2 check vector "$scratch/out"
+try 2 check jumping "$scratch/out"
+try 2 check missing "$scratch/out"
+try 0 dump table
