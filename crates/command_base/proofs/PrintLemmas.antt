@@ -32,6 +32,9 @@ nothing_appended None = refl
 nothing_appended (Some written) = ap Some (sym (append-nil written))
 
 -- nothing was written of a text
+pub nothing_sent : (told : Option (List ℕ)) (text : List ℕ) → AppendsPrefix told told text
+nothing_sent told text = (text, record { sent = []; parts = refl; appended = nothing_appended told })
+
 pub nothing_printed : (s : Status) (text : List ℕ) (before after : Output) → after ≡ before → Prints s text before after status.NoMemory
 nothing_printed s text before after same =
     runs_out (text, record { sent = []; parts = refl; appended = ap (λ (o : Output). o.written) same ∙ nothing_appended before.written })

@@ -8,7 +8,11 @@ use Rattle.elf_objects.specs.declared.fault.ElfFault.{ElfFault}
 use Rattle.elf_objects.specs.declared.fault.ElfFault.TheVariants as elf
 use Rattle.orc_bytes.specs.declared.fault.OrcFault.{OrcFault}
 use Rattle.orc_bytes.specs.declared.fault.OrcFault.TheVariants as orc
-use Rattle.command_base.specs.declared.refusal.Refusal.TheVariants.{Malformed, Orc}
+use Rattle.orc_table.specs.declared.faults.PlaceFault.{PlaceFault}
+use Rattle.orc_table.specs.declared.faults.PlaceFault.TheVariants as place
+use Rattle.stack_image.specs.declared.fault.ImageFault.{ImageFault}
+use Rattle.stack_image.specs.declared.fault.ImageFault.TheVariants as image
+use Rattle.command_base.specs.declared.refusal.Refusal.TheVariants.{Malformed, Orc, Image, Unplaced}
 use Rattle.command_base.specs.declared.stop.Stop.{Stop}
 use Rattle.command_base.specs.declared.stop.Stop.TheVariants.{Usage, Missing, TooLong, Refused, FileFault, NoMemory}
 use Rattle.command_base.specs.Outside.{Outside}
@@ -39,3 +43,13 @@ parse_stop fault = Refused (Malformed fault)
 abbrev pub orc_stop : OrcFault → Stop
 orc_stop orc.NoMemory = NoMemory
 orc_stop fault = Refused (Orc fault)
+
+-- why a command stops whose image isn't one
+abbrev pub image_stop : ImageFault → Stop
+image_stop image.NoMemory = NoMemory
+image_stop fault = Refused (Image fault)
+
+-- why a command stops whose rows can't be placed
+abbrev pub place_stop : PlaceFault → Stop
+place_stop place.NoMemory = NoMemory
+place_stop fault = Refused (Unplaced fault)

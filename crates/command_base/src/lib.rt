@@ -9,7 +9,7 @@ mod status;
 mod stop;
 
 pub use printing::{conclude, print_part};
-pub use reading::{orc_stop, parse_stop, read_file};
+pub use reading::{MAX_IMAGE_BYTES, image_stop, orc_stop, parse_stop, place_stop, read_file};
 pub use refusal::Refusal;
 pub use status::Status;
 pub use stop::Stop;

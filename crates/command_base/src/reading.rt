@@ -1,12 +1,17 @@
 ghost use Rattle.std.specs.Prelude.{◌≡◌, ◌≤◌, Ok, length, IfOk, IfErr};
-ghost use Rattle.command_base.specs.Reading.{MayRead, StopsAtRead, orc_stop, parse_stop};
+ghost use Rattle.command_base.specs.Reading.{MayRead, StopsAtRead, image_stop, orc_stop, parse_stop, place_stop};
 
 use crate::refusal::Refusal;
 use crate::stop::Stop;
 use elf_objects::ElfFault;
 use orc_bytes::OrcFault;
+use orc_table::PlaceFault;
 use ot_files::{FileError, Files};
+use stack_image::ImageFault;
 use std::alloc::Global;
+
+/// How many bytes an image file may have.
+pub const MAX_IMAGE_BYTES: u64 = 16_777_216;
 
 /// Reads an input file whole, at most `limit` bytes, or tells why a command stops that needs it.
 pub fn read_file<'a, F: Files>(
@@ -50,5 +55,25 @@ pub fn orc_stop<'a>(fault: OrcFault) -> Stop<'a>
     match fault {
         OrcFault::NoMemory => Stop::NoMemory,
         fault => Stop::Refused(Refusal::Orc(fault)),
+    }
+}
+
+/// Why a command stops whose image isn't one.
+pub fn image_stop<'a>(fault: ImageFault) -> Stop<'a>
+    ensures { result ≡ image_stop fault }
+{
+    match fault {
+        ImageFault::NoMemory => Stop::NoMemory,
+        fault => Stop::Refused(Refusal::Image(fault)),
+    }
+}
+
+/// Why a command stops whose rows can't be placed.
+pub fn place_stop<'a>(fault: PlaceFault) -> Stop<'a>
+    ensures { result ≡ place_stop fault }
+{
+    match fault {
+        PlaceFault::NoMemory => Stop::NoMemory,
+        fault => Stop::Refused(Refusal::Unplaced(fault)),
     }
 }

@@ -1,5 +1,7 @@
 use elf_objects::{Counted, ElfFault};
 use orc_bytes::OrcFault;
+use orc_table::PlaceFault;
+use stack_image::ImageFault;
 use std::fmt;
 use x86_text::TextFaultText;
 
@@ -10,6 +12,12 @@ pub enum Refusal<'a> {
     Malformed(ElfFault),
     /// The object's ORC sections hold no rows.
     Orc(OrcFault),
+    /// The text of an image isn't one.
+    Image(ImageFault),
+    /// A place of an image names section number `sec`, which is no text section.
+    NoText { sec: u32 },
+    /// The object's rows can't be placed as an image says.
+    Unplaced(PlaceFault),
     /// The code of a text section doesn't decode.
     Undecoded(TextFaultText<'a>),
     /// The object has `count` sections, so that those of the tables would be too many.
@@ -28,6 +36,9 @@ impl fmt::Display for Refusal<'_> {
         match *self {
             Refusal::Malformed(fault) => write!(f, "{fault}"),
             Refusal::Orc(fault) => write!(f, "{fault}"),
+            Refusal::Image(fault) => write!(f, "{fault}"),
+            Refusal::NoText { sec } => write!(f, "section {sec}: no text"),
+            Refusal::Unplaced(fault) => write!(f, "{fault}"),
             Refusal::Undecoded(fault) => write!(f, "{fault}"),
             Refusal::TooManySections { count } => {
                 let what = Counted::Sections;

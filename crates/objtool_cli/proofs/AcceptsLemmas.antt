@@ -18,10 +18,10 @@ use Rattle.command_base.specs.Printing.{Concludes}
 use Rattle.command_base.specs.Reading.{MayRead, StopsAtRead}
 use Rattle.command_base.proofs.ConcludeLemmas.{concluded_after_fault, concluded_no_memory}
 use Rattle.objtool_cli.specs.Checked.{Accepts, IsRefusal, Refuses, crowded, malformed, most_sections, not_built, undecoded}
-use Rattle.objtool_cli.specs.Command.{Ends, EndsCheck, Stops, StopsAtWrite, checked, done, dumped, no_command, refused, stopped, unread, unwritten}
+use Rattle.objtool_cli.specs.Command.{Ends, EndsCheck, Stops, StopsAtWrite, checked, done, dumped, no_command, refused, stopped, unread, unwound, unwritten}
 use Rattle.objtool_cli.specs.Form.{IsStraightCode}
 use Rattle.objtool_cli.specs.Texts.{IsFirstUndecoded, IsUndecoded}
-use Rattle.objtool_cli.specs.Words.{Command, check, dump}
+use Rattle.objtool_cli.specs.Words.{Command, check, dump, unwind}
 use Rattle.x86_decode.specs.declared.DecodeFault.{DecodeFault}
 use Rattle.x86_decode.specs.Decoding.{OneOutcome, Outcome, StandsInFront}
 use Rattle.x86_text.specs.declared.fault.TextFault.{TextFault}
@@ -116,6 +116,7 @@ left_by_check one input output read table held before after out out' x c is acce
 pub left : OneOutcome → (command : Option Command) (input output read table : List ℕ) (held : Content) (before after : Outside) (out out' : Output) (x : Status) → command ≡ Some (check input output) → before.content ≡ Some held → reading held input MAX_FILE_BYTES ≡ Ok read → Accepts read table → Ends command before after out out' x → Left x
 left one command input output read table held before after out out' x n c is accepts (no_command none same t) = let u : ◌≡◌ {A = Option Command} None (Some (check input output)) = sym none ∙ n in cc
 left one command input output read table held before after out out' x n c is accepts (dumped file some h kept) = let u : ◌≡◌ {A = Option Command} (Some (dump file)) (Some (check input output)) = sym some ∙ n in cc
+left one command input output read table held before after out out' x n c is accepts (unwound file image some h kept) = let u : ◌≡◌ {A = Option Command} (Some (unwind file image)) (Some (check input output)) = sym some ∙ n in cc
 left one command input output read table held before after out out' x n c is accepts (checked i o some h) =
     let both = both_names command i o input output some n in
     left_by_check one i o read table held before after out out' x c (subst (λ (name : List ℕ). reading held name MAX_FILE_BYTES ≡ Ok read) (sym both.0) is) accepts h

@@ -11,9 +11,10 @@ use Rattle.command_base.specs.Outside.{Outside, Output}
 use Rattle.command_base.specs.Printing.{Concludes}
 use Rattle.command_base.specs.Reading.{MayRead, StopsAtRead}
 use Rattle.read_back.specs.Dump.{EndsDump}
+use Rattle.read_back.specs.Unwind.{EndsUnwind}
 use Rattle.objtool_cli.specs.Checked.{Accepts, IsRefusal}
 use Rattle.objtool_cli.specs.Unwinding.{OutUnwinds}
-use Rattle.objtool_cli.specs.Words.{Command, check, dump}
+use Rattle.objtool_cli.specs.Words.{Command, check, dump, unwind}
 
 -- The file of this name may read as bytes that are accepted, and for which these are to be written.
 pub record IsAccepted (content : Option Content) (input table : List ℕ) : Type 0 where
@@ -66,6 +67,12 @@ pub data EndsCheck (input output : List ℕ) (before after : Outside) (out out' 
 pub data Ends (command : Option Command) (before after : Outside) (out out' : Output) : Status → Type 0 where
   no_command : {s : Status} → command ≡ None → after ≡ before → Concludes Usage out out' s → Ends command before after out out' s
   dumped : {s : Status} (file : List ℕ) → command ≡ Some (dump file) → EndsDump file before after out out' s → after.content ≡ before.content → Ends command before after out out' s
+  unwound :
+      {s : Status} (file image : List ℕ)
+      → command ≡ Some (unwind file image)
+      → EndsUnwind file image before after out out' s
+      → after.content ≡ before.content
+      → Ends command before after out out' s
   checked : {s : Status} (input output : List ℕ) → command ≡ Some (check input output) → EndsCheck input output before after out out' s → Ends command before after out out' s
 
 -- The command may have changed a file: it is `check`, its input was accepted, and only OUT has changed.

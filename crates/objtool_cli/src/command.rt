@@ -3,18 +3,20 @@ ghost use Rattle.ot_files.specs.Causes.{Rose};
 ghost use Rattle.ot_files.specs.Content.{Content, reading};
 ghost use Rattle.ot_base.specs.declared.row.PlacedRow.{PlacedRow};
 ghost use Rattle.elf_objects.specs.Elf.{Elf};
+ghost use Rattle.stack_image.specs.ImageFile.{StackImage};
 ghost use Rattle.read_back.specs.Dump.{HoldsRows, IsAnswered, IsDumped};
+ghost use Rattle.read_back.specs.Unwind.{IsPlaced, IsUnwound};
 ghost use Rattle.objtool_cli.specs.Checked.{Accepts};
-ghost use Rattle.objtool_cli.specs.Words.{check, command_of, dump};
+ghost use Rattle.objtool_cli.specs.Words.{check, command_of, dump, unwind};
 ghost use Rattle.objtool_cli.specs.Unwinding.{OutUnwinds};
 ghost use Rattle.objtool_cli.specs.Command.{Ends, EndsCheck, MayChange};
 
 use crate::check::check;
 use crate::words::{Check, Command, read_words};
-use command_base::{Status, Stop, conclude, read_file};
+use command_base::{MAX_IMAGE_BYTES, Status, Stop, conclude, read_file};
 use elf_objects::MAX_FILE_BYTES;
 use ot_files::{Files, Sink};
-use read_back::dump;
+use read_back::{dump, unwind};
 use std::alloc::Global;
 use x86_decode::one_outcome;
 
@@ -61,6 +63,7 @@ fn dispatch<F: Files, S: Sink>(
     match read_words(words) {
         Some(Command::Check(names)) => read_and_check(alloc, names, files, out),
         Some(Command::Dump { file }) => dump(alloc, file, files, out),
+        Some(Command::Unwind { file, image }) => unwind(alloc, file, image, files, out),
         None => conclude(alloc, Stop::Usage, out),
     }
 }
@@ -69,8 +72,9 @@ fn dispatch<F: Files, S: Sink>(
 /// over files and an output, and gives the status that it ends with.
 ///
 /// `check IN OUT` reads the object IN, and writes it to OUT with its ORC tables added. `dump FILE`
-/// prints the rows of the ORC tables of the object FILE, one line each. Other words are a usage fault so
-/// far. Every refusal is told by one line to the output. Where the words, the bytes of the input and
+/// prints the rows of the ORC tables of the object FILE, one line each. `unwind FILE IMAGE` prints the
+/// frames of the walk that the image IMAGE begins over the rows of FILE, one line each, and why it
+/// stopped. Other words are a usage fault so far. Every refusal is told by one line to the output. Where the words, the bytes of the input and
 /// faults of the files and of the output leave no other cause, the answer may still be want of memory.
 pub fn run<F: Files, S: Sink>(alloc: Global, words: &[String], files: &mut F, out: &mut S) -> Status
     // What was done to the files and told to the output, and why.
@@ -99,6 +103,15 @@ pub fn run<F: Files, S: Sink>(alloc: Global, words: &[String], files: &mut F, ou
     ensures dump_accepts { (file bytes : List ℕ) (object : Elf) (rows : List PlacedRow) (held : Content)
         → command_of (map string_bytes words.now) ≡ Some (dump file) → F.content files.old ≡ Some held
         → reading held file MAX_FILE_BYTES ≡ Ok bytes → HoldsRows bytes object rows → IsAnswered result }
+
+    // The same of `unwind`: where it is done, the files give a walk, and exactly the lines of its frames and of its stop
+    // were printed; and such files aren't refused.
+    ensures unwound { (file image : List ℕ) → result ≡ Status.Done → command_of (map string_bytes words.now) ≡ Some (unwind file image)
+        → IsUnwound file image (F.content files.old) (S.written out.old) (S.written out.new) }
+    ensures unwind_accepts { (file image bytes text : List ℕ) (stack : StackImage) (object : Elf) (rows : List PlacedRow) (held : Content)
+        → command_of (map string_bytes words.now) ≡ Some (unwind file image) → F.content files.old ≡ Some held
+        → reading held file MAX_FILE_BYTES ≡ Ok bytes → reading held image MAX_IMAGE_BYTES ≡ Ok text
+        → IsPlaced bytes text stack object rows → IsAnswered result }
 
     // A fault is answered only where its count rose in this call, and no count falls.
     ensures file_fault { result ≡ Status.FileFault → Rose (F.faults files.old) (F.faults files.new) }

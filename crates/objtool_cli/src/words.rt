@@ -1,5 +1,5 @@
 ghost use Rattle.std.specs.Prelude.{◌≡◌, map, option_map, string_bytes};
-ghost use Rattle.objtool_cli.specs.Words.{command_in, command_of, is_name};
+ghost use Rattle.objtool_cli.specs.Words.{command_in, command_of, command_of_two, is_name};
 
 /// The names of the files of `check IN OUT`.
 #[derive(Clone, Copy, Debug)]
@@ -17,6 +17,8 @@ pub enum Command<'a> {
     Check(Check<'a>),
     /// `dump FILE`.
     Dump { file: &'a str },
+    /// `unwind FILE IMAGE`.
+    Unwind { file: &'a str, image: &'a str },
 }
 
 /// Whether a word can name a file: it isn't empty and doesn't begin with a dash.
@@ -26,6 +28,23 @@ fn is_name(word: &str) -> bool
     match word.as_bytes() {
         [] => false,
         [first, ..] => *first != b'-',
+    }
+}
+
+/// The command with this word over two files, or `None` where there is none.
+fn two_files<'a>(word: &str, one: &'a str, other: &'a str) -> Option<Command<'a>>
+    ensures { option_map command_in result ≡ command_of_two word.now one.now other.now }
+{
+    match word {
+        "unwind" => Some(Command::Unwind {
+            file: one,
+            image: other,
+        }),
+        "check" => Some(Command::Check(Check {
+            input: one,
+            output: other,
+        })),
+        _ => None,
     }
 }
 
@@ -39,14 +58,9 @@ pub fn read_words(words: &[String]) -> Option<Command<'_>>
                 file: file.as_str(),
             })
         }
-        [command, input, output]
-            if command.as_str() == "check" && is_name(input.as_str()) && is_name(output.as_str()) =>
-            {
-                Some(Command::Check(Check {
-                    input: input.as_str(),
-                    output: output.as_str(),
-                }))
-            }
+        [command, one, other] if is_name(one.as_str()) && is_name(other.as_str()) => {
+            two_files(command.as_str(), one.as_str(), other.as_str())
+        }
         _ => None,
     }
 }

@@ -33,7 +33,7 @@ six_long : (placed : PlacedRow) → length (bytes_of_row placed.row) ≡ 6
 unfolding bytes_of_row
 six_long placed = refl
 
-rows_long : (rows : List PlacedRow) → length (row_section rows) ≡ 6 * length rows
+pub rows_long : (rows : List PlacedRow) → length (row_section rows) ≡ 6 * length rows
 rows_long [] = refl
 rows_long (placed ∷ rows) =
     length-append (bytes_of_row placed.row) (row_section rows)

@@ -261,6 +261,7 @@ fn read_rows(
 /// them; those of a row are looked for row by row. [`OrcFault::NoMemory`] may come at any object.
 pub fn decode(alloc: Global, object: &Object<'_>) -> Result<Vec<PlacedRow>, OrcFault>
     ensures ok { IfOk result (λ rows. HoldsOrc object.now rows.items) }
+    ensures few { IfOk result (λ rows. length rows.items < 2 ^ 32) }
     ensures err { IfErr result (Refuses object.now) }
     ensures only { (rows : List PlacedRow)
         → HoldsOrc object.now rows → IsOkUnless result OrcFault.NoMemory }

@@ -24,7 +24,7 @@ use Rattle.command_base.specs.Stop.{status_of}
 use Rattle.command_base.proofs.ConcludeLemmas.{concluded_after_fault, concluded_fault, concluded_no_memory, concluded_no_warnings, concluded_not_done, concluded_sink_fault, printed_fault, printed_sink_fault, printed_warnings}
 use Rattle.read_back.specs.Dump.{Dumps, EndsDump, HoldsNoRows, HoldsRows, IsAnswered, IsDumped, malformed, no_memory, no_rows, printed, read, rows_text, stopped, unread}
 
-printed_done : (text : List ℕ) (before after : Output) (x : Status) → Prints Done text before after x → x ≡ Done → after.written ≡ appending before.written text
+pub printed_done : (text : List ℕ) (before after : Output) (x : Status) → Prints Done text before after x → x ≡ Done → after.written ≡ appending before.written text
 printed_done text before after x (whole at all) e = all
 printed_done text before after FileFault (fault_stays prefix rose at) e = cc
 printed_done text before after SinkFault (fails prefix rose other) e = cc
@@ -40,18 +40,18 @@ dumped file before after out out' x (read bytes may h) e = bytes_dumped file byt
 
 -- ---- what is answered where FILE holds rows
 
-one_object : (bytes : List ℕ) (o p : Elf) → IsObject bytes o → IsObject bytes p → o ≡ p
+pub one_object : (bytes : List ℕ) (o p : Elf) → IsObject bytes o → IsObject bytes p → o ≡ p
 one_object bytes o p h k = h.says ∙ sym k.says
 
-no_rows_excluded : (bytes : List ℕ) (o : Elf) (rows : List PlacedRow) (s : Stop) → HoldsRows bytes o rows → HoldsNoRows bytes s → s ≡ stop.NoMemory
+pub no_rows_excluded : (bytes : List ℕ) (o : Elf) (rows : List PlacedRow) (s : Stop) → HoldsRows bytes o rows → HoldsNoRows bytes s → s ≡ stop.NoMemory
 no_rows_excluded bytes o rows s held (malformed fault) = absurd (FirstFault-not bytes _ fault held.object.well_formed)
 no_rows_excluded bytes o rows s held (no_rows p is fault) = absurd (fault_excludes p rows _ fault (subst (λ (x : Elf). HoldsOrc x rows) (one_object bytes o p held.object is) held.held))
 no_rows_excluded bytes o rows s held no_memory = refl
 
-no_memory_left : (s : Stop) (before after : Output) (x : Status) → s ≡ stop.NoMemory → Concludes s before after x → IsAnswered x
+pub no_memory_left : (s : Stop) (before after : Output) (x : Status) → s ≡ stop.NoMemory → Concludes s before after x → IsAnswered x
 no_memory_left s before after x is t = inr (inr (inr (concluded_no_memory before after x (subst (λ (y : Stop). Concludes y before after x) is t))))
 
-text_left : (text : List ℕ) (before after : Output) (x : Status) → Prints Done text before after x → IsAnswered x
+pub text_left : (text : List ℕ) (before after : Output) (x : Status) → Prints Done text before after x → IsAnswered x
 text_left text before after x (whole at all) = inl at
 text_left text before after FileFault (fault_stays prefix rose at) = inr (inl refl)
 text_left text before after SinkFault (fails prefix rose other) = inr (inr (inl refl))
@@ -61,42 +61,42 @@ bytes_left : (bytes : List ℕ) (o : Elf) (rows : List PlacedRow) (before after 
 bytes_left bytes o rows before after x held (printed p others h t) = text_left _ before after x t
 bytes_left bytes o rows before after x held (stopped s h t) = no_memory_left s before after x (no_rows_excluded bytes o rows s held h) t
 
-told_read : (content : Option Content) (held : Content) (name : List ℕ) (r : Result (List ℕ) FileError) → content ≡ Some held → MayRead MAX_FILE_BYTES content name r → r ≡ reading held name MAX_FILE_BYTES
-told_read content held name r is may = subst (λ (c : Option Content). MayRead MAX_FILE_BYTES c name r) is may
+pub told_read : (limit : ℕ) (content : Option Content) (held : Content) (name : List ℕ) (r : Result (List ℕ) FileError) → content ≡ Some held → MayRead limit content name r → r ≡ reading held name limit
+told_read limit content held name r is may = subst (λ (c : Option Content). MayRead limit c name r) is may
 
 fault_left : (x : Status) → (x ≡ FileFault) ⊎ (x ≡ NoMemory) → IsAnswered x
 fault_left x (inl e) = inr (inl e)
 fault_left x (inr e) = inr (inr (inr e))
 
-unread_left : (s : Stop) (file bytes : List ℕ) (content : Content) (before after : Outside) (out out' : Output) (x : Status) → before.content ≡ Some content → reading content file MAX_FILE_BYTES ≡ Ok bytes → StopsAtRead MAX_FILE_BYTES file before after s → Concludes s out out' x → IsAnswered x
-unread_left stop.Usage file bytes content before after out out' x c is h t = absurd h
-unread_left (stop.Missing told) file bytes content before after out out' x c is h t = let u : ◌≡◌ {A = Result (List ℕ) FileError} (Err file_error.Missing) (Ok bytes) = told_read before.content content file _ c h.1 ∙ is in cc
-unread_left (stop.TooLong told limit) file bytes content before after out out' x c is h t = let u : ◌≡◌ {A = Result (List ℕ) FileError} (Err (file_error.TooLong MAX_FILE_BYTES)) (Ok bytes) = told_read before.content content file _ c h.1.1 ∙ is in cc
-unread_left (stop.Refused refusal) file bytes content before after out out' x c is h t = absurd h
-unread_left (stop.FileFault told) file bytes content before after out out' x c is h t = fault_left x (concluded_after_fault (stop.FileFault told) out out' x refl t)
-unread_left stop.NoMemory file bytes content before after out out' x c is h t = no_memory_left stop.NoMemory out out' x refl t
+pub unread_left : (limit : ℕ) (s : Stop) (file bytes : List ℕ) (content : Content) (before after : Outside) (out out' : Output) (x : Status) → before.content ≡ Some content → reading content file limit ≡ Ok bytes → StopsAtRead limit file before after s → Concludes s out out' x → IsAnswered x
+unread_left limit stop.Usage file bytes content before after out out' x c is h t = absurd h
+unread_left limit (stop.Missing told) file bytes content before after out out' x c is h t = let u : ◌≡◌ {A = Result (List ℕ) FileError} (Err file_error.Missing) (Ok bytes) = told_read limit before.content content file _ c h.1 ∙ is in cc
+unread_left limit (stop.TooLong told at) file bytes content before after out out' x c is h t = let u : ◌≡◌ {A = Result (List ℕ) FileError} (Err (file_error.TooLong limit)) (Ok bytes) = told_read limit before.content content file _ c h.1.1 ∙ is in cc
+unread_left limit (stop.Refused refusal) file bytes content before after out out' x c is h t = absurd h
+unread_left limit (stop.FileFault told) file bytes content before after out out' x c is h t = fault_left x (concluded_after_fault (stop.FileFault told) out out' x refl t)
+unread_left limit stop.NoMemory file bytes content before after out out' x c is h t = no_memory_left stop.NoMemory out out' x refl t
 
-same_read : (a b : List ℕ) → ◌≡◌ {A = Result (List ℕ) FileError} (Ok a) (Ok b) → a ≡ b
+pub same_read : (a b : List ℕ) → ◌≡◌ {A = Result (List ℕ) FileError} (Ok a) (Ok b) → a ≡ b
 same_read a b e = cc
 
 pub dump_left : (file bytes : List ℕ) (o : Elf) (rows : List PlacedRow) (content : Content) (before after : Outside) (out out' : Output) (x : Status) → before.content ≡ Some content → reading content file MAX_FILE_BYTES ≡ Ok bytes → HoldsRows bytes o rows → EndsDump file before after out out' x → IsAnswered x
-dump_left file bytes o rows content before after out out' x c is held (unread s h t) = unread_left s file bytes content before after out out' x c is h t
+dump_left file bytes o rows content before after out out' x c is held (unread s h t) = unread_left MAX_FILE_BYTES s file bytes content before after out out' x c is h t
 dump_left file bytes o rows content before after out out' x c is held (read other may h) =
-    let same = same_read other bytes (told_read before.content content file _ c may ∙ is) in
+    let same = same_read other bytes (told_read MAX_FILE_BYTES before.content content file _ c may ∙ is) in
     bytes_left bytes o rows out out' x held (subst (λ (b : List ℕ). Dumps b out out' x) same h)
 
 -- ---- faults
 
-not_file_fault : Done ≢ FileFault
+pub not_file_fault : Done ≢ FileFault
 not_file_fault e = cc
 
-not_sink_fault : Done ≢ SinkFault
+pub not_sink_fault : Done ≢ SinkFault
 not_sink_fault e = cc
 
-not_warnings : Done ≢ Warnings
+pub not_warnings : Done ≢ Warnings
 not_warnings e = cc
 
-no_rows_fault : (s : Stop) (bytes : List ℕ) → HoldsNoRows bytes s → status_of s ≢ FileFault
+pub no_rows_fault : (s : Stop) (bytes : List ℕ) → HoldsNoRows bytes s → status_of s ≢ FileFault
 no_rows_fault s bytes (malformed fault) e = cc
 no_rows_fault s bytes (no_rows o is fault) e = cc
 no_rows_fault s bytes no_memory e = cc
@@ -105,16 +105,16 @@ bytes_fault : (bytes : List ℕ) (before after : Output) (x : Status) → Dumps 
 bytes_fault bytes before after x (printed o rows held t) e = not_file_fault (printed_fault Done _ before after x t e)
 bytes_fault bytes before after x (stopped s h t) e = no_rows_fault s bytes h (concluded_fault s before after x t e)
 
-read_fault : (s : Stop) (name : List ℕ) (before after : Outside) → StopsAtRead MAX_FILE_BYTES name before after s → status_of s ≡ FileFault → Rose before.faults after.faults
-read_fault stop.Usage name before after h e = absurd h
-read_fault (stop.Missing file) name before after h e = cc
-read_fault (stop.TooLong file limit) name before after h e = cc
-read_fault (stop.Refused refusal) name before after h e = absurd h
-read_fault (stop.FileFault file) name before after h e = h.1
-read_fault stop.NoMemory name before after h e = cc
+pub read_fault : (limit : ℕ) (s : Stop) (name : List ℕ) (before after : Outside) → StopsAtRead limit name before after s → status_of s ≡ FileFault → Rose before.faults after.faults
+read_fault limit stop.Usage name before after h e = absurd h
+read_fault limit (stop.Missing file) name before after h e = cc
+read_fault limit (stop.TooLong file at) name before after h e = cc
+read_fault limit (stop.Refused refusal) name before after h e = absurd h
+read_fault limit (stop.FileFault file) name before after h e = h.1
+read_fault limit stop.NoMemory name before after h e = cc
 
 pub dump_fault : (file : List ℕ) (before after : Outside) (out out' : Output) (x : Status) → EndsDump file before after out out' x → x ≡ FileFault → Rose before.faults after.faults
-dump_fault file before after out out' x (unread s h t) e = read_fault s file before after h (concluded_fault s out out' x t e)
+dump_fault file before after out out' x (unread s h t) e = read_fault MAX_FILE_BYTES s file before after h (concluded_fault s out out' x t e)
 dump_fault file before after out out' x (read bytes may h) e = absurd (bytes_fault bytes out out' x h e)
 
 bytes_sink_fault : (bytes : List ℕ) (before after : Output) (x : Status) → Dumps bytes before after x → x ≡ SinkFault → Rose before.faults after.faults

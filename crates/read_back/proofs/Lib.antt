@@ -1,2 +1,4 @@
 pub mod DumpLaws
 pub mod DumpLemmas
+pub mod UnwindLaws
+pub mod UnwindLemmas

@@ -1,7 +1,7 @@
 use Rattle.std.proofs.Common.{◌≡◌, Option, Some, None, refl, sym, ap, ◌∙◌}
 use Rattle.objtool_cli.specs.declared.words.Command as declared
-use Rattle.objtool_cli.specs.declared.words.Command.TheVariants.{Check, Dump}
-use Rattle.objtool_cli.specs.Command.{checked, dumped, no_command}
+use Rattle.objtool_cli.specs.declared.words.Command.TheVariants.{Check, Dump, Unwind}
+use Rattle.objtool_cli.specs.Command.{checked, dumped, no_command, unwound}
 use Rattle.objtool_cli.specs.Words.{Command, command_in}
 use Rattle.objtool_cli.proofs.command.dispatch.Goals as goal
 
@@ -17,3 +17,6 @@ returns-in-Some-Check-clause-ends g c = checked _ _ (read_as _ (Check c.in-Some-
 
 pub returns-in-Some-Dump-clause-ends : goal.returns-in-Some-Dump-clause-ends
 returns-in-Some-Dump-clause-ends g c = dumped _ (read_as _ (Dump c.in-Some-Dump.file) _ c.in-Some-Dump.field-0-is c.in-Some-Dump.ensures) c.dump.ensures.ends c.dump.ensures.unchanged
+
+pub returns-in-Some-Unwind-clause-ends : goal.returns-in-Some-Unwind-clause-ends
+returns-in-Some-Unwind-clause-ends g c = unwound _ _ (read_as _ (Unwind c.in-Some-Unwind.file c.in-Some-Unwind.image) _ c.in-Some-Unwind.field-0-is c.in-Some-Unwind.ensures) c.unwind.ensures.ends c.unwind.ensures.unchanged

@@ -1,4 +1,4 @@
-use Rattle.objtool_cli.proofs.EndsLemmas.{changes, file_fault, out_unwinds, dump_answered, rows_dumped, sink_fault, tells_nothing, unchanged, without_warnings}
+use Rattle.objtool_cli.proofs.EndsLemmas.{changes, file_fault, out_unwinds, dump_answered, rows_dumped, sink_fault, tells_nothing, unchanged, unwind_answered, walk_printed, without_warnings}
 use Rattle.objtool_cli.proofs.AcceptsLemmas.{left}
 use Rattle.objtool_cli.proofs.command.run.Goals as goal
 
@@ -31,3 +31,9 @@ returns-clause-dumps g c file e n = rows_dumped _ _ _ _ _ _ file c.dispatch.ensu
 
 pub returns-clause-dump_accepts : goal.returns-clause-dump_accepts
 returns-clause-dump_accepts g c file bytes object rows held n told is holds = dump_answered _ _ _ _ _ _ file bytes object rows held c.dispatch.ensures.ends n told is holds
+
+pub returns-clause-unwound : goal.returns-clause-unwound
+returns-clause-unwound g c file image e n = walk_printed _ _ _ _ _ _ file image c.dispatch.ensures.ends e n
+
+pub returns-clause-unwind_accepts : goal.returns-clause-unwind_accepts
+returns-clause-unwind_accepts g c file image bytes text stack object rows held n told is said placed = unwind_answered _ _ _ _ _ _ file image bytes text stack object rows held c.dispatch.ensures.ends n told is said placed
