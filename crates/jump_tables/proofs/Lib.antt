@@ -1,0 +1,4 @@
+mod Finding
+mod Order
+mod Kept
+mod Listed

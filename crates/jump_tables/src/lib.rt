@@ -1,0 +1,15 @@
+//! The tables that indirect jumps take their target from, as compilers make them of `switch`.
+//!
+//! Such a jump names its table by a 32-bit address, and the table is a list of addresses of 8 bytes in
+//! read-only data. In a relocatable object all of these are relocations (x86-64 psABI, "Relocation").
+#![tactic(auto)]
+
+mod entry;
+mod field;
+mod jump;
+mod places;
+mod texts;
+
+pub use alternatives::SectionText;
+pub use entry::entry_at;
+pub use jump::jump_table;
