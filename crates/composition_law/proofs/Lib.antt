@@ -1,1 +1,2 @@
 pub mod DumpLaw
+pub mod UnwindLaw
