@@ -6,6 +6,7 @@ ghost use Rattle.ot_files.specs.Memory.{names_of, names_differ};
 mod dumping;
 mod object;
 mod tables;
+mod unwinding;
 
 use objtool_cli::Status;
 use ot_files::{MemFiles, MemSink};
