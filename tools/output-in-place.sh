@@ -61,7 +61,7 @@ echo "output in place: a limit on sizes leaves IN as it was"
 # A full disk.
 mkdir disk
 if mount -t tmpfs -o size=8k none disk 2>/dev/null; then
-    trap 'umount "$scratch/disk" 2>/dev/null; rm -rf "$scratch"' EXIT
+    trap 'umount "$scratch/disk" 2>/dev/null || true; rm -rf "$scratch"' EXIT
     cp in.o disk/same.o
     head -c 8192 /dev/zero >disk/filler 2>/dev/null || true
     refused "a full disk, over IN" "$program" check disk/same.o disk/same.o
