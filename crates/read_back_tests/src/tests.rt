@@ -7,6 +7,7 @@ mod dumping;
 mod object;
 mod tables;
 mod unwinding;
+mod walking;
 
 use objtool_cli::Status;
 use ot_files::{MemFiles, MemSink};

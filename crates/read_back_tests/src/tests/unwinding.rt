@@ -5,70 +5,111 @@ use super::{Command, NEVER, expect};
 use objtool_cli::Status;
 use std::test::Fail;
 
-/// An image, the status, and what is printed.
-type Case = (&'static [u8], Status, &'static [u8]);
+/// `unwind` of these bytes, where nothing fails.
+pub(super) fn unwind<'a>(object: &'a [u8], image: &'a [u8]) -> Command<'a> {
+    Command {
+        words: &["unwind", "OBJECT", "IMAGE"],
+        object,
+        image,
+        file_call: NEVER,
+        most: 100,
+        write: NEVER,
+    }
+}
 
-/// The object's rows, at 0x1000: push %rbp; mov %rsp,%rbp; pop %rbp; ret.
-const CASES: [Case; 8] = [
-    // Behind the push: the saved rbp, and the return address above it.
-    (
-        b"regs 1001 8000 5\nplace 1 1000\nmem 8000 7700000000000000000000a000000000\n",
-        Status::Done,
-        b"frame 0: ra 0xa0000000 cfa 0x8010 bp 0x77\nstop: outside\n",
-    ),
-    // A return to the function's end: the byte before it is looked up.
-    (
-        b"regs 1005 8000 5\nplace 1 1000\nmem 8000 06100000000000000000000000000000\n",
-        Status::Done,
-        b"frame 0: ra 0x1006 cfa 0x8008 bp 0x5\nframe 1: ra 0x0 cfa 0x8010 bp 0x5\nstop: outside\n",
-    ),
-    // By the frame pointer, which lies below the stack pointer.
-    (
-        b"regs 1004 8000 7000\nplace 1 1000\nmem 7000 00000000000000000000000000000000\n",
-        Status::Done,
-        b"stop: not rising: old 0x8000 new 0x7010\n",
-    ),
-    (
-        b"regs 1004 8000 7000\nplace 1 1000\n",
-        Status::Done,
-        b"stop: unreadable 0x7008\n",
-    ),
-    (
-        b"regs 1\n",
-        Status::Refused,
-        b"refused: image line 1: bad number\n",
-    ),
-    (
-        b"regs 1 1 1\nplace 2 1000\n",
-        Status::Refused,
-        b"refused: section 2: no text\n",
-    ),
-    (
-        b"regs 1 1 1\n",
-        Status::Refused,
-        b"refused: section 1: not placed\n",
-    ),
-    (
-        b"regs 1 1 1\nplace 1 fffffffffffffffa\n",
-        Status::Refused,
-        b"refused: section 1: wraps\n",
-    ),
-];
+/// The object's rows, at 0x1000: push %rbp; mov %rsp,%rbp; pop %rbp; ret. At 0x1004 the caller's rsp is
+/// rbp + 16, and its rbp lies at rbp.
+#[test]
+fn walks_of_a_frame_pointer(rt: HostRuntime) -> Result<(), Fail> {
+    let table: [(&[u8], &[u8]); 4] = [
+        // Behind the push: the saved rbp, and the return address above it.
+        (
+            b"regs 1001 8000 5\nplace 1 1000\nmem 8000 7700000000000000000000a000000000\n",
+            b"frame 0: ra 0xa0000000 cfa 0x8010 bp 0x77\nstop: outside\n",
+        ),
+        // A return to the function's end: the byte before it is looked up.
+        (
+            b"regs 1005 8000 5\nplace 1 1000\nmem 8000 06100000000000000000000000000000\n",
+            b"frame 0: ra 0x1006 cfa 0x8008 bp 0x5\nframe 1: ra 0x0 cfa 0x8010 bp 0x5\nstop: outside\n",
+        ),
+        (
+            b"regs 1004 8000 7000\nplace 1 1000\nmem 7000 00000000000000000000000000000000\n",
+            b"stop: not rising: old 0x8000 new 0x7010\n",
+        ),
+        (
+            b"regs 1004 8000 7000\nplace 1 1000\n",
+            b"stop: unreadable 0x7008\n",
+        ),
+    ];
+    let object = changed(rt.alloc(), SIZE, &[])?;
+    for (image, text) in table {
+        expect(&rt, rt.alloc(), unwind(&object, image), Status::Done, text)?;
+    }
+    Ok(())
+}
 
 #[test]
-fn walks_are_printed_or_refused(rt: HostRuntime) -> Result<(), Fail> {
-    let alloc = rt.alloc();
-    let object = changed(alloc, SIZE, &[])?;
-    for (image, status, text) in CASES {
-        let command = Command {
-            words: &["unwind", "OBJECT", "IMAGE"],
-            object: &object,
-            image,
-            file_call: NEVER,
-            most: 100,
-            write: NEVER,
-        };
-        expect(&rt, alloc, command, status, text)?;
+fn images_that_are_refused(rt: HostRuntime) -> Result<(), Fail> {
+    let table: [(&[u8], &[u8]); 7] = [
+        (
+            b"regs 1 2 3\nmem ffffffffffffffff 0000\n",
+            b"refused: image line 2: wraps\n",
+        ),
+        (b"#\n", b"refused: image line 2: no regs\n"),
+        (b"regs 1\n", b"refused: image line 1: bad number\n"),
+        // A section that isn't text, and one that isn't there.
+        (
+            b"regs 1 2 3\nplace 1 1000\nplace 2 2000\n",
+            b"refused: section 2: no text\n",
+        ),
+        (
+            b"regs 1 2 3\nplace 8 1000\n",
+            b"refused: section 8: no text\n",
+        ),
+        (b"regs 1 2 3\n", b"refused: section 1: not placed\n"),
+        // Six bytes from there on have a last one at 2^64.
+        (
+            b"regs 1 2 3\nplace 1 fffffffffffffffb\n",
+            b"refused: section 1: wraps\n",
+        ),
+    ];
+    let object = changed(rt.alloc(), SIZE, &[])?;
+    for (image, line) in table {
+        expect(
+            &rt,
+            rt.alloc(),
+            unwind(&object, image),
+            Status::Refused,
+            line,
+        )?;
     }
+    Ok(())
+}
+
+#[test]
+fn files_that_are_not_read(rt: HostRuntime) -> Result<(), Fail> {
+    let alloc = rt.alloc();
+    let whole = unwind(b"", b"");
+    let object_fails = Command {
+        file_call: 0,
+        ..whole
+    };
+    let line = b"file fault: OBJECT\n";
+    expect(&rt, alloc, object_fails, Status::FileFault, line)?;
+    let image_fails = Command {
+        file_call: 1,
+        ..whole
+    };
+    let line = b"file fault: IMAGE\n";
+    expect(&rt, alloc, image_fails, Status::FileFault, line)?;
+    let missing = Command {
+        words: &["unwind", "OBJECT", "OTHER"],
+        ..whole
+    };
+    let line = b"refused: OTHER is missing\n";
+    expect(&rt, alloc, missing, Status::Refused, line)?;
+    // The image is judged before the object.
+    let line = b"refused: image line 1: no regs\n";
+    expect(&rt, alloc, whole, Status::Refused, line)?;
     Ok(())
 }
