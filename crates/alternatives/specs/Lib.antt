@@ -4,3 +4,4 @@ pub mod Faults
 pub mod FaultText
 pub mod Sites
 pub mod Sorted
+pub mod Points

@@ -1,7 +1,8 @@
 -- Where the code of an object may be cut: at boundaries, and at the end of a section.
-use Rattle.std.specs.Prelude.{ℕ, ◌+◌, ◌<◌, ◌≤◌, ◌==◌, ◌||◌, ◌&&◌, Bool, List, length, slice_index_or, All, is_some}
+use Rattle.std.specs.Prelude.{ℕ, ◌+◌, ◌<◌, ◌≤◌, ◌==◌, ◌||◌, ◌&&◌, Bool, List, length, slice_index_or, All, find, Option, is_some, option_and_then}
 use Rattle.std.specs.List.{list_any}
 use Rattle.ot_base.specs.declared.place.Place.{Place}
+use Rattle.operation_defs.specs.declared.insn.Insn.{Insn}
 use Rattle.x86_text.specs.Code.{code_of, insn_listed}
 use Rattle.alternatives.specs.declared.texts.SectionText.{SectionText}
 
@@ -12,6 +13,10 @@ AscendBySection texts = (i j : ℕ) (d : SectionText) → i < j → j < length t
 -- no text is longer than one that is read
 abbrev pub AreShort : List SectionText → Type 0
 AreShort texts = All (λ t. length t.text ≤ 16777216) texts
+
+-- the instruction that begins at a place of a text section
+abbrev pub insn_at : List SectionText → Place → Option Insn
+insn_at texts place = option_and_then (λ t. insn_listed (code_of t.text) place.off) (find (λ t. t.sec == place.sec) texts)
 
 -- an instruction of a body of code begins at the offset, or the body ends there
 abbrev pub is_cut_of : List ℕ → ℕ → Bool

@@ -6,11 +6,13 @@ mod check;
 mod fault;
 mod original;
 mod overlap;
+mod point;
 mod site;
 mod sites;
 mod texts;
 
 pub use fault::{SiteFault, SiteWhy};
+pub use point::Point;
 pub use site::Site;
 pub use sites::Sites;
 pub use special_sections::AltEntry;
