@@ -7,3 +7,10 @@ pub mod Overlaps
 pub mod Order
 pub mod Groups
 pub mod Whole
+pub mod Finding
+pub mod Ascending
+pub mod Placed
+pub mod Opened
+pub mod PointOrder
+pub mod Listing
+pub mod Gathering

@@ -1,7 +1,8 @@
 -- One more number in a range, and those that pass a test.
-use Rattle.std.proofs.Common.{◌≡◌, ℕ, zero, suc, ◌+◌, Bool, true, false, cond, [], ◌∷◌, ◌++◌, filter, map, arith, ap, ◌∙◌, append-nil}
-use Rattle.std.specs.List.{range_with_len}
+use Rattle.std.proofs.Common.{◌≡◌, ℕ, zero, suc, ◌+◌, Bool, true, false, cond, List, [], ◌∷◌, ◌++◌, filter, map, arith, ap, ◌∙◌, append-nil}
+use Rattle.std.specs.List.{range_with_len, flat_map}
 use Rattle.std.proofs.lemmas.List.{map-append}
+use Rattle.std.proofs.lemmas.List.Concat.{flat_map-append}
 use Rattle.std.proofs.lemmas.List.Elements.{filter-append}
 
 more_from : (a n : ℕ) → range_with_len a (n + 1) ≡ range_with_len a n ++ (a + n) ∷ []
@@ -28,3 +29,19 @@ module _ {X : Type 0} (f : ℕ → X) (p : ℕ → Bool) (n : ℕ) where
       ∙ ap (map f) (filter-append p (range_with_len 0 n) (n ∷ []))
       ∙ ap (λ b. map f (filter p (range_with_len 0 n) ++ cond b (n ∷ []) [])) fails
       ∙ ap (map f) (append-nil (filter p (range_with_len 0 n)))
+
+module _ {X : Type 0} (f : ℕ → List X) (p : ℕ → Bool) (n : ℕ) where
+  pub joined_more : p n ≡ true → flat_map f (filter p (range_with_len 0 (n + 1))) ≡ flat_map f (filter p (range_with_len 0 n)) ++ f n
+  joined_more passes =
+      ap (λ ns. flat_map f (filter p ns)) (range_more n)
+      ∙ ap (flat_map f) (filter-append p (range_with_len 0 n) (n ∷ []))
+      ∙ ap (λ b. flat_map f (filter p (range_with_len 0 n) ++ cond b (n ∷ []) [])) passes
+      ∙ flat_map-append f (filter p (range_with_len 0 n)) (n ∷ [])
+      ∙ ap (λ xs. flat_map f (filter p (range_with_len 0 n)) ++ xs) (append-nil (f n))
+
+  pub joined_same : p n ≡ false → flat_map f (filter p (range_with_len 0 (n + 1))) ≡ flat_map f (filter p (range_with_len 0 n))
+  joined_same fails =
+      ap (λ ns. flat_map f (filter p ns)) (range_more n)
+      ∙ ap (flat_map f) (filter-append p (range_with_len 0 n) (n ∷ []))
+      ∙ ap (λ b. flat_map f (filter p (range_with_len 0 n) ++ cond b (n ∷ []) [])) fails
+      ∙ ap (flat_map f) (append-nil (filter p (range_with_len 0 n)))

@@ -5,3 +5,4 @@ pub mod FaultText
 pub mod Sites
 pub mod Sorted
 pub mod Points
+pub mod Gathered

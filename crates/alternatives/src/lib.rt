@@ -4,9 +4,11 @@
 
 mod check;
 mod fault;
+mod insns;
 mod original;
 mod overlap;
 mod point;
+mod points;
 mod site;
 mod sites;
 mod texts;

@@ -1,9 +1,10 @@
 //! The texts of an object's sections, and where they may be cut.
 
 ghost use Rattle.std.specs.Prelude.{◌≡◌, ◌+◌, ◌<◌, ◌≤◌, ◌==◌, ℕ, true, length, slice_index_or};
-ghost use Rattle.alternatives.specs.Texts.{is_cut as is_a_cut, is_cut_of as is_a_cut_of, is_whole as is_a_whole, AreShort, AscendBySection};
+ghost use Rattle.alternatives.specs.Texts.{insn_at as insn_found, is_cut as is_a_cut, is_cut_of as is_a_cut_of, is_whole as is_a_whole, AreShort, AscendBySection};
 ghost use Rattle.alternatives.specs.declared.texts.SectionText.{SectionText};
 
+use operation_defs::Insn;
 use ot_base::Place;
 use x86_text::Text;
 
@@ -44,6 +45,22 @@ fn count_below(texts: &[SectionText<'_>], sec: u32) -> usize
     ensures above { (k : ℕ) (d : SectionText) → result ≤ k → k < length texts.now → sec ≤ (slice_index_or texts.now k d).sec }
 {
     texts.partition_point(|text| text.sec < sec)
+}
+
+/// The instruction that begins at a place.
+pub(crate) fn insn_at(texts: &[SectionText<'_>], place: Place) -> Option<Insn>
+    requires { AscendBySection texts.now }
+    ensures { result ≡ insn_found texts.now place }
+{
+    let at = count_below(texts, place.sec);
+    if at >= texts.len() {
+        return None;
+    }
+    let text = &texts[at];
+    if text.sec != place.sec {
+        return None;
+    }
+    text.text.insn_at(place.off)
 }
 
 /// Whether a place is a boundary of a text section, or that section's size.

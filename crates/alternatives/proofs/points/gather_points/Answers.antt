@@ -1,0 +1,28 @@
+use Rattle.std.proofs.Common.{◌≡◌, ℕ, Bool, true, false, List, ◌++◌, filter, sym, ap, ◌∙◌, append_assoc}
+use Rattle.std.specs.List.{range_with_len, flat_map}
+use Rattle.special_sections.specs.declared.entries.AltEntry.{AltEntry}
+use Rattle.alternatives.specs.declared.texts.SectionText.{SectionText}
+use Rattle.alternatives.specs.declared.point.Point.{Point}
+use Rattle.alternatives.specs.Gathered.{plain_of, replaced_of}
+use Rattle.alternatives.specs.Originals.{counts, entry_at}
+use Rattle.alternatives.proofs.Ranges.{joined_more, joined_same}
+use Rattle.alternatives.proofs.points.gather_points.Goals as goal
+use Rattle.alternatives.proofs.points.gather_points.Goals.{then-counts+in_ok-push_replaced, else-counts}
+
+pub loop-entry-preserved : goal.loop-entry-preserved
+loop-entry-preserved c =
+    let texts : List SectionText = c.args.texts.now in
+    let entries : List AltEntry = c.args.entries.now in
+    let n : ℕ = c.loop-entry.entry in
+    let p : ℕ → Bool = λ k. counts (entry_at entries k) in
+    let f : ℕ → List Point = replaced_of texts entries in
+    let plain : List Point = flat_map plain_of texts in
+    let so_far : List Point = flat_map f (filter p (range_with_len 0 n)) in
+    elim c.if-counts.branch [
+      | then-counts+in_ok-push_replaced w ↦
+          let passes : p n ≡ true = sym c.counts.ensures ∙ w.if-counts.true in
+          ap (λ v. v.items) w.points-is ∙ w.in_ok-push_replaced.ensures ∙ ap (λ xs. xs ++ f n) c.loop-entry.invariant ∙ append_assoc plain so_far (f n) ∙ ap (λ xs. plain ++ xs) (sym (joined_more f p n passes))
+      | else-counts w ↦
+          let fails : p n ≡ false = sym c.counts.ensures ∙ w.if-counts.false in
+          ap (λ v. v.items) w.points-is ∙ c.loop-entry.invariant ∙ ap (λ xs. plain ++ xs) (sym (joined_same f p n fails))
+    ]
