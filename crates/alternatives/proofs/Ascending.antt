@@ -20,9 +20,9 @@ module _ {X : Type 0} (P : X → Type 0) where
   pub every-filter : (p : X → Bool) (xs : List X) → AllByRecursion P xs → AllByRecursion P (filter p xs)
   every-filter p [] a = tt
   every-filter p (x ∷ xs) a = elim (p x) as (λ b. AllByRecursion P (cond b (x ∷ filter p xs) (filter p xs))) [
-      | true ↦ (a.0, every-filter p xs a.1)
-      | false ↦ every-filter p xs a.1
-    ]
+    | true ↦ (a.0, every-filter p xs a.1)
+    | false ↦ every-filter p xs a.1
+  ]
 
 pub every-weaker : {X : Type 0} (P Q : X → Type 0) → ((x : X) → P x → Q x) → (xs : List X) → AllByRecursion P xs → AllByRecursion Q xs
 every-weaker P Q weaker [] a = tt
@@ -99,9 +99,9 @@ in-filter p (x ∷ xs) q (inr h) passes =
 pub in-range : (a n k : ℕ) → a ≤ k → k < a + n → In k (range_with_len a n)
 in-range a zero k from below = absurd (omega arith)
 in-range a (suc n) k from below = elim (cases_lt a k) [
-    | inl less ↦ inr (in-range (a + 1) n k (omega arith) (omega arith))
-    | inr not_less ↦ inl (omega arith)
-  ]
+  | inl less ↦ inr (in-range (a + 1) n k (omega arith) (omega arith))
+  | inr not_less ↦ inl (omega arith)
+]
 
 -- each is in the relation to all behind it
 abbrev pub Rising : {X : Type 0} → (X → X → Type 0) → List X → Type 0
@@ -111,9 +111,9 @@ Rising R (x ∷ xs) = AllByRecursion (R x) xs × Rising R xs
 pub rising-filter : {X : Type 0} (R : X → X → Type 0) (p : X → Bool) (xs : List X) → Rising R xs → Rising R (filter p xs)
 rising-filter R p [] r = tt
 rising-filter R p (x ∷ xs) r = elim (p x) as (λ b. Rising R (cond b (x ∷ filter p xs) (filter p xs))) [
-    | true ↦ (every-filter (R x) p xs r.0, rising-filter R p xs r.1)
-    | false ↦ rising-filter R p xs r.1
-  ]
+  | true ↦ (every-filter (R x) p xs r.0, rising-filter R p xs r.1)
+  | false ↦ rising-filter R p xs r.1
+]
 
 pub every-range : (a n : ℕ) → AllByRecursion (λ k. (a ≤ k) × (k < a + n)) (range_with_len a n)
 every-range a zero = tt

@@ -14,3 +14,4 @@ pub mod Opened
 pub mod PointOrder
 pub mod Listing
 pub mod Gathering
+pub mod Numbering

@@ -1,8 +1,7 @@
 -- The points of an object, listed by place.
-use Rattle.std.proofs.Common.{◌≡◌, ℕ, ◌+◌, ◌<◌, ◌≤◌, true, List, length, map, filter, refl, ap, subst, arith}
-use Rattle.std.specs.List.{AllByRecursion, flat_map, range_with_len}
+use Rattle.std.proofs.Common.{◌≡◌, ℕ, ◌+◌, ◌<◌, ◌≤◌, List, length, map, refl, ap, subst, arith}
+use Rattle.std.specs.List.{AllByRecursion, range_with_len}
 use Rattle.std.specs.List.Sorted.{IsStrictlySortedBy}
-use Rattle.std.specs.declared.cmp.Ordering.TheVariants.{Less}
 use Rattle.std.proofs.lemmas.List.Kept.{IsStrictlySortedBy-filter}
 use Rattle.ot_base.specs.declared.place.Place.{Place}
 use Rattle.special_sections.specs.declared.entries.AltEntry.{AltEntry}
@@ -10,7 +9,7 @@ use Rattle.alternatives.specs.declared.texts.SectionText.{SectionText}
 use Rattle.alternatives.specs.declared.point.Point.{Point}
 use Rattle.alternatives.specs.Texts.{AscendBySection}
 use Rattle.alternatives.specs.Points.{is_point, points_at, points_in, points_of, point_cmp, IsPoint}
-use Rattle.alternatives.proofs.Ascending.{In, Rising, every-append, every-each, every-filter, every-passes, every-map, every-flat_map, every-in, in-map, in-flat_map, in-filter, in-range, rising-range, sorted-map, sorted-flat_map, same_elements}
+use Rattle.alternatives.proofs.Ascending.{In, every-each, every-filter, every-passes, every-map, every-flat_map, every-in, in-map, in-flat_map, in-filter, in-range, rising-range, sorted-map, sorted-flat_map, same_elements}
 use Rattle.alternatives.proofs.Placed.{RiseBySection, rise_by_section}
 use Rattle.alternatives.proofs.Opened.{point_has_text, variant_inside}
 use Rattle.alternatives.proofs.PointOrder.{point_total, point_equal, first_by_variant, first_by_off, first_by_sec}
@@ -32,15 +31,15 @@ module _ (texts : List SectionText) (entries : List AltEntry) where
       subst (λ (z : Point). In z (map (at place) (range_with_len 0 (length entries + 1)))) (ap (λ s. at (record { sec = s; off = q.place.off }) q.variant) has.sec) one in
       in-flat_map (points_in texts entries) texts t q has.is_in
       (in-flat_map (λ off. points_at texts entries (record { sec = t.sec; off = off })) (range_with_len 0 (length t.text + 1)) q.place.off q
-        (in-range 0 (length t.text + 1) q.place.off (omega arith) (omega arith))
-        (in-filter (is_point texts entries) (map (at place) (range_with_len 0 (length entries + 1))) q here point))
+      (in-range 0 (length t.text + 1) q.place.off (omega arith) (omega arith))
+      (in-filter (is_point texts entries) (map (at place) (range_with_len 0 (length entries + 1))) q here point))
 
   -- and nothing else
   pub points_sound : AllByRecursion (IsPoint texts entries) (points_of texts entries)
   points_sound =
       every-flat_map (IsPoint texts entries) (points_in texts entries) texts (every-each (λ t. AllByRecursion (IsPoint texts entries) (points_in texts entries t)) (λ t.
-        every-flat_map (IsPoint texts entries) (λ off. points_at texts entries (record { sec = t.sec; off = off })) (range_with_len 0 (length t.text + 1)) (every-each (λ off. AllByRecursion (IsPoint texts entries) (points_at texts entries (record { sec = t.sec; off = off }))) (λ off.
-          every-passes (is_point texts entries) (map (at (record { sec = t.sec; off = off })) (range_with_len 0 (length entries + 1)))) (range_with_len 0 (length t.text + 1)))) texts)
+      every-flat_map (IsPoint texts entries) (λ off. points_at texts entries (record { sec = t.sec; off = off })) (range_with_len 0 (length t.text + 1)) (every-each (λ off. AllByRecursion (IsPoint texts entries) (points_at texts entries (record { sec = t.sec; off = off }))) (λ off.
+      every-passes (is_point texts entries) (map (at (record { sec = t.sec; off = off })) (range_with_len 0 (length entries + 1)))) (range_with_len 0 (length t.text + 1)))) texts)
 
   at_sorted : (place : Place) → IsStrictlySortedBy point_cmp (points_at texts entries place)
   at_sorted place =
@@ -54,7 +53,7 @@ module _ (texts : List SectionText) (entries : List AltEntry) where
   at_stands sec off =
       every-filter (StandsAt sec off) (is_point texts entries) (map (at (record { sec = sec; off = off })) (range_with_len 0 (length entries + 1)))
       (every-map (StandsAt sec off) (at (record { sec = sec; off = off })) (range_with_len 0 (length entries + 1))
-        (every-each (λ v. StandsAt sec off (at (record { sec = sec; off = off }) v)) (λ v. (refl, refl)) (range_with_len 0 (length entries + 1))))
+      (every-each (λ v. StandsAt sec off (at (record { sec = sec; off = off }) v)) (λ v. (refl, refl)) (range_with_len 0 (length entries + 1))))
 
   in_sorted : (t : SectionText) → IsStrictlySortedBy point_cmp (points_in texts entries t)
   in_sorted t =
@@ -68,9 +67,9 @@ module _ (texts : List SectionText) (entries : List AltEntry) where
   in_section t =
       every-flat_map (λ (p : Point). p.place.sec ≡ t.sec) (λ off. points_at texts entries (record { sec = t.sec; off = off })) (range_with_len 0 (length t.text + 1))
       (every-each (λ off. AllByRecursion (λ (p : Point). p.place.sec ≡ t.sec) (points_at texts entries (record { sec = t.sec; off = off }))) (λ off.
-        every-filter (λ (p : Point). p.place.sec ≡ t.sec) (is_point texts entries) (map (at (record { sec = t.sec; off = off })) (range_with_len 0 (length entries + 1)))
-        (every-map (λ (p : Point). p.place.sec ≡ t.sec) (at (record { sec = t.sec; off = off })) (range_with_len 0 (length entries + 1))
-          (every-each (λ v. t.sec ≡ t.sec) (λ v. refl) (range_with_len 0 (length entries + 1))))) (range_with_len 0 (length t.text + 1)))
+      every-filter (λ (p : Point). p.place.sec ≡ t.sec) (is_point texts entries) (map (at (record { sec = t.sec; off = off })) (range_with_len 0 (length entries + 1)))
+      (every-map (λ (p : Point). p.place.sec ≡ t.sec) (at (record { sec = t.sec; off = off })) (range_with_len 0 (length entries + 1))
+      (every-each (λ v. t.sec ≡ t.sec) (λ v. refl) (range_with_len 0 (length entries + 1))))) (range_with_len 0 (length t.text + 1)))
 
   -- they ascend
   pub points_sorted : RiseBySection texts → IsStrictlySortedBy point_cmp (points_of texts entries)

@@ -1,5 +1,5 @@
 -- What it says of a point that it is one.
-use Rattle.std.proofs.Common.{◌≡◌, ◌≢◌, ℕ, ◌+◌, ◌-◌, ◌<◌, ◌≤◌, Bool, true, false, cond, not, eqb, leb, ltb, ◌&&◌, List, length, Option, Some, None, is_some, ◌⊎◌, inl, inr, refl, sym, ap, ◌∙◌, subst, arith}
+use Rattle.std.proofs.Common.{◌≡◌, ℕ, ◌+◌, ◌-◌, ◌<◌, ◌≤◌, Bool, true, false, cond, not, eqb, leb, ltb, ◌&&◌, List, length, Option, Some, None, is_some, ◌⊎◌, inl, inr, refl, sym, ap, ◌∙◌, arith}
 use Rattle.std.proofs.lemmas.Bool.{cases_lt, false≢true}
 use Rattle.std.proofs.lemmas.Bool.Decides.{eqb_tells, nat_tests}
 use Rattle.std.proofs.lemmas.List.{get_or_past}
@@ -10,15 +10,15 @@ use Rattle.alternatives.specs.declared.texts.SectionText.{SectionText}
 use Rattle.alternatives.specs.declared.point.Point.{Point}
 use Rattle.alternatives.specs.Texts.{insn_at, is_cut, behind}
 use Rattle.alternatives.specs.Originals.{entry_at, no_entry, counts}
-use Rattle.alternatives.specs.Points.{entry_of, is_within, is_padded, padding_of, replacement_insn, insn_of_point, IsPoint}
+use Rattle.alternatives.specs.Points.{entry_of, is_within, is_padded, padding_of, replacement_insn, IsPoint}
 use Rattle.alternatives.proofs.Placed.{HasText, insn_within, cut_has_text, and_both}
 
 -- only an entry that is there counts
 pub counts_inside : (entries : List AltEntry) (k : ℕ) → counts (entry_at entries k) ≡ true → k < length entries
 counts_inside entries k passes = elim (cases_lt k (length entries)) [
-    | inl inside ↦ inside
-    | inr past ↦ absurd (false≢true (sym (ap counts (get_or_past entries k no_entry past)) ∙ passes))
-  ]
+  | inl inside ↦ inside
+  | inr past ↦ absurd (false≢true (sym (ap counts (get_or_past entries k no_entry past)) ∙ passes))
+]
 
 same_sec : (a b c d n : ℕ) → (eqb a b && (leb c d && ltb d (c + n))) ≡ true → a ≡ b
 same_sec a b c d n h = grind (arith, nat_tests)
@@ -98,13 +98,13 @@ plain_or_replaced texts entries q point =
 -- it stands in a text or at its end
 pub point_has_text : (texts : List SectionText) (entries : List AltEntry) (q : Point) → IsPoint texts entries q → HasText texts q.place (λ t. q.place.off ≤ length t.text)
 point_has_text texts entries q point = elim (plain_or_replaced texts entries q point) [
-    | inl (zero, some) ↦ insn_within texts q.place some
-    | inr replaced ↦ replaced.place.text
-  ]
+  | inl (zero, some) ↦ insn_within texts q.place some
+  | inr replaced ↦ replaced.place.text
+]
 
 -- its variant is 0 or that of an entry
 pub variant_inside : (texts : List SectionText) (entries : List AltEntry) (q : Point) → IsPoint texts entries q → q.variant ≤ length entries
 variant_inside texts entries q point = elim (plain_or_replaced texts entries q point) [
-    | inl (zero, some) ↦ omega arith
-    | inr replaced ↦ let inside : replaced.k < length entries = counts_inside entries replaced.k replaced.counts in omega (arith, replaced.variant)
-  ]
+  | inl (zero, some) ↦ omega arith
+  | inr replaced ↦ let inside : replaced.k < length entries = counts_inside entries replaced.k replaced.counts in omega (arith, replaced.variant)
+]

@@ -1,5 +1,5 @@
 -- Where the instructions of texts stand.
-use Rattle.std.proofs.Common.{◌≡◌, ◌≢◌, ℕ, zero, suc, ◌+◌, ◌-◌, ◌<◌, ◌≤◌, Bool, true, false, cond, eqb, ◌||◌, ◌&&◌, List, [], ◌∷◌, length, get_or, find, Option, Some, None, is_some, option_and_then, Ok, Err, inl, inr, refl, sym, ap, ◌∙◌, subst, arith}
+use Rattle.std.proofs.Common.{◌≡◌, ℕ, zero, suc, ◌+◌, ◌-◌, ◌<◌, ◌≤◌, Bool, true, false, cond, eqb, ◌&&◌, List, [], ◌∷◌, length, get_or, find, Option, Some, is_some, option_and_then, Ok, Err, inl, inr, refl, sym, ap, ◌∙◌, arith}
 use Rattle.std.specs.List.{AllByRecursion, list_any}
 use Rattle.std.proofs.lemmas.Bool.{eq-eqb, ne_eqb, false≢true, or_cases}
 use Rattle.std.proofs.lemmas.Bool.Decides.{eqb_tells, nat_tests}
@@ -68,11 +68,11 @@ pub record BeginsAt (code : List PlacedInsn) (off : ℕ) : Type 0 where
 pub listed_begins : (code : List PlacedInsn) (off : ℕ) → is_some (insn_listed code off) ≡ true → BeginsAt code off
 listed_begins [] off h = absurd (false≢true h)
 listed_begins (p ∷ code) off h = elim (eqb_tells p.off off) [
-    | inl (t, same) ↦ record { p = p; is_in = inl refl; at = same }
-    | inr (f, differ) ↦
-        let rest : BeginsAt code off = listed_begins code off (sym (ap (λ b. is_some (cond b (Some p.insn) (insn_listed code off))) f) ∙ h) in
-        record { p = rest.p; is_in = inr rest.is_in; at = rest.at }
-  ]
+  | inl (t, same) ↦ record { p = p; is_in = inl refl; at = same }
+  | inr (f, differ) ↦
+      let rest : BeginsAt code off = listed_begins code off (sym (ap (λ b. is_some (cond b (Some p.insn) (insn_listed code off))) f) ∙ h) in
+      record { p = rest.p; is_in = inr rest.is_in; at = rest.at }
+]
 
 pub begins_listed : (code : List PlacedInsn) (p : PlacedInsn) → In p code → is_some (insn_listed code p.off) ≡ true
 begins_listed [] p h = absurd h
@@ -92,11 +92,11 @@ its place t = insn_listed (code_of t.text) place.off
 pub insn_has_text : (texts : List SectionText) (place : Place) → is_some (insn_at texts place) ≡ true → HasText texts place (λ t. is_some (insn_listed (code_of t.text) place.off) ≡ true)
 insn_has_text [] place h = absurd (false≢true h)
 insn_has_text (t ∷ texts) place h = elim (eqb_tells t.sec place.sec) [
-    | inl (is, same) ↦ record { t = t; is_in = inl refl; sec = same; holds = sym (ap (λ b. is_some (option_and_then (its place) (cond b (Some t) (find (λ (u : SectionText). eqb u.sec place.sec) texts)))) is) ∙ h }
-    | inr (is_not, differ) ↦
-        let rest = insn_has_text texts place (sym (ap (λ b. is_some (option_and_then (its place) (cond b (Some t) (find (λ (u : SectionText). eqb u.sec place.sec) texts)))) is_not) ∙ h) in
-        record { t = rest.t; is_in = inr rest.is_in; sec = rest.sec; holds = rest.holds }
-  ]
+  | inl (is, same) ↦ record { t = t; is_in = inl refl; sec = same; holds = sym (ap (λ b. is_some (option_and_then (its place) (cond b (Some t) (find (λ (u : SectionText). eqb u.sec place.sec) texts)))) is) ∙ h }
+  | inr (is_not, differ) ↦
+      let rest = insn_has_text texts place (sym (ap (λ b. is_some (option_and_then (its place) (cond b (Some t) (find (λ (u : SectionText). eqb u.sec place.sec) texts)))) is_not) ∙ h) in
+      record { t = rest.t; is_in = inr rest.is_in; sec = rest.sec; holds = rest.holds }
+]
 
 -- each text is of a later section than those before it
 abbrev pub RiseBySection : List SectionText → Type 0
@@ -121,12 +121,12 @@ and_both false b h = absurd (false≢true h)
 
 cut_within : (body : List ℕ) (off : ℕ) → is_cut_of body off ≡ true → off ≤ length body
 cut_within body off h = elim (or_cases (eqb off (length body)) (is_some (insn_listed (code_of body) off)) h) [
-    | inl same ↦ grind (arith, nat_tests)
-    | inr some ↦
-        let at : BeginsAt (code_of body) off = listed_begins (code_of body) off some in
-        let inside : at.p.off < length body = every-in (λ (p : PlacedInsn). p.off < length body) (code_of body) at.p (code_within body) at.is_in in
-        omega (arith, at.at)
-  ]
+  | inl same ↦ grind (arith, nat_tests)
+  | inr some ↦
+      let at : BeginsAt (code_of body) off = listed_begins (code_of body) off some in
+      let inside : at.p.off < length body = every-in (λ (p : PlacedInsn). p.off < length body) (code_of body) at.p (code_within body) at.is_in in
+      omega (arith, at.at)
+]
 
 eqb_same : (a b : ℕ) → eqb a b ≡ true → a ≡ b
 eqb_same a b h = grind (arith, nat_tests)
@@ -134,13 +134,13 @@ eqb_same a b h = grind (arith, nat_tests)
 pub cut_has_text : (texts : List SectionText) (place : Place) → is_cut texts place ≡ true → HasText texts place (λ t. place.off ≤ length t.text)
 cut_has_text [] place h = absurd (false≢true h)
 cut_has_text (t ∷ texts) place h = elim (or_cases (eqb t.sec place.sec && is_cut_of t.text place.off) (list_any (λ (u : SectionText). eqb u.sec place.sec && is_cut_of u.text place.off) texts) h) [
-    | inl here ↦
-        let both = and_both (eqb t.sec place.sec) (is_cut_of t.text place.off) here in
-        record { t = t; is_in = inl refl; sec = eqb_same t.sec place.sec both.0; holds = cut_within t.text place.off both.1 }
-    | inr later ↦
-        let rest = cut_has_text texts place later in
-        record { t = rest.t; is_in = inr rest.is_in; sec = rest.sec; holds = rest.holds }
-  ]
+  | inl here ↦
+      let both = and_both (eqb t.sec place.sec) (is_cut_of t.text place.off) here in
+      record { t = t; is_in = inl refl; sec = eqb_same t.sec place.sec both.0; holds = cut_within t.text place.off both.1 }
+  | inr later ↦
+      let rest = cut_has_text texts place later in
+      record { t = rest.t; is_in = inr rest.is_in; sec = rest.sec; holds = rest.holds }
+]
 
 pub insn_within : (texts : List SectionText) (place : Place) → is_some (insn_at texts place) ≡ true → HasText texts place (λ t. place.off ≤ length t.text)
 insn_within texts place h =

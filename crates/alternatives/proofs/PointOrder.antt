@@ -1,5 +1,5 @@
 -- The order of points.
-use Rattle.std.proofs.Common.{◌≡◌, ℕ, ◌<◌, Bool, true, false, refl, sym, ap, ◌∙◌, arith}
+use Rattle.std.proofs.Common.{◌≡◌, ℕ, ◌<◌, true, false, refl, sym, ap, ◌∙◌, arith}
 use Rattle.std.specs.Cmp.{IsTotalOrder}
 use Rattle.std.specs.declared.cmp.Ordering.{Ordering}
 use Rattle.std.specs.declared.cmp.Ordering.TheVariants.{Less, Equal, Greater}
@@ -16,7 +16,7 @@ use Rattle.alternatives.specs.Points.{point_cmp}
 abbrev pub variant_cmp : Point → Point → Ordering
 variant_cmp p q = ordering_then (nat_cmp p.variant q.variant) (place_cmp p.place q.place)
 
-place_total : IsTotalOrder place_cmp
+pub place_total : IsTotalOrder place_cmp
 place_total = then_total (on_total (λ (p : Place). p.sec) nat_cmp_total) (on_total (λ (p : Place). p.off) nat_cmp_total)
 
 pub point_total : IsTotalOrder point_cmp
@@ -45,6 +45,12 @@ same_point sec off variant q a b c =
     ap (λ s. let p : Point = record { place = record { sec = s; off = off }; variant = variant } in p) a
     ∙ ap (λ o. let p : Point = record { place = record { sec = q.place.sec; off = o }; variant = variant } in p) b
     ∙ ap (λ v. let p : Point = record { place = q.place; variant = v } in p) c
+
+pub place_equal : (p q : Place) → place_cmp p q ≡ Equal → p ≡ q
+place_equal p q h =
+    let parts = then_equal (nat_cmp p.sec q.sec) (nat_cmp p.off q.off) h in
+    ap (λ s. let r : Place = record { sec = s; off = p.off } in r) (nat_equal p.sec q.sec parts.0)
+    ∙ ap (λ o. let r : Place = record { sec = q.sec; off = o } in r) (nat_equal p.off q.off parts.1)
 
 pub point_equal : (p q : Point) → point_cmp p q ≡ Equal → p ≡ q
 point_equal p q h =

@@ -1,7 +1,6 @@
 -- The points of an object in the order in which they are gathered, by variant.
-use Rattle.std.specs.Prelude.{◌≡◌, ℕ, ◌+◌, ◌<◌, ◌^◌, List, ◌++◌, length, map, filter, All}
+use Rattle.std.specs.Prelude.{ℕ, ◌+◌, List, ◌++◌, map, filter}
 use Rattle.std.specs.List.{range_with_len, flat_map}
-use Rattle.operation_defs.specs.declared.insn.Insn.{Insn}
 use Rattle.special_sections.specs.declared.entries.AltEntry.{AltEntry}
 use Rattle.x86_text.specs.declared.placed.PlacedInsn.{PlacedInsn}
 use Rattle.x86_text.specs.Code.{code_of}

@@ -6,3 +6,4 @@ pub mod Sites
 pub mod Sorted
 pub mod Points
 pub mod Gathered
+pub mod Numbers

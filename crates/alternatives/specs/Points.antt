@@ -94,11 +94,12 @@ entries_from entries place = filter (λ k. is_place (entry_at entries k).origina
 abbrev pub first_points : List SectionText → List AltEntry → Place → List Point
 first_points texts entries place = filter (is_point texts entries) (record { place = place; variant = 0 } ∷ map (first_of entries) (entries_from entries place))
 
--- the point of one variant right behind an instruction at a place
+-- where the point right behind another is to be that has this instruction: in the same variant
+abbrev pub point_after : Point → Insn → Point
+point_after point insn = record { place = behind point.place insn.len; variant = point.variant }
+
 abbrev pub point_behind : List SectionText → List AltEntry → Point → Insn → Option Point
-point_behind texts entries point insn =
-    let next : Point = record { place = behind point.place insn.len; variant = point.variant } in
-    if is_point texts entries next then Some next else None
+point_behind texts entries point insn = if is_point texts entries (point_after point insn) then Some (point_after point insn) else None
 
 -- the point right behind another in its text section or in its replacement, where there is one
 abbrev pub next_point : List SectionText → List AltEntry → Point → Option Point

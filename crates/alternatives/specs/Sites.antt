@@ -3,9 +3,11 @@ use Rattle.std.specs.Prelude.{◌≡◌, ◌⊎◌, ℕ, ◌+◌, ◌<◌, ◌�
 use Rattle.std.specs.List.Sorted.{IsPermutation, IsSortedBy}
 use Rattle.std.specs.Ordering.{nat_cmp, is_lt, ordering_then}
 use Rattle.ot_base.specs.declared.place.Place.{Place}
+use Rattle.operation_defs.specs.declared.insn.Insn.{Insn}
 use Rattle.special_sections.specs.declared.entries.AltEntry.{AltEntry}
 use Rattle.special_sections.specs.HintPlaces.{place_cmp}
 use Rattle.alternatives.specs.declared.site.Site.{Site}
+use Rattle.alternatives.specs.declared.point.Point.{Point}
 use Rattle.alternatives.specs.Originals.{entry_at, counted}
 
 -- a place is before another: in an earlier section, or in the same one at a lower offset
@@ -47,7 +49,10 @@ pub record AreSitesOf (entries : List AltEntry) (sites : List Site) (numbers : L
   pub alike : All (λ site. (i : ℕ) → site.first ≤ i → i < site.first + site.count → IsOriginalOf entries site (slice_index_or numbers i 0)) sites
   pub apart : AscendApart sites
 
--- sites, and the numbers of their entries
+-- sites, the numbers of their entries, the points of the object with their instructions, and all entries
 pub record SiteList : Type 0 where
   pub sites : List Site
   pub entry_numbers : List ℕ
+  pub points : List Point
+  pub insns : List Insn
+  pub entries : List AltEntry

@@ -1,6 +1,6 @@
 -- Where the code of an object may be cut: at boundaries, and at the end of a section.
 use Rattle.std.specs.Prelude.{ℕ, ◌+◌, ◌<◌, ◌≤◌, ◌==◌, ◌||◌, ◌&&◌, Bool, List, length, slice_index_or, All, find, Option, is_some, option_and_then}
-use Rattle.std.specs.List.{list_any}
+use Rattle.std.specs.List.{list_any, sum_by}
 use Rattle.ot_base.specs.declared.place.Place.{Place}
 use Rattle.operation_defs.specs.declared.insn.Insn.{Insn}
 use Rattle.x86_text.specs.Code.{code_of, insn_listed}
@@ -13,6 +13,10 @@ AscendBySection texts = (i j : ℕ) (d : SectionText) → i < j → j < length t
 -- no text is longer than one that is read
 abbrev pub AreShort : List SectionText → Type 0
 AreShort texts = All (λ t. length t.text ≤ 16777216) texts
+
+-- how many bytes they have together
+abbrev pub text_bytes : List SectionText → ℕ
+text_bytes texts = sum_by (λ t. length t.text) texts
 
 -- the instruction that begins at a place of a text section
 abbrev pub insn_at : List SectionText → Place → Option Insn

@@ -11,6 +11,7 @@ mod point;
 mod points;
 mod site;
 mod sites;
+mod table;
 mod texts;
 
 pub use fault::{SiteFault, SiteWhy};

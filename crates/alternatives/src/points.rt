@@ -1,10 +1,10 @@
 //! The points of an object, in their order.
 
-ghost use Rattle.std.specs.Prelude.{◌≡◌, ◌≤◌, ◌<◌, ◌++◌, ℕ, true, Some, map, length, All, IfOk, OnOk};
+ghost use Rattle.std.specs.Prelude.{◌≡◌, ◌+◌, ◌*◌, ◌≤◌, ◌<◌, ◌++◌, ℕ, true, Some, map, length, All, IfOk, OnOk};
 ghost use Rattle.alternatives.specs.Gathered.{gathered, plain_of, replaced_of};
 ghost use Rattle.alternatives.specs.Originals.{counts as is_counted, entry_at};
 ghost use Rattle.alternatives.specs.Points.{insn_of_point as insn_of_a_point, points_of as points_in_order, IsPoint};
-ghost use Rattle.alternatives.specs.Texts.{AreShort, AscendBySection};
+ghost use Rattle.alternatives.specs.Texts.{text_bytes, AreShort, AscendBySection};
 
 use crate::insns::insn_of_point;
 use crate::original::counts;
@@ -39,7 +39,8 @@ fn push_replaced(
     requires few { length entries.now ≤ 8388608 }
     requires inside { entry < length entries.now }
     requires near { (entry_at entries.now entry).replacement.off ≤ 16777216 }
-    ensures { OnOk result (points.new.items ≡ points.old.items ++ replaced_of texts.now entries.now entry) }
+    ensures all { OnOk result (points.new.items ≡ points.old.items ++ replaced_of texts.now entries.now entry) }
+    ensures few { OnOk result (length points.new.items ≤ length points.old.items + 256) }
 {
     let alternative = &entries[entry as usize];
     let start = alternative.replacement;
@@ -65,7 +66,8 @@ fn gather_points(
     requires short { AreShort texts.now }
     requires few { length entries.now ≤ 8388608 }
     requires near { (k : ℕ) → k < length entries.now → is_counted (entry_at entries.now k) ≡ true → (entry_at entries.now k).replacement.off ≤ 16777216 }
-    ensures { IfOk result (λ points. points.items ≡ gathered texts.now entries.now) }
+    ensures all { IfOk result (λ points. points.items ≡ gathered texts.now entries.now) }
+    ensures few { IfOk result (λ points. length points.items ≤ text_bytes texts.now + 256 * length entries.now) }
 {
     let mut points = Vec::new(alloc);
     for text in texts {
@@ -89,7 +91,8 @@ pub(crate) fn points_of(
     requires short { AreShort texts.now }
     requires few { length entries.now ≤ 8388608 }
     requires near { (k : ℕ) → k < length entries.now → is_counted (entry_at entries.now k) ≡ true → (entry_at entries.now k).replacement.off ≤ 16777216 }
-    ensures { IfOk result (λ points. points.items ≡ points_in_order texts.now entries.now) }
+    ensures all { IfOk result (λ points. points.items ≡ points_in_order texts.now entries.now) }
+    ensures few { IfOk result (λ points. length points.items ≤ text_bytes texts.now + 256 * length entries.now) }
 {
     let mut points = gather_points(alloc, texts, entries)?;
     points.sort_unstable_by_key(|point| (point.place, point.variant));

@@ -66,7 +66,7 @@ pub(crate) fn group_sites(alloc: Global, originals: &[Original]) -> Result<Vec<S
 }
 
 /// Whether a place is in an earlier section, or in the same one at a lower offset.
-fn is_before(place: Place, other: Place) -> bool
+pub(crate) fn is_before(place: Place, other: Place) -> bool
     ensures { result ≡ is_lower place other }
 {
     place.sec < other.sec || place.sec == other.sec && place.off < other.off

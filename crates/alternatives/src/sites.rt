@@ -1,9 +1,11 @@
 //! The sites of an object, with their entries.
 
-ghost use Rattle.std.specs.Prelude.{◌≡◌, ◌<◌, ◌≤◌, ℕ, map, true, false, length, slice_index_or, IfOk, IfErr, OnOk, MatchOption};
+ghost use Rattle.std.specs.Prelude.{◌≡◌, ◌<◌, ◌≤◌, ℕ, Some, map, true, false, length, slice_get, slice_index_or, IfOk, IfErr, IfSome, OnOk, MatchOption};
 ghost use Rattle.alternatives.specs.Faults.{AreRight, IsFirstFault};
+ghost use Rattle.alternatives.specs.Numbers.{IsNumberOf, IsRunOf};
+ghost use Rattle.alternatives.specs.Points.{address_of_point, first_of, insn_of_point, point_after, points_of};
 ghost use Rattle.alternatives.specs.Sites.{holds, AreSitesOf};
-ghost use Rattle.alternatives.specs.Texts.{AreShort, AscendBySection};
+ghost use Rattle.alternatives.specs.Texts.{text_bytes, AreShort, AscendBySection};
 ghost use Rattle.alternatives.specs.declared.original.Original.{Original};
 ghost use Rattle.alternatives.specs.declared.site.Site.{Site};
 
@@ -11,19 +13,23 @@ use crate::check::check_entries;
 use crate::fault::SiteFault;
 use crate::original::{Original, sorted_originals};
 use crate::overlap::find_overlap;
+use crate::point::Point;
 use crate::site::{Site, find_site, group_sites};
+use crate::table::PointTable;
 use crate::texts::SectionText;
+use operation_defs::Insn;
 use ot_base::{NoMemory, Place};
 use special_sections::{AltEntry, Special};
 use std::alloc::Global;
 use std::marker::Model;
 
-/// The alternatives sites of an object. Contracts see them as the list of the sites, and that of the
-/// numbers of their entries.
+/// The alternatives sites of an object, and the points of its code. Contracts see them as the lists of the
+/// sites, of the numbers of their entries, of the points with their instructions, and of all entries.
 #[derive(Drop)]
 pub struct Sites {
     sites: Vec<Site>,
     entry_numbers: Vec<u32>,
+    table: PointTable,
 }
 
 impl Model for Sites {
@@ -32,7 +38,13 @@ impl Model for Sites {
 
     ghost Value = { SiteList };
 
-    ghost view = { λ s. record { sites = s.sites.items; entry_numbers = s.entry_numbers.items } };
+    ghost view = { λ s. record {
+      sites = s.sites.items;
+      entry_numbers = s.entry_numbers.items;
+      points = s.table.points;
+      insns = s.table.insns;
+      entries = s.table.entries;
+    } };
 
     ghost invariant = { λ s. (length s.sites.items < 2 ^ 32) × AscendApart s.sites.items };
 }
@@ -40,8 +52,8 @@ impl Model for Sites {
 impl Sites {
     /// The sites of the entries of an object's special sections, where each entry is in order.
     ///
-    /// `texts` has each text section once, ascending by section. The object has at most 8,388,608
-    /// alternatives.
+    /// `texts` has each text section once, ascending by section; together they have at most 16,777,216
+    /// bytes. The object has at most 8,388,608 alternatives. So there are fewer than 2^32 points.
     ///
     /// # Errors
     ///
@@ -53,9 +65,12 @@ impl Sites {
         texts: &[SectionText<'_>],
     ) -> Result<Sites, SiteFault>
         requires ascending { AscendBySection texts.now }
-        requires short { AreShort texts.now }
+        requires bytes { text_bytes texts.now ≤ 16777216 }
         requires few { length special.now.alternatives ≤ 8388608 }
         ensures sites { IfOk result (λ s. AreSitesOf special.now.alternatives s.sites s.entry_numbers) }
+        ensures points { IfOk result (λ s. s.points ≡ points_of texts.now special.now.alternatives) }
+        ensures insns { IfOk result (λ s. map (λ insn. Some insn) s.insns ≡ map (insn_of_point texts.now special.now.alternatives) s.points) }
+        ensures entries { IfOk result (λ s. s.entries ≡ special.now.alternatives) }
         ensures right { OnOk result (AreRight texts.now special.now.alternatives (length special.now.alternatives)) }
         ensures err { IfErr result (IsFirstFault texts.now special.now.alternatives) }
     {
@@ -82,6 +97,62 @@ impl Sites {
     {
         &self.entry_numbers
     }
+
+    /// The points of the object's code, by place and then by variant. The number of a point is its index
+    /// here.
+    pub fn points(&self) -> &[Point]
+        ensures { result.now ≡ self.now.points }
+    {
+        self.table.points()
+    }
+
+    /// The number of a point.
+    pub fn number_of(&self, point: Point) -> Option<u32>
+        ensures { IsNumberOf self.now.points point result }
+    {
+        self.table.number_of(point)
+    }
+
+    /// The instruction of the point with this number.
+    pub fn insn_of(&self, n: u32) -> Insn
+        requires { n < length self.now.points }
+        ensures { slice_get self.now.insns n ≡ Some result }
+    {
+        self.table.insn_of(n)
+    }
+
+    /// Where the point with this number runs: in the code as it is assembled, at its place; in a
+    /// replacement, in the site, as far behind its start as the point is behind the replacement's.
+    pub fn address_of(&self, n: u32) -> Place
+        requires { n < length self.now.points }
+        ensures { IfSome (slice_get self.now.points n) (λ p. result ≡ address_of_point self.now.entries p) }
+    {
+        self.table.address_of(n)
+    }
+
+    /// The number of the point right behind the one with this number, in its text section or its
+    /// replacement.
+    pub fn number_behind(&self, n: u32) -> Option<u32>
+        requires { n < length self.now.points }
+        ensures { IfSome (slice_get self.now.points n) (λ p. IfSome (slice_get self.now.insns n) (λ insn. IsNumberOf self.now.points (point_after p insn) result)) }
+    {
+        self.table.number_behind(n)
+    }
+
+    /// The number of the first point of the replacement of an entry.
+    pub fn number_of_first(&self, entry: u32) -> Option<u32>
+        requires { entry < length self.now.entries }
+        ensures { IsNumberOf self.now.points (first_of self.now.entries entry) result }
+    {
+        self.table.number_of_first(entry)
+    }
+
+    /// The numbers of the points at a place: the first, and the one behind the last.
+    pub fn numbers_at(&self, place: Place) -> (u32, u32)
+        ensures { IsRunOf self.now.points place result.0 result.1 }
+    {
+        self.table.numbers_at(place)
+    }
 }
 
 /// The numbers of the entries of originals.
@@ -103,8 +174,12 @@ pub(crate) fn build_sites(
 ) -> Result<Sites, SiteFault>
     requires ascending { AscendBySection texts.now }
     requires short { AreShort texts.now }
+    requires bytes { text_bytes texts.now ≤ 16777216 }
     requires few { length entries.now ≤ 8388608 }
     ensures sites { IfOk result (λ s. AreSitesOf entries.now s.sites s.entry_numbers) }
+    ensures points { IfOk result (λ s. s.points ≡ points_of texts.now entries.now) }
+    ensures insns { IfOk result (λ s. map (λ insn. Some insn) s.insns ≡ map (insn_of_point texts.now entries.now) s.points) }
+    ensures entries { IfOk result (λ s. s.entries ≡ entries.now) }
     ensures right { OnOk result (AreRight texts.now entries.now (length entries.now)) }
     ensures err { IfErr result (IsFirstFault texts.now entries.now) }
 {
@@ -113,8 +188,10 @@ pub(crate) fn build_sites(
     check_entries(texts, entries, overlap)?;
     let sites = group_sites(alloc, originals.as_slice())?;
     let entry_numbers = numbers_of(alloc, originals.as_slice())?;
+    let table = PointTable::build(alloc, texts, entries)?;
     Ok(Sites {
         sites,
         entry_numbers,
+        table,
     })
 }

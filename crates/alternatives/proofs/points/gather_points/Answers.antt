@@ -1,10 +1,11 @@
-use Rattle.std.proofs.Common.{◌≡◌, ℕ, Bool, true, false, List, ◌++◌, filter, sym, ap, ◌∙◌, append_assoc}
+use Rattle.std.proofs.Common.{◌≡◌, ℕ, ◌+◌, ◌≤◌, arith, length, subst, Vec, Global, Bool, true, false, List, ◌++◌, filter, sym, ap, ◌∙◌, append_assoc}
 use Rattle.std.specs.List.{range_with_len, flat_map}
 use Rattle.special_sections.specs.declared.entries.AltEntry.{AltEntry}
 use Rattle.alternatives.specs.declared.texts.SectionText.{SectionText}
 use Rattle.alternatives.specs.declared.point.Point.{Point}
 use Rattle.alternatives.specs.Gathered.{plain_of, replaced_of}
 use Rattle.alternatives.specs.Originals.{counts, entry_at}
+use Rattle.alternatives.proofs.Gathering.{few_plain}
 use Rattle.alternatives.proofs.Ranges.{joined_more, joined_same}
 use Rattle.alternatives.proofs.points.gather_points.Goals as goal
 use Rattle.alternatives.proofs.points.gather_points.Goals.{then-counts+in_ok-push_replaced, else-counts}
@@ -21,8 +22,13 @@ loop-entry-preserved c =
     elim c.if-counts.branch [
       | then-counts+in_ok-push_replaced w ↦
           let passes : p n ≡ true = sym c.counts.ensures ∙ w.if-counts.true in
-          ap (λ v. v.items) w.points-is ∙ w.in_ok-push_replaced.ensures ∙ ap (λ xs. xs ++ f n) c.loop-entry.invariant ∙ append_assoc plain so_far (f n) ∙ ap (λ xs. plain ++ xs) (sym (joined_more f p n passes))
+          let longer : length c.if-counts.points.items ≤ length c.loop-entry.points.items + 256 = subst (λ (v : Vec Point Global). length v.items ≤ length c.loop-entry.points.items + 256) (sym w.points-is) w.in_ok-push_replaced.ensures.few in
+          (ap (λ v. v.items) w.points-is ∙ w.in_ok-push_replaced.ensures.all ∙ ap (λ xs. xs ++ f n) c.loop-entry.invariant.0 ∙ append_assoc plain so_far (f n) ∙ ap (λ xs. plain ++ xs) (sym (joined_more f p n passes)), omega (arith, c.loop-entry.invariant.1))
       | else-counts w ↦
           let fails : p n ≡ false = sym c.counts.ensures ∙ w.if-counts.false in
-          ap (λ v. v.items) w.points-is ∙ c.loop-entry.invariant ∙ ap (λ xs. plain ++ xs) (sym (joined_same f p n fails))
+          let same : length c.if-counts.points.items ≡ length c.loop-entry.points.items = ap (λ v. length v.items) w.points-is in
+          (ap (λ v. v.items) w.points-is ∙ c.loop-entry.invariant.0 ∙ ap (λ xs. plain ++ xs) (sym (joined_same f p n fails)), omega (arith, c.loop-entry.invariant.1))
     ]
+
+pub returns-clause-few : goal.returns-clause-few
+returns-clause-few c = omega (arith, c.loop-entry.invariant.1, few_plain c.args.texts.now, c.loop-entry.auto.entry-end)

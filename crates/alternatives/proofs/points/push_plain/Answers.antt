@@ -15,8 +15,8 @@ loop-i-preserved c =
     let i : ℕ = c.loop-i.i in
     let p : PlacedInsn = record { off = c.insn-off.result.0; insn = c.insn-off.result.1 } in
     let more : map (plain_at sec) (take (i + 1) code) ≡ map (plain_at sec) (take i code) ++ plain_at sec p ∷ [] =
-        map_more (plain_at sec) code i p (slice_get_within code i p c.insn-off.ensures.listed)
-        ∙ ap (λ q. map (plain_at sec) (take i code) ++ plain_at sec q ∷ []) (get_or_from_slice_get code i p p c.insn-off.ensures.listed) in
+    map_more (plain_at sec) code i p (slice_get_within code i p c.insn-off.ensures.listed)
+    ∙ ap (λ q. map (plain_at sec) (take i code) ++ plain_at sec q ∷ []) (get_or_from_slice_get code i p p c.insn-off.ensures.listed) in
     c.in_ok-push.ensures.items
     ∙ ap (λ xs. xs ++ plain_at sec p ∷ []) c.loop-i.invariant
     ∙ append_assoc old (map (plain_at sec) (take i code)) (plain_at sec p ∷ [])

@@ -1,4 +1,4 @@
-use Rattle.std.proofs.Common.{◌≡◌, ℕ, ◌+◌, Bool, true, false, cond, List, [], ◌∷◌, ◌++◌, map, filter, arith, sym, ap, ◌∙◌, append_assoc, append-nil, Option, is_some}
+use Rattle.std.proofs.Common.{◌≡◌, ℕ, ◌+◌, Bool, true, false, cond, List, [], ◌∷◌, ◌++◌, map, filter, arith, sym, ap, ◌∙◌, append_assoc, append-nil, length, length-append, Option, is_some}
 use Rattle.operation_defs.specs.declared.insn.Insn.{Insn}
 use Rattle.std.specs.List.{range_with_len}
 use Rattle.std.proofs.lemmas.List.FromFn.{filter_of_map_range_with_len_more}
@@ -34,8 +34,12 @@ loop-distance-preserved c =
     elim c.if-is_some.branch [
       | then-is_some+in_ok-push w ↦
           let passes : p (replaced_at entries k n) ≡ true = sym (ap (λ (o : Option Insn). is_some o) c.insn_of_point.ensures) ∙ sym c.is_some.ensures ∙ w.if-is_some.true in
-          ap (λ v. v.items) w.points-is ∙ w.in_ok-push.ensures.items ∙ ap (λ xs. xs ++ replaced_at entries k n ∷ []) c.loop-distance.invariant ∙ one_more p (replaced_at entries k) old n passes
+          let pushed : c.if-is_some.points.items ≡ c.loop-distance.points.items ++ replaced_at entries k n ∷ [] = ap (λ v. v.items) w.points-is ∙ w.in_ok-push.ensures.items in
+          let longer : length c.if-is_some.points.items ≡ length c.loop-distance.points.items + 1 = ap (λ (xs : List Point). length xs) pushed ∙ length-append c.loop-distance.points.items (replaced_at entries k n ∷ []) in
+          (pushed ∙ ap (λ xs. xs ++ replaced_at entries k n ∷ []) c.loop-distance.invariant.0 ∙ one_more p (replaced_at entries k) old n passes, omega (arith, c.loop-distance.invariant.1))
       | else-is_some w ↦
           let fails : p (replaced_at entries k n) ≡ false = sym (ap (λ (o : Option Insn). is_some o) c.insn_of_point.ensures) ∙ sym c.is_some.ensures ∙ w.if-is_some.false in
-          ap (λ v. v.items) w.points-is ∙ c.loop-distance.invariant ∙ none_more p (replaced_at entries k) old n fails
+          let kept : c.if-is_some.points.items ≡ c.loop-distance.points.items = ap (λ v. v.items) w.points-is in
+          let same : length c.if-is_some.points.items ≡ length c.loop-distance.points.items = ap (λ (xs : List Point). length xs) kept in
+          (kept ∙ c.loop-distance.invariant.0 ∙ none_more p (replaced_at entries k) old n fails, omega (arith, c.loop-distance.invariant.1))
     ]

@@ -1,0 +1,13 @@
+use Rattle.std.proofs.Common.{◌≡◌, List, Contains, sym, ap, ◌∙◌, subst}
+use Rattle.std.specs.List.Sorted.{IsStrictlySortedBy}
+use Rattle.alternatives.specs.declared.point.Point.{Point}
+use Rattle.alternatives.specs.Points.{point_cmp}
+use Rattle.alternatives.proofs.Numbering.{never_found}
+use Rattle.alternatives.proofs.table.PointTable.number_of.Goals as goal
+
+pub returns-in-Err : goal.returns-in-Err
+returns-in-Err c =
+    let points : List Point = c.deref.result.now in
+    let sorted : IsStrictlySortedBy point_cmp points = subst (IsStrictlySortedBy point_cmp) (sym c.deref.ensures.value) c.self.invariant.ascend in
+    let same : points ≡ c.args.self.now.points = c.deref.ensures.value ∙ ap (λ t. t.points) c.self.view_is in
+    λ at. never_found points c.args.point c.in-Err.field-0 sorted c.in-Err.ensures.position (subst (λ ps. Contains ps c.args.point) (sym same) at)

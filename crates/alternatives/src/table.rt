@@ -1,0 +1,137 @@
+//! The points of an object by their numbers.
+
+ghost use Rattle.std.specs.Prelude.{◌≡◌, ◌≤◌, ◌<◌, ℕ, Some, map, length, slice_get, IfOk, IfSome};
+ghost use Rattle.alternatives.specs.Faults.{AreRight};
+ghost use Rattle.alternatives.specs.Numbers.{IsNumberOf, IsRunOf};
+ghost use Rattle.alternatives.specs.Points.{address_of_point, first_of as first_point, insn_of_point as insn_of_a_point, point_after, points_of as points_in_order};
+ghost use Rattle.alternatives.specs.Texts.{text_bytes, AreShort, AscendBySection};
+
+use crate::point::{Point, count_before, count_to};
+use crate::points::{insns_of, points_of};
+use crate::texts::SectionText;
+use operation_defs::Insn;
+use ot_base::{NoMemory, Place};
+use special_sections::AltEntry;
+use std::alloc::Global;
+use std::marker::Model;
+
+/// The points of an object in their order, with their instructions, and its entries. Contracts see it
+/// as these lists.
+#[derive(Drop)]
+pub(crate) struct PointTable {
+    points: Vec<Point>,
+    insns: Vec<Insn>,
+    entries: Vec<AltEntry>,
+}
+
+impl Model for PointTable {
+    ghost use Rattle.alternatives.specs.Numbers.{AreNumbered, PointList};
+
+    ghost Value = { PointList };
+
+    ghost view = { λ t. record { points = t.points.items; insns = t.insns.items; entries = t.entries.items } };
+
+    ghost invariant = { λ t. AreNumbered t.points.items t.insns.items t.entries.items };
+}
+
+impl PointTable {
+    /// The points of an object whose entries are in order.
+    pub(crate) fn build(
+        alloc: Global,
+        texts: &[SectionText<'_>],
+        entries: &[AltEntry],
+    ) -> Result<PointTable, NoMemory>
+        requires ascending { AscendBySection texts.now }
+        requires short { AreShort texts.now }
+        requires bytes { text_bytes texts.now ≤ 16777216 }
+        requires few { length entries.now ≤ 8388608 }
+        requires right { AreRight texts.now entries.now (length entries.now) }
+        ensures points { IfOk result (λ t. t.points ≡ points_in_order texts.now entries.now) }
+        ensures insns { IfOk result (λ t. map (λ insn. Some insn) t.insns ≡ map (insn_of_a_point texts.now entries.now) t.points) }
+        ensures entries { IfOk result (λ t. t.entries ≡ entries.now) }
+    {
+        let points = points_of(alloc, texts, entries)?;
+        let insns = insns_of(alloc, texts, entries, points.as_slice())?;
+        let entries = entries.to_vec(alloc)?;
+        Ok(PointTable {
+            points,
+            insns,
+            entries,
+        })
+    }
+
+    /// The points, by place and then by variant.
+    pub(crate) fn points(&self) -> &[Point]
+        ensures { result.now ≡ self.now.points }
+    {
+        &self.points
+    }
+
+    /// The number of a point.
+    pub(crate) fn number_of(&self, point: Point) -> Option<u32>
+        ensures { IsNumberOf self.now.points point result }
+    {
+        match self.points.binary_search(&point) {
+            Ok(n) => Some(n as u32),
+            Err(_) => None,
+        }
+    }
+
+    /// The instruction of a point.
+    pub(crate) fn insn_of(&self, n: u32) -> Insn
+        requires { n < length self.now.points }
+        ensures { slice_get self.now.insns n ≡ Some result }
+    {
+        self.insns[n as usize]
+    }
+
+    /// Where a point runs.
+    pub(crate) fn address_of(&self, n: u32) -> Place
+        requires { n < length self.now.points }
+        ensures { IfSome (slice_get self.now.points n) (λ p. result ≡ address_of_point self.now.entries p) }
+    {
+        let point = self.points[n as usize];
+        if point.variant == 0 {
+            return point.place;
+        }
+        let entry = &self.entries[point.variant as usize - 1];
+        let distance = point.place.off.saturating_sub(entry.replacement.off);
+        let off = entry.original.off + distance;
+        Place {
+            off,
+            ..entry.original
+        }
+    }
+
+    /// The number of the point right behind another, in its text section or its replacement.
+    pub(crate) fn number_behind(&self, n: u32) -> Option<u32>
+        requires { n < length self.now.points }
+        ensures { IfSome (slice_get self.now.points n) (λ p. IfSome (slice_get self.now.insns n) (λ insn. IsNumberOf self.now.points (point_after p insn) result)) }
+    {
+        let point = self.points[n as usize];
+        let off = point.place.off + u64::from(self.insns[n as usize].len);
+        let place = Place { off, ..point.place };
+        self.number_of(Point { place, ..point })
+    }
+
+    /// The number of the first point of the replacement of an entry.
+    pub(crate) fn number_of_first(&self, entry: u32) -> Option<u32>
+        requires { entry < length self.now.entries }
+        ensures { IsNumberOf self.now.points (first_point self.now.entries entry) result }
+    {
+        let place = self.entries[entry as usize].replacement;
+        let variant = entry + 1;
+        self.number_of(Point { place, variant })
+    }
+
+    /// The numbers of the points at a place: the first, and the one behind the last.
+    pub(crate) fn numbers_at(&self, place: Place) -> (u32, u32)
+        ensures { IsRunOf self.now.points place result.0 result.1 }
+    {
+        let points = self.points.as_slice();
+        (
+            count_before(points, place) as u32,
+            count_to(points, place) as u32,
+        )
+    }
+}
