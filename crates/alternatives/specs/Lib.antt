@@ -7,3 +7,4 @@ pub mod Sorted
 pub mod Points
 pub mod Gathered
 pub mod Numbers
+pub mod Laws

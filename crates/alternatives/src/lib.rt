@@ -1,10 +1,11 @@
-//! Alternatives: the sites of an object's code that may be patched over, and the replacements that they
-//! may be patched with (Linux 6.6, `struct alt_instr`).
+//! Alternatives: the sites of an object's code that may be patched over, the replacements that they may
+//! be patched with (Linux 6.6, `struct alt_instr`), and the points of all of this code.
 #![tactic(auto)]
 
 mod check;
 mod fault;
 mod insns;
+pub mod laws;
 mod original;
 mod overlap;
 mod point;
@@ -20,6 +21,3 @@ pub use site::Site;
 pub use sites::Sites;
 pub use special_sections::AltEntry;
 pub use texts::SectionText;
-
-#[cfg(test)]
-mod tests;

@@ -139,6 +139,13 @@ impl Sites {
         self.table.number_behind(n)
     }
 
+    /// How many entries the object has, also those without an original.
+    pub fn entry_count(&self) -> u32
+        ensures { result ≡ length self.now.entries }
+    {
+        self.table.entry_count()
+    }
+
     /// The number of the first point of the replacement of an entry.
     pub fn number_of_first(&self, entry: u32) -> Option<u32>
         requires { entry < length self.now.entries }

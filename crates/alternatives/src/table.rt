@@ -114,6 +114,13 @@ impl PointTable {
         self.number_of(Point { place, ..point })
     }
 
+    /// How many entries the object has.
+    pub(crate) fn entry_count(&self) -> u32
+        ensures { result ≡ length self.now.entries }
+    {
+        self.entries.len() as u32
+    }
+
     /// The number of the first point of the replacement of an entry.
     pub(crate) fn number_of_first(&self, entry: u32) -> Option<u32>
         requires { entry < length self.now.entries }

@@ -1,0 +1,98 @@
+//! Entries that are refused.
+
+use super::*;
+
+/// The sub, by the first two replacements.
+const MIDDLE: Entry = Entry {
+    original: 4,
+    original_len: 4,
+    replacement: Place { sec: 2, off: 0 },
+    replacement_len: 4,
+};
+
+/// A part of the sub, by a part of an instruction.
+const WITHIN: Entry = Entry {
+    original: 4,
+    original_len: 3,
+    replacement: Place { sec: 2, off: 0 },
+    replacement_len: 2,
+};
+
+/// The mov and the sub, by a part of an instruction.
+const WIDE: Entry = Entry {
+    original: 1,
+    original_len: 7,
+    replacement: Place { sec: 2, off: 0 },
+    replacement_len: 2,
+};
+
+/// The last two, by a part of an instruction.
+const TORN: Entry = Entry {
+    original: 8,
+    original_len: 2,
+    replacement: Place { sec: 2, off: 0 },
+    replacement_len: 2,
+};
+
+/// The last two, by what begins within an instruction.
+const INNER: Entry = Entry {
+    original: 8,
+    original_len: 2,
+    replacement: Place { sec: 2, off: 2 },
+    replacement_len: 2,
+};
+
+/// The fault of two entries.
+fn fault_of(
+    rt: &impl Abort,
+    alloc: Global,
+    one: Entry,
+    two: Entry,
+) -> Result<Option<SiteFault>, Fail> {
+    match sites_of(rt, alloc, &CODE, &REPLACEMENTS, &[one, two])? {
+        Ok(_) => Ok(None),
+        Err(fault) => Ok(Some(fault)),
+    }
+}
+
+#[test]
+fn boundaries_before_overlap(rt: HostRuntime) -> Result<(), Fail> {
+    let told = SiteFault::At {
+        entry: 1,
+        why: SiteWhy::NotBoundary,
+    };
+    assert_eq!(rt; fault_of(&rt, rt.alloc(), MIDDLE, WITHIN)?, Some(told));
+    Ok(())
+}
+
+#[test]
+fn overlap_before_replacement(rt: HostRuntime) -> Result<(), Fail> {
+    let told = SiteFault::At {
+        entry: 1,
+        why: SiteWhy::Overlap,
+    };
+    assert_eq!(rt; fault_of(&rt, rt.alloc(), MIDDLE, WIDE)?, Some(told));
+    Ok(())
+}
+
+#[test]
+fn the_first_entry_is_told(rt: HostRuntime) -> Result<(), Fail> {
+    let told = SiteFault::At {
+        entry: 0,
+        why: SiteWhy::Replacement,
+    };
+    assert_eq!(rt; fault_of(&rt, rt.alloc(), TORN, WITHIN)?, Some(told));
+    assert_eq!(rt; fault_of(&rt, rt.alloc(), INNER, MIDDLE)?, Some(told));
+    Ok(())
+}
+
+#[test]
+fn fault_in_words(rt: HostRuntime) -> Result<(), Fail> {
+    let fault = SiteFault::At {
+        entry: 12,
+        why: SiteWhy::Overlap,
+    };
+    let text = format!(in rt.alloc(); "{fault}")?;
+    assert_eq!(rt; text.as_str(), "alternative 12: Overlap");
+    Ok(())
+}
