@@ -1,6 +1,6 @@
 //! The sites of an object, with their entries.
 
-ghost use Rattle.std.specs.Prelude.{◌≡◌, ◌<◌, ◌≤◌, ℕ, Some, map, true, false, length, slice_get, slice_index_or, IfOk, IfErr, IfSome, OnOk, MatchOption};
+ghost use Rattle.std.specs.Prelude.{◌≡◌, ◌^◌, ◌<◌, ◌≤◌, ℕ, Some, map, true, false, length, slice_get, slice_index_or, IfOk, IfErr, IfSome, OnOk, MatchOption};
 ghost use Rattle.alternatives.specs.Faults.{AreRight, IsFirstFault};
 ghost use Rattle.alternatives.specs.Numbers.{IsNumberOf, IsRunOf};
 ghost use Rattle.alternatives.specs.Points.{address_of_point, first_of, insn_of_point, point_after, points_of};
@@ -101,7 +101,8 @@ impl Sites {
     /// The points of the object's code, by place and then by variant. The number of a point is its index
     /// here.
     pub fn points(&self) -> &[Point]
-        ensures { result.now ≡ self.now.points }
+        ensures list { result.now ≡ self.now.points }
+        ensures few { length self.now.points < 2 ^ 32 }
     {
         self.table.points()
     }

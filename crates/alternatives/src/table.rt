@@ -1,6 +1,6 @@
 //! The points of an object by their numbers.
 
-ghost use Rattle.std.specs.Prelude.{◌≡◌, ◌≤◌, ◌<◌, ℕ, Some, map, length, slice_get, IfOk, IfSome};
+ghost use Rattle.std.specs.Prelude.{◌≡◌, ◌^◌, ◌≤◌, ◌<◌, ℕ, Some, map, length, slice_get, IfOk, IfSome};
 ghost use Rattle.alternatives.specs.Faults.{AreRight};
 ghost use Rattle.alternatives.specs.Numbers.{IsNumberOf, IsRunOf};
 ghost use Rattle.alternatives.specs.Points.{address_of_point, first_of as first_point, insn_of_point as insn_of_a_point, point_after, points_of as points_in_order};
@@ -62,7 +62,8 @@ impl PointTable {
 
     /// The points, by place and then by variant.
     pub(crate) fn points(&self) -> &[Point]
-        ensures { result.now ≡ self.now.points }
+        ensures list { result.now ≡ self.now.points }
+        ensures few { length self.now.points < 2 ^ 32 }
     {
         &self.points
     }

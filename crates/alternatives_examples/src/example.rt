@@ -52,10 +52,10 @@ fn entry_relocs(alloc: Global, entries: &[Entry]) -> Result<Vec<Reloc>, AllocErr
 }
 
 /// The object of some code, replacements and entries.
-pub fn file_of(
+pub fn file_of<'a>(
     alloc: Global,
-    code: &[u8],
-    replacements: &[u8],
+    code: &'a [u8],
+    replacements: &'a [u8],
     entries: &[Entry],
 ) -> Result<Vec<u8>, AllocError> {
     let bytes = entry_bytes(alloc, entries)?;
