@@ -15,3 +15,4 @@ pub mod PointOrder
 pub mod Listing
 pub mod Gathering
 pub mod Numbering
+pub mod SiteEntries

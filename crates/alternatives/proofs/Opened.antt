@@ -20,13 +20,13 @@ counts_inside entries k passes = elim (cases_lt k (length entries)) [
   | inr past ↦ absurd (false≢true (sym (ap counts (get_or_past entries k no_entry past)) ∙ passes))
 ]
 
-same_sec : (a b c d n : ℕ) → (eqb a b && (leb c d && ltb d (c + n))) ≡ true → a ≡ b
+pub same_sec : (a b c d n : ℕ) → (eqb a b && (leb c d && ltb d (c + n))) ≡ true → a ≡ b
 same_sec a b c d n h = grind (arith, nat_tests)
 
-from_start : (a b c d n : ℕ) → (eqb a b && (leb c d && ltb d (c + n))) ≡ true → c ≤ d
+pub from_start : (a b c d n : ℕ) → (eqb a b && (leb c d && ltb d (c + n))) ≡ true → c ≤ d
 from_start a b c d n h = grind (arith, nat_tests)
 
-before_end : (a b c d n : ℕ) → (eqb a b && (leb c d && ltb d (c + n))) ≡ true → d < c + n
+pub before_end : (a b c d n : ℕ) → (eqb a b && (leb c d && ltb d (c + n))) ≡ true → d < c + n
 before_end a b c d n h = grind (arith, nat_tests)
 
 eqb_same : (a b : ℕ) → eqb a b ≡ true → a ≡ b

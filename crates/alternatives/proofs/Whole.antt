@@ -58,7 +58,7 @@ fill_reaches from to (s ∷ sites) fill =
     omega arith
 
 -- the entries of a site are within the list
-fill_within : (from to : ℕ) (sites : List Site) (k : ℕ) (d : Site) → FillFrom from sites to → k < length sites → (get_or sites k d).first + (get_or sites k d).count ≤ to
+pub fill_within : (from to : ℕ) (sites : List Site) (k : ℕ) (d : Site) → FillFrom from sites to → k < length sites → (get_or sites k d).first + (get_or sites k d).count ≤ to
 fill_within from to [] k d fill inside = absurd (omega arith)
 fill_within from to (s ∷ sites) zero d fill inside =
     let rest : from + s.count ≤ to = fill_reaches (from + s.count) to sites fill.1.1 in

@@ -1,10 +1,12 @@
 //! Sites: the places of code that may be patched over.
 
-ghost use Rattle.std.specs.Prelude.{◌≡◌, ◌+◌, ◌<◌, ◌≤◌, ◌^◌, ℕ, true, false, length, slice_index_or, IfOk, All, MatchOption};
+ghost use Rattle.std.specs.Prelude.{◌≡◌, ◌+◌, ◌<◌, ◌≤◌, ◌^◌, ℕ, true, false, List, length, slice_index_or, IfOk, All, MatchOption};
 ghost use Rattle.special_sections.specs.Hints.{is_place};
+ghost use Rattle.special_sections.specs.declared.entries.AltEntry.{AltEntry};
 ghost use Rattle.alternatives.specs.declared.original.Original.{Original};
 ghost use Rattle.alternatives.specs.declared.site.Site.{Site};
-ghost use Rattle.alternatives.specs.Sites.{holds as site_holds, is_before as is_lower, AscendApart};
+ghost use Rattle.alternatives.specs.Points.{entries_from};
+ghost use Rattle.alternatives.specs.Sites.{holds as site_holds, is_before as is_lower, AreSitesOf, AscendApart, FillFrom};
 ghost use Rattle.alternatives.specs.Sorted.{AreByPlace, NoneMeet, GroupsOf};
 
 use crate::original::Original;
@@ -108,4 +110,24 @@ pub(crate) fn find_site(sites: &[Site], place: Place) -> Option<u32>
     } else {
         None
     }
+}
+
+/// The numbers of the entries of the site that begins at a place, of those of all sites.
+pub(crate) fn numbers_from<'n>(sites: &[Site], numbers: &'n [u32], place: Place) -> &'n [u32]
+    requires few { length sites.now < 2 ^ 32 }
+    requires some { length numbers.now ≤ 8388608 }
+    requires apart { AscendApart sites.now }
+    requires fill { FillFrom 0 sites.now (length numbers.now) }
+    ensures { (entries : List AltEntry) → AreSitesOf entries sites.now numbers.now → result.now ≡ entries_from entries place }
+{
+    let Some(found) = find_site(sites, place) else {
+        return &[];
+    };
+    let site = sites[found as usize];
+    if site.start != place {
+        return &[];
+    }
+    let first = site.first as usize;
+    let end = first + site.count as usize;
+    &numbers[first..end]
 }

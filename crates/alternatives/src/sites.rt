@@ -3,7 +3,7 @@
 ghost use Rattle.std.specs.Prelude.{◌≡◌, ◌^◌, ◌<◌, ◌≤◌, ℕ, Some, map, true, false, length, slice_get, slice_index_or, IfOk, IfErr, IfSome, OnOk, MatchOption};
 ghost use Rattle.alternatives.specs.Faults.{AreRight, IsFirstFault};
 ghost use Rattle.alternatives.specs.Numbers.{IsNumberOf, IsRunOf};
-ghost use Rattle.alternatives.specs.Points.{address_of_point, first_of, insn_of_point, point_after, points_of};
+ghost use Rattle.alternatives.specs.Points.{address_of_point, entries_from, first_of, insn_of_point, point_after, points_of};
 ghost use Rattle.alternatives.specs.Sites.{holds, AreSitesOf};
 ghost use Rattle.alternatives.specs.Texts.{text_bytes, AreShort, AscendBySection};
 ghost use Rattle.alternatives.specs.declared.original.Original.{Original};
@@ -14,7 +14,7 @@ use crate::fault::SiteFault;
 use crate::original::{Original, sorted_originals};
 use crate::overlap::find_overlap;
 use crate::point::Point;
-use crate::site::{Site, find_site, group_sites};
+use crate::site::{Site, find_site, group_sites, numbers_from};
 use crate::table::PointTable;
 use crate::texts::SectionText;
 use operation_defs::Insn;
@@ -33,8 +33,8 @@ pub struct Sites {
 }
 
 impl Model for Sites {
-    ghost use Rattle.std.specs.Prelude.{◌<◌, ◌^◌, length};
-    ghost use Rattle.alternatives.specs.Sites.{AscendApart, SiteList};
+    ghost use Rattle.std.specs.Prelude.{◌<◌, ◌≤◌, ◌^◌, length};
+    ghost use Rattle.alternatives.specs.Sites.{AreSitesOf, SiteList};
 
     ghost Value = { SiteList };
 
@@ -46,7 +46,7 @@ impl Model for Sites {
       entries = s.table.entries;
     } };
 
-    ghost invariant = { λ s. (length s.sites.items < 2 ^ 32) × AscendApart s.sites.items };
+    ghost invariant = { λ s. (length s.sites.items < 2 ^ 32) × (length s.entry_numbers.items ≤ 8388608) × AreSitesOf s.table.entries s.sites.items s.entry_numbers.items };
 }
 
 impl Sites {
@@ -96,6 +96,13 @@ impl Sites {
         ensures { result.now ≡ self.now.entry_numbers }
     {
         &self.entry_numbers
+    }
+
+    /// The numbers of the entries whose original begins at a place, ascending.
+    pub fn entries_at(&self, place: Place) -> &[u32]
+        ensures { result.now ≡ entries_from self.now.entries place }
+    {
+        numbers_from(&self.sites, &self.entry_numbers, place)
     }
 
     /// The points of the object's code, by place and then by variant. The number of a point is its index

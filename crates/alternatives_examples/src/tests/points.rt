@@ -186,6 +186,15 @@ fn sites_of_entries(rt: HostRuntime) -> Result<(), Fail> {
 }
 
 #[test]
+fn entries_of_places(rt: HostRuntime) -> Result<(), Fail> {
+    let sites = built(&rt, rt.alloc())?;
+    assert!(rt; sites.entries_at(Place { sec: 1, off: 4 }) == [1u32, 3].as_slice());
+    assert!(rt; sites.entries_at(Place { sec: 1, off: 5 }).is_empty());
+    assert!(rt; sites.entries_at(Place { sec: 1, off: 1 }).is_empty());
+    Ok(())
+}
+
+#[test]
 fn points_of_entries(rt: HostRuntime) -> Result<(), Fail> {
     let sites = built(&rt, rt.alloc())?;
     assert!(rt; are_told(&sites, &ROWS));
