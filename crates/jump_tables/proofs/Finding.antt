@@ -39,3 +39,11 @@ module _ {X : Type 0} (p : X → Bool) where
   only_one (x ∷ xs) (suc n) d inside others =
       ap (λ b. cond b (Some x) (find p xs)) (others 0 (omega arith) (λ same. omega arith))
       ∙ only_one xs n d (omega arith) (λ k within other. others (suc k) (omega arith) (λ same. other (omega arith)))
+
+  -- it is found where those before it fail
+  pub found_at : (xs : List X) (n : ℕ) (d : X) → n < length xs → ((k : ℕ) → k < n → p (get_or xs k d) ≡ false) → p (get_or xs n d) ≡ true → find p xs ≡ Some (get_or xs n d)
+  found_at [] n d inside before here = absurd (omega arith)
+  found_at (x ∷ xs) zero d inside before here = ap (λ b. cond b (Some x) (find p xs)) here
+  found_at (x ∷ xs) (suc n) d inside before here =
+      ap (λ b. cond b (Some x) (find p xs)) (before 0 (omega arith))
+      ∙ found_at xs n d (omega arith) (λ k h. before (suc k) (omega arith)) here

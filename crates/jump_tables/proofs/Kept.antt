@@ -1,5 +1,5 @@
 -- What is kept of the tables.
-use Rattle.std.proofs.Common.{◌≡◌, ℕ, ◌*◌, Bool, true, false, cond, ◌&&◌, nat_lt, List, Option, Some, None, option_and_then, sym, ap, ◌∙◌}
+use Rattle.std.proofs.Common.{◌≡◌, ℕ, ◌*◌, Bool, cond, ◌&&◌, nat_lt, List, Some, None, option_and_then, sym, ap, ◌∙◌}
 use Rattle.std.specs.List.{list_any}
 use Rattle.ot_base.specs.declared.place.Place.{Place}
 use Rattle.elf_objects.specs.Elf.{Elf}

@@ -2,3 +2,9 @@ mod Finding
 mod Order
 mod Kept
 mod Listed
+mod Ascending
+mod Jumping
+mod JumpOrder
+mod Starting
+mod Entering
+mod Whole

@@ -39,7 +39,7 @@ fn is_cut(starts: &[Place], field: Place, i: u32) -> bool
 /// Entry `i` of the table that begins at a place: the boundary of a text section that the relocation
 /// `R_X86_64_64` of its field names. There is none where `i` is above 0 and the table of a jump begins at
 /// that field; `starts` are the places where such tables begin, in their order.
-pub fn entry_at(
+pub(crate) fn entry_at(
     index: &Index<'_, '_>,
     texts: &[SectionText<'_>],
     starts: &[Place],

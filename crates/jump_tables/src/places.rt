@@ -9,14 +9,14 @@ ghost use Rattle.jump_tables.specs.Kept.{AreByPlace, IsFirstOf};
 use ot_base::Place;
 
 /// Whether a place is in an earlier section, or in the same one at a lower offset.
-fn is_before(place: Place, other: Place) -> bool
+pub(crate) fn is_before(place: Place, other: Place) -> bool
     ensures { result ≡ is_lower place other }
 {
     place.sec < other.sec || place.sec == other.sec && place.off < other.off
 }
 
 /// Whether two places are one.
-fn is_same(place: Place, other: Place) -> bool
+pub(crate) fn is_same(place: Place, other: Place) -> bool
     ensures { result ≡ same_place place other }
 {
     place.sec == other.sec && place.off == other.off

@@ -1,4 +1,4 @@
-use Rattle.std.proofs.Common.{◌==◌, eqb, pos, sym, eq-eqb}
+use Rattle.std.proofs.Common.{eqb, pos, sym, eq-eqb}
 use Rattle.std.proofs.lemmas.Bool.{ne_eqb}
 use Rattle.elf_objects.specs.declared.symbol.Reloc.{Reloc}
 use Rattle.jump_tables.proofs.Finding.{found, found_none}

@@ -1,0 +1,137 @@
+//! The entries of tables.
+
+ghost use Rattle.std.specs.Prelude.{◌≡◌, length, IfOk};
+ghost use Rattle.elf_objects.specs.Contents.{relocs_at};
+ghost use Rattle.alternatives.specs.Texts.{AscendBySection};
+ghost use Rattle.jump_tables.specs.Tables.{entries_for as entries_of_table_for, entry_at as entry_of_table};
+ghost use Rattle.jump_tables.specs.Kept.{entry_for, kept_for, AreByPlace, AreStarts, AreTables, IsTableFrom};
+
+use crate::entry::entry_at;
+use crate::owner::{is_same_owner, owner_at};
+use alternatives::SectionText;
+use ot_base::{NoMemory, Place};
+use std::alloc::Global;
+use symbols_relocs::Index;
+
+/// What is kept of a table: its entries for the owner of its first one. For any other owner it has none.
+#[derive(Drop)]
+pub(crate) struct Table {
+    /// The owner of the first entry, by its symbol.
+    pub owner: Option<u32>,
+    /// The entries up to the first of another owner.
+    pub entries: Vec<Place>,
+}
+
+impl Table {
+    /// The entries for an owner.
+    pub(crate) fn entries_for(&self, owner: Option<u32>) -> &[Place]
+        ensures { result.now ≡ kept_for self.now owner }
+    {
+        if is_same_owner(self.owner, owner) {
+            &self.entries
+        } else {
+            &[]
+        }
+    }
+}
+
+/// How many relocations a section has.
+fn count_relocs(index: &Index<'_, '_>, sec: u32) -> u32
+    ensures { result ≡ length (relocs_at index.now.elf sec) }
+{
+    let object = index.object();
+    if sec < object.sections() {
+        object.relocs(sec)
+    } else {
+        0
+    }
+}
+
+/// Entry `i` of a table, where its owner is the one that is asked for.
+fn entry_of(
+    index: &Index<'_, '_>,
+    texts: &[SectionText<'_>],
+    starts: &[Place],
+    table: Place,
+    owner: Option<u32>,
+    i: u32,
+) -> Option<Place>
+    requires ascending { AscendBySection texts.now }
+    requires sorted { AreByPlace starts.now }
+    requires all { AreStarts index.now.elf texts.now starts.now }
+    ensures { result ≡ entry_for index.now.elf owner (entry_of_table index.now.elf texts.now table i) }
+{
+    let entry = entry_at(index, texts, starts, table, i)?;
+    if is_same_owner(owner_at(index, entry), owner) {
+        Some(entry)
+    } else {
+        None
+    }
+}
+
+/// The entries for an owner of the table that begins at a place.
+fn list_entries(
+    alloc: Global,
+    index: &Index<'_, '_>,
+    texts: &[SectionText<'_>],
+    starts: &[Place],
+    table: Place,
+    owner: Option<u32>,
+) -> Result<Vec<Place>, NoMemory>
+    requires ascending { AscendBySection texts.now }
+    requires sorted { AreByPlace starts.now }
+    requires all { AreStarts index.now.elf texts.now starts.now }
+    ensures { IfOk result (λ list. list.items ≡ entries_of_table_for index.now.elf texts.now table owner) }
+{
+    let mut list = Vec::new(alloc);
+    for i in 0..count_relocs(index, table.sec) {
+        let Some(entry) = entry_of(index, texts, starts, table, owner, i) else {
+            return Ok(list);
+        };
+        list.push(entry)?;
+    }
+    Ok(list)
+}
+
+/// What is kept of the table that begins at a place.
+fn read_table(
+    alloc: Global,
+    index: &Index<'_, '_>,
+    texts: &[SectionText<'_>],
+    starts: &[Place],
+    start: Place,
+) -> Result<Table, NoMemory>
+    requires ascending { AscendBySection texts.now }
+    requires sorted { AreByPlace starts.now }
+    requires all { AreStarts index.now.elf texts.now starts.now }
+    ensures { IfOk result (IsTableFrom index.now.elf texts.now start) }
+{
+    let Some(first) = entry_at(index, texts, starts, start, 0) else {
+        return Ok(Table {
+            owner: None,
+            entries: Vec::new(alloc),
+        });
+    };
+    let owner = owner_at(index, first);
+    let entries = list_entries(alloc, index, texts, starts, start, owner)?;
+    Ok(Table { owner, entries })
+}
+
+/// What is kept of each of the tables that begin at these places.
+pub(crate) fn list_tables(
+    alloc: Global,
+    index: &Index<'_, '_>,
+    texts: &[SectionText<'_>],
+    starts: &[Place],
+) -> Result<Vec<Table>, NoMemory>
+    requires ascending { AscendBySection texts.now }
+    requires sorted { AreByPlace starts.now }
+    requires all { AreStarts index.now.elf texts.now starts.now }
+    ensures { IfOk result (λ tables. AreTables index.now.elf texts.now starts.now tables.items) }
+{
+    let mut tables = Vec::with_capacity(alloc, starts.len())?;
+    for start in starts {
+        tables.push(read_table(alloc, index, texts, starts, *start)?)?;
+    }
+    Ok(tables)
+}

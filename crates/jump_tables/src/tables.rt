@@ -1,0 +1,81 @@
+//! The tables of all jumps.
+
+ghost use Rattle.std.specs.Prelude.{◌≡◌, ℕ, Option, IfOk};
+ghost use Rattle.ot_base.specs.declared.place.Place.{Place};
+ghost use Rattle.alternatives.specs.Texts.{AscendBySection};
+ghost use Rattle.jump_tables.specs.Kept.{table_in};
+ghost use Rattle.jump_tables.specs.Tables.{table_of};
+
+use crate::jump::{Jump, find_jump, list_jumps, sort_jumps};
+use crate::places::find_first;
+use crate::starts::list_starts;
+use crate::table::{Table, list_tables};
+use alternatives::SectionText;
+use ot_base::{NoMemory, Place};
+use std::alloc::Global;
+use std::marker::Model;
+use symbols_relocs::Index;
+
+/// The tables of the indirect jumps of an object. Contracts see what is kept of them.
+#[derive(Drop)]
+pub struct JumpTables {
+    /// The jumps by a table, in the order of their places.
+    jumps: Vec<Jump>,
+    /// Where their tables begin, each once, in their order.
+    starts: Vec<Place>,
+    /// What is kept of the table that begins at each of these.
+    tables: Vec<Table>,
+}
+
+impl Model for JumpTables {
+    ghost use Rattle.jump_tables.specs.Kept.{AreOrdered, KeptTables};
+
+    ghost Value = { KeptTables };
+
+    ghost view = { λ t. record { jumps = t.jumps.items; starts = t.starts.items; tables = t.tables.items } };
+
+    ghost invariant = { λ t. AreOrdered t.jumps.items t.starts.items t.tables.items };
+}
+
+impl JumpTables {
+    /// The tables of the jumps in the text sections of an object, also of those in replacements.
+    ///
+    /// A table that several jumps name is read once. It takes as many steps as there are instructions,
+    /// relocations and entries, each with a few look-ups by halving.
+    pub fn build(
+        alloc: Global,
+        index: &Index<'_, '_>,
+        texts: &[SectionText<'_>],
+    ) -> Result<JumpTables, NoMemory>
+        requires { AscendBySection texts.now }
+        ensures { IfOk result (λ tables. (place : Place) (owner : Option ℕ) → table_in tables place owner ≡ table_of index.now.elf texts.now place owner) }
+    {
+        let mut jumps = list_jumps(alloc, index, texts)?;
+        let starts = list_starts(alloc, &jumps)?;
+        let tables = list_tables(alloc, index, texts, &starts)?;
+        sort_jumps(&mut jumps)?;
+        Ok(JumpTables {
+            jumps,
+            starts,
+            tables,
+        })
+    }
+
+    /// The entries of the table of the indirect jump at a place, for a point of an owner.
+    ///
+    /// The owner is told by its symbol, the [`sym`](symbols_relocs::Function::sym) of its function, or None
+    /// for a point of no function. A plain point has the owner of its place, a point of a replacement that
+    /// of the address at which it runs. It is empty where no jump by a table begins at the place, where its
+    /// table isn't recognised, and where the table's first entry has another owner. It takes no memory.
+    pub fn of(&self, place: Place, owner: Option<u32>) -> &[Place]
+        ensures { result.now ≡ table_in self.now place owner }
+    {
+        let Some(jump) = find_jump(&self.jumps, place) else {
+            return &[];
+        };
+        let Some(at) = find_first(&self.starts, jump.table) else {
+            return &[];
+        };
+        self.tables[at].entries_for(owner)
+    }
+}
