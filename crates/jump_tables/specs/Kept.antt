@@ -33,7 +33,7 @@ AreStarts o texts starts = (place : Place) → list_any (same_place place) start
 abbrev pub entry_for : Elf → Option ℕ → Option Place → Option Place
 entry_for o owner entry = option_and_then (λ place. if same_owner (owner_at o place) owner then Some place else None) entry
 
--- the entries of a table for an owner, of which one owner's are kept
+-- the entries for an owner, of a table whose entries for its first one's owner are kept
 abbrev pub kept_for : Table → Option ℕ → List Place
 kept_for table owner = if same_owner table.owner owner then table.entries.items else []
 
@@ -46,10 +46,12 @@ abbrev pub table_at : List Place → List Table → Place → Option Table
 table_at (start ∷ starts) (table ∷ tables) place = if same_place place start then Some table else table_at starts tables place
 table_at _ _ place = None
 
+-- its entries for an owner; none where there is no such table
 abbrev pub of_table : Option ℕ → Option Table → List Place
 of_table owner (Some table) = kept_for table owner
 of_table owner None = []
 
+-- those of a jump's table; none where there is no jump
 abbrev pub of_jump : List Place → List Table → Option ℕ → Option Jump → List Place
 of_jump starts tables owner (Some jump) = of_table owner (table_at starts tables jump.table)
 of_jump starts tables owner None = []

@@ -40,8 +40,7 @@ impl Model for JumpTables {
 impl JumpTables {
     /// The tables of the jumps in the text sections of an object, also of those in replacements.
     ///
-    /// A table that several jumps name is read once. It takes as many steps as there are instructions,
-    /// relocations and entries, each with a few look-ups by halving.
+    /// A table that several jumps name is read once.
     pub fn build(
         alloc: Global,
         index: &Index<'_, '_>,
