@@ -66,14 +66,14 @@ body-in at [] e post ok =
 body-in at (x ∷ pre) e post ok = body-in (next_multiple x.align at + length x.body) pre e post (All-tail (λ (y : NewEntry). 1 ≤ y.align) x (pre ++ e ∷ post) ok)
 
 -- the symbol table stands first among its tables
-tables-first : (s : Spec) → (rest : List NewEntry) × (symbol_tables s ≡ symbols_entry s ∷ rest)
+pub tables-first : (s : Spec) → (rest : List NewEntry) × (symbol_tables s ≡ symbols_entry s ∷ rest)
 tables-first s = by (needs_indices s.symbols)
   where
     by : (b : Bool) → (rest : List NewEntry) × ((if b then symbols_entry s ∷ indices_entry s ∷ [] else symbols_entry s ∷ []) ≡ symbols_entry s ∷ rest)
     by true = (indices_entry s ∷ [], refl)
     by false = ([], refl)
 
-length-symbol_bytes : (name : ℕ) (x : NewSymbol) → length (symbol_bytes name x) ≡ 24
+pub length-symbol_bytes : (name : ℕ) (x : NewSymbol) → length (symbol_bytes name x) ≡ 24
 length-symbol_bytes name x = simp (length-append, length-encoded) refl
 
 length-symbols_from : (at : ℕ) (xs : List NewSymbol) → length (symbols_from at xs) ≡ 24 * length xs

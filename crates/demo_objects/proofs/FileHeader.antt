@@ -29,7 +29,7 @@ begins es =
     ((f.0 ++ gap) ++ table, ap (λ (xs : List ℕ). (xs ++ gap) ++ table) f.1 ∙ ap (λ (xs : List ℕ). xs ++ table) (append_assoc h f.0 gap) ∙ append_assoc h (f.0 ++ gap) table)
 
 -- one more field is passed over
-next : (n w x : ℕ) (xs rest : List ℕ) → drop n xs ≡ encoded w x ++ rest → drop (n + w) xs ≡ rest
+pub next : (n w x : ℕ) (xs rest : List ℕ) → drop n xs ≡ encoded w x ++ rest → drop (n + w) xs ≡ rest
 next n w x xs rest e = sym (drop-drop w n xs) ∙ ap (drop w) e ∙ drop_at (encoded w x) rest w (length-encoded w x)
 
 short-count : (n : ℕ) → short_count n < 2 ^ 16

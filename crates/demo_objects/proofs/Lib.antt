@@ -9,3 +9,7 @@ pub mod Fields
 pub mod ReadBack
 pub mod WellFormed
 pub mod SaysSections
+pub mod Pieces
+pub mod SaysRelocs
+pub mod SaysSymbols
+pub mod Said

@@ -1,5 +1,5 @@
 -- What the sections of the object that is made say.
-use Rattle.std.proofs.Common.{◌≡◌, ◌≢◌, inl, inr, ℕ, zero, suc, ◌+◌, ◌-◌, ◌*◌, ◌<◌, ◌≤◌, Bool, true, false, not, List, [], ◌∷◌, ◌++◌, length, map, take, get_or, refl, sym, ap, subst, ◌∙◌, arith, length-append}
+use Rattle.std.proofs.Common.{◌≡◌, ◌≢◌, inl, inr, ℕ, zero, suc, ◌+◌, ◌-◌, ◌<◌, Bool, true, false, not, List, [], ◌∷◌, ◌++◌, length, map, take, get_or, refl, sym, ap, ◌∙◌, arith, length-append}
 use Rattle.std.specs.Prelude.{All, codes, ◌==◌, if◌then◌else◌}
 use Rattle.std.specs.List.{list_all, range_with_len}
 use Rattle.std.proofs.lemmas.Bool.{cases_eq}
@@ -7,7 +7,7 @@ use Rattle.std.proofs.lemmas.Bool.Decides.{nat_tests}
 use Rattle.std.proofs.lemmas.List.Elements.{All-append, All-map}
 use Rattle.std.proofs.lemmas.List.FromFn.{fill_by_all}
 use Rattle.std.proofs.lemmas.List.Sums.{take_while-cons}
-use Rattle.elf_objects.specs.Contents.{elf_of, entry_of_header, section_entry}
+use Rattle.elf_objects.specs.Contents.{entry_of_header, section_entry}
 use Rattle.elf_objects.specs.Elf.{SectionEntry}
 use Rattle.elf_objects.specs.File.{section_count}
 use Rattle.elf_objects.specs.Header.{has_body}
@@ -16,20 +16,18 @@ use Rattle.elf_objects.specs.Table.{body_of, name_header, string_at}
 use Rattle.elf_objects.specs.declared.header.SectionHeader.{SectionHeader}
 use Rattle.elf_write.specs.Added.{new_section}
 use Rattle.elf_write.specs.Layout.{NewEntry, header_for, new_names}
-use Rattle.elf_write.proofs.Parts.{part}
 use Rattle.elf_write.proofs.Says.{entry_is}
 use Rattle.elf_write.proofs.Special.{body_none, body_range, bool_cases}
 use Rattle.elf_write.proofs.Strings.{string_at-new}
 use Rattle.demo_objects.specs.CanMake.{CanLayOut}
 use Rattle.demo_objects.specs.Layout.{bodies_end, first_header, names_entry, next_multiple, with_names}
 use Rattle.demo_objects.specs.Made.{all_sections, indices_entry, made, needs_indices, no_entry, rela_entry, strings_entry, symbol_tables, symbols_entry, targets}
-use Rattle.demo_objects.specs.Object.{SaysSections, first_section, object_of, placed_sections}
+use Rattle.demo_objects.specs.Object.{first_section, placed_sections}
 use Rattle.demo_objects.specs.Spec.{Spec}
 use Rattle.demo_objects.proofs.Can.{front_part, given_part}
 use Rattle.demo_objects.proofs.Items.{all-only}
 use Rattle.demo_objects.proofs.Placed.{entry_at, name_at, place_at}
 use Rattle.demo_objects.proofs.ReadBack.{Reads, reads}
-use Rattle.demo_objects.proofs.Targets.{targets-known}
 use Rattle.demo_objects.proofs.WellFormed.{last-entry, name-header, names-body, space}
 
 -- Each section has a name that can be read, and a body only where its type has one.
@@ -112,7 +110,7 @@ names-read init b o sound =
     ∙ ap (λ (e : NewEntry). e.body) (last-entry init)
     ∙ sym (names-body init)
 
-empty-name : (xs : List ℕ) → string_at (0 ∷ xs) 0 ≡ []
+pub empty-name : (xs : List ℕ) → string_at (0 ∷ xs) 0 ≡ []
 unfolding string_at up_to_zero
 empty-name xs = take_while-cons (λ c. not (c == 0)) 0 xs
 
@@ -147,7 +145,8 @@ each-entry : (init : List NewEntry) (b : List ℕ) (d : SectionEntry) → Reads 
 each-entry init b d o sound zero h = sym (first-entry init b o sound)
 each-entry init b d o sound (suc k) h = get_or-placed 64 (with_names init) k d (omega arith) ∙ sym (other-entry init b o sound k (omega arith))
 
-pub says-sections : (s : Spec) → CanLayOut s → SaysSections (elf_of (made s)) (object_of s)
+pub says-sections : (s : Spec) → CanLayOut s
+    → map (section_entry (made s)) (range_with_len 0 (section_count (made s))) ≡ first_section (length (all_sections s) + 1) ∷ placed_sections 64 (all_sections s)
 says-sections s can =
     let init : List NewEntry = front_part s ++ strings_entry s ∷ [] in
     let es : List NewEntry = all_sections s in
@@ -155,11 +154,5 @@ says-sections s can =
     let o : Reads es b = reads es (space s can) in
     let all : List SectionEntry = first_section (length es + 1) ∷ placed_sections 64 es in
     let n : length all ≡ length es + 1 = ap (λ (m : ℕ). suc m) (length-placed 64 es) ∙ omega arith in
-    record {
-      bytes = refl;
-      headers_at = o.headers;
-      name_table = o.table;
-      sections =
-          ap (λ (m : ℕ). map (section_entry b) (range_with_len 0 m)) o.count
-          ∙ sym (fill_by_all (section_entry b) all (length es + 1) (section_entry b 0) n (λ i h. each-entry init b (section_entry b 0) o (all-sound s can) i h));
-    }
+    ap (λ (m : ℕ). map (section_entry b) (range_with_len 0 m)) o.count
+    ∙ sym (fill_by_all (section_entry b) all (length es + 1) (section_entry b 0) n (λ i h. each-entry init b (section_entry b 0) o (all-sound s can) i h))

@@ -1,5 +1,6 @@
 -- What can be made.
-use Rattle.std.specs.Prelude.{◌≡◌, ◌≢◌, ◌+◌, ◌-◌, ◌<◌, ◌≤◌, ◌≤ℤ◌, ◌<ℤ◌, ◌^◌, ℕ, pos, negsuc, List, [], length, All}
+use Rattle.std.specs.Prelude.{◌≡◌, ◌≢◌, ◌+◌, ◌<◌, ◌≤◌, ◌^◌, ℕ, List, [], length, All, FitsSigned}
+use Rattle.std.specs.Int.{w64}
 use Rattle.elf_objects.specs.declared.TheConstants.{MAX_SECTIONS, SHT_NULL, SHT_NOBITS}
 use Rattle.elf_objects.specs.declared.symbol.Home.{Home}
 use Rattle.elf_objects.specs.declared.symbol.Home.TheVariants as home
@@ -44,8 +45,7 @@ pub record IsNewReloc (count : ℕ) (r : RelSpec) : Type 0 where
   pub offset : r.reloc.offset < 2 ^ 64
   pub kind : r.reloc.kind < 2 ^ 32
   pub sym : r.reloc.sym < 2 ^ 32
-  pub addend_low : negsuc (2 ^ 63 - 1) ≤ℤ r.reloc.addend
-  pub addend_high : r.reloc.addend <ℤ pos (2 ^ 63)
+  pub addend : FitsSigned w64 r.reloc.addend
 
 -- the parts are right by themselves
 pub record HasParts (s : Spec) : Type 0 where

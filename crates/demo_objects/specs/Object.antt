@@ -1,14 +1,14 @@
 -- What an object that is made says.
-use Rattle.std.specs.Prelude.{◌≡◌, ℕ, ◌+◌, ◌-◌, ◌==◌, ◌&&◌, List, [], ◌∷◌, length, map, Option, Some, None, if◌then◌else◌}
-use Rattle.std.specs.List.{find, range_with_len}
+use Rattle.std.specs.Prelude.{◌≡◌, ℕ, ◌+◌, ◌-◌, ◌<◌, ◌==◌, ◌&&◌, List, [], ◌∷◌, length, map, Option, Some, None, if◌then◌else◌}
+use Rattle.std.specs.List.{find}
 use Rattle.elf_objects.specs.declared.TheConstants.{SHT_RELA}
 use Rattle.elf_objects.specs.declared.symbol.Reloc.{Reloc}
-use Rattle.elf_objects.specs.Contents.{no_symbol}
+use Rattle.elf_objects.specs.Contents.{no_symbol, relocs_at}
 use Rattle.elf_objects.specs.Elf.{Elf, SectionEntry, SymbolEntry}
 use Rattle.elf_write.specs.Added.{new_section, relocs_in}
 use Rattle.elf_write.specs.Layout.{NewEntry, long_count}
 use Rattle.demo_objects.specs.Layout.{headers_place, long_index, next_multiple}
-use Rattle.demo_objects.specs.Made.{all_sections, has_relocs, made, relocs_for, symbols_number}
+use Rattle.demo_objects.specs.Made.{all_sections, has_relocs, relocs_for, symbols_number}
 use Rattle.demo_objects.specs.Spec.{NewSymbol, Spec}
 
 -- section 0, where there are so many sections
@@ -55,21 +55,12 @@ held_relocs es sec = chosen (find (λ e. (e.kind == SHT_RELA) && (e.info == sec)
 abbrev pub said_relocs : Spec → ℕ → List Reloc
 said_relocs s sec = if has_relocs s.relocs sec then relocs_for s.relocs sec else held_relocs s.sections sec
 
--- the whole of it
-abbrev pub object_of : Spec → Elf
-object_of s = record {
-  bytes = made s;
-  headers_at = headers_place (all_sections s);
-  name_table = length (all_sections s);
-  sections = first_section (length (all_sections s) + 1) ∷ placed_sections 64 (all_sections s);
-  symbol_table = Some (symbols_number s);
-  symbols = no_symbol ∷ map said_symbol s.symbols;
-  relocs = map (said_relocs s) (range_with_len 0 (length (all_sections s) + 1));
-}
-
--- one says of its sections what the other does
-pub record SaysSections (o other : Elf) : Type 0 where
-  pub bytes : o.bytes ≡ other.bytes
-  pub headers_at : o.headers_at ≡ other.headers_at
-  pub name_table : o.name_table ≡ other.name_table
-  pub sections : o.sections ≡ other.sections
+-- The object has exactly the sections, symbols and relocations of the spec, and the tables that go with them: section 0
+-- and all others at their places, the null symbol and those given in their order, and of each section its relocations.
+pub record IsMadeFrom (s : Spec) (o : Elf) : Type 0 where
+  pub headers_at : o.headers_at ≡ headers_place (all_sections s)
+  pub name_table : o.name_table ≡ length (all_sections s)
+  pub symbol_table : o.symbol_table ≡ Some (symbols_number s)
+  pub sections : o.sections ≡ first_section (length (all_sections s) + 1) ∷ placed_sections 64 (all_sections s)
+  pub symbols : o.symbols ≡ no_symbol ∷ map said_symbol s.symbols
+  pub relocs : (sec : ℕ) → sec < length o.sections → relocs_at o sec ≡ said_relocs s sec

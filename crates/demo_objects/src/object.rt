@@ -5,7 +5,7 @@ ghost use Rattle.elf_objects.specs.Contents.{elf_of};
 ghost use Rattle.elf_objects.specs.Object.{IsWellFormed};
 ghost use Rattle.demo_objects.specs.CanMake.{CanLayOut, CanMake};
 ghost use Rattle.demo_objects.specs.Made.{made};
-ghost use Rattle.demo_objects.specs.Object.{SaysSections, object_of};
+ghost use Rattle.demo_objects.specs.Object.{IsMadeFrom};
 ghost use Rattle.demo_objects.specs.Spec.{spec_of};
 
 use crate::file::file_of;
@@ -25,8 +25,9 @@ use std::alloc::Global;
 /// headers stand at the next multiple of 8. From 0xFF00 sections on header 0 tells how many there
 /// are, and which is the name table (ELF-64 gABI).
 ///
-/// The result is a well-formed object, and its sections are those. `CanMake` says of which specs one
-/// can be made; [`build`] takes any spec.
+/// The result is a well-formed object with exactly these sections, the symbols of the spec behind the
+/// null symbol, and the relocations of the spec. A section without any has those that a section of the
+/// spec holds for it. `CanMake` says of which specs one can be made; [`build`] takes any spec.
 ///
 /// # Errors
 ///
@@ -35,7 +36,7 @@ pub fn make(alloc: Global, spec: &Spec) -> Result<Vec<u8>, NoMemory>
     requires { CanMake (spec_of spec.now) }
     ensures layout { IfOk result (λ file. file.items ≡ made (spec_of spec.now)) }
     ensures well_formed { IfOk result (λ file. IsWellFormed file.items) }
-    ensures sections { IfOk result (λ file. SaysSections (elf_of file.items) (object_of (spec_of spec.now))) }
+    ensures object { IfOk result (λ file. IsMadeFrom (spec_of spec.now) (elf_of file.items)) }
 {
     let sections = all_sections(alloc, spec)?;
     file_of(alloc, &sections)
@@ -77,6 +78,8 @@ fn lay_out(alloc: Global, spec: &Spec) -> Result<Option<Vec<u8>>, NoMemory>
 pub fn build(alloc: Global, spec: &Spec) -> Result<Option<Vec<u8>>, NoMemory>
     ensures exact { IfOk result (λ built. IsSome built ↔ CanMake (spec_of spec.now)) }
     ensures layout { IfOk result (λ built. IfSome built (λ file. file.items ≡ made (spec_of spec.now))) }
+    ensures well_formed { IfOk result (λ built. IfSome built (λ file. IsWellFormed file.items)) }
+    ensures object { IfOk result (λ built. IfSome built (λ file. IsMadeFrom (spec_of spec.now) (elf_of file.items))) }
 {
     let Some(file) = lay_out(alloc, spec)? else {
         return Ok(None);

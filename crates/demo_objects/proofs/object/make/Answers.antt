@@ -4,7 +4,7 @@ use Rattle.std.proofs.lemmas.List.{length-map}
 use Rattle.std.proofs.lemmas.Result.{IfOk-weaker}
 use Rattle.elf_objects.specs.Contents.{elf_of}
 use Rattle.elf_objects.specs.Object.{IsWellFormed}
-use Rattle.demo_objects.specs.Object.{SaysSections, object_of}
+use Rattle.demo_objects.specs.Object.{IsMadeFrom}
 use Rattle.elf_write.specs.Layout.{NewEntry, new_names}
 use Rattle.elf_write.specs.New.{entries, entry_of}
 use Rattle.demo_objects.specs.Layout.{file_of}
@@ -12,7 +12,7 @@ use Rattle.demo_objects.specs.Made.{all_sections, made}
 use Rattle.demo_objects.specs.Spec.{spec_of, symbol_of}
 use Rattle.demo_objects.proofs.Can.{room}
 use Rattle.demo_objects.proofs.Sizes.{AreAligned}
-use Rattle.demo_objects.proofs.SaysSections.{says-sections}
+use Rattle.demo_objects.proofs.Said.{is-made}
 use Rattle.demo_objects.proofs.WellFormed.{well-formed}
 use Rattle.demo_objects.proofs.object.make.Goals as goal
 
@@ -58,5 +58,5 @@ returns c =
     record {
       layout = layout;
       well_formed = IfOk-weaker c.file_of.result (λ file. file.items ≡ made s) (λ file. IsWellFormed file.items) (λ file e. subst IsWellFormed (sym e) (well-formed s c.requires)) layout;
-      sections = IfOk-weaker c.file_of.result (λ file. file.items ≡ made s) (λ file. SaysSections (elf_of file.items) (object_of s)) (λ file e. subst (λ (b : List ℕ). SaysSections (elf_of b) (object_of s)) (sym e) (says-sections s c.requires.laid_out)) layout;
+      object = IfOk-weaker c.file_of.result (λ file. file.items ≡ made s) (λ file. IsMadeFrom s (elf_of file.items)) (λ file e. subst (λ (b : List ℕ). IsMadeFrom s (elf_of b)) (sym e) (is-made s c.requires)) layout;
     }
