@@ -197,7 +197,7 @@ fn code_that_does_not_decode_is_refused(rt: HostRuntime) -> Result<(), Fail> {
 }
 
 /// The object of a code with other bytes from an offset on.
-fn changed(alloc: Global, code: &[u8], at: usize, bytes: &[u8]) -> Result<Vec<u8>, AllocError> {
+fn changed(alloc: Global, code: &[u8], at: usize, bytes: &[u8]) -> Result<Vec<u8>, Fail> {
     let mut object = make(alloc, code)?;
     for (i, byte) in bytes.iter().enumerate() {
         if let Some(place) = object.get_mut(at.wrapping_add(i)) {
@@ -354,7 +354,7 @@ struct Faulty {
 /// The number of a call that isn't made.
 const NEVER: u64 = 99;
 
-fn expect_faulty(rt: &impl Abort, alloc: Global, case: Faulty) -> Result<(), AllocError> {
+fn expect_faulty(rt: &impl Abort, alloc: Global, case: Faulty) -> Result<(), Fail> {
     assert!(rt; case.most > 0);
     let line = case.written;
     let object = make(alloc, b"\xC3")?;

@@ -13,3 +13,4 @@ pub mod Pieces
 pub mod SaysRelocs
 pub mod SaysSymbols
 pub mod Said
+pub mod CanDemo

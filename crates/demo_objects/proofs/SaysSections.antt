@@ -36,7 +36,7 @@ record IsSound (e : NewEntry) : Type 0 where
   pub no_null : e.kind ≡ 0 → e.body ≡ []
   pub no_bits : e.kind ≡ 8 → e.body ≡ []
 
-nonzero : (xs : List ℕ) → list_all (λ c. not (c == 0)) xs ≡ true → All (λ c. c ≢ 0) xs
+pub nonzero : (xs : List ℕ) → list_all (λ c. not (c == 0)) xs ≡ true → All (λ c. c ≢ 0) xs
 nonzero [] t k d h = absurd (omega arith)
 nonzero (x ∷ xs) t zero d h = grind (arith, nat_tests)
 nonzero (x ∷ xs) t (suc k) d h = nonzero xs (grind (arith, nat_tests)) k d (omega arith)

@@ -1,6 +1,6 @@
 -- What the object that is made says of symbols.
 use Rattle.std.proofs.Common.{◌≡◌, ◌≢◌, ℕ, zero, suc, ◌+◌, ◌*◌, ◌/◌, ◌%◌, ◌^◌, ◌<◌, ◌≤◌, Bool, true, false, not, List, [], ◌∷◌, ◌++◌, Some, length, map, take, drop, get_or, replicate, eqb, refl, sym, ap, ◌∙◌, arith, length-append, slice_index}
-use Rattle.std.specs.Prelude.{All, ◌==◌, if◌then◌else◌}
+use Rattle.std.specs.Prelude.{All, filter, ◌==◌, if◌then◌else◌}
 use Rattle.std.specs.List.{flat_map, range_with_len}
 use Rattle.std.proofs.lemmas.Bool.{ne_eqb}
 use Rattle.std.proofs.lemmas.Bool.Decides.{nat_tests}
@@ -10,6 +10,7 @@ use Rattle.std.proofs.lemmas.List.Elements.{All-head, All-tail}
 use Rattle.std.proofs.lemmas.List.Folds.{list_any_at}
 use Rattle.std.proofs.lemmas.List.FromFn.{fill_by_all}
 use Rattle.std.proofs.lemmas.List.Sums.{take_while-cons}
+use Rattle.elf_objects.specs.Below.{AllBelow}
 use Rattle.elf_objects.specs.Contents.{no_symbol, symbol_entry}
 use Rattle.elf_objects.specs.Elf.{SymbolEntry}
 use Rattle.elf_objects.specs.File.{section_count, section_header}
@@ -27,9 +28,9 @@ use Rattle.elf_write.proofs.Lists.{length-encoded}
 use Rattle.elf_write.proofs.Numbers.{half-encoded, symbol-same, word-encoded, word-same, xword-encoded}
 use Rattle.elf_write.proofs.Parts.{part, part-left, part-part, part-right, part-whole}
 use Rattle.elf_write.proofs.Special.{body_range}
-use Rattle.demo_objects.specs.CanMake.{CanMake, IsHome, IsNewSymbol}
+use Rattle.demo_objects.specs.CanMake.{CanLayOut, CanMake, IsHome, IsNewSymbol}
 use Rattle.demo_objects.specs.Layout.{names_entry}
-use Rattle.demo_objects.specs.Made.{all_sections, index_of, indices_body, indices_entry, is_wide, made, name_place, name_text, needs_indices, no_entry, shndx_of, strings_body, strings_entry, strings_number, symbol_bytes, symbol_tables, symbols_body, symbols_entry, symbols_from, symbols_number, targets, rela_entry}
+use Rattle.demo_objects.specs.Made.{all_sections, index_of, indices_body, indices_entry, is_local, is_wide, made, name_place, name_text, needs_indices, no_entry, shndx_of, strings_body, strings_entry, strings_number, symbol_bytes, symbol_tables, symbols_body, symbols_entry, symbols_from, symbols_number, targets, rela_entry}
 use Rattle.demo_objects.specs.Object.{said_symbol}
 use Rattle.demo_objects.specs.Spec.{NewSymbol, Spec}
 use Rattle.demo_objects.proofs.Can.{front_part, given_part, length-symbol_bytes, length-symbols_body, room, tables-first}
@@ -62,7 +63,7 @@ home-back count home.Absolute entry ok wide = refl
 home-back count home.Common entry ok wide = refl
 
 -- a symbol as it stands in the table
-abbrev raw_of : ℕ → NewSymbol → RawSymbol
+abbrev pub raw_of : ℕ → NewSymbol → RawSymbol
 raw_of name x = record { name = name; info = x.bind * 16 + x.kind; other = 0; shndx = shndx_of x.home; value = x.value; size = x.size }
 
 raw-back : (count name : ℕ) (x : NewSymbol) → name < 2 ^ 32 → IsNewSymbol x → IsHome count x.home → raw_symbol_at (symbol_bytes name x) 0 ≡ raw_of name x
@@ -126,16 +127,16 @@ up-whole (x ∷ xs) rest all =
     ∙ rw yes (ap (λ (r : List ℕ). x ∷ r) (up-whole xs rest (All-tail (λ (c : ℕ). c ≢ 0) x xs all)))
 
 -- where the name of a symbol begins
-abbrev symbol_name : List NewSymbol → ℕ → NewSymbol → ℕ
+abbrev pub symbol_name : List NewSymbol → ℕ → NewSymbol → ℕ
 symbol_name xs k d = name_place (1 + length (flat_map (λ s. name_text s.name) (take k xs))) (get_or xs k d).name
 
-some-text : (c : ℕ) (cs : List ℕ) → name_text (c ∷ cs) ≡ (c ∷ cs) ++ 0 ∷ []
+pub some-text : (c : ℕ) (cs : List ℕ) → name_text (c ∷ cs) ≡ (c ∷ cs) ++ 0 ∷ []
 some-text c cs = let t : eqb (length (c ∷ cs)) 0 ≡ false = ne_eqb (length (c ∷ cs)) 0 (λ e. omega arith) in rw t refl
 
 some-place : (at c : ℕ) (cs : List ℕ) → name_place at (c ∷ cs) ≡ at
 some-place at c cs = let t : eqb (length (c ∷ cs)) 0 ≡ false = ne_eqb (length (c ∷ cs)) 0 (λ e. omega arith) in rw t refl
 
-name-back : (xs : List NewSymbol) (k : ℕ) (d : NewSymbol) → k < length xs → All (λ (c : ℕ). c ≢ 0) (get_or xs k d).name
+pub name-back : (xs : List NewSymbol) (k : ℕ) (d : NewSymbol) → k < length xs → All (λ (c : ℕ). c ≢ 0) (get_or xs k d).name
     → (symbol_name xs k d < length (strings_body xs)) × (string_at (strings_body xs) (symbol_name xs k d) ≡ (get_or xs k d).name)
 unfolding string_at
 name-back xs k d h all = by (get_or xs k d).name refl all
@@ -239,10 +240,12 @@ first-at es b o n number e st lower =
     (λ j h. ne_eqb (section_header b j).kind e.kind (lower j h))
 
 -- what is read by them
-record ReadsSymbols (s : Spec) (b : List ℕ) : Type 0 where
+pub record ReadsSymbols (s : Spec) (b : List ℕ) : Type 0 where
   pub table : symbol_table b ≡ Some (symbols_number s)
   pub count : symbol_count b ≡ length s.symbols + 1
   pub symbol : (k : ℕ) → k < length s.symbols + 1 → raw_symbol b k ≡ raw_symbol_at (symbols_body s.symbols) (24 * k)
+  pub locals : (symbol_header b).info ≡ length (filter is_local s.symbols) + 1
+  pub room : (string_header b).size ≡ length (strings_body s.symbols)
   pub strings : body_of b (string_header b) ≡ strings_body s.symbols
   pub index : needs_indices s.symbols ≡ true → (k : ℕ) → k < length s.symbols + 1 → index_entry b k ≡ word (indices_body s.symbols) (4 * k)
 
@@ -265,11 +268,11 @@ count-read : (b : List ℕ) → symbol_count b ≡ (symbol_header b).size / 24
 unfolding symbol_count
 count-read b = refl
 
-reads-symbols : (s : Spec) → CanMake s → ReadsSymbols s (made s)
-reads-symbols s can =
+pub reads-symbols : (s : Spec) → CanLayOut s → AllBelow (HasForm (made s)) (section_count (made s)) → ReadsSymbols s (made s)
+reads-symbols s can forms =
     let es : List NewEntry = all_sections s in
     let b : List ℕ = made s in
-    let o : Reads es b = reads es (space s can.laid_out) in
+    let o : Reads es b = reads es (space s can) in
     let count = o.count in
     let g : ℕ = length (given_part s) in
     let f : ℕ = length (front_part s) in
@@ -277,7 +280,7 @@ reads-symbols s can =
     let inside = st.inside in
     let number = st.follows in
     let own : section_header b (symbols_number s) ≡ header_for (name_at es g) (place_at es g) (symbols_entry s) = header-at es b o g (symbols_number s) (symbols_entry s) st in
-    let form : HasForm b (symbols_number s) = can.forms (symbols_number s) (omega arith) in
+    let form : HasForm b (symbols_number s) = forms (symbols_number s) (omega arith) in
     let table : symbol_table b ≡ Some (symbols_number s) = first-at es b o g (symbols_number s) (symbols_entry s) st (form.form.symbols (ap (λ (h : SectionHeader). h.kind) own)).only in
     let header : symbol_header b ≡ header_for (name_at es g) (place_at es g) (symbols_entry s) = ap (header_of b) table ∙ header-some b (symbols_number s) ∙ own in
     let l = length-symbols_body s.symbols in
@@ -291,6 +294,8 @@ reads-symbols s can =
           symbol-read b k
           ∙ ap (λ (x : SectionHeader). raw_symbol_at b (x.offset + 24 * k)) header
           ∙ symbol-same (place_at es g + 24 * k) (24 * k) b (symbols_body s.symbols) (part-at es b o g (symbols_number s) (symbols_entry s) st (24 * k) 24 (omega arith));
+      locals = ap (λ (h : SectionHeader). h.info) header;
+      room = ap (λ (h : SectionHeader). h.size) strings;
       strings =
           ap (body_of b) strings
           ∙ body_range b (header_for (name_at es f) (place_at es f) (strings_entry s)) refl
@@ -304,14 +309,14 @@ reads-symbols s can =
     by needed k h =
         let es : List NewEntry = all_sections s in
         let b : List ℕ = made s in
-        let o : Reads es b = reads es (space s can.laid_out) in
+        let o : Reads es b = reads es (space s can) in
         let count = o.count in
         let n : ℕ = length (given_part s ++ symbols_entry s ∷ []) in
         let st = indices-stand s needed in
         let inside = st.inside in
         let number = st.follows in
         let own : section_header b (symbols_number s + 1) ≡ header_for (name_at es n) (place_at es n) (indices_entry s) = header-at es b o n (symbols_number s + 1) (indices_entry s) st in
-        let form : HasForm b (symbols_number s + 1) = can.forms (symbols_number s + 1) (omega arith) in
+        let form : HasForm b (symbols_number s + 1) = forms (symbols_number s + 1) (omega arith) in
         let table : index_table b ≡ Some (symbols_number s + 1) = first-at es b o n (symbols_number s + 1) (indices_entry s) st (form.form.indices (ap (λ (h : SectionHeader). h.kind) own)).only in
         let header : index_header b ≡ header_for (name_at es n) (place_at es n) (indices_entry s) = ap (header_of b) table ∙ header-some b (symbols_number s + 1) ∙ own in
         let l = length-indices s.symbols in
@@ -344,13 +349,32 @@ entry-is : (b : List ℕ) (k : ℕ) (r : RawSymbol) (h : Home) (name : List ℕ)
 unfolding symbol_entry symbol_home
 entry-is b k r h name raw home title = rw (raw, home, title) refl
 
-symbol-first : (s : Spec) (b : List ℕ) → ReadsSymbols s b → symbol_entry b 0 ≡ no_symbol
-symbol-first s b o =
-    let raw : raw_symbol b 0 ≡ record { name = 0; info = 0; other = 0; shndx = 0; value = 0; size = 0 } =
+-- the null symbol, and the others, as they stand there
+abbrev pub null_raw : RawSymbol
+null_raw = record { name = 0; info = 0; other = 0; shndx = 0; value = 0; size = 0 }
+
+pub raw-first : (s : Spec) (b : List ℕ) → ReadsSymbols s b → raw_symbol b 0 ≡ null_raw
+raw-first s b o =
     o.symbol 0 (omega arith)
     ∙ symbol-same 0 0 (symbols_body s.symbols) (replicate 24 0) (part-left 0 24 (replicate 24 0) (symbols_from 1 s.symbols) (omega arith))
-    ∙ zeros-back in
-    entry-is b 0 (record { name = 0; info = 0; other = 0; shndx = 0; value = 0; size = 0 }) home.Undefined [] raw refl
+    ∙ zeros-back
+
+pub raw-other : (s : Spec) → CanLayOut s → (b : List ℕ) → ReadsSymbols s b → (k : ℕ) (d : NewSymbol) → k < length s.symbols
+    → raw_symbol b (suc k) ≡ raw_of (symbol_name s.symbols k d) (get_or s.symbols k d)
+raw-other s can b o k d h =
+    let x : NewSymbol = get_or s.symbols k d in
+    let ok : IsNewSymbol x = can.parts.symbols k d h in
+    let name : ℕ = symbol_name s.symbols k d in
+    let inside = (name-back s.symbols k d h ok.name).0 in
+    let strings = (room s can).strings in
+    o.symbol (suc k) (omega arith)
+    ∙ symbol-same (24 * suc k) 0 (symbols_body s.symbols) (symbol_bytes name x)
+    (part-right (24 * suc k) (24 * k) 24 (replicate 24 0) (symbols_from 1 s.symbols) (omega arith) ∙ part-symbols 1 s.symbols k d h ∙ sym (part-whole 24 (symbol_bytes name x) (length-symbol_bytes name x)))
+    ∙ raw-back (length (all_sections s) + 1) name x (omega arith) ok (can.homes k d h)
+
+symbol-first : (s : Spec) (b : List ℕ) → ReadsSymbols s b → symbol_entry b 0 ≡ no_symbol
+symbol-first s b o =
+    entry-is b 0 null_raw home.Undefined [] (raw-first s b o) refl
     (ap (λ (xs : List ℕ). string_at xs 0) o.strings ∙ empty-name (flat_map (λ x. name_text x.name) s.symbols))
 
 bind-back : (bind kind : ℕ) → kind < 16 → (bind * 16 + kind) / 16 ≡ bind
@@ -362,7 +386,7 @@ kind-back bind kind h = omega arith
 symbol-other : (s : Spec) → CanMake s → (k : ℕ) (d : NewSymbol) → k < length s.symbols → symbol_entry (made s) (suc k) ≡ said_symbol (get_or s.symbols k d)
 symbol-other s can k d h =
     let b : List ℕ = made s in
-    let o : ReadsSymbols s b = reads-symbols s can in
+    let o : ReadsSymbols s b = reads-symbols s can.laid_out can.forms in
     let x : NewSymbol = get_or s.symbols k d in
     let ok : IsNewSymbol x = can.laid_out.parts.symbols k d h in
     let count : ℕ = length (all_sections s) + 1 in
@@ -370,13 +394,7 @@ symbol-other s can k d h =
     let few = can.laid_out.few in
     let names = name-back s.symbols k d h ok.name in
     let name : ℕ = symbol_name s.symbols k d in
-    let inside = names.0 in
-    let room' = (room s can.laid_out).strings in
-    let raw : raw_symbol b (suc k) ≡ raw_of name x =
-    o.symbol (suc k) (omega arith)
-    ∙ symbol-same (24 * suc k) 0 (symbols_body s.symbols) (symbol_bytes name x)
-    (part-right (24 * suc k) (24 * k) 24 (replicate 24 0) (symbols_from 1 s.symbols) (omega arith) ∙ part-symbols 1 s.symbols k d h ∙ sym (part-whole 24 (symbol_bytes name x) (length-symbol_bytes name x)))
-    ∙ raw-back count name x (omega arith) ok home in
+    let raw : raw_symbol b (suc k) ≡ raw_of name x = raw-other s can.laid_out b o k d h in
     let entry : is_wide x.home ≡ true → index_entry b (suc k) ≡ index_of x.home =
     λ wide. (let needed : needs_indices s.symbols ≡ true = list_any_at (λ y. is_wide y.home) s.symbols k d h wide in
     o.index needed (suc k) (omega arith) ∙ index-back s.symbols k d h (home-index count x.home (omega arith) home)) in
@@ -390,7 +408,7 @@ symbol-other s can k d h =
 pub says-symbols : (s : Spec) → CanMake s → (symbol_table (made s) ≡ Some (symbols_number s)) × (map (symbol_entry (made s)) (range_with_len 0 (symbol_count (made s))) ≡ no_symbol ∷ map said_symbol s.symbols)
 says-symbols s can =
     let b : List ℕ = made s in
-    let o : ReadsSymbols s b = reads-symbols s can in
+    let o : ReadsSymbols s b = reads-symbols s can.laid_out can.forms in
     let all : List SymbolEntry = no_symbol ∷ map said_symbol s.symbols in
     let n : length all ≡ length s.symbols + 1 = ap (λ (m : ℕ). suc m) (length-map s.symbols said_symbol) ∙ omega arith in (
       o.table,

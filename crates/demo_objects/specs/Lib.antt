@@ -5,3 +5,4 @@ pub mod Bodies
 pub mod CanMake
 pub mod Object
 pub mod Checked
+pub mod Demo

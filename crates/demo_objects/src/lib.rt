@@ -4,6 +4,7 @@
 
 mod bytes;
 mod file;
+mod functions;
 mod object;
 mod parts;
 mod relocs;
@@ -11,8 +12,6 @@ mod sections;
 mod spec;
 mod symbols;
 
+pub use functions::demo;
 pub use object::{build, make};
-pub use spec::{RelSpec, Spec, SymSpec};
-
-#[cfg(test)]
-mod tests;
+pub use spec::{RelSpec, Spec, SymSpec, section};

@@ -1,7 +1,14 @@
 //! What an object is to say.
 
-use elf_objects::{Home, Reloc};
+ghost use Rattle.std.specs.Prelude.{◌≡◌, [], IfOk};
+ghost use Rattle.elf_objects.specs.declared.TheConstants.{SHT_PROGBITS};
+ghost use Rattle.elf_write.specs.New.{entry_of};
+ghost use Rattle.demo_objects.specs.Spec.{spec_of};
+
+use elf_objects::{Home, Reloc, SHT_PROGBITS};
 use elf_write::NewSection;
+use ot_base::NoMemory;
+use std::alloc::Global;
 
 /// What an object is to say. Section 0 and symbol 0, which each object has, are not told.
 #[derive(Debug, Drop)]
@@ -12,6 +19,49 @@ pub struct Spec {
     pub symbols: Vec<SymSpec>,
     /// The relocations. Those of one section keep their order.
     pub relocs: Vec<RelSpec>,
+}
+
+impl Spec {
+    /// Nothing yet.
+    pub fn new(alloc: Global) -> Spec
+        ensures { spec_of result ≡ record { sections = []; symbols = []; relocs = [] } }
+    {
+        Spec {
+            sections: Vec::new(alloc),
+            symbols: Vec::new(alloc),
+            relocs: Vec::new(alloc),
+        }
+    }
+}
+
+/// A section of type PROGBITS with a name, `sh_flags` and a body. It has no entries of one size, and is
+/// aligned to one byte.
+///
+/// # Errors
+///
+/// [`NoMemory`] where memory was wanted and not there.
+pub fn section(alloc: Global, name: &[u8], flags: u64, body: &[u8]) -> Result<NewSection, NoMemory>
+    ensures { IfOk result (λ made. entry_of made ≡ record {
+      name = name.now;
+      kind = SHT_PROGBITS;
+      flags = flags;
+      link = 0;
+      info = 0;
+      align = 1;
+      entsize = 0;
+      body = body.now;
+    }) }
+{
+    Ok(NewSection {
+        name: Vec::from_slice(alloc, name)?,
+        kind: SHT_PROGBITS,
+        flags,
+        link: 0,
+        info: 0,
+        align: 1,
+        entsize: 0,
+        body: Vec::from_slice(alloc, body)?,
+    })
 }
 
 /// A symbol of an object.

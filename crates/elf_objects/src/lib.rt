@@ -132,6 +132,3 @@ pub const MAX_SECTIONS: u64 = 262_144;
 pub const MAX_SYMBOLS: u64 = 4_194_304;
 /// Most bytes that the text sections of an object may have together.
 pub const MAX_TEXT_BYTES: u64 = 16_777_216;
-
-#[cfg(test)]
-mod tests;

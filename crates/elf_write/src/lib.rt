@@ -6,8 +6,6 @@ mod header;
 mod input;
 mod pieces;
 mod section;
-#[cfg(test)]
-mod tests;
 mod write;
 
 pub use bytes::{push_bytes, push_u16, push_u32, push_u64};

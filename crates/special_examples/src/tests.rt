@@ -61,7 +61,7 @@ fn read(
 ) -> Result<Result<Special, SpecialFault>, Fail> {
     let mut all = vec![in alloc; TEXT, DATA_PIECE]?;
     all.extend_from_slice(pieces)?;
-    let bytes = object(alloc, &all)?;
+    let bytes = object(alloc, &all)?.ok_or("the pieces make an object")?;
     assert!(rt; bytes.len() < 1 << 32);
     let parsed = Object::parse(alloc, &bytes).expect(rt, "an object");
     Ok(Special::read(alloc, &parsed))

@@ -1,6 +1,6 @@
 //! A plain, slow reading of what a well-formed object is: the first fault of a file, if it has one.
 
-use crate::{Counted, ElfFault, NameOf};
+use elf_objects::{Counted, ElfFault, NameOf};
 use std::alloc::{AllocError, Global};
 
 /// A section header, in numbers that no sum leaves.

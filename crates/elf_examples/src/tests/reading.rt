@@ -1,26 +1,21 @@
 //! Objects from outside, and what their reading answers.
 
-use crate::{ElfFault, Home, NameOf, Object};
+use super::leaf::LEAF;
+use super::plain;
+use elf_objects::{ElfFault, Home, NameOf, Object};
 use ot_base::Names;
 use std::alloc::Global;
 use std::process::Abort;
 use std::test::Fail;
 
-mod built;
-mod leaf;
-mod plain;
-mod tables;
-
-use leaf::LEAF;
-
 /// The fault of a file, or `None` of an object.
-fn fault_of(rt: &impl Abort, alloc: Global, bytes: &[u8]) -> Option<ElfFault> {
+pub(super) fn fault_of(rt: &impl Abort, alloc: Global, bytes: &[u8]) -> Option<ElfFault> {
     assert!(rt; bytes.len() < 1 << 32);
     Object::parse(alloc, bytes).err()
 }
 
 /// Puts other bytes at an offset.
-fn put(bytes: &mut Vec<u8>, at: usize, values: &[u8]) {
+pub(super) fn put(bytes: &mut Vec<u8>, at: usize, values: &[u8]) {
     for (i, value) in values.iter().enumerate() {
         if let Some(place) = bytes.get_mut(at.wrapping_add(i)) {
             *place = *value;

@@ -1,7 +1,7 @@
 -- No section may be added.
 use Rattle.std.proofs.Common.{◌≡◌, ℕ, ◌+◌, ◌*◌, ◌<◌, List, [], length, ap, arith}
 use Rattle.elf_write.proofs.Callers.{can_add-plain}
-use Rattle.elf_write.proofs.tests.with_none.Goals as goal
+use Rattle.elf_examples.proofs.tests.adding.with_none.Goals as goal
 
 pub append-requires : goal.append-requires
 append-requires c =

@@ -7,7 +7,7 @@ use Rattle.elf_write.specs.Added.{CanAdd, HasFields, IsPlain}
 use Rattle.elf_write.specs.Layout.{NewEntry}
 use Rattle.elf_write.specs.New.{entry_of}
 use Rattle.elf_write.proofs.Callers.{can_add-plain, name-free, progbits, three}
-use Rattle.elf_write.proofs.tests.with_rows.Goals as goal
+use Rattle.elf_examples.proofs.tests.adding.with_rows.Goals as goal
 
 abbrev entry : List ℕ → ℕ → ℕ → ℕ → ℕ → NewEntry
 entry name align entsize byte size = record {

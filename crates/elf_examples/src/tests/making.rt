@@ -1,38 +1,15 @@
 //! Objects that are made, and what cannot be made.
 
-use crate::{RelSpec, Spec, SymSpec, build};
+use super::leaf::LEAF;
+use demo_objects::{RelSpec, Spec, SymSpec, build, section};
 use elf_objects::{
     Home, Object, R_X86_64_PC32, Reloc, SHF_ALLOC, SHF_EXECINSTR, SHF_WRITE, SHT_NOBITS,
-    SHT_PROGBITS, STB_GLOBAL, STB_LOCAL, STT_FUNC, STT_SECTION,
+    STB_GLOBAL, STB_LOCAL, STT_FUNC, STT_SECTION,
 };
 use elf_write::NewSection;
 use ot_base::Names;
 use std::alloc::Global;
 use std::test::Fail;
-
-mod leaf;
-
-use leaf::LEAF;
-
-/// A section without entries of one size, aligned to one byte.
-fn section(
-    alloc: Global,
-    name: &[u8],
-    kind: u32,
-    flags: u64,
-    body: &[u8],
-) -> Result<NewSection, Fail> {
-    Ok(NewSection {
-        name: name.to_vec(alloc)?,
-        kind,
-        flags,
-        link: 0,
-        info: 0,
-        align: 1,
-        entsize: 0,
-        body: body.to_vec(alloc)?,
-    })
-}
 
 /// A symbol at the beginning of section 1.
 fn symbol(alloc: Global, name: &[u8], bind: u8, kind: u8, size: u64) -> Result<SymSpec, Fail> {
@@ -48,15 +25,10 @@ fn symbol(alloc: Global, name: &[u8], bind: u8, kind: u8, size: u64) -> Result<S
 
 /// The function `f0` with the code `55 48 89 E5 5D C3`, and the symbol of its section.
 fn leaf_spec(alloc: Global) -> Result<Spec, Fail> {
-    let mut spec = Spec {
-        sections: Vec::new(alloc),
-        symbols: Vec::new(alloc),
-        relocs: Vec::new(alloc),
-    };
+    let mut spec = Spec::new(alloc);
     let code = b"\x55\x48\x89\xE5\x5D\xC3";
     let flags = SHF_ALLOC + SHF_EXECINSTR;
-    spec.sections
-        .push(section(alloc, b".text", SHT_PROGBITS, flags, code)?)?;
+    spec.sections.push(section(alloc, b".text", flags, code)?)?;
     spec.symbols
         .push(symbol(alloc, b"", STB_LOCAL, STT_SECTION, 0)?)?;
     spec.symbols
@@ -86,13 +58,7 @@ const CALL: RelSpec = RelSpec {
 #[test]
 fn an_object_with_relocations(rt: HostRuntime) -> Result<(), Fail> {
     let mut spec = leaf_spec(rt.alloc())?;
-    let mut data = section(
-        rt.alloc(),
-        b".data",
-        SHT_PROGBITS,
-        SHF_ALLOC + SHF_WRITE,
-        b"1234",
-    )?;
+    let mut data = section(rt.alloc(), b".data", SHF_ALLOC + SHF_WRITE, b"1234")?;
     data.align = 16;
     spec.sections.push(data)?;
     spec.relocs.push(CALL)?;
@@ -128,11 +94,7 @@ fn is_built(
     function: SymSpec,
     rel: RelSpec,
 ) -> Result<bool, Fail> {
-    let mut spec = Spec {
-        sections: Vec::new(alloc),
-        symbols: Vec::new(alloc),
-        relocs: Vec::new(alloc),
-    };
+    let mut spec = Spec::new(alloc);
     spec.sections.push(text)?;
     spec.symbols
         .push(symbol(alloc, b"", STB_LOCAL, STT_SECTION, 0)?)?;
@@ -144,7 +106,7 @@ fn is_built(
 #[test]
 fn what_cannot_be_made(rt: HostRuntime) -> Result<(), Fail> {
     let alloc = rt.alloc();
-    let text = || section(alloc, b".text", SHT_PROGBITS, SHF_ALLOC, b"123456");
+    let text = || section(alloc, b".text", SHF_ALLOC, b"123456");
     let function = || symbol(alloc, b"f0", STB_GLOBAL, STT_FUNC, 6);
     assert!(rt; is_built(alloc, text()?, function()?, CALL)?);
 

@@ -1,8 +1,8 @@
 //! Objects with relocations, with wrong tables, and with many sections.
 
 use super::built::{Counts, Head, NULL, file};
-use super::{fault_of, put};
-use crate::{Counted, ElfFault, Home, NameOf, Object, Reloc};
+use super::reading::{fault_of, put};
+use elf_objects::{Counted, ElfFault, Home, NameOf, Object, Reloc};
 use std::alloc::Global;
 use std::process::Abort;
 use std::test::Fail;

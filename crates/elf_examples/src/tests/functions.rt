@@ -1,0 +1,128 @@
+//! Objects of functions one after the other, byte by byte.
+
+use super::leaf::LEAF;
+use super::reading::put;
+use demo_objects::demo;
+use elf_objects::{Home, Object};
+use std::alloc::Global;
+use std::process::Abort;
+use std::test::Fail;
+
+/// Bytes at an offset. Those that no part has are zero.
+type Part = (usize, &'static [u8]);
+
+/// The object without functions: an empty `.text`, `.symtab` at 64, `.strtab` at 112, `.shstrtab` at 113,
+/// and the section headers at 152.
+const NONE: [Part; 23] = [
+    (0, b"\x7FELF\x02\x01\x01"),
+    (16, b"\x01\0\x3E\0\x01"),
+    (40, b"\x98"),
+    (52, b"\x40"),
+    (58, b"\x40\0\x05\0\x04"),
+    // The section symbol of `.text`.
+    (92, b"\x03\0\x01"),
+    (114, b".text\0.symtab\0.strtab\0.shstrtab"),
+    // The headers: name and type, offset, size, link and info, alignment, size of an entry.
+    (216, b"\x01\0\0\0\x01\0\0\0\x06"),
+    (240, b"\x40"),
+    (264, b"\x01"),
+    (280, b"\x07\0\0\0\x02"),
+    (304, b"\x40"),
+    (312, b"\x30"),
+    (320, b"\x03\0\0\0\x02\0\0\0\x08"),
+    (336, b"\x18"),
+    (344, b"\x0F\0\0\0\x03"),
+    (368, b"\x70"),
+    (376, b"\x01"),
+    (392, b"\x01"),
+    (408, b"\x17\0\0\0\x03"),
+    (432, b"\x71"),
+    (440, b"\x21"),
+    (456, b"\x01"),
+];
+
+/// The object of three functions: `.text` at 64, `.symtab` at 96, `.strtab` at 216, `.shstrtab` at 226, and
+/// the section headers at 264.
+const THREE: [Part; 31] = [
+    (0, b"\x7FELF\x02\x01\x01"),
+    (16, b"\x01\0\x3E\0\x01"),
+    (40, b"\x08\x01"),
+    (52, b"\x40"),
+    (58, b"\x40\0\x05\0\x04"),
+    (64, b"\x55\x48\x89\xE5\x5D\xC3"),
+    (
+        70,
+        b"\x53\x48\x83\xEC\x10\xE8\xF0\xFF\xFF\xFF\x48\x83\xC4\x10\x5B\xC3",
+    ),
+    (86, b"\x85\xFF\x74\x02\x55\x5D\xC3"),
+    // The section symbol of `.text`, then `f0`, `f1` and `f2`: name, info and section, value; size.
+    (124, b"\x03\0\x01"),
+    (144, b"\x01\0\0\0\x12\0\x01\0\0"),
+    (160, b"\x06"),
+    (168, b"\x04\0\0\0\x12\0\x01\0\x06"),
+    (184, b"\x10"),
+    (192, b"\x07\0\0\0\x12\0\x01\0\x16"),
+    (208, b"\x07"),
+    (217, b"f0\0f1\0f2"),
+    (227, b".text\0.symtab\0.strtab\0.shstrtab"),
+    // The headers.
+    (328, b"\x01\0\0\0\x01\0\0\0\x06"),
+    (352, b"\x40\0\0\0\0\0\0\0\x1D"),
+    (376, b"\x01"),
+    (392, b"\x07\0\0\0\x02"),
+    (416, b"\x60\0\0\0\0\0\0\0\x78"),
+    (432, b"\x03\0\0\0\x02\0\0\0\x08"),
+    (448, b"\x18"),
+    (456, b"\x0F\0\0\0\x03"),
+    (480, b"\xD8\0\0\0\0\0\0\0\x0A"),
+    (504, b"\x01"),
+    (520, b"\x17\0\0\0\x03"),
+    (544, b"\xE2\0\0\0\0\0\0\0\x21"),
+    (568, b"\x01"),
+    (583, b"\0"),
+];
+
+/// So many bytes with these parts.
+fn bytes_of(alloc: Global, size: usize, parts: &[Part]) -> Result<Vec<u8>, Fail> {
+    let mut bytes = vec![in alloc; 0; size]?;
+    for (at, part) in parts {
+        put(&mut bytes, *at, part);
+    }
+    Ok(bytes)
+}
+
+#[test]
+fn none_and_three_byte_by_byte(rt: HostRuntime) -> Result<(), Fail> {
+    let alloc = rt.alloc();
+    assert_eq!(rt; demo(alloc, 0)?, bytes_of(alloc, 472, &NONE)?);
+    assert_eq!(rt; demo(alloc, 3)?, bytes_of(alloc, 584, &THREE)?);
+    Ok(())
+}
+
+#[test]
+fn one_is_the_leaf(rt: HostRuntime) -> Result<(), Fail> {
+    assert_eq!(rt; demo(rt.alloc(), 1)?.as_slice(), LEAF.as_slice());
+    Ok(())
+}
+
+/// The last of so many functions stands where those before it end.
+fn expect_last(rt: &impl Abort, object: &Object<'_>) {
+    assert!(rt; object.symbols() == 100_002);
+    let last = object.symbol(100_001);
+    assert_eq!(rt; last.home, Home::Section(1));
+    assert_eq!(rt; (last.bind, last.kind), (1, 2));
+    assert_eq!(rt; (last.value, last.size), (966_657, 6));
+}
+
+#[test]
+fn as_many_as_there_may_be(rt: HostRuntime) -> Result<(), Fail> {
+    let file = demo(rt.alloc(), 100_000)?;
+    assert!(rt; file.len() < 1 << 32);
+    let object = Object::parse(rt.alloc(), &file)
+        .ok()
+        .ok_or("it is an object")?;
+    assert!(rt; object.sections() == 5);
+    assert_eq!(rt; object.section(1).size, 966_663);
+    expect_last(&rt, &object);
+    Ok(())
+}
