@@ -9,7 +9,7 @@ use Rattle.std.proofs.lemmas.List.FromFn.{length-range_with_len}
 use Rattle.std.proofs.lemmas.List.Elements.{All-append, All-tail}
 use Rattle.elf_write.specs.Layout.{NewEntry, new_names}
 use Rattle.elf_write.proofs.Lists.{length-encoded}
-use Rattle.demo_objects.specs.CanMake.{CanLayOut, IsSection}
+use Rattle.demo_objects.specs.CanMake.{CanLayOut, HasNumbers, IsSection}
 use Rattle.demo_objects.specs.Checked.{PartsFit, SectionsFit}
 use Rattle.demo_objects.specs.Layout.{bodies_end, names_entry, next_multiple}
 use Rattle.demo_objects.specs.Made.{all_sections, has_relocs, indices_entry, name_place, name_text, needs_indices, rela_entry, strings_body, strings_entry, symbol_bytes, symbol_tables, symbols_body, symbols_entry, symbols_from, targets}
@@ -152,5 +152,5 @@ parts-fit s can =
 pub sections-fit : (s : Spec) → CanLayOut s → SectionsFit (all_sections s) s.symbols
 sections-fit s can = record { few = can.few; homes = can.homes; short = can.short }
 
-pub can-lay-out : (s : Spec) → PartsFit s → SectionsFit (all_sections s) s.symbols → CanLayOut s
-can-lay-out s p f = record { parts = p.parts; few = f.few; homes = f.homes; short = f.short }
+pub can-lay-out : (s : Spec) → PartsFit s → HasNumbers s → SectionsFit (all_sections s) s.symbols → CanLayOut s
+can-lay-out s p n f = record { parts = p.parts; numbers = n; few = f.few; homes = f.homes; short = f.short }

@@ -19,10 +19,11 @@ use Rattle.elf_objects.specs.Table.{raw_symbol, string_header, symbol_count, sym
 use Rattle.elf_objects.specs.declared.TheConstants.{SHF_COMPRESSED, SHT_RELA, SHT_STRTAB, SHT_SYMTAB}
 use Rattle.elf_objects.specs.declared.header.SectionHeader.{SectionHeader}
 use Rattle.elf_objects.specs.declared.symbol.RawSymbol.{RawSymbol}
+use Rattle.elf_write.specs.Added.{HasFields}
 use Rattle.elf_write.specs.Layout.{NewEntry, header_for}
 use Rattle.elf_write.proofs.Numbers.{index-same}
 use Rattle.elf_write.proofs.Parts.{part, part-part}
-use Rattle.demo_objects.specs.CanMake.{CanLayOut, CanMake, HaveHomes, IsHome, IsNewSymbol, IsSection}
+use Rattle.demo_objects.specs.CanMake.{CanLayOut, CanMake, HasValues, HaveHomes, IsHome, IsNewSymbol, IsSection}
 use Rattle.demo_objects.specs.Demo.{branch_code, call_code, demo_code, demo_spec, demo_symbol, demo_symbols, demo_text, frame_code, text_section, text_symbol}
 use Rattle.demo_objects.specs.Layout.{bodies_end, file_of, first_header, headers_place, names_entry, next_multiple, with_names}
 use Rattle.demo_objects.specs.Made.{all_sections, indices_entry, is_local, made, name_text, needs_indices, strings_body, strings_entry, strings_number, symbols_entry}
@@ -179,18 +180,26 @@ digits-some n h = decimal_by_steps (λ _ ds. All (λ (c : ℕ). c ≢ 0) ds) one
 
 symbol-right : (i : ℕ) → i < 100000 → IsNewSymbol (demo_symbol i)
 symbol-right i h =
-    let text = text-short i in
-    let code = code-short i in
     record {
       name = All-append (λ (c : ℕ). c ≢ 0) (codes "f") (decimal i) (all-only (λ (c : ℕ). c ≢ 0) 102 (λ e. omega arith)) (digits-some i (omega arith));
       bind = omega arith;
       kind = omega arith;
-      value = omega arith;
-      size = omega arith;
     }
 
+values-right : (i : ℕ) → i < 100000 → HasValues (demo_symbol i)
+values-right i h =
+    let text = text-short i in
+    let code = code-short i in
+    record { value = omega arith; size = omega arith }
+
+all-values-right : (n : ℕ) → n ≤ 100000 → All HasValues (demo_symbols n)
+all-values-right n h zero d g = record { value = omega arith; size = omega arith }
+all-values-right n h (suc k) d g =
+    let l = length-map-range_with_len demo_symbol 0 n in
+    subst HasValues (sym (get_or-map-range_with_len demo_symbol 0 n k k d (omega arith) (omega arith))) (values-right k (omega arith))
+
 symbols-right : (n : ℕ) → n ≤ 100000 → All IsNewSymbol (demo_symbols n)
-symbols-right n h zero d g = record { name = λ k e l. absurd (omega arith); bind = omega arith; kind = omega arith; value = omega arith; size = omega arith }
+symbols-right n h zero d g = record { name = λ k e l. absurd (omega arith); bind = omega arith; kind = omega arith }
 symbols-right n h (suc k) d g =
     let l = length-map-range_with_len demo_symbol 0 n in
     subst IsNewSymbol (sym (get_or-map-range_with_len demo_symbol 0 n k k d (omega arith) (omega arith))) (symbol-right k (omega arith))
@@ -211,13 +220,16 @@ can-lay-out-demo n h =
       parts = record {
         sections = all-only IsSection (text_section n) (record {
           name = name-right;
-          fields = record { kind = omega arith; flags = omega arith; link = omega arith; info = omega arith; align = omega arith; entsize = omega arith };
           align = omega arith;
           no_null = λ e. absurd (omega arith);
           no_bits = λ e. absurd (omega arith);
         });
         symbols = symbols-right n h;
         relocs = λ k d g. absurd (omega arith);
+      };
+      numbers = record {
+        sections = all-only HasFields (text_section n) (record { kind = omega arith; flags = omega arith; link = omega arith; info = omega arith; align = omega arith; entsize = omega arith });
+        symbols = all-values-right n h;
       };
       few = omega arith;
       homes = subst (λ (m : ℕ). HaveHomes (m + 1) (demo_symbols n)) (sym count) (homes-right n);

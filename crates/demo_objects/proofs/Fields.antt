@@ -72,7 +72,7 @@ all-fields s can =
     (All-append HasFields (front_part s) (strings_entry s ∷ [])
     (All-append HasFields (given_part s) (symbol_tables s)
     (All-append HasFields s.sections (map (rela_entry s) (targets s))
-    (λ k d h. (can.parts.sections k d h).fields)
+    can.numbers.sections
     (all-mapped (λ (sec : ℕ). (1 ≤ sec) × (sec ≤ length s.sections)) HasFields (rela_entry s) (targets s) known (λ sec. rela-fields s (omega arith) (omega arith) sec)))
     (tables-fields s (symbols-fields s (omega arith) g) (indices-fields s (omega arith))))
     (all-only HasFields (strings_entry s) (strings-fields s)))

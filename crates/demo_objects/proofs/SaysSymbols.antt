@@ -28,7 +28,7 @@ use Rattle.elf_write.proofs.Lists.{length-encoded}
 use Rattle.elf_write.proofs.Numbers.{half-encoded, symbol-same, word-encoded, word-same, xword-encoded}
 use Rattle.elf_write.proofs.Parts.{part, part-left, part-part, part-right, part-whole}
 use Rattle.elf_write.proofs.Special.{body_range}
-use Rattle.demo_objects.specs.CanMake.{CanLayOut, CanMake, IsHome, IsNewSymbol}
+use Rattle.demo_objects.specs.CanMake.{CanLayOut, CanMake, HasValues, IsHome, IsNewSymbol}
 use Rattle.demo_objects.specs.Layout.{names_entry}
 use Rattle.demo_objects.specs.Made.{all_sections, index_of, indices_body, indices_entry, is_local, is_wide, made, name_place, name_text, needs_indices, no_entry, shndx_of, strings_body, strings_entry, strings_number, symbol_bytes, symbol_tables, symbols_body, symbols_entry, symbols_from, symbols_number, targets, rela_entry}
 use Rattle.demo_objects.specs.Object.{said_symbol}
@@ -66,7 +66,7 @@ home-back count home.Common entry ok wide = refl
 abbrev pub raw_of : ℕ → NewSymbol → RawSymbol
 raw_of name x = record { name = name; info = x.bind * 16 + x.kind; other = 0; shndx = shndx_of x.home; value = x.value; size = x.size }
 
-raw-back : (count name : ℕ) (x : NewSymbol) → name < 2 ^ 32 → IsNewSymbol x → IsHome count x.home → raw_symbol_at (symbol_bytes name x) 0 ≡ raw_of name x
+raw-back : (count name : ℕ) (x : NewSymbol) → name < 2 ^ 32 → HasValues x → IsHome count x.home → raw_symbol_at (symbol_bytes name x) 0 ≡ raw_of name x
 unfolding raw_symbol_at
 raw-back count name x fits ok home =
     let b : List ℕ = symbol_bytes name x in
@@ -370,7 +370,7 @@ raw-other s can b o k d h =
     o.symbol (suc k) (omega arith)
     ∙ symbol-same (24 * suc k) 0 (symbols_body s.symbols) (symbol_bytes name x)
     (part-right (24 * suc k) (24 * k) 24 (replicate 24 0) (symbols_from 1 s.symbols) (omega arith) ∙ part-symbols 1 s.symbols k d h ∙ sym (part-whole 24 (symbol_bytes name x) (length-symbol_bytes name x)))
-    ∙ raw-back (length (all_sections s) + 1) name x (omega arith) ok (can.homes k d h)
+    ∙ raw-back (length (all_sections s) + 1) name x (omega arith) (can.numbers.symbols k d h) (can.homes k d h)
 
 symbol-first : (s : Spec) (b : List ℕ) → ReadsSymbols s b → symbol_entry b 0 ≡ no_symbol
 symbol-first s b o =

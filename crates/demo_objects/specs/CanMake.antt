@@ -18,7 +18,6 @@ use Rattle.demo_objects.specs.Spec.{NewSymbol, Spec}
 -- a section by itself: its name has no zero byte, it is aligned, and it has a body only where its type has one
 pub record IsSection (e : NewEntry) : Type 0 where
   pub name : All (λ c. c ≢ 0) e.name
-  pub fields : HasFields e
   pub align : 1 ≤ e.align
   pub no_null : e.kind ≡ SHT_NULL → e.body ≡ []
   pub no_bits : e.kind ≡ SHT_NOBITS → e.body ≡ []
@@ -35,8 +34,6 @@ pub record IsNewSymbol (s : NewSymbol) : Type 0 where
   pub name : All (λ c. c ≢ 0) s.name
   pub bind : s.bind < 16
   pub kind : s.kind < 16
-  pub value : s.value < 2 ^ 64
-  pub size : s.size < 2 ^ 64
 
 -- a relocation by itself: of one of `count` sections, from number 1 on
 pub record IsNewReloc (count : ℕ) (r : RelSpec) : Type 0 where
@@ -53,6 +50,16 @@ pub record HasParts (s : Spec) : Type 0 where
   pub symbols : All IsNewSymbol s.symbols
   pub relocs : All (IsNewReloc (length s.sections)) s.relocs
 
+-- the value and the size of a symbol are numbers of 64 bits
+pub record HasValues (s : NewSymbol) : Type 0 where
+  pub value : s.value < 2 ^ 64
+  pub size : s.size < 2 ^ 64
+
+-- the fields of the headers and of the symbols have room for the numbers; they have for those of any Spec of the code
+pub record HasNumbers (s : Spec) : Type 0 where
+  pub sections : All HasFields s.sections
+  pub symbols : All HasValues s.symbols
+
 -- the homes of the symbols are sections of the object, or none
 abbrev pub HaveHomes : ℕ → List NewSymbol → Type 0
 HaveHomes count symbols = All (λ x. IsHome count x.home) symbols
@@ -60,6 +67,7 @@ HaveHomes count symbols = All (λ x. IsHome count x.home) symbols
 -- The parts are right by themselves, and neither the sections nor the bytes are too many.
 pub record CanLayOut (s : Spec) : Type 0 where
   pub parts : HasParts s
+  pub numbers : HasNumbers s
   pub few : length (all_sections s) < MAX_SECTIONS
   pub homes : HaveHomes (length (all_sections s) + 1) s.symbols
   pub short : length (made s) < 2 ^ 32

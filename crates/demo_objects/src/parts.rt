@@ -27,11 +27,6 @@ fn is_name(name: &[u8]) -> bool
 fn is_section(section: &NewSection) -> bool
     ensures { IsTrue result ↔ IsSection (entry_of section.now) }
 {
-    // Their types are those of the fields of a section header.
-    let _flags = section.flags;
-    let _link = section.link;
-    let _info = section.info;
-    let _entsize = section.entsize;
     let bodiless = section.kind == SHT_NULL || section.kind == SHT_NOBITS;
     is_name(&section.name) && section.align >= 1 && (!bodiless || section.body.is_empty())
 }
@@ -52,9 +47,6 @@ fn are_sections(sections: &[NewSection]) -> bool
 fn is_symbol(symbol: &SymSpec) -> bool
     ensures { IsTrue result ↔ IsNewSymbol (symbol_of symbol.now) }
 {
-    // Their types are those of the fields of a symbol.
-    let _value = symbol.value;
-    let _size = symbol.size;
     is_name(&symbol.name) && symbol.bind < 16 && symbol.kind < 16
 }
 

@@ -4,7 +4,9 @@ ghost use Rattle.std.specs.Prelude.{◌≡◌, ◌≢◌, ◌+◌, ◌-◌, ◌<
 ghost use Rattle.std.specs.List.{range_with_len};
 ghost use Rattle.elf_write.specs.Layout.{new_names};
 ghost use Rattle.elf_write.specs.New.{entries, entry_of};
+ghost use Rattle.elf_write.specs.Added.{HasFields};
 ghost use Rattle.demo_objects.specs.Bodies.{AreRelocBodies};
+ghost use Rattle.demo_objects.specs.CanMake.{HasNumbers, HasValues};
 ghost use Rattle.demo_objects.specs.Layout.{names_entry, with_names};
 ghost use Rattle.demo_objects.specs.Made.{all_sections, has_relocs, indices_entry, no_entry, rela_entry, strings_body, strings_entry, strings_number, symbols_entry, symbol_tables, symbols_number, targets};
 ghost use Rattle.demo_objects.specs.Spec.{spec_of, symbols_of};
@@ -19,23 +21,34 @@ use std::alloc::Global;
 
 /// A section like another.
 fn copy_of(alloc: Global, section: &NewSection) -> Result<NewSection, NoMemory>
-    ensures { IfOk result (λ copy. entry_of copy ≡ entry_of section.now) }
+    ensures same { IfOk result (λ copy. entry_of copy ≡ entry_of section.now) }
+    ensures numbers { IfOk result (λ _. HasFields (entry_of section.now)) }
 {
+    let &NewSection {
+        kind,
+        flags,
+        link,
+        info,
+        align,
+        entsize,
+        ..
+    } = section;
     Ok(NewSection {
         name: Vec::from_slice(alloc, &section.name)?,
-        kind: section.kind,
-        flags: section.flags,
-        link: section.link,
-        info: section.info,
-        align: section.align,
-        entsize: section.entsize,
+        kind,
+        flags,
+        link,
+        info,
+        align,
+        entsize,
         body: Vec::from_slice(alloc, &section.body)?,
     })
 }
 
 /// Sections like others.
 fn copies_of(alloc: Global, sections: &[NewSection]) -> Result<Vec<NewSection>, NoMemory>
-    ensures { IfOk result (λ copies. entries copies.items ≡ entries sections.now) }
+    ensures same { IfOk result (λ copies. entries copies.items ≡ entries sections.now) }
+    ensures numbers { IfOk result (λ _. All HasFields (entries sections.now)) }
 {
     let mut copies = Vec::new(alloc);
     for section in sections {
@@ -101,7 +114,8 @@ fn symbols_section(alloc: Global, spec: &Spec, strings: u32) -> Result<NewSectio
     requires kind { All (λ s. s.kind < 16) (symbols_of spec.now.symbols.items) }
     requires fits { length (strings_body (symbols_of spec.now.symbols.items)) < 2 ^ 32 }
     requires strings { strings ≡ strings_number (spec_of spec.now) }
-    ensures { IfOk result (λ section. entry_of section ≡ symbols_entry (spec_of spec.now)) }
+    ensures entry { IfOk result (λ section. entry_of section ≡ symbols_entry (spec_of spec.now)) }
+    ensures numbers { IfOk result (λ _. All HasValues (symbols_of spec.now.symbols.items)) }
 {
     Ok(NewSection {
         name: Vec::from_slice(alloc, b".symtab")?,
@@ -212,7 +226,8 @@ fn push_symbols(
     requires kind { All (λ s. s.kind < 16) (symbols_of spec.now.symbols.items) }
     requires fits { length (strings_body (symbols_of spec.now.symbols.items)) < 2 ^ 32 }
     requires number { symbols ≡ symbols_number (spec_of spec.now) }
-    ensures { OnOk result (entries all.new.items ≡ entries all.old.items ++ symbol_tables (spec_of spec.now)) }
+    ensures tables { OnOk result (entries all.new.items ≡ entries all.old.items ++ symbol_tables (spec_of spec.now)) }
+    ensures numbers { OnOk result (All HasValues (symbols_of spec.now.symbols.items)) }
 {
     if needs_indices(&spec.symbols) {
         all.push(symbols_section(alloc, spec, symbols + 2)?)?;
@@ -240,7 +255,8 @@ pub(crate) fn all_sections(alloc: Global, spec: &Spec) -> Result<Vec<NewSection>
     requires kind { All (λ s. s.kind < 16) (symbols_of spec.now.symbols.items) }
     requires fits { length (strings_body (symbols_of spec.now.symbols.items)) < 2 ^ 32 }
     requires targets { All (λ r. r.sec ≤ length spec.now.sections.items) spec.now.relocs.items }
-    ensures { IfOk result (λ all. entries all.items ≡ all_sections (spec_of spec.now)) }
+    ensures all { IfOk result (λ all. entries all.items ≡ all_sections (spec_of spec.now)) }
+    ensures numbers { IfOk result (λ _. HasNumbers (spec_of spec.now)) }
 {
     let bodies = reloc_bodies(alloc, spec.sections.len() as u32 + 1, &spec.relocs)?;
     let targets = targets(alloc, spec, &bodies)?;

@@ -1,6 +1,7 @@
 //! The bodies of the symbol table and of what belongs to it.
 
 ghost use Rattle.std.specs.Prelude.{◌≡◌, ◌+◌, ◌<◌, ◌≤◌, ◌^◌, ◌++◌, All, IfOk, IsTrue, OnOk, filter, length};
+ghost use Rattle.demo_objects.specs.CanMake.{HasValues};
 ghost use Rattle.demo_objects.specs.Made.{index_of, indices_body, is_local, is_wide, name_place, name_text, needs_indices, shndx_of, strings_body, symbol_bytes, symbols_body};
 ghost use Rattle.demo_objects.specs.Spec.{symbol_of, symbols_of};
 
@@ -76,7 +77,8 @@ pub(crate) fn count_locals(symbols: &[SymSpec]) -> usize
 fn push_symbol(out: &mut Vec<u8>, name: u32, symbol: &SymSpec) -> Result<(), NoMemory>
     requires bind { symbol.now.bind < 16 }
     requires kind { symbol.now.kind < 16 }
-    ensures { OnOk result (out.new.items ≡ out.old.items ++ symbol_bytes name (symbol_of symbol.now)) }
+    ensures bytes { OnOk result (out.new.items ≡ out.old.items ++ symbol_bytes name (symbol_of symbol.now)) }
+    ensures numbers { OnOk result (HasValues (symbol_of symbol.now)) }
 {
     push_u32(out, name)?;
     push_bytes(out, &[symbol.bind * 16 + symbol.kind, 0])?;
@@ -105,7 +107,8 @@ pub(crate) fn symbols_body(alloc: Global, symbols: &[SymSpec]) -> Result<Vec<u8>
     requires bind { All (λ s. s.bind < 16) (symbols_of symbols.now) }
     requires kind { All (λ s. s.kind < 16) (symbols_of symbols.now) }
     requires fits { length (strings_body (symbols_of symbols.now)) < 2 ^ 32 }
-    ensures { IfOk result (λ body. body.items ≡ symbols_body (symbols_of symbols.now)) }
+    ensures body { IfOk result (λ body. body.items ≡ symbols_body (symbols_of symbols.now)) }
+    ensures numbers { IfOk result (λ _. All HasValues (symbols_of symbols.now)) }
 {
     let mut body = Vec::from_slice(alloc, &[0; 24])?;
     let mut at = 1;

@@ -22,22 +22,22 @@ all_sections-requires-clause-few c =
 pub sections_fit-requires : goal.sections_fit-requires
 sections_fit-requires c =
     let fit : PartsFit (spec_of c.args.spec.now) = c.parts_fit.ensures.0 (let passes = c.if-not-parts_fit.false in grind arith) in
-    let is : entries c.deref.result.now ≡ all_sections (spec_of c.args.spec.now) = ap entries c.deref.ensures.value ∙ c.in_ok-sections.ensures in
+    let is : entries c.deref.result.now ≡ all_sections (spec_of c.args.spec.now) = ap entries c.deref.ensures.value ∙ c.in_ok-sections.ensures.all in
     subst AreAligned (sym is) (all-aligned (spec_of c.args.spec.now) fit.parts.sections)
 
 pub file_of-requires-clause-aligned : goal.file_of-requires-clause-aligned
 file_of-requires-clause-aligned c =
     let fit : PartsFit (spec_of c.args.spec.now) = c.parts_fit.ensures.0 (let passes = c.if-not-parts_fit.false in grind arith) in
-    let is : entries c.deref-3.result.now ≡ all_sections (spec_of c.args.spec.now) = ap entries c.deref-3.ensures.value ∙ c.in_ok-sections.ensures in
+    let is : entries c.deref-3.result.now ≡ all_sections (spec_of c.args.spec.now) = ap entries c.deref-3.ensures.value ∙ c.in_ok-sections.ensures.all in
     subst AreAligned (sym is) (all-aligned (spec_of c.args.spec.now) fit.parts.sections)
 
 pub file_of-requires-clause-names : goal.file_of-requires-clause-names
 file_of-requires-clause-names c =
     let s = spec_of c.args.spec.now in
     let fit : PartsFit s = c.parts_fit.ensures.0 (let passes = c.if-not-parts_fit.false in grind arith) in
-    let first : entries c.deref.result.now ≡ all_sections s = ap entries c.deref.ensures.value ∙ c.in_ok-sections.ensures in
-    let is : entries c.deref-3.result.now ≡ all_sections s = ap entries c.deref-3.ensures.value ∙ c.in_ok-sections.ensures in
+    let first : entries c.deref.result.now ≡ all_sections s = ap entries c.deref.ensures.value ∙ c.in_ok-sections.ensures.all in
+    let is : entries c.deref-3.result.now ≡ all_sections s = ap entries c.deref-3.ensures.value ∙ c.in_ok-sections.ensures.all in
     let all : SectionsFit (entries c.deref.result.now) (symbols_of c.deref-2.result.now) = c.sections_fit.ensures.0 (let passes = c.if-not-sections_fit.false in grind arith) in
     let all' : SectionsFit (entries c.deref.result.now) s.symbols = subst (λ xs. SectionsFit (entries c.deref.result.now) (symbols_of xs)) c.deref-2.ensures.value all in
     let all'' : SectionsFit (all_sections s) s.symbols = subst (λ es. SectionsFit es s.symbols) first all' in
-    subst (λ (es : List NewEntry). 1 + length (new_names es) < 2 ^ 32) (sym is) (room s (can-lay-out s fit all'')).names
+    subst (λ (es : List NewEntry). 1 + length (new_names es) < 2 ^ 32) (sym is) (room s (can-lay-out s fit c.in_ok-sections.ensures.numbers all'')).names

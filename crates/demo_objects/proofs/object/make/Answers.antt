@@ -39,7 +39,7 @@ file_of-requires c =
     let s = spec_of c.args.spec.now in
     let can = c.requires.laid_out in
     let r = room s can in
-    let is : entries c.deref.result.now ≡ all_sections s = ap entries c.deref.ensures.value ∙ c.in_ok-sections.ensures in
+    let is : entries c.deref.result.now ≡ all_sections s = ap entries c.deref.ensures.value ∙ c.in_ok-sections.ensures.all in
     let l : length c.deref.result.now ≡ length (entries c.deref.result.now) = sym (length-map c.deref.result.now entry_of) in
     let m : length (entries c.deref.result.now) ≡ length (all_sections s) = ap length is in
     let few = can.few in
@@ -53,7 +53,7 @@ file_of-requires c =
 pub returns : goal.returns
 returns c =
     let s = spec_of c.args.spec.now in
-    let is : entries c.deref.result.now ≡ all_sections s = ap entries c.deref.ensures.value ∙ c.in_ok-sections.ensures in
+    let is : entries c.deref.result.now ≡ all_sections s = ap entries c.deref.ensures.value ∙ c.in_ok-sections.ensures.all in
     let layout : IfOk c.file_of.result (λ file. file.items ≡ made s) = subst (λ (es : List NewEntry). IfOk c.file_of.result (λ file. file.items ≡ file_of es)) is c.file_of.ensures in
     record {
       layout = layout;
