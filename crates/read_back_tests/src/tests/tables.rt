@@ -2,7 +2,8 @@
 
 use elf_objects::{R_X86_64_PC32, Reloc};
 use special_examples::builder::{CODE, DATA, Piece, object};
-use std::alloc::{AllocError, Global};
+use std::alloc::Global;
+use std::test::Fail;
 
 /// The number of a row's section, the row's offset there, and its six bytes.
 pub(super) type RowBytes = (u32, i64, [u8; 6]);
@@ -39,7 +40,7 @@ fn with_table<'x>(
     rows: &'x [u8],
     places: &'x [u8],
     relocs: &'x [Reloc],
-) -> Result<Vec<u8>, AllocError> {
+) -> Result<Vec<u8>, Fail> {
     let pieces = [
         Piece {
             name: b".text",
@@ -66,7 +67,7 @@ fn with_table<'x>(
             relocs,
         },
     ];
-    object(alloc, &pieces)
+    Ok(object(alloc, &pieces)?.ok_or("the code and its table make an object")?)
 }
 
 /// The object of a code, section 1, and of a return, section 2, with these rows.
@@ -74,7 +75,7 @@ pub(super) fn with_rows(
     alloc: Global,
     code: &[u8],
     rows: &[RowBytes],
-) -> Result<Vec<u8>, AllocError> {
+) -> Result<Vec<u8>, Fail> {
     let mut bytes = Vec::new(alloc);
     let mut places = Vec::new(alloc);
     let mut relocs = Vec::new(alloc);

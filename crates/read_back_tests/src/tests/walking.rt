@@ -4,7 +4,7 @@ use super::expect;
 use super::tables::{DEPTH_8, DEPTH_16, INTERRUPT_CODE, INTERRUPT_ROWS, RowBytes, ZERO, with_rows};
 use super::unwinding::unwind;
 use objtool_cli::Status;
-use std::alloc::{AllocError, Global};
+use std::alloc::Global;
 use std::process::Abort;
 use std::test::Fail;
 
@@ -36,7 +36,7 @@ struct Example {
 type Walk = (&'static [u8], Status, &'static [u8]);
 
 /// `unwind` of the example's object prints this with each image.
-fn expect_walks(rt: &impl Abort, alloc: Global, example: Example) -> Result<(), AllocError> {
+fn expect_walks(rt: &impl Abort, alloc: Global, example: Example) -> Result<(), Fail> {
     let object = with_rows(alloc, example.code, example.rows)?;
     for (image, status, text) in example.walks {
         expect(rt, alloc, unwind(&object, image), *status, text)?;
@@ -78,7 +78,7 @@ stop: outside
 
 #[test]
 fn a_function_that_calls_itself(rt: HostRuntime) -> Result<(), Fail> {
-    Ok(expect_walks(&rt, rt.alloc(), RECURSION)?)
+    expect_walks(&rt, rt.alloc(), RECURSION)
 }
 
 /// A function of six bytes whose last instruction is a call, and another function behind it: push %rbx;
@@ -115,7 +115,7 @@ stop: outside
 
 #[test]
 fn a_call_at_the_end_of_a_function(rt: HostRuntime) -> Result<(), Fail> {
-    Ok(expect_walks(&rt, rt.alloc(), LAST_CALL)?)
+    expect_walks(&rt, rt.alloc(), LAST_CALL)
 }
 
 /// A function where stacks end calls another: call *%rax; ud2; push %rbx; pop %rbx; ret.
@@ -137,7 +137,7 @@ const STACK_END: Example = Example {
 
 #[test]
 fn the_end_of_a_stack(rt: HostRuntime) -> Result<(), Fail> {
-    Ok(expect_walks(&rt, rt.alloc(), STACK_END)?)
+    expect_walks(&rt, rt.alloc(), STACK_END)
 }
 
 /// A section right behind another in memory: the address where one ends and the other begins is the
@@ -169,7 +169,7 @@ const NEXT_SECTION: Example = Example {
 
 #[test]
 fn a_section_behind_another(rt: HostRuntime) -> Result<(), Fail> {
-    Ok(expect_walks(&rt, rt.alloc(), NEXT_SECTION)?)
+    expect_walks(&rt, rt.alloc(), NEXT_SECTION)
 }
 
 /// The function was interrupted before its second instruction, and is looked up there, not a byte
@@ -195,7 +195,7 @@ stop: outside
 
 #[test]
 fn an_interrupted_function(rt: HostRuntime) -> Result<(), Fail> {
-    Ok(expect_walks(&rt, rt.alloc(), INTERRUPTED)?)
+    expect_walks(&rt, rt.alloc(), INTERRUPTED)
 }
 
 /// At a byte of no row, of a row that says nothing, and of one that counts from r10.
@@ -223,5 +223,5 @@ const NO_STEP: Example = Example {
 
 #[test]
 fn rows_by_which_no_walk_goes_on(rt: HostRuntime) -> Result<(), Fail> {
-    Ok(expect_walks(&rt, rt.alloc(), NO_STEP)?)
+    expect_walks(&rt, rt.alloc(), NO_STEP)
 }
