@@ -1,9 +1,12 @@
 //! Objects of functions one after the other, byte by byte.
 
+ghost use Rattle.std.specs.Prelude.{◌≤◌};
+
 use super::leaf::LEAF;
 use super::reading::put;
 use demo_objects::demo;
 use elf_objects::{Home, Object};
+use ot_base::NoMemory;
 use std::alloc::Global;
 use std::process::Abort;
 use std::test::Fail;
@@ -105,7 +108,15 @@ fn one_is_the_leaf(rt: HostRuntime) -> Result<(), Fail> {
     Ok(())
 }
 
-/// The last of so many functions stands where those before it end.
+/// The object of so many functions. What it is to say isn't written out for a number here, as it would be
+/// for one in a call of `demo`.
+fn functions(alloc: Global, n: u32) -> Result<Vec<u8>, NoMemory>
+    requires { n ≤ 100000 }
+{
+    demo(alloc, n)
+}
+
+/// The last of 100,000 functions stands where those before it end.
 fn expect_last(rt: &impl Abort, object: &Object<'_>) {
     assert!(rt; object.symbols() == 100_002);
     let last = object.symbol(100_001);
@@ -116,7 +127,7 @@ fn expect_last(rt: &impl Abort, object: &Object<'_>) {
 
 #[test]
 fn as_many_as_there_may_be(rt: HostRuntime) -> Result<(), Fail> {
-    let file = demo(rt.alloc(), 100_000)?;
+    let file = functions(rt.alloc(), 100_000)?;
     assert!(rt; file.len() < 1 << 32);
     let object = Object::parse(rt.alloc(), &file)
         .ok()
