@@ -9,7 +9,7 @@ use ot_base::NoMemory;
 const ZEROS: [u8; 8] = [0; 8];
 
 /// The next multiple of 8.
-pub(crate) fn next_multiple(n: usize) -> usize
+pub fn next_multiple(n: usize) -> usize
     requires { n < 2 ^ 63 }
     ensures { result ≡ aligned n }
 {
@@ -39,7 +39,7 @@ pub(crate) fn push_part(
 }
 
 /// Adds zeros up to the next multiple of 8.
-pub(crate) fn pad(out: &mut Vec<u8>) -> Result<(), NoMemory>
+pub fn pad(out: &mut Vec<u8>) -> Result<(), NoMemory>
     requires { vec_len out.old < 2 ^ 63 }
     ensures { OnOk result (out.new.items ≡ padded out.old.items) }
 {

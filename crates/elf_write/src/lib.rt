@@ -8,7 +8,7 @@ mod pieces;
 mod section;
 mod write;
 
-pub use bytes::{push_bytes, push_u16, push_u32, push_u64};
+pub use bytes::{next_multiple, pad, push_bytes, push_u16, push_u32, push_u64};
 pub use header::{Header, push_header};
 pub use section::NewSection;
 pub use write::append;

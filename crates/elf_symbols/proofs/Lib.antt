@@ -1,0 +1,14 @@
+pub mod Put
+pub mod Ranges
+pub mod Edits
+pub mod ChangesOf
+pub mod Known
+pub mod Joined
+pub mod Regions
+pub mod Fields
+pub mod Output
+pub mod Contents
+pub mod Relocations
+pub mod WellFormed
+pub mod Says
+pub mod Facts

@@ -1,0 +1,4 @@
+pub mod Layout
+pub mod Object
+pub mod Taken
+pub mod Room

@@ -1,0 +1,12 @@
+//! Inserts section symbols into relocatable ELF64 objects.
+#![tactic(auto)]
+
+mod changes;
+mod fault;
+mod find;
+mod insert;
+mod plan;
+mod tables;
+
+pub use fault::SymFault;
+pub use insert::with_section_symbols;
