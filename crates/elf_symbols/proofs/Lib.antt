@@ -12,3 +12,4 @@ pub mod Relocations
 pub mod WellFormed
 pub mod Says
 pub mod Facts
+pub mod Same

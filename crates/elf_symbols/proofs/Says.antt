@@ -46,7 +46,7 @@ as_numbers : (o : Elf) (secs : List ℕ) (s : SectionEntry) → s.kind ≡ SHT_S
     → section_with o secs s ≡ record s { offset = numbers_place o secs; size = s.size + 4 * length secs; body = longer_numbers o secs s.body }
 as_numbers o secs s e = rw e refl
 
-as_group : (o : Elf) (secs : List ℕ) (s : SectionEntry) → s.kind ≡ SHT_GROUP
+pub as_group : (o : Elf) (secs : List ℕ) (s : SectionEntry) → s.kind ≡ SHT_GROUP
     → section_with o secs s ≡ record s { info = renumbered (locals o) (length secs) s.info }
 as_group o secs s e = rw e refl
 

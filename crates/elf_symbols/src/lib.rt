@@ -5,8 +5,10 @@ mod changes;
 mod fault;
 mod find;
 mod insert;
+mod law;
 mod plan;
 mod tables;
 
 pub use fault::SymFault;
 pub use insert::with_section_symbols;
+pub use law::calls_add;
