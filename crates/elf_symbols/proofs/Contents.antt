@@ -29,7 +29,7 @@ use Rattle.elf_write.proofs.Parts.{part, part-left, part-part, part-right, part-
 use Rattle.elf_write.proofs.Special.{body_none, body_range, bool_cases}
 use Rattle.elf_symbols.specs.Layout.{extended, inserted, locals, long_number, longer_numbers, longer_symbols, number_bytes, numbers_place, short_number, symbol_bytes, symbol_section, symbols_place}
 use Rattle.elf_symbols.proofs.Fields.{with_numbers, word-part, with_symtab}
-use Rattle.elf_symbols.proofs.Joined.{Base, length-new_numbers, length-new_symbols, length-symbol_bytes, symbols_body}
+use Rattle.elf_symbols.proofs.Joined.{Base, start, length-new_numbers, length-new_symbols, length-symbol_bytes, symbols_body}
 use Rattle.elf_symbols.proofs.Known.{Numbers, length-part, locals_are, numbers_at, same_numbers, section_is}
 use Rattle.elf_symbols.proofs.Output.{count, header, keep, same_header, table}
 use Rattle.elf_symbols.proofs.Regions.{apart_bodies, kept, numbers_read, plan, symbols_read}
@@ -53,7 +53,7 @@ body_kept b secs t x i h none =
             | inl empty ↦ rw empty refl
             | inr some ↦
                 let low = p.behind there (omega arith) in
-                kept b secs t x d.offset d.size within (inr (omega arith))
+                kept b secs t (start b secs t x) d.offset d.size within (inr (omega arith))
                 (λ j lt kind js. flip d.offset d.size (section_header b j).offset (section_header b j).size
                 (apart_bodies b x.well j i lt h kind there (λ e. none (ap (λ (k : ℕ). (section_header b k).kind) e ∙ kind)) js (omega arith)))
           ]
@@ -178,7 +178,7 @@ entry_part : (b secs : List ℕ) (t : ℕ) → Base b secs t → (k : ℕ) → k
     → part (symbols_place (elf_of b) + 24 * k) 24 (extended (elf_of b) secs) ≡ part (24 * k) 24 (longer_symbols (elf_of b) secs)
 entry_part b secs t x k h =
     sym (part-part (24 * k) 24 (symbols_place (elf_of b)) (24 * (symbol_count b + length secs)) (extended (elf_of b) secs) (omega arith))
-    ∙ ap (part (24 * k) 24) (symbols_read b secs t x)
+    ∙ ap (part (24 * k) 24) (symbols_read b secs t (start b secs t x))
 
 raw_at : (b : List ℕ) (k : ℕ) → raw_symbol b k ≡ raw_symbol_at b ((symbol_header b).offset + 24 * k)
 unfolding raw_symbol
@@ -194,7 +194,7 @@ old_part : (b secs : List ℕ) (t : ℕ) → Base b secs t → (j : ℕ) → j <
     → part (24 * j) 24 (symbol_section (elf_of b)).body ≡ part ((section_header b t).offset + 24 * j) 24 b
 old_part b secs t x j h =
     let size = x.symbols.size in
-    ap (part (24 * j) 24) (symbols_body b secs t x)
+    ap (part (24 * j) 24) (symbols_body b secs t (start b secs t x))
     ∙ part-part (24 * j) 24 (section_header b t).offset (section_header b t).size b (omega arith)
 
 old_raw : (b secs : List ℕ) (t : ℕ) → Base b secs t → (j : ℕ) → raw_symbol b j ≡ raw_symbol_at b ((section_header b t).offset + 24 * j)
@@ -205,7 +205,7 @@ body_long b secs t x =
     let l = locals_are b t x.symbols in
     let s = x.symbols in
     let e : length (symbol_section (elf_of b)).body ≡ (section_header b t).size =
-    ap length (symbols_body b secs t x) ∙ length-part (section_header b t).offset (section_header b t).size b s.body.inside in
+    ap length (symbols_body b secs t (start b secs t x)) ∙ length-part (section_header b t).offset (section_header b t).size b s.body.inside in
     omega (arith, s.high, s.size)
 
 pub raw_local : (b secs : List ℕ) (t : ℕ) → Base b secs t → (k : ℕ) → k < (section_header b t).info → raw_symbol (extended (elf_of b) secs) k ≡ raw_symbol b k
@@ -272,7 +272,7 @@ number_part : (b secs : List ℕ) (t i : ℕ) → Base b secs t → Numbers b i 
     → part (numbers_place (elf_of b) secs + 4 * k) 4 (extended (elf_of b) secs) ≡ part (4 * k) 4 (longer_numbers (elf_of b) secs (section_at (elf_of b) i).body)
 number_part b secs t i x n k h =
     sym (part-part (4 * k) 4 (numbers_place (elf_of b) secs) (4 * (symbol_count b + length secs)) (extended (elf_of b) secs) (omega arith))
-    ∙ ap (part (4 * k) 4) (numbers_read b secs t i x n)
+    ∙ ap (part (4 * k) 4) (numbers_read b secs t i (start b secs t x) n)
 
 number_at : (b : List ℕ) (k : ℕ) → index_entry b k ≡ word b ((index_header b).offset + 4 * k)
 unfolding index_entry

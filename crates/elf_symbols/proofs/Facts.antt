@@ -11,7 +11,7 @@ use Rattle.elf_write.proofs.Links.{length-sections}
 use Rattle.elf_symbols.specs.Layout.{extended, headers_place, symbols_inserted}
 use Rattle.elf_symbols.specs.Object.{CanInsert, extended_object, object_with_symbols}
 use Rattle.elf_symbols.specs.Room.{AreBytes, HasNumbers, HasRoom, HasRoomFor, HasRoomIn, Parts}
-use Rattle.elf_symbols.proofs.Joined.{Base, length-joined, length-numbers_with, length-symbols_with}
+use Rattle.elf_symbols.proofs.Joined.{Base, start, length-joined, length-numbers_with, length-symbols_with}
 use Rattle.elf_symbols.proofs.Known.{Lies, lies, locals_are, numbers_at, same_numbers, section_is, symbols_found}
 use Rattle.elf_symbols.proofs.Output.{numbers_of_kind, sizes}
 use Rattle.elf_symbols.proofs.Regions.{plan}
@@ -64,7 +64,7 @@ numbers_facts b secs t x (Some i) e =
     let l = length-sections b in
     let first = locals_are b t x.symbols in
     let body : length (section_at (elf_of b) i).body ≡ (section_header b i).size = ap (λ (s : SectionEntry). length s.body) (section_is b i n.one.below) ∙ n.body.size in
-    let long = length-numbers_with b secs t i x n in
+    let long = length-numbers_with b secs t i (start b secs t x) n in
     record {
       below = omega (arith, n.one.below);
       entries = omega (arith, n.size, x.symbols.high);
@@ -78,7 +78,7 @@ facts b secs t x =
     let first = locals_are b t x.symbols in
     let below = x.symbols.one.below in
     let body : length (section_at (elf_of b) t).body ≡ (section_header b t).size = ap (λ (y : SectionEntry). length y.body) (section_is b t below) ∙ x.symbols.body.size in
-    let long = length-symbols_with b secs t x in
+    let long = length-symbols_with b secs t (start b secs t x) in
     let j = length-joined b secs x.well in
     let high = x.symbols.high in
     let size = x.symbols.size in

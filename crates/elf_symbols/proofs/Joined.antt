@@ -19,13 +19,22 @@ use Rattle.elf_symbols.specs.Layout.{headers_place, index_table as table_of_numb
 use Rattle.elf_symbols.specs.Object.{CanInsert}
 use Rattle.elf_symbols.proofs.Known.{Numbers, Symbols, length-part, locals_are, same_numbers, section_is, symbols_section}
 
--- what is asked: an object, sections to insert symbols for, and its symbol table
-pub record Base (b : List ℕ) (secs : List ℕ) (t : ℕ) : Type 0 where
+-- an object, its symbol table, and sections to insert symbols for
+pub record Start (b : List ℕ) (secs : List ℕ) (t : ℕ) : Type 0 where
   pub well : IsWellFormed b
-  pub can : CanInsert (elf_of b) secs
   pub some : 0 < length secs
   pub symbols : Symbols b t
+
+-- all that is asked
+pub record Base (b : List ℕ) (secs : List ℕ) (t : ℕ) : Type 0 where
+  pub well : IsWellFormed b
+  pub some : 0 < length secs
+  pub symbols : Symbols b t
+  pub can : CanInsert (elf_of b) secs
   pub bytes : (k : ℕ) → slice_index b k < 256
+
+abbrev pub start : (b secs : List ℕ) (t : ℕ) → Base b secs t → Start b secs t
+start b secs t x = record { well = x.well; some = x.some; symbols = x.symbols }
 
 pub length-inserted : (at : ℕ) (piece body : List ℕ) → at ≤ length body → length (inserted at piece body) ≡ length body + length piece
 length-inserted at piece body h =
@@ -57,11 +66,11 @@ pub length-new_numbers : (secs : List ℕ) → length (flat_map number_bytes sec
 length-new_numbers secs = length-pieces number_bytes 4 (λ x. length-encoded 4 (long_number x)) secs
 
 -- the symbol table's body
-pub symbols_body : (b secs : List ℕ) (t : ℕ) → Base b secs t → (symbol_section (elf_of b)).body ≡ part (section_header b t).offset (section_header b t).size b
+pub symbols_body : (b secs : List ℕ) (t : ℕ) → Start b secs t → (symbol_section (elf_of b)).body ≡ part (section_header b t).offset (section_header b t).size b
 symbols_body b secs t x = ap (λ (s : SectionEntry). s.body) (symbols_section b t x.symbols) ∙ x.symbols.body.body
 
 -- how long the longer tables are
-pub length-symbols_with : (b secs : List ℕ) (t : ℕ) → Base b secs t → length (longer_symbols (elf_of b) secs) ≡ 24 * (symbol_count b + length secs)
+pub length-symbols_with : (b secs : List ℕ) (t : ℕ) → Start b secs t → length (longer_symbols (elf_of b) secs) ≡ 24 * (symbol_count b + length secs)
 length-symbols_with b secs t x =
     let l = locals_are b t x.symbols in
     let s = x.symbols in
@@ -72,7 +81,7 @@ length-symbols_with b secs t x =
     length-inserted (24 * locals (elf_of b)) (flat_map symbol_bytes secs) (symbol_section (elf_of b)).body (omega arith)
     ∙ omega (arith, length-new_symbols secs)
 
-pub length-numbers_with : (b secs : List ℕ) (t i : ℕ) → Base b secs t → Numbers b i
+pub length-numbers_with : (b secs : List ℕ) (t i : ℕ) → Start b secs t → Numbers b i
     → length (longer_numbers (elf_of b) secs (section_at (elf_of b) i).body) ≡ 4 * (symbol_count b + length secs)
 length-numbers_with b secs t i x n =
     let l = locals_are b t x.symbols in
@@ -141,7 +150,7 @@ pub record Places (b secs : List ℕ) (t : ℕ) : Type 0 where
   pub numbers : (i : ℕ) → Numbers b i → numbers_place (elf_of b) secs + 4 * (symbol_count b + length secs) ≤ headers_place (elf_of b) secs
   pub further : symbols_place (elf_of b) + 24 * (symbol_count b + length secs) ≤ numbers_place (elf_of b) secs
 
-pub places : (b secs : List ℕ) (t : ℕ) → Base b secs t → Places b secs t
+pub places : (b secs : List ℕ) (t : ℕ) → Start b secs t → Places b secs t
 places b secs t x =
     let o = elf_of b in
     let ls = length-symbols_with b secs t x in

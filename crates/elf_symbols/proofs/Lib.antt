@@ -13,3 +13,4 @@ pub mod WellFormed
 pub mod Says
 pub mod Facts
 pub mod Same
+pub mod Bound

@@ -19,7 +19,7 @@ use Rattle.elf_write.proofs.Parts.{part, part-whole}
 use Rattle.elf_symbols.specs.Layout.{changed, extended, header_changes, headers_place, renumbered, symbols_inserted}
 use Rattle.elf_symbols.proofs.ChangesOf.{header_group, header_numbers, header_other, header_symtab}
 use Rattle.elf_symbols.proofs.Fields.{Case, Keeps, case_of, group, header_with, keeps, numbers, other, read_group, read_numbers, read_symbols, symtab, with_group, with_numbers, with_other, with_symtab}
-use Rattle.elf_symbols.proofs.Joined.{Base, Places, places}
+use Rattle.elf_symbols.proofs.Joined.{Base, start, Places, places}
 use Rattle.elf_symbols.proofs.Known.{Numbers, lies, length-part, numbers_at}
 use Rattle.elf_symbols.proofs.Regions.{entry, header_read, kept, length-extended, place_read, plan}
 
@@ -57,8 +57,8 @@ pub record Sizes (b secs : List ℕ) (t : ℕ) : Type 0 where
 
 pub sizes : (b secs : List ℕ) (t : ℕ) → Base b secs t → Sizes b secs t
 sizes b secs t x =
-    let ps = places b secs t x in
-    let e = length-extended b secs t x in
+    let ps = places b secs t (start b secs t x) in
+    let e = length-extended b secs t (start b secs t x) in
     let s = short b secs t x in
     record {
       places = ps;
@@ -69,7 +69,7 @@ sizes b secs t x =
     }
 
 pub headers_read : (b secs : List ℕ) (t : ℕ) → Base b secs t → headers_at (extended (elf_of b) secs) ≡ headers_place (elf_of b) secs
-headers_read b secs t x = (let s = sizes b secs t x in place_read b secs t x (omega (arith, s.total)))
+headers_read b secs t x = (let s = sizes b secs t x in place_read b secs t (start b secs t x) (omega (arith, s.total)))
 
 header_of_part : (b : List ℕ) (i : ℕ) → headers_at b + 64 * section_count b ≤ length b → i < section_count b
     → section_header b i ≡ header_at (part (headers_at b + 64 * i) 64 b) 0
@@ -143,7 +143,7 @@ pub header : (b secs : List ℕ) (t : ℕ) → Base b secs t → (i : ℕ) → i
     → section_header (extended (elf_of b) secs) i ≡ header_with (plan b secs) (section_header b i)
 header b secs t x i h =
     at_place b secs t x i h
-    ∙ ap (λ (xs : List ℕ). header_at xs 0) (header_read b secs t x i h)
+    ∙ ap (λ (xs : List ℕ). header_at xs 0) (header_read b secs t (start b secs t x) i h)
     ∙ read_header b secs t x i h (case_of (section_header b i))
 
 pub keep : (b secs : List ℕ) (t : ℕ) → Base b secs t → (i : ℕ) → i < section_count b
@@ -161,7 +161,7 @@ front : (b secs : List ℕ) (t : ℕ) → Base b secs t → (a w : ℕ) → a + 
     → part a w (extended (elf_of b) secs) ≡ part a w b
 front b secs t x a w h o =
     let s = sizes b secs t x in
-    kept b secs t x a w (omega (arith, s.file)) o
+    kept b secs t (start b secs t x) a w (omega (arith, s.file)) o
     (λ i lt kind some. inl (let l = lies b x.well i lt (λ z. omega arith) (λ z. omega arith) in omega (arith, l.behind some)))
 
 pub target : (b secs : List ℕ) (t : ℕ) → Base b secs t → wrong_field (extended (elf_of b) secs) ≡ wrong_field b

@@ -22,7 +22,7 @@ use Rattle.elf_symbols.specs.declared.plan.Plan.{Plan}
 use Rattle.elf_symbols.specs.Layout.{Change, changed, changes_of, extended, group_changes, header_changes, headers_place, joined, longer_numbers, longer_symbols, moved, number_changes, numbers_place, plan_of, reloc_change, reloc_changes, symbol_changes, symbols_place}
 use Rattle.elf_symbols.proofs.ChangesOf.{at_header, at_rela, header_group, header_numbers, header_other, header_symtab, of}
 use Rattle.elf_symbols.proofs.Edits.{Avoids, Fits, all-flat, length-changed, part-avoid, part-moved, part-one}
-use Rattle.elf_symbols.proofs.Joined.{Base, joined_front, joined_header, joined_numbers, joined_symbols, length-joined, length-numbers_with, length-symbols_with, places}
+use Rattle.elf_symbols.proofs.Joined.{Start, joined_front, joined_header, joined_numbers, joined_symbols, length-joined, length-numbers_with, length-symbols_with, places}
 use Rattle.elf_symbols.proofs.Known.{Lies, Numbers, lies, section_is}
 
 -- the change is made within n bytes from `low` on
@@ -147,7 +147,7 @@ avoids b secs well a w i h clear = elim (cases_eq (section_header b i).kind SHT_
 abbrev pub whole : List ℕ → List ℕ → ℕ
 whole b secs = headers_place (elf_of b) secs + 64 * section_count b
 
-fit : (b secs : List ℕ) (t : ℕ) → Base b secs t → (i : ℕ) → i < section_count b → All (Fits (whole b secs)) (changes_of (elf_of b) (plan b secs) i)
+fit : (b secs : List ℕ) (t : ℕ) → Start b secs t → (i : ℕ) → i < section_count b → All (Fits (whole b secs)) (changes_of (elf_of b) (plan b secs) i)
 fit b secs t x i h =
     let ps = places b secs t x in
     elim (cases_eq (section_header b i).kind SHT_RELA) [
@@ -160,10 +160,10 @@ fit b secs t x i h =
 abbrev begun : List ℕ → List ℕ → List ℕ
 begun b secs = written 40 (encoded 8 (headers_place (elf_of b) secs)) (joined (elf_of b) secs)
 
-long : (b secs : List ℕ) (t : ℕ) → Base b secs t → 64 ≤ length b
+long : (b secs : List ℕ) (t : ℕ) → Start b secs t → 64 ≤ length b
 long b secs t x = x.well.table.file_header
 
-length-begun : (b secs : List ℕ) (t : ℕ) → Base b secs t → length (begun b secs) ≡ whole b secs
+length-begun : (b secs : List ℕ) (t : ℕ) → Start b secs t → length (begun b secs) ≡ whole b secs
 length-begun b secs t x =
     let l = length-joined b secs x.well in
     let ps = places b secs t x in
@@ -179,13 +179,13 @@ pub extended_is : (b secs : List ℕ)
 extended_is b secs =
     ap (λ (n : ℕ). changed (flat_map (changes_of (elf_of b) (plan b secs)) (range_with_len 0 n)) (begun b secs)) (length-sections b)
 
-pub length-extended : (b secs : List ℕ) (t : ℕ) → Base b secs t → length (extended (elf_of b) secs) ≡ whole b secs
+pub length-extended : (b secs : List ℕ) (t : ℕ) → Start b secs t → length (extended (elf_of b) secs) ≡ whole b secs
 length-extended b secs t x =
     ap length (extended_is b secs)
     ∙ length-changed (flat_map (changes_of (elf_of b) (plan b secs)) (range_with_len 0 (section_count b))) (begun b secs) (whole b secs) (length-begun b secs t x)
     (all-flat (Fits (whole b secs)) (changes_of (elf_of b) (plan b secs)) 0 (section_count b) (λ i low high. fit b secs t x i (omega arith)))
 
-begun_part : (b secs : List ℕ) (t : ℕ) → Base b secs t → (a w : ℕ) → Outside a w 40 8 → part a w (begun b secs) ≡ part a w (joined (elf_of b) secs)
+begun_part : (b secs : List ℕ) (t : ℕ) → Start b secs t → (a w : ℕ) → Outside a w 40 8 → part a w (begun b secs) ≡ part a w (joined (elf_of b) secs)
 begun_part b secs t x a w o =
     let e = length-encoded 8 (headers_place (elf_of b) secs) in
     let l = length-joined b secs x.well in
@@ -194,7 +194,7 @@ begun_part b secs t x a w o =
     part-outside a w 40 (encoded 8 (headers_place (elf_of b) secs)) (joined (elf_of b) secs) (subst (Outside a w 40) (sym e) o) (omega (arith, ps.behind, ps.symbols))
 
 -- bytes that no change touches
-pub untouched : (b secs : List ℕ) (t : ℕ) → Base b secs t → (a w : ℕ) → ((i : ℕ) → i < section_count b → IsClear b secs a w i)
+pub untouched : (b secs : List ℕ) (t : ℕ) → Start b secs t → (a w : ℕ) → ((i : ℕ) → i < section_count b → IsClear b secs a w i)
     → part a w (extended (elf_of b) secs) ≡ part a w (begun b secs)
 untouched b secs t x a w clear =
     ap (part a w) (extended_is b secs)
@@ -203,7 +203,7 @@ untouched b secs t x a w clear =
     (all-flat (Avoids a w) (changes_of (elf_of b) (plan b secs)) 0 (section_count b) (λ i low high. avoids b secs x.well a w i (omega arith) (clear i (omega arith))))
 
 -- the bytes of the input but for e_shoff and relocations are as they were
-pub kept : (b secs : List ℕ) (t : ℕ) → Base b secs t → (a w : ℕ) → a + w ≤ length b → Outside a w 40 8
+pub kept : (b secs : List ℕ) (t : ℕ) → Start b secs t → (a w : ℕ) → a + w ≤ length b → Outside a w 40 8
     → ((i : ℕ) → i < section_count b → (section_header b i).kind ≡ SHT_RELA → 0 < (section_header b i).size → Outside a w (section_header b i).offset (section_header b i).size)
     → part a w (extended (elf_of b) secs) ≡ part a w b
 kept b secs t x a w h o apart =
@@ -213,7 +213,7 @@ kept b secs t x a w h o apart =
     ∙ joined_front b secs a w h
 
 -- e_shoff
-pub place_read : (b secs : List ℕ) (t : ℕ) → Base b secs t → headers_place (elf_of b) secs < 2 ^ 32 → xword (extended (elf_of b) secs) 40 ≡ headers_place (elf_of b) secs
+pub place_read : (b secs : List ℕ) (t : ℕ) → Start b secs t → headers_place (elf_of b) secs < 2 ^ 32 → xword (extended (elf_of b) secs) 40 ≡ headers_place (elf_of b) secs
 place_read b secs t x short =
     let e = length-encoded 8 (headers_place (elf_of b) secs) in
     let l = length-joined b secs x.well in
@@ -229,7 +229,7 @@ place_read b secs t x short =
     (omega arith)
 
 -- what stands behind the input, before the headers
-table_kept : (b secs : List ℕ) (t : ℕ) → Base b secs t → (a w : ℕ) → length b ≤ a → a + w ≤ headers_place (elf_of b) secs
+table_kept : (b secs : List ℕ) (t : ℕ) → Start b secs t → (a w : ℕ) → length b ≤ a → a + w ≤ headers_place (elf_of b) secs
     → part a w (extended (elf_of b) secs) ≡ part a w (joined (elf_of b) secs)
 table_kept b secs t x a w low high =
     let file = long b secs t x in
@@ -239,7 +239,7 @@ table_kept b secs t x a w low high =
     })
     ∙ begun_part b secs t x a w (inr (omega arith))
 
-pub symbols_read : (b secs : List ℕ) (t : ℕ) → Base b secs t
+pub symbols_read : (b secs : List ℕ) (t : ℕ) → Start b secs t
     → part (symbols_place (elf_of b)) (24 * (symbol_count b + length secs)) (extended (elf_of b) secs) ≡ longer_symbols (elf_of b) secs
 symbols_read b secs t x =
     let ps = places b secs t x in
@@ -248,7 +248,7 @@ symbols_read b secs t x =
     ∙ ap (λ (n : ℕ). part (symbols_place (elf_of b)) n (joined (elf_of b) secs)) (sym l)
     ∙ joined_symbols b secs
 
-pub numbers_read : (b secs : List ℕ) (t i : ℕ) → Base b secs t → Numbers b i
+pub numbers_read : (b secs : List ℕ) (t i : ℕ) → Start b secs t → Numbers b i
     → part (numbers_place (elf_of b) secs) (4 * (symbol_count b + length secs)) (extended (elf_of b) secs)
     ≡ longer_numbers (elf_of b) secs (section_at (elf_of b) i).body
 numbers_read b secs t i x n =
@@ -295,7 +295,7 @@ other_header hp i j ne = elim (cases_lt i j) [
 ]
 
 -- the body of a section of relocations
-pub relocs_read : (b secs : List ℕ) (t : ℕ) → Base b secs t → (i : ℕ) → i < section_count b → (section_header b i).kind ≡ SHT_RELA
+pub relocs_read : (b secs : List ℕ) (t : ℕ) → Start b secs t → (i : ℕ) → i < section_count b → (section_header b i).kind ≡ SHT_RELA
     → part (section_header b i).offset (section_header b i).size (extended (elf_of b) secs)
     ≡ changed (reloc_changes (plan b secs) (body_of b (section_header b i))) (body_of b (section_header b i))
 relocs_read b secs t x i h kind = elim (cases_eq (section_header b i).size 0) [
@@ -328,7 +328,7 @@ relocs_read b secs t x i h kind = elim (cases_eq (section_header b i).size 0) [
 ]
 
 -- a header
-pub header_read : (b secs : List ℕ) (t : ℕ) → Base b secs t → (i : ℕ) → i < section_count b
+pub header_read : (b secs : List ℕ) (t : ℕ) → Start b secs t → (i : ℕ) → i < section_count b
     → part (headers_place (elf_of b) secs + 64 * i) 64 (extended (elf_of b) secs)
     ≡ changed (header_changes (plan b secs) (entry b i)) (part (headers_at b + 64 * i) 64 b)
 header_read b secs t x i h =

@@ -25,7 +25,7 @@ use Rattle.elf_symbols.specs.declared.plan.Plan.{Plan}
 use Rattle.elf_symbols.specs.Layout.{Change, changed, extended, reloc_change, reloc_changes, renumbered}
 use Rattle.elf_symbols.proofs.Edits.{Avoids, Fits, part-avoid, part-one}
 use Rattle.elf_symbols.proofs.Fields.{word-part}
-use Rattle.elf_symbols.proofs.Joined.{Base}
+use Rattle.elf_symbols.proofs.Joined.{Base, start}
 use Rattle.elf_symbols.proofs.Known.{Lies, lies}
 use Rattle.elf_symbols.proofs.Output.{renumbered_below, sizes}
 use Rattle.elf_symbols.proofs.Regions.{plan, relocs_fit, relocs_read}
@@ -173,6 +173,6 @@ reloc_read b secs t x i k h kind lt =
     (ap (part (24 * k + 8) 4) l.body ∙ part-part (24 * k + 8) 4 d.offset d.size b (omega arith)) in
     let small = word-lt b (d.offset + (24 * k + 8)) x.bytes in
     reloc_is (extended (elf_of b) secs) d k
-    ∙ in_body (extended (elf_of b) secs) d.offset d.size k (changed (reloc_changes p body) body) (relocs_read b secs t x i h kind) lt
+    ∙ in_body (extended (elf_of b) secs) d.offset d.size k (changed (reloc_changes p body) body) (relocs_read b secs t (start b secs t x) i h kind) lt
     ∙ body_reloc p body k (omega arith) (omega arith) (omega (arith, s.few))
     ∙ ap (λ (r : Reloc). record r { sym = renumbered p.locals p.count r.sym }) (sym was)

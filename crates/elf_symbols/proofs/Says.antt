@@ -26,7 +26,7 @@ use Rattle.elf_symbols.specs.Layout.{extended, headers_place, locals, longer_num
 use Rattle.elf_symbols.specs.Object.{extended_object, renumbered_body, renumbered_reloc, section_with, symbol_for, symbols_with}
 use Rattle.elf_symbols.proofs.Contents.{Which, body_kept, first_same, global, home_global, home_local, home_new, local, names_kept, new, raw_for, raw_global, raw_local, raw_new, symbols_count, which}
 use Rattle.elf_symbols.proofs.Fields.{Case, case_of, group, numbers, other, symtab, with_group, with_numbers, with_other, with_symtab}
-use Rattle.elf_symbols.proofs.Joined.{Base}
+use Rattle.elf_symbols.proofs.Joined.{Base, start}
 use Rattle.elf_symbols.proofs.Known.{locals_are, section_is, symbols_section}
 use Rattle.elf_symbols.proofs.Output.{count, header, headers_read, keep, numbers_of_kind, same_header, table}
 use Rattle.elf_symbols.proofs.Regions.{entry, numbers_read, plan, relocs_read, symbols_read}
@@ -78,7 +78,7 @@ section_one b secs t x i h (symtab e) =
     let whole : d.size + 24 * length secs ≡ 24 * (symbol_count b + length secs) = omega arith in
     let there : has_body g ≡ true = grind (arith, nat_tests) in
     let body : body_of q g ≡ longer_symbols (elf_of b) secs =
-    body_range q g there ∙ ap (λ (n : ℕ). part (symbols_place (elf_of b)) n q) whole ∙ symbols_read b secs t x in
+    body_range q g there ∙ ap (λ (n : ℕ). part (symbols_place (elf_of b)) n q) whole ∙ symbols_read b secs t (start b secs t x) in
     ap (entry_of_header q) (header b secs t x i h ∙ with_symtab (plan b secs) d e)
     ∙ rw (name, body) refl
     ∙ sym (as_symtab (elf_of b) secs (entry b i) e)
@@ -92,7 +92,7 @@ section_one b secs t x i h (numbers e) =
     let whole : d.size + 4 * length secs ≡ 4 * (symbol_count b + length secs) = omega arith in
     let there : has_body g ≡ true = grind (arith, nat_tests) in
     let body : body_of q g ≡ longer_numbers (elf_of b) secs (body_of b d) =
-    body_range q g there ∙ ap (λ (k : ℕ). part (numbers_place (elf_of b) secs) k q) whole ∙ numbers_read b secs t i x n
+    body_range q g there ∙ ap (λ (k : ℕ). part (numbers_place (elf_of b) secs) k q) whole ∙ numbers_read b secs t i (start b secs t x) n
     ∙ ap (λ (s : SectionEntry). longer_numbers (elf_of b) secs s.body) (section_is b i h) in
     ap (entry_of_header q) (header b secs t x i h ∙ with_numbers (plan b secs) d e)
     ∙ rw (name, body) refl
@@ -111,7 +111,7 @@ section_one b secs t x i h (other a c d) = elim (cases_eq (section_header b i).k
       let g = section_header b i in
       let name = title b secs t x g.name in
       let there : has_body g ≡ true = grind (arith, nat_tests) in
-      let body : body_of q g ≡ renumbered_body (plan b secs) (body_of b g) = body_range q g there ∙ relocs_read b secs t x i h rela in
+      let body : body_of q g ≡ renumbered_body (plan b secs) (body_of b g) = body_range q g there ∙ relocs_read b secs t (start b secs t x) i h rela in
       ap (entry_of_header q) (header b secs t x i h ∙ with_other (plan b secs) g a c d)
       ∙ rw (name, body) refl
       ∙ sym (as_rela (elf_of b) secs (entry b i) rela)

@@ -22,7 +22,7 @@ use Rattle.elf_write.proofs.Output.{Outside}
 use Rattle.elf_symbols.specs.Layout.{extended, numbers_place, renumbered, short_number, symbols_place}
 use Rattle.elf_symbols.proofs.Contents.{Which, first_same, flip, global, index_global, index_local, index_new, is_new, local, new, raw_global, raw_local, raw_new, symbols_count, symbols_header, which}
 use Rattle.elf_symbols.proofs.Fields.{Case, case_of, group, numbers, other, symtab, with_group, with_numbers, with_other, with_symtab}
-use Rattle.elf_symbols.proofs.Joined.{Base}
+use Rattle.elf_symbols.proofs.Joined.{Base, start}
 use Rattle.elf_symbols.proofs.Known.{Lies, lies}
 use Rattle.elf_symbols.proofs.Output.{count, has_table, header, keep, numbers_of_kind, renumbered_below, same_header, sizes, table}
 use Rattle.elf_symbols.proofs.Regions.{apart_bodies, kept, plan}
@@ -150,7 +150,7 @@ form b secs t x i h =
             let low = l.behind some in
             let last : ℕ = d.offset + d.size - 1 in
             let ends : slice_index q last ≡ slice_index b last = index-same last last q b
-            (kept b secs t x last 1 (omega (arith, l.inside)) (inr (omega arith))
+            (kept b secs t (start b secs t x) last 1 (omega (arith, l.inside)) (inr (omega arith))
             (λ j lt kind js. sub_outside d.offset d.size (section_header b j).offset (section_header b j).size last 1 (omega arith) (omega arith)
             (flip d.offset d.size (section_header b j).offset (section_header b j).size
             (apart_bodies b x.well j i lt h kind there (λ r. (let u : (section_header b i).kind ≡ SHT_RELA = ap (λ (n : ℕ). (section_header b n).kind) r ∙ kind in omega arith)) js some)))) in
