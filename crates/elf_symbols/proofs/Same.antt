@@ -84,9 +84,9 @@ locals_few : (b : List ℕ) (secs : List ℕ) (o : Elf) → IsObject b o → Are
 locals_few b secs o ok bytes some can =
     subst (λ (y : Elf). CanInsert y secs → locals y ≤ length y.symbols) (sym ok.says)
     (λ c. (let x = base b secs ok.well_formed bytes some c in
-        let s = x.1.symbols in
-        let high = s.high in
-        omega (arith, locals_are b x.0 s, length-symbols b)))
+    let s = x.1.symbols in
+    let high = s.high in
+    omega (arith, locals_are b x.0 s, length-symbols b)))
     can
 
 inserted : (b : List ℕ) (o : Elf) (secs : List ℕ) → IsObject b o → AreBytes b → CanInsert o secs

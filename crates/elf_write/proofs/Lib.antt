@@ -20,3 +20,4 @@ pub mod Says
 pub mod Reading
 pub mod Result
 pub mod Callers
+pub mod Wide

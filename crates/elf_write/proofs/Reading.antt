@@ -50,7 +50,7 @@ old_section-other i count new k s x y =
     let c : eqb k i.name_table ≡ false = ne_eqb k i.name_table y in
     rw (a, c) refl
 
-old_entry : (b : List ℕ) (new : List NewEntry) (q : List ℕ) (hp : ℕ) (place name : ℕ → ℕ)
+pub old_entry : (b : List ℕ) (new : List NewEntry) (q : List ℕ) (hp : ℕ) (place name : ℕ → ℕ)
     → Output b new q hp (names_place (input_at b)) (all_names (input_at b) new) place name → IsWellFormed b → (k : ℕ) → k < section_count b
     → old_section (input_at b) (section_count b + length new) new (k, section_entry b k) ≡ section_entry q k
 old_entry b new q hp place name o w k h = elim (cases_eq k 0) [

@@ -34,7 +34,7 @@ target-output b new q hp np nm place name o file =
     let f11 : half q 58 ≡ half b 58 = half-same 58 58 q b (o.front 58 2 (omega arith) (inr (omega arith)) (inl (omega arith))) in
     rw (f0, f1, f2, f3, f4, f5, f6, f7, f8, f9, f10, f11) refl
 
-table-output : (b : List ℕ) (new : List NewEntry) (q : List ℕ) (hp np : ℕ) (nm : List ℕ) (place name : ℕ → ℕ)
+pub table-output : (b : List ℕ) (new : List NewEntry) (q : List ℕ) (hp np : ℕ) (nm : List ℕ) (place name : ℕ → ℕ)
     → Output b new q hp np nm place name → HasTable b → section_count b + length new ≤ 262144 → HasTable q
 table-output b new q hp np nm place name o t few =
     let file = t.file_header in

@@ -3,6 +3,7 @@
 ghost use Rattle.std.specs.Prelude.{◌≡◌, ◌+◌, ◌*◌, ◌≤◌, IfOk, length, slice_range};
 ghost use Rattle.elf_objects.specs.Object.{IsObject};
 ghost use Rattle.elf_write.specs.Added.{CanAdd, object_with};
+ghost use Rattle.elf_write.specs.Appended.{CanAppend, ReadsMore};
 ghost use Rattle.elf_write.specs.New.{entries};
 ghost use Rattle.elf_write.specs.Object.{appended_to};
 
@@ -21,20 +22,25 @@ use std::alloc::Global;
 /// is 0 and `sh_size` of header 0 is their number. With no new section the result is the file as it
 /// is.
 ///
-/// The result is a well-formed object. It says what the object said, and what the new sections say.
+/// The result is a well-formed object. Its sections are those of the object, of which the name table
+/// is longer, and then the new ones.
 ///
-/// A new section may be of any type but a symbol table, a string table, a group, a table of section
-/// numbers, or REL; it holds no code; and where it holds relocations, then for a section that has
-/// none, by symbols of the object, each field inside the section. `CanAdd` says all of this. The
-/// sections are then at most 262,144, and the result is shorter than 2^32 bytes.
+/// `CanAppend`: a name has no zero byte, and a section of type NULL or NOBITS no body. With the new
+/// sections behind the old ones, the types, links, symbols, relocations and text are those of a
+/// well-formed object. The sections are then at most 262,144, and the result is shorter than 2^32
+/// bytes.
+///
+/// Where the new sections are neither tables nor text, but for relocations of sections that have none
+/// (`CanAdd`), the result says all that the object said, and what the new sections say.
 ///
 /// # Errors
 ///
 /// [`NoMemory`] where memory was wanted and not there.
 pub fn append(alloc: Global, object: &Object<'_>, new: &[NewSection]) -> Result<Vec<u8>, NoMemory>
-    requires { CanAdd object.now (entries new.now) }
+    requires { CanAppend object.now (entries new.now) }
     ensures layout { IfOk result (λ file. file.items ≡ appended_to object.now (entries new.now)) }
-    ensures object { IfOk result (λ file. IsObject file.items (object_with object.now (entries new.now))) }
+    ensures reads { IfOk result (λ file. ReadsMore object.now (entries new.now) file.items) }
+    ensures object { CanAdd object.now (entries new.now) → IfOk result (λ file. IsObject file.items (object_with object.now (entries new.now))) }
 {
     let bytes = object.bytes();
     let name_table = object.name_table();

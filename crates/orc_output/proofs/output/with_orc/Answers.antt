@@ -5,8 +5,10 @@ use Rattle.elf_objects.specs.Contents.{section_symbol_of}
 use Rattle.elf_objects.specs.Elf.{Elf}
 use Rattle.elf_objects.specs.Object.{IsObject}
 use Rattle.elf_write.specs.Added.{CanAdd, object_with}
+use Rattle.elf_write.specs.Appended.{CanAppend}
 use Rattle.elf_write.specs.Layout.{NewEntry}
 use Rattle.elf_write.specs.Object.{appended_to}
+use Rattle.elf_write.proofs.Wide.{can_append}
 use Rattle.orc_bytes.specs.Sections.{HoldsOrc, row_section, ip_section, rela_section}
 use Rattle.orc_output.specs.OrcOutput.{ip_entry, orc_entry, orc_sections, rela_entry, with_orc_object}
 use Rattle.orc_output.proofs.Known.{known}
@@ -25,7 +27,8 @@ append-requires c =
     let o : Elf = c.args.object.now in
     let made = c.in_ok-orc.ensures in
     let is = three o c.args.rows.now _ _ _ _ _ _ c.in_ok-orc_section.ensures c.in_ok-ip_section.ensures c.in_ok-rela_section.ensures made.orc made.ip made.rela in
-    subst (CanAdd o) (sym is) (can_add o c.args.rows.now (known o.bytes o c.sections-ip_number.ensures.object) c.requires)
+    let can = can_add o c.args.rows.now (known o.bytes o c.sections-ip_number.ensures.object) c.requires in
+    subst (CanAppend o) (sym is) (can_append o.bytes o (orc_sections o c.args.rows.now) c.sections-ip_number.ensures.object can)
 
 pub returns-clause-layout : goal.returns-clause-layout
 returns-clause-layout c =
@@ -39,7 +42,8 @@ returns-clause-object c =
     let o : Elf = c.args.object.now in
     let made = c.in_ok-orc.ensures in
     let is = three o c.args.rows.now _ _ _ _ _ _ c.in_ok-orc_section.ensures c.in_ok-ip_section.ensures c.in_ok-rela_section.ensures made.orc made.ip made.rela in
-    subst (λ (new : List NewEntry). IfOk c.append.result (λ file. IsObject file.items (object_with o new))) is c.append.ensures.object
+    let can = can_add o c.args.rows.now (known o.bytes o c.sections-ip_number.ensures.object) c.requires in
+    subst (λ (new : List NewEntry). IfOk c.append.result (λ file. IsObject file.items (object_with o new))) is (c.append.ensures.object (subst (CanAdd o) (sym is) can))
 
 pub returns-clause-holds : goal.returns-clause-holds
 returns-clause-holds c =

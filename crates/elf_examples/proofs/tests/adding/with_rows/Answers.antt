@@ -7,6 +7,7 @@ use Rattle.elf_write.specs.Added.{CanAdd, HasFields, IsPlain}
 use Rattle.elf_write.specs.Layout.{NewEntry}
 use Rattle.elf_write.specs.New.{entry_of}
 use Rattle.elf_write.proofs.Callers.{can_add-plain, name-free, progbits, three}
+use Rattle.elf_write.proofs.Wide.{can_append}
 use Rattle.elf_examples.proofs.tests.adding.with_rows.Goals as goal
 
 abbrev entry : List ℕ → ℕ → ℕ → ℕ → ℕ → NewEntry
@@ -53,4 +54,4 @@ append-requires c =
     (three (λ (e : NewEntry). All (λ (b : ℕ). b ≢ 0) e.name) orc ip rela (name-free (codes ".orc_unwind") refl) (name-free (codes ".orc_unwind_ip") refl) (name-free (codes ".rela.orc_unwind_ip") refl))
     (three HasFields orc ip rela (fields (codes ".orc_unwind") 1 6 0x11 (6 * n) (omega arith) (omega arith)) (fields (codes ".orc_unwind_ip") 4 4 0x22 (4 * n) (omega arith) (omega arith)) (fields (codes ".rela.orc_unwind_ip") 8 24 0x33 (24 * n) (omega arith) (omega arith)))
     (three IsPlain orc ip rela (progbits orc refl refl) (progbits ip refl refl) (progbits rela refl refl)) in
-    rw (x, y, z) can
+    rw (x, y, z) (can_append o.bytes o new ok can)
