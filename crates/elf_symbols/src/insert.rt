@@ -3,7 +3,7 @@
 ghost use Rattle.std.specs.Prelude.{◌≡◌, ◌+◌, ◌*◌, ◌<◌, ◌≤◌, ◌^◌, IfOk, IfErr, IsOkUnless, OnOk, length, slice_range, vec_len};
 ghost use Rattle.elf_write.specs.Layout.{laid_out};
 ghost use Rattle.elf_objects.specs.Object.{IsObject};
-ghost use Rattle.elf_symbols.specs.Layout.{extended, index_table, joined, locals, numbers_of, plan_of, symbols_inserted};
+ghost use Rattle.elf_symbols.specs.Layout.{extended, headers_place, index_table, joined, locals, numbers_of, plan_of, symbols_inserted};
 ghost use Rattle.elf_symbols.specs.Object.{CanInsert, extended_object, object_with_symbols};
 ghost use Rattle.elf_symbols.specs.Room.{HasNumbers, Parts};
 ghost use Rattle.elf_symbols.specs.Taken.{AreFree, Refuses};
@@ -84,11 +84,12 @@ fn place(object: &Object<'_>, table: u32, numbers: Option<u32>, secs: &[u32]) ->
     }
 }
 
-/// The file of an object, the longer tables and the headers, one behind the other.
+/// The file of an object, the longer tables and the headers, one behind the other; the headers begin at `headers_at`.
 fn join(
     alloc: Global,
     object: &Object<'_>,
     bytes: &[u8],
+    headers_at: u64,
     table: u32,
     numbers: Option<u32>,
     secs: &[u32],
@@ -96,17 +97,18 @@ fn join(
     requires file { bytes.now ≡ object.now.bytes }
     requires parts { Parts object.now secs.now table }
     requires found { numbers ≡ index_table object.now }
+    requires place { headers_at ≡ headers_place object.now secs.now }
     ensures { IfOk result (λ out. out.items ≡ joined object.now secs.now) }
 {
     let symbols = object.section(table);
     let at = symbols.info as usize;
-    let mut out = Vec::new(alloc);
+    let count = object.sections() as usize;
+    let mut out = Vec::with_capacity(alloc, headers_at as usize + 64 * count)?;
     push_bytes(&mut out, bytes)?;
     pad(&mut out)?;
     push_symbols(&mut out, symbols.body, 24 * at, secs)?;
     push_table_of_numbers(&mut out, object, numbers, at, secs)?;
     pad(&mut out)?;
-    let count = object.sections() as usize;
     push_bytes(
         &mut out,
         headers(bytes, object.headers_at() as usize, count),
@@ -152,7 +154,7 @@ fn insert(
     };
     let numbers = index_table(object);
     let plan = place(object, table, numbers, secs);
-    let mut out = join(alloc, object, bytes, table, numbers, secs)?;
+    let mut out = join(alloc, object, bytes, plan.headers_at, table, numbers, secs)?;
     make_changes(&mut out, object, &plan);
     Ok(out)
 }

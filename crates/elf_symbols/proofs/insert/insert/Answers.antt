@@ -20,6 +20,7 @@ join-requires c = record {
   file = same_bytes c.args.bytes.now c.args.object.now c.requires.file;
   parts = parts_at c.args.bytes.now c.args.object.now c.args.secs.now c.in-Some.table c.requires.file (λ k. (c.type_inv.bytes k).fits) c.requires.some c.requires.can (sym c.symbol_table.ensures ∙ c.in-Some.is);
   found = c.index_table-numbers.ensures;
+  place = ap (λ (q : Plan). q.headers_at) c.place-plan.ensures;
 }
 
 pub make_changes-requires : goal.make_changes-requires
