@@ -1,12 +1,11 @@
 -- How long a file gets into which section symbols are inserted.
-use Rattle.std.proofs.Common.{◌≡◌, ℕ, ◌+◌, ◌-◌, ◌*◌, ◌^◌, ◌<◌, ◌≤◌, List, [], ◌∷◌, length, Option, Some, None, refl, sym, ap, subst, ◌∙◌, arith}
-use Rattle.elf_objects.specs.Contents.{elf_of, section_at}
-use Rattle.elf_objects.specs.Elf.{Elf, SectionEntry}
-use Rattle.elf_objects.specs.File.{section_count, section_header}
+use Rattle.std.proofs.Common.{◌≡◌, ℕ, ◌+◌, ◌*◌, ◌<◌, ◌≤◌, List, [], ◌∷◌, length, Option, Some, None, refl, sym, subst, arith}
+use Rattle.elf_objects.specs.Contents.{elf_of}
+use Rattle.elf_objects.specs.Elf.{Elf}
 use Rattle.elf_objects.specs.Object.{IsObject, IsWellFormed}
 use Rattle.elf_objects.specs.Table.{index_table as numbers_table, symbol_count, symbol_table}
-use Rattle.elf_write.specs.Layout.{aligned, end_of}
-use Rattle.elf_symbols.specs.Layout.{extended, headers_place, longer_numbers, longer_symbols, numbers_of, symbols_inserted, symbols_place}
+use Rattle.elf_write.specs.Layout.{end_of}
+use Rattle.elf_symbols.specs.Layout.{extended, longer_symbols, numbers_of, symbols_inserted, symbols_place}
 use Rattle.elf_symbols.proofs.Joined.{Start, length-numbers_with, length-symbols_with}
 use Rattle.elf_symbols.proofs.Known.{numbers_at, same_numbers, symbols_found}
 use Rattle.elf_symbols.proofs.Regions.{length-extended}

@@ -1,23 +1,21 @@
 -- Relocations and groups name the same symbols as before.
-use Rattle.std.proofs.Common.{◌≡◌, inl, inr, ℕ, zero, suc, ◌+◌, ◌-◌, ◌*◌, ◌<◌, ◌≤◌, List, [], ◌∷◌, ◌++◌, length, take, drop, get_or, map, true, false, refl, sym, ap, subst, ◌∙◌, arith, length-append, length-drop}
+use Rattle.std.proofs.Common.{◌≡◌, inl, inr, ℕ, ◌+◌, ◌-◌, ◌<◌, ◌≤◌, List, [], ◌∷◌, ◌++◌, length, take, drop, get_or, map, refl, sym, ap, subst, ◌∙◌, arith, length-append}
 use Rattle.std.proofs.lemmas.Bool.{cases_lt}
 use Rattle.std.proofs.lemmas.Bool.Decides.{nat_tests}
-use Rattle.std.proofs.lemmas.List.{get_or-append_right, get_or-drop, get_or-map, get_or-take, get_or_append_left, get_or_past, length-map, length-take-le, take-append-drop}
-use Rattle.elf_objects.specs.Contents.{elf_of, no_section, no_symbol, relocs_at, section_at, symbol_at}
+use Rattle.std.proofs.lemmas.List.{get_or-append_right, get_or-map, get_or_append_left, get_or_past, length-map, length-take-le, take-append-drop}
+use Rattle.elf_objects.specs.Contents.{no_section, no_symbol, relocs_at, section_at, symbol_at}
 use Rattle.elf_objects.specs.Elf.{Elf, SectionEntry, SymbolEntry}
-use Rattle.elf_objects.specs.declared.TheConstants.{SHT_GROUP}
 use Rattle.elf_objects.specs.declared.symbol.Reloc.{Reloc}
 use Rattle.elf_objects.specs.Object.{IsObject}
-use Rattle.elf_objects.specs.Table.{symbol_count}
-use Rattle.elf_write.specs.Added.{CanAdd, object_with}
+use Rattle.elf_write.specs.Added.{CanAdd}
 use Rattle.elf_write.specs.Layout.{NewEntry}
 use Rattle.elf_write.specs.Object.{appended_to}
 use Rattle.elf_write.proofs.Result.{appended-is_object}
-use Rattle.elf_symbols.specs.Added.{IsAdded, NamesSame, new_number}
-use Rattle.elf_symbols.specs.Layout.{extended, locals, renumbered, symbols_inserted}
-use Rattle.elf_symbols.specs.Object.{CanInsert, extended_object, object_with_symbols, renumbered_reloc, section_with, symbol_for, symbols_with}
+use Rattle.elf_symbols.specs.Added.{IsAdded, NamesSame}
+use Rattle.elf_symbols.specs.Layout.{locals, renumbered, symbols_inserted}
+use Rattle.elf_symbols.specs.Object.{CanInsert, extended_object, object_with_symbols, renumbered_reloc, section_with, symbol_for}
 use Rattle.elf_symbols.specs.Room.{AreBytes}
-use Rattle.elf_symbols.proofs.Facts.{base, inserted-is_object, inserted-some, object-some, same_bytes}
+use Rattle.elf_symbols.proofs.Facts.{base, inserted-is_object, same_bytes}
 use Rattle.elf_symbols.proofs.Known.{locals_are}
 use Rattle.elf_symbols.proofs.WellFormed.{length-symbols}
 use Rattle.elf_symbols.proofs.Says.{as_group}
