@@ -1,0 +1,120 @@
+-- The edges of the points of an object.
+use Rattle.std.specs.Prelude.{ℕ, ◌&&◌, ◌||◌, not, Bool, true, false, List, [], ◌∷◌, ◌++◌, map, filter, flat_map, Option, if◌then◌else◌}
+use Rattle.std.specs.List.{list_any}
+use Rattle.ot_base.specs.declared.place.Place.{Place}
+use Rattle.operation_defs.specs.declared.insn.Insn.{Insn}
+use Rattle.operation_defs.specs.declared.op.Op.{Op}
+use Rattle.operation_defs.specs.declared.op.Op.TheVariants.{Jmp, Jcc, JmpInd, Ret, RetImm, Iret, Switch}
+use Rattle.elf_objects.specs.Elf.{Elf}
+use Rattle.program_defs.specs.declared.flow.Edge.{Edge}
+use Rattle.program_defs.specs.declared.flow.EdgeKind.{EdgeKind}
+use Rattle.program_defs.specs.declared.flow.EdgeKind.TheVariants.{Next, Taken, Fixup, Table}
+use Rattle.program_defs.specs.Program.{edge}
+use Rattle.symbols_relocs.specs.Places.{same_place}
+use Rattle.symbols_relocs.specs.declared.target.Target.{Target}
+use Rattle.symbols_relocs.specs.declared.target.Target.TheVariants.{Inside, Either}
+use Rattle.special_sections.specs.declared.entries.BranchEntry.{BranchEntry}
+use Rattle.special_sections.specs.declared.entries.FixEntry.{FixEntry}
+use Rattle.special_sections.specs.Special.{special_of}
+use Rattle.alternatives.specs.declared.point.Point.{Point}
+use Rattle.jump_tables.specs.Tables.{same_owner}
+use Rattle.flow_defs.specs.declared.aim.Aim.{Aim}
+use Rattle.flow_defs.specs.declared.aim.Aim.TheVariants.{At, Within, Behind}
+use Rattle.flow_defs.specs.declared.aim.Way.{Way}
+use Rattle.flow_defs.specs.declared.aim.Way.TheVariants.{Along}
+use Rattle.flow_defs.specs.Code.{numbers_of}
+use Rattle.flow_defs.specs.Owners.{owner_of_point, is_unchecked_point}
+use Rattle.flow_defs.specs.Sites.{is_into_site}
+use Rattle.flow_defs.specs.Arrival.{arrive, after, insn_of_object, is_dead_end, is_padding}
+use Rattle.flow_defs.specs.Targets.{aim}
+use Rattle.flow_defs.specs.Ways.{branch_way, listed_way}
+use Rattle.flow_defs.specs.Roles.{table_of_point}
+
+-- edges of a kind to points
+abbrev pub edges_to : EdgeKind → List ℕ → List Edge
+edges_to kind points = map (λ q. edge q kind) points
+
+-- The edges along a way to a place: one to each point where control may stand that comes there, and none where it would
+-- come into a site past its start.
+abbrev pub way_edges : Elf → Point → Place → Way → List Edge
+way_edges o point place (Along kind) = if is_into_site o point place then [] else edges_to kind (arrive o place)
+way_edges o point place _ = []
+
+-- where the static branches at a point lead, and the exception entries at it
+abbrev pub static_targets : Elf → Point → List Place
+static_targets o point =
+    if is_padding o point then []
+    else map (λ b. b.target) (filter (λ b. same_place b.code point.place) (special_of o).branches)
+
+abbrev pub fixups : Elf → Point → List Place
+fixups o point =
+    if is_padding o point then []
+    else map (λ f. f.fixup) (filter (λ f. same_place f.insn point.place) (special_of o).fixes)
+
+abbrev pub is_some_place : List Place → Bool
+is_some_place [] = false
+is_some_place (place ∷ places) = true
+
+-- operations behind which execution doesn't go on: unconditional and indirect jumps, returns, and ways out of the code
+abbrev pub ends_flow : Op → Bool
+ends_flow (Jmp rel wide) = true
+ends_flow (JmpInd table) = true
+ends_flow Ret = true
+ends_flow RetImm = true
+ends_flow Iret = true
+ends_flow Switch = true
+ends_flow _ = false
+
+-- Execution goes on behind the point: always behind the code of a static branch, which may be a jump or none, and else
+-- where the operation lets it and the point is no dead end.
+unfoldable pub goes_on : Elf → Point → Bool
+goes_on o point = is_some_place (static_targets o point) || (not (ends_flow (insn_of_object o point).op) && not (is_dead_end o point))
+
+abbrev pub next_edges : Elf → Point → List Edge
+next_edges o point = if goes_on o point then edges_to Next (after o point) else []
+
+-- the edges of a direct jump to a place
+abbrev pub jump_edges : Elf → Bool → Point → Place → List Edge
+jump_edges o crosses point place = way_edges o point place (branch_way o crosses Taken (owner_of_point o point) place)
+
+abbrev pub target_edges : Elf → Point → Target → List Edge
+target_edges o point (Inside place) = jump_edges o true point place
+target_edges o point (Either place sym) = jump_edges o true point place
+target_edges o point _ = []
+
+-- the edges of a direct jump by where it goes; inside a replacement it stays with its owner
+abbrev pub aim_edges : Elf → Point → Aim → List Edge
+aim_edges o point (At target) = target_edges o point target
+aim_edges o point (Within other) =
+    if same_owner (owner_of_point o point) (owner_of_point o other) then edges_to Taken (numbers_of o (other ∷ [])) else []
+aim_edges o point (Behind place) = jump_edges o false point place
+
+abbrev pub branch_edges_by : Elf → Point → Insn → Op → List Edge
+branch_edges_by o point insn (Jmp rel wide) = aim_edges o point (aim o point insn)
+branch_edges_by o point insn (Jcc rel wide) = aim_edges o point (aim o point insn)
+branch_edges_by o point insn _ = []
+
+abbrev pub branch_edges : Elf → Point → List Edge
+branch_edges o point = let insn = insn_of_object o point in branch_edges_by o point insn insn.op
+
+-- the edges of the static branches at a point, and of its exception entries
+abbrev pub listed_edges : Elf → EdgeKind → Point → List Place → List Edge
+listed_edges o kind point places = flat_map (λ place. way_edges o point place (listed_way o kind (owner_of_point o point) place)) places
+
+-- those of the jump table of an indirect jump, whose entries have the point's owner
+abbrev pub table_edges_by : Elf → Point → Op → List Edge
+table_edges_by o point (JmpInd table) = flat_map (λ place. way_edges o point place (Along Table)) (table_of_point o point)
+table_edges_by o point _ = []
+
+abbrev pub table_edges : Elf → Point → List Edge
+table_edges o point = table_edges_by o point (insn_of_object o point).op
+
+-- all edges of a point; one of an unchecked function has none
+unfoldable pub goes : Elf → Point → List Edge
+goes o point =
+    if is_unchecked_point o point then []
+    else next_edges o point
+        ++ (branch_edges o point
+        ++ (listed_edges o Taken point (static_targets o point)
+        ++ (listed_edges o Fixup point (fixups o point)
+        ++ table_edges o point)))

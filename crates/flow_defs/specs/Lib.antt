@@ -1,0 +1,13 @@
+pub mod Code
+pub mod Owners
+pub mod Sites
+pub mod Arrival
+pub mod Targets
+pub mod Ways
+pub mod Roles
+pub mod Edges
+pub mod Marks
+pub mod Hints
+pub mod Returning
+pub mod Program
+pub mod Faults

@@ -1,0 +1,60 @@
+-- Where direct calls and branches go, from the code of an object and from its replacements.
+use Rattle.std.specs.Prelude.{ℕ, ℤ, pos, ◌+ℤ◌, ◌+◌, ◌&&◌, not, Bool, Option, Some, None, is_none, is_some, option_map, if◌then◌else◌, ◌==◌}
+use Rattle.ot_base.specs.declared.place.Place.{Place}
+use Rattle.operation_defs.specs.declared.insn.Insn.{Insn}
+use Rattle.operation_defs.specs.declared.op.Op.{Op}
+use Rattle.operation_defs.specs.declared.op.Op.TheVariants.{Call, Jmp, Jcc}
+use Rattle.elf_objects.specs.Elf.{Elf}
+use Rattle.object_places.specs.Places.{offset_of, reloc_at}
+use Rattle.symbols_relocs.specs.declared.target.Target.TheVariants.{Bad}
+use Rattle.symbols_relocs.specs.Places.{same_place}
+use Rattle.symbols_relocs.specs.Targets.{branch_target, last_bytes}
+use Rattle.alternatives.specs.declared.point.Point.{Point}
+use Rattle.alternatives.specs.Points.{is_point}
+use Rattle.flow_defs.specs.declared.aim.Aim.{Aim}
+use Rattle.flow_defs.specs.declared.aim.Aim.TheVariants.{At, Within, Behind}
+use Rattle.flow_defs.specs.Code.{texts_of, alternatives_of, is_plain}
+use Rattle.flow_defs.specs.Arrival.{site_end, replacement_end}
+
+-- a displacement: how many bytes of the instruction's end it has, and its value
+pub record Displacement : Type 0 where
+  pub bytes : ℕ
+  pub value : ℤ
+
+abbrev pub jump_displacement : ℤ → Bool → Displacement
+jump_displacement rel wide = record { bytes = if wide then 4 else 1; value = rel }
+
+-- the displacement of a direct call or branch
+abbrev pub displacement_of : Op → Option Displacement
+displacement_of (Call rel) = Some (record { bytes = 4; value = rel })
+displacement_of (Jmp rel wide) = Some (jump_displacement rel wide)
+displacement_of (Jcc rel wide) = Some (jump_displacement rel wide)
+displacement_of _ = None
+
+-- no relocation stands on it
+abbrev pub lacks_reloc : Elf → Place → ℕ → Displacement → Bool
+lacks_reloc o place len d = is_none (reloc_at o (last_bytes place len d.bytes))
+
+-- the place so far from the instruction's end, where 64 bits hold its offset
+abbrev pub relative_place : Place → ℕ → Displacement → Option Place
+relative_place place len d = option_map (λ off. record { sec = place.sec; off = off }) (offset_of (pos (place.off + len) +ℤ d.value))
+
+-- Without a relocation a replacement's code can only mean itself, since it runs elsewhere than it stands: a point of
+-- the same replacement, or its end, which is its padding, or without padding the end of its site.
+abbrev pub own_aim : Elf → Point → Option Place → Aim
+own_aim o point None = At Bad
+own_aim o point (Some place) =
+    let other : Point = record { place = place; variant = point.variant } in
+    if is_point (texts_of o) (alternatives_of o) other then Within other
+    else if same_place place (replacement_end o point) then Behind (site_end o point)
+    else At Bad
+
+abbrev pub aim_by : Elf → Point → Insn → Option Displacement → Aim
+aim_by o point insn None = At Bad
+aim_by o point insn (Some d) =
+    if not (is_plain point) && lacks_reloc o point.place insn.len d then own_aim o point (relative_place point.place insn.len d)
+    else At (branch_target o point.place insn)
+
+-- where a direct call or branch at a point goes
+unfoldable pub aim : Elf → Point → Insn → Aim
+aim o point insn = aim_by o point insn (displacement_of insn.op)

@@ -1,0 +1,59 @@
+-- How control comes to the places that branches, static branches and exception entries lead to.
+use Rattle.std.specs.Prelude.{ℕ, ◌&&◌, not, Bool, true, false, Option, Some, None, if◌then◌else◌}
+use Rattle.ot_base.specs.declared.place.Place.{Place}
+use Rattle.elf_objects.specs.Elf.{Elf}
+use Rattle.program_defs.specs.declared.flow.EdgeKind.{EdgeKind}
+use Rattle.program_defs.specs.declared.flow.EdgeKind.TheVariants.{Sibling}
+use Rattle.symbols_relocs.specs.Parts.{owner_at}
+use Rattle.jump_tables.specs.Texts.{is_boundary}
+use Rattle.jump_tables.specs.Tables.{same_owner}
+use Rattle.flow_defs.specs.declared.aim.Way.{Way}
+use Rattle.flow_defs.specs.declared.aim.Way.TheVariants.{Bad, Outside, Along}
+use Rattle.flow_defs.specs.Code.{texts_of}
+use Rattle.flow_defs.specs.Owners.{is_unchecked, is_entry, unchecked_start}
+
+-- one of two owners is there, and it is checked: control may pass between a checked function and code of no function
+abbrev pub is_crossing : Elf → Option ℕ → Option ℕ → Bool
+is_crossing o (Some owner) None = not (is_unchecked o (Some owner))
+is_crossing o None (Some owner) = not (is_unchecked o (Some owner))
+is_crossing o None None = false
+is_crossing o (Some one) (Some other) = false
+
+-- The way from code of an owner to a boundary at which no unchecked function starts: along an edge of the kind to code of the
+-- same owner, and by a tail call to an entry of another; where crossing is allowed, along an edge of the kind also
+-- between a checked function and code of no function.
+abbrev pub checked_way : Elf → Bool → EdgeKind → Option ℕ → Place → Way
+checked_way o crosses kind from place =
+    if same_owner from (owner_at o place) then Along kind
+    else if is_entry o place then Along Sibling
+    else if crosses && is_crossing o from (owner_at o place) then Along kind
+    else Bad
+
+abbrev pub way_by : Elf → Bool → EdgeKind → Option ℕ → Place → Option ℕ → Way
+way_by o crosses kind from place (Some f) = Outside f
+way_by o crosses kind from place None = checked_way o crosses kind from place
+
+-- the way of a branch from code of an owner to a place; the start of an unchecked function is like code outside
+unfoldable pub branch_way : Elf → Bool → EdgeKind → Option ℕ → Place → Way
+branch_way o crosses kind from place =
+    if is_boundary (texts_of o) place then way_by o crosses kind from place (unchecked_start o place) else Bad
+
+-- a static branch or an exception entry doesn't go outside
+abbrev pub inside_only : Way → Way
+inside_only Bad = Bad
+inside_only (Outside f) = Bad
+inside_only (Along kind) = Along kind
+
+-- the way of a static branch or an exception entry
+abbrev pub listed_way : Elf → EdgeKind → Option ℕ → Place → Way
+listed_way o kind from place = inside_only (branch_way o true kind from place)
+
+abbrev pub is_bad : Way → Bool
+is_bad Bad = true
+is_bad (Outside f) = false
+is_bad (Along kind) = false
+
+abbrev pub is_along : Way → Bool
+is_along Bad = false
+is_along (Outside f) = false
+is_along (Along kind) = true
