@@ -133,7 +133,7 @@ calls_into_function o point = let insn = insn_of_object o point in is_inner_call
 abbrev pub marks_of : Elf → Point → Bool → Marks
 marks_of o point comes_back = record {
   bad = has_bad_target o point;
-  past_end = goes_on o point && (comes_back && is_at_end o point);
+  past_end = is_at_end o point && (goes_on o point && comes_back);
   into_site = has_target_in_site o point;
   into_function = calls_into_function o point;
 }

@@ -1,1 +1,6 @@
-pub mod Worked
+pub mod Objects
+pub mod Alternatives
+pub mod Listed
+pub mod Calls
+pub mod Returning
+pub mod Owners

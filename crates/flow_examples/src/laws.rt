@@ -1,7 +1,73 @@
+//! What the definitions say of each worked object.
+
 ghost use Rattle.ot_base.specs.NameLists.{NameLists};
-ghost use Rattle.flow_examples.specs.Worked.{HasWorkedAlternative};
+ghost use Rattle.flow_examples.specs.Alternatives.{HasPatchedCall, HasPatchedJumps, HasSaves};
+ghost use Rattle.flow_examples.specs.Calls.{HasCalls};
+ghost use Rattle.flow_examples.specs.Listed.{HasExceptionEntry, HasJumpTable, HasStaticBranch};
+ghost use Rattle.flow_examples.specs.Owners.{HasCodeWithoutOwner, HasDeadEnds, HasIrets, HasUnchecked};
+ghost use Rattle.flow_examples.specs.Returning.{HasLastCall, HasNeverReturning};
 
 /// A site over a call, whose replacement is shorter.
-pub fn worked_alternative()
-    ensures { (lists : NameLists) → HasWorkedAlternative lists }
+pub fn patched_call()
+    ensures { (lists : NameLists) → HasPatchedCall lists }
+{}
+
+/// A static branch into a cold part, which jumps back.
+pub fn static_branch()
+    ensures { (lists : NameLists) → HasStaticBranch lists }
+{}
+
+/// An exception entry.
+pub fn exception_entry()
+    ensures { (lists : NameLists) → HasExceptionEntry lists }
+{}
+
+/// A jump table, cut by the next one, whose address is of another owner.
+pub fn jump_table()
+    ensures { (lists : NameLists) → HasJumpTable lists }
+{}
+
+/// Calls and jumps by relocations.
+pub fn calls()
+    ensures { (lists : NameLists) → HasCalls lists }
+{}
+
+/// A call that can't return, and what calls it.
+pub fn never_returning()
+    ensures { (lists : NameLists) → HasNeverReturning lists }
+{}
+
+/// A call that can't return, at the end of a section.
+pub fn last_call()
+    ensures { (lists : NameLists) → HasLastCall lists }
+{}
+
+/// An unchecked function and its part.
+pub fn unchecked()
+    ensures { (lists : NameLists) → HasUnchecked lists }
+{}
+
+/// Code of no function, which a function branches into.
+pub fn code_without_owner()
+    ensures { (lists : NameLists) → HasCodeWithoutOwner lists }
+{}
+
+/// What execution never passes.
+pub fn dead_ends()
+    ensures { (lists : NameLists) → HasDeadEnds lists }
+{}
+
+/// An IRET that goes on behind itself, and one that doesn't.
+pub fn irets()
+    ensures { (lists : NameLists) → HasIrets lists }
+{}
+
+/// Jumps within replacements, to their ends and to padding.
+pub fn patched_jumps()
+    ensures { (lists : NameLists) → HasPatchedJumps lists }
+{}
+
+/// Two SAVEs at one address, and the RESTORE behind them.
+pub fn saves()
+    ensures { (lists : NameLists) → HasSaves lists }
 {}

@@ -1,6 +1,4 @@
-//! Worked objects: what the definitions say of them, computed and compared with edges, roles and marks by hand.
+//! Worked objects: what the definitions say of them, computed, is what is written down by hand.
 #![tactic(auto)]
 
-mod laws;
-
-pub use laws::worked_alternative;
+pub mod laws;
