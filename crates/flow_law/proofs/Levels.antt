@@ -19,7 +19,7 @@ or_true : (x y : Bool) → (x || y) ≡ true → (x ≡ true) ⊎ (y ≡ true)
 or_true true y e = inl refl
 or_true false y e = inr e
 
-and_true : (x y : Bool) → (x && y) ≡ true → (x ≡ true) × (y ≡ true)
+pub and_true : (x y : Bool) → (x && y) ≡ true → (x ≡ true) × (y ≡ true)
 and_true true y e = (refl, e)
 and_true false y e = absurd (false≢true e)
 

@@ -1,2 +1,5 @@
 pub mod Counting
 pub mod Levels
+pub mod Numbers
+pub mod Edges
+pub mod Fields
