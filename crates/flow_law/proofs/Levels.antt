@@ -23,7 +23,7 @@ pub and_true : (x y : Bool) → (x && y) ≡ true → (x ≡ true) × (y ≡ tru
 and_true true y e = (refl, e)
 and_true false y e = absurd (false≢true e)
 
-not_true : (x : Bool) → not x ≡ true → x ≡ false
+pub not_true : (x : Bool) → not x ≡ true → x ≡ false
 not_true true e = absurd (false≢true e)
 not_true false e = refl
 

@@ -3,3 +3,4 @@ pub mod Levels
 pub mod Numbers
 pub mod Edges
 pub mod Fields
+pub mod Owners
