@@ -4,3 +4,4 @@ pub mod Numbers
 pub mod Edges
 pub mod Fields
 pub mod Owners
+pub mod Checked

@@ -1,0 +1,129 @@
+-- Edges of checked points lead to checked points.
+use Rattle.std.proofs.Common.{◌≡◌, ℕ, ◌<◌, ◌⊎◌, Bool, true, false, not, ◌&&◌, cond, List, [], ◌∷◌, Option, Some, None, Contains, refl, sym, ap, ◌∙◌, subst, inl, inr}
+use Rattle.std.specs.Prelude.{option_and_then, take_while}
+use Rattle.std.proofs.lemmas.Bool.{false≢true}
+use Rattle.std.proofs.lemmas.List.Sums.{take_while-cons}
+use Rattle.ot_base.specs.declared.place.Place.{Place}
+use Rattle.ot_base.specs.NameLists.{NameLists}
+use Rattle.elf_objects.specs.Elf.{Elf}
+use Rattle.program_defs.specs.declared.flow.Edge.{Edge}
+use Rattle.program_defs.specs.declared.flow.EdgeKind.{EdgeKind}
+use Rattle.program_defs.specs.declared.flow.EdgeKind.TheVariants.{Next, Taken, Fixup, Table, Sibling}
+use Rattle.program_defs.specs.Program.{IsPoint}
+use Rattle.symbols_relocs.specs.Parts.{owner_at}
+use Rattle.alternatives.specs.declared.point.Point.{Point}
+use Rattle.alternatives.specs.declared.texts.SectionText.{SectionText}
+use Rattle.jump_tables.specs.Tables.{entries_by, entries_for, entries_of, jump_table, same_owner, table_of}
+use Rattle.jump_tables.specs.Texts.{is_boundary}
+use Rattle.unwinding_law.proofs.Lists.{cases, nowhere}
+use Rattle.flow_defs.specs.declared.aim.Way.{Way}
+use Rattle.flow_defs.specs.declared.aim.Way.TheVariants as ways
+use Rattle.flow_defs.specs.Code.{numbers_of, point_at, texts_of}
+use Rattle.flow_defs.specs.Owners.{is_entry, is_unchecked, is_unchecked_point, owner_of_point, unchecked_start}
+use Rattle.flow_defs.specs.Roles.{table_of_point}
+use Rattle.flow_defs.specs.Ways.{branch_way, checked_way, inside_only, is_crossing, listed_way, way_by}
+use Rattle.flow_defs.specs.Program.{graph_of, program_of, returning_graph}
+use Rattle.flow_law.proofs.Levels.{and_true, not_true}
+use Rattle.flow_law.proofs.Numbers.{numbers_are}
+use Rattle.flow_law.proofs.Edges.{Comes, ComesTo, edge_comes}
+use Rattle.flow_law.proofs.Owners.{arriving_owner, entry_is, owners_equal}
+
+-- how a way along an edge comes about
+pub data Leads (o : Elf) (crosses : Bool) (asked : EdgeKind) (from : Option ℕ) (place : Place) (kind : EdgeKind) : Type 0 where
+  own : same_owner from (owner_at o place) ≡ true → kind ≡ asked → Leads o crosses asked from place kind
+  entry : is_entry o place ≡ true → kind ≡ Sibling → Leads o crosses asked from place kind
+  crossing : is_crossing o from (owner_at o place) ≡ true → kind ≡ asked → Leads o crosses asked from place kind
+
+same_way : {a b : EdgeKind} → ◌≡◌ {A = Way} (ways.Along a) (ways.Along b) → a ≡ b
+same_way is = cc
+
+checked_leads : (o : Elf) (crosses : Bool) (asked : EdgeKind) (from : Option ℕ) (place : Place) (kind : EdgeKind) → checked_way o crosses asked from place ≡ ways.Along kind → Leads o crosses asked from place kind
+checked_leads o crosses asked from place kind is = by_owner (same_owner from (owner_at o place)) refl is
+  where
+    by_crossing : (b : Bool) → (crosses && is_crossing o from (owner_at o place)) ≡ b → cond b (ways.Along asked) ways.Bad ≡ ways.Along kind → Leads o crosses asked from place kind
+    by_crossing true e is = Leads.crossing (and_true crosses (is_crossing o from (owner_at o place)) e).1 (sym (same_way is))
+    by_crossing false e is = absurd (let k : ⊥ = cc in k)
+
+    by_entry : (b : Bool) → is_entry o place ≡ b → cond b (ways.Along Sibling) (cond (crosses && is_crossing o from (owner_at o place)) (ways.Along asked) ways.Bad) ≡ ways.Along kind → Leads o crosses asked from place kind
+    by_entry true e is = Leads.entry e (sym (same_way is))
+    by_entry false e is = by_crossing (crosses && is_crossing o from (owner_at o place)) refl is
+
+    by_owner : (b : Bool) → same_owner from (owner_at o place) ≡ b → cond b (ways.Along asked) (cond (is_entry o place) (ways.Along Sibling) (cond (crosses && is_crossing o from (owner_at o place)) (ways.Along asked) ways.Bad)) ≡ ways.Along kind → Leads o crosses asked from place kind
+    by_owner true e is = Leads.own e (sym (same_way is))
+    by_owner false e is = by_entry (is_entry o place) refl is
+
+-- a way along an edge leads to a boundary at which no unchecked function starts
+pub record Ways (o : Elf) (crosses : Bool) (asked : EdgeKind) (from : Option ℕ) (place : Place) (kind : EdgeKind) : Type 0 where
+  pub boundary : is_boundary (texts_of o) place ≡ true
+  pub leads : Leads o crosses asked from place kind
+
+pub way_leads : (o : Elf) (crosses : Bool) (asked : EdgeKind) (from : Option ℕ) (place : Place) (kind : EdgeKind) → branch_way o crosses asked from place ≡ ways.Along kind → Ways o crosses asked from place kind
+unfolding branch_way
+way_leads o crosses asked from place kind is = by_boundary (is_boundary (texts_of o) place) refl is
+  where
+    by_start : (start : Option ℕ) → way_by o crosses asked from place start ≡ ways.Along kind → Leads o crosses asked from place kind
+    by_start (Some f) is = absurd (let k : ⊥ = cc in k)
+    by_start None is = checked_leads o crosses asked from place kind is
+
+    by_boundary : (b : Bool) → is_boundary (texts_of o) place ≡ b → cond b (way_by o crosses asked from place (unchecked_start o place)) ways.Bad ≡ ways.Along kind → Ways o crosses asked from place kind
+    by_boundary true e is = record { boundary = e; leads = by_start (unchecked_start o place) is }
+    by_boundary false e is = absurd (let k : ⊥ = cc in k)
+
+pub listed_leads : (o : Elf) (asked : EdgeKind) (from : Option ℕ) (place : Place) (kind : EdgeKind) → listed_way o asked from place ≡ ways.Along kind → Ways o true asked from place kind
+listed_leads o asked from place kind is = way_leads o true asked from place kind (go (branch_way o true asked from place) is)
+  where
+    go : (w : Way) → inside_only w ≡ ways.Along kind → w ≡ ways.Along kind
+    go ways.Bad e = absurd (let k : ⊥ = cc in k)
+    go (ways.Outside f) e = absurd (let k : ⊥ = cc in k)
+    go (ways.Along other) e = e
+
+-- control that is led along an edge comes from checked code to checked code
+crossing_checked : (o : Elf) (from to : Option ℕ) → is_crossing o from to ≡ true → is_unchecked o to ≡ false
+crossing_checked o None None e = absurd (false≢true e)
+crossing_checked o None (Some owner) e = not_true (is_unchecked o (Some owner)) e
+crossing_checked o (Some owner) None e = refl
+crossing_checked o (Some a) (Some b) e = absurd (false≢true e)
+
+place_checked : (o : Elf) (crosses : Bool) (asked : EdgeKind) (from : Option ℕ) (place : Place) (kind : EdgeKind) → is_unchecked o from ≡ false → Leads o crosses asked from place kind → is_unchecked o (owner_at o place) ≡ false
+place_checked o crosses asked from place kind checked (Leads.own same is) = ap (is_unchecked o) (sym (owners_equal from (owner_at o place) same)) ∙ checked
+place_checked o crosses asked from place kind checked (Leads.entry e is) = (entry_is o place e).checked
+place_checked o crosses asked from place kind checked (Leads.crossing e is) = crossing_checked o from (owner_at o place) e
+
+-- the entries of a jump table have the owner that is asked for
+taken_pass : {X : Type 0} (p : X → Bool) (xs : List X) (x : X) → Contains (take_while p xs) x → p x ≡ true
+taken_pass p [] x c = nowhere x c
+taken_pass p (y ∷ xs) x c = go (p y) refl (subst (λ zs. Contains zs x) (take_while-cons p y xs) c) (λ d. taken_pass p xs x d)
+  where
+    go : (b : Bool) → p y ≡ b → Contains (cond b (y ∷ take_while p xs) []) x → (Contains (take_while p xs) x → p x ≡ true) → p x ≡ true
+    go true e c rest = elim (cases y (take_while p xs) x c) [
+      | inl same ↦ subst (λ z. p z ≡ true) same e
+      | inr d ↦ rest d
+    ]
+    go false e c rest = nowhere x c
+
+pub table_owner : (o : Elf) (point : Point) (place : Place) → Contains (table_of_point o point) place → owner_at o place ≡ owner_of_point o point
+unfolding table_of_point
+table_owner o point place c = go (jump_table o (texts_of o) point.place) c
+  where
+    go : (table : Option Place) → Contains (entries_by o (texts_of o) (owner_of_point o point) table) place → owner_at o place ≡ owner_of_point o point
+    go None c = nowhere place c
+    go (Some table) c = owners_equal (owner_at o place) (owner_of_point o point) (taken_pass (λ p. same_owner (owner_at o p) (owner_of_point o point)) (entries_of o (texts_of o) table) place c)
+
+comes_checked : (o : Elf) (point : Point) (e : Edge) → is_unchecked_point o point ≡ false → (e.kind ≡ Next → owner_of_point o (point_at o e.to) ≡ owner_of_point o point) → Comes o point e → is_unchecked_point o (point_at o e.to) ≡ false
+comes_checked o point e checked stays (Comes.next on c kind) = ap (is_unchecked o) (stays kind) ∙ checked
+comes_checked o point e checked stays (Comes.branch crosses place kind way to) =
+    ap (is_unchecked o) (arriving_owner o place e.to to.arrives)
+    ∙ place_checked o crosses Taken (owner_of_point o point) place kind checked (way_leads o crosses Taken (owner_of_point o point) place kind way).leads
+comes_checked o point e checked stays (Comes.within other same c kind) =
+    let is : ◌≡◌ {A = Point} other (point_at o e.to) = elim (cases other [] (point_at o e.to) (numbers_are o (other ∷ []) e.to c).1) [ inl q ↦ q | inr d ↦ nowhere (point_at o e.to) d ] in
+    ap (λ (p : Point). is_unchecked_point o p) (sym is) ∙ ap (is_unchecked o) (sym (owners_equal (owner_of_point o point) (owner_of_point o other) same)) ∙ checked
+comes_checked o point e checked stays (Comes.listed asked place kind way to) =
+    ap (is_unchecked o) (arriving_owner o place e.to to.arrives)
+    ∙ place_checked o true asked (owner_of_point o point) place kind checked (listed_leads o asked (owner_of_point o point) place kind way).leads
+comes_checked o point e checked stays (Comes.table place c to) =
+    ap (is_unchecked o) (arriving_owner o place e.to to.arrives ∙ table_owner o point place c) ∙ checked
+
+-- so it is in the program
+pub checked : (o : Elf) (lists : NameLists) (q : ℕ) (e : Edge) → IsPoint (program_of o lists) q → (program_of o lists).unchecked q ≡ false → Contains ((program_of o lists).goes q) e → (e.kind ≡ Next → (program_of o lists).owner e.to ≡ (program_of o lists).owner q) → (program_of o lists).unchecked e.to ≡ false
+unfolding program_of returning_graph graph_of
+checked o lists q e here is c stays = let from = edge_comes o (point_at o q) e c in comes_checked o (point_at o q) e from.0 stays from.1
