@@ -5,3 +5,4 @@ pub mod Edges
 pub mod Fields
 pub mod Owners
 pub mod Checked
+pub mod Calls
