@@ -117,7 +117,7 @@ comes_checked o point e checked stays (Comes.branch crosses place kind way to) =
 comes_checked o point e checked stays (Comes.within other same c kind) =
     let is : ◌≡◌ {A = Point} other (point_at o e.to) = elim (cases other [] (point_at o e.to) (numbers_are o (other ∷ []) e.to c).1) [ inl q ↦ q | inr d ↦ nowhere (point_at o e.to) d ] in
     ap (λ (p : Point). is_unchecked_point o p) (sym is) ∙ ap (is_unchecked o) (sym (owners_equal (owner_of_point o point) (owner_of_point o other) same)) ∙ checked
-comes_checked o point e checked stays (Comes.listed asked place kind way to) =
+comes_checked o point e checked stays (Comes.listed asked other place kind way to) =
     ap (is_unchecked o) (arriving_owner o place e.to to.arrives)
     ∙ place_checked o true asked (owner_of_point o point) place kind checked (listed_leads o asked (owner_of_point o point) place kind way).leads
 comes_checked o point e checked stays (Comes.table place c to) =

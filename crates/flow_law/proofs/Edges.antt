@@ -1,6 +1,6 @@
 -- Where the edges of the points of an object lead.
 use Rattle.std.proofs.Common.{◌≡◌, ℕ, ◌<◌, ◌⊎◌, Bool, true, false, cond, List, [], ◌∷◌, ◌++◌, Option, Some, None, length, map, Contains, refl, sym, ap, ◌∙◌, arith, subst, inl, inr}
-use Rattle.std.specs.Prelude.{flat_map}
+use Rattle.std.specs.Prelude.{◌≢◌, flat_map}
 use Rattle.std.proofs.lemmas.List.Elements.{Contains-append_cases}
 use Rattle.ot_base.specs.declared.place.Place.{Place}
 use Rattle.operation_defs.specs.declared.insn.Insn.{Insn}
@@ -9,7 +9,7 @@ use Rattle.operation_defs.specs.declared.op.Op.TheVariants as ops
 use Rattle.elf_objects.specs.Elf.{Elf}
 use Rattle.program_defs.specs.declared.flow.Edge.{Edge}
 use Rattle.program_defs.specs.declared.flow.EdgeKind.{EdgeKind}
-use Rattle.program_defs.specs.declared.flow.EdgeKind.TheVariants.{Next, Taken, Fixup, Table}
+use Rattle.program_defs.specs.declared.flow.EdgeKind.TheVariants.{Next, Taken, Fixup, Table, Sibling}
 use Rattle.symbols_relocs.specs.declared.target.Target.{Target}
 use Rattle.symbols_relocs.specs.declared.target.Target.TheVariants as targets
 use Rattle.alternatives.specs.declared.point.Point.{Point}
@@ -41,7 +41,7 @@ pub data Comes (o : Elf) (point : Point) (e : Edge) : Type 0 where
   next : goes_on o point ≡ true → Contains (after o point) e.to → e.kind ≡ Next → Comes o point e
   branch : (crosses : Bool) (place : Place) (kind : EdgeKind) → branch_way o crosses Taken (owner_of_point o point) place ≡ ways.Along kind → ComesTo o point e place kind → Comes o point e
   within : (other : Point) → same_owner (owner_of_point o point) (owner_of_point o other) ≡ true → Contains (numbers_of o (other ∷ [])) e.to → e.kind ≡ Taken → Comes o point e
-  listed : (of_kind : EdgeKind) (place : Place) (kind : EdgeKind) → listed_way o of_kind (owner_of_point o point) place ≡ ways.Along kind → ComesTo o point e place kind → Comes o point e
+  listed : (of_kind : EdgeKind) → of_kind ≢ Sibling → (place : Place) (kind : EdgeKind) → listed_way o of_kind (owner_of_point o point) place ≡ ways.Along kind → ComesTo o point e place kind → Comes o point e
   table : (place : Place) → Contains (table_of_point o point) place → ComesTo o point e place Table → Comes o point e
 
 way_comes : (o : Elf) (point : Point) (place : Place) (way : Way) (e : Edge) → Contains (way_edges o point place way) e → (kind : EdgeKind) × (way ≡ ways.Along kind) × ComesTo o point e place kind
@@ -108,11 +108,11 @@ branch_comes o point insn ops.Int3 e c = nowhere e c
 branch_comes o point insn ops.Stac e c = nowhere e c
 branch_comes o point insn ops.Clac e c = nowhere e c
 
-listed_comes : (o : Elf) (kind : EdgeKind) (point : Point) (places : List Place) (e : Edge) → Contains (listed_edges o kind point places) e → Comes o point e
-listed_comes o kind point places e c =
+listed_comes : (o : Elf) (kind : EdgeKind) → kind ≢ Sibling → (point : Point) (places : List Place) (e : Edge) → Contains (listed_edges o kind point places) e → Comes o point e
+listed_comes o kind other point places e c =
     let one = from_flat_map (λ place. way_edges o point place (listed_way o kind (owner_of_point o point) place)) places e c in
     let w = way_comes o point one.0 (listed_way o kind (owner_of_point o point) one.0) e one.2 in
-    Comes.listed kind one.0 w.0 w.1 w.2
+    Comes.listed kind other one.0 w.0 w.1 w.2
 
 table_comes : (o : Elf) (point : Point) (op : Op) (e : Edge) → Contains (table_edges_by o point op) e → Comes o point e
 table_comes o point (ops.JmpInd field) e c =
@@ -170,9 +170,9 @@ part_comes o point e c = elim (Contains-append_cases (next_edges o point) _ e c)
   | inr c2 ↦ elim (Contains-append_cases (branch_edges o point) _ e c2) [
     | inl d ↦ branch_comes o point (insn_of_object o point) (insn_of_object o point).op e d
     | inr c3 ↦ elim (Contains-append_cases (listed_edges o Taken point (static_targets o point)) _ e c3) [
-      | inl d ↦ listed_comes o Taken point (static_targets o point) e d
+      | inl d ↦ listed_comes o Taken (λ is. let k : ⊥ = cc in k) point (static_targets o point) e d
       | inr c4 ↦ elim (Contains-append_cases (listed_edges o Fixup point (fixups o point)) _ e c4) [
-        | inl d ↦ listed_comes o Fixup point (fixups o point) e d
+        | inl d ↦ listed_comes o Fixup (λ is. let k : ⊥ = cc in k) point (fixups o point) e d
         | inr d ↦ table_comes o point (insn_of_object o point).op e d
       ]
     ]
@@ -205,7 +205,7 @@ comes_inside : (o : Elf) (point : Point) (e : Edge) → Comes o point e → e.to
 comes_inside o point e (Comes.next on c kind) = after_points o point e.to c
 comes_inside o point e (Comes.branch crosses place kind way to) = (arrive_points o place e.to to.arrives).0
 comes_inside o point e (Comes.within other same c kind) = (numbers_are o (other ∷ []) e.to c).0
-comes_inside o point e (Comes.listed of_kind place kind way to) = (arrive_points o place e.to to.arrives).0
+comes_inside o point e (Comes.listed of_kind other place kind way to) = (arrive_points o place e.to to.arrives).0
 comes_inside o point e (Comes.table place c to) = (arrive_points o place e.to to.arrives).0
 
 pub edges_inside : (o : Elf) (point : Point) (e : Edge) → Contains (goes o point) e → e.to < point_count o

@@ -6,3 +6,4 @@ pub mod Fields
 pub mod Owners
 pub mod Checked
 pub mod Calls
+pub mod Entries
