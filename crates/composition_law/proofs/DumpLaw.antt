@@ -1,6 +1,5 @@
 -- What is dumped of bytes that unwind an object.
 use Rattle.std.proofs.Common.{◌≡◌, ℕ, List, refl, sym, ap, ◌∙◌, subst, inl, inr}
-use Rattle.std.specs.Prelude.{◌⊎◌}
 use Rattle.ot_base.specs.declared.row.PlacedRow.{PlacedRow}
 use Rattle.elf_objects.specs.Elf.{Elf}
 use Rattle.elf_objects.specs.Object.{IsObject}
@@ -8,14 +7,12 @@ use Rattle.elf_objects.proofs.FirstFault.{FirstFault-not}
 use Rattle.orc_bytes.specs.Sections.{HoldsOrc}
 use Rattle.orc_bytes.proofs.Excluded.{fault_excludes}
 use Rattle.orc_output.specs.OrcOutput.{with_orc_object}
-use Rattle.command_base.specs.declared.status.Status.{Status}
 use Rattle.command_base.specs.declared.status.Status.TheVariants as status
 use Rattle.command_base.specs.declared.stop.Stop.{Stop}
 use Rattle.command_base.specs.declared.stop.Stop.TheVariants as stop
-use Rattle.command_base.specs.Outside.{Output}
 use Rattle.command_base.specs.Printing.{Concludes, Prints}
 use Rattle.objtool_cli.specs.Unwinding.{UnwindsBy}
-use Rattle.read_back.specs.Dump.{Dumps, HoldsNoRows, HoldsRows, malformed, no_memory, no_rows, printed, rows_text, stopped}
+use Rattle.read_back.specs.Dump.{HoldsNoRows, HoldsRows, malformed, no_memory, no_rows, printed, rows_text, stopped}
 use Rattle.composition_law.specs.Laws.{DumpTellsTheRows}
 
 -- bytes are one object
@@ -28,7 +25,7 @@ rows_are o written unwinds p rows held =
     let same : p ≡ with_orc_object o unwinds.rows = one_object written p (with_orc_object o unwinds.rows) held.object unwinds.reads_back in
     (same, unwinds.only rows (subst (λ (x : Elf). HoldsOrc x rows) same held.held))
 
-text_is : (o p : Elf) (rows others : List PlacedRow) → o ≡ p → rows ≡ others → rows_text o rows ≡ rows_text p others
+pub text_is : (o p : Elf) (rows others : List PlacedRow) → o ≡ p → rows ≡ others → rows_text o rows ≡ rows_text p others
 text_is o p rows others e f = ap (λ (x : Elf). rows_text x rows) e ∙ ap (rows_text p) f
 
 nothing_else : (o : Elf) (written : List ℕ) (unwinds : UnwindsBy o written) (why : Stop) → HoldsNoRows written why → why ≡ stop.NoMemory

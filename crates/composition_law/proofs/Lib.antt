@@ -1,2 +1,5 @@
 pub mod DumpLaw
+pub mod MoreMemory
+pub mod Placed
 pub mod UnwindLaw
+pub mod DoneLaw

@@ -1,5 +1,8 @@
 -- How the commands fit together.
-use Rattle.std.specs.Prelude.{◌≡◌, ◌⊎◌, ℕ, List, map}
+use Rattle.std.specs.Prelude.{◌≡◌, ◌⊎◌, ℕ, ◌≤◌, List, length, Some, map}
+use Rattle.std.specs.FinMap.{get}
+use Rattle.ot_files.specs.Causes.{Rose}
+use Rattle.ot_files.specs.Content.{Content}
 use Rattle.ot_files.specs.Output.{appending}
 use Rattle.state_defs.specs.Region as region
 use Rattle.program_defs.specs.Program.{Program}
@@ -11,18 +14,24 @@ use Rattle.table_defs.specs.Placed.{BeginAt}
 use Rattle.table_defs.specs.Walks.{StopsAs, registers_of, walk_frame}
 use Rattle.orc_unwind.specs.Memory.{word_at}
 use Rattle.stack_image.specs.ImageFile.{StackImage, IsImage}
+use Rattle.elf_objects.specs.declared.TheConstants.{MAX_FILE_BYTES}
 use Rattle.elf_objects.specs.Elf.{Elf}
 use Rattle.orc_output.specs.OrcOutput.{with_orc_object}
+use Rattle.command_base.specs.declared.reading.TheConstants.{MAX_IMAGE_BYTES}
 use Rattle.command_base.specs.declared.status.Status.{Status}
 use Rattle.command_base.specs.declared.status.Status.TheVariants as status
 use Rattle.command_base.specs.declared.stop.Stop.TheVariants as stop
 use Rattle.command_base.specs.TextSections.{texts_of}
-use Rattle.command_base.specs.Outside.{Output}
+use Rattle.command_base.specs.Outside.{Outside, Output}
 use Rattle.command_base.specs.Printing.{Concludes, Prints}
+use Rattle.objtool_cli.specs.Command.{Ends}
 use Rattle.objtool_cli.specs.Unwinding.{UnwindsBy}
+use Rattle.objtool_cli.specs.Words.{dump, unwind}
 use Rattle.read_back.specs.Dump.{Dumps, rows_text}
-use Rattle.read_back.specs.Unwind.{Unwinds, ranges_of}
+use Rattle.read_back.specs.Unwind.{IsPlaced, Unwinds, ranges_of}
 use Rattle.read_back.specs.WalkText.{walk_text}
+
+-- ---- over bytes
 
 -- Bytes that unwind an object by some rows are dumped as the lines of exactly these rows, or memory runs out.
 abbrev pub DumpTellsTheRows : Type 0
@@ -31,24 +40,81 @@ DumpTellsTheRows =
     → Dumps written out out' answer
     → Prints status.Done (rows_text (with_orc_object o unwinds.rows) unwinds.rows) out out' answer ⊎ Concludes stop.NoMemory out out' answer
 
--- An image of a state of the machine: its registers are those of the state, each word of the state's stack stands in its
--- memory, and no other does; and it places the text sections of the object, by the numbers and sizes that they have in the
--- object with its tables, where the machine has them.
+-- An image holds a state of the machine: its registers are those of the state, each word of the state's stack stands in its
+-- memory, and it places the text sections of the object, by the numbers and sizes that they have in the object with its
+-- tables, where the machine has them.
 pub record IsImageOf (o with_tables : Elf) (p : Program) (bases : Bases) (state : Standing) (image : StackImage) : Type 0 where
   pub regs : image.regs ≡ registers_of p bases state
-  pub memory : (address : ℕ) → word_at image.memory address ≡ region.word_at state.core.region address
+  pub memory : (address word : ℕ) → region.word_at state.core.region address ≡ Some word → word_at image.memory address ≡ Some word
   pub placement : IsPlacement (texts_of o) (ranges_of with_tables image.places)
   pub begin : BeginAt bases (ranges_of with_tables image.places)
 
--- Where bytes unwind an object, and a text is an image of a state of some run of the object's program, `unwind` of these
--- bytes and this text, where it is done, prints exactly the frames of that state's shadow call stack, innermost first,
--- and the stop that belongs to how they end.
+-- A text is an image that holds a state of some run of the program of an object, which bytes unwind.
+pub record TellsState (o : Elf) (written text : List ℕ) (unwinds : UnwindsBy o written) (state : Standing) : Type 0 where
+  pub image : StackImage
+  pub is_image : IsImage text image
+  pub bases : Bases
+  pub run : Run unwinds.program bases (At state)
+  pub holds : IsImageOf o (with_orc_object o unwinds.rows) unwinds.program bases state image
+
+-- Such bytes and such a text give a walk: the text is an image, the bytes are an object that holds these rows, each place
+-- of the image names a text section of it, and the rows can be placed there. So `unwind` of them isn't refused.
+abbrev pub StatesAreUnwound : Type 0
+StatesAreUnwound =
+    (o : Elf) (written text : List ℕ) (unwinds : UnwindsBy o written) (state : Standing) (told : TellsState o written text unwinds state)
+    → IsPlaced written text told.image (with_orc_object o unwinds.rows) unwinds.rows
+
+-- the text of the frames of a state's shadow call stack, innermost first, and of a stop
+abbrev pub frames_text : Standing → walk.Stop → List ℕ
+frames_text state stop = walk_text (map walk_frame (frames state)) stop
+
+-- Of such bytes and such a text `unwind` prints exactly the frames of that state's shadow call stack and the stop that
+-- belongs to how they end, or memory runs out.
 abbrev pub UnwindTellsTheFrames : Type 0
 UnwindTellsTheFrames =
-    (o : Elf) (written text : List ℕ) (unwinds : UnwindsBy o written) (bases : Bases) (state : Standing) (image : StackImage)
-    → IsImage text image
-    → IsImageOf o (with_orc_object o unwinds.rows) unwinds.program bases state image
-    → Run unwinds.program bases (At state)
-    → (out out' : Output)
-    → Unwinds written text out out' status.Done
-    → (stop : walk.Stop) × StopsAs (frames_end state) stop × (out'.written ≡ appending out.written (walk_text (map walk_frame (frames state)) stop))
+    (o : Elf) (written text : List ℕ) (unwinds : UnwindsBy o written) (state : Standing)
+    → TellsState o written text unwinds state
+    → (out out' : Output) (answer : Status)
+    → Unwinds written text out out' answer
+    → ((stop : walk.Stop) × StopsAs (frames_end state) stop × Prints status.Done (frames_text state stop) out out' answer) ⊎ Concludes stop.NoMemory out out' answer
+
+-- ---- over files
+
+-- a name holds these bytes, which are at most so many
+pub record Holds (content : Content) (limit : ℕ) (name bytes : List ℕ) : Type 0 where
+  pub there : get content name ≡ Some bytes
+  pub short : length bytes ≤ limit
+
+-- no file and no output failed
+pub record NothingFails (before after : Outside) (out out' : Output) : Type 0 where
+  pub files : Rose before.faults after.faults → ⊥
+  pub output : Rose out.faults out'.faults → ⊥
+
+-- Where FILE holds bytes that unwind an object by some rows, and nothing fails, `dump FILE` ends with status 0 and has
+-- printed the lines of exactly these rows, or memory ran out.
+abbrev pub DumpIsDone : Type 0
+DumpIsDone =
+    (o : Elf) (written : List ℕ) (unwinds : UnwindsBy o written)
+    → (content : Content) (file : List ℕ)
+    → Holds content MAX_FILE_BYTES file written
+    → (before after : Outside) (out out' : Output) (answer : Status)
+    → before.content ≡ Some content
+    → Ends (Some (dump file)) before after out out' answer
+    → NothingFails before after out out'
+    → ((answer ≡ status.Done) × (out'.written ≡ appending out.written (rows_text (with_orc_object o unwinds.rows) unwinds.rows))) ⊎ (answer ≡ status.NoMemory)
+
+-- Where FILE holds bytes that unwind an object, IMAGE an image that holds a state of some run of its program, and nothing
+-- fails, `unwind FILE IMAGE` ends with status 0 and has printed exactly the frames of that state's shadow call stack and
+-- the stop that belongs to how they end, or memory ran out.
+abbrev pub UnwindIsDone : Type 0
+UnwindIsDone =
+    (o : Elf) (written text : List ℕ) (unwinds : UnwindsBy o written) (state : Standing)
+    → TellsState o written text unwinds state
+    → (content : Content) (file image : List ℕ)
+    → Holds content MAX_FILE_BYTES file written
+    → Holds content MAX_IMAGE_BYTES image text
+    → (before after : Outside) (out out' : Output) (answer : Status)
+    → before.content ≡ Some content
+    → Ends (Some (unwind file image)) before after out out' answer
+    → NothingFails before after out out'
+    → ((answer ≡ status.Done) × ((stop : walk.Stop) × StopsAs (frames_end state) stop × (out'.written ≡ appending out.written (frames_text state stop)))) ⊎ (answer ≡ status.NoMemory)

@@ -1,7 +1,7 @@
 //! `check`, `dump` and `unwind` fit together: what one writes the others read back.
 #![tactic(auto)]
 
-ghost use Rattle.composition_law.specs.Laws.{DumpTellsTheRows, UnwindTellsTheFrames};
+ghost use Rattle.composition_law.specs.Laws.{DumpIsDone, DumpTellsTheRows, StatesAreUnwound, UnwindIsDone, UnwindTellsTheFrames};
 
 use stack_image::memory_is_said;
 use walk_defs::walk_is_determined;
@@ -12,10 +12,32 @@ pub fn dump_tells_the_rows()
     ensures { DumpTellsTheRows }
 {}
 
-/// Where they do, and an image holds a state of some run of the machine on the object's program, `unwind` of
-/// these bytes and this image, where it is done, prints exactly the frames of that state's shadow call stack.
+/// So, where a file that holds these bytes and the output don't fail, `dump` of it ends with status 0 and
+/// has printed these lines, or memory ran out.
+pub fn dump_is_done()
+    ensures { DumpIsDone }
+{}
+
+/// Where the bytes of OUT unwind the object that IN held, and an image holds a state of some run of the
+/// machine on the object's program, with the text sections placed where the machine has them, `unwind` of
+/// these bytes and this image isn't refused.
+pub fn states_are_unwound()
+    ensures { StatesAreUnwound }
+{}
+
+/// And it prints exactly the frames of that state's shadow call stack, innermost first, and the stop that
+/// belongs to how they end, or memory runs out.
 pub fn unwind_tells_the_frames()
     ensures { UnwindTellsTheFrames }
+{
+    walk_is_determined();
+    memory_is_said();
+}
+
+/// So, where files that hold these bytes and this image and the output don't fail, `unwind` of them ends
+/// with status 0 and has printed these frames and this stop, or memory ran out.
+pub fn unwind_is_done()
+    ensures { UnwindIsDone }
 {
     walk_is_determined();
     memory_is_said();

@@ -107,7 +107,7 @@ same_places text one other h k = h.says.places ∙ sym k.says.places
 same_rows : (o p : Elf) (rows others : List PlacedRow) → o ≡ p → HoldsOrc o rows → HoldsOrc p others → rows ≡ others
 same_rows o p rows others e h k = one_list_fits p rows others (subst (λ (x : Elf). HoldsOrc x rows) e h) k
 
-walk_excluded : (bytes text : List ℕ) (image : StackImage) (o : Elf) (rows : List PlacedRow) (s : Stop) → IsPlaced bytes text image o rows → HasNoWalk bytes text s → s ≡ stop.NoMemory
+pub walk_excluded : (bytes text : List ℕ) (image : StackImage) (o : Elf) (rows : List PlacedRow) (s : Stop) → IsPlaced bytes text image o rows → HasNoWalk bytes text s → s ≡ stop.NoMemory
 walk_excluded bytes text image o rows s placed (no_image h) = absurd (image_excluded text image _ _ placed.is_image h)
 walk_excluded bytes text image o rows s placed (no_rows other is h) = no_rows_excluded bytes o rows s placed.held h
 walk_excluded bytes text image o rows s placed (foreign other p others is held f) =
