@@ -4,6 +4,7 @@ ghost use Rattle.std.specs.Prelude.{IfOk, IsTrue};
 ghost use Rattle.ot_files.specs.Memory.{names_of, names_differ};
 
 mod dumping;
+mod hostile;
 mod object;
 mod tables;
 mod unwinding;

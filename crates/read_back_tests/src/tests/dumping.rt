@@ -4,8 +4,6 @@ use super::object::{SIZE, changed, without_tables};
 use super::tables::{INTERRUPT_CODE, INTERRUPT_ROWS, with_rows};
 use super::{Command, NEVER, expect};
 use objtool_cli::Status;
-use std::alloc::{AllocError, Global};
-use std::process::Abort;
 use std::test::Fail;
 
 /// The rows of the object.
@@ -18,7 +16,7 @@ const LINES: &[u8] = b"\
 ";
 
 /// `dump` of these bytes, where nothing fails.
-fn dump(object: &[u8]) -> Command<'_> {
+pub(super) fn dump(object: &[u8]) -> Command<'_> {
     Command {
         words: &["dump", "OBJECT"],
         object,
@@ -81,37 +79,6 @@ fn no_table_and_no_file(rt: HostRuntime) -> Result<(), Fail> {
     };
     let line = b"refused: OTHER is missing\n";
     expect(&rt, alloc, missing, Status::Refused, line)?;
-    Ok(())
-}
-
-/// The object with one other byte is refused by this line.
-fn expect_bad(
-    rt: &impl Abort,
-    alloc: Global,
-    at: usize,
-    byte: u8,
-    line: &[u8],
-) -> Result<(), AllocError> {
-    let object = changed(alloc, SIZE, &[(at, &[byte])])?;
-    expect(rt, alloc, dump(&object), Status::Refused, line)
-}
-
-#[test]
-fn a_table_with_a_changed_byte_is_refused(rt: HostRuntime) -> Result<(), Fail> {
-    let table: [(usize, u8, &[u8]); 6] = [
-        // Bit 12 of the third field of row 0.
-        (589, 0x12, b"refused: row 0: bad bits\n"),
-        // The place of row 0 isn't zero.
-        (616, 1, b"refused: row 0: bad slot: NotZero\n"),
-        // Offset, type, symbol and addend of its relocation.
-        (640, 1, b"refused: row 0: bad slot: Offset\n"),
-        (648, 4, b"refused: row 0: bad slot: Kind\n"),
-        (652, 2, b"refused: row 0: bad slot: Symbol\n"),
-        (656, 7, b"refused: row 0: bad slot: Range\n"),
-    ];
-    for (at, byte, line) in table {
-        expect_bad(&rt, rt.alloc(), at, byte, line)?;
-    }
     Ok(())
 }
 
