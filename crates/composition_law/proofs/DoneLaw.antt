@@ -30,7 +30,7 @@ use Rattle.read_back.specs.Dump.{HoldsRows, IsAnswered, IsDumped, rows_text}
 use Rattle.read_back.specs.Unwind.{IsUnwound, ranges_of}
 use Rattle.read_back.specs.WalkText.{walk_text}
 use Rattle.read_back.proofs.DumpLaws.{same_read, told_read}
-use Rattle.composition_law.specs.Laws.{DumpIsDone, Holds, NothingFails, UnwindIsDone, frames_text}
+use Rattle.composition_law.specs.Laws.{DumpIsDone, Holds, NothingFails, UnwindIsDone, shadow_text}
 use Rattle.composition_law.proofs.DumpLaw.{rows_are, text_is}
 use Rattle.composition_law.proofs.UnwindLaw.{placed_law, walk_is}
 
@@ -70,7 +70,7 @@ unwind_law determined said o written text unwinds state tells content file image
     (read_as content MAX_FILE_BYTES file written holds) (read_as content MAX_IMAGE_BYTES image text holds_text) (placed_law o written text unwinds state tells))
     (λ done. (done, printed (walk_printed (Some (unwind file image)) before after out out' answer file image ends done refl)))
   where
-    printed : IsUnwound file image before.content out.written out'.written → (stop : walk.Stop) × StopsAs (frames_end state) stop × (out'.written ≡ appending out.written (frames_text state stop))
+    printed : IsUnwound file image before.content out.written out'.written → (stop : walk.Stop) × StopsAs (frames_end state) stop × (out'.written ≡ appending out.written (shadow_text state stop))
     printed d =
         let bytes = was_read content MAX_FILE_BYTES file written d.bytes before.content told holds d.may in
         let words = was_read content MAX_IMAGE_BYTES image text d.text before.content told holds_text d.may_text in

@@ -65,8 +65,8 @@ StatesAreUnwound =
     → IsPlaced written text told.image (with_orc_object o unwinds.rows) unwinds.rows
 
 -- the text of the frames of a state's shadow call stack, innermost first, and of a stop
-abbrev pub frames_text : Standing → walk.Stop → List ℕ
-frames_text state stop = walk_text (map walk_frame (frames state)) stop
+abbrev pub shadow_text : Standing → walk.Stop → List ℕ
+shadow_text state stop = walk_text (map walk_frame (frames state)) stop
 
 -- Of such bytes and such a text `unwind` prints exactly the frames of that state's shadow call stack and the stop that
 -- belongs to how they end, or memory runs out.
@@ -76,7 +76,7 @@ UnwindTellsTheFrames =
     → TellsState o written text unwinds state
     → (out out' : Output) (answer : Status)
     → Unwinds written text out out' answer
-    → ((stop : walk.Stop) × StopsAs (frames_end state) stop × Prints status.Done (frames_text state stop) out out' answer) ⊎ Concludes stop.NoMemory out out' answer
+    → ((stop : walk.Stop) × StopsAs (frames_end state) stop × Prints status.Done (shadow_text state stop) out out' answer) ⊎ Concludes stop.NoMemory out out' answer
 
 -- ---- over files
 
@@ -117,4 +117,4 @@ UnwindIsDone =
     → before.content ≡ Some content
     → Ends (Some (unwind file image)) before after out out' answer
     → NothingFails before after out out'
-    → ((answer ≡ status.Done) × ((stop : walk.Stop) × StopsAs (frames_end state) stop × (out'.written ≡ appending out.written (frames_text state stop)))) ⊎ (answer ≡ status.NoMemory)
+    → ((answer ≡ status.Done) × ((stop : walk.Stop) × StopsAs (frames_end state) stop × (out'.written ≡ appending out.written (shadow_text state stop)))) ⊎ (answer ≡ status.NoMemory)
