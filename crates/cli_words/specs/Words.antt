@@ -1,0 +1,66 @@
+-- The words of a command line: command words, options, and names and numbers.
+use Rattle.std.specs.Prelude.{ℕ, ◌==◌, ◌&&◌, ◌||◌, not, Bool, true, false, List, [], ◌∷◌, take, drop, length, filter, find, codes, Option, Some, None, option_and_then, is_some, if◌then◌else◌, bytes_eq}
+use Rattle.std.specs.List.{list_any}
+use Rattle.cli_words.specs.declared.word.CommandWord.{CommandWord}
+use Rattle.cli_words.specs.declared.word.CommandWord.TheVariants.{Check, Dump, Unwind, Demo}
+
+abbrev pub Word : Type 0
+Word = List ℕ
+
+-- the command that a first word asks for
+abbrev pub command_named : Word → Option CommandWord
+command_named word =
+    if bytes_eq word (codes "check") then Some Check
+    else if bytes_eq word (codes "dump") then Some Dump
+    else if bytes_eq word (codes "unwind") then Some Unwind
+    else if bytes_eq word (codes "demo") then Some Demo
+    else None
+
+-- how many names or numbers stand behind a command
+abbrev pub places_of : CommandWord → ℕ
+places_of Check = 2
+places_of Dump = 1
+places_of Unwind = 2
+places_of Demo = 1
+
+-- a word behind the command that begins with a dash is an option, any other is a name or a number
+abbrev pub is_option : Word → Bool
+is_option [] = false
+is_option (byte ∷ bytes) = byte == 45
+
+abbrev pub names_in : List Word → List Word
+names_in words = filter (λ word. not (is_option word)) words
+
+-- the name of a file of function names, in an option `--names=FILE`
+abbrev pub file_after : Word → Option Word
+file_after word = if bytes_eq (take 8 word) (codes "--names=") then Some (drop 8 word) else None
+
+abbrev pub is_names_option : Word → Bool
+is_names_option word = is_some (file_after word)
+
+-- the options of `check`
+abbrev pub is_check_option : Word → Bool
+is_check_option word =
+    bytes_eq word (codes "--fp")
+    || (bytes_eq word (codes "--retpoline")
+    || (bytes_eq word (codes "--rethunk")
+    || (bytes_eq word (codes "--uaccess")
+    || (bytes_eq word (codes "--no-unreachable") || is_names_option word))))
+
+-- an option of this command: `check` alone has some
+abbrev pub is_option_of : CommandWord → Word → Bool
+is_option_of Check word = is_check_option word
+is_option_of Dump word = false
+is_option_of Unwind word = false
+is_option_of Demo word = false
+
+-- two words give the same option: they are spelled alike, or each gives a file of names
+abbrev pub is_same_option : Word → Word → Bool
+is_same_option one other = bytes_eq one other || (is_names_option one && is_names_option other)
+
+abbrev pub gives : Word → List Word → Bool
+gives option words = list_any (λ word. bytes_eq word option) words
+
+-- the file of function names that the words give
+abbrev pub names_file : List Word → Option Word
+names_file words = option_and_then file_after (find is_names_option words)

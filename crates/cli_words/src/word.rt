@@ -1,0 +1,93 @@
+//! The words of a command line, one by one.
+
+ghost use Rattle.std.specs.Prelude.{◌≡◌, option_map};
+ghost use Rattle.cli_words.specs.Words.{command_named, is_check_option, is_names_option, is_option, is_option_of, is_same_option, file_after, places_of};
+
+/// The word of a command.
+#[derive(Clone, Copy, Debug, PartialEq, Eq)]
+pub enum CommandWord {
+    /// `check`.
+    Check,
+    /// `dump`.
+    Dump,
+    /// `unwind`.
+    Unwind,
+    /// `demo`.
+    Demo,
+}
+
+/// The command that a first word asks for.
+pub(crate) fn command_named(word: &str) -> Option<CommandWord>
+    ensures { result ≡ command_named word.now }
+{
+    match word {
+        "check" => Some(CommandWord::Check),
+        "dump" => Some(CommandWord::Dump),
+        "unwind" => Some(CommandWord::Unwind),
+        "demo" => Some(CommandWord::Demo),
+        _ => None,
+    }
+}
+
+impl CommandWord {
+    /// How many names or numbers stand behind it.
+    pub(crate) fn places(self) -> usize
+        ensures { result ≡ places_of self }
+    {
+        match self {
+            CommandWord::Check | CommandWord::Unwind => 2,
+            CommandWord::Dump | CommandWord::Demo => 1,
+        }
+    }
+
+    /// Whether a word is one of its options.
+    pub(crate) fn has_option(self, word: &str) -> bool
+        ensures { result ≡ is_option_of self word.now }
+    {
+        match self {
+            CommandWord::Check => is_check_option(word),
+            CommandWord::Dump | CommandWord::Unwind | CommandWord::Demo => false,
+        }
+    }
+}
+
+/// Whether a word behind a command is an option: it begins with a dash.
+pub(crate) fn is_option(word: &str) -> bool
+    ensures { result ≡ is_option word.now }
+{
+    match word.as_bytes() {
+        [] => false,
+        [first, ..] => *first == b'-',
+    }
+}
+
+/// The name of a file of function names, where a word gives one.
+pub(crate) fn file_after(word: &str) -> Option<&str>
+    ensures { option_map (λ file. file.now) result ≡ file_after word.now }
+{
+    word.strip_prefix("--names=")
+}
+
+/// Whether a word gives a file of function names.
+pub(crate) fn is_names_option(word: &str) -> bool
+    ensures { result ≡ is_names_option word.now }
+{
+    file_after(word).is_some()
+}
+
+/// Whether a word is an option of `check`.
+fn is_check_option(word: &str) -> bool
+    ensures { result ≡ is_check_option word.now }
+{
+    match word {
+        "--fp" | "--retpoline" | "--rethunk" | "--uaccess" | "--no-unreachable" => true,
+        _ => is_names_option(word),
+    }
+}
+
+/// Whether two words give the same option.
+pub(crate) fn is_same_option(one: &str, other: &str) -> bool
+    ensures { result ≡ is_same_option one.now other.now }
+{
+    one == other || is_names_option(one) && is_names_option(other)
+}
