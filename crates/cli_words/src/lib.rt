@@ -3,6 +3,7 @@
 #![tactic(auto)]
 
 mod command;
+mod definition;
 mod fault;
 mod judge;
 mod number;
@@ -10,6 +11,10 @@ mod read;
 mod word;
 
 pub use command::Command;
+pub use definition::{help_text, version_text};
 pub use fault::{UsageFault, UsageKind};
 pub use read::read_words;
 pub use word::CommandWord;
+
+#[cfg(test)]
+mod tests;

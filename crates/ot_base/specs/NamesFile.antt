@@ -10,6 +10,15 @@ use Rattle.ot_base.specs.declared.lists.ListsWhy.TheVariants.{Word, Name}
 abbrev pub lines : List ℕ → List (List ℕ)
 lines text = slice_split (λ b. b == 10) text
 
+-- the lines of a text that may be there, and how many bytes it has, with one more for the end of the text
+abbrev pub lines_in : Option (List ℕ) → List (List ℕ)
+lines_in None = []
+lines_in (Some text) = lines text
+
+abbrev pub bytes_left : Option (List ℕ) → ℕ
+bytes_left None = 0
+bytes_left (Some text) = length text + 1
+
 -- what stands before the first space of a line, and what stands behind it
 abbrev pub first_word : List ℕ → List ℕ
 first_word line = before_first (λ b. b == 32) line

@@ -1,7 +1,7 @@
-ghost use Rattle.std.specs.Prelude.{◌≡◌, ◌==◌, map, position, IfOk, IfErr, OnOk, OnErr};
+ghost use Rattle.std.specs.Prelude.{◌≡◌, ◌==◌, ◌≤◌, ◌∷◌, length, option_map, position, IfOk, IfErr, OnOk};
 ghost use Rattle.std.specs.FinSet as set;
 ghost use Rattle.std.specs.List.{list_all};
-ghost use Rattle.ot_base.specs.NamesFile.{first_word, is_name, is_name_byte, is_list_word, line_fault, lines, rest_of, says_nothing, IsNamesFile};
+ghost use Rattle.ot_base.specs.NamesFile.{first_word, is_name, is_name_byte, is_list_word, bytes_left, line_fault, lines, lines_in, rest_of, says_nothing, IsNamesFile};
 ghost use Rattle.ot_base.specs.NameLists.{built_in, lists_with, with_line, with_name};
 ghost use Rattle.ot_base.specs.ListsFault.{IsListsFault};
 
@@ -144,16 +144,17 @@ impl Lists {
         ensures grammar { OnOk result (IsNamesFile bytes.now) }
         ensures line { IfErr result (IsListsFault bytes.now) }
     {
-        let lines = lines_of(alloc, bytes)?;
         let mut lists = Lists::built_in(alloc)?;
-        for (index, line) in lines.iter().enumerate() {
+        let mut rest = Some(bytes);
+        let mut count = 0;
+        while let Some(text) = rest {
+            let (line, after) = split_line(text);
+            count += 1;
             match line_fault(line) {
-                Some(why) => {
-                    let line = index as u64 + 1;
-                    return Err(ListsFault::Line { line, why });
-                }
+                Some(why) => return Err(ListsFault::Line { line: count, why }),
                 None => lists.add(alloc, line)?,
             }
+            rest = after;
         }
         Ok(lists)
     }
@@ -192,11 +193,22 @@ fn add_under(names: &mut NameSet, alloc: Global, word: &[u8], line: &[u8]) -> Re
     Ok(())
 }
 
-/// The lines of a names file.
-fn lines_of(alloc: Global, bytes: &[u8]) -> Result<Vec<&[u8]>, AllocError>
-    ensures { IfOk result (λ v. map (λ line. line.now) v.items ≡ lines bytes.now) }
+/// Where a text's first line ends.
+fn first_end(text: &[u8]) -> Option<usize>
+    ensures { result ≡ position (λ b. b == 10) text.now }
 {
-    bytes.split(|byte| *byte == b'\n').collect(alloc)
+    text.iter().position(|byte| *byte == b'\n')
+}
+
+/// A text's first line, and the text behind its LF, where it has one.
+fn split_line(text: &[u8]) -> (&[u8], Option<&[u8]>)
+    ensures line { lines text.now ≡ result.0.now ∷ lines_in (option_map (λ rest. rest.now) result.1) }
+    ensures shorter { bytes_left (option_map (λ rest. rest.now) result.1) ≤ length text.now }
+{
+    match first_end(text) {
+        Some(end) => (&text[..end], Some(&text[end + 1..])),
+        None => (text, None),
+    }
 }
 
 /// Where a line's first space is.

@@ -1,0 +1,230 @@
+//! What lists of words mean, and the texts of the command line.
+
+use crate::command::Command;
+use crate::definition::{help_text, version_text};
+use crate::fault::UsageFault;
+use crate::read::read_words;
+use ot_base::Options;
+use std::alloc::{AllocError, Global};
+use std::process::Abort;
+use std::test::Fail;
+
+/// The words of a line, which are parted by spaces; `''` is the empty word.
+fn words(alloc: Global, line: &str) -> Result<Vec<String>, AllocError> {
+    let mut words = Vec::new(alloc);
+    for word in line.split_whitespace() {
+        words.push(String::from_str(alloc, if word == "''" { "" } else { word })?)?;
+    }
+    Ok(words)
+}
+
+/// One letter for each option that is asked for.
+fn letters(alloc: Global, options: Options) -> Result<String, AllocError> {
+    let mut text = String::new(alloc);
+    text.push_str(if options.fp { "f" } else { "-" })?;
+    text.push_str(if options.retpoline { "p" } else { "-" })?;
+    text.push_str(if options.rethunk { "t" } else { "-" })?;
+    text.push_str(if options.uaccess { "a" } else { "-" })?;
+    text.push_str(if options.unreachable { "u" } else { "-" })?;
+    Ok(text)
+}
+
+/// A command as a line.
+fn line_of(alloc: Global, command: Command) -> Result<String, AllocError> {
+    match command {
+        Command::Check {
+            input,
+            output,
+            options,
+            names,
+        } => {
+            let letters = letters(alloc, options)?;
+            let names = names.as_ref().map_or("none", |names| names.as_str());
+            format!(in alloc; "check {input} {output} {letters} {names}")
+        }
+        Command::Dump { file } => format!(in alloc; "dump {file}"),
+        Command::Unwind { file, image } => format!(in alloc; "unwind {file} {image}"),
+        Command::Demo { n } => format!(in alloc; "demo {n}"),
+        Command::Help => String::from_str(alloc, "help"),
+        Command::Version => String::from_str(alloc, "version"),
+    }
+}
+
+/// What the words of a line mean: a command, or its fault as it is told.
+fn meaning(alloc: Global, line: &str) -> Result<String, AllocError> {
+    let words = words(alloc, line)?;
+    match read_words(alloc, &words) {
+        Ok(command) => line_of(alloc, command),
+        Err(UsageFault::NoMemory) => Err(AllocError),
+        Err(fault) => format!(in alloc; "{fault}"),
+    }
+}
+
+/// A row is a line of words, ` = `, and what they mean.
+fn expect_rows(rt: &impl Abort, alloc: Global, rows: &[&str]) -> Result<(), AllocError> {
+    for row in rows {
+        let (line, expected) = row.split_once(" = ").unwrap_or(("", ""));
+        let found = meaning(alloc, line)?;
+        assert!(rt; found.as_str() == expected, "{row}: {found}");
+    }
+    Ok(())
+}
+
+const COMMANDS: [&str; 24] = [
+    "check a b = check a b ----u none",
+    "check a a = check a a ----u none",
+    "check a b --fp = check a b f---u none",
+    "check --retpoline a b = check a b -p--u none",
+    "check a --rethunk b = check a b --t-u none",
+    "check a b --uaccess = check a b ---au none",
+    "check a b --no-unreachable = check a b ----- none",
+    "check a b --names=n = check a b ----u n",
+    "check --names=--fp a b = check a b ----u --fp",
+    "check --names== a b = check a b ----u =",
+    "check a b --names=c=d = check a b ----u c=d",
+    "check --fp --retpoline --rethunk --uaccess --no-unreachable --names=n a b = check a b fpta- n",
+    "check --names=n a --no-unreachable --uaccess b --rethunk --retpoline --fp = check a b fpta- n",
+    "check check dump = check check dump ----u none",
+    "dump a = dump a",
+    "dump help = dump help",
+    "dump é = dump é",
+    "unwind a b = unwind a b",
+    "demo 0 = demo 0",
+    "demo 9 = demo 9",
+    "demo 100000 = demo 100000",
+    "demo 10 = demo 10",
+    "--help = help",
+    "--version = version",
+];
+
+const FIRST_WORDS: [&str; 13] = [
+    " = no command at word 0",
+    "'' = unknown command at word 0",
+    "- = unknown command at word 0",
+    "-- check a b = unknown command at word 0",
+    "help = unknown command at word 0",
+    "-h = unknown command at word 0",
+    "-V = unknown command at word 0",
+    "--help x = unknown command at word 0",
+    "--version --help = unknown command at word 0",
+    "--fp check a b = unknown command at word 0",
+    "Check a b = unknown command at word 0",
+    "checks a b = unknown command at word 0",
+    "summary a = unknown command at word 0",
+];
+
+const FAULTS: [&str; 40] = [
+    "check = missing at word 1",
+    "check a = missing at word 2",
+    "check --fp = missing at word 2",
+    "check --fp a = missing at word 3",
+    "check a b c = extra at word 3",
+    "check a b '' = extra at word 3",
+    "check a b c d = extra at word 3",
+    "check '' b = empty at word 1",
+    "check a '' = empty at word 2",
+    "check '' '' c = empty at word 1",
+    "check a b --help = unknown option at word 3",
+    "check a b --version = unknown option at word 3",
+    "check a b -- = unknown option at word 3",
+    "check a b - = unknown option at word 3",
+    "check a b -f = unknown option at word 3",
+    "check a b --Fp = unknown option at word 3",
+    "check a b --fpx = unknown option at word 3",
+    "check a b --fp= = unknown option at word 3",
+    "check a b --all-opcodes = unknown option at word 3",
+    "check --names n a b = unknown option at word 1",
+    "check a b --name=n = unknown option at word 3",
+    "check a b --unreachable = unknown option at word 3",
+    "check a b --fp --fp = repeated at word 4",
+    "check --names=n --names=n a b = repeated at word 2",
+    "check --names=n --names=m a b = repeated at word 2",
+    "check --names=n a b --names= = repeated at word 4",
+    "check --names= a b = empty at word 1",
+    "check a --fp b --fp c = repeated at word 4",
+    "check a b c --fp --fp = extra at word 3",
+    "dump = missing at word 1",
+    "dump a b = extra at word 2",
+    "dump --fp = unknown option at word 1",
+    "dump a --names=n = unknown option at word 2",
+    "unwind a = missing at word 2",
+    "unwind a b c = extra at word 3",
+    "unwind a b --fp = unknown option at word 3",
+    "demo = missing at word 1",
+    "demo 1 2 = extra at word 2",
+    "demo --fp 1 = unknown option at word 1",
+    "demo 1 --no-unreachable = unknown option at word 2",
+];
+
+const NUMBERS: [&str; 11] = [
+    "demo '' = empty at word 1",
+    "demo 007 = bad number at word 1",
+    "demo 00 = bad number at word 1",
+    "demo +1 = bad number at word 1",
+    "demo 1a = bad number at word 1",
+    "demo 0x1 = bad number at word 1",
+    "demo 100001 = bad number at word 1",
+    "demo 999999 = bad number at word 1",
+    "demo 1000000 = bad number at word 1",
+    "demo 99999999999999999999 = bad number at word 1",
+    "demo x 1 = bad number at word 1",
+];
+
+#[test]
+fn commands_are_read(rt: HostRuntime) -> Result<(), Fail> {
+    expect_rows(&rt, rt.alloc(), &COMMANDS)?;
+    Ok(())
+}
+
+#[test]
+fn first_words_are_told(rt: HostRuntime) -> Result<(), Fail> {
+    expect_rows(&rt, rt.alloc(), &FIRST_WORDS)?;
+    Ok(())
+}
+
+#[test]
+fn first_faults_are_told(rt: HostRuntime) -> Result<(), Fail> {
+    expect_rows(&rt, rt.alloc(), &FAULTS)?;
+    expect_rows(&rt, rt.alloc(), &NUMBERS)?;
+    Ok(())
+}
+
+/// The options of `check`.
+const OPTIONS: [&str; 6] = [
+    "--fp",
+    "--retpoline",
+    "--rethunk",
+    "--uaccess",
+    "--no-unreachable",
+    "--names=<FILE>",
+];
+
+/// Whether an option stands alone, or with `check`.
+fn is_taken(alloc: Global, option: &str) -> Result<bool, AllocError> {
+    let alone = words(alloc, option)?;
+    let with_check = words(alloc, format!(in alloc; "check a b {option}")?.as_str())?;
+    Ok(read_words(alloc, &alone).is_ok() || read_words(alloc, &with_check).is_ok())
+}
+
+#[test]
+fn help_names_the_options(rt: HostRuntime) -> Result<(), Fail> {
+    let text = help_text(rt.alloc())?;
+    let mut count = 0;
+    for word in text.as_str().split_whitespace() {
+        if word.starts_with("--") {
+            assert!(rt; is_taken(rt.alloc(), word)?, "{word}");
+            count += 1;
+        }
+    }
+    assert_eq!(rt; count, OPTIONS.len() + 2);
+    for option in OPTIONS {
+        assert!(rt; text.as_str().contains(option), "{option}");
+    }
+    Ok(())
+}
+
+#[test]
+fn version_names_the_program(rt: HostRuntime) -> Result<(), Fail> {
+    assert_eq!(rt; version_text(rt.alloc())?.as_str(), "objtool 0.1.0\n");
+    Ok(())
+}
