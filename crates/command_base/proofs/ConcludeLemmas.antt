@@ -44,7 +44,7 @@ printed_after_fault text before after NoMemory (runs_out prefix) = inr refl
 
 -- the statuses that no stop has
 stop_not_done : (s : Stop) → status_of s ≢ Done
-stop_not_done stop.Usage e = cc
+stop_not_done (stop.Usage usage) e = cc
 stop_not_done (stop.Missing file) e = cc
 stop_not_done (stop.TooLong file limit) e = cc
 stop_not_done (stop.Refused refusal) e = cc
@@ -52,7 +52,7 @@ stop_not_done (stop.FileFault file) e = cc
 stop_not_done stop.NoMemory e = cc
 
 stop_no_warnings : (s : Stop) → status_of s ≢ Warnings
-stop_no_warnings stop.Usage e = cc
+stop_no_warnings (stop.Usage usage) e = cc
 stop_no_warnings (stop.Missing file) e = cc
 stop_no_warnings (stop.TooLong file limit) e = cc
 stop_no_warnings (stop.Refused refusal) e = cc
@@ -60,7 +60,7 @@ stop_no_warnings (stop.FileFault file) e = cc
 stop_no_warnings stop.NoMemory e = cc
 
 stop_no_sink_fault : (s : Stop) → status_of s ≢ SinkFault
-stop_no_sink_fault stop.Usage e = cc
+stop_no_sink_fault (stop.Usage usage) e = cc
 stop_no_sink_fault (stop.Missing file) e = cc
 stop_no_sink_fault (stop.TooLong file limit) e = cc
 stop_no_sink_fault (stop.Refused refusal) e = cc

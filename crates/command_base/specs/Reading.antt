@@ -6,13 +6,15 @@ use Rattle.ot_files.specs.declared.access.FileError.{FileError}
 use Rattle.ot_files.specs.declared.access.FileError.TheVariants as file
 use Rattle.elf_objects.specs.declared.fault.ElfFault.{ElfFault}
 use Rattle.elf_objects.specs.declared.fault.ElfFault.TheVariants as elf
+use Rattle.ot_base.specs.declared.lists.ListsFault.{ListsFault}
+use Rattle.ot_base.specs.declared.lists.ListsFault.TheVariants as lists
 use Rattle.orc_bytes.specs.declared.fault.OrcFault.{OrcFault}
 use Rattle.orc_bytes.specs.declared.fault.OrcFault.TheVariants as orc
 use Rattle.orc_table.specs.declared.faults.PlaceFault.{PlaceFault}
 use Rattle.orc_table.specs.declared.faults.PlaceFault.TheVariants as place
 use Rattle.stack_image.specs.declared.fault.ImageFault.{ImageFault}
 use Rattle.stack_image.specs.declared.fault.ImageFault.TheVariants as image
-use Rattle.command_base.specs.declared.refusal.Refusal.TheVariants.{Malformed, Orc, Image, Unplaced}
+use Rattle.command_base.specs.declared.refusal.Refusal.TheVariants.{Malformed, Orc, Lists, Image, Unplaced}
 use Rattle.command_base.specs.declared.stop.Stop.{Stop}
 use Rattle.command_base.specs.declared.stop.Stop.TheVariants.{Usage, Missing, TooLong, Refused, FileFault, NoMemory}
 use Rattle.command_base.specs.Outside.{Outside}
@@ -32,7 +34,7 @@ StopsAtRead limit name before after (TooLong told at) = (told.now ≡ name) × (
 StopsAtRead limit name before after (FileFault told) = (told.now ≡ name) × Rose before.faults after.faults
 StopsAtRead limit name before after NoMemory = Unit {0}
 StopsAtRead limit name before after (Refused refusal) = ⊥
-StopsAtRead limit name before after Usage = ⊥
+StopsAtRead limit name before after (Usage usage) = ⊥
 
 -- why a command stops whose input is no object
 abbrev pub parse_stop : ElfFault → Stop
@@ -43,6 +45,11 @@ parse_stop fault = Refused (Malformed fault)
 abbrev pub orc_stop : OrcFault → Stop
 orc_stop orc.NoMemory = NoMemory
 orc_stop fault = Refused (Orc fault)
+
+-- why a command stops whose names file isn't one
+abbrev pub lists_stop : ListsFault → Stop
+lists_stop lists.NoMemory = NoMemory
+lists_stop fault = Refused (Lists fault)
 
 -- why a command stops whose image isn't one
 abbrev pub image_stop : ImageFault → Stop

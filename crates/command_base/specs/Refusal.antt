@@ -4,16 +4,18 @@ use Rattle.std.specs.Fmt.{decimal}
 use Rattle.elf_objects.specs.FaultText as elf
 use Rattle.elf_objects.specs.declared.fault.Counted.TheVariants.{Sections}
 use Rattle.elf_objects.specs.declared.fault.ElfFault.TheVariants.{TooMany}
+use Rattle.ot_base.specs.ListsFault as lists
 use Rattle.orc_bytes.specs.FaultText as orc
 use Rattle.orc_table.specs.FaultText as placed
 use Rattle.stack_image.specs.FaultText as image
 use Rattle.x86_text.specs.FaultText as code
 use Rattle.command_base.specs.declared.refusal.Refusal.{Refusal}
-use Rattle.command_base.specs.declared.refusal.Refusal.TheVariants.{Malformed, Orc, Image, NoText, Unplaced, Undecoded, TooManySections, NotBuilt}
+use Rattle.command_base.specs.declared.refusal.Refusal.TheVariants.{Malformed, Orc, Lists, Image, NoText, Unplaced, Undecoded, TooManySections, NotBuilt}
 
 abbrev pub refusal_text : Refusal → List ℕ
 refusal_text (Malformed fault) = elf.fault_text fault
 refusal_text (Orc fault) = orc.fault_text fault
+refusal_text (Lists fault) = lists.fault_text fault
 refusal_text (Image fault) = image.fault_text fault
 refusal_text (NoText sec) = codes "section " ++ decimal sec ++ codes ": no text"
 refusal_text (Unplaced fault) = placed.fault_text fault

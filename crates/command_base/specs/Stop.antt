@@ -2,17 +2,26 @@
 use Rattle.std.specs.Prelude.{ℕ, List, [], ◌++◌, codes}
 use Rattle.std.specs.Fmt.{decimal}
 use Rattle.ot_base.specs.PlaceText.{escaped}
+use Rattle.cli_words.specs.FaultText.{fault_text}
+use Rattle.cli_words.specs.declared.fault.UsageFault.TheVariants.{At}
 use Rattle.command_base.specs.Refusal.{refusal_text}
 use Rattle.command_base.specs.declared.status.Status.{Status}
 use Rattle.command_base.specs.declared.status.Status.TheVariants as status
+use Rattle.command_base.specs.declared.usage.Usage as declared
+use Rattle.command_base.specs.declared.usage.Usage.TheVariants as usage
 use Rattle.command_base.specs.declared.stop.Stop.{Stop}
 use Rattle.command_base.specs.declared.stop.Stop.TheVariants.{Usage, Missing, TooLong, Refused, FileFault, NoMemory}
 
 abbrev pub longer_text : List ℕ → ℕ → List ℕ
 longer_text file limit = escaped file ++ codes " is longer than " ++ decimal limit ++ codes " bytes"
 
+-- what is told of the words
+abbrev pub usage_text : declared.Usage → List ℕ
+usage_text (usage.Words word kind) = fault_text (At word kind)
+usage_text usage.NotBuilt = codes "not built yet"
+
 abbrev pub line_of : Stop → List ℕ
-line_of Usage = codes "usage: not built yet\n"
+line_of (Usage usage) = codes "usage: " ++ usage_text usage ++ codes "\n"
 line_of (Missing file) = codes "refused: " ++ escaped file.now ++ codes " is missing\n"
 line_of (TooLong file limit) = codes "refused: " ++ longer_text file.now limit ++ codes "\n"
 line_of (Refused refusal) = codes "refused: " ++ refusal_text refusal ++ codes "\n"
@@ -20,7 +29,7 @@ line_of (FileFault file) = codes "file fault: " ++ escaped file.now ++ codes "\n
 line_of NoMemory = []
 
 abbrev pub status_of : Stop → Status
-status_of Usage = status.Usage
+status_of (Usage usage) = status.Usage
 status_of (Missing file) = status.Refused
 status_of (TooLong file limit) = status.Refused
 status_of (Refused refusal) = status.Refused

@@ -23,7 +23,7 @@ fn ended(status: Status, written: Result<(), SinkError>) -> Status
 
 /// Prints a whole line, and gives the status that a command ends with whose last line it is and whose
 /// status is this one where nothing fails.
-fn print_line<S: Sink>(status: Status, line: &[u8], out: &mut S) -> Status
+pub fn print_line<S: Sink>(status: Status, line: &[u8], out: &mut S) -> Status
     ensures printed { Prints status line.now
         (record { written = S.written out.old; faults = S.faults out.old })
         (record { written = S.written out.new; faults = S.faults out.new }) result }

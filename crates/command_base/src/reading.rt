@@ -1,11 +1,12 @@
 ghost use Rattle.std.specs.Prelude.{◌≡◌, ◌≤◌, Ok, length, IfOk, IfErr};
-ghost use Rattle.command_base.specs.Reading.{MayRead, StopsAtRead, image_stop, orc_stop, parse_stop, place_stop};
+ghost use Rattle.command_base.specs.Reading.{MayRead, StopsAtRead, image_stop, lists_stop, orc_stop, parse_stop, place_stop};
 
 use crate::refusal::Refusal;
 use crate::stop::Stop;
 use elf_objects::ElfFault;
 use orc_bytes::OrcFault;
 use orc_table::PlaceFault;
+use ot_base::ListsFault;
 use ot_files::{FileError, Files};
 use stack_image::ImageFault;
 use std::alloc::Global;
@@ -55,6 +56,16 @@ pub fn orc_stop<'a>(fault: OrcFault) -> Stop<'a>
     match fault {
         OrcFault::NoMemory => Stop::NoMemory,
         fault => Stop::Refused(Refusal::Orc(fault)),
+    }
+}
+
+/// Why a command stops whose names file isn't one.
+pub fn lists_stop<'a>(fault: ListsFault) -> Stop<'a>
+    ensures { result ≡ lists_stop fault }
+{
+    match fault {
+        ListsFault::NoMemory => Stop::NoMemory,
+        fault => Stop::Refused(Refusal::Lists(fault)),
     }
 }
 

@@ -1,6 +1,7 @@
 use elf_objects::{Counted, ElfFault};
 use orc_bytes::OrcFault;
 use orc_table::PlaceFault;
+use ot_base::ListsFault;
 use stack_image::ImageFault;
 use std::fmt;
 use x86_text::TextFaultText;
@@ -12,6 +13,8 @@ pub enum Refusal<'a> {
     Malformed(ElfFault),
     /// The object's ORC sections hold no rows.
     Orc(OrcFault),
+    /// The text of a names file isn't one.
+    Lists(ListsFault),
     /// The text of an image isn't one.
     Image(ImageFault),
     /// A place of an image names section number `sec`, which is no text section.
@@ -36,6 +39,7 @@ impl fmt::Display for Refusal<'_> {
         match *self {
             Refusal::Malformed(fault) => write!(f, "{fault}"),
             Refusal::Orc(fault) => write!(f, "{fault}"),
+            Refusal::Lists(fault) => write!(f, "{fault}"),
             Refusal::Image(fault) => write!(f, "{fault}"),
             Refusal::NoText { sec } => write!(f, "section {sec}: no text"),
             Refusal::Unplaced(fault) => write!(f, "{fault}"),

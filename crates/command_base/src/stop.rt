@@ -1,5 +1,6 @@
 use crate::refusal::Refusal;
 use crate::status::Status;
+use crate::usage::Usage;
 use ot_base::Escaped;
 use std::fmt;
 
@@ -7,8 +8,8 @@ use std::fmt;
 /// of want of memory nothing is said.
 #[derive(Clone, Copy, Debug, PartialEq, Eq)]
 pub enum Stop<'a> {
-    /// The words are no command.
-    Usage,
+    /// The words ask for nothing that is done.
+    Usage(Usage),
     /// No file has an input's name.
     Missing { file: &'a str },
     /// An input has more than `limit` bytes.
@@ -30,7 +31,7 @@ impl Stop<'_> {
         ensures { result ≡ status_of self.entry }
     {
         match self {
-            Stop::Usage => Status::Usage,
+            Stop::Usage(_) => Status::Usage,
             Stop::Missing { .. } | Stop::TooLong { .. } | Stop::Refused(_) => Status::Refused,
             Stop::FileFault { .. } => Status::FileFault,
             Stop::NoMemory => Status::NoMemory,
@@ -64,7 +65,7 @@ impl fmt::Display for Stop<'_> {
 
     fn fmt<W: fmt::Write>(&self, f: &mut fmt::Formatter<W>) -> fmt::Result {
         match *self {
-            Stop::Usage => write!(f, "usage: not built yet\n"),
+            Stop::Usage(usage) => write!(f, "usage: {usage}\n"),
             Stop::Missing { file } => {
                 let file = Escaped(file.as_bytes());
                 write!(f, "refused: {file} is missing\n")

@@ -301,38 +301,193 @@ fn a_file_that_is_too_long_is_refused(rt: HostRuntime) -> Result<(), Fail> {
     Ok(())
 }
 
-#[test]
-fn other_words_are_no_command(rt: HostRuntime) -> Result<(), Fail> {
-    let alloc = rt.alloc();
-    let table: [&[&str]; 13] = [
-        &[],
-        &["dump"],
-        &["dump", "-f"],
-        &["dump", "IN", "OUT"],
-        &["check"],
-        &["check", "IN"],
-        &["check", "IN", "OUT", "x"],
-        &["check", "-i", "OUT"],
-        &["check", "IN", "-"],
-        &["check", "", "OUT"],
-        &["check", "IN", ""],
-        &["Check", "IN", "OUT"],
-        &["IN", "check", "OUT"],
-    ];
-    for texts in table {
-        let object = make(alloc, b"\xC3")?;
-        let mut files = SureFiles::new(alloc, only_in(alloc, &object)?);
-        let mut out = SureSink::new(alloc, 100);
-        let words = words(alloc, texts)?;
-        let status = run(alloc, &words, &mut files, &mut out);
-        assert_eq!(rt; status, Status::Usage, "{texts:?}");
-        assert_eq!(rt;
-            out.written(),
-            b"usage: not built yet\n".as_slice(),
-            "{texts:?}"
-        );
-        assert!(rt; files.content("OUT").is_none(), "{texts:?}");
+/// A line of words that are parted by spaces, where `''` is the empty word; what the file `names` holds;
+/// the status that the command ends with, and its text.
+type Run = (&'static str, &'static str, Status, &'static str);
+
+const USAGE: [Run; 16] = [
+    ("", "", Status::Usage, "usage: no command at word 0\n"),
+    ("dump", "", Status::Usage, "usage: missing at word 1\n"),
+    (
+        "dump -f",
+        "",
+        Status::Usage,
+        "usage: unknown option at word 1\n",
+    ),
+    ("dump IN OUT", "", Status::Usage, "usage: extra at word 2\n"),
+    ("check IN", "", Status::Usage, "usage: missing at word 2\n"),
+    (
+        "check IN OUT x",
+        "",
+        Status::Usage,
+        "usage: extra at word 3\n",
+    ),
+    (
+        "check -i OUT",
+        "",
+        Status::Usage,
+        "usage: unknown option at word 1\n",
+    ),
+    (
+        "check '' OUT",
+        "",
+        Status::Usage,
+        "usage: empty at word 1\n",
+    ),
+    (
+        "check IN OUT --fp --fp",
+        "",
+        Status::Usage,
+        "usage: repeated at word 4\n",
+    ),
+    (
+        "Check IN OUT",
+        "",
+        Status::Usage,
+        "usage: unknown command at word 0\n",
+    ),
+    (
+        "--help x",
+        "",
+        Status::Usage,
+        "usage: unknown command at word 0\n",
+    ),
+    (
+        "demo 007",
+        "",
+        Status::Usage,
+        "usage: bad number at word 1\n",
+    ),
+    ("demo 3", "", Status::Usage, "usage: not built yet\n"),
+    (
+        "check IN OUT --fp",
+        "",
+        Status::Usage,
+        "usage: not built yet\n",
+    ),
+    (
+        "check NO OUT --uaccess --names=no",
+        "",
+        Status::Usage,
+        "usage: not built yet\n",
+    ),
+    (
+        "check --rethunk --retpoline IN OUT",
+        "",
+        Status::Usage,
+        "usage: not built yet\n",
+    ),
+];
+
+const NAMED: [Run; 9] = [
+    ("check IN OUT --names=names", "", Status::Done, ""),
+    ("check --no-unreachable IN OUT", "", Status::Done, ""),
+    (
+        "check IN --names=names OUT",
+        "# f\n\nnoreturn f\nuaccess g",
+        Status::Done,
+        "",
+    ),
+    (
+        "check IN OUT --names=names",
+        "noreturn",
+        Status::Refused,
+        "refused: names file line 1: bad name\n",
+    ),
+    (
+        "check IN OUT --names=names",
+        "\nnoreturn f\nno f\n",
+        Status::Refused,
+        "refused: names file line 3: bad word\n",
+    ),
+    (
+        "check IN OUT --names=no",
+        "",
+        Status::Refused,
+        "refused: no is missing\n",
+    ),
+    (
+        "check NO OUT --names=no",
+        "",
+        Status::Refused,
+        "refused: NO is missing\n",
+    ),
+    (
+        "check NO OUT --names=names",
+        "noreturn",
+        Status::Refused,
+        "refused: NO is missing\n",
+    ),
+    ("--version", "", Status::Done, "objtool 0.1.0\n"),
+];
+
+/// IN holds these bytes and `names` this text, and no other name anything.
+fn with_names(
+    alloc: Global,
+    bytes: &[u8],
+    names: &str,
+) -> Result<Vec<(String, Vec<u8>)>, AllocError>
+    ensures { IfOk result (λ entries. IsTrue (names_differ (names_of entries.items))) }
+{
+    let entry = (
+        String::from_str(alloc, "IN")?,
+        Vec::from_slice(alloc, bytes)?,
+    );
+    let list = (
+        String::from_str(alloc, "names")?,
+        Vec::from_slice(alloc, names.as_bytes())?,
+    );
+    Ok(vec![in alloc; entry, list]?)
+}
+
+/// The words of a line.
+fn words_of(alloc: Global, line: &str) -> Result<Vec<String>, AllocError> {
+    let mut words = Vec::new(alloc);
+    for word in line.split_whitespace() {
+        let word = if word == "''" { "" } else { word };
+        words.push(String::from_str(alloc, word)?)?;
     }
+    Ok(words)
+}
+
+/// Runs each line over the object of `C3`. OUT is written exactly where the command is `check` and done.
+fn expect_runs(rt: &impl Abort, alloc: Global, runs: &[Run]) -> Result<(), Fail> {
+    for (line, names, status, text) in runs {
+        let object = make(alloc, b"\xC3")?;
+        let mut files = SureFiles::new(alloc, with_names(alloc, &object, names)?);
+        let mut out = SureSink::new(alloc, 100);
+        let words = words_of(alloc, line)?;
+        let ended = run(alloc, &words, &mut files, &mut out);
+        assert!(rt; ended == *status, "{line}: {ended:?}");
+        assert!(rt; out.written() == text.as_bytes(), "{line}");
+        let written = files.content("OUT").is_some();
+        assert!(rt;
+            written == (ended == Status::Done && line.starts_with("check")),
+            "{line}"
+        );
+    }
+    Ok(())
+}
+
+#[test]
+fn words_at_fault_are_told(rt: HostRuntime) -> Result<(), Fail> {
+    expect_runs(&rt, rt.alloc(), &USAGE)
+}
+
+#[test]
+fn the_names_file_is_read(rt: HostRuntime) -> Result<(), Fail> {
+    expect_runs(&rt, rt.alloc(), &NAMED)
+}
+
+#[test]
+fn help_is_cut_where_the_output_fails(rt: HostRuntime) -> Result<(), Fail> {
+    let alloc = rt.alloc();
+    let words = words(alloc, &["--help"])?;
+    let mut files = SureFiles::new(alloc, Vec::new(alloc));
+    let mut out = MemSink::new(alloc, 10, vec![in alloc; 1]?);
+    let status = run(alloc, &words, &mut files, &mut out);
+    assert_eq!(rt; status, Status::SinkFault);
+    assert_eq!(rt; out.written(), b"Checks how".as_slice());
     Ok(())
 }
 

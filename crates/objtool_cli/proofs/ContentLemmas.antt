@@ -14,6 +14,7 @@ use Rattle.objtool_cli.specs.Checked.{Accepts}
 use Rattle.command_base.specs.Outside.{Outside}
 use Rattle.command_base.specs.Reading.{MayRead}
 use Rattle.objtool_cli.specs.Command.{IsDone}
+use Rattle.objtool_cli.specs.Lists.{HasNames}
 use Rattle.objtool_cli.specs.Unwinding.{OutUnwinds, Unwinds}
 
 not_same : (a b : List ℕ) → a ≢ b → eq_by_cmp (slice_cmp nat_cmp) a b ≡ false
@@ -57,10 +58,10 @@ out_unwinds input output bytes table (Some content) after may e h =
     })
 
 -- what stands where the command is done
-pub is_done : (input output bytes table : List ℕ) (before after : Outside) → MayRead MAX_FILE_BYTES before.content input (Ok bytes) → Accepts bytes table → Unwinds bytes table → after.content ≡ writing before.content output table → IsDone input output before after
-is_done input output bytes table before after may accepted unwinds e = record {
+pub is_done : (input output : List ℕ) (names : Option (List ℕ)) (bytes table : List ℕ) (before after : Outside) → MayRead MAX_FILE_BYTES before.content input (Ok bytes) → HasNames before.content names → Accepts bytes table → Unwinds bytes table → after.content ≡ writing before.content output table → IsDone input output names before after
+is_done input output names bytes table before after may lists accepted unwinds e = record {
   table = table;
-  accepted = record { read = bytes; may = may; accepts = accepted };
+  accepted = record { read = bytes; may = may; accepts = accepted; lists = lists };
   written = e;
   unwinds = out_unwinds input output bytes table before.content after.content may e unwinds;
 }

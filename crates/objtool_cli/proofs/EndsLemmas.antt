@@ -1,10 +1,11 @@
 -- What follows from how a command ends.
 use Rattle.std.proofs.Common.{◌≡◌, ℕ, List, refl, sym, ap, ◌∙◌, subst, inl, inr}
-use Rattle.std.specs.Prelude.{◌≢◌, ◌⊎◌, [], Some, None, Option, Ok}
+use Rattle.std.specs.Prelude.{◌≢◌, ◌⊎◌, [], Some, None, Option, Result, Ok, Err, Bool, true, false}
 use Rattle.ot_files.specs.Causes.{Rose}
 use Rattle.ot_files.specs.Content.{Content, ChangesAtMost, reading, writing}
 use Rattle.command_base.specs.declared.status.Status.{Status}
 use Rattle.command_base.specs.declared.status.Status.TheVariants.{Done, Warnings, FileFault, SinkFault, NoMemory}
+use Rattle.command_base.specs.declared.status.Status.TheVariants as status
 use Rattle.command_base.specs.declared.stop.Stop.{Stop}
 use Rattle.command_base.specs.declared.stop.Stop.TheVariants as stop
 use Rattle.command_base.specs.Outside.{Outside, Output}
@@ -14,9 +15,18 @@ use Rattle.command_base.specs.Stop.{status_of}
 use Rattle.command_base.proofs.ConcludeLemmas.{concluded_after_fault, concluded_fault, concluded_no_memory, concluded_no_warnings, concluded_not_done, concluded_sink_fault}
 use Rattle.elf_objects.specs.declared.TheConstants.{MAX_FILE_BYTES}
 use Rattle.objtool_cli.specs.Checked.{IsRefusal}
-use Rattle.objtool_cli.specs.Command.{Ends, EndsCheck, IsDone, MayChange, Stops, StopsAtWrite, checked, done, no_command, output_of_check, refused, stopped, unread, unwritten, dumped, unwound}
+use Rattle.objtool_cli.specs.Command.{Ends, EndsCheck, IsDone, IsFaulty, IsUsageAnswer, MayChange, Stops, StopsAtWrite, asks_too_much, at_fault, checked, done, faulty, not_built, output_of_check, refused, stopped, shown, unfinished, unread, unwritten, without_names, dumped, unwound}
+use Rattle.objtool_cli.specs.Lists.{IsListsStop, StopsAtNames, names_unread, no_names}
 use Rattle.objtool_cli.specs.Unwinding.{OutUnwinds}
-use Rattle.objtool_cli.specs.Words.{Command, check, dump, unwind}
+use Rattle.cli_words.specs.Grammar.{Command, check, demo, dump, help, unwind, version}
+use Rattle.cli_words.specs.declared.fault.UsageKind.{UsageKind}
+use Rattle.ot_base.specs.declared.options.Options.{Options}
+use Rattle.command_base.specs.declared.usage.Usage as declared
+use Rattle.command_base.specs.declared.usage.Usage.TheVariants as usage
+use Rattle.command_base.specs.declared.refusal.Refusal.TheVariants as refusal
+use Rattle.command_base.specs.Printing.{Prints, fails, fault_stays, runs_out, silent, tells, whole}
+use Rattle.command_base.proofs.ConcludeLemmas.{printed_fault, printed_sink_fault, printed_warnings}
+use Rattle.objtool_cli.specs.Words.{Meaning, are_built, is_built, is_told}
 use Rattle.ot_base.specs.declared.row.PlacedRow.{PlacedRow}
 use Rattle.elf_objects.specs.Elf.{Elf}
 use Rattle.read_back.specs.Dump.{HoldsRows, IsAnswered, IsDumped}
@@ -29,7 +39,7 @@ use Rattle.objtool_cli.proofs.ContentLemmas.{get-insert_other}
 
 -- a stop with the status of a file's fault is one
 read_fault : (s : Stop) (name : List ℕ) (before after : Outside) → StopsAtRead MAX_FILE_BYTES name before after s → status_of s ≡ FileFault → Rose before.faults after.faults
-read_fault stop.Usage name before after h e = absurd h
+read_fault (stop.Usage usage) name before after h e = absurd h
 read_fault (stop.Missing file) name before after h e = cc
 read_fault (stop.TooLong file limit) name before after h e = cc
 read_fault (stop.Refused refusal) name before after h e = absurd h
@@ -37,7 +47,7 @@ read_fault (stop.FileFault file) name before after h e = h.1
 read_fault stop.NoMemory name before after h e = cc
 
 write_fault : (s : Stop) (name : List ℕ) (before after : Outside) → StopsAtWrite name before after s → status_of s ≡ FileFault → Rose before.faults after.faults
-write_fault stop.Usage name before after h e = absurd h
+write_fault (stop.Usage usage) name before after h e = absurd h
 write_fault (stop.Missing file) name before after h e = absurd h
 write_fault (stop.TooLong file limit) name before after h e = absurd h
 write_fault (stop.Refused refusal) name before after h e = absurd h
@@ -45,40 +55,72 @@ write_fault (stop.FileFault file) name before after h e = h.1
 write_fault stop.NoMemory name before after h e = cc
 
 refusal_no_fault : (s : Stop) (bytes : List ℕ) → IsRefusal bytes s → status_of s ≢ FileFault
-refusal_no_fault stop.Usage bytes h e = absurd h
+refusal_no_fault (stop.Usage usage) bytes h e = absurd h
 refusal_no_fault (stop.Missing file) bytes h e = absurd h
 refusal_no_fault (stop.TooLong file limit) bytes h e = absurd h
 refusal_no_fault (stop.Refused refusal) bytes h e = cc
 refusal_no_fault (stop.FileFault file) bytes h e = absurd h
 refusal_no_fault stop.NoMemory bytes h e = cc
 
-stop_fault : (s : Stop) (input output : List ℕ) (before after : Outside) → Stops input output before after s → status_of s ≡ FileFault → Rose before.faults after.faults
-stop_fault s input output before after (unread h kept) e = read_fault s input before after h e
-stop_fault s input output before after (refused read may h kept) e = absurd (refusal_no_fault s read h e)
-stop_fault s input output before after (unwritten table accepted h others) e = write_fault s output before after h e
+-- nor is a faulty line of a names file a file's fault
+lists_no_fault : (s : Stop) (text : List ℕ) → IsListsStop text s → status_of s ≢ FileFault
+lists_no_fault (stop.Usage usage) text h e = absurd h
+lists_no_fault (stop.Missing file) text h e = absurd h
+lists_no_fault (stop.TooLong file limit) text h e = absurd h
+lists_no_fault (stop.Refused refusal) text h e = cc
+lists_no_fault (stop.FileFault file) text h e = absurd h
+lists_no_fault stop.NoMemory text h e = cc
 
-fault_of_check : (input output : List ℕ) (before after : Outside) (out out' : Output) (x : Status) → EndsCheck input output before after out out' x → x ≡ FileFault → Rose before.faults after.faults
-fault_of_check input output before after out out' Done (done is same) e = cc
-fault_of_check input output before after out out' x (stopped s h t) e = stop_fault s input output before after h (concluded_fault s out out' x t e)
+names_fault : (s : Stop) (names : Option (List ℕ)) (before after : Outside) → StopsAtNames names before after s → status_of s ≡ FileFault → Rose before.faults after.faults
+names_fault s names before after (names_unread file is h) e = read_fault s file before after h e
+names_fault s names before after (no_names file text is may h) e = absurd (lists_no_fault s text h e)
 
-no_usage_fault : status_of stop.Usage ≢ FileFault
-no_usage_fault e = cc
+stop_fault : (s : Stop) (input output : List ℕ) (names : Option (List ℕ)) (before after : Outside) → Stops input output names before after s → status_of s ≡ FileFault → Rose before.faults after.faults
+stop_fault s input output names before after (unread h kept) e = read_fault s input before after h e
+stop_fault s input output names before after (without_names read may h kept) e = names_fault s names before after h e
+stop_fault s input output names before after (refused read may lists h kept) e = absurd (refusal_no_fault s read h e)
+stop_fault s input output names before after (unwritten table accepted h others) e = write_fault s output before after h e
 
-pub file_fault : (command : Option Command) (before after : Outside) (out out' : Output) (x : Status) → Ends command before after out out' x → x ≡ FileFault → Rose before.faults after.faults
-file_fault command before after out out' x (no_command none same t) e = absurd (no_usage_fault (concluded_fault stop.Usage out out' x t e))
-file_fault command before after out out' x (checked input output is h) e = fault_of_check input output before after out out' x h e
-file_fault command before after out out' x (dumped file is h kept) e = dump_fault file before after out out' x h e
-file_fault command before after out out' x (unwound file image is h kept) e = unwind_fault file image before after out out' x h e
+fault_of_check : (input output : List ℕ) (names : Option (List ℕ)) (before after : Outside) (out out' : Output) (x : Status) → EndsCheck input output names before after out out' x → x ≡ FileFault → Rose before.faults after.faults
+fault_of_check input output names before after out out' Done (done is same) e = cc
+fault_of_check input output names before after out out' x (stopped s h t) e = stop_fault s input output names before after h (concluded_fault s out out' x t e)
 
-sink_fault_of_check : (input output : List ℕ) (before after : Outside) (out out' : Output) (x : Status) → EndsCheck input output before after out out' x → x ≡ SinkFault → Rose out.faults out'.faults
-sink_fault_of_check input output before after out out' Done (done is same) e = cc
-sink_fault_of_check input output before after out out' x (stopped s h t) e = concluded_sink_fault s out out' x t e
+no_usage_fault : (usage : declared.Usage) → status_of (stop.Usage usage) ≢ FileFault
+no_usage_fault usage e = cc
 
-pub sink_fault : (command : Option Command) (before after : Outside) (out out' : Output) (x : Status) → Ends command before after out out' x → x ≡ SinkFault → Rose out.faults out'.faults
-sink_fault command before after out out' x (no_command none same t) e = concluded_sink_fault stop.Usage out out' x t e
-sink_fault command before after out out' x (checked input output is h) e = sink_fault_of_check input output before after out out' x h e
-sink_fault command before after out out' x (dumped file is h kept) e = dump_sink_fault file before after out out' x h e
-sink_fault command before after out out' x (unwound file image is h kept) e = unwind_sink_fault file image before after out out' x h e
+no_memory_fault : status_of stop.NoMemory ≢ FileFault
+no_memory_fault e = cc
+
+done_no_fault : status.Done ≢ FileFault
+done_no_fault e = cc
+
+done_no_sink_fault : status.Done ≢ SinkFault
+done_no_sink_fault e = cc
+
+done_no_warnings : status.Done ≢ Warnings
+done_no_warnings e = cc
+
+pub file_fault : (meaning : Meaning) (before after : Outside) (out out' : Output) (x : Status) → Ends meaning before after out out' x → x ≡ FileFault → Rose before.faults after.faults
+file_fault meaning before after out out' x (faulty word kind is same t) e = absurd (no_usage_fault (usage.Words word kind) (concluded_fault (stop.Usage (usage.Words word kind)) out out' x t e))
+file_fault meaning before after out out' x (unfinished same t) e = absurd (no_memory_fault (concluded_fault stop.NoMemory out out' x t e))
+file_fault meaning before after out out' x (not_built command is none same t) e = absurd (no_usage_fault usage.NotBuilt (concluded_fault (stop.Usage usage.NotBuilt) out out' x t e))
+file_fault meaning before after out out' x (shown command is shows same t) e = absurd (done_no_fault (printed_fault Done t.text out out' x t.printed e))
+file_fault meaning before after out out' x (checked input output options names is built h) e = fault_of_check input output names before after out out' x h e
+file_fault meaning before after out out' x (dumped file is h kept) e = dump_fault file before after out out' x h e
+file_fault meaning before after out out' x (unwound file image is h kept) e = unwind_fault file image before after out out' x h e
+
+sink_fault_of_check : (input output : List ℕ) (names : Option (List ℕ)) (before after : Outside) (out out' : Output) (x : Status) → EndsCheck input output names before after out out' x → x ≡ SinkFault → Rose out.faults out'.faults
+sink_fault_of_check input output names before after out out' Done (done is same) e = cc
+sink_fault_of_check input output names before after out out' x (stopped s h t) e = concluded_sink_fault s out out' x t e
+
+pub sink_fault : (meaning : Meaning) (before after : Outside) (out out' : Output) (x : Status) → Ends meaning before after out out' x → x ≡ SinkFault → Rose out.faults out'.faults
+sink_fault meaning before after out out' x (faulty word kind is same t) e = concluded_sink_fault (stop.Usage (usage.Words word kind)) out out' x t e
+sink_fault meaning before after out out' x (unfinished same t) e = concluded_sink_fault stop.NoMemory out out' x t e
+sink_fault meaning before after out out' x (not_built command is none same t) e = concluded_sink_fault (stop.Usage usage.NotBuilt) out out' x t e
+sink_fault meaning before after out out' x (shown command is shows same t) e = printed_sink_fault Done t.text out out' x t.printed done_no_sink_fault e
+sink_fault meaning before after out out' x (checked input output options names is built h) e = sink_fault_of_check input output names before after out out' x h e
+sink_fault meaning before after out out' x (dumped file is h kept) e = dump_sink_fault file before after out out' x h e
+sink_fault meaning before after out out' x (unwound file image is h kept) e = unwind_sink_fault file image before after out out' x h e
 
 -- where OUT may have changed, a fault of it or want of memory is told
 neither : (x : Status) → (x ≡ FileFault) ⊎ (x ≡ NoMemory) → x ≢ FileFault → x ≢ NoMemory → ⊥
@@ -86,153 +128,263 @@ neither x (inl e) f m = f e
 neither x (inr e) f m = m e
 
 write_told : (s : Stop) (name : List ℕ) (before after : Outside) (out out' : Output) (x : Status) → StopsAtWrite name before after s → Concludes s out out' x → (x ≡ FileFault) ⊎ (x ≡ NoMemory)
-write_told stop.Usage name before after out out' x h t = absurd h
+write_told (stop.Usage usage) name before after out out' x h t = absurd h
 write_told (stop.Missing file) name before after out out' x h t = absurd h
 write_told (stop.TooLong file limit) name before after out out' x h t = absurd h
 write_told (stop.Refused refusal) name before after out out' x h t = absurd h
 write_told (stop.FileFault file) name before after out out' x h t = concluded_after_fault (stop.FileFault file) out out' x refl t
 write_told stop.NoMemory name before after out out' x h t = inr (concluded_no_memory out out' x t)
 
-stop_keeps : (s : Stop) (input output : List ℕ) (before after : Outside) (out out' : Output) (x : Status) → Stops input output before after s → Concludes s out out' x → x ≢ FileFault → x ≢ NoMemory → after.content ≡ before.content
-stop_keeps s input output before after out out' x (unread h kept) t f m = kept
-stop_keeps s input output before after out out' x (refused read may h kept) t f m = kept
-stop_keeps s input output before after out out' x (unwritten table accepted h others) t f m = absurd (neither x (write_told s output before after out out' x h t) f m)
+stop_keeps : (s : Stop) (input output : List ℕ) (names : Option (List ℕ)) (before after : Outside) (out out' : Output) (x : Status) → Stops input output names before after s → Concludes s out out' x → x ≢ FileFault → x ≢ NoMemory → after.content ≡ before.content
+stop_keeps s input output names before after out out' x (unread h kept) t f m = kept
+stop_keeps s input output names before after out out' x (without_names read may h kept) t f m = kept
+stop_keeps s input output names before after out out' x (refused read may lists h kept) t f m = kept
+stop_keeps s input output names before after out out' x (unwritten table accepted h others) t f m = absurd (neither x (write_told s output before after out out' x h t) f m)
 
-check_keeps : (input output : List ℕ) (before after : Outside) (out out' : Output) (x : Status) → EndsCheck input output before after out out' x → x ≢ Done → x ≢ FileFault → x ≢ NoMemory → after.content ≡ before.content
-check_keeps input output before after out out' Done (done is same) d f m = absurd (d refl)
-check_keeps input output before after out out' x (stopped s h t) d f m = stop_keeps s input output before after out out' x h t f m
+check_keeps : (input output : List ℕ) (names : Option (List ℕ)) (before after : Outside) (out out' : Output) (x : Status) → EndsCheck input output names before after out out' x → x ≢ Done → x ≢ FileFault → x ≢ NoMemory → after.content ≡ before.content
+check_keeps input output names before after out out' Done (done is same) d f m = absurd (d refl)
+check_keeps input output names before after out out' x (stopped s h t) d f m = stop_keeps s input output names before after out out' x h t f m
 
-pub unchanged : (command : Option Command) (before after : Outside) (out out' : Output) (x : Status) → Ends command before after out out' x → x ≢ Done → x ≢ FileFault → x ≢ NoMemory → after.content ≡ before.content
-unchanged command before after out out' x (no_command none same t) d f m = ap (λ (o : Outside). o.content) same
-unchanged command before after out out' x (checked input output is h) d f m = check_keeps input output before after out out' x h d f m
-unchanged command before after out out' x (dumped file is h kept) d f m = kept
-unchanged command before after out out' x (unwound file image is h kept) d f m = kept
+pub unchanged : (meaning : Meaning) (before after : Outside) (out out' : Output) (x : Status) → Ends meaning before after out out' x → x ≢ Done → x ≢ FileFault → x ≢ NoMemory → after.content ≡ before.content
+unchanged meaning before after out out' x (faulty word kind is same t) d f m = ap (λ (o : Outside). o.content) same
+unchanged meaning before after out out' x (unfinished same t) d f m = ap (λ (o : Outside). o.content) same
+unchanged meaning before after out out' x (not_built command is none same t) d f m = ap (λ (o : Outside). o.content) same
+unchanged meaning before after out out' x (shown command is shows same t) d f m = ap (λ (o : Outside). o.content) same
+unchanged meaning before after out out' x (checked input output options names is built h) d f m = check_keeps input output names before after out out' x h d f m
+unchanged meaning before after out out' x (dumped file is h kept) d f m = kept
+unchanged meaning before after out out' x (unwound file image is h kept) d f m = kept
 
 -- what writes OUT changes at most OUT
 written_others : (output table : List ℕ) (before after : Option Content) → after ≡ writing before output table → ChangesAtMost output before after
 written_others output table None after is = subst (λ (c : Option Content). ChangesAtMost output None c) (sym is) tt
 written_others output table (Some held) after is = subst (λ (c : Option Content). ChangesAtMost output (Some held) c) (sym is) (λ other differs. get-insert_other held output table other differs)
 
-abbrev Left : Option Command → Outside → Outside → Type 0
-Left command before after = (after.content ≡ before.content) ⊎ MayChange command before.content after.content
+abbrev Left : Meaning → Outside → Outside → Type 0
+Left meaning before after = (after.content ≡ before.content) ⊎ MayChange meaning before.content after.content
 
-stop_changes : (s : Stop) (command : Option Command) (input output : List ℕ) (before after : Outside) → command ≡ Some (check input output) → Stops input output before after s → Left command before after
-stop_changes s command input output before after is (unread h kept) = inl kept
-stop_changes s command input output before after is (refused read may h kept) = inl kept
-stop_changes s command input output before after is (unwritten table accepted h others) = inr (output_of_check input output table is accepted others)
+stop_changes : (s : Stop) (meaning : Meaning) (input output : List ℕ) (options : Options) (names : Option (List ℕ)) (before after : Outside) → meaning ≡ Ok (check input output options names) → Stops input output names before after s → Left meaning before after
+stop_changes s meaning input output options names before after is (unread h kept) = inl kept
+stop_changes s meaning input output options names before after is (without_names read may h kept) = inl kept
+stop_changes s meaning input output options names before after is (refused read may lists h kept) = inl kept
+stop_changes s meaning input output options names before after is (unwritten table accepted h others) = inr (output_of_check input output options names table is accepted others)
 
-check_changes : (command : Option Command) (input output : List ℕ) (before after : Outside) (out out' : Output) (x : Status) → command ≡ Some (check input output) → EndsCheck input output before after out out' x → Left command before after
-check_changes command input output before after out out' Done is (done d same) = inr (output_of_check input output d.table is d.accepted (written_others output d.table before.content after.content d.written))
-check_changes command input output before after out out' x is (stopped s h t) = stop_changes s command input output before after is h
+check_changes : (meaning : Meaning) (input output : List ℕ) (options : Options) (names : Option (List ℕ)) (before after : Outside) (out out' : Output) (x : Status) → meaning ≡ Ok (check input output options names) → EndsCheck input output names before after out out' x → Left meaning before after
+check_changes meaning input output options names before after out out' Done is (done d same) = inr (output_of_check input output options names d.table is d.accepted (written_others output d.table before.content after.content d.written))
+check_changes meaning input output options names before after out out' x is (stopped s h t) = stop_changes s meaning input output options names before after is h
 
-pub changes : (command : Option Command) (before after : Outside) (out out' : Output) (x : Status) → Ends command before after out out' x → Left command before after
-changes command before after out out' x (no_command none same t) = inl (ap (λ (o : Outside). o.content) same)
-changes command before after out out' x (checked input output is h) = check_changes command input output before after out out' x is h
-changes command before after out out' x (dumped file is h kept) = inl kept
-changes command before after out out' x (unwound file image is h kept) = inl kept
+pub changes : (meaning : Meaning) (before after : Outside) (out out' : Output) (x : Status) → Ends meaning before after out out' x → Left meaning before after
+changes meaning before after out out' x (faulty word kind is same t) = inl (ap (λ (o : Outside). o.content) same)
+changes meaning before after out out' x (unfinished same t) = inl (ap (λ (o : Outside). o.content) same)
+changes meaning before after out out' x (not_built command is none same t) = inl (ap (λ (o : Outside). o.content) same)
+changes meaning before after out out' x (shown command is shows same t) = inl (ap (λ (o : Outside). o.content) same)
+changes meaning before after out out' x (checked input output options names is built h) = check_changes meaning input output options names before after out out' x is h
+changes meaning before after out out' x (dumped file is h kept) = inl kept
+changes meaning before after out out' x (unwound file image is h kept) = inl kept
 
-check_no_unwind : (file image input output : List ℕ) → ◌≡◌ {A = Option Command} (Some (unwind file image)) (Some (check input output)) → ⊥
-check_no_unwind file image input output e = cc
+-- ---- words mean one thing
 
-dump_no_unwind : (file other image : List ℕ) → ◌≡◌ {A = Option Command} (Some (dump file)) (Some (unwind other image)) → ⊥
-dump_no_unwind file other image e = cc
+pub same_command : (meaning : Meaning) (c d : Command) → meaning ≡ Ok c → meaning ≡ Ok d → c ≡ d
+same_command meaning c d p q =
+    let same : ◌≡◌ {A = Meaning} (Ok c) (Ok d) = sym p ∙ q in
+    cc
 
-check_no_dump : (file input output : List ℕ) → ◌≡◌ {A = Option Command} (Some (dump file)) (Some (check input output)) → ⊥
-check_no_dump file input output e = cc
+pub no_fault_and_command : (meaning : Meaning) (word : ℕ) (kind : UsageKind) (c : Command) → meaning ≡ Err (word, kind) → meaning ≡ Ok c → ⊥
+no_fault_and_command meaning word kind c p q =
+    let same : ◌≡◌ {A = Meaning} (Err (word, kind)) (Ok c) = sym p ∙ q in
+    cc
 
-silent_check : (input output : List ℕ) (before after : Outside) (out out' : Output) (x : Status) → EndsCheck input output before after out out' x → x ≡ Done → out'.written ≡ out.written
-silent_check input output before after out out' Done (done is same) e = ap (λ (o : Output). o.written) same
-silent_check input output before after out out' x (stopped s h t) e = absurd (concluded_not_done s out out' x t e)
+not_both : (b : Bool) → b ≡ true → b ≡ false → ⊥
+not_both b p q = let same : true ≡ false = sym p ∙ q in cc
 
-pub tells_nothing : (command : Option Command) (before after : Outside) (out out' : Output) (x : Status) (input output : List ℕ) → Ends command before after out out' x → command ≡ Some (check input output) → x ≡ Done → out'.written ≡ out.written
-tells_nothing command before after out out' x input output (no_command none same t) n e = absurd (concluded_not_done stop.Usage out out' x t e)
-tells_nothing command before after out out' x input output (dumped file is h kept) n e = absurd (check_no_dump file input output (sym is ∙ n))
-tells_nothing command before after out out' x input output (unwound file image is h kept) n e = absurd (check_no_unwind file image input output (sym is ∙ n))
-tells_nothing command before after out out' x input output (checked i o is h) n e = silent_check i o before after out out' x h e
+-- a command that prints a text of the program is no other, and a command that isn't built is none that is
+pub not_told : (meaning : Meaning) (c d : Command) → meaning ≡ Ok c → meaning ≡ Ok d → is_told c ≡ true → is_told d ≡ false → ⊥
+not_told meaning c d p q told other = not_both (is_told c) told (ap is_told (same_command meaning c d p q) ∙ other)
 
-no_warnings_of_check : (input output : List ℕ) (before after : Outside) (out out' : Output) (x : Status) → EndsCheck input output before after out out' x → x ≢ Warnings
-no_warnings_of_check input output before after out out' Done (done is same) e = cc
-no_warnings_of_check input output before after out out' x (stopped s h t) e = concluded_no_warnings s out out' x t e
+pub not_unbuilt : (meaning : Meaning) (c d : Command) → meaning ≡ Ok c → meaning ≡ Ok d → is_built c ≡ false → is_built d ≡ true → ⊥
+not_unbuilt meaning c d p q none built = not_both (is_built c) (ap is_built (same_command meaning c d p q) ∙ built) none
 
-pub without_warnings : (command : Option Command) (before after : Outside) (out out' : Output) (x : Status) → Ends command before after out out' x → x ≢ Warnings
-without_warnings command before after out out' x (no_command none same t) e = concluded_no_warnings stop.Usage out out' x t e
-without_warnings command before after out out' x (checked input output is h) e = no_warnings_of_check input output before after out out' x h e
-without_warnings command before after out out' x (dumped file is h kept) e = dump_no_warnings file before after out out' x h e
-without_warnings command before after out out' x (unwound file image is h kept) e = unwind_no_warnings file image before after out out' x h e
+no_check_dump : (meaning : Meaning) (input output : List ℕ) (options : Options) (names : Option (List ℕ)) (file : List ℕ) → meaning ≡ Ok (check input output options names) → meaning ≡ Ok (dump file) → ⊥
+no_check_dump meaning input output options names file p q = let same = same_command meaning _ _ p q in cc
+
+no_check_unwind : (meaning : Meaning) (input output : List ℕ) (options : Options) (names : Option (List ℕ)) (file image : List ℕ) → meaning ≡ Ok (check input output options names) → meaning ≡ Ok (unwind file image) → ⊥
+no_check_unwind meaning input output options names file image p q = let same = same_command meaning _ _ p q in cc
+
+no_dump_unwind : (meaning : Meaning) (other file image : List ℕ) → meaning ≡ Ok (dump other) → meaning ≡ Ok (unwind file image) → ⊥
+no_dump_unwind meaning other file image p q = let same = same_command meaning _ _ p q in cc
+
+silent_check : (input output : List ℕ) (names : Option (List ℕ)) (before after : Outside) (out out' : Output) (x : Status) → EndsCheck input output names before after out out' x → x ≡ Done → out'.written ≡ out.written
+silent_check input output names before after out out' Done (done is same) e = ap (λ (o : Output). o.written) same
+silent_check input output names before after out out' x (stopped s h t) e = absurd (concluded_not_done s out out' x t e)
+
+-- a stop that is told is no command that is done
+unless_told : (s : Stop) (out out' : Output) (x : Status) → Concludes s out out' x → x ≡ Done → ⊥
+unless_told s out out' x t e = concluded_not_done s out out' x t e
+
+pub tells_nothing : (meaning : Meaning) (before after : Outside) (out out' : Output) (x : Status) (input output : List ℕ) (options : Options) (names : Option (List ℕ)) → Ends meaning before after out out' x → meaning ≡ Ok (check input output options names) → x ≡ Done → out'.written ≡ out.written
+tells_nothing meaning before after out out' x input output options names (faulty word kind is same t) n e = absurd (unless_told _ out out' x t e)
+tells_nothing meaning before after out out' x input output options names (unfinished same t) n e = absurd (unless_told _ out out' x t e)
+tells_nothing meaning before after out out' x input output options names (not_built command is none same t) n e = absurd (unless_told _ out out' x t e)
+tells_nothing meaning before after out out' x input output options names (shown command is shows same t) n e = absurd (not_told meaning command _ is n shows refl)
+tells_nothing meaning before after out out' x input output options names (dumped file is h kept) n e = absurd (no_check_dump meaning input output options names file n is)
+tells_nothing meaning before after out out' x input output options names (unwound file image is h kept) n e = absurd (no_check_unwind meaning input output options names file image n is)
+tells_nothing meaning before after out out' x input output options names (checked i o os ns is built h) n e = silent_check i o ns before after out out' x h e
+
+no_warnings_of_check : (input output : List ℕ) (names : Option (List ℕ)) (before after : Outside) (out out' : Output) (x : Status) → EndsCheck input output names before after out out' x → x ≢ Warnings
+no_warnings_of_check input output names before after out out' Done (done is same) e = cc
+no_warnings_of_check input output names before after out out' x (stopped s h t) e = concluded_no_warnings s out out' x t e
+
+pub without_warnings : (meaning : Meaning) (before after : Outside) (out out' : Output) (x : Status) → Ends meaning before after out out' x → x ≢ Warnings
+without_warnings meaning before after out out' x (faulty word kind is same t) e = concluded_no_warnings (stop.Usage (usage.Words word kind)) out out' x t e
+without_warnings meaning before after out out' x (unfinished same t) e = concluded_no_warnings stop.NoMemory out out' x t e
+without_warnings meaning before after out out' x (not_built command is none same t) e = concluded_no_warnings (stop.Usage usage.NotBuilt) out out' x t e
+without_warnings meaning before after out out' x (shown command is shows same t) e = done_no_warnings (printed_warnings Done t.text out out' x t.printed e)
+without_warnings meaning before after out out' x (checked input output options names is built h) e = no_warnings_of_check input output names before after out out' x h e
+without_warnings meaning before after out out' x (dumped file is h kept) e = dump_no_warnings file before after out out' x h e
+without_warnings meaning before after out out' x (unwound file image is h kept) e = unwind_no_warnings file image before after out out' x h e
 
 -- ---- a command's names
 
 abbrev input_of : Command → List ℕ
-input_of (check input output) = input
+input_of (check input output options names) = input
 input_of (dump file) = file
 input_of (unwind file image) = file
+input_of (demo n) = []
+input_of help = []
+input_of version = []
 
 abbrev output_of : Command → List ℕ
-output_of (check input output) = output
+output_of (check input output options names) = output
 output_of (dump file) = []
 output_of (unwind file image) = image
+output_of (demo n) = []
+output_of help = []
+output_of version = []
 
-abbrev names_of : Option Command → List ℕ × List ℕ
-names_of None = ([], [])
-names_of (Some command) = (input_of command, output_of command)
+abbrev lists_of : Command → Option (List ℕ)
+lists_of (check input output options names) = names
+lists_of (dump file) = None
+lists_of (unwind file image) = None
+lists_of (demo n) = None
+lists_of help = None
+lists_of version = None
 
-pub both_names : (command : Option Command) (input output input' output' : List ℕ) → command ≡ Some (check input output) → command ≡ Some (check input' output') → (input ≡ input') × (output ≡ output')
-both_names command input output input' output' p q =
-    let same = ap names_of (sym p ∙ q) in
-    (ap (λ (both : List ℕ × List ℕ). both.0) same, ap (λ (both : List ℕ × List ℕ). both.1) same)
+pub same_inputs : (c d : Command) → c ≡ d → input_of c ≡ input_of d
+same_inputs c d same = ap input_of same
 
-check_unwound : (input output : List ℕ) (before after : Outside) (out out' : Output) (x : Status) → EndsCheck input output before after out out' x → x ≡ Done → OutUnwinds input output before.content after.content
-check_unwound input output before after out out' Done (done is same) e = is.unwinds
-check_unwound input output before after out out' x (stopped s h t) e = absurd (concluded_not_done s out out' x t e)
+pub same_lists : (c d : Command) → c ≡ d → lists_of c ≡ lists_of d
+same_lists c d same = ap lists_of same
 
-pub out_unwinds : (command : Option Command) (before after : Outside) (out out' : Output) (x : Status) (input output : List ℕ) → Ends command before after out out' x → x ≡ Done → command ≡ Some (check input output) → OutUnwinds input output before.content after.content
-out_unwinds command before after out out' x input output (no_command none same t) e n = absurd (concluded_not_done stop.Usage out out' x t e)
-out_unwinds command before after out out' x input output (dumped file is h kept) e n = absurd (check_no_dump file input output (sym is ∙ n))
-out_unwinds command before after out out' x input output (unwound file image is h kept) e n = absurd (check_no_unwind file image input output (sym is ∙ n))
-out_unwinds command before after out out' x input output (checked i o is h) e n =
-    let both = both_names command i o input output is n in
-    subst (λ (m : List ℕ). OutUnwinds m output before.content after.content) both.0 (subst (λ (m : List ℕ). OutUnwinds i m before.content after.content) both.1 (check_unwound i o before after out out' x h e))
+check_unwound : (input output : List ℕ) (names : Option (List ℕ)) (before after : Outside) (out out' : Output) (x : Status) → EndsCheck input output names before after out out' x → x ≡ Done → OutUnwinds input output before.content after.content
+check_unwound input output names before after out out' Done (done is same) e = is.unwinds
+check_unwound input output names before after out out' x (stopped s h t) e = absurd (concluded_not_done s out out' x t e)
+
+pub out_unwinds : (meaning : Meaning) (before after : Outside) (out out' : Output) (x : Status) (input output : List ℕ) (options : Options) (names : Option (List ℕ)) → Ends meaning before after out out' x → x ≡ Done → meaning ≡ Ok (check input output options names) → OutUnwinds input output before.content after.content
+out_unwinds meaning before after out out' x input output options names (faulty word kind is same t) e n = absurd (unless_told _ out out' x t e)
+out_unwinds meaning before after out out' x input output options names (unfinished same t) e n = absurd (unless_told _ out out' x t e)
+out_unwinds meaning before after out out' x input output options names (not_built command is none same t) e n = absurd (unless_told _ out out' x t e)
+out_unwinds meaning before after out out' x input output options names (shown command is shows same t) e n = absurd (not_told meaning command _ is n shows refl)
+out_unwinds meaning before after out out' x input output options names (dumped file is h kept) e n = absurd (no_check_dump meaning input output options names file n is)
+out_unwinds meaning before after out out' x input output options names (unwound file image is h kept) e n = absurd (no_check_unwind meaning input output options names file image n is)
+out_unwinds meaning before after out out' x input output options names (checked i o os ns is built h) e n =
+    let same : check i o os ns ≡ check input output options names = same_command meaning _ _ is n in
+    subst (λ (m : List ℕ). OutUnwinds m output before.content after.content) (ap input_of same) (subst (λ (m : List ℕ). OutUnwinds i m before.content after.content) (ap output_of same) (check_unwound i o ns before after out out' x h e))
 
 -- ---- `dump`
 
-same_file : (file other : List ℕ) → ◌≡◌ {A = Option Command} (Some (dump file)) (Some (dump other)) → file ≡ other
-same_file file other e = ap (λ (both : List ℕ × List ℕ). both.0) (ap names_of e)
+pub rows_dumped : (meaning : Meaning) (before after : Outside) (out out' : Output) (x : Status) (file : List ℕ) → Ends meaning before after out out' x → x ≡ Done → meaning ≡ Ok (dump file) → IsDumped file before.content out.written out'.written
+rows_dumped meaning before after out out' x file (faulty word kind is same t) e n = absurd (unless_told _ out out' x t e)
+rows_dumped meaning before after out out' x file (unfinished same t) e n = absurd (unless_told _ out out' x t e)
+rows_dumped meaning before after out out' x file (not_built command is none same t) e n = absurd (unless_told _ out out' x t e)
+rows_dumped meaning before after out out' x file (shown command is shows same t) e n = absurd (not_told meaning command _ is n shows refl)
+rows_dumped meaning before after out out' x file (checked i o os ns is built h) e n = absurd (no_check_dump meaning i o os ns file is n)
+rows_dumped meaning before after out out' x file (unwound other image is h kept) e n = absurd (no_dump_unwind meaning file other image n is)
+rows_dumped meaning before after out out' x file (dumped other is h kept) e n = subst (λ (name : List ℕ). IsDumped name before.content out.written out'.written) (ap input_of (same_command meaning (dump other) (dump file) is n)) (file_dumped other before after out out' x h e)
 
-pub rows_dumped : (command : Option Command) (before after : Outside) (out out' : Output) (x : Status) (file : List ℕ) → Ends command before after out out' x → x ≡ Done → command ≡ Some (dump file) → IsDumped file before.content out.written out'.written
-rows_dumped command before after out out' x file (no_command none same t) e n = absurd (concluded_not_done stop.Usage out out' x t e)
-rows_dumped command before after out out' x file (checked i o is h) e n = absurd (check_no_dump file i o (sym n ∙ is))
-rows_dumped command before after out out' x file (unwound other image is h kept) e n = absurd (dump_no_unwind file other image (sym n ∙ is))
-rows_dumped command before after out out' x file (dumped other is h kept) e n = subst (λ (name : List ℕ). IsDumped name before.content out.written out'.written) (same_file other file (sym is ∙ n)) (file_dumped other before after out out' x h e)
+-- what is left where memory runs out
+no_memory_left : (out out' : Output) (x : Status) → Concludes stop.NoMemory out out' x → IsAnswered x
+no_memory_left out out' x t = inr (inr (inr (concluded_no_memory out out' x t)))
 
-no_command_given : (file : List ℕ) → ◌≡◌ {A = Option Command} None (Some (dump file)) → ⊥
-no_command_given file e = cc
-
-pub dump_answered : (command : Option Command) (before after : Outside) (out out' : Output) (x : Status) (file bytes : List ℕ) (o : Elf) (rows : List PlacedRow) (content : Content) → Ends command before after out out' x → command ≡ Some (dump file) → before.content ≡ Some content → reading content file MAX_FILE_BYTES ≡ Ok bytes → HoldsRows bytes o rows → IsAnswered x
-dump_answered command before after out out' x file bytes o rows content (no_command none same t) n c r held = absurd (no_command_given file (sym none ∙ n))
-dump_answered command before after out out' x file bytes o rows content (checked i p is h) n c r held = absurd (check_no_dump file i p (sym n ∙ is))
-dump_answered command before after out out' x file bytes o rows content (unwound other image is h kept) n c r held = absurd (dump_no_unwind file other image (sym n ∙ is))
-dump_answered command before after out out' x file bytes o rows content (dumped other is h kept) n c r held = dump_left other bytes o rows content before after out out' x c (subst (λ (name : List ℕ). reading content name MAX_FILE_BYTES ≡ Ok bytes) (sym (same_file other file (sym is ∙ n))) r) held h
+pub dump_answered : (meaning : Meaning) (before after : Outside) (out out' : Output) (x : Status) (file bytes : List ℕ) (o : Elf) (rows : List PlacedRow) (content : Content) → Ends meaning before after out out' x → meaning ≡ Ok (dump file) → before.content ≡ Some content → reading content file MAX_FILE_BYTES ≡ Ok bytes → HoldsRows bytes o rows → IsAnswered x
+dump_answered meaning before after out out' x file bytes o rows content (faulty word kind is same t) n c r held = absurd (no_fault_and_command meaning word kind _ is n)
+dump_answered meaning before after out out' x file bytes o rows content (unfinished same t) n c r held = no_memory_left out out' x t
+dump_answered meaning before after out out' x file bytes o rows content (not_built command is none same t) n c r held = absurd (not_unbuilt meaning command _ is n none refl)
+dump_answered meaning before after out out' x file bytes o rows content (shown command is shows same t) n c r held = absurd (not_told meaning command _ is n shows refl)
+dump_answered meaning before after out out' x file bytes o rows content (checked i p os ns is built h) n c r held = absurd (no_check_dump meaning i p os ns file is n)
+dump_answered meaning before after out out' x file bytes o rows content (unwound other image is h kept) n c r held = absurd (no_dump_unwind meaning file other image n is)
+dump_answered meaning before after out out' x file bytes o rows content (dumped other is h kept) n c r held = dump_left other bytes o rows content before after out out' x c (subst (λ (name : List ℕ). reading content name MAX_FILE_BYTES ≡ Ok bytes) (sym (ap input_of (same_command meaning (dump other) (dump file) is n))) r) held h
 
 -- ---- `unwind`
 
-same_files : (file image other others : List ℕ) → ◌≡◌ {A = Option Command} (Some (unwind file image)) (Some (unwind other others)) → (file ≡ other) × (image ≡ others)
-same_files file image other others e = (ap (λ (both : List ℕ × List ℕ). both.0) (ap names_of e), ap (λ (both : List ℕ × List ℕ). both.1) (ap names_of e))
+pub walk_printed : (meaning : Meaning) (before after : Outside) (out out' : Output) (x : Status) (file image : List ℕ) → Ends meaning before after out out' x → x ≡ Done → meaning ≡ Ok (unwind file image) → IsUnwound file image before.content out.written out'.written
+walk_printed meaning before after out out' x file image (faulty word kind is same t) e n = absurd (unless_told _ out out' x t e)
+walk_printed meaning before after out out' x file image (unfinished same t) e n = absurd (unless_told _ out out' x t e)
+walk_printed meaning before after out out' x file image (not_built command is none same t) e n = absurd (unless_told _ out out' x t e)
+walk_printed meaning before after out out' x file image (shown command is shows same t) e n = absurd (not_told meaning command _ is n shows refl)
+walk_printed meaning before after out out' x file image (checked i o os ns is built h) e n = absurd (no_check_unwind meaning i o os ns file image is n)
+walk_printed meaning before after out out' x file image (dumped other is h kept) e n = absurd (no_dump_unwind meaning other file image is n)
+walk_printed meaning before after out out' x file image (unwound other others is h kept) e n =
+    let same : unwind other others ≡ unwind file image = same_command meaning _ _ is n in
+    subst (λ (name : List ℕ). IsUnwound name image before.content out.written out'.written) (ap input_of same) (subst (λ (name : List ℕ). IsUnwound other name before.content out.written out'.written) (ap output_of same) (files_unwound other others before after out out' x h e))
 
-no_unwind_given : (file image : List ℕ) → ◌≡◌ {A = Option Command} None (Some (unwind file image)) → ⊥
-no_unwind_given file image e = cc
+pub unwind_answered : (meaning : Meaning) (before after : Outside) (out out' : Output) (x : Status) (file image bytes text : List ℕ) (stack : StackImage) (o : Elf) (rows : List PlacedRow) (content : Content) → Ends meaning before after out out' x → meaning ≡ Ok (unwind file image) → before.content ≡ Some content → reading content file MAX_FILE_BYTES ≡ Ok bytes → reading content image MAX_IMAGE_BYTES ≡ Ok text → IsPlaced bytes text stack o rows → IsAnswered x
+unwind_answered meaning before after out out' x file image bytes text stack o rows content (faulty word kind is same t) n c r q placed = absurd (no_fault_and_command meaning word kind _ is n)
+unwind_answered meaning before after out out' x file image bytes text stack o rows content (unfinished same t) n c r q placed = no_memory_left out out' x t
+unwind_answered meaning before after out out' x file image bytes text stack o rows content (not_built command is none same t) n c r q placed = absurd (not_unbuilt meaning command _ is n none refl)
+unwind_answered meaning before after out out' x file image bytes text stack o rows content (shown command is shows same t) n c r q placed = absurd (not_told meaning command _ is n shows refl)
+unwind_answered meaning before after out out' x file image bytes text stack o rows content (checked i p os ns is built h) n c r q placed = absurd (no_check_unwind meaning i p os ns file image is n)
+unwind_answered meaning before after out out' x file image bytes text stack o rows content (dumped other is h kept) n c r q placed = absurd (no_dump_unwind meaning other file image is n)
+unwind_answered meaning before after out out' x file image bytes text stack o rows content (unwound other others is h kept) n c r q placed =
+    let same : unwind other others ≡ unwind file image = same_command meaning _ _ is n in
+    unwind_left other others bytes text stack o rows content before after out out' x c (subst (λ (name : List ℕ). reading content name MAX_FILE_BYTES ≡ Ok bytes) (sym (ap input_of same)) r) (subst (λ (name : List ℕ). reading content name MAX_IMAGE_BYTES ≡ Ok text) (sym (ap output_of same)) q) placed h
 
-pub walk_printed : (command : Option Command) (before after : Outside) (out out' : Output) (x : Status) (file image : List ℕ) → Ends command before after out out' x → x ≡ Done → command ≡ Some (unwind file image) → IsUnwound file image before.content out.written out'.written
-walk_printed command before after out out' x file image (no_command none same t) e n = absurd (concluded_not_done stop.Usage out out' x t e)
-walk_printed command before after out out' x file image (checked i o is h) e n = absurd (check_no_unwind file image i o (sym n ∙ is))
-walk_printed command before after out out' x file image (dumped other is h kept) e n = absurd (dump_no_unwind other file image (sym is ∙ n))
-walk_printed command before after out out' x file image (unwound other others is h kept) e n =
-    let both = same_files other others file image (sym is ∙ n) in
-    subst (λ (name : List ℕ). IsUnwound name image before.content out.written out'.written) both.0 (subst (λ (name : List ℕ). IsUnwound other name before.content out.written out'.written) both.1 (files_unwound other others before after out out' x h e))
+-- ---- the words' fault
 
-pub unwind_answered : (command : Option Command) (before after : Outside) (out out' : Output) (x : Status) (file image bytes text : List ℕ) (stack : StackImage) (o : Elf) (rows : List PlacedRow) (content : Content) → Ends command before after out out' x → command ≡ Some (unwind file image) → before.content ≡ Some content → reading content file MAX_FILE_BYTES ≡ Ok bytes → reading content image MAX_IMAGE_BYTES ≡ Ok text → IsPlaced bytes text stack o rows → IsAnswered x
-unwind_answered command before after out out' x file image bytes text stack o rows content (no_command none same t) n c r q placed = absurd (no_unwind_given file image (sym none ∙ n))
-unwind_answered command before after out out' x file image bytes text stack o rows content (checked i p is h) n c r q placed = absurd (check_no_unwind file image i p (sym n ∙ is))
-unwind_answered command before after out out' x file image bytes text stack o rows content (dumped other is h kept) n c r q placed = absurd (dump_no_unwind other file image (sym is ∙ n))
-unwind_answered command before after out out' x file image bytes text stack o rows content (unwound other others is h kept) n c r q placed =
-    let both = same_files other others file image (sym is ∙ n) in
-    unwind_left other others bytes text stack o rows content before after out out' x c (subst (λ (name : List ℕ). reading content name MAX_FILE_BYTES ≡ Ok bytes) (sym both.0) r) (subst (λ (name : List ℕ). reading content name MAX_IMAGE_BYTES ≡ Ok text) (sym both.1) q) placed h
+printed_usage : (text : List ℕ) (out out' : Output) (x : Status) → Prints status.Usage text out out' x → IsUsageAnswer x
+printed_usage text out out' x (whole at all) = inl at
+printed_usage text out out' status.FileFault (fault_stays prefix rose at) = let same : status.Usage ≡ status.FileFault = at in cc
+printed_usage text out out' status.SinkFault (fails prefix rose other) = inr (inl refl)
+printed_usage text out out' status.NoMemory (runs_out prefix) = inr (inr refl)
+
+concluded_usage : (usage : declared.Usage) (out out' : Output) (x : Status) → Concludes (stop.Usage usage) out out' x → IsUsageAnswer x
+concluded_usage usage out out' x (tells other t) = printed_usage _ out out' x t
+concluded_usage usage out out' status.NoMemory (silent none same) = inr (inr refl)
+
+memory_answered : (out out' : Output) (x : Status) → Concludes stop.NoMemory out out' x → IsUsageAnswer x
+memory_answered out out' x t = inr (inr (concluded_no_memory out out' x t))
+
+told_built : (c : Command) → is_told c ≡ true → is_built c ≡ true
+told_built (check input output options names) told = absurd (not_both false told refl)
+told_built (dump file) told = refl
+told_built (unwind file image) told = refl
+told_built (demo n) told = absurd (not_both false told refl)
+told_built help told = refl
+told_built version told = refl
+
+fault_answered : (meaning : Meaning) (word : ℕ) (kind : UsageKind) (before after : Outside) (out out' : Output) (x : Status) → meaning ≡ Err (word, kind) → Ends meaning before after out out' x → IsUsageAnswer x
+fault_answered meaning word kind before after out out' x p (faulty at why is same t) = concluded_usage _ out out' x t
+fault_answered meaning word kind before after out out' x p (unfinished same t) = memory_answered out out' x t
+fault_answered meaning word kind before after out out' x p (not_built command is none same t) = concluded_usage _ out out' x t
+fault_answered meaning word kind before after out out' x p (shown command is shows same t) = absurd (no_fault_and_command meaning word kind _ p is)
+fault_answered meaning word kind before after out out' x p (dumped file is h kept) = absurd (no_fault_and_command meaning word kind _ p is)
+fault_answered meaning word kind before after out out' x p (unwound file image is h kept) = absurd (no_fault_and_command meaning word kind _ p is)
+fault_answered meaning word kind before after out out' x p (checked i o os ns is built h) = absurd (no_fault_and_command meaning word kind _ p is)
+
+unbuilt_answered : (meaning : Meaning) (c : Command) (before after : Outside) (out out' : Output) (x : Status) → meaning ≡ Ok c → is_built c ≡ false → Ends meaning before after out out' x → IsUsageAnswer x
+unbuilt_answered meaning c before after out out' x p none (faulty at why is same t) = concluded_usage _ out out' x t
+unbuilt_answered meaning c before after out out' x p none (unfinished same t) = memory_answered out out' x t
+unbuilt_answered meaning c before after out out' x p none (not_built command is other same t) = concluded_usage _ out out' x t
+unbuilt_answered meaning c before after out out' x p none (shown command is shows same t) = absurd (not_unbuilt meaning c command p is none (told_built command shows))
+unbuilt_answered meaning c before after out out' x p none (dumped file is h kept) = absurd (not_unbuilt meaning c _ p is none refl)
+unbuilt_answered meaning c before after out out' x p none (unwound file image is h kept) = absurd (not_unbuilt meaning c _ p is none refl)
+unbuilt_answered meaning c before after out out' x p none (checked i o os ns is built h) = absurd (not_unbuilt meaning c _ p is none built)
+
+pub usage_answered : (meaning : Meaning) (before after : Outside) (out out' : Output) (x : Status) → Ends meaning before after out out' x → IsFaulty meaning → IsUsageAnswer x
+usage_answered meaning before after out out' x h (at_fault word kind p) = fault_answered meaning word kind before after out out' x p h
+usage_answered meaning before after out out' x h (asks_too_much c p none) = unbuilt_answered meaning c before after out out' x p none h
+
+-- the end of one command is that of another that is the same
+pub ends_of : (c d : Command) (before after : Outside) (out out' : Output) (x : Status) → c ≡ d → Ends (Ok c) before after out out' x → Ends (Ok d) before after out out' x
+ends_of c d before after out out' x same h = subst (λ (e : Command). Ends (Ok e) before after out out' x) same h
+
+pub check_is : (i j o p : List ℕ) (options : Options) (names others : Option (List ℕ)) → i ≡ j → o ≡ p → names ≡ others → check i o options names ≡ check j p options others
+check_is i j o p options names others a b c = cc

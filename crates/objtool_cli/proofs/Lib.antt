@@ -4,6 +4,8 @@ pub mod ContentLemmas
 pub mod EndsLemmas
 pub mod FormLemmas
 pub mod LaterLemmas
+pub mod ListsLemmas
 pub mod ParseLemmas
 pub mod TextsLemmas
 pub mod UnwindingLemmas
+pub mod UsageLemmas

@@ -33,13 +33,14 @@ pub text_refusal : (bytes : List ℕ) (o : Elf) (s : Stop) → IsObject bytes o 
 text_refusal bytes o (stop.Refused (refusal.Undecoded place)) is h = undecoded o is h
 text_refusal bytes o (stop.Refused (refusal.Malformed fault)) is h = absurd h
 text_refusal bytes o (stop.Refused (refusal.Orc fault)) is h = absurd h
+text_refusal bytes o (stop.Refused (refusal.Lists fault)) is h = absurd h
 text_refusal bytes o (stop.Refused (refusal.Image fault)) is h = absurd h
 text_refusal bytes o (stop.Refused (refusal.NoText sec)) is h = absurd h
 text_refusal bytes o (stop.Refused (refusal.Unplaced fault)) is h = absurd h
 text_refusal bytes o (stop.Refused (refusal.TooManySections count)) is h = absurd h
 text_refusal bytes o (stop.Refused refusal.NotBuilt) is h = absurd h
 text_refusal bytes o stop.NoMemory is h = tt
-text_refusal bytes o stop.Usage is h = absurd h
+text_refusal bytes o (stop.Usage usage) is h = absurd h
 text_refusal bytes o (stop.Missing file) is h = absurd h
 text_refusal bytes o (stop.TooLong file limit) is h = absurd h
 text_refusal bytes o (stop.FileFault file) is h = absurd h

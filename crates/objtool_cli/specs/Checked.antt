@@ -49,7 +49,7 @@ pub data Refuses (bytes : List ℕ) : Refusal → Type 0 where
 abbrev pub IsRefusal : List ℕ → Stop → Type 0
 IsRefusal bytes (Refused refusal) = Refuses bytes refusal
 IsRefusal bytes NoMemory = Unit {0}
-IsRefusal bytes Usage = ⊥
+IsRefusal bytes (Usage usage) = ⊥
 IsRefusal bytes (Missing file) = ⊥
 IsRefusal bytes (TooLong file limit) = ⊥
 IsRefusal bytes (FileFault file) = ⊥

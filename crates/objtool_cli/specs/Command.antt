@@ -1,5 +1,5 @@
 -- What the commands do, on whatever their files hold, and how they end.
-use Rattle.std.specs.Prelude.{◌≡◌, ℕ, List, Option, Some, None, Ok}
+use Rattle.std.specs.Prelude.{◌≡◌, ◌⊎◌, ℕ, List, Option, Some, None, Result, Ok, Err, true, false}
 use Rattle.ot_files.specs.Causes.{Rose}
 use Rattle.ot_files.specs.Content.{Content, ChangesAtMost, writing}
 use Rattle.elf_objects.specs.declared.TheConstants.{MAX_FILE_BYTES}
@@ -8,25 +8,32 @@ use Rattle.command_base.specs.declared.status.Status.TheVariants as status
 use Rattle.command_base.specs.declared.stop.Stop.{Stop}
 use Rattle.command_base.specs.declared.stop.Stop.TheVariants.{Usage, Missing, TooLong, Refused, FileFault, NoMemory}
 use Rattle.command_base.specs.Outside.{Outside, Output}
-use Rattle.command_base.specs.Printing.{Concludes}
+use Rattle.command_base.specs.Printing.{Concludes, Prints}
 use Rattle.command_base.specs.Reading.{MayRead, StopsAtRead}
 use Rattle.read_back.specs.Dump.{EndsDump}
 use Rattle.read_back.specs.Unwind.{EndsUnwind}
 use Rattle.objtool_cli.specs.Checked.{Accepts, IsRefusal}
 use Rattle.objtool_cli.specs.Unwinding.{OutUnwinds}
-use Rattle.objtool_cli.specs.Words.{Command, check, dump, unwind}
+use Rattle.cli_words.specs.Grammar.{Command, check, dump, unwind}
+use Rattle.cli_words.specs.declared.fault.UsageKind.{UsageKind}
+use Rattle.command_base.specs.declared.usage.Usage.TheVariants as usage
+use Rattle.ot_base.specs.declared.options.Options.{Options}
+use Rattle.objtool_cli.specs.Lists.{HasNames, StopsAtNames}
+use Rattle.objtool_cli.specs.Words.{Meaning, are_built, is_built, is_told}
 
--- The file of this name may read as bytes that are accepted, and for which these are to be written.
-pub record IsAccepted (content : Option Content) (input table : List ℕ) : Type 0 where
+-- The file of this name may read as bytes that are accepted, and for which these are to be written; and the names file,
+-- where one is given, is in order.
+pub record IsAccepted (content : Option Content) (input : List ℕ) (names : Option (List ℕ)) (table : List ℕ) : Type 0 where
   pub read : List ℕ
   pub may : MayRead MAX_FILE_BYTES content input (Ok read)
   pub accepts : Accepts read table
+  pub lists : HasNames content names
 
 -- `check` is done: IN was accepted, OUT holds its bytes with the tables, which unwind it, and every other name what it
 -- held.
-pub record IsDone (input output : List ℕ) (before after : Outside) : Type 0 where
+pub record IsDone (input output : List ℕ) (names : Option (List ℕ)) (before after : Outside) : Type 0 where
   pub table : List ℕ
-  pub accepted : IsAccepted before.content input table
+  pub accepted : IsAccepted before.content input names table
   pub written : after.content ≡ writing before.content output table
   pub unwinds : OutUnwinds input output before.content after.content
 
@@ -35,51 +42,81 @@ pub record IsDone (input output : List ℕ) (before after : Outside) : Type 0 wh
 abbrev pub StopsAtWrite : List ℕ → Outside → Outside → Stop → Type 0
 StopsAtWrite name before after (FileFault told) = (told.now ≡ name) × Rose before.faults after.faults
 StopsAtWrite name before after NoMemory = Unit {0}
-StopsAtWrite name before after Usage = ⊥
+StopsAtWrite name before after (Usage usage) = ⊥
 StopsAtWrite name before after (Missing told) = ⊥
 StopsAtWrite name before after (TooLong told limit) = ⊥
 StopsAtWrite name before after (Refused refusal) = ⊥
 
--- How `check` stops, and what stands then. Where IN isn't read, its bytes are refused or memory runs out before OUT is
--- written, no file has changed. Only where IN was accepted and then writing OUT didn't come to its end is it open what OUT
--- holds; every other name holds what it held.
-pub data Stops (input output : List ℕ) (before after : Outside) : Stop → Type 0 where
-  unread : {stop : Stop} → StopsAtRead MAX_FILE_BYTES input before after stop → after.content ≡ before.content → Stops input output before after stop
+-- How `check` stops, and what stands then. Where IN or the names file isn't read, a line of the names file isn't in order,
+-- the bytes of IN are refused or memory runs out before OUT is written, no file has changed. Only where IN was accepted and
+-- then writing OUT didn't come to its end is it open what OUT holds; every other name holds what it held.
+pub data Stops (input output : List ℕ) (names : Option (List ℕ)) (before after : Outside) : Stop → Type 0 where
+  unread : {stop : Stop} → StopsAtRead MAX_FILE_BYTES input before after stop → after.content ≡ before.content → Stops input output names before after stop
+  without_names :
+      {stop : Stop} (read : List ℕ)
+      → MayRead MAX_FILE_BYTES before.content input (Ok read)
+      → StopsAtNames names before after stop
+      → after.content ≡ before.content
+      → Stops input output names before after stop
   refused :
       {stop : Stop} (read : List ℕ)
       → MayRead MAX_FILE_BYTES before.content input (Ok read)
+      → HasNames before.content names
       → IsRefusal read stop
       → after.content ≡ before.content
-      → Stops input output before after stop
+      → Stops input output names before after stop
   unwritten :
       {stop : Stop} (table : List ℕ)
-      → IsAccepted before.content input table
+      → IsAccepted before.content input names table
       → StopsAtWrite output before after stop
       → ChangesAtMost output before.content after.content
-      → Stops input output before after stop
+      → Stops input output names before after stop
 
 -- How `check` ends: it is done, and has printed nothing, or it stops, and tells why.
-pub data EndsCheck (input output : List ℕ) (before after : Outside) (out out' : Output) : Status → Type 0 where
-  done : IsDone input output before after → out' ≡ out → EndsCheck input output before after out out' status.Done
-  stopped : {s : Status} (stop : Stop) → Stops input output before after stop → Concludes stop out out' s → EndsCheck input output before after out out' s
+pub data EndsCheck (input output : List ℕ) (names : Option (List ℕ)) (before after : Outside) (out out' : Output) : Status → Type 0 where
+  done : IsDone input output names before after → out' ≡ out → EndsCheck input output names before after out out' status.Done
+  stopped : {s : Status} (stop : Stop) → Stops input output names before after stop → Concludes stop out out' s → EndsCheck input output names before after out out' s
 
--- How the command of the words ends: words that are no command are told, and nothing else is done.
-pub data Ends (command : Option Command) (before after : Outside) (out out' : Output) : Status → Type 0 where
-  no_command : {s : Status} → command ≡ None → after ≡ before → Concludes Usage out out' s → Ends command before after out out' s
-  dumped : {s : Status} (file : List ℕ) → command ≡ Some (dump file) → EndsDump file before after out out' s → after.content ≡ before.content → Ends command before after out out' s
+-- A text of the program was printed, or a beginning of it.
+pub record IsShown (out out' : Output) (s : Status) : Type 0 where
+  pub text : List ℕ
+  pub printed : Prints status.Done text out out' s
+
+-- How the words end that mean this: words at fault are told, and so is a command that isn't built yet, and nothing else is
+-- done; `--help` and `--version` print a text of the program. Memory may run out while the words are read.
+pub data Ends (meaning : Meaning) (before after : Outside) (out out' : Output) : Status → Type 0 where
+  faulty : {s : Status} (word : ℕ) (kind : UsageKind) → meaning ≡ Err (word, kind) → after ≡ before → Concludes (Usage (usage.Words word kind)) out out' s → Ends meaning before after out out' s
+  unfinished : {s : Status} → after ≡ before → Concludes NoMemory out out' s → Ends meaning before after out out' s
+  not_built : {s : Status} (command : Command) → meaning ≡ Ok command → is_built command ≡ false → after ≡ before → Concludes (Usage usage.NotBuilt) out out' s → Ends meaning before after out out' s
+  shown : {s : Status} (command : Command) → meaning ≡ Ok command → is_told command ≡ true → after ≡ before → IsShown out out' s → Ends meaning before after out out' s
+  dumped : {s : Status} (file : List ℕ) → meaning ≡ Ok (dump file) → EndsDump file before after out out' s → after.content ≡ before.content → Ends meaning before after out out' s
   unwound :
       {s : Status} (file image : List ℕ)
-      → command ≡ Some (unwind file image)
+      → meaning ≡ Ok (unwind file image)
       → EndsUnwind file image before after out out' s
       → after.content ≡ before.content
-      → Ends command before after out out' s
-  checked : {s : Status} (input output : List ℕ) → command ≡ Some (check input output) → EndsCheck input output before after out out' s → Ends command before after out out' s
+      → Ends meaning before after out out' s
+  checked :
+      {s : Status} (input output : List ℕ) (options : Options) (names : Option (List ℕ))
+      → meaning ≡ Ok (check input output options names)
+      → are_built options ≡ true
+      → EndsCheck input output names before after out out' s
+      → Ends meaning before after out out' s
 
 -- The command may have changed a file: it is `check`, its input was accepted, and only OUT has changed.
-pub data MayChange (command : Option Command) (before after : Option Content) : Type 0 where
+pub data MayChange (meaning : Meaning) (before after : Option Content) : Type 0 where
   output_of_check :
-      (input output table : List ℕ)
-      → command ≡ Some (check input output)
-      → IsAccepted before input table
+      (input output : List ℕ) (options : Options) (names : Option (List ℕ)) (table : List ℕ)
+      → meaning ≡ Ok (check input output options names)
+      → IsAccepted before input names table
       → ChangesAtMost output before after
-      → MayChange command before after
+      → MayChange meaning before after
+
+-- the words are at fault, or ask for what isn't built yet
+pub data IsFaulty (meaning : Meaning) : Type 0 where
+  at_fault : (word : ℕ) (kind : UsageKind) → meaning ≡ Err (word, kind) → IsFaulty meaning
+  asks_too_much : (command : Command) → meaning ≡ Ok command → is_built command ≡ false → IsFaulty meaning
+
+-- what such words are answered by
+abbrev pub IsUsageAnswer : Status → Type 0
+IsUsageAnswer s = (s ≡ status.Usage) ⊎ ((s ≡ status.SinkFault) ⊎ (s ≡ status.NoMemory))

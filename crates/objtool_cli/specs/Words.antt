@@ -1,32 +1,30 @@
--- What the words of a command line ask for.
-use Rattle.std.specs.Prelude.{ℕ, ◌==◌, ◌&&◌, not, Bool, false, List, [], ◌∷◌, codes, Option, Some, None, if◌then◌else◌, bytes_eq}
-use Rattle.objtool_cli.specs.declared.words.Command as declared
-use Rattle.objtool_cli.specs.declared.words.Command.TheVariants.{Check, Dump, Unwind}
+-- What of the commands is done so far.
+use Rattle.std.specs.Prelude.{ℕ, ◌||◌, not, Bool, true, false, Result}
+use Rattle.ot_base.specs.declared.options.Options.{Options}
+use Rattle.cli_words.specs.declared.fault.UsageKind.{UsageKind}
+use Rattle.cli_words.specs.Grammar.{Command, check, demo, dump, help, unwind, version}
 
--- a command, with the names of its files
-pub data Command : Type 0 where
-  check : (input output : List ℕ) → Command
-  dump : (file : List ℕ) → Command
-  unwind : (file image : List ℕ) → Command
+-- what a list of words means: a command, or the first word at fault and what is wrong with it
+abbrev pub Meaning : Type 0
+Meaning = Result Command (ℕ × UsageKind)
 
--- the same as it is read
-abbrev pub command_in : declared.Command → Command
-command_in (Check names) = check names.input.now names.output.now
-command_in (Dump file) = dump file.now
-command_in (Unwind file image) = unwind file.now image.now
+-- the rules that the options of `check` ask for are none of those that no code looks for yet
+abbrev pub are_built : Options → Bool
+are_built options = not (options.fp || (options.retpoline || (options.rethunk || options.uaccess)))
 
--- a word that can name a file: it is not empty and begins with no dash
-abbrev pub is_name : List ℕ → Bool
-is_name [] = false
-is_name (byte ∷ bytes) = not (byte == 45)
+abbrev pub is_built : Command → Bool
+is_built (check input output options names) = are_built options
+is_built (dump file) = true
+is_built (unwind file image) = true
+is_built (demo n) = false
+is_built help = true
+is_built version = true
 
--- the command with this word over two files
-abbrev pub command_of_two : List ℕ → List ℕ → List ℕ → Option Command
-command_of_two word one other = if bytes_eq word (codes "unwind") then Some (unwind one other) else (if bytes_eq word (codes "check") then Some (check one other) else None)
-
--- the commands of the words `dump FILE`, `unwind FILE IMAGE` and `check IN OUT`; other words are none
-abbrev pub command_of : List (List ℕ) → Option Command
-command_of (word ∷ file ∷ []) = if bytes_eq word (codes "dump") && is_name file then Some (dump file) else None
-command_of (word ∷ one ∷ other ∷ []) =
-    if is_name one && is_name other then command_of_two word one other else None
-command_of words = None
+-- the commands that print a text of the program
+abbrev pub is_told : Command → Bool
+is_told (check input output options names) = false
+is_told (dump file) = false
+is_told (unwind file image) = false
+is_told (demo n) = false
+is_told help = true
+is_told version = true

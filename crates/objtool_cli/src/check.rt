@@ -1,10 +1,11 @@
-ghost use Rattle.std.specs.Prelude.{◌≡◌, ◌≤◌, Ok, map, length, IfOk, IfErr, OnOk};
+ghost use Rattle.std.specs.Prelude.{◌≡◌, ◌≤◌, Ok, map, length, option_map, IfOk, IfErr, OnOk};
 ghost use Rattle.elf_objects.specs.Object.{IsObject};
 ghost use Rattle.command_base.specs.Reading.{MayRead};
 ghost use Rattle.objtool_cli.specs.Checked.{Accepts, IsRefusal};
 ghost use Rattle.objtool_cli.specs.Texts.{AreCode, bodies_of, body_in};
 ghost use Rattle.objtool_cli.specs.Unwinding.{Unwinds};
 ghost use Rattle.objtool_cli.specs.Command.{IsDone, Stops};
+ghost use Rattle.objtool_cli.specs.Lists.{HasNames};
 
 use crate::form::straight_code;
 use crate::tables::code_table;
@@ -73,10 +74,11 @@ pub fn check<'a, F: Files>(
 ) -> Result<(), Stop<'a>>
     requires few { length bytes.now ≤ MAX_FILE_BYTES }
     requires read { MayRead MAX_FILE_BYTES (F.content files.old) names.input.now (Ok bytes.now) }
-    ensures done { OnOk result (IsDone names.entry.input.now names.entry.output.now
+    requires lists { HasNames (F.content files.old) (option_map (λ file. file.now) names.lists) }
+    ensures done { OnOk result (IsDone names.entry.input.now names.entry.output.now (option_map (λ file. file.now) names.entry.lists)
         (record { content = F.content files.old; faults = F.faults files.old })
         (record { content = F.content files.new; faults = F.faults files.new })) }
-    ensures stopped { IfErr result (Stops names.entry.input.now names.entry.output.now
+    ensures stopped { IfErr result (Stops names.entry.input.now names.entry.output.now (option_map (λ file. file.now) names.entry.lists)
         (record { content = F.content files.old; faults = F.faults files.old })
         (record { content = F.content files.new; faults = F.faults files.new })) }
     ensures later { F.faults files.old ≤ F.faults files.new }

@@ -1,4 +1,4 @@
-ghost use Rattle.std.specs.Prelude.{◌≡◌, ◌≢◌, ◌⊎◌, ◌≤◌, ℕ, List, Ok, Some, map, string_bytes};
+ghost use Rattle.std.specs.Prelude.{◌≡◌, ◌≢◌, ◌⊎◌, ◌≤◌, ℕ, List, Option, Ok, Some, true, map, option_map, string_bytes};
 ghost use Rattle.ot_files.specs.Causes.{Rose};
 ghost use Rattle.ot_files.specs.Content.{Content, reading};
 ghost use Rattle.ot_base.specs.declared.row.PlacedRow.{PlacedRow};
@@ -7,27 +7,34 @@ ghost use Rattle.stack_image.specs.ImageFile.{StackImage};
 ghost use Rattle.read_back.specs.Dump.{HoldsRows, IsAnswered, IsDumped};
 ghost use Rattle.read_back.specs.Unwind.{IsPlaced, IsUnwound};
 ghost use Rattle.objtool_cli.specs.Checked.{Accepts};
-ghost use Rattle.objtool_cli.specs.Words.{check, command_of, dump, unwind};
+ghost use Rattle.cli_words.specs.Grammar.{check, command_in, dump, meaning, unwind};
+ghost use Rattle.ot_base.specs.declared.options.Options.{Options};
+ghost use Rattle.objtool_cli.specs.Lists.{HasNames};
+ghost use Rattle.objtool_cli.specs.Words.{are_built};
 ghost use Rattle.objtool_cli.specs.Unwinding.{OutUnwinds};
-ghost use Rattle.objtool_cli.specs.Command.{Ends, EndsCheck, MayChange};
+ghost use Rattle.objtool_cli.specs.Command.{Ends, EndsCheck, IsFaulty, IsShown, IsUsageAnswer, MayChange};
 
 use crate::check::check;
-use crate::words::{Check, Command, read_words};
-use command_base::{MAX_IMAGE_BYTES, Status, Stop, conclude, read_file};
+use crate::lists::read_names;
+use crate::words::{Check, are_built};
+use cli_words::{Command, UsageFault, help_text, read_words, version_text};
+use command_base::{MAX_IMAGE_BYTES, Status, Stop, Usage, conclude, print_line, read_file};
 use elf_objects::MAX_FILE_BYTES;
+use ot_base::{NoMemory, Options};
 use ot_files::{Files, Sink};
 use read_back::{dump, unwind};
 use std::alloc::Global;
 use x86_decode::one_outcome;
 
-/// Reads the input, checks it, writes it with its tables, and tells why where it stops.
+/// Reads the input and the names file, checks the input, writes it with its tables, and tells why where it
+/// stops.
 fn read_and_check<F: Files, S: Sink>(
     alloc: Global,
     names: Check<'_>,
     files: &mut F,
     out: &mut S,
 ) -> Status
-    ensures ends { EndsCheck names.entry.input.now names.entry.output.now
+    ensures ends { EndsCheck names.entry.input.now names.entry.output.now (option_map (λ file. file.now) names.entry.lists)
         (record { content = F.content files.old; faults = F.faults files.old })
         (record { content = F.content files.new; faults = F.faults files.new })
         (record { written = S.written out.old; faults = S.faults out.old })
@@ -39,9 +46,94 @@ fn read_and_check<F: Files, S: Sink>(
         Ok(bytes) => bytes,
         Err(stop) => return conclude(alloc, stop, out),
     };
+    if let Err(stop) = read_names(alloc, names.lists, files) {
+        return conclude(alloc, stop, out);
+    }
     match check(alloc, names, bytes.as_slice(), files) {
         Ok(()) => Status::Done,
         Err(stop) => conclude(alloc, stop, out),
+    }
+}
+
+/// Prints a text of the program, and gives the status that the command ends with.
+fn show<S: Sink>(text: Result<String, NoMemory>, out: &mut S) -> Status
+    ensures printed { IsShown
+        (record { written = S.written out.old; faults = S.faults out.old })
+        (record { written = S.written out.new; faults = S.faults out.new }) result }
+    ensures later { S.faults out.old ≤ S.faults out.new }
+{
+    match text {
+        Ok(text) => print_line(Status::Done, text.as_bytes(), out),
+        Err(NoMemory) => Status::NoMemory,
+    }
+}
+
+/// Runs `check`, where its options ask for no rule that no code looks for yet.
+fn run_check<F: Files, S: Sink>(
+    alloc: Global,
+    names: Check<'_>,
+    options: Options,
+    files: &mut F,
+    out: &mut S,
+) -> Status
+    ensures ends { Ends (Ok (check names.entry.input.now names.entry.output.now options (option_map (λ file. file.now) names.entry.lists)))
+        (record { content = F.content files.old; faults = F.faults files.old })
+        (record { content = F.content files.new; faults = F.faults files.new })
+        (record { written = S.written out.old; faults = S.faults out.old })
+        (record { written = S.written out.new; faults = S.faults out.new }) result }
+    ensures files_later { F.faults files.old ≤ F.faults files.new }
+    ensures out_later { S.faults out.old ≤ S.faults out.new }
+{
+    if !are_built(options) {
+        return conclude(alloc, Stop::Usage(Usage::NotBuilt), out);
+    }
+    read_and_check(alloc, names, files, out)
+}
+
+/// The text of a name, where there is one.
+fn text_of(name: &Option<String>) -> Option<&str>
+    ensures { option_map (λ text. text.now) result ≡ option_map string_bytes name.now }
+{
+    match name {
+        Some(name) => Some(name.as_str()),
+        None => None,
+    }
+}
+
+/// Runs a command.
+fn run_command<F: Files, S: Sink>(
+    alloc: Global,
+    command: &Command,
+    files: &mut F,
+    out: &mut S,
+) -> Status
+    ensures ends { Ends (Ok (command_in command.now))
+        (record { content = F.content files.old; faults = F.faults files.old })
+        (record { content = F.content files.new; faults = F.faults files.new })
+        (record { written = S.written out.old; faults = S.faults out.old })
+        (record { written = S.written out.new; faults = S.faults out.new }) result }
+    ensures files_later { F.faults files.old ≤ F.faults files.new }
+    ensures out_later { S.faults out.old ≤ S.faults out.new }
+{
+    match command {
+        Command::Check {
+            input,
+            output,
+            options,
+            names,
+        } => {
+            let names = Check {
+                input: input.as_str(),
+                output: output.as_str(),
+                lists: text_of(names),
+            };
+            run_check(alloc, names, *options, files, out)
+        }
+        Command::Dump { file } => dump(alloc, file.as_str(), files, out),
+        Command::Unwind { file, image } => unwind(alloc, file.as_str(), image.as_str(), files, out),
+        Command::Demo { .. } => conclude(alloc, Stop::Usage(Usage::NotBuilt), out),
+        Command::Help => show(help_text(alloc), out),
+        Command::Version => show(version_text(alloc), out),
     }
 }
 
@@ -52,7 +144,7 @@ fn dispatch<F: Files, S: Sink>(
     files: &mut F,
     out: &mut S,
 ) -> Status
-    ensures ends { Ends (command_of (map string_bytes words.now))
+    ensures ends { Ends (meaning (map string_bytes words.now))
         (record { content = F.content files.old; faults = F.faults files.old })
         (record { content = F.content files.new; faults = F.faults files.new })
         (record { written = S.written out.old; faults = S.faults out.old })
@@ -60,56 +152,67 @@ fn dispatch<F: Files, S: Sink>(
     ensures files_later { F.faults files.old ≤ F.faults files.new }
     ensures out_later { S.faults out.old ≤ S.faults out.new }
 {
-    match read_words(words) {
-        Some(Command::Check(names)) => read_and_check(alloc, names, files, out),
-        Some(Command::Dump { file }) => dump(alloc, file, files, out),
-        Some(Command::Unwind { file, image }) => unwind(alloc, file, image, files, out),
-        None => conclude(alloc, Stop::Usage, out),
+    match read_words(alloc, words) {
+        Ok(command) => run_command(alloc, &command, files, out),
+        Err(UsageFault::At { word, kind }) => {
+            conclude(alloc, Stop::Usage(Usage::Words { word, kind }), out)
+        }
+        Err(UsageFault::NoMemory) => conclude(alloc, Stop::NoMemory, out),
     }
 }
 
 /// Runs the command of these words, which are those of the command line without the program's name,
 /// over files and an output, and gives the status that it ends with.
 ///
-/// `check IN OUT` reads the object IN, and writes it to OUT with its ORC tables added. `dump FILE`
-/// prints the rows of the ORC tables of the object FILE, one line each. `unwind FILE IMAGE` prints the
-/// frames of the walk that the image IMAGE begins over the rows of FILE, one line each, and why it
-/// stopped. Other words are a usage fault so far. Every refusal is told by one line to the output. Where the words, the bytes of the input and
-/// faults of the files and of the output leave no other cause, the answer may still be want of memory.
+/// `check IN OUT` with its options reads the object IN and the names file, and writes IN to OUT with its
+/// ORC tables added. `dump FILE` prints the rows of the ORC tables of the object FILE, one line each.
+/// `unwind FILE IMAGE` prints the frames of the walk that the image IMAGE begins over the rows of FILE,
+/// one line each, and why it stopped. `--help` and `--version` print a text of the program. The first word
+/// at fault is told by one line to the output, and so is every refusal. Where the words, the bytes of the
+/// input and faults of the files and of the output leave no other cause, the answer may still be want of
+/// memory.
 pub fn run<F: Files, S: Sink>(alloc: Global, words: &[String], files: &mut F, out: &mut S) -> Status
     // What was done to the files and told to the output, and why.
-    ensures ends { Ends (command_of (map string_bytes words.now))
+    ensures ends { Ends (meaning (map string_bytes words.now))
         (record { content = F.content files.old; faults = F.faults files.old })
         (record { content = F.content files.new; faults = F.faults files.new })
         (record { written = S.written out.old; faults = S.faults out.old })
         (record { written = S.written out.new; faults = S.faults out.new }) result }
 
+    // Words at fault, and those that ask for what isn't built yet, are answered as such, unless the line that says so can't be
+    // written or memory runs out; and no other words are.
+    ensures faulty { IsFaulty (meaning (map string_bytes words.now)) → IsUsageAnswer result }
+    ensures only_faulty { result ≡ Status.Usage → IsFaulty (meaning (map string_bytes words.now)) }
+
     // Where it is done and the files tell their content: for every placement of the text sections of IN and every state
     // of every run of the stack machine on IN, walking the tables in the bytes that OUT holds gives exactly the frames of
     // the machine's shadow call stack, innermost first, down to the outermost frame or to the first place whose unwind
     // hint ends the stack.
-    ensures unwinds { (input output : List ℕ) → result ≡ Status.Done → command_of (map string_bytes words.now) ≡ Some (check input output)
+    ensures unwinds { (input output : List ℕ) (options : Options) (names : Option (List ℕ)) → result ≡ Status.Done
+        → meaning (map string_bytes words.now) ≡ Ok (check input output options names)
         → OutUnwinds input output (F.content files.old) (F.content files.new) }
 
-    // An input that is accepted is refused nowhere: it is done, unless a file's fault or want of memory is answered.
-    ensures accepts { (input output read table : List ℕ) (held : Content) → command_of (map string_bytes words.now) ≡ Some (check input output)
-        → F.content files.old ≡ Some held → reading held input MAX_FILE_BYTES ≡ Ok read → Accepts read table
+    // An input that is accepted, with a names file in order where one is given, is refused nowhere: it is done, unless a
+    // file's fault or want of memory is answered. The options ask for no rule that no code looks for yet.
+    ensures accepts { (input output : List ℕ) (options : Options) (names : Option (List ℕ)) (read table : List ℕ) (held : Content)
+        → meaning (map string_bytes words.now) ≡ Ok (check input output options names) → are_built options ≡ true
+        → F.content files.old ≡ Some held → reading held input MAX_FILE_BYTES ≡ Ok read → HasNames (Some held) names → Accepts read table
         → (result ≡ Status.Done) ⊎ ((result ≡ Status.FileFault) ⊎ (result ≡ Status.NoMemory)) }
 
     // Where `dump` is done, FILE is read as an object that holds rows, and exactly their lines were printed; and such a
     // FILE isn't refused: it is done, unless a fault or want of memory is answered.
-    ensures dumps { (file : List ℕ) → result ≡ Status.Done → command_of (map string_bytes words.now) ≡ Some (dump file)
+    ensures dumps { (file : List ℕ) → result ≡ Status.Done → meaning (map string_bytes words.now) ≡ Ok (dump file)
         → IsDumped file (F.content files.old) (S.written out.old) (S.written out.new) }
     ensures dump_accepts { (file bytes : List ℕ) (object : Elf) (rows : List PlacedRow) (held : Content)
-        → command_of (map string_bytes words.now) ≡ Some (dump file) → F.content files.old ≡ Some held
+        → meaning (map string_bytes words.now) ≡ Ok (dump file) → F.content files.old ≡ Some held
         → reading held file MAX_FILE_BYTES ≡ Ok bytes → HoldsRows bytes object rows → IsAnswered result }
 
     // The same of `unwind`: where it is done, the files give a walk, and exactly the lines of its frames and of its stop
     // were printed; and such files aren't refused.
-    ensures unwound { (file image : List ℕ) → result ≡ Status.Done → command_of (map string_bytes words.now) ≡ Some (unwind file image)
+    ensures unwound { (file image : List ℕ) → result ≡ Status.Done → meaning (map string_bytes words.now) ≡ Ok (unwind file image)
         → IsUnwound file image (F.content files.old) (S.written out.old) (S.written out.new) }
     ensures unwind_accepts { (file image bytes text : List ℕ) (stack : StackImage) (object : Elf) (rows : List PlacedRow) (held : Content)
-        → command_of (map string_bytes words.now) ≡ Some (unwind file image) → F.content files.old ≡ Some held
+        → meaning (map string_bytes words.now) ≡ Ok (unwind file image) → F.content files.old ≡ Some held
         → reading held file MAX_FILE_BYTES ≡ Ok bytes → reading held image MAX_IMAGE_BYTES ≡ Ok text
         → IsPlaced bytes text stack object rows → IsAnswered result }
 
@@ -123,11 +226,11 @@ pub fn run<F: Files, S: Sink>(alloc: Global, words: &[String], files: &mut F, ou
     ensures unchanged { result ≢ Status.Done → result ≢ Status.FileFault → result ≢ Status.NoMemory
         → F.content files.new ≡ F.content files.old }
     ensures changes { (F.content files.new ≡ F.content files.old)
-        ⊎ MayChange (command_of (map string_bytes words.now)) (F.content files.old) (F.content files.new) }
+        ⊎ MayChange (meaning (map string_bytes words.now)) (F.content files.old) (F.content files.new) }
 
     // Nothing is told where `check` is done, and no warning is made so far.
-    ensures silent { (input output : List ℕ) → command_of (map string_bytes words.now) ≡ Some (check input output)
-        → result ≡ Status.Done → S.written out.new ≡ S.written out.old }
+    ensures silent { (input output : List ℕ) (options : Options) (names : Option (List ℕ))
+        → meaning (map string_bytes words.now) ≡ Ok (check input output options names) → result ≡ Status.Done → S.written out.new ≡ S.written out.old }
     ensures no_warnings { result ≢ Status.Warnings }
 {
     one_outcome();

@@ -4,6 +4,7 @@
 mod check;
 mod command;
 mod form;
+mod lists;
 mod tables;
 mod texts;
 mod words;

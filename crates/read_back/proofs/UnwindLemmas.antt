@@ -166,12 +166,13 @@ foreign_walk bytes text image o rows (stop.Refused (refusal.NoText sec)) is held
 foreign_walk bytes text image o rows stop.NoMemory is held h = no_memory
 foreign_walk bytes text image o rows (stop.Refused (refusal.Malformed fault)) is held h = absurd h
 foreign_walk bytes text image o rows (stop.Refused (refusal.Orc fault)) is held h = absurd h
+foreign_walk bytes text image o rows (stop.Refused (refusal.Lists fault)) is held h = absurd h
 foreign_walk bytes text image o rows (stop.Refused (refusal.Image fault)) is held h = absurd h
 foreign_walk bytes text image o rows (stop.Refused (refusal.Unplaced fault)) is held h = absurd h
 foreign_walk bytes text image o rows (stop.Refused (refusal.Undecoded fault)) is held h = absurd h
 foreign_walk bytes text image o rows (stop.Refused (refusal.TooManySections count)) is held h = absurd h
 foreign_walk bytes text image o rows (stop.Refused refusal.NotBuilt) is held h = absurd h
-foreign_walk bytes text image o rows stop.Usage is held h = absurd h
+foreign_walk bytes text image o rows (stop.Usage usage) is held h = absurd h
 foreign_walk bytes text image o rows (stop.Missing file) is held h = absurd h
 foreign_walk bytes text image o rows (stop.TooLong file limit) is held h = absurd h
 foreign_walk bytes text image o rows (stop.FileFault file) is held h = absurd h
@@ -213,7 +214,7 @@ rose_before : (before middle after : ℕ) → before ≤ middle → Rose middle 
 rose_before before middle after later rose = omega arith
 
 read_earlier : (limit : ℕ) (s : Stop) (name : List ℕ) (content : Option Content) (before middle : ℕ) (after : Outside) → before ≤ middle → StopsAtRead limit name (record { content = content; faults = middle }) after s → StopsAtRead limit name (record { content = content; faults = before }) after s
-read_earlier limit stop.Usage name content before middle after later h = h
+read_earlier limit (stop.Usage usage) name content before middle after later h = h
 read_earlier limit (stop.Missing file) name content before middle after later h = h
 read_earlier limit (stop.TooLong file at) name content before middle after later h = h
 read_earlier limit (stop.Refused refusal) name content before middle after later h = h

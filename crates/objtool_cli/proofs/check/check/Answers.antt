@@ -12,16 +12,16 @@ written_as output sent table before after e s = e ∙ ap (λ (b : List ℕ). wri
 pub returns-in-Ok-write-clause-done : goal.returns-in-Ok-write-clause-done
 returns-in-Ok-write-clause-done g c =
     let output : List ℕ = c.args.names.output.now in
-    is_done c.args.names.input.now output c.args.bytes.now c.in-Ok.table.items _ _ c.requires.read c.in-Ok.ensures.accepted c.in-Ok.ensures.unwinds
+    is_done c.args.names.input.now output _ c.args.bytes.now c.in-Ok.table.items _ _ c.requires.read c.requires.lists c.in-Ok.ensures.accepted c.in-Ok.ensures.unwinds
     (written_as output _ c.in-Ok.table.items _ _ c.in-Ok-write.ensures.ok c.as_slice.ensures.value)
 
 pub returns-in-Err-clause-stopped : goal.returns-in-Err-clause-stopped
-returns-in-Err-clause-stopped g c = refused c.args.bytes.now c.requires.read c.in-Err.ensures.refused refl
+returns-in-Err-clause-stopped g c = refused c.args.bytes.now c.requires.read c.requires.lists c.in-Err.ensures.refused refl
 
 pub returns-in-Err-NoMemory-clause-stopped : goal.returns-in-Err-NoMemory-clause-stopped
 returns-in-Err-NoMemory-clause-stopped g c =
-    unwritten c.in-Ok.table.items (record { read = c.args.bytes.now; may = c.requires.read; accepts = c.in-Ok.ensures.accepted }) tt c.in-Err-NoMemory.ensures.err
+    unwritten c.in-Ok.table.items (record { read = c.args.bytes.now; may = c.requires.read; accepts = c.in-Ok.ensures.accepted; lists = c.requires.lists }) tt c.in-Err-NoMemory.ensures.err
 
 pub returns-in-Err-Failed-clause-stopped : goal.returns-in-Err-Failed-clause-stopped
 returns-in-Err-Failed-clause-stopped g c =
-    unwritten c.in-Ok.table.items (record { read = c.args.bytes.now; may = c.requires.read; accepts = c.in-Ok.ensures.accepted }) (refl, c.in-Err-Failed.ensures.failed (ap Err c.in-Err-Failed.field-0-is)) c.in-Err-Failed.ensures.err
+    unwritten c.in-Ok.table.items (record { read = c.args.bytes.now; may = c.requires.read; accepts = c.in-Ok.ensures.accepted; lists = c.requires.lists }) (refl, c.in-Err-Failed.ensures.failed (ap Err c.in-Err-Failed.field-0-is)) c.in-Err-Failed.ensures.err

@@ -1,5 +1,6 @@
-use Rattle.objtool_cli.proofs.EndsLemmas.{changes, file_fault, out_unwinds, dump_answered, rows_dumped, sink_fault, tells_nothing, unchanged, unwind_answered, walk_printed, without_warnings}
+use Rattle.objtool_cli.proofs.EndsLemmas.{changes, file_fault, out_unwinds, dump_answered, rows_dumped, sink_fault, tells_nothing, unchanged, unwind_answered, usage_answered, walk_printed, without_warnings}
 use Rattle.objtool_cli.proofs.AcceptsLemmas.{left}
+use Rattle.objtool_cli.proofs.UsageLemmas.{only_faulty}
 use Rattle.objtool_cli.proofs.command.run.Goals as goal
 
 pub returns-clause-file_fault : goal.returns-clause-file_fault
@@ -15,16 +16,16 @@ pub returns-clause-changes : goal.returns-clause-changes
 returns-clause-changes g c = changes _ _ _ _ _ _ c.dispatch.ensures.ends
 
 pub returns-clause-silent : goal.returns-clause-silent
-returns-clause-silent g c input output n e = tells_nothing _ _ _ _ _ _ input output c.dispatch.ensures.ends n e
+returns-clause-silent g c input output options names n e = tells_nothing _ _ _ _ _ _ input output options names c.dispatch.ensures.ends n e
 
 pub returns-clause-no_warnings : goal.returns-clause-no_warnings
 returns-clause-no_warnings g c = without_warnings _ _ _ _ _ _ c.dispatch.ensures.ends
 
 pub returns-clause-unwinds : goal.returns-clause-unwinds
-returns-clause-unwinds g c input output e n = out_unwinds _ _ _ _ _ _ input output c.dispatch.ensures.ends e n
+returns-clause-unwinds g c input output options names e n = out_unwinds _ _ _ _ _ _ input output options names c.dispatch.ensures.ends e n
 
 pub returns-clause-accepts : goal.returns-clause-accepts
-returns-clause-accepts g c input output read table held n told is accepts = left c.one_outcome.ensures _ input output read table held _ _ _ _ _ n told is accepts c.dispatch.ensures.ends
+returns-clause-accepts g c input output options names read table held n built told is has accepts = left c.one_outcome.ensures _ input output options names read table held _ _ _ _ _ n built told is has accepts c.dispatch.ensures.ends
 
 pub returns-clause-dumps : goal.returns-clause-dumps
 returns-clause-dumps g c file e n = rows_dumped _ _ _ _ _ _ file c.dispatch.ensures.ends e n
@@ -37,3 +38,9 @@ returns-clause-unwound g c file image e n = walk_printed _ _ _ _ _ _ file image 
 
 pub returns-clause-unwind_accepts : goal.returns-clause-unwind_accepts
 returns-clause-unwind_accepts g c file image bytes text stack object rows held n told is said placed = unwind_answered _ _ _ _ _ _ file image bytes text stack object rows held c.dispatch.ensures.ends n told is said placed
+
+pub returns-clause-faulty : goal.returns-clause-faulty
+returns-clause-faulty g c h = usage_answered _ _ _ _ _ _ c.dispatch.ensures.ends h
+
+pub returns-clause-only_faulty : goal.returns-clause-only_faulty
+returns-clause-only_faulty g c e = only_faulty _ _ _ _ _ _ c.dispatch.ensures.ends e
