@@ -50,6 +50,9 @@ rows=$(rows_of "$scratch/checked.o" | tr '\n' ';')
 wanted='0 080000000502;1 100000000502;2 180000000502;4 100000000502;5 080000000502;6 000000000000;'
 [ "$rows" = "$wanted" ] || { echo "real object: the rows are $rows"; exit 1; }
 echo "real object: one leaf function checked, six rows as expected"
+objtool check --names="$root/share/linux.names" "$scratch/leaf.o" "$scratch/named.o"
+cmp "$scratch/checked.o" "$scratch/named.o" || { echo "real object: the shipped names change a leaf function's rows"; exit 1; }
+echo "real object: the shipped names file is read"
 
 needs "compiled object" gcc
 cat >"$scratch/mix.c" <<'C'
