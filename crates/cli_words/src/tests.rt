@@ -209,11 +209,11 @@ fn is_taken(alloc: Global, option: &str) -> Result<bool, AllocError> {
 #[test]
 fn help_names_the_options(rt: HostRuntime) -> Result<(), Fail> {
     let text = help_text(rt.alloc())?;
-    let mut count = 0;
+    let mut count = 0usize;
     for word in text.as_str().split_whitespace() {
         if word.starts_with("--") {
             assert!(rt; is_taken(rt.alloc(), word)?, "{word}");
-            count += 1;
+            count = count.saturating_add(1);
         }
     }
     assert_eq!(rt; count, OPTIONS.len() + 2);
