@@ -1,0 +1,8 @@
+//! The control-flow graph of a program in memory: its points by number, and what each of them has.
+#![tactic(auto)]
+
+mod graph;
+mod parts;
+
+pub use graph::Graph;
+pub use parts::{GraphParts, Owner, Point, Rare, Site, TextSection};
