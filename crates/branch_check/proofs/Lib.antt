@@ -1,0 +1,4 @@
+pub mod StateOrder
+pub mod Least
+pub mod LevelSteps
+pub mod Offers
