@@ -2,3 +2,4 @@ pub mod StateOrder
 pub mod Least
 pub mod LevelSteps
 pub mod Offers
+pub mod Giving

@@ -34,10 +34,10 @@ at-replicate (suc n) zero = refl
 at-replicate (suc n) (suc q) = at-replicate n q
 
 -- what a list has at a point after a write
-at_same : (xs : List (Option State)) (q : ℕ) (o : Option State) → q < length xs → at (set xs q o) q ≡ o
+pub at_same : (xs : List (Option State)) (q : ℕ) (o : Option State) → q < length xs → at (set xs q o) q ≡ o
 at_same xs q o h = rw get_or-set_same refl
 
-at_other : (xs : List (Option State)) (q r : ℕ) (o : Option State) → r ≢ q → at (set xs q o) r ≡ at xs r
+pub at_other : (xs : List (Option State)) (q r : ℕ) (o : Option State) → r ≢ q → at (set xs q o) r ≡ at xs r
 at_other xs q r o h = rw get_or-set_other refl
 
 -- what is read of it, whatever stands for a place past its end
@@ -46,7 +46,7 @@ at_read [] q o h e = absurd (omega (arith, h))
 at_read (x ∷ xs) zero o h e = sym e
 at_read (x ∷ xs) (suc q) o h e = at_read xs q o (omega (arith, h)) e
 
-same_or_not : (q r : ℕ) → (r ≡ q) ⊎ (r ≢ q)
+pub same_or_not : (q r : ℕ) → (r ≡ q) ⊎ (r ≢ q)
 same_or_not q r = grind arith
 
 -- a write changes the counts by what it replaces

@@ -1,3 +1,4 @@
 pub mod Gives
 pub mod Least
 pub mod LevelStates
+pub mod Told

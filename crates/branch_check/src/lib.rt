@@ -1,5 +1,7 @@
 //! The states that a checker keeps for the points of a program.
 #![tactic(auto)]
 
+mod gifts;
 mod levels;
 mod order;
+mod spread;

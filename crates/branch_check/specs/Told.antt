@@ -1,0 +1,30 @@
+-- What points in front have given so far.
+use Rattle.std.specs.Prelude.{◌≡◌, ◌⊎◌, ℕ, ◌<◌, true, false, List, [], ◌∷◌, Option, None, Contains, if◌then◌else◌, length, take, slice_set}
+use Rattle.operation_defs.specs.declared.op.Op.{Op}
+use Rattle.program_defs.specs.declared.flow.Edge.{Edge}
+use Rattle.state_defs.specs.declared.state.State.{State}
+use Rattle.program_defs.specs.Program.{Program}
+use Rattle.checker_defs.specs.Kept.{brought_along, is_free}
+use Rattle.branch_check.specs.Least.{IsLeast}
+use Rattle.branch_check.specs.LevelStates.{LevelStates, at, after_offer}
+use Rattle.branch_check.specs.Gives.{IsGiven}
+
+-- by each point that isn't kept, the least state that has the property
+abbrev pub AreLeast : List (Option State) → List (Option State) → (ℕ → State → Type 0) → Type 0
+AreLeast kept next P = (q : ℕ) → q < length kept → at kept q ≡ None → IsLeast (P q) (at next q)
+
+-- the first i points in front have given what they give
+abbrev pub HaveGiven : Program → LevelStates → ℕ → Type 0
+HaveGiven p levels i = AreLeast levels.kept levels.next (IsGiven p (at levels.kept) (take i levels.front))
+
+-- a point is offered some states in turn
+abbrev pub offer_all : List (Option State) → List (Option State) → ℕ → List State → List (Option State)
+offer_all kept next n [] = next
+offer_all kept next n (t ∷ states) = offer_all kept (slice_set next n (after_offer (at kept n) (at next n) t)) n states
+
+-- what is given along an edge, and to a RESTORE
+abbrev pub given_along : Program → State → Op → Edge → List State
+given_along p s op e = if p.unchecked e.to then [] else (if is_free (p.hint e.to) then brought_along s op e.kind else [])
+
+abbrev pub given_to_restore : Program → State → ℕ → List State
+given_to_restore p s r = if p.unchecked r then [] else s ∷ []
