@@ -1,5 +1,5 @@
 -- What one more point in front gives.
-use Rattle.std.proofs.Common.{◌≡◌, ◌≢◌, ◌↔◌, ℕ, zero, suc, ◌+◌, ◌<◌, Bool, true, false, List, [], ◌∷◌, ◌++◌, ◌⊎◌, inl, inr, Option, Some, None, Contains, if◌then◌else◌, length, take, get_or, set, refl, ap, sym, ◌∙◌, subst, arith, length-set}
+use Rattle.std.proofs.Common.{◌≡◌, ◌≢◌, ◌↔◌, ℕ, ◌+◌, ◌<◌, Bool, true, false, List, [], ◌∷◌, ◌⊎◌, inl, inr, Option, Some, None, Contains, if◌then◌else◌, length, take, get_or, set, refl, ap, sym, ◌∙◌, subst, arith, length-set}
 use Rattle.std.proofs.lemmas.List.{take_more}
 use Rattle.std.proofs.lemmas.List.Elements.{Contains-append_left, Contains-append_right, Contains-append_cases}
 use Rattle.operation_defs.specs.declared.op.Op.{Op}
@@ -56,7 +56,7 @@ module _ (kept : List (Option State)) (n : ℕ) where
 
   -- some offers in turn
   pub offers : (gifts : List State) (next : List (Option State)) (P Q : ℕ → State → Type 0) → n < length next → AreLeast kept next P
-        → ((q : ℕ) (u : State) → q < length kept → Q q u ↔ (P q u ⊎ ((q ≡ n) × Contains gifts u))) → AreLeast kept (offer_all kept next n gifts) Q
+      → ((q : ℕ) (u : State) → q < length kept → Q q u ↔ (P q u ⊎ ((q ≡ n) × Contains gifts u))) → AreLeast kept (offer_all kept next n gifts) Q
   offers [] next P Q inside h same = least_alike kept next P Q (λ q u l. (λ k. (same q u l).1 (inl k), λ k. elim ((same q u l).0 k) [ inl a ↦ a | inr b ↦ nowhere u b.1 ])) h
   offers (t ∷ gifts) next P Q inside h same =
       offers gifts (set next n (after_offer (at kept n) (at next n) t)) (λ q u. P q u ⊎ ((q ≡ n) × (u ≡ t))) Q
@@ -95,7 +95,7 @@ module _ (kept : List (Option State)) (p : Program) (s : State) (A : ℕ → Sta
   no_edge next op edges h = least_alike kept next A (WithEdges A p s op (take 0 edges)) (λ q u l. (λ k. inl k, λ k. elim k [ inl a ↦ a | inr b ↦ nowhere b.0 b.1 ])) h
 
   pub edge_more : (next : List (Option State)) (op : Op) (edges : List Edge) (j : ℕ) (d e : Edge) → j < length edges → e ≡ get_or edges j d → e.to < length next
-        → AreLeast kept next (WithEdges A p s op (take j edges)) → AreLeast kept (offer_all kept next e.to (given_along p s op e)) (WithEdges A p s op (take (j + 1) edges))
+      → AreLeast kept next (WithEdges A p s op (take j edges)) → AreLeast kept (offer_all kept next e.to (given_along p s op e)) (WithEdges A p s op (take (j + 1) edges))
   edge_more next op edges j d e l is inside h = offers kept e.to (given_along p s op e) next (WithEdges A p s op (take j edges)) (WithEdges A p s op (take (j + 1) edges)) inside h (λ q u k. (λ x. to q u x, λ x. from q u x))
     where
       to : (q : ℕ) (u : State) → WithEdges A p s op (take (j + 1) edges) q u → WithEdges A p s op (take j edges) q u ⊎ ((q ≡ e.to) × Contains (given_along p s op e) u)
@@ -111,7 +111,7 @@ module _ (kept : List (Option State)) (p : Program) (s : State) (A : ℕ → Sta
   no_restore next restores h = least_alike kept next A (WithRestores A p s (take 0 restores)) (λ q u l. (λ k. inl k, λ k. elim k [ inl a ↦ a | inr b ↦ nowhere q b.0 ])) h
 
   pub restore_more : (next : List (Option State)) (restores : List ℕ) (j r : ℕ) → j < length restores → r ≡ get_or restores j 0 → r < length next
-        → AreLeast kept next (WithRestores A p s (take j restores)) → AreLeast kept (offer_all kept next r (given_to_restore p s r)) (WithRestores A p s (take (j + 1) restores))
+      → AreLeast kept next (WithRestores A p s (take j restores)) → AreLeast kept (offer_all kept next r (given_to_restore p s r)) (WithRestores A p s (take (j + 1) restores))
   restore_more next restores j r l is inside h = offers kept r (given_to_restore p s r) next (WithRestores A p s (take j restores)) (WithRestores A p s (take (j + 1) restores)) inside h (λ q u k. (λ x. to q u x, λ x. from q u x))
     where
       to : (q : ℕ) (u : State) → WithRestores A p s (take (j + 1) restores) q u → WithRestores A p s (take j restores) q u ⊎ ((q ≡ r) × Contains (given_to_restore p s r) u)
@@ -172,7 +172,7 @@ module _ (p : Program) (kept : List (Option State)) (front : List ℕ) (i : ℕ)
       from q u (b, t, c, e, g) = elim (in_more front i 0 b l c) [ inl d ↦ (b, t, d, e, g) | inr same ↦ absurd (let k : at kept b ≡ None = subst (λ (x : ℕ). at kept x ≡ None) (is ∙ same) none in let z : ⊥ = cc in z) ]
 
   pub given_more : (next : List (Option State)) (s : State) (restores : List ℕ) → at kept a ≡ Some s → ((r : ℕ) → Contains restores r ↔ Means p a r)
-        → AreLeast kept next (WithRestores (WithEdges (IsGiven p (at kept) (take i front)) p s (p.insn a).op (edges_of p a)) p s restores) → AreLeast kept next (IsGiven p (at kept) (take (i + 1) front))
+      → AreLeast kept next (WithRestores (WithEdges (IsGiven p (at kept) (take i front)) p s (p.insn a).op (edges_of p a)) p s restores) → AreLeast kept next (IsGiven p (at kept) (take (i + 1) front))
   given_more next s restores has mean h = least_alike kept next (WithRestores (WithEdges (IsGiven p (at kept) (take i front)) p s (p.insn a).op (edges_of p a)) p s restores) (IsGiven p (at kept) (take (i + 1) front)) (λ q u k. (λ x. to q u (point q k) x, λ x. from q u (point q k) x)) h
     where
       point : (q : ℕ) → q < length kept → IsPoint p q

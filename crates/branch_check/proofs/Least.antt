@@ -1,5 +1,5 @@
 -- The least of some states, by which of them are there.
-use Rattle.std.proofs.Common.{◌≡◌, ◌↔◌, ℕ, Bool, true, false, cond, List, [], ◌∷◌, ◌⊎◌, inl, inr, Option, Some, None, MatchOption, Contains, refl, ap, sym, ◌∙◌, subst}
+use Rattle.std.proofs.Common.{◌≡◌, ◌↔◌, Bool, true, false, cond, List, [], ◌∷◌, ◌⊎◌, inl, inr, Option, Some, None, Contains, refl, ap, sym, subst}
 use Rattle.state_defs.specs.declared.state.State.{State}
 use Rattle.state_defs.specs.Order.{comes_before, least, least_with, lesser}
 use Rattle.unwinding_law.proofs.Lists.{here, there, cases, nowhere}

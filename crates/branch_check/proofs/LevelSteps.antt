@@ -1,12 +1,11 @@
 -- From one level to the next, and what stays at the last.
-use Rattle.std.proofs.Common.{◌≡◌, ◌↔◌, ℕ, zero, suc, ◌+◌, ◌<◌, Bool, true, false, List, [], ◌∷◌, ◌⊎◌, inl, inr, Option, Some, None, IsSome, Contains, flat_map, if◌then◌else◌, option_and_then, refl, ap, sym, ◌∙◌, subst, add_comm, arith}
+use Rattle.std.proofs.Common.{◌≡◌, ℕ, zero, suc, ◌+◌, Bool, true, false, List, [], ◌∷◌, ◌⊎◌, inl, inr, Option, Some, None, IsSome, Contains, if◌then◌else◌, option_and_then, refl, ap, sym, ◌∙◌, subst, add_comm, arith}
 use Rattle.state_defs.specs.declared.state.State.{State}
 use Rattle.state_defs.specs.declared.state.HintState.{HintState}
 use Rattle.state_defs.specs.declared.state.HintState.TheVariants.{Set, Save, Restore}
-use Rattle.state_defs.specs.Order.{least}
 use Rattle.program_defs.specs.Program.{Program, IsPoint, below}
 use Rattle.program_defs.specs.IsProgram.{IsProgram, HintsStandAtPoints}
-use Rattle.checker_defs.specs.Kept.{Brings, brought, brought_from, is_free, first_state, later_state, kept_or, state_at, Kept, AreKeptStates}
+use Rattle.checker_defs.specs.Kept.{Brings, brought, brought_from, is_free, later_state, kept_or, state_at, Kept, AreKeptStates}
 use Rattle.checker_defs.proofs.KeptLemmas.{kept_next, kept_stays}
 use Rattle.unwinding_law.proofs.Lists.{here, there, cases, nowhere, in_flat_map, from_flat_map, in_below, from_below}
 use Rattle.unwinding_law.proofs.KeptPoints.{kept_are_points}
@@ -176,7 +175,7 @@ stays : (p : Program) (is : IsProgram p) (n : ℕ) (states : ℕ → Option Stat
 stays p is n states zero level = subst (λ (k : ℕ). IsLevel p k states []) (let e : n ≡ zero + n = omega arith in e) level
 stays p is n states (suc more) level =
     let k : IsLevel p (suc (more + n)) states [] =
-        next_level p is (more + n) states [] (stays p is n states more level) (λ a c. nowhere a c) (λ q. None) (λ q pq e t g. nowhere g.0 g.2) states [] (λ q pq. sym (kept_or_none (states q))) (λ q pq h. absurd (let z : ⊥ = cc in z)) in
+    next_level p is (more + n) states [] (stays p is n states more level) (λ a c. nowhere a c) (λ q. None) (λ q pq e t g. nowhere g.0 g.2) states [] (λ q pq. sym (kept_or_none (states q))) (λ q pq h. absurd (let z : ⊥ = cc in z)) in
     subst (λ (k : ℕ). IsLevel p k states []) (let e : suc (more + n) ≡ suc more + n = omega arith in e) k
 
 pub last_level : (p : Program) → IsProgram p → HintsStandAtPoints p → (n : ℕ) (states : ℕ → Option State) → IsLevel p n states [] → ((q : ℕ) (s : State) → states q ≡ Some s → IsPoint p q) → AreKeptStates p states

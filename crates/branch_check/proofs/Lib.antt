@@ -3,3 +3,4 @@ pub mod Least
 pub mod LevelSteps
 pub mod Offers
 pub mod Giving
+pub mod Rounds

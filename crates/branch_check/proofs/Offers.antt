@@ -1,5 +1,5 @@
 -- The points that something is offered to, and what they keep.
-use Rattle.std.proofs.Common.{◌≡◌, ◌≢◌, ℕ, zero, suc, ◌+◌, ◌<◌, ◌≤◌, List, [], ◌∷◌, ◌++◌, ◌⊎◌, inl, inr, Option, Some, None, IsSome, All, Contains, replicate, length, get_or, set, refl, ap, sym, ◌∙◌, subst, arith, length-append, length-set, get_or-set_same, get_or-set_other}
+use Rattle.std.proofs.Common.{◌≡◌, ◌≢◌, ℕ, zero, suc, ◌+◌, ◌<◌, ◌≤◌, List, [], ◌∷◌, ◌++◌, ◌⊎◌, inl, inr, Option, Some, None, IsSome, Contains, replicate, length, get_or, set, refl, ap, sym, ◌∙◌, subst, arith, length-append, length-set, get_or-set_same, get_or-set_other}
 use Rattle.std.proofs.lemmas.List.Elements.{All-contains, Contains-append_left, Contains-append_right, Contains-append_cases}
 use Rattle.std.proofs.lemmas.Grind.{get_or_default_zero}
 use Rattle.state_defs.specs.declared.state.State.{State}
@@ -25,7 +25,7 @@ none_offered kept next long none = record {
   points = λ k d h. absurd (omega (arith, h));
   listed = λ q h. absurd (let e : IsSome {T = State} None = subst IsSome (none q) h in let z : ⊥ = cc in z);
   once = sym (none_is_zero next none);
-  not_kept = λ q h. absurd (let e : IsSome {T = State} None = subst IsSome (none q) h in let z : ⊥ = cc in z)
+  not_kept = λ q h. absurd (let e : IsSome {T = State} None = subst IsSome (none q) h in let z : ⊥ = cc in z);
 }
 
 pub at-replicate : (n q : ℕ) → at (replicate n None) q ≡ None
@@ -82,7 +82,7 @@ module _ (kept next : List (Option State)) (offered : List ℕ) (are : AreOffere
     points = all_of (λ r. r < length kept) (offered ++ q ∷ []) (λ r c. point r c);
     listed = listed;
     once = once;
-    not_kept = not_kept
+    not_kept = not_kept;
   }
     where
       point : (r : ℕ) → Contains (offered ++ q ∷ []) r → r < length kept
@@ -108,7 +108,7 @@ module _ (kept next : List (Option State)) (offered : List ℕ) (are : AreOffere
     points = are.points;
     listed = λ r h. elim (same_or_not q r) [ inl e ↦ subst (Contains offered) (sym e) (are.listed q some) | inr ne ↦ are.listed r (subst IsSome (at_other next q r (Some s) ne) h) ];
     once = once (at next q) refl some;
-    not_kept = λ r h. elim (same_or_not q r) [ inl e ↦ subst (λ (x : ℕ). at kept x ≡ None) (sym e) (are.not_kept q some) | inr ne ↦ are.not_kept r (subst IsSome (at_other next q r (Some s) ne) h) ]
+    not_kept = λ r h. elim (same_or_not q r) [ inl e ↦ subst (λ (x : ℕ). at kept x ≡ None) (sym e) (are.not_kept q some) | inr ne ↦ are.not_kept r (subst IsSome (at_other next q r (Some s) ne) h) ];
   }
     where
       once : (o : Option State) → at next q ≡ o → IsSome o → length offered ≡ count_some (set next q (Some s))
@@ -144,7 +144,7 @@ module _ (kept_before next_before : List (Option State)) (front : List ℕ) (are
       next_long = length-set next q None ∙ so_far.next_long;
       each = each;
       done = one_more (λ k. at (set next q None) (get_or front k 0) ≡ None) done (subst (λ (x : ℕ). at (set next q None) x ≡ None) is (at_same next q None in_next));
-      count = count
+      count = count;
     }
       where
         -- what was offered to it, and that it wasn't kept

@@ -1,5 +1,5 @@
 -- The order of states is total: neither of two comes before the other where they are equal alone.
-use Rattle.std.proofs.Common.{◌≡◌, ℕ, Bool, true, false, cond, List, [], ◌∷◌, ◌⊎◌, inl, inr, Option, Some, None, ℤ, pos, refl, ap, sym, ◌∙◌, arith}
+use Rattle.std.proofs.Common.{◌≡◌, Bool, true, false, cond, List, [], ◌∷◌, ◌⊎◌, inl, inr, Option, Some, None, ℤ, pos, refl, ap, sym, ◌∙◌, arith}
 use Rattle.std.specs.Prelude.{int_lt, ◌<ℤ◌}
 use Rattle.std.proofs.lemmas.Int.{ints}
 use Rattle.state_defs.specs.declared.state.State.{State}

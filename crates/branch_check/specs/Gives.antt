@@ -1,5 +1,5 @@
 -- What a kept point gives to others at the next level.
-use Rattle.std.specs.Prelude.{◌≡◌, ◌⊎◌, ℕ, ◌<◌, true, false, List, Option, Some, None, Contains, IsSome}
+use Rattle.std.specs.Prelude.{◌≡◌, ◌⊎◌, ℕ, true, false, List, Option, Some, Contains, IsSome}
 use Rattle.state_defs.specs.declared.state.State.{State}
 use Rattle.state_defs.specs.declared.state.HintState.TheVariants.{Restore}
 use Rattle.program_defs.specs.Program.{Program, IsPoint}

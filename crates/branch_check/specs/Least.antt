@@ -1,5 +1,5 @@
 -- The least of some states.
-use Rattle.std.specs.Prelude.{◌≡◌, Bool, false, Option, Some, None, MatchOption, if◌then◌else◌}
+use Rattle.std.specs.Prelude.{◌≡◌, false, Option, Some, None}
 use Rattle.state_defs.specs.declared.state.State.{State}
 use Rattle.state_defs.specs.Order.{comes_before, lesser}
 

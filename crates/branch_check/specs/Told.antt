@@ -1,5 +1,5 @@
 -- What points in front have given so far.
-use Rattle.std.specs.Prelude.{◌≡◌, ◌⊎◌, ℕ, ◌<◌, true, false, List, [], ◌∷◌, Option, None, Contains, if◌then◌else◌, length, take, slice_set}
+use Rattle.std.specs.Prelude.{◌≡◌, ℕ, ◌<◌, List, [], ◌∷◌, Option, None, if◌then◌else◌, length, take, slice_set}
 use Rattle.operation_defs.specs.declared.op.Op.{Op}
 use Rattle.program_defs.specs.declared.flow.Edge.{Edge}
 use Rattle.state_defs.specs.declared.state.State.{State}

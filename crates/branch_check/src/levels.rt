@@ -91,6 +91,7 @@ impl Levels {
         ensures kept { (q : ℕ) → at self.new.kept q ≡ kept_or (at self.old.kept q) (at self.old.next q) }
         ensures next { (q : ℕ) → at self.new.next q ≡ None }
         ensures front { (q : ℕ) → IsSome (at self.old.next q) → Contains self.new.front q }
+        ensures points { All (λ q. q < length self.new.kept) self.new.front }
         ensures len { length self.new.kept ≡ length self.old.kept }
         ensures next_len { length self.new.next ≡ length self.old.next }
         ensures fewer { count_open self.new.kept + length self.new.front ≡ count_open self.old.kept }

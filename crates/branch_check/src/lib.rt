@@ -4,4 +4,6 @@
 mod gifts;
 mod levels;
 mod order;
-mod spread;
+mod spreading;
+
+pub use spreading::{Kept, Scratch, spread};

@@ -1,6 +1,5 @@
 -- Each point in front keeps what was offered to it, and at the end all are kept.
-use Rattle.std.proofs.Common.{◌≡◌, ℕ, ◌+◌, ◌<◌, length, get_or, set, List, Option, Some, None, Vec, Global, refl, sym, ◌∙◌, subst, arith}
-use Rattle.state_defs.specs.declared.state.State.{State}
+use Rattle.std.proofs.Common.{◌≡◌, ℕ, ◌<◌, length, get_or, refl, ◌∙◌, subst, arith}
 use Rattle.branch_check.specs.LevelStates.{at}
 use Rattle.branch_check.proofs.Offers.{KeptSoFar, all_counted, all_kept, all_none, passed, kept_one, at_read}
 use Rattle.branch_check.proofs.levels.keep.Goals as goal
@@ -18,7 +17,7 @@ loop-q-preserved c =
     let in_next : q < length c.loop-q.next.items = omega (arith, inside, next_long, long) in
     let read : at c.loop-q.next.items q ≡ (c.index.result).now = at_read c.loop-q.next.items q (c.index.result).now in_next c.index.ensures in
     elim c.match-index.branch [
-        in-Some w ↦ rw (w.kept-is, w.next-is) (kept_one c.args.kept.now.items c.args.next.now.items c.args.front.now c.requires c.loop-q.kept.items c.loop-q.next.items c.loop-q.q-index so_far q w.in-Some.state refl in_kept in_next (read ∙ w.in-Some.is))
+      | in-Some w ↦ rw (w.kept-is, w.next-is) (kept_one c.args.kept.now.items c.args.next.now.items c.args.front.now c.requires c.loop-q.kept.items c.loop-q.next.items c.loop-q.q-index so_far q w.in-Some.state refl in_kept in_next (read ∙ w.in-Some.is))
       | in_default w ↦ rw (w.kept-is, w.next-is) (passed c.args.kept.now.items c.args.next.now.items c.args.front.now c.requires c.loop-q.kept.items c.loop-q.next.items c.loop-q.q-index so_far (read ∙ w.in_default.is))
     ]
 

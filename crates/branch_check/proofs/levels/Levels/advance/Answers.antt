@@ -1,6 +1,6 @@
 -- What was offered is in front now, and nothing is offered.
-use Rattle.std.proofs.Common.{◌≡◌, ℕ, ◌<◌, ◌≤◌, All, List, [], length, vec_capacity, sym, ◌∙◌, subst, arith}
-use Rattle.branch_check.specs.LevelStates.{at, AreOffered}
+use Rattle.std.proofs.Common.{◌≡◌, ◌<◌, ◌≤◌, All, [], length, vec_capacity, sym, ◌∙◌, arith}
+use Rattle.branch_check.specs.LevelStates.{AreOffered}
 use Rattle.branch_check.proofs.Offers.{none_offered}
 use Rattle.branch_check.proofs.levels.Levels.advance.Goals as goal
 

@@ -1,5 +1,5 @@
 -- A point that was offered nothing is put at the end of the list.
-use Rattle.std.proofs.Common.{◌≡◌, ℕ, ◌<◌, ◌≤◌, length, vec_capacity, get_or, Option, None, Some, IsSome, refl, sym, ◌∙◌, subst, arith}
+use Rattle.std.proofs.Common.{◌≡◌, ◌<◌, ◌≤◌, length, vec_capacity, get_or, Option, None, Some, IsSome, refl, sym, ◌∙◌, subst, arith}
 use Rattle.state_defs.specs.declared.state.State.{State}
 use Rattle.branch_check.specs.LevelStates.{LevelStates, at, AreOffered, count_some}
 use Rattle.branch_check.proofs.Offers.{room_for_new, offered_new, offered_known, at_read}

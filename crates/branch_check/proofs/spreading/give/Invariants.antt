@@ -3,17 +3,17 @@ use Rattle.program_defs.specs.Program.{Program}
 use Rattle.checker_defs.specs.Kept.{edges_of}
 use Rattle.program_graph.specs.Tells.{Tells}
 use Rattle.branch_check.specs.Gives.{IsGiven}
-use Rattle.branch_check.specs.LevelStates.{LevelStates, at}
+use Rattle.branch_check.specs.LevelStates.{at}
 use Rattle.branch_check.specs.Told.{AreLeast}
 use Rattle.branch_check.proofs.Giving.{WithEdges, WithRestores}
-use Rattle.branch_check.proofs.spread.give.Given as goal
+use Rattle.branch_check.proofs.spreading.give.Given as goal
 
 abbrev pub invariant-loop-edge : goal.invariant-loop-edge
 invariant-loop-edge l = record {
   kept : l.levels.kept ≡ l.fn.levels.kept;
   front : l.levels.front ≡ l.fn.levels.front;
   next : length l.levels.next ≡ length l.fn.levels.kept;
-  given : (p : Program) → Tells p l.graph.parts → AreLeast l.fn.levels.kept l.levels.next (WithEdges (IsGiven p (at l.fn.levels.kept) (take l.i l.fn.levels.front)) p l.state l.op (take l.edge-index l.edge-items))
+  given : (p : Program) → Tells p l.graph.parts → AreLeast l.fn.levels.kept l.levels.next (WithEdges (IsGiven p (at l.fn.levels.kept) (take l.i l.fn.levels.front)) p l.state l.op (take l.edge-index l.edge-items));
 }
 
 abbrev pub invariant-loop-restore : goal.invariant-loop-restore
@@ -21,5 +21,5 @@ invariant-loop-restore l = record {
   kept : l.levels.kept ≡ l.fn.levels.kept;
   front : l.levels.front ≡ l.fn.levels.front;
   next : length l.levels.next ≡ length l.fn.levels.kept;
-  given : (p : Program) → Tells p l.graph.parts → AreLeast l.fn.levels.kept l.levels.next (WithRestores (WithEdges (IsGiven p (at l.fn.levels.kept) (take l.i l.fn.levels.front)) p l.state (p.insn l.a).op (edges_of p l.a)) p l.state (take l.restore-index l.restore-items))
+  given : (p : Program) → Tells p l.graph.parts → AreLeast l.fn.levels.kept l.levels.next (WithRestores (WithEdges (IsGiven p (at l.fn.levels.kept) (take l.i l.fn.levels.front)) p l.state (p.insn l.a).op (edges_of p l.a)) p l.state (take l.restore-index l.restore-items));
 }

@@ -1,0 +1,14 @@
+use Rattle.std.proofs.Common.{◌≡◌, ℕ, ◌<◌, ◌≤◌, None, length}
+use Rattle.program_defs.specs.Program.{Program}
+use Rattle.checker_defs.specs.Kept.{state_at}
+use Rattle.program_graph.specs.Tells.{Tells}
+use Rattle.branch_check.specs.LevelStates.{at}
+use Rattle.branch_check.proofs.spreading.offer_all_first.Given as goal
+
+abbrev pub invariant-loop-n : goal.invariant-loop-n
+invariant-loop-n l = record {
+  kept : l.levels.kept ≡ l.fn.levels.kept;
+  next : length l.levels.next ≡ length l.fn.levels.kept;
+  first : (p : Program) → Tells p l.graph.parts → (q : ℕ) → q < l.n → at l.levels.next q ≡ state_at p 0 q;
+  others : (q : ℕ) → l.n ≤ q → at l.levels.next q ≡ None;
+}

@@ -1,0 +1,199 @@
+//! How states spread over a program, level by level.
+
+ghost use Rattle.std.specs.Prelude.{◌≡◌, ◌≢◌, ◌+◌, ◌<◌, ℕ, [], None, All, IfOk, length};
+ghost use Rattle.program_defs.specs.Program.{Program, IsPoint};
+ghost use Rattle.program_defs.specs.IsProgram.{IsProgram, HintsStandAtPoints};
+ghost use Rattle.checker_defs.specs.Kept.{AreKeptStates, state_at};
+ghost use Rattle.program_graph.specs.Tells.{Tells};
+ghost use Rattle.branch_check.specs.Gives.{IsLevel};
+ghost use Rattle.branch_check.specs.LevelStates.{at};
+ghost use Rattle.branch_check.specs.Told.{HaveGiven};
+
+use crate::gifts::{give_along, give_to_restore};
+use crate::levels::Levels;
+use ot_base::NoMemory;
+use program_graph::Graph;
+use stack_state::initial;
+use state_defs::{HintState, State};
+use std::alloc::Global;
+use std::marker::Model;
+
+/// The state of a point on level 0: the one that a hint sets, else the initial one where an entry is entered.
+fn first_state(graph: &Graph, n: u32) -> Option<State>
+    requires { n < length graph.now.parts.points.items }
+    ensures { (p : Program) → Tells p graph.now.parts → result ≡ state_at p 0 n }
+{
+    if graph.unchecked(n) {
+        return None;
+    }
+    match graph.hint(n) {
+        Some(HintState::Set(state)) => Some(state),
+        Some(HintState::Restore) => None,
+        Some(HintState::Save) | None => {
+            if graph.is_entered(n) {
+                Some(initial())
+            } else {
+                None
+            }
+        }
+    }
+}
+
+/// Gives what the point at a place in front gives to others.
+fn give(graph: &Graph, levels: &mut Levels, i: usize)
+    requires points { length levels.old.kept ≡ length graph.now.parts.points.items }
+    requires next { length levels.old.next ≡ length levels.old.kept }
+    requires inside { i < length levels.old.front }
+    requires given { (p : Program) → Tells p graph.now.parts → HaveGiven p levels.old i }
+    ensures kept { levels.new.kept ≡ levels.old.kept }
+    ensures front { levels.new.front ≡ levels.old.front }
+    ensures next { length levels.new.next ≡ length levels.old.kept }
+    ensures given { (p : Program) → Tells p graph.now.parts → HaveGiven p levels.new (i + 1) }
+{
+    let a = levels.front(i);
+    let Some(state) = levels.state(a) else {
+        return;
+    };
+    let op = graph.insn(a).op;
+    for edge in graph.successors(a) {
+        give_along(graph, levels, state, op, *edge);
+    }
+    for restore in graph.restores(a) {
+        give_to_restore(graph, levels, state, *restore);
+    }
+}
+
+/// Gives what all points in front give.
+fn give_all(graph: &Graph, levels: &mut Levels)
+    requires points { length levels.old.kept ≡ length graph.now.parts.points.items }
+    requires next { length levels.old.next ≡ length levels.old.kept }
+    requires none { (q : ℕ) → at levels.old.next q ≡ None }
+    ensures kept { levels.new.kept ≡ levels.old.kept }
+    ensures front { levels.new.front ≡ levels.old.front }
+    ensures next { length levels.new.next ≡ length levels.old.kept }
+    ensures given { (p : Program) → Tells p graph.now.parts → HaveGiven p levels.new (length levels.old.front) }
+{
+    for i in 0..levels.front_len() {
+        give(graph, levels, i);
+    }
+}
+
+/// Offers a point its state of level 0.
+fn offer_first(graph: &Graph, levels: &mut Levels, n: u32)
+    requires points { length levels.old.kept ≡ length graph.now.parts.points.items }
+    requires next { length levels.old.next ≡ length levels.old.kept }
+    requires point { n < length levels.old.kept }
+    requires not_kept { at levels.old.kept n ≡ None }
+    requires not_offered { at levels.old.next n ≡ None }
+    ensures kept { levels.new.kept ≡ levels.old.kept }
+    ensures front { levels.new.front ≡ levels.old.front }
+    ensures next { length levels.new.next ≡ length levels.old.kept }
+    ensures first { (p : Program) → Tells p graph.now.parts → at levels.new.next n ≡ state_at p 0 n }
+    ensures others { (q : ℕ) → q ≢ n → at levels.new.next q ≡ at levels.old.next q }
+{
+    if let Some(state) = first_state(graph, n) {
+        levels.offer(n, state);
+    }
+}
+
+/// Offers each point its state of level 0.
+fn offer_all_first(graph: &Graph, levels: &mut Levels)
+    requires points { length levels.old.kept ≡ length graph.now.parts.points.items }
+    requires next { length levels.old.next ≡ length levels.old.kept }
+    requires not_kept { (q : ℕ) → at levels.old.kept q ≡ None }
+    requires not_offered { (q : ℕ) → at levels.old.next q ≡ None }
+    ensures kept { levels.new.kept ≡ levels.old.kept }
+    ensures next { length levels.new.next ≡ length levels.old.kept }
+    ensures first { (p : Program) → Tells p graph.now.parts → (q : ℕ) → IsPoint p q → at levels.new.next q ≡ state_at p 0 q }
+{
+    for n in 0..graph.points() {
+        offer_first(graph, levels, n);
+    }
+}
+
+/// Goes from level to level while points are in front.
+fn spread_levels(graph: &Graph, levels: &mut Levels)
+    requires points { length levels.old.kept ≡ length graph.now.parts.points.items }
+    requires next { length levels.old.next ≡ length levels.old.kept }
+    requires none { (q : ℕ) → at levels.old.next q ≡ None }
+    requires front { All (λ q. q < length levels.old.kept) levels.old.front }
+    requires level { (p : Program) → Tells p graph.now.parts → IsProgram p → (n : ℕ) × IsLevel p n (at levels.old.kept) levels.old.front }
+    ensures points { length levels.new.kept ≡ length graph.now.parts.points.items }
+    ensures level { (p : Program) → Tells p graph.now.parts → IsProgram p → (n : ℕ) × IsLevel p n (at levels.new.kept) [] }
+{
+    'rounds: loop {
+        give_all(graph, levels);
+        levels.advance();
+        if levels.front_len() == 0 {
+            return;
+        }
+    }
+}
+
+/// Memory for the states of a program's points: its number of points.
+#[derive(Drop)]
+pub struct Scratch {
+    levels: Levels,
+}
+
+impl Model for Scratch {
+    ghost use Rattle.std.specs.Prelude.{◌≡◌, ℕ, [], None, length};
+    ghost use Rattle.branch_check.specs.LevelStates.{at};
+
+    ghost Value = { ℕ };
+
+    ghost view = { λ s. length s.levels.kept };
+
+    ghost invariant = { λ s. (length s.levels.next ≡ length s.levels.kept) × ((q : ℕ) → at s.levels.kept q ≡ None) × ((q : ℕ) → at s.levels.next q ≡ None) };
+}
+
+impl Scratch {
+    /// Memory for so many points.
+    pub fn reserve(alloc: Global, points: u32) -> Result<Scratch, NoMemory>
+        ensures { IfOk result (λ scratch. scratch ≡ points) }
+    {
+        let levels = Levels::reserve(alloc, points)?;
+        Ok(Scratch { levels })
+    }
+}
+
+/// The states that a checker keeps. Contracts see it as the list of them by point: None where none is kept.
+#[derive(Drop)]
+pub struct Kept {
+    levels: Levels,
+}
+
+impl Model for Kept {
+    ghost use Rattle.std.specs.Prelude.{List, Option};
+    ghost use Rattle.state_defs.specs.declared.state.State.{State};
+
+    ghost Value = { List (Option State) };
+
+    ghost view = { λ k. k.levels.kept };
+}
+
+impl Kept {
+    /// The state that is kept at a point, if one is.
+    pub fn state(&self, n: u32) -> Option<State>
+        requires { n < length self.now }
+        ensures { result ≡ at self.now n }
+    {
+        self.levels.state(n)
+    }
+}
+
+/// The states that a checker keeps for the points of a program, by levels: those that hints set and those at entries,
+/// then for each further point the least state that is brought to it first.
+///
+/// Each point and each edge is looked at once, when the point is kept. No memory is taken.
+pub fn spread(graph: &Graph, scratch: Scratch) -> Kept
+    requires { scratch ≡ length graph.now.parts.points.items }
+    ensures points { length result ≡ length graph.now.parts.points.items }
+    ensures kept { (p : Program) → Tells p graph.now.parts → IsProgram p → HintsStandAtPoints p → AreKeptStates p (at result) }
+{
+    let Scratch { mut levels } = scratch;
+    offer_all_first(graph, &mut levels);
+    levels.advance();
+    spread_levels(graph, &mut levels);
+    Kept { levels }
+}
