@@ -2,6 +2,7 @@
 
 ghost use Rattle.std.specs.Prelude.{◌≡◌, ◌+◌, ◌^◌, ◌<◌, ◌≤◌, ◌⊎◌, ℕ, [], ◌∷◌, ◌++◌, Some, IfOk, MatchOption, Contains, length, slice_get};
 ghost use Rattle.indexmap.specs.IndexSet.{spare as room_of};
+ghost use Rattle.state_defs.specs.declared.state.State.{State};
 ghost use Rattle.state_pool.specs.Keys.{states_of};
 ghost use Rattle.state_pool.specs.States.{AreDifferent, States, with_new};
 
@@ -73,6 +74,8 @@ impl Pool {
         ensures number { slice_get self.new.states result.0 ≡ Some state }
         ensures known { Contains self.old.states state → self.new ≡ self.old }
         ensures fresh { (Contains self.old.states state → ⊥) → self.new ≡ with_new self.old state }
+        ensures kept { (k : ℕ) (s : State) → slice_get self.old.states k ≡ Some s → slice_get self.new.states k ≡ Some s }
+        ensures room { self.old.spare ≤ self.new.spare + 1 }
         ensures different { AreDifferent self.new.states }
     {
         match find(&self.states, state) {
