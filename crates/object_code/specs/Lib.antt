@@ -1,0 +1,3 @@
+pub mod Linked
+pub mod Kept
+pub mod FaultText

@@ -1,0 +1,54 @@
+//! The instructions of an object's text sections.
+
+ghost use Rattle.std.specs.Prelude.{◌≡◌, ◌<◌, true, length, IfOk, IfErr, OnOk};
+ghost use Rattle.elf_objects.specs.Contents.{is_text, section_at};
+ghost use Rattle.elf_objects.specs.Object.{IsObject};
+ghost use Rattle.x86_text.specs.Code.{IsCode};
+ghost use Rattle.flow_defs.specs.Code.{texts_of};
+ghost use Rattle.object_code.specs.Linked.{AllCode, AreCode, IsLinkFault};
+
+use crate::fault::LinkFault;
+use alternatives::SectionText;
+use elf_objects::Object;
+use std::alloc::Global;
+use x86_text::{Text, TextFault};
+
+/// Decodes a text section.
+fn read_text<'a>(alloc: Global, object: &Object<'a>, sec: u32) -> Result<Text<'a>, LinkFault>
+    requires object { IsObject object.now.bytes object.now }
+    requires inside { sec < length object.now.sections }
+    requires text { is_text (section_at object.now sec) ≡ true }
+    ensures read { IfOk result (λ text. text ≡ (section_at object.now sec).body) }
+    ensures code { OnOk result (IsCode (section_at object.now sec).body) }
+    ensures fault { AreCode object.now sec → IfErr result (IsLinkFault object.now) }
+{
+    match Text::read(alloc, object.section(sec).body) {
+        Ok(text) => Ok(text),
+        Err(TextFault::NoMemory) => Err(LinkFault::NoMemory),
+        Err(TextFault::At { off, why }) => Err(LinkFault::Text {
+            sec,
+            fault: TextFault::At { off, why },
+        }),
+    }
+}
+
+/// Decodes each text section of an object, in the order of their numbers, or tells the first place
+/// where an instruction ought to stand and none does.
+pub(crate) fn read_texts<'a>(
+    alloc: Global,
+    object: &Object<'a>,
+) -> Result<Vec<SectionText<'a>>, LinkFault>
+    ensures read { IfOk result (λ texts. texts.items ≡ texts_of object.now) }
+    ensures code { OnOk result (AllCode object.now) }
+    ensures object { OnOk result (IsObject object.now.bytes object.now) }
+    ensures fault { IfErr result (IsLinkFault object.now) }
+{
+    let mut texts = Vec::new(alloc);
+    for sec in 0..object.sections() {
+        if object.is_text(sec) {
+            let text = read_text(alloc, object, sec)?;
+            texts.push(SectionText { sec, text })?;
+        }
+    }
+    Ok(texts)
+}
