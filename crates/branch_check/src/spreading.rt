@@ -130,7 +130,7 @@ fn spread_levels(graph: &Graph, levels: &mut Levels)
     }
 }
 
-/// Memory for the states of a program's points: its number of points.
+/// Memory for the states of a program's points. Contracts see it as how many points it has room for.
 #[derive(Drop)]
 pub struct Scratch {
     levels: Levels,
