@@ -1,0 +1,77 @@
+//! Small objects in memory.
+
+use demo_objects::{RelSpec, Spec, SymSpec, build};
+use elf_objects::{
+    Home, Reloc, SHF_ALLOC, SHF_EXECINSTR, SHT_PROGBITS, STB_GLOBAL, STB_LOCAL, STT_FUNC,
+    STT_SECTION,
+};
+use elf_write::NewSection;
+use ot_base::NoMemory;
+use std::alloc::Global;
+
+/// What an object has: its code, the size of the function that starts with it, and its alternatives.
+#[derive(Clone, Copy)]
+pub struct Example<'a> {
+    /// The body of `.text`, section 1.
+    pub code: &'a [u8],
+    /// The size of the function `f`, symbol 2, at the start of `.text`.
+    pub size: u64,
+    /// The body of `.altinstructions`, section 2.
+    pub alternatives: &'a [u8],
+    /// Its relocations. Symbol 1 stands for `.text`.
+    pub relocs: &'a [Reloc],
+}
+
+/// A section with a body.
+fn section(alloc: Global, name: &[u8], flags: u64, body: &[u8]) -> Result<NewSection, NoMemory> {
+    Ok(NewSection {
+        name: Vec::from_slice(alloc, name)?,
+        kind: SHT_PROGBITS,
+        flags,
+        link: 0,
+        info: 0,
+        align: 1,
+        entsize: 0,
+        body: Vec::from_slice(alloc, body)?,
+    })
+}
+
+/// A symbol at the start of section 1.
+fn symbol(alloc: Global, name: &[u8], bind: u8, kind: u8, size: u64) -> Result<SymSpec, NoMemory> {
+    Ok(SymSpec {
+        name: Vec::from_slice(alloc, name)?,
+        bind,
+        kind,
+        home: Home::Section(1),
+        value: 0,
+        size,
+    })
+}
+
+/// The relocations of section 2.
+fn relocs(alloc: Global, list: &[Reloc]) -> Result<Vec<RelSpec>, NoMemory> {
+    let mut all = Vec::new(alloc);
+    for reloc in list {
+        let reloc = *reloc;
+        all.push(RelSpec { sec: 2, reloc })?;
+    }
+    Ok(all)
+}
+
+/// The bytes of an object.
+pub fn object(alloc: Global, example: &Example<'_>) -> Result<Option<Vec<u8>>, NoMemory> {
+    let mut sections = Vec::new(alloc);
+    let code = SHF_ALLOC | SHF_EXECINSTR;
+    sections.push(section(alloc, b".text", code, example.code)?)?;
+    let alternatives = example.alternatives;
+    sections.push(section(alloc, b".altinstructions", SHF_ALLOC, alternatives)?)?;
+    let mut symbols = Vec::new(alloc);
+    symbols.push(symbol(alloc, b"", STB_LOCAL, STT_SECTION, 0)?)?;
+    symbols.push(symbol(alloc, b"f", STB_GLOBAL, STT_FUNC, example.size)?)?;
+    let spec = Spec {
+        sections,
+        symbols,
+        relocs: relocs(alloc, example.relocs)?,
+    };
+    build(alloc, &spec)
+}
