@@ -7,3 +7,4 @@ pub mod Owners
 pub mod Checked
 pub mod Calls
 pub mod Entries
+pub mod HintStates

@@ -87,7 +87,7 @@ entry_is o place passes = go (starts_at o place) refl passes
         record { function = f; starts = is; owner = owner; checked = ap (is_unchecked o) owner ∙ not_true (is_unchecked_owner o f) parts.1 }
 
 -- elements of a list of images
-from_map : {X Y : Type 0} (g : X → Y) (xs : List X) (y : Y) → Contains (map g xs) y → (x : X) × Contains xs x × (g x ≡ y)
+pub from_map : {X Y : Type 0} (g : X → Y) (xs : List X) (y : Y) → Contains (map g xs) y → (x : X) × Contains xs x × (g x ≡ y)
 from_map g [] y c = nowhere y c
 from_map g (x ∷ xs) y c = elim (cases (g x) (map g xs) y c) [
   | inl e ↦ (x, here x xs, e)
