@@ -24,7 +24,8 @@ use Rattle.command_base.specs.declared.status.Status.TheVariants as status
 use Rattle.command_base.specs.Outside.{Outside, Output}
 use Rattle.command_base.specs.Reading.{MayRead}
 use Rattle.objtool_cli.specs.Command.{Ends}
-use Rattle.objtool_cli.specs.Words.{dump, unwind}
+use Rattle.cli_words.specs.Grammar.{dump, unwind}
+use Rattle.objtool_cli.specs.Words.{Meaning}
 use Rattle.objtool_cli.proofs.EndsLemmas.{dump_answered, file_fault, rows_dumped, sink_fault, unwind_answered, walk_printed}
 use Rattle.read_back.specs.Dump.{HoldsRows, IsAnswered, IsDumped, rows_text}
 use Rattle.read_back.specs.Unwind.{IsUnwound, ranges_of}
@@ -45,17 +46,17 @@ was_read : (content : Content) (limit : ℕ) (name bytes other : List ℕ) (told
 was_read content limit name bytes other told is holds may = same_read other bytes (told_read limit told content name (Ok other) is may ∙ read_as content limit name bytes holds)
 
 -- where nothing fails, no fault is answered
-no_fault : (P : Type 0) (command : Option _) (before after : Outside) (out out' : Output) (answer : Status) → Ends command before after out out' answer → NothingFails before after out out' → IsAnswered answer → (answer ≡ status.Done → P) → P ⊎ (answer ≡ status.NoMemory)
-no_fault P command before after out out' answer ends nothing (inl done) whole = inl (whole done)
-no_fault P command before after out out' answer ends nothing (inr (inl fault)) whole = absurd (nothing.files (file_fault command before after out out' answer ends fault))
-no_fault P command before after out out' answer ends nothing (inr (inr (inl fault))) whole = absurd (nothing.output (sink_fault command before after out out' answer ends fault))
-no_fault P command before after out out' answer ends nothing (inr (inr (inr none))) whole = inr none
+no_fault : (P : Type 0) (meaning : Meaning) (before after : Outside) (out out' : Output) (answer : Status) → Ends meaning before after out out' answer → NothingFails before after out out' → IsAnswered answer → (answer ≡ status.Done → P) → P ⊎ (answer ≡ status.NoMemory)
+no_fault P meaning before after out out' answer ends nothing (inl done) whole = inl (whole done)
+no_fault P meaning before after out out' answer ends nothing (inr (inl fault)) whole = absurd (nothing.files (file_fault meaning before after out out' answer ends fault))
+no_fault P meaning before after out out' answer ends nothing (inr (inr (inl fault))) whole = absurd (nothing.output (sink_fault meaning before after out out' answer ends fault))
+no_fault P meaning before after out out' answer ends nothing (inr (inr (inr none))) whole = inr none
 
 pub dump_law : DumpIsDone
 dump_law o written unwinds content file holds before after out out' answer told ends nothing =
-    no_fault _ (Some (dump file)) before after out out' answer ends nothing
-    (dump_answered (Some (dump file)) before after out out' answer file written (with_orc_object o unwinds.rows) unwinds.rows content ends refl told (read_as content MAX_FILE_BYTES file written holds) (record { object = unwinds.reads_back; held = unwinds.holds }))
-    (λ done. (done, printed (rows_dumped (Some (dump file)) before after out out' answer file ends done refl)))
+    no_fault _ (Ok (dump file)) before after out out' answer ends nothing
+    (dump_answered (Ok (dump file)) before after out out' answer file written (with_orc_object o unwinds.rows) unwinds.rows content ends refl told (read_as content MAX_FILE_BYTES file written holds) (record { object = unwinds.reads_back; held = unwinds.holds }))
+    (λ done. (done, printed (rows_dumped (Ok (dump file)) before after out out' answer file ends done refl)))
   where
     printed : IsDumped file before.content out.written out'.written → out'.written ≡ appending out.written (rows_text (with_orc_object o unwinds.rows) unwinds.rows)
     printed d =
@@ -65,10 +66,10 @@ dump_law o written unwinds content file holds before after out out' answer told 
 
 pub unwind_law : WalkIsDetermined → MemoryIsSaid → UnwindIsDone
 unwind_law determined said o written text unwinds state tells content file image holds holds_text before after out out' answer told ends nothing =
-    no_fault _ (Some (unwind file image)) before after out out' answer ends nothing
-    (unwind_answered (Some (unwind file image)) before after out out' answer file image written text tells.image (with_orc_object o unwinds.rows) unwinds.rows content ends refl told
+    no_fault _ (Ok (unwind file image)) before after out out' answer ends nothing
+    (unwind_answered (Ok (unwind file image)) before after out out' answer file image written text tells.image (with_orc_object o unwinds.rows) unwinds.rows content ends refl told
     (read_as content MAX_FILE_BYTES file written holds) (read_as content MAX_IMAGE_BYTES image text holds_text) (placed_law o written text unwinds state tells))
-    (λ done. (done, printed (walk_printed (Some (unwind file image)) before after out out' answer file image ends done refl)))
+    (λ done. (done, printed (walk_printed (Ok (unwind file image)) before after out out' answer file image ends done refl)))
   where
     printed : IsUnwound file image before.content out.written out'.written → (stop : walk.Stop) × StopsAs (frames_end state) stop × (out'.written ≡ appending out.written (shadow_text state stop))
     printed d =

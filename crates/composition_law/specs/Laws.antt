@@ -1,5 +1,5 @@
 -- How the commands fit together.
-use Rattle.std.specs.Prelude.{◌≡◌, ◌⊎◌, ℕ, ◌≤◌, List, length, Some, map}
+use Rattle.std.specs.Prelude.{◌≡◌, ◌⊎◌, ℕ, ◌≤◌, List, length, Some, Ok, map}
 use Rattle.std.specs.FinMap.{get}
 use Rattle.ot_files.specs.Causes.{Rose}
 use Rattle.ot_files.specs.Content.{Content}
@@ -16,7 +16,10 @@ use Rattle.orc_unwind.specs.Memory.{word_at}
 use Rattle.stack_image.specs.ImageFile.{StackImage, IsImage}
 use Rattle.elf_objects.specs.declared.TheConstants.{MAX_FILE_BYTES}
 use Rattle.elf_objects.specs.Elf.{Elf}
-use Rattle.orc_output.specs.OrcOutput.{with_orc_object}
+use Rattle.elf_objects.specs.Object.{IsObject}
+use Rattle.ot_base.specs.declared.row.PlacedRow.{PlacedRow}
+use Rattle.orc_bytes.specs.Sections.{HoldsOrc}
+use Rattle.orc_output.specs.OrcOutput.{CanHaveOrc, with_orc_object}
 use Rattle.command_base.specs.declared.reading.TheConstants.{MAX_IMAGE_BYTES}
 use Rattle.command_base.specs.declared.status.Status.{Status}
 use Rattle.command_base.specs.declared.status.Status.TheVariants as status
@@ -26,7 +29,7 @@ use Rattle.command_base.specs.Outside.{Outside, Output}
 use Rattle.command_base.specs.Printing.{Concludes, Prints}
 use Rattle.objtool_cli.specs.Command.{Ends}
 use Rattle.objtool_cli.specs.Unwinding.{UnwindsBy}
-use Rattle.objtool_cli.specs.Words.{dump, unwind}
+use Rattle.cli_words.specs.Grammar.{dump, unwind}
 use Rattle.read_back.specs.Dump.{Dumps, rows_text}
 use Rattle.read_back.specs.Unwind.{IsPlaced, Unwinds, ranges_of}
 use Rattle.read_back.specs.WalkText.{walk_text}
@@ -99,7 +102,7 @@ DumpIsDone =
     → Holds content MAX_FILE_BYTES file written
     → (before after : Outside) (out out' : Output) (answer : Status)
     → before.content ≡ Some content
-    → Ends (Some (dump file)) before after out out' answer
+    → Ends (Ok (dump file)) before after out out' answer
     → NothingFails before after out out'
     → ((answer ≡ status.Done) × (out'.written ≡ appending out.written (rows_text (with_orc_object o unwinds.rows) unwinds.rows))) ⊎ (answer ≡ status.NoMemory)
 
@@ -115,6 +118,11 @@ UnwindIsDone =
     → Holds content MAX_IMAGE_BYTES image text
     → (before after : Outside) (out out' : Output) (answer : Status)
     → before.content ≡ Some content
-    → Ends (Some (unwind file image)) before after out out' answer
+    → Ends (Ok (unwind file image)) before after out out' answer
     → NothingFails before after out out'
     → ((answer ≡ status.Done) × ((stop : walk.Stop) × StopsAs (frames_end state) stop × (out'.written ≡ appending out.written (shadow_text state stop)))) ⊎ (answer ≡ status.NoMemory)
+
+-- The ORC sections that are added to an object for some rows hold these rows, and no others: who reads them gets these.
+abbrev pub RowsAreReadBack : Type 0
+RowsAreReadBack = (o : Elf) (rows other : List PlacedRow) → IsObject o.bytes o → CanHaveOrc o rows
+    → HoldsOrc (with_orc_object o rows) rows × (HoldsOrc (with_orc_object o rows) other → other ≡ rows)

@@ -1,10 +1,16 @@
 //! `check`, `dump` and `unwind` fit together: what one writes the others read back.
 #![tactic(auto)]
 
-ghost use Rattle.composition_law.specs.Laws.{DumpIsDone, DumpTellsTheRows, StatesAreUnwound, UnwindIsDone, UnwindTellsTheFrames};
+ghost use Rattle.composition_law.specs.Laws.{DumpIsDone, DumpTellsTheRows, RowsAreReadBack, StatesAreUnwound, UnwindIsDone, UnwindTellsTheFrames};
 
 use stack_image::memory_is_said;
 use walk_defs::walk_is_determined;
+
+/// Rows that are encoded and added to an object are the rows that its ORC sections then hold, and the only
+/// ones, so `orc_bytes::decode` of the result gives them.
+pub fn rows_are_read_back()
+    ensures { RowsAreReadBack }
+{}
 
 /// Where the bytes of OUT unwind the object that IN held, `dump` of these bytes prints the lines of exactly
 /// the rows by which they do, one each in their order, or memory runs out.
