@@ -1,7 +1,7 @@
 //! Objects of code, replacements and entries.
 
 use elf_objects::Reloc;
-use ot_base::Place;
+use ot_base::{NoMemory, Place};
 use special_examples::builder::{CODE, DATA, Piece, object};
 use std::alloc::{AllocError, Global};
 
@@ -51,13 +51,13 @@ fn entry_relocs(alloc: Global, entries: &[Entry]) -> Result<Vec<Reloc>, AllocErr
     Ok(out)
 }
 
-/// The object of some code, replacements and entries.
+/// The object of some code, replacements and entries, if they make one.
 pub fn file_of<'a>(
     alloc: Global,
     code: &'a [u8],
     replacements: &'a [u8],
     entries: &[Entry],
-) -> Result<Vec<u8>, AllocError> {
+) -> Result<Option<Vec<u8>>, NoMemory> {
     let bytes = entry_bytes(alloc, entries)?;
     let relocs = entry_relocs(alloc, entries)?;
     let pieces = [
