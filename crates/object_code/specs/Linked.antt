@@ -1,5 +1,5 @@
 -- When the code of an object is read, and why it isn't.
-use Rattle.std.specs.Prelude.{◌≡◌, ◌<◌, ◌⊎◌, ℕ, true, List, [], length, slice_get, None, Some}
+use Rattle.std.specs.Prelude.{◌≡◌, ◌<◌, ℕ, true, [], length, slice_get, None, Some}
 use Rattle.elf_objects.specs.Elf.{Elf}
 use Rattle.elf_objects.specs.Contents.{is_text, section_at}
 use Rattle.x86_text.specs.Code.{IsCode}

@@ -1,10 +1,10 @@
-use Rattle.std.proofs.Common.{◌≡◌, ◌<◌, ◌+◌, ℕ, true, false, length, sym, ap, refl, ◌∙◌, arith, subst, ◌++◌, ◌∷◌, [], List}
+use Rattle.std.proofs.Common.{◌≡◌, ◌+◌, ℕ, true, length, sym, ap, refl, ◌∙◌, arith, subst, ◌++◌, ◌∷◌, [], List}
 use Rattle.std.proofs.lemmas.Bool.{false≢true}
 use Rattle.std.proofs.lemmas.Result.{err_from_is_err_and}
 use Rattle.elf_objects.specs.Elf.{Elf}
 use Rattle.elf_objects.specs.Contents.{is_text, section_at}
 use Rattle.alternatives.specs.declared.texts.SectionText.{SectionText}
-use Rattle.object_code.proofs.TextsLemmas.{all_texts, code_more, other_below, text_below, text_in, texts_below}
+use Rattle.object_code.proofs.TextsLemmas.{all_texts, code_more, other_below, text_below, texts_below}
 use Rattle.object_code.specs.Linked.{AreCode, IsLinkFault}
 use Rattle.object_code.proofs.texts.read_texts.Goals as goal
 use Rattle.object_code.proofs.texts.read_texts.Goals.{then-is_text+in_ok-text+in_ok-push, else-is_text}

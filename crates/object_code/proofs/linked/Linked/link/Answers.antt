@@ -1,4 +1,4 @@
-use Rattle.std.proofs.Common.{◌≡◌, ◌≤◌, List, length, map, refl, sym, ap, ◌∙◌, subst, Some}
+use Rattle.std.proofs.Common.{◌≡◌, ◌≤◌, List, length, map, sym, ap, ◌∙◌, subst, Some}
 use Rattle.elf_objects.specs.Elf.{Elf}
 use Rattle.elf_objects.specs.Object.{IsObject}
 use Rattle.special_sections.specs.declared.entries.AltEntry.{AltEntry}
@@ -11,7 +11,7 @@ use Rattle.alternatives.specs.Texts.{AscendBySection, text_bytes}
 use Rattle.flow_defs.specs.Code.{alternatives_of, points_of_object, texts_of}
 use Rattle.object_code.specs.Kept.{IsKept}
 use Rattle.object_code.proofs.TextsLemmas.{few_alternatives, little_text, texts_ascend}
-use Rattle.object_code.specs.Linked.{IsLinked, IsLinkFault}
+use Rattle.object_code.specs.Linked.{IsLinked}
 use Rattle.object_code.proofs.linked.Linked.link.Goals as goal
 
 -- what is built of an object that is linked is kept

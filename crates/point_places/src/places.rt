@@ -1,0 +1,163 @@
+//! Points by their numbers.
+
+ghost use Rattle.std.specs.Prelude.{◌≡◌, ◌<◌, length, IfOk};
+ghost use Rattle.alternatives.specs.Points.{address_of_point};
+ghost use Rattle.flow_defs.specs.Arrival.{decoded_insn as decoded_insn_of};
+ghost use Rattle.flow_defs.specs.Code.{alternatives_of, number_of as number_of_point, point_at, points_of_object};
+ghost use Rattle.flow_defs.specs.Owners.{function_of_point, is_entry as is_an_entry, is_unchecked as is_unchecked_by, is_unchecked_point as is_unchecked_at, owner_of_point, unchecked_start as unchecked_starting_at};
+
+use crate::owner::{function_at, is_part, owner_at, owner_of};
+use crate::unchecked::{is_among, list_unchecked};
+use alternatives::Point;
+use object_code::Linked;
+use operation_defs::Insn;
+use ot_base::{NoMemory, Place};
+use std::alloc::Global;
+use std::marker::Model;
+
+/// The points of an object whose code is read, with who owns them. Contracts see it as the object.
+///
+/// A point is told by its number, functions and owners by their symbols. Nothing here takes memory once it is built.
+#[derive(Drop)]
+pub struct PointPlaces<'l, 'o, 'a> {
+    linked: &'l Linked<'o, 'a>,
+    unchecked: Vec<u32>,
+}
+
+impl<'l, 'o, 'a> Model for PointPlaces<'l, 'o, 'a> {
+    ghost use Rattle.elf_objects.specs.Elf.{Elf};
+    ghost use Rattle.point_places.specs.Unchecked.{AreUnchecked};
+
+    ghost Value = { Elf };
+
+    ghost view = { λ p. p.linked.now };
+
+    ghost invariant = { λ p. AreUnchecked p.linked.now p.unchecked.items };
+}
+
+impl<'l, 'o, 'a> PointPlaces<'l, 'o, 'a> {
+    /// The points of an object, with the owners that aren't checked.
+    ///
+    /// # Errors
+    ///
+    /// [`NoMemory`] may come at any object.
+    pub fn build(
+        alloc: Global,
+        linked: &'l Linked<'o, 'a>,
+    ) -> Result<PointPlaces<'l, 'o, 'a>, NoMemory>
+        ensures { IfOk result (λ places. places ≡ linked.now) }
+    {
+        let unchecked = list_unchecked(alloc, linked)?;
+        Ok(PointPlaces { linked, unchecked })
+    }
+
+    /// The object with its code.
+    pub fn linked(&self) -> &'l Linked<'o, 'a>
+        ensures { result.now ≡ self.now }
+    {
+        self.linked
+    }
+
+    /// How many points there are.
+    pub fn count(&self) -> usize
+        ensures { result ≡ length (points_of_object self.now) }
+    {
+        self.linked.sites().points().len()
+    }
+
+    /// The point with a number.
+    pub fn point(&self, n: u32) -> Point
+        requires { n < length (points_of_object self.now) }
+        ensures { result ≡ point_at self.now n }
+    {
+        self.linked.sites().points()[n as usize]
+    }
+
+    /// The number of a point.
+    pub fn number_of(&self, point: Point) -> Option<u32>
+        ensures { result ≡ number_of_point self.now point }
+    {
+        self.linked.sites().number_of(point)
+    }
+
+    /// The instruction of a point as it is decoded; of padding, the padding.
+    pub fn decoded_insn(&self, n: u32) -> Insn
+        requires { n < length (points_of_object self.now) }
+        ensures { result ≡ decoded_insn_of self.now (point_at self.now n) }
+    {
+        self.linked.sites().insn_of(n)
+    }
+
+    /// Where a point runs: a point of a replacement runs in the site over which that may be patched.
+    pub fn address(&self, n: u32) -> Place
+        requires { n < length (points_of_object self.now) }
+        ensures { result ≡ address_of_point (alternatives_of self.now) (point_at self.now n) }
+    {
+        self.linked.sites().address_of(n)
+    }
+
+    /// The function of a point: that of the place where it runs.
+    pub fn function(&self, n: u32) -> Option<u32>
+        requires { n < length (points_of_object self.now) }
+        ensures { result ≡ function_of_point self.now (point_at self.now n) }
+    {
+        function_at(self.linked.index(), self.address(n))
+    }
+
+    /// The owner of a point: its function, or that function's parent where it is a part.
+    pub fn owner(&self, n: u32) -> Option<u32>
+        requires { n < length (points_of_object self.now) }
+        ensures { result ≡ owner_of_point self.now (point_at self.now n) }
+    {
+        owner_at(self.linked.index(), self.address(n))
+    }
+
+    /// Whether what an owner owns isn't checked: one of its functions is listed as one without a standard frame
+    /// (`STACK_FRAME_NON_STANDARD`). Code without owner is checked.
+    pub fn is_unchecked(&self, owner: Option<u32>) -> bool
+        ensures { result ≡ is_unchecked_by self.now owner }
+    {
+        match owner {
+            Some(owner) => is_among(&self.unchecked, owner),
+            None => false,
+        }
+    }
+
+    /// Whether a point isn't checked.
+    pub fn is_unchecked_point(&self, n: u32) -> bool
+        requires { n < length (points_of_object self.now) }
+        ensures { result ≡ is_unchecked_at self.now (point_at self.now n) }
+    {
+        self.is_unchecked(self.owner(n))
+    }
+
+    /// The function that starts at a place and isn't checked.
+    pub fn unchecked_start(&self, place: Place) -> Option<u32>
+        ensures { result ≡ unchecked_starting_at self.now place }
+    {
+        let index = self.linked.index();
+        let Some(function) = index.starts_at(place) else {
+            return None;
+        };
+        if is_among(&self.unchecked, owner_of(index, function)) {
+            Some(index.functions()[function as usize].sym)
+        } else {
+            None
+        }
+    }
+
+    /// Whether a place is an entry: the start of a function that is no part and is checked.
+    pub fn is_entry(&self, place: Place) -> bool
+        ensures { result ≡ is_an_entry self.now place }
+    {
+        let index = self.linked.index();
+        let Some(function) = index.starts_at(place) else {
+            return false;
+        };
+        if is_part(index, function) {
+            return false;
+        }
+        let sym = index.functions()[function as usize].sym;
+        !is_among(&self.unchecked, sym)
+    }
+}
