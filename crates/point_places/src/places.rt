@@ -1,9 +1,10 @@
 //! Points by their numbers.
 
-ghost use Rattle.std.specs.Prelude.{◌≡◌, ◌<◌, length, IfOk};
+ghost use Rattle.std.specs.Prelude.{◌≡◌, ◌+◌, ◌<◌, length, nat_le, IfOk};
 ghost use Rattle.alternatives.specs.Points.{address_of_point};
-ghost use Rattle.flow_defs.specs.Arrival.{decoded_insn as decoded_insn_of};
-ghost use Rattle.flow_defs.specs.Code.{alternatives_of, number_of as number_of_point, point_at, points_of_object};
+ghost use Rattle.jump_tables.specs.Texts.{is_boundary as is_a_boundary};
+ghost use Rattle.flow_defs.specs.Arrival.{decoded_insn as decoded_insn_of, is_padding as is_padding_at};
+ghost use Rattle.flow_defs.specs.Code.{alternatives_of, number_of as number_of_point, point_at, points_of_object, texts_of};
 ghost use Rattle.flow_defs.specs.Owners.{function_of_point, is_entry as is_an_entry, is_unchecked as is_unchecked_by, is_unchecked_point as is_unchecked_at, owner_of_point, unchecked_start as unchecked_starting_at};
 
 use crate::owner::{function_at, is_part, owner_at, owner_of};
@@ -80,12 +81,38 @@ impl<'l, 'o, 'a> PointPlaces<'l, 'o, 'a> {
         self.linked.sites().number_of(point)
     }
 
+    /// Whether a place is a boundary: an instruction of a text section begins there.
+    pub fn is_boundary(&self, place: Place) -> bool
+        ensures { result ≡ is_a_boundary (texts_of self.now) place }
+    {
+        let variant = 0;
+        let plain = self.linked.sites().number_of(Point { place, variant });
+        plain.is_some()
+    }
+
     /// The instruction of a point as it is decoded; of padding, the padding.
     pub fn decoded_insn(&self, n: u32) -> Insn
         requires { n < length (points_of_object self.now) }
         ensures { result ≡ decoded_insn_of self.now (point_at self.now n) }
     {
         self.linked.sites().insn_of(n)
+    }
+
+    /// Whether a point is the padding behind a replacement.
+    pub fn is_padding(&self, n: u32) -> bool
+        requires { n < length (points_of_object self.now) }
+        ensures { result ≡ is_padding_at self.now (point_at self.now n) }
+    {
+        let point = self.point(n);
+        if point.variant == 0 {
+            return false;
+        }
+        let entry = self.linked.special().alternatives()[point.variant as usize - 1];
+        is_behind(
+            entry.replacement.off,
+            entry.replacement_len,
+            point.place.off,
+        )
     }
 
     /// Where a point runs: a point of a replacement runs in the site over which that may be patched.
@@ -160,4 +187,11 @@ impl<'l, 'o, 'a> PointPlaces<'l, 'o, 'a> {
         let sym = index.functions()[function as usize].sym;
         !is_among(&self.unchecked, sym)
     }
+}
+
+/// Whether an offset is so many bytes behind another, or further.
+fn is_behind(start: u64, len: u8, off: u64) -> bool
+    ensures { result ≡ nat_le (start + len) off }
+{
+    u128::from(start) + u128::from(len) <= u128::from(off)
 }
