@@ -59,7 +59,9 @@ fn sites_of(
 ) -> Result<Result<Sites, SiteFault>, Fail>
     requires { length code.now + length replacements.now ≤ 16777216 }
 {
-    let file = file_of(alloc, code, replacements, entries)?.ok_or("the code and its entries make an object")?;
+    let file = file_of(alloc, code, replacements, entries)?.ok_or(
+        "the code and its entries make an object",
+    )?;
     let special = special_of(rt, alloc, &file);
     assert!(rt; special.alternatives().len() <= 8388608);
     let texts = two_texts(alloc, code, replacements)?;

@@ -10,7 +10,9 @@ mod stop;
 mod usage;
 
 pub use printing::{conclude, print_line, print_part};
-pub use reading::{MAX_IMAGE_BYTES, image_stop, lists_stop, orc_stop, parse_stop, place_stop, read_file};
+pub use reading::{
+    MAX_IMAGE_BYTES, image_stop, lists_stop, orc_stop, parse_stop, place_stop, read_file,
+};
 pub use refusal::Refusal;
 pub use status::Status;
 pub use stop::Stop;

@@ -114,7 +114,7 @@ unfoldable pub goes : Elf → Point → List Edge
 goes o point =
     if is_unchecked_point o point then []
     else next_edges o point
-        ++ (branch_edges o point
-        ++ (listed_edges o Taken point (static_targets o point)
-        ++ (listed_edges o Fixup point (fixups o point)
-        ++ table_edges o point)))
+    ++ (branch_edges o point
+    ++ (listed_edges o Taken point (static_targets o point)
+    ++ (listed_edges o Fixup point (fixups o point)
+    ++ table_edges o point)))

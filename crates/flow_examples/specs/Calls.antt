@@ -19,8 +19,8 @@ before offset sym = record { offset = offset; kind = 4; sym = sym; addend = negs
 abbrev pub by_relocation : Elf
 by_relocation = object
     (code_section (codes ".text") 50
-        (0xE8 ∷ zeros 4 ++ 0xE8 ∷ zeros 4 ++ 0xE8 ∷ zeros 4 ++ 0xE8 ∷ zeros 4 ++ 0xE8 ∷ zeros 4
-        ++ 0x0F ∷ 0x84 ∷ zeros 4 ++ 0x0F ∷ 0x84 ∷ zeros 4 ++ 0xE9 ∷ zeros 4 ++ 0xE8 ∷ zeros 4 ++ 0xC3 ∷ 0xC3 ∷ 0xC3 ∷ [])
+    (0xE8 ∷ zeros 4 ++ 0xE8 ∷ zeros 4 ++ 0xE8 ∷ zeros 4 ++ 0xE8 ∷ zeros 4 ++ 0xE8 ∷ zeros 4
+    ++ 0x0F ∷ 0x84 ∷ zeros 4 ++ 0x0F ∷ 0x84 ∷ zeros 4 ++ 0xE9 ∷ zeros 4 ++ 0xE8 ∷ zeros 4 ++ 0xC3 ∷ 0xC3 ∷ 0xC3 ∷ [])
     ∷ [])
     (function_symbol (codes "f") 1 0 48
     ∷ record (function_symbol (codes "w") 1 48 1) { bind = 2 }

@@ -54,6 +54,7 @@ grows f g (suc n) h = go (f n) (g n) refl refl (grows f g n (λ q inside. h q (o
       | inl lt ↦ before q lt
       | inr same ↦ subst (λ (k : ℕ). g k ≡ f k) (sym same) last
     ]
+
     go : (a b : Bool) → f n ≡ a → g n ≡ b → Grows f g n → Grows f g (suc n)
     go true true fa gb w =
         let one : count f (suc n) ≡ count f n + 1 = ap (λ x. count f n + cond x 1 0) fa in

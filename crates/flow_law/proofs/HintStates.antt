@@ -101,9 +101,9 @@ offset_right o h entry =
     let field = field_at entry.sec (12 * entry.entry) in
     let own = hint.hint_entry o entry.sec entry.entry in
     let rest : List Reason =
-        (hint.has_bad_signal own.kind (slice_index (section_at o entry.sec).body (12 * entry.entry + 8)), HintSignal)
-        ∷ (hint.is_repeated o entry.sec entry.entry, Repeated)
-        ∷ [] in
+    (hint.has_bad_signal own.kind (slice_index (section_at o entry.sec).body (12 * entry.entry + 8)), HintSignal)
+    ∷ (hint.is_repeated o entry.sec entry.entry, Repeated)
+    ∷ [] in
     ap has_bad_offset (sym entry.is)
     ∙ fifth (lacks_reloc o field) (not (holds_text_place o false field)) (nat_lt 7 own.kind) (hint.has_other_base own) (has_bad_offset own) rest entry.right
 

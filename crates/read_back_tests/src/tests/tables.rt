@@ -71,11 +71,7 @@ fn with_table<'x>(
 }
 
 /// The object of a code, section 1, and of a return, section 2, with these rows.
-pub(super) fn with_rows(
-    alloc: Global,
-    code: &[u8],
-    rows: &[RowBytes],
-) -> Result<Vec<u8>, Fail> {
+pub(super) fn with_rows(alloc: Global, code: &[u8], rows: &[RowBytes]) -> Result<Vec<u8>, Fail> {
     let mut bytes = Vec::new(alloc);
     let mut places = Vec::new(alloc);
     let mut relocs = Vec::new(alloc);
