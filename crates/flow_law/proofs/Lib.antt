@@ -8,3 +8,4 @@ pub mod Checked
 pub mod Calls
 pub mod Entries
 pub mod HintStates
+pub mod Signed
