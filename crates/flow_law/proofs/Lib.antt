@@ -9,3 +9,5 @@ pub mod Calls
 pub mod Entries
 pub mod HintStates
 pub mod Signed
+pub mod Decoded
+pub mod Whole

@@ -1,8 +1,17 @@
 //! Laws over every program, and over the program of every object.
 
+ghost use Rattle.flow_law.specs.Flows.{ProgramIsOne};
 ghost use Rattle.flow_law.specs.Returning.{LevelsAreEnough};
 
 /// As many levels as there are points find every point from which a return may come, and no other.
 pub fn returning()
     ensures { LevelsAreEnough }
+{}
+
+/// The program of every object whose special sections are in order has what the unwinding law asks of
+/// programs: control goes from points to points, and from checked code to checked code; calls and tail calls
+/// inside the object go to its entries; numbers fit and hints are consistent; and a return may come from
+/// exactly the points that it tells.
+pub fn program_is_one()
+    ensures { ProgramIsOne }
 {}

@@ -1,0 +1,34 @@
+-- The program of an object in order is one, as the laws ask.
+use Rattle.std.proofs.Common.{◌≡◌, []}
+use Rattle.ot_base.specs.NameLists.{NameLists}
+use Rattle.elf_objects.specs.Elf.{Elf}
+use Rattle.program_defs.specs.IsProgram.{IsProgram}
+use Rattle.special_sections.specs.Special.{special_faults}
+use Rattle.flow_defs.specs.Program.{program_of}
+use Rattle.flow_law.specs.Flows.{HasBytes}
+use Rattle.flow_law.proofs.Calls as of_calls
+use Rattle.flow_law.proofs.Checked as of_checked
+use Rattle.flow_law.proofs.Decoded as of_decoded
+use Rattle.flow_law.proofs.Entries as of_entries
+use Rattle.flow_law.proofs.Fields as of_fields
+use Rattle.flow_law.proofs.HintStates as of_hints
+
+pub program_is_one : (o : Elf) (lists : NameLists) → HasBytes o → special_faults o ≡ [] → IsProgram (program_of o lists)
+program_is_one o lists are right = record {
+  edges = of_fields.edges o lists;
+  arrivals = of_fields.arrivals o lists;
+  followers = of_fields.followers o lists;
+  saves = of_fields.saves o lists;
+  checked = of_checked.checked o lists;
+  unowned = of_fields.unowned o lists;
+  entries_checked = of_calls.entries_checked o lists;
+  calls_entry = of_entries.calls_entry o lists;
+  calls_weak_entry = of_entries.calls_weak_entry o lists;
+  siblings = of_entries.siblings o lists;
+  calls = of_calls.calls o lists;
+  call_next = of_calls.call_next o lists;
+  returns = of_fields.returns o lists;
+  numbers = of_decoded.numbers o lists are;
+  hints = of_hints.hints o lists right;
+  may_return = of_fields.may_return o lists;
+}
