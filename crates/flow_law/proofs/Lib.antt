@@ -11,3 +11,4 @@ pub mod HintStates
 pub mod Signed
 pub mod Decoded
 pub mod Whole
+pub mod Listed
