@@ -12,3 +12,4 @@ pub mod Signed
 pub mod Decoded
 pub mod Whole
 pub mod Listed
+pub mod Bodies
