@@ -1,7 +1,7 @@
 -- The texts of an object by its sections, and how instructions and cuts lie in them.
-use Rattle.std.proofs.Common.{◌≡◌, ℕ, zero, suc, ◌+◌, ◌-◌, ◌<◌, ◌≤◌, ◌⊎◌, Bool, true, false, not, ◌&&◌, ◌||◌, cond, List, [], ◌∷◌, Option, Some, None, length, map, Contains, refl, sym, ap, ◌∙◌, arith, subst, inl, inr}
-use Rattle.std.specs.Prelude.{filter, find, is_some, option_and_then, ◌==◌}
-use Rattle.std.specs.List.{AllByRecursion, list_any, range_with_len}
+use Rattle.std.proofs.Common.{◌≡◌, ℕ, ◌+◌, ◌<◌, ◌≤◌, Bool, true, false, ◌&&◌, ◌||◌, List, Option, Some, None, length, Contains, refl, sym, ap, ◌∙◌, arith, subst, inl, inr}
+use Rattle.std.specs.Prelude.{is_some, option_and_then, ◌==◌}
+use Rattle.std.specs.List.{range_with_len}
 use Rattle.std.proofs.lemmas.Bool.{eqb-true}
 use Rattle.ot_base.specs.declared.place.Place.{Place}
 use Rattle.operation_defs.specs.declared.insn.Insn.{Insn}

@@ -1,5 +1,5 @@
 -- Calls: their roles, and what follows them; and that entries are checked.
-use Rattle.std.proofs.Common.{◌≡◌, ℕ, ◌<◌, ◌⊎◌, Bool, true, false, not, ◌&&◌, ◌||◌, cond, List, [], ◌∷◌, ◌++◌, Option, Some, None, Contains, refl, sym, ap, ◌∙◌, subst, inl, inr}
+use Rattle.std.proofs.Common.{◌≡◌, ℕ, true, false, not, ◌&&◌, cond, List, [], ◌∷◌, ◌++◌, Option, Some, None, Contains, refl, sym, ap, ◌∙◌, subst}
 use Rattle.std.proofs.lemmas.Bool.{and_from, false≢true, not_from_false, or_right}
 use Rattle.std.proofs.lemmas.List.Elements.{Contains-append_left}
 use Rattle.ot_base.specs.declared.place.Place.{Place}
@@ -9,8 +9,6 @@ use Rattle.operation_defs.specs.declared.op.Op.{Op}
 use Rattle.operation_defs.specs.declared.op.Op.TheVariants as ops
 use Rattle.elf_objects.specs.Elf.{Elf}
 use Rattle.program_defs.specs.declared.flow.EdgeKind.TheVariants.{Fixup, Next, Taken}
-use Rattle.program_defs.specs.declared.flow.Role.{Role}
-use Rattle.program_defs.specs.declared.flow.Role.TheVariants as roles
 use Rattle.program_defs.specs.Program.{IsPoint, edge, entry_points, is_call, is_call_op}
 use Rattle.symbols_relocs.specs.declared.target.Target.{Target}
 use Rattle.symbols_relocs.specs.declared.target.Target.TheVariants as targets
@@ -20,12 +18,12 @@ use Rattle.flow_defs.specs.declared.aim.Aim.{Aim}
 use Rattle.flow_defs.specs.declared.aim.Aim.TheVariants as aims
 use Rattle.flow_defs.specs.declared.aim.Way.{Way}
 use Rattle.flow_defs.specs.declared.aim.Way.TheVariants as ways
-use Rattle.flow_defs.specs.Code.{is_plain, numbers_of, point_at, points_of_object}
+use Rattle.flow_defs.specs.Code.{is_plain, point_at, points_of_object}
 use Rattle.flow_defs.specs.Owners.{is_entry, is_unchecked, is_unchecked_point, owner_of_point}
-use Rattle.flow_defs.specs.Arrival.{after, arrive, insn_of_object, is_dead_end}
+use Rattle.flow_defs.specs.Arrival.{after, insn_of_object, is_dead_end}
 use Rattle.flow_defs.specs.Targets.{aim}
 use Rattle.flow_defs.specs.Ways.{branch_way}
-use Rattle.flow_defs.specs.Roles.{jump_by_table, jump_by_way, jump_of_target, jump_role, place_jump, role_by, role_of, table_of_point}
+use Rattle.flow_defs.specs.Roles.{jump_by_table, jump_by_way, jump_of_target, jump_role, role_by, role_of, table_of_point}
 use Rattle.flow_defs.specs.Edges.{branch_edges, edges_to, ends_flow, fixups, goes, goes_on, is_some_place, listed_edges, next_edges, static_targets, table_edges}
 use Rattle.flow_defs.specs.Program.{entries_of, graph_of, is_entry_point, program_of, returning_graph}
 use Rattle.flow_law.proofs.Levels.{and_true}

@@ -1,6 +1,6 @@
 -- Edges of checked points lead to checked points.
-use Rattle.std.proofs.Common.{◌≡◌, ℕ, ◌<◌, ◌⊎◌, Bool, true, false, not, ◌&&◌, cond, List, [], ◌∷◌, Option, Some, None, Contains, refl, sym, ap, ◌∙◌, subst, inl, inr}
-use Rattle.std.specs.Prelude.{option_and_then, take_while}
+use Rattle.std.proofs.Common.{◌≡◌, ℕ, Bool, true, false, ◌&&◌, cond, List, [], ◌∷◌, Option, Some, None, Contains, refl, sym, ap, ◌∙◌, subst, inl, inr}
+use Rattle.std.specs.Prelude.{take_while}
 use Rattle.std.proofs.lemmas.Bool.{false≢true}
 use Rattle.std.proofs.lemmas.List.Sums.{take_while-cons}
 use Rattle.ot_base.specs.declared.place.Place.{Place}
@@ -8,24 +8,23 @@ use Rattle.ot_base.specs.NameLists.{NameLists}
 use Rattle.elf_objects.specs.Elf.{Elf}
 use Rattle.program_defs.specs.declared.flow.Edge.{Edge}
 use Rattle.program_defs.specs.declared.flow.EdgeKind.{EdgeKind}
-use Rattle.program_defs.specs.declared.flow.EdgeKind.TheVariants.{Next, Taken, Fixup, Table, Sibling}
+use Rattle.program_defs.specs.declared.flow.EdgeKind.TheVariants.{Next, Taken, Sibling}
 use Rattle.program_defs.specs.Program.{IsPoint}
 use Rattle.symbols_relocs.specs.Parts.{owner_at}
 use Rattle.alternatives.specs.declared.point.Point.{Point}
-use Rattle.alternatives.specs.declared.texts.SectionText.{SectionText}
-use Rattle.jump_tables.specs.Tables.{entries_by, entries_for, entries_of, jump_table, same_owner, table_of}
+use Rattle.jump_tables.specs.Tables.{entries_by, entries_of, jump_table, same_owner}
 use Rattle.jump_tables.specs.Texts.{is_boundary}
 use Rattle.unwinding_law.proofs.Lists.{cases, nowhere}
 use Rattle.flow_defs.specs.declared.aim.Way.{Way}
 use Rattle.flow_defs.specs.declared.aim.Way.TheVariants as ways
-use Rattle.flow_defs.specs.Code.{numbers_of, point_at, texts_of}
+use Rattle.flow_defs.specs.Code.{point_at, texts_of}
 use Rattle.flow_defs.specs.Owners.{is_entry, is_unchecked, is_unchecked_point, owner_of_point, unchecked_start}
 use Rattle.flow_defs.specs.Roles.{table_of_point}
 use Rattle.flow_defs.specs.Ways.{branch_way, checked_way, inside_only, is_crossing, listed_way, way_by}
 use Rattle.flow_defs.specs.Program.{graph_of, program_of, returning_graph}
 use Rattle.flow_law.proofs.Levels.{and_true, not_true}
 use Rattle.flow_law.proofs.Numbers.{numbers_are}
-use Rattle.flow_law.proofs.Edges.{Comes, ComesTo, edge_comes}
+use Rattle.flow_law.proofs.Edges.{Comes, edge_comes}
 use Rattle.flow_law.proofs.Owners.{arriving_owner, entry_is, owners_equal}
 
 -- how a way along an edge comes about

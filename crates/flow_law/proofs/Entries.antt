@@ -1,6 +1,6 @@
 -- Calls and tail calls inside an object go to its entries.
-use Rattle.std.proofs.Common.{◌≡◌, ℕ, ◌<◌, ◌⊎◌, Bool, true, false, not, ◌&&◌, cond, List, [], ◌∷◌, Option, Some, None, length, get_or, Contains, refl, sym, ap, ◌∙◌, arith, subst, inl, inr}
-use Rattle.std.specs.Prelude.{◌≢◌, is_some, filter, filter_map, position, unwrap_or}
+use Rattle.std.proofs.Common.{◌≡◌, ℕ, ◌<◌, Bool, true, false, cond, List, [], ◌∷◌, Option, Some, None, length, get_or, Contains, refl, sym, ap, ◌∙◌, arith, subst, inl, inr}
+use Rattle.std.specs.Prelude.{◌≢◌, filter, unwrap_or}
 use Rattle.std.specs.List.{position_or_len}
 use Rattle.std.proofs.lemmas.Bool.{and_from, cases_lt, eq-eqb, false≢true, lt-ltb}
 use Rattle.std.proofs.lemmas.List.Sums.{fails_before_first}
@@ -10,13 +10,11 @@ use Rattle.operation_defs.specs.declared.insn.Insn.{Insn}
 use Rattle.operation_defs.specs.declared.op.Op.{Op}
 use Rattle.operation_defs.specs.declared.op.Op.TheVariants as ops
 use Rattle.elf_objects.specs.Elf.{Elf}
-use Rattle.program_defs.specs.declared.flow.Edge.{Edge}
 use Rattle.program_defs.specs.declared.flow.EdgeKind.{EdgeKind}
-use Rattle.program_defs.specs.declared.flow.EdgeKind.TheVariants.{Next, Taken, Fixup, Table, Sibling}
+use Rattle.program_defs.specs.declared.flow.EdgeKind.TheVariants.{Taken, Sibling}
 use Rattle.program_defs.specs.declared.flow.Role.{Role}
 use Rattle.program_defs.specs.declared.flow.Role.TheVariants as roles
 use Rattle.program_defs.specs.Program.{IsPoint, edge, entry_points}
-use Rattle.symbols_relocs.specs.declared.target.Target.{Target}
 use Rattle.symbols_relocs.specs.declared.target.Target.TheVariants as targets
 use Rattle.symbols_relocs.specs.Places.{same_place}
 use Rattle.alternatives.specs.declared.point.Point.{Point}
@@ -35,10 +33,10 @@ use Rattle.flow_defs.specs.Owners.{is_entry, owner_of_point, unchecked_start}
 use Rattle.flow_defs.specs.Arrival.{arrive, insn_of_object, is_padding}
 use Rattle.flow_defs.specs.Targets.{aim}
 use Rattle.flow_defs.specs.Ways.{branch_way}
-use Rattle.flow_defs.specs.Roles.{call_by, call_of_target, call_role, entry_call, jump_by_table, jump_by_way, jump_of_target, jump_role, place_call, plain_number, role_by, role_of, table_of_point}
+use Rattle.flow_defs.specs.Roles.{call_by, call_role, entry_call, jump_by_table, jump_by_way, jump_role, place_call, plain_number, role_by, role_of, table_of_point}
 use Rattle.flow_defs.specs.Program.{entries_of, graph_of, is_entry_point, program_of, returning_graph}
-use Rattle.flow_law.proofs.Numbers.{numbered, point_count}
-use Rattle.flow_law.proofs.Edges.{Comes, ComesTo, edge_comes}
+use Rattle.flow_law.proofs.Numbers.{numbered}
+use Rattle.flow_law.proofs.Edges.{Comes, edge_comes}
 use Rattle.flow_law.proofs.Checked.{Leads, Ways, listed_leads, way_leads}
 
 -- a point that is listed has a number

@@ -1,22 +1,17 @@
 -- What the laws ask of programs, field by field: what needs no fact about the object.
-use Rattle.std.proofs.Common.{◌≡◌, ℕ, ◌<◌, ◌⊎◌, Bool, true, false, cond, List, [], ◌∷◌, Option, Some, None, length, Contains, refl, sym, ap, ◌∙◌, arith, subst, inl, inr}
+use Rattle.std.proofs.Common.{◌≡◌, ℕ, ◌<◌, Bool, true, false, cond, Option, Some, None, Contains, sym, ap}
 use Rattle.std.specs.Prelude.{◌↔◌, option_and_then}
-use Rattle.std.proofs.lemmas.Bool.{false≢true}
 use Rattle.ot_base.specs.NameLists.{NameLists}
 use Rattle.ot_base.specs.declared.place.Place.{Place}
-use Rattle.operation_defs.specs.declared.insn.Insn.{Insn}
-use Rattle.operation_defs.specs.declared.op.Op.{Op}
 use Rattle.operation_defs.specs.declared.op.Op.TheVariants as ops
 use Rattle.elf_objects.specs.Elf.{Elf}
 use Rattle.program_defs.specs.declared.flow.Edge.{Edge}
-use Rattle.program_defs.specs.declared.flow.Role.{Role}
 use Rattle.program_defs.specs.declared.flow.Role.TheVariants as roles
-use Rattle.program_defs.specs.Program.{IsPoint, entry_points, is_call, is_call_op}
+use Rattle.program_defs.specs.Program.{IsPoint}
 use Rattle.program_defs.specs.MayReturn.{MayReturn}
 use Rattle.alternatives.specs.declared.point.Point.{Point}
-use Rattle.flow_defs.specs.declared.aim.Aim.{Aim}
 use Rattle.flow_defs.specs.Code.{number_of, point_at}
-use Rattle.flow_defs.specs.Owners.{is_unchecked, owner_of_point}
+use Rattle.flow_defs.specs.Owners.{is_unchecked}
 use Rattle.flow_defs.specs.Arrival.{insn_of_object}
 use Rattle.flow_defs.specs.Hints.{hint_of, is_restore, nearest, save_of, saves_before}
 use Rattle.flow_defs.specs.Program.{graph_of, program_of, returning_graph}

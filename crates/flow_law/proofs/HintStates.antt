@@ -1,6 +1,6 @@
 -- The hints of an object whose special sections are in order set consistent states.
-use Rattle.std.proofs.Common.{◌≡◌, ℕ, ◌<◌, ◌⊎◌, Bool, true, false, not, ◌&&◌, ◌||◌, cond, List, [], ◌∷◌, ◌++◌, ◌+◌, ◌*◌, Option, Some, None, map, Contains, refl, sym, ap, ◌∙◌, arith, subst, inl, inr, pos, negsuc, ℤ}
-use Rattle.std.specs.Prelude.{find, flat_map, int_lt, nat_lt, slice_index, option_and_then, ◌==◌, ◌≤ℤ◌}
+use Rattle.std.proofs.Common.{◌≡◌, ℕ, Bool, true, false, not, ◌&&◌, cond, List, [], ◌∷◌, ◌++◌, ◌+◌, ◌*◌, Option, Some, None, Contains, refl, sym, ap, ◌∙◌, arith, subst, inl, inr, pos, negsuc, ℤ}
+use Rattle.std.specs.Prelude.{flat_map, int_lt, nat_lt, slice_index, option_and_then, ◌==◌, ◌≤ℤ◌}
 use Rattle.std.specs.List.{range_with_len}
 use Rattle.std.proofs.lemmas.Bool.{false≢true, or_left, or_parts, or_right}
 use Rattle.std.proofs.lemmas.Int.{ints}
@@ -15,23 +15,18 @@ use Rattle.special_sections.specs.declared.fault.Why.{Why}
 use Rattle.special_sections.specs.declared.fault.Why.TheVariants.{HintBase, HintOffset, HintSignal, HintType, NoReloc, NotText, Repeated}
 use Rattle.special_sections.specs.Hints as hint
 use Rattle.special_sections.specs.Hints.{has_bad_offset, is_place}
-use Rattle.special_sections.specs.Kinds.{entries, entry_faults, faults, faults_after, section_entries, section_faults, sections_named}
-use Rattle.special_sections.specs.PlaceLists as lists
+use Rattle.special_sections.specs.Kinds.{entry_faults, faults, faults_after, section_entries, section_faults, sections_named}
 use Rattle.special_sections.specs.Reasons.{Reason, fault_at, first_reason}
 use Rattle.special_sections.specs.Special.{special_faults, special_of}
 use Rattle.special_sections.specs.Fields.{field_at, holds_text_place, lacks_reloc, table_why}
 use Rattle.special_sections.specs.Tables as tables
-use Rattle.state_defs.specs.declared.state.BpHome.TheVariants.{Same}
-use Rattle.state_defs.specs.declared.state.Depth.TheVariants.{Known}
-use Rattle.state_defs.specs.declared.state.HintState.{HintState}
 use Rattle.state_defs.specs.declared.state.HintState.TheVariants.{Set, Save, Restore}
 use Rattle.state_defs.specs.declared.state.State.{State}
-use Rattle.state_defs.specs.declared.state.State.TheVariants.{Live, Ended, Regs}
+use Rattle.state_defs.specs.declared.state.State.TheVariants.{Ended, Regs}
 use Rattle.state_defs.specs.declared.state.EndKind.TheVariants.{EndOfStack, Undefined}
-use Rattle.state_defs.specs.State.{IsConsistent, IsConsistentLive, initial}
-use Rattle.unwind_hints.specs.HintStates.{first_hint_at, frame_state, hint_at, hint_state}
-use Rattle.alternatives.specs.declared.point.Point.{Point}
-use Rattle.unwinding_law.proofs.Lists.{cases, from_flat_map, here, nowhere, there}
+use Rattle.state_defs.specs.State.{IsConsistent, initial}
+use Rattle.unwind_hints.specs.HintStates.{frame_state, hint_at, hint_state}
+use Rattle.unwinding_law.proofs.Lists.{cases, from_flat_map, here, nowhere}
 use Rattle.rows_law.proofs.Lists.{finds}
 use Rattle.flow_defs.specs.Code.{point_at}
 use Rattle.flow_defs.specs.Arrival.{is_padding}
@@ -40,11 +35,11 @@ use Rattle.flow_defs.specs.Program.{graph_of, program_of, returning_graph}
 use Rattle.flow_law.proofs.Owners.{from_map}
 
 -- nothing joined is nothing twice
-parts_none : {X : Type 0} (xs ys : List X) → xs ++ ys ≡ [] → (xs ≡ []) × (ys ≡ [])
+pub parts_none : {X : Type 0} (xs ys : List X) → xs ++ ys ≡ [] → (xs ≡ []) × (ys ≡ [])
 parts_none [] ys e = (refl, e)
 parts_none (x ∷ xs) ys e = absurd (let k : ⊥ = cc in k)
 
-each_none : {X Y : Type 0} (f : X → List Y) (xs : List X) (x : X) → flat_map f xs ≡ [] → Contains xs x → f x ≡ []
+pub each_none : {X Y : Type 0} (f : X → List Y) (xs : List X) (x : X) → flat_map f xs ≡ [] → Contains xs x → f x ≡ []
 each_none f [] x e c = nowhere x c
 each_none f (y ∷ xs) x e c =
     let parts = parts_none (f y) (flat_map f xs) e in
@@ -54,15 +49,15 @@ each_none f (y ∷ xs) x e c =
     ]
 
 -- where there is no reason, no condition holds
-reason_none : (b : Bool) (why : Why) (rest : List Reason) → first_reason ((b, why) ∷ rest) ≡ None → (b ≡ false) × (first_reason rest ≡ None)
+pub reason_none : (b : Bool) (why : Why) (rest : List Reason) → first_reason ((b, why) ∷ rest) ≡ None → (b ≡ false) × (first_reason rest ≡ None)
 reason_none true why rest e = absurd (let k : ⊥ = cc in k)
 reason_none false why rest e = (refl, e)
 
-fault_none : (sec entry : ℕ) (why : Option Why) → fault_at sec entry why ≡ [] → why ≡ None
+pub fault_none : (sec entry : ℕ) (why : Option Why) → fault_at sec entry why ≡ [] → why ≡ None
 fault_none sec entry None e = refl
 fault_none sec entry (Some why) e = absurd (let k : ⊥ = cc in k)
 
-entries_none : (sec : ℕ) (why : Option Why) (of_entries : List SpecialFault) → faults_after sec why of_entries ≡ [] → of_entries ≡ []
+pub entries_none : (sec : ℕ) (why : Option Why) (of_entries : List SpecialFault) → faults_after sec why of_entries ≡ [] → of_entries ≡ []
 entries_none sec None of_entries e = e
 entries_none sec (Some why) of_entries e = absurd (let k : ⊥ = cc in k)
 

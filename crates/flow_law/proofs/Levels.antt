@@ -1,7 +1,7 @@
 -- Points from which a return may come, level by level.
-use Rattle.std.proofs.Common.{◌≡◌, ℕ, zero, suc, ◌+◌, ◌-◌, ◌<◌, ◌≤◌, ◌⊎◌, inl, inr, Bool, true, false, not, ◌&&◌, ◌||◌, List, refl, sym, ap, ◌∙◌, arith, subst, add_comm}
+use Rattle.std.proofs.Common.{◌≡◌, ℕ, zero, suc, ◌+◌, ◌-◌, ◌≤◌, ◌⊎◌, inl, inr, Bool, true, false, not, ◌&&◌, ◌||◌, List, refl, sym, ap, ◌∙◌, arith, subst}
 use Rattle.std.specs.Prelude.{◌≢◌, ◌↔◌, Contains}
-use Rattle.std.specs.List.{Any, list_any}
+use Rattle.std.specs.List.{list_any}
 use Rattle.std.proofs.lemmas.Bool.{cases_lt, false≢true, true≢false, and_from, or_left, or_right, not_from_false}
 use Rattle.std.proofs.lemmas.List.Folds.{Any-from_list_any, list_any-from_Any}
 use Rattle.program_defs.specs.declared.flow.Edge.{Edge}
@@ -13,7 +13,7 @@ use Rattle.program_defs.specs.Program.{Program, IsPoint, edge, entry_points, is_
 use Rattle.program_defs.specs.MayReturn.{MayReturn, may_call_out}
 use Rattle.flow_defs.specs.Returning.{call_returns, is_next, leads_to_return, leaves, returns_at_last, returns_by, returns_within}
 use Rattle.flow_law.specs.Returning.{StaysAtPoints}
-use Rattle.flow_law.proofs.Counting.{count, Agree, PassAll, Grows, grows, all_pass}
+use Rattle.flow_law.proofs.Counting.{count, Agree, grows, all_pass}
 
 or_true : (x y : Bool) → (x || y) ≡ true → (x ≡ true) ⊎ (y ≡ true)
 or_true true y e = inl refl

@@ -13,3 +13,6 @@ pub mod Decoded
 pub mod Whole
 pub mod Listed
 pub mod Bodies
+pub mod PointKinds
+pub mod EntryFacts
+pub mod InText

@@ -1,11 +1,11 @@
 -- How the instructions that are listed in bytes lie.
-use Rattle.std.proofs.Common.{◌≡◌, ℕ, zero, suc, ◌+◌, ◌-◌, ◌<◌, ◌≤◌, ◌⊎◌, Bool, true, false, cond, List, [], ◌∷◌, ◌++◌, Option, Some, None, length, take, refl, sym, ap, ◌∙◌, arith, subst, inl, inr, length-take}
+use Rattle.std.proofs.Common.{◌≡◌, ℕ, zero, suc, ◌+◌, ◌-◌, ◌<◌, ◌≤◌, Bool, true, false, cond, List, [], ◌∷◌, ◌++◌, Some, length, take, refl, ap, ◌∙◌, arith, subst, length-take}
 use Rattle.std.specs.Prelude.{Result, Ok, Err, min, ◌==◌}
 use Rattle.std.proofs.lemmas.Bool.{eqb-true}
 use Rattle.std.proofs.lemmas.List.{length-append}
 use Rattle.operation_defs.specs.declared.insn.Insn.{Insn}
 use Rattle.x86_decode.specs.Decoding.{Outcome, StandsInFront, decoded}
-use Rattle.x86_decode.specs.Spelling.{Opcode, Parts, Spells, bytes_of, one_byte, opcode_bytes, operand_bytes, optional, three_byte, two_byte}
+use Rattle.x86_decode.specs.Spelling.{Opcode, Parts, bytes_of, one_byte, opcode_bytes, operand_bytes, optional, three_byte, two_byte}
 use Rattle.x86_decode.specs.declared.DecodeFault.{DecodeFault}
 use Rattle.x86_decode.proofs.Decided.{outcome}
 use Rattle.x86_decode.proofs.Languages.{IsBytes}

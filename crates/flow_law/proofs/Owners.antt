@@ -1,26 +1,26 @@
 -- Owners of points and of places, and which of them are checked.
-use Rattle.std.proofs.Common.{◌≡◌, ℕ, zero, suc, ◌+◌, ◌-◌, ◌<◌, ◌⊎◌, Bool, true, false, not, ◌&&◌, cond, List, [], ◌∷◌, Option, Some, None, length, map, Contains, refl, sym, ap, ◌∙◌, arith, subst, inl, inr}
-use Rattle.std.specs.Prelude.{filter, is_some, is_none, option_map, option_and_then, unwrap_or, ◌==◌, nat_lt}
+use Rattle.std.proofs.Common.{◌≡◌, ℕ, zero, suc, ◌+◌, ◌-◌, ◌<◌, Bool, true, false, not, ◌&&◌, cond, List, [], ◌∷◌, Option, Some, None, length, map, Contains, refl, sym, ap, ◌∙◌, arith, subst, inl, inr}
+use Rattle.std.specs.Prelude.{is_some, is_none, option_map, option_and_then, unwrap_or, ◌==◌, nat_lt}
 use Rattle.std.proofs.lemmas.Bool.{and_from, false≢true, eqb-true, lt-ltb, ne_eqb}
 use Rattle.ot_base.specs.declared.place.Place.{Place}
 use Rattle.elf_objects.specs.Elf.{Elf}
 use Rattle.elf_objects.specs.Below.{least_below}
 use Rattle.elf_objects.specs.Contents.{symbol_at}
 use Rattle.elf_objects.proofs.LeastBelow.{IsLeast, least_below-none, least_below-some}
-use Rattle.symbols_relocs.specs.Functions.{bytes_before, function_at, is_code, is_function, is_held_from, is_symbol_at, start_of, starts_at}
+use Rattle.symbols_relocs.specs.Functions.{function_at, is_code, is_function, is_held_from, is_symbol_at, start_of, starts_at}
 use Rattle.symbols_relocs.specs.Parts.{owner_at, owner_of, parent_of}
 use Rattle.symbols_relocs.specs.Places.{earlier, same_place}
 use Rattle.special_sections.specs.declared.entries.AltEntry.{AltEntry}
 use Rattle.special_sections.specs.Hints.{is_place}
 use Rattle.alternatives.specs.declared.point.Point.{Point}
 use Rattle.alternatives.specs.Originals.{counted, entry_at}
-use Rattle.alternatives.specs.Points.{address_of_point, entries_from, first_of, first_points, is_point}
+use Rattle.alternatives.specs.Points.{address_of_point, entries_from, first_of, is_point}
 use Rattle.alternatives.specs.Texts.{behind}
 use Rattle.jump_tables.specs.Tables.{same_owner}
 use Rattle.unwinding_law.proofs.Lists.{cases, from_filter, here, nowhere, there}
 use Rattle.rows_law.proofs.Equal.{same_place_is}
 use Rattle.flow_defs.specs.Code.{alternatives_of, point_at, texts_of}
-use Rattle.flow_defs.specs.Owners.{is_entry, is_entry_by, is_entry_function, is_unchecked, is_unchecked_owner, is_unchecked_point, owner_of_point}
+use Rattle.flow_defs.specs.Owners.{is_entry, is_entry_by, is_unchecked, is_unchecked_owner, owner_of_point}
 use Rattle.flow_defs.specs.Arrival.{arrive}
 use Rattle.flow_law.proofs.Levels.{and_true, not_true}
 use Rattle.flow_law.proofs.Edges.{arrive_points}

@@ -1,9 +1,7 @@
 -- The numbers in decoded instructions have 64 bits.
-use Rattle.std.proofs.Common.{◌≡◌, ℕ, zero, suc, ◌+◌, ◌-◌, ◌*◌, ◌<◌, ◌≤◌, ◌^◌, ◌⊎◌, Bool, true, false, not, ◌&&◌, ◌||◌, cond, List, [], ◌∷◌, ◌++◌, Option, Some, None, length, take, drop, get_or, Contains, refl, sym, ap, ◌∙◌, arith, subst, inl, inr, pos, negsuc, ℤ, T}
-use Rattle.std.specs.Prelude.{FitsSigned, Result, Ok, Err, find, neg_ℤ, option_and_then, slice_index, unwrap_or, ◌==◌}
+use Rattle.std.proofs.Common.{◌≡◌, ℕ, zero, suc, ◌<◌, ◌^◌, Bool, true, false, not, ◌&&◌, ◌||◌, cond, List, [], ◌∷◌, ◌++◌, length, take, sym, arith, subst, pos, negsuc, ℤ}
+use Rattle.std.specs.Prelude.{FitsSigned, Ok, neg_ℤ, slice_index, ◌==◌}
 use Rattle.std.specs.Int.{w8, w32, w64, cast_signed}
-use Rattle.std.specs.List.{AllByRecursion}
-use Rattle.std.proofs.lemmas.Int.{ints}
 use Rattle.std.proofs.Math.Facts.{sfits_lit, sfits_to_z, sfits_widen}
 use Rattle.byteorder.specs.Endian.{little_number}
 use Rattle.operation_defs.specs.declared.insn.Insn.{Insn}

@@ -1,18 +1,32 @@
 -- Which program is one of every object in order.
-use Rattle.std.specs.Prelude.{◌≡◌, ◌<◌, ℕ, List, [], Contains}
+use Rattle.std.specs.Prelude.{◌≡◌, ◌<◌, [], Contains, length}
 use Rattle.std.specs.List.{AllByRecursion}
 use Rattle.ot_base.specs.NameLists.{NameLists}
 use Rattle.elf_objects.specs.Elf.{Elf}
-use Rattle.program_defs.specs.IsProgram.{IsProgram}
+use Rattle.elf_objects.specs.Object.{IsObject}
+use Rattle.program_defs.specs.IsProgram.{IsInText, IsProgram}
 use Rattle.special_sections.specs.Special.{special_faults}
 use Rattle.alternatives.specs.declared.texts.SectionText.{SectionText}
-use Rattle.flow_defs.specs.Code.{texts_of}
+use Rattle.alternatives.specs.Faults.{AreRight}
+use Rattle.flow_defs.specs.Code.{alternatives_of, texts_of}
 use Rattle.flow_defs.specs.Program.{program_of}
 
 -- the items of the texts are bytes, as those of a file are
 abbrev pub HasBytes : Elf → Type 0
 HasBytes o = (t : SectionText) → Contains (texts_of o) t → AllByRecursion (λ byte. byte < 256) t.text
 
+-- An object is in order, as far as its readers ask: it is well-formed, and neither an entry of a special section nor an
+-- alternative is refused.
+pub record IsInOrder (o : Elf) : Type 0 where
+  pub object : IsObject o.bytes o
+  pub bytes : HasBytes o
+  pub special : special_faults o ≡ []
+  pub sites : AreRight (texts_of o) (alternatives_of o) (length (alternatives_of o))
+
 -- The program of every object whose special sections are in order is one, as the laws ask.
 abbrev pub ProgramIsOne : Type 0
 ProgramIsOne = (o : Elf) (lists : NameLists) → HasBytes o → special_faults o ≡ [] → IsProgram (program_of o lists)
+
+-- The instructions of an object in order have a byte each, and where they run they lie in its text.
+abbrev pub ProgramIsInText : Type 0
+ProgramIsInText = (o : Elf) (lists : NameLists) → IsInOrder o → IsInText (program_of o lists)

@@ -1,6 +1,6 @@
 //! Laws over every program, and over the program of every object.
 
-ghost use Rattle.flow_law.specs.Flows.{ProgramIsOne};
+ghost use Rattle.flow_law.specs.Flows.{ProgramIsInText, ProgramIsOne};
 ghost use Rattle.flow_law.specs.Returning.{LevelsAreEnough};
 
 /// As many levels as there are points find every point from which a return may come, and no other.
@@ -14,4 +14,10 @@ pub fn returning()
 /// exactly the points that it tells.
 pub fn program_is_one()
     ensures { ProgramIsOne }
+{}
+
+/// In the program of every object in order each instruction has a byte, and where it runs, be it in its
+/// own place or patched over a site, it lies in the text of a section.
+pub fn program_is_in_text()
+    ensures { ProgramIsInText }
 {}
