@@ -63,7 +63,7 @@ length_right o a entry =
     ap (tables.is_too_long o) (sym entry.is)
     ∙ third (lacks_reloc o original || lacks_reloc o replacement) (not (holds_text_place o false original && holds_text_place o (own.replacement_len == 0) replacement)) (tables.is_too_long o own) entry.right
 
-and_false : (a b : Bool) → a ≡ true → (a && b) ≡ false → b ≡ false
+pub and_false : (a b : Bool) → a ≡ true → (a && b) ≡ false → b ≡ false
 and_false true b is e = e
 and_false false b is e = absurd (false≢true is)
 
@@ -83,12 +83,12 @@ pub record IsEntryOf (o : Elf) (a : AltEntry) : Type 0 where
   pub short : a.replacement_len ≤ a.original_len
 
 -- what an entry that isn't refused has
-record IsUnrefused (o : Elf) (entries : List AltEntry) (k : ℕ) : Type 0 where
-  original : is_whole (texts_of o) (entry_at entries k).original (entry_at entries k).original_len ≡ true
-  apart : overlaps_earlier entries k ≡ false
-  replacement : is_whole (texts_of o) (entry_at entries k).replacement (entry_at entries k).replacement_len ≡ true
+pub record IsUnrefused (o : Elf) (entries : List AltEntry) (k : ℕ) : Type 0 where
+  pub original : is_whole (texts_of o) (entry_at entries k).original (entry_at entries k).original_len ≡ true
+  pub apart : overlaps_earlier entries k ≡ false
+  pub replacement : is_whole (texts_of o) (entry_at entries k).replacement (entry_at entries k).replacement_len ≡ true
 
-unrefused : (o : Elf) (entries : List AltEntry) (k : ℕ) → counts (entry_at entries k) ≡ true → why_of (texts_of o) entries k ≡ None → IsUnrefused o entries k
+pub unrefused : (o : Elf) (entries : List AltEntry) (k : ℕ) → counts (entry_at entries k) ≡ true → why_of (texts_of o) entries k ≡ None → IsUnrefused o entries k
 unrefused o entries k counting why = by_count (counts (entry_at entries k)) counting why
   where
     by_replacement : (b : Bool) → is_whole (texts_of o) (entry_at entries k).original (entry_at entries k).original_len ≡ true → overlaps_earlier entries k ≡ false

@@ -16,3 +16,4 @@ pub mod Bodies
 pub mod PointKinds
 pub mod EntryFacts
 pub mod InText
+pub mod Sites
