@@ -62,13 +62,13 @@ entries_none sec None of_entries e = e
 entries_none sec (Some why) of_entries e = absurd (let k : ⊥ = cc in k)
 
 -- a hint of an object is one of an entry that has no fault
-record IsEntry (o : Elf) (h : HintEntry) : Type 0 where
-  sec : ℕ
-  entry : ℕ
-  is : hint.hint_entry o sec entry ≡ h
-  right : hint.hint_why_from o sec (12 * entry) (hint.is_repeated o sec entry) ≡ None
+pub record IsEntry (o : Elf) (h : HintEntry) : Type 0 where
+  pub sec : ℕ
+  pub entry : ℕ
+  pub is : hint.hint_entry o sec entry ≡ h
+  pub right : hint.hint_why_from o sec (12 * entry) (hint.is_repeated o sec entry) ≡ None
 
-hint_entry_of : (o : Elf) (h : HintEntry) → special_faults o ≡ [] → Contains (special_of o).hints h → IsEntry o h
+pub hint_entry_of : (o : Elf) (h : HintEntry) → special_faults o ≡ [] → Contains (special_of o).hints h → IsEntry o h
 hint_entry_of o h none c =
     let behind_alternatives = (parts_none (faults tables.alternatives o) _ none).1 in
     let behind_branches = (parts_none (faults tables.branches o) _ behind_alternatives).1 in

@@ -1,8 +1,7 @@
 -- The instructions of an object in order have a byte each, and where they run they lie in its text.
-use Rattle.std.proofs.Common.{◌≡◌, ℕ, ◌+◌, ◌-◌, ◌<◌, ◌≤◌, true, false, cond, length, Contains, refl, sym, ap, ◌∙◌, arith, subst}
-use Rattle.std.specs.Prelude.{nat_le, nat_lt, ◌==◌, ◌&&◌}
+use Rattle.std.proofs.Common.{◌≡◌, ℕ, ◌+◌, ◌-◌, ◌<◌, ◌≤◌, true, length, Contains, refl, sym, ap, ◌∙◌, arith, subst}
 use Rattle.std.specs.List.{range_with_len}
-use Rattle.std.proofs.lemmas.Bool.{eqb-true, leb-true, ltb-true}
+use Rattle.std.proofs.lemmas.Bool.{eqb-true}
 use Rattle.std.proofs.lemmas.List.FromFn.{get_or-range_with_len, length-range_with_len}
 use Rattle.ot_base.specs.Section.{TextSection}
 use Rattle.ot_base.specs.NameLists.{NameLists}
@@ -17,18 +16,18 @@ use Rattle.elf_objects.specs.declared.header.SectionHeader.{SectionHeader}
 use Rattle.elf_objects.specs.declared.TheConstants.{SHT_PROGBITS}
 use Rattle.elf_objects.proofs.Read.{length-body_of, length-sections, section_at-entry}
 use Rattle.program_defs.specs.IsProgram.{IsInText}
-use Rattle.special_sections.specs.Hints.{is_place}
 use Rattle.alternatives.specs.declared.point.Point.{Point}
-use Rattle.alternatives.specs.Points.{address_of_point, entry_of, padding_of}
-use Rattle.alternatives.specs.Texts.{behind, is_cut}
+use Rattle.alternatives.specs.Points.{address_of_point, padding_of}
+use Rattle.alternatives.specs.Texts.{behind}
 use Rattle.unwinding_law.proofs.Lists.{from_filter, in_map}
-use Rattle.flow_defs.specs.Code.{alternatives_of, point_at, points_of_object, text_numbers, texts_of}
+use Rattle.flow_defs.specs.Code.{alternatives_of, point_at, points_of_object, text_numbers}
 use Rattle.flow_defs.specs.Arrival.{decoded_insn, insn_of_object}
 use Rattle.flow_defs.specs.Program.{graph_of, program_of, returning_graph, text_sections_of}
 use Rattle.flow_law.specs.Flows.{IsInOrder}
-use Rattle.flow_law.proofs.Bodies.{at_lies, before_cut, body_at, cut_within}
+use Rattle.flow_law.proofs.Bodies.{at_lies, body_at, cut_within}
 use Rattle.flow_law.proofs.EntryFacts.{entry_is}
 use Rattle.flow_law.proofs.Levels.{and_true}
+use Rattle.flow_law.proofs.Overlays.{Overlays, address_plain, overlays, own_entry}
 use Rattle.flow_law.proofs.PointKinds.{PointIs, point_is}
 
 -- a listed number is below their count
@@ -64,40 +63,22 @@ record RunsIn (o : Elf) (address : Place) (insn : Insn) : Type 0 where
   some : 1 ≤ insn.len
   within : address.off + insn.len ≤ length (body_at o address.sec)
 
-address_by : (o : Elf) (point : Point) (address : Place) (insn : Insn) → address_of_point (alternatives_of o) point ≡ address → RunsIn o address insn → RunsIn o (address_of_point (alternatives_of o) point) insn
-address_by o point address insn e runs = subst (λ (p : Place). RunsIn o p insn) (sym e) runs
-
-other_address : (o : Elf) (point : Point) → (point.variant == 0) ≡ false → address_of_point (alternatives_of o) point ≡ behind (entry_of (alternatives_of o) point.variant).original (point.place.off - (entry_of (alternatives_of o) point.variant).replacement.off)
-other_address o point other = ap (λ b. cond b point.place (behind (entry_of (alternatives_of o) point.variant).original (point.place.off - (entry_of (alternatives_of o) point.variant).replacement.off))) other
+-- what overlays an original runs in it
+overlay_runs : (o : Elf) (point : Point) (insn : Insn) → IsInOrder o → Overlays o point insn → RunsIn o (address_of_point (alternatives_of o) point) insn
+overlay_runs o point insn order over =
+    let a = own_entry o point in
+    let entry = entry_is o (point.variant - 1) order over.counting in
+    let original = cut_within o (behind a.original a.original_len) entry.original_end in
+    let own : RunsIn o (behind a.original (point.place.off - a.replacement.off)) insn = record { listed = entry.original.listed; some = over.some; within = omega (arith, over.ends, original) } in
+    subst (λ (p : Place). RunsIn o p insn) (sym over.address) own
 
 runs_in : (o : Elf) (point : Point) (insn : Insn) → IsInOrder o → PointIs o point insn → RunsIn o (address_of_point (alternatives_of o) point) insn
-runs_in o point _ order (PointIs.plain insn v at) =
+runs_in o point _ order (PointIs.plain insn plain at) =
     let lies = at_lies o point.place insn at in
-    let same : address_of_point (alternatives_of o) point ≡ point.place = ap (λ v. cond (v == 0) point.place (behind (entry_of (alternatives_of o) v).original (point.place.off - (entry_of (alternatives_of o) v).replacement.off))) v in
-    address_by o point point.place insn same (record { listed = at.listed; some = lies.some; within = omega (arith, lies.within) })
-runs_in o point _ order (PointIs.replaced insn other counting inside at) =
-    let a = entry_of (alternatives_of o) point.variant in
-    let entry = entry_is o (point.variant - 1) order counting in
-    let lies = at_lies o point.place insn at in
-    let parts = and_true (a.replacement.sec == point.place.sec) _ inside in
-    let sec : a.replacement.sec ≡ point.place.sec = eqb-true a.replacement.sec point.place.sec parts.0 in
-    let bounds = and_true (nat_le a.replacement.off point.place.off) (nat_lt point.place.off (a.replacement.off + a.replacement_len)) parts.1 in
-    let from : a.replacement.off ≤ point.place.off = leb-true a.replacement.off point.place.off bounds.0 in
-    let before : point.place.off < a.replacement.off + a.replacement_len = ltb-true point.place.off (a.replacement.off + a.replacement_len) bounds.1 in
-    let ends = before_cut o point.place (behind a.replacement a.replacement_len) insn at entry.replacement_end (sym sec) before in
-    let original = cut_within o (behind a.original a.original_len) entry.original_end in
-    address_by o point (behind a.original (point.place.off - a.replacement.off)) insn (other_address o point other)
-    (record { listed = entry.original.listed; some = lies.some; within = omega (arith, from, ends, entry.short, original) })
-runs_in o point _ order (PointIs.padding other counting padded) =
-    let a = entry_of (alternatives_of o) point.variant in
-    let entry = entry_is o (point.variant - 1) order counting in
-    let parts = and_true (nat_lt a.replacement_len a.original_len) (is_place point.place (behind a.replacement a.replacement_len) && is_cut (texts_of o) point.place) padded in
-    let short : a.replacement_len < a.original_len = ltb-true a.replacement_len a.original_len parts.0 in
-    let place = and_true (is_place point.place (behind a.replacement a.replacement_len)) (is_cut (texts_of o) point.place) parts.1 in
-    let off : point.place.off ≡ a.replacement.off + a.replacement_len = eqb-true _ _ (and_true (point.place.sec == a.replacement.sec) _ place.0).1 in
-    let original = cut_within o (behind a.original a.original_len) entry.original_end in
-    address_by o point (behind a.original (point.place.off - a.replacement.off)) (padding_of a) (other_address o point other)
-    (record { listed = entry.original.listed; some = omega (arith, short); within = omega (arith, short, off, original) })
+    let own : RunsIn o point.place insn = record { listed = at.listed; some = lies.some; within = omega (arith, lies.within) } in
+    subst (λ (p : Place). RunsIn o p insn) (sym (address_plain o point plain)) own
+runs_in o point _ order (PointIs.replaced insn other counting inside at) = overlay_runs o point insn order (overlays o point insn order other (PointIs.replaced insn other counting inside at))
+runs_in o point _ order (PointIs.padding other counting padded) = overlay_runs o point (padding_of (own_entry o point)) order (overlays o point (padding_of (own_entry o point)) order other (PointIs.padding other counting padded))
 
 runs : (o : Elf) (q : ℕ) → IsInOrder o → q < length (points_of_object o) → RunsIn o (address_of_point (alternatives_of o) (point_at o q)) (decoded_insn o (point_at o q))
 runs o q order here = runs_in o (point_at o q) (decoded_insn o (point_at o q)) order (point_is o q order.bytes here)

@@ -17,3 +17,6 @@ pub mod PointKinds
 pub mod EntryFacts
 pub mod InText
 pub mod Sites
+pub mod Overlays
+pub mod HintPoints
+pub mod LaidOut

@@ -1,13 +1,12 @@
 -- The sites of an object in order: each is the original of alternatives, and those that share a byte are one.
-use Rattle.std.proofs.Common.{◌≡◌, ℕ, zero, suc, ◌+◌, ◌-◌, ◌<◌, ◌≤◌, ◌⊎◌, Bool, true, false, not, ◌&&◌, cond, List, Option, Some, None, length, get_or, map, Contains, refl, sym, ap, ◌∙◌, arith, subst, inl, inr, length-take}
-use Rattle.std.specs.Prelude.{find, min, nat_le, nat_lt, option_map, take, ◌==◌}
+use Rattle.std.proofs.Common.{◌≡◌, ℕ, zero, suc, ◌+◌, ◌<◌, ◌≤◌, Bool, true, false, not, ◌&&◌, List, Some, length, Contains, refl, sym, ap, ◌∙◌, arith, subst, inl, inr, length-take}
+use Rattle.std.specs.Prelude.{min, nat_le, nat_lt, option_map, take, ◌==◌}
 use Rattle.std.specs.List.{list_any}
 use Rattle.std.proofs.lemmas.Bool.{and_from, cases_lt, eq-eqb, eqb-true, false≢true, le-leb, leb-true, lt-ltb, ltb-true}
 use Rattle.std.proofs.lemmas.List.{get_or-take, get_or_default}
 use Rattle.std.proofs.lemmas.List.Elements.{Contains-get_or}
 use Rattle.ot_base.specs.declared.place.Place.{Place}
 use Rattle.elf_objects.specs.Elf.{Elf}
-use Rattle.elf_objects.specs.Contents.{section_at}
 use Rattle.program_defs.specs.Program.{Site, in_site, same_place}
 use Rattle.special_sections.specs.declared.entries.AltEntry.{AltEntry}
 use Rattle.alternatives.specs.declared.texts.SectionText.{SectionText}
@@ -19,8 +18,8 @@ use Rattle.rows_law.proofs.Lists.{finds, finds_one, from_filter_map, in_filter_m
 use Rattle.flow_defs.specs.Code.{alternatives_of, text_numbers, texts_of}
 use Rattle.flow_defs.specs.Sites.{begins_at, places_of, places_of_text, site_of_entry, site_starting_at, sites_of}
 use Rattle.flow_law.specs.Flows.{IsInOrder}
-use Rattle.flow_law.proofs.Bodies.{IsCutIn, body_at, cut_within}
-use Rattle.flow_law.proofs.EntryFacts.{IsEntryOf, and_false, counted_inside, entry_is, unrefused}
+use Rattle.flow_law.proofs.Bodies.{body_at, cut_within}
+use Rattle.flow_law.proofs.EntryFacts.{and_false, counted_inside, entry_is, unrefused}
 use Rattle.flow_law.proofs.Levels.{and_true}
 
 -- a listed alternative has a number

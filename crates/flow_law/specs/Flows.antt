@@ -4,7 +4,7 @@ use Rattle.std.specs.List.{AllByRecursion}
 use Rattle.ot_base.specs.NameLists.{NameLists}
 use Rattle.elf_objects.specs.Elf.{Elf}
 use Rattle.elf_objects.specs.Object.{IsObject}
-use Rattle.program_defs.specs.IsProgram.{IsInText, IsProgram}
+use Rattle.program_defs.specs.IsProgram.{IsLaidOut, IsProgram}
 use Rattle.special_sections.specs.Special.{special_faults}
 use Rattle.alternatives.specs.declared.texts.SectionText.{SectionText}
 use Rattle.alternatives.specs.Faults.{AreRight}
@@ -27,6 +27,6 @@ pub record IsInOrder (o : Elf) : Type 0 where
 abbrev pub ProgramIsOne : Type 0
 ProgramIsOne = (o : Elf) (lists : NameLists) → HasBytes o → special_faults o ≡ [] → IsProgram (program_of o lists)
 
--- The instructions of an object in order have a byte each, and where they run they lie in its text.
-abbrev pub ProgramIsInText : Type 0
-ProgramIsInText = (o : Elf) (lists : NameLists) → IsInOrder o → IsInText (program_of o lists)
+-- The program of every object in order is laid out as rows and walks ask.
+abbrev pub ProgramIsLaidOut : Type 0
+ProgramIsLaidOut = (o : Elf) (lists : NameLists) → IsInOrder o → IsLaidOut (program_of o lists)

@@ -1,6 +1,6 @@
 //! Laws over every program, and over the program of every object.
 
-ghost use Rattle.flow_law.specs.Flows.{ProgramIsInText, ProgramIsOne};
+ghost use Rattle.flow_law.specs.Flows.{ProgramIsLaidOut, ProgramIsOne};
 ghost use Rattle.flow_law.specs.Returning.{LevelsAreEnough};
 
 /// As many levels as there are points find every point from which a return may come, and no other.
@@ -16,8 +16,9 @@ pub fn program_is_one()
     ensures { ProgramIsOne }
 {}
 
-/// In the program of every object in order each instruction has a byte, and where it runs, be it in its
-/// own place or patched over a site, it lies in the text of a section.
-pub fn program_is_in_text()
-    ensures { ProgramIsInText }
+/// In the program of every object in order each instruction has a byte, and lies where it runs in the text of
+/// a section. It runs in its own place, or patched over a site, which it doesn't leave; sites begin with
+/// instructions and are apart; instructions that may stand together share no byte; and hints stand at points.
+pub fn program_is_laid_out()
+    ensures { ProgramIsLaidOut }
 {}
