@@ -19,7 +19,7 @@ use Rattle.alternatives.specs.declared.texts.SectionText.{SectionText}
 use Rattle.alternatives.specs.Originals.{counts}
 use Rattle.alternatives.specs.Points.{entry_of, insn_of_point, is_padded, is_within, padding_of, replacement_insn}
 use Rattle.alternatives.specs.Texts.{insn_at}
-use Rattle.rows_law.proofs.Lists.{finds}
+use Rattle.rows_law.proofs.Lists.{finds, some_is}
 use Rattle.flow_defs.specs.Code.{alternatives_of, point_at, texts_of}
 use Rattle.flow_defs.specs.Owners.{owner_of_point}
 use Rattle.flow_defs.specs.Arrival.{after, decoded_insn, goes_on_behind, insn_of_object, no_insn, op_of}
@@ -33,11 +33,8 @@ listed_fits skip off [] at insn are is = absurd (let k : ⊥ = cc in k)
 listed_fits (suc skip) off (b ∷ bytes) at insn are is = listed_fits skip (off + 1) bytes at insn are.1 is
 listed_fits zero off (b ∷ bytes) at insn are is = go (decoded (b ∷ bytes)) refl is (λ skip h. listed_fits skip (off + 1) bytes at insn are.1 h)
   where
-    same_insn : {x y : Insn} → Some x ≡ Some y → x ≡ y
-    same_insn e = cc
-
     by_place : (here : Insn) (found : Bool) → decoded (b ∷ bytes) ≡ Ok here → cond found (Some here) (insn_listed (code_from (here.len - 1) (off + 1) bytes) at) ≡ Some insn → ((skip : ℕ) → insn_listed (code_from skip (off + 1) bytes) at ≡ Some insn → HasSignedNumber insn.op) → HasSignedNumber insn.op
-    by_place here true of h later = subst (λ (i : Insn). HasSignedNumber i.op) (same_insn h) (decoded_fits (b ∷ bytes) here are of)
+    by_place here true of h later = subst (λ (i : Insn). HasSignedNumber i.op) (some_is h) (decoded_fits (b ∷ bytes) here are of)
     by_place here false of h later = later (here.len - 1) h
 
     go : (r : Result Insn DecodeFault) → decoded (b ∷ bytes) ≡ r → insn_listed (with_rest off r (λ skip. code_from skip (off + 1) bytes)) at ≡ Some insn → ((skip : ℕ) → insn_listed (code_from skip (off + 1) bytes) at ≡ Some insn → HasSignedNumber insn.op) → HasSignedNumber insn.op
@@ -61,11 +58,8 @@ point_fits texts entries point insn are is = by_variant (point.variant == 0) is
     a : AltEntry
     a = entry_of entries point.variant
 
-    same_insn : {x y : Insn} → Some x ≡ Some y → x ≡ y
-    same_insn e = cc
-
     padded : (b : Bool) (p : Insn) → HasSignedNumber p.op → cond b (Some p) None ≡ Some insn → HasSignedNumber insn.op
-    padded true p fits e = subst (λ (i : Insn). HasSignedNumber i.op) (same_insn e) fits
+    padded true p fits e = subst (λ (i : Insn). HasSignedNumber i.op) (some_is e) fits
     padded false p fits e = absurd (let k : ⊥ = cc in k)
 
     within : (b : Bool) → cond b (insn_at texts point.place) (cond (is_padded texts (entry_of entries point.variant) point.place) (Some (padding_of (entry_of entries point.variant))) None) ≡ Some insn → HasSignedNumber insn.op

@@ -19,10 +19,10 @@ use Rattle.alternatives.specs.Originals.{counts, entry_at, no_entry, overlaps_ea
 use Rattle.alternatives.specs.Texts.{behind, is_cut, is_whole}
 use Rattle.unwinding_law.proofs.Lists.{from_flat_map}
 use Rattle.flow_defs.specs.Code.{alternatives_of, texts_of}
-use Rattle.flow_law.specs.Flows.{IsInOrder}
+use Rattle.flow_law.specs.Flows.{ObjectIsInOrder}
 use Rattle.flow_law.proofs.Bodies.{IsCutIn, cut_in}
 use Rattle.flow_law.proofs.HintStates.{each_none, entries_none, fault_none, parts_none, reason_none}
-use Rattle.flow_law.proofs.Levels.{and_true}
+use Rattle.flow_law.proofs.Levels.{and_false, and_true}
 use Rattle.flow_law.proofs.Owners.{from_map}
 
 -- an entry that counts is one of the object
@@ -62,10 +62,6 @@ length_right o a entry =
     let own = tables.alternative_from o entry.sec (14 * entry.entry) in
     ap (tables.is_too_long o) (sym entry.is)
     ∙ third (lacks_reloc o original || lacks_reloc o replacement) (not (holds_text_place o false original && holds_text_place o (own.replacement_len == 0) replacement)) (tables.is_too_long o own) entry.right
-
-pub and_false : (a b : Bool) → a ≡ true → (a && b) ≡ false → b ≡ false
-and_false true b is e = e
-and_false false b is e = absurd (false≢true is)
 
 short_enough : (o : Elf) (a : AltEntry) → counts a ≡ true → tables.is_too_long o a ≡ false → a.replacement_len ≤ a.original_len
 short_enough o a counting right =
@@ -112,7 +108,7 @@ unrefused o entries k counting why = by_count (counts (entry_at entries k)) coun
     by_count true e h = by_original (is_whole (texts_of o) (entry_at entries k).original (entry_at entries k).original_len) refl h
     by_count false e h = absurd (false≢true e)
 
-pub entry_is : (o : Elf) (k : ℕ) → IsInOrder o → counts (entry_at (alternatives_of o) k) ≡ true → IsEntryOf o (entry_at (alternatives_of o) k)
+pub entry_is : (o : Elf) (k : ℕ) → ObjectIsInOrder o → counts (entry_at (alternatives_of o) k) ≡ true → IsEntryOf o (entry_at (alternatives_of o) k)
 entry_is o k order counting =
     let entries = alternatives_of o in
     let a = entry_at entries k in

@@ -26,7 +26,7 @@ use Rattle.flow_defs.specs.Code.{no_point, points_of_object}
 use Rattle.flow_defs.specs.Arrival.{is_padding}
 use Rattle.flow_defs.specs.Hints.{hint_of}
 use Rattle.flow_defs.specs.Program.{graph_of, program_of, returning_graph}
-use Rattle.flow_law.specs.Flows.{IsInOrder}
+use Rattle.flow_law.specs.Flows.{ObjectIsInOrder}
 use Rattle.flow_law.proofs.HintStates.{IsEntry, hint_entry_of, reason_none}
 use Rattle.flow_law.proofs.Levels.{and_true}
 
@@ -66,7 +66,7 @@ in_a_text o h entry =
     let holds : holds_text_place o false field ≡ true = not-false (holds_text_place o false field) (second (lacks_reloc o field) (not (holds_text_place o false field)) rest entry.right) in
     ap (λ (h : HintEntry). is_text (section_at o h.place.sec)) (sym entry.is) ∙ names_one o (points_at o field) holds
 
-hint_in_text : (o : Elf) (place : Place) (found : HintState) → IsInOrder o → hint_at (special_of o).hints place ≡ Some found → is_text (section_at o place.sec) ≡ true
+hint_in_text : (o : Elf) (place : Place) (found : HintState) → ObjectIsInOrder o → hint_at (special_of o).hints place ≡ Some found → is_text (section_at o place.sec) ≡ true
 hint_in_text o place found order is = elim (finds (λ h. is_place h.place place) (special_of o).hints) [
   | inl missing ↦ absurd (let e = ap (option_and_then hint_state) missing.0 in let k : ⊥ = cc in k)
   | inr one ↦
@@ -74,7 +74,7 @@ hint_in_text o place found order is = elim (finds (λ h. is_place h.place place)
       ap (λ s. is_text (section_at o s)) (sym sec) ∙ in_a_text o one.0 (hint_entry_of o one.0 order.special one.2)
 ]
 
-none_nowhere : (o : Elf) (found : HintState) → IsInOrder o → hint_of o no_point ≡ Some found → ⊥
+none_nowhere : (o : Elf) (found : HintState) → ObjectIsInOrder o → hint_of o no_point ≡ Some found → ⊥
 unfolding hint_of
 none_nowhere o found order is = go (is_padding o no_point) is
   where
@@ -82,7 +82,7 @@ none_nowhere o found order is = go (is_padding o no_point) is
     go true e = let k : ⊥ = cc in k
     go false e = false≢true (sym (first_not_text o order.object) ∙ hint_in_text o no_point.place found order e)
 
-pub hint_points : (o : Elf) (lists : NameLists) → IsInOrder o → HintsStandAtPoints (program_of o lists)
+pub hint_points : (o : Elf) (lists : NameLists) → ObjectIsInOrder o → HintsStandAtPoints (program_of o lists)
 unfolding program_of returning_graph graph_of
 hint_points o lists order q found is = elim (cases_lt q (length (points_of_object o))) [
   | inl here ↦ here

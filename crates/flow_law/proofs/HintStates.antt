@@ -32,6 +32,7 @@ use Rattle.flow_defs.specs.Code.{point_at}
 use Rattle.flow_defs.specs.Arrival.{is_padding}
 use Rattle.flow_defs.specs.Hints.{hint_of}
 use Rattle.flow_defs.specs.Program.{graph_of, program_of, returning_graph}
+use Rattle.flow_law.proofs.Levels.{and_false}
 use Rattle.flow_law.proofs.Owners.{from_map}
 
 -- nothing joined is nothing twice
@@ -112,10 +113,6 @@ frame_right n low = record {
 }
 
 -- what the offset of a frame or of saved registers is then at least
-and_false : (a b : Bool) → a ≡ true → (a && b) ≡ false → b ≡ false
-and_false true b is e = e
-and_false false b is e = absurd (false≢true is)
-
 frame_offset : (h : HintEntry) → has_bad_offset h ≡ false → (h.kind == 2) ≡ true → pos 8 ≤ℤ h.sp_offset
 frame_offset h right is =
     let low : int_lt h.sp_offset (pos 8) ≡ false = and_false (h.kind == 2) (int_lt h.sp_offset (pos 8)) is (or_parts ((h.kind == 2) && int_lt h.sp_offset (pos 8)) (hint.has_regs h.kind && int_lt h.sp_offset (pos 0)) right).0 in

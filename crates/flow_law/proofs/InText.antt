@@ -23,7 +23,7 @@ use Rattle.unwinding_law.proofs.Lists.{from_filter, in_map}
 use Rattle.flow_defs.specs.Code.{alternatives_of, point_at, points_of_object, text_numbers}
 use Rattle.flow_defs.specs.Arrival.{decoded_insn, insn_of_object}
 use Rattle.flow_defs.specs.Program.{graph_of, program_of, returning_graph, text_sections_of}
-use Rattle.flow_law.specs.Flows.{IsInOrder}
+use Rattle.flow_law.specs.Flows.{ObjectIsInOrder}
 use Rattle.flow_law.proofs.Bodies.{at_lies, body_at, cut_within}
 use Rattle.flow_law.proofs.EntryFacts.{entry_is}
 use Rattle.flow_law.proofs.Levels.{and_true}
@@ -64,7 +64,7 @@ record RunsIn (o : Elf) (address : Place) (insn : Insn) : Type 0 where
   within : address.off + insn.len ≤ length (body_at o address.sec)
 
 -- what overlays an original runs in it
-overlay_runs : (o : Elf) (point : Point) (insn : Insn) → IsInOrder o → Overlays o point insn → RunsIn o (address_of_point (alternatives_of o) point) insn
+overlay_runs : (o : Elf) (point : Point) (insn : Insn) → ObjectIsInOrder o → Overlays o point insn → RunsIn o (address_of_point (alternatives_of o) point) insn
 overlay_runs o point insn order over =
     let a = own_entry o point in
     let entry = entry_is o (point.variant - 1) order over.counting in
@@ -72,7 +72,7 @@ overlay_runs o point insn order over =
     let own : RunsIn o (behind a.original (point.place.off - a.replacement.off)) insn = record { listed = entry.original.listed; some = over.some; within = omega (arith, over.ends, original) } in
     subst (λ (p : Place). RunsIn o p insn) (sym over.address) own
 
-runs_in : (o : Elf) (point : Point) (insn : Insn) → IsInOrder o → PointIs o point insn → RunsIn o (address_of_point (alternatives_of o) point) insn
+runs_in : (o : Elf) (point : Point) (insn : Insn) → ObjectIsInOrder o → PointIs o point insn → RunsIn o (address_of_point (alternatives_of o) point) insn
 runs_in o point _ order (PointIs.plain insn plain at) =
     let lies = at_lies o point.place insn at in
     let own : RunsIn o point.place insn = record { listed = at.listed; some = lies.some; within = omega (arith, lies.within) } in
@@ -80,10 +80,10 @@ runs_in o point _ order (PointIs.plain insn plain at) =
 runs_in o point _ order (PointIs.replaced insn other counting inside at) = overlay_runs o point insn order (overlays o point insn order other (PointIs.replaced insn other counting inside at))
 runs_in o point _ order (PointIs.padding other counting padded) = overlay_runs o point (padding_of (own_entry o point)) order (overlays o point (padding_of (own_entry o point)) order other (PointIs.padding other counting padded))
 
-runs : (o : Elf) (q : ℕ) → IsInOrder o → q < length (points_of_object o) → RunsIn o (address_of_point (alternatives_of o) (point_at o q)) (decoded_insn o (point_at o q))
+runs : (o : Elf) (q : ℕ) → ObjectIsInOrder o → q < length (points_of_object o) → RunsIn o (address_of_point (alternatives_of o) (point_at o q)) (decoded_insn o (point_at o q))
 runs o q order here = runs_in o (point_at o q) (decoded_insn o (point_at o q)) order (point_is o q order.bytes here)
 
-pub in_text : (o : Elf) (lists : NameLists) → IsInOrder o → IsInText (program_of o lists)
+pub in_text : (o : Elf) (lists : NameLists) → ObjectIsInOrder o → IsInText (program_of o lists)
 unfolding program_of returning_graph graph_of insn_of_object text_sections_of
 in_text o lists order = record {
   lengths = λ q here. (runs o q order here).some;

@@ -36,7 +36,7 @@ use Rattle.flow_defs.specs.Code.{alternatives_of, no_point, plain_point, point_a
 use Rattle.flow_defs.specs.Arrival.{decoded_insn, insn_of_object}
 use Rattle.flow_defs.specs.Program.{graph_of, program_of, returning_graph, text_sections_of}
 use Rattle.flow_defs.specs.Sites.{site_of_entry}
-use Rattle.flow_law.specs.Flows.{IsInOrder}
+use Rattle.flow_law.specs.Flows.{ObjectIsInOrder}
 use Rattle.flow_law.proofs.Bodies.{IsCutIn, before_cut, before_other, body_at, text_of}
 use Rattle.flow_law.proofs.Entries.{has_number, plain_listed}
 use Rattle.flow_law.proofs.EntryFacts.{entry_is}
@@ -121,7 +121,7 @@ cut_boundary o place cut below = elim (or_cases (place.off == length (body_at o 
 ]
 
 -- points of one variant that run at one address are one
-same_point_at : (o : Elf) (p r : Point) (insn other : Insn) → IsInOrder o → PointIs o p insn → PointIs o r other → p.variant ≡ r.variant
+same_point_at : (o : Elf) (p r : Point) (insn other : Insn) → ObjectIsInOrder o → PointIs o p insn → PointIs o r other → p.variant ≡ r.variant
     → address_of_point (alternatives_of o) p ≡ address_of_point (alternatives_of o) r → p ≡ r
 same_point_at o p r insn other order of-p of-r variant address = elim (variant_is p) [
   | inl plain ↦ points_equal p r (same_fields (sym (address_plain o p plain) ∙ (address ∙ address_plain o r (sym variant ∙ plain))))
@@ -141,7 +141,7 @@ same_point_at o p r insn other order of-p of-r variant address = elim (variant_i
         (eq-eqb p.variant r.variant variant)
 
 -- and those that run at different ones share no byte
-lie_in_order : (o : Elf) (p r : Point) (insn other : Insn) → IsInOrder o → PointIs o p insn → PointIs o r other → p.variant ≡ r.variant
+lie_in_order : (o : Elf) (p r : Point) (insn other : Insn) → ObjectIsInOrder o → PointIs o p insn → PointIs o r other → p.variant ≡ r.variant
     → (address_of_point (alternatives_of o) p).sec ≡ (address_of_point (alternatives_of o) r).sec
     → (address_of_point (alternatives_of o) p).off < (address_of_point (alternatives_of o) r).off
     → (address_of_point (alternatives_of o) p).off + insn.len ≤ (address_of_point (alternatives_of o) r).off
@@ -173,7 +173,7 @@ in_own_site o point insn over =
     let here : InSite (site_of_entry a) (behind a.original (point.place.off - a.replacement.off)) = record { sec = refl; from = omega arith; before = omega (arith, over.ends, over.some) } in
     subst (λ (p : Place). InSite (site_of_entry a) p) (sym over.address) here
 
-ends_in_site : (o : Elf) (point : Point) (insn : Insn) (site : Site) → IsInOrder o → PointIs o point insn → IsSiteOf o site → InSite site (address_of_point (alternatives_of o) point)
+ends_in_site : (o : Elf) (point : Point) (insn : Insn) (site : Site) → ObjectIsInOrder o → PointIs o point insn → IsSiteOf o site → InSite site (address_of_point (alternatives_of o) point)
     → (address_of_point (alternatives_of o) point).off + insn.len ≤ site.start.off + site.len
 ends_in_site o point insn site order is own inside = elim (variant_is point) [
   | inl plain ↦
@@ -190,7 +190,7 @@ ends_in_site o point insn site order is own inside = elim (variant_is point) [
       omega (arith, over.ends, ap (λ (p : Place). p.off) over.address, ap (λ (s : Site). s.start.off) same, ap (λ (s : Site). s.len) same)
 ]
 
-pub laid_out : (o : Elf) (lists : NameLists) → IsInOrder o → IsLaidOut (program_of o lists)
+pub laid_out : (o : Elf) (lists : NameLists) → ObjectIsInOrder o → IsLaidOut (program_of o lists)
 unfolding program_of returning_graph graph_of insn_of_object text_sections_of
 laid_out o lists order = record {
   in_text = in_text o lists order;

@@ -23,6 +23,10 @@ pub and_true : (x y : Bool) → (x && y) ≡ true → (x ≡ true) × (y ≡ tru
 and_true true y e = (refl, e)
 and_true false y e = absurd (false≢true e)
 
+pub and_false : (x y : Bool) → x ≡ true → (x && y) ≡ false → y ≡ false
+and_false true y is e = e
+and_false false y is e = absurd (false≢true is)
+
 pub not_true : (x : Bool) → not x ≡ true → x ≡ false
 not_true true e = absurd (false≢true e)
 not_true false e = refl

@@ -10,6 +10,7 @@ use Rattle.x86_decode.specs.declared.DecodeFault.{DecodeFault}
 use Rattle.x86_decode.proofs.Decided.{outcome}
 use Rattle.x86_decode.proofs.Languages.{IsBytes}
 use Rattle.x86_text.specs.Code.{code_from, insn_listed, with_rest}
+use Rattle.rows_law.proofs.Lists.{some_is}
 
 some_opcode : (o : Opcode) → 1 ≤ length (opcode_bytes o)
 some_opcode (one_byte b) = omega arith
@@ -45,9 +46,6 @@ pub record LiesIn (skip off : ℕ) (bytes : List ℕ) (at : ℕ) (insn : Insn) :
 one_more : (skip skip' off : ℕ) (b : ℕ) (bytes : List ℕ) (at : ℕ) (insn : Insn) → off + skip ≤ off + 1 + skip' → LiesIn skip' (off + 1) bytes at insn → LiesIn skip off (b ∷ bytes) at insn
 one_more skip skip' off b bytes at insn more lies = record { behind = omega (arith, more, lies.behind); some = lies.some; within = omega (arith, lies.within) }
 
-same_insn : {x y : Insn} → Some x ≡ Some y → x ≡ y
-same_insn e = cc
-
 pub lies_in : (skip off : ℕ) (bytes : List ℕ) (at : ℕ) (insn : Insn) → IsBytes bytes → insn_listed (code_from skip off bytes) at ≡ Some insn → LiesIn skip off bytes at insn
 lies_in skip off [] at insn are is = absurd (let k : ⊥ = cc in k)
 lies_in (suc skip) off (b ∷ bytes) at insn are is = one_more (suc skip) skip off b bytes at insn (omega arith) (lies_in skip (off + 1) bytes at insn are.1 is)
@@ -57,7 +55,7 @@ lies_in zero off (b ∷ bytes) at insn are is = go (decoded (b ∷ bytes)) refl 
     here_lies here has e = record { behind = omega (arith, e); some = has.some; within = omega (arith, e, has.within) }
 
     by_place : (here : Insn) (found : Bool) → (off == at) ≡ found → decoded (b ∷ bytes) ≡ Ok here → cond found (Some here) (insn_listed (code_from (here.len - 1) (off + 1) bytes) at) ≡ Some insn → ((skip : ℕ) → insn_listed (code_from skip (off + 1) bytes) at ≡ Some insn → LiesIn skip (off + 1) bytes at insn) → LiesIn zero off (b ∷ bytes) at insn
-    by_place here true e of h later = subst (LiesIn zero off (b ∷ bytes) at) (same_insn h) (here_lies here (decoded_len (b ∷ bytes) here are of) (eqb-true off at e))
+    by_place here true e of h later = subst (LiesIn zero off (b ∷ bytes) at) (some_is h) (here_lies here (decoded_len (b ∷ bytes) here are of) (eqb-true off at e))
     by_place here false e of h later = one_more zero (here.len - 1) off b bytes at insn (omega arith) (later (here.len - 1) h)
 
     go : (r : Result Insn DecodeFault) → decoded (b ∷ bytes) ≡ r → insn_listed (with_rest off r (λ skip. code_from skip (off + 1) bytes)) at ≡ Some insn → ((skip : ℕ) → insn_listed (code_from skip (off + 1) bytes) at ≡ Some insn → LiesIn skip (off + 1) bytes at insn) → LiesIn zero off (b ∷ bytes) at insn
@@ -79,7 +77,7 @@ lie_apart zero off (x ∷ bytes) a b one other are is also before = go (decoded 
         → a + one.len ≤ b
     by_places here true true e f has h k later above low = absurd (omega (arith, eqb-true off a e, eqb-true off b f, before))
     by_places here true false e f has h k later above low =
-        let len : here.len ≡ one.len = ap (λ (i : Insn). i.len) (same_insn h) in
+        let len : here.len ≡ one.len = ap (λ (i : Insn). i.len) (some_is h) in
         omega (arith, eqb-true off a e, above (here.len - 1) k, len, has.some)
     by_places here false true e f has h k later above low = absurd (omega (arith, eqb-true off b f, low (here.len - 1) h, before))
     by_places here false false e f has h k later above low = later (here.len - 1) h k

@@ -11,7 +11,7 @@ use Rattle.alternatives.specs.Originals.{counts}
 use Rattle.alternatives.specs.Points.{address_of_point, entry_of}
 use Rattle.alternatives.specs.Texts.{behind, is_cut}
 use Rattle.flow_defs.specs.Code.{alternatives_of, texts_of}
-use Rattle.flow_law.specs.Flows.{IsInOrder}
+use Rattle.flow_law.specs.Flows.{ObjectIsInOrder}
 use Rattle.flow_law.proofs.Bodies.{IsAt, at_lies, before_cut, before_other}
 use Rattle.flow_law.proofs.EntryFacts.{IsEntryOf, entry_is}
 use Rattle.flow_law.proofs.Levels.{and_true}
@@ -80,7 +80,7 @@ stands_behind o point padded =
 not_plain : {P : Type 0} (point : Point) → (point.variant == 0) ≡ false → point.variant ≡ 0 → P
 not_plain point other plain = absurd (false≢true (sym other ∙ ap (λ v. v == 0) plain))
 
-pub overlays : (o : Elf) (point : Point) (insn : Insn) → IsInOrder o → (point.variant == 0) ≡ false → PointIs o point insn → Overlays o point insn
+pub overlays : (o : Elf) (point : Point) (insn : Insn) → ObjectIsInOrder o → (point.variant == 0) ≡ false → PointIs o point insn → Overlays o point insn
 overlays o point _ order other (PointIs.plain insn plain at) = not_plain point other plain
 overlays o point _ order other (PointIs.replaced insn _ counting inside at) =
     let entry = entry_is o (point.variant - 1) order counting in
@@ -97,7 +97,7 @@ plain_at o point _ plain (PointIs.replaced insn other counting inside at) = not_
 plain_at o point _ plain (PointIs.padding other counting padded) = not_plain point other plain
 
 -- of two points of one replacement the one that stands first ends where the other begins, or before
-pub one_behind_other : (o : Elf) (point next : Point) (insn insn' : Insn) → IsInOrder o → (point.variant == 0) ≡ false → point.variant ≡ next.variant
+pub one_behind_other : (o : Elf) (point next : Point) (insn insn' : Insn) → ObjectIsInOrder o → (point.variant == 0) ≡ false → point.variant ≡ next.variant
     → PointIs o point insn → PointIs o next insn' → point.place.off < next.place.off → point.place.off + insn.len ≤ next.place.off
 one_behind_other o point next _ insn' order other same (PointIs.plain insn plain at) also before = not_plain point other plain
 one_behind_other o point next _ insn' order other same (PointIs.padding _ counting padded) also before =

@@ -16,6 +16,7 @@ use Rattle.flow_defs.specs.Arrival.{decoded_insn, no_insn}
 use Rattle.flow_law.specs.Flows.{HasBytes}
 use Rattle.flow_law.proofs.Bodies.{IsAt, is_at}
 use Rattle.flow_law.proofs.Numbers.{point_count}
+use Rattle.rows_law.proofs.Lists.{some_is}
 
 -- what a point is, with its instruction as it is decoded
 pub data PointIs (o : Elf) (point : Point) : Insn → Type 0 where
@@ -30,12 +31,9 @@ pub data PointIs (o : Elf) (point : Point) : Insn → Type 0 where
 insn_is : (o : Elf) (point : Point) (insn : Insn) → HasBytes o → insn_of_point (texts_of o) (alternatives_of o) point ≡ Some insn → PointIs o point insn
 insn_is o point insn are is = by_variant (point.variant == 0) refl is
   where
-    same_insn : {x y : Insn} → Some x ≡ Some y → x ≡ y
-    same_insn e = cc
-
     padded : (b : Bool) → (point.variant == 0) ≡ false → counts (entry_of (alternatives_of o) point.variant) ≡ true → is_padded (texts_of o) (entry_of (alternatives_of o) point.variant) point.place ≡ b
         → cond b (Some (padding_of (entry_of (alternatives_of o) point.variant))) None ≡ Some insn → PointIs o point insn
-    padded true other counting p e = subst (PointIs o point) (same_insn e) (PointIs.padding other counting p)
+    padded true other counting p e = subst (PointIs o point) (some_is e) (PointIs.padding other counting p)
     padded false other counting p e = absurd (let k : ⊥ = cc in k)
 
     within : (b : Bool) → (point.variant == 0) ≡ false → counts (entry_of (alternatives_of o) point.variant) ≡ true

@@ -2,7 +2,7 @@
 use Rattle.std.proofs.Common.{◌≡◌, ℕ, zero, suc, ◌+◌, ◌<◌, ◌≤◌, Bool, true, false, not, ◌&&◌, List, Some, length, Contains, refl, sym, ap, ◌∙◌, arith, subst, inl, inr, length-take}
 use Rattle.std.specs.Prelude.{min, nat_le, nat_lt, option_map, take, ◌==◌}
 use Rattle.std.specs.List.{list_any}
-use Rattle.std.proofs.lemmas.Bool.{and_from, cases_lt, eq-eqb, eqb-true, false≢true, le-leb, leb-true, lt-ltb, ltb-true}
+use Rattle.std.proofs.lemmas.Bool.{and_from, cases_lt, eq-eqb, eqb-true, false≢true, le-leb, leb-true, lt-ltb, ltb-true, not-false}
 use Rattle.std.proofs.lemmas.List.{get_or-take, get_or_default}
 use Rattle.std.proofs.lemmas.List.Elements.{Contains-get_or}
 use Rattle.ot_base.specs.declared.place.Place.{Place}
@@ -17,10 +17,10 @@ use Rattle.rows_law.proofs.Equal.{equal_places, same_place_is}
 use Rattle.rows_law.proofs.Lists.{finds, finds_one, from_filter_map, in_filter_map, some_is}
 use Rattle.flow_defs.specs.Code.{alternatives_of, text_numbers, texts_of}
 use Rattle.flow_defs.specs.Sites.{begins_at, places_of, places_of_text, site_of_entry, site_starting_at, sites_of}
-use Rattle.flow_law.specs.Flows.{IsInOrder}
+use Rattle.flow_law.specs.Flows.{ObjectIsInOrder}
 use Rattle.flow_law.proofs.Bodies.{body_at, cut_within}
-use Rattle.flow_law.proofs.EntryFacts.{and_false, counted_inside, entry_is, unrefused}
-use Rattle.flow_law.proofs.Levels.{and_true}
+use Rattle.flow_law.proofs.EntryFacts.{counted_inside, entry_is, unrefused}
+use Rattle.flow_law.proofs.Levels.{and_false, and_true}
 
 -- a listed alternative has a number
 record HasEntry (entries : List AltEntry) (a : AltEntry) : Type 0 where
@@ -52,17 +52,13 @@ not_any p xs x none c = by_test (p x) refl
     by_test false e = refl
     by_test true e = absurd (false≢true (sym none ∙ found p xs x c e))
 
-not_false : (b : Bool) → not b ≡ false → b ≡ true
-not_false true e = refl
-not_false false e = absurd (false≢true (sym e))
-
 shares : (a b : AltEntry) → counts a ≡ true → counts b ≡ true → SharesByte a b → shares_byte a b ≡ true
 shares a b of-a of-b s =
     and_from (counts a && counts b) _ (and_from (counts a) (counts b) of-a of-b)
     (and_from (a.original.sec == b.original.sec) _ (eq-eqb a.original.sec b.original.sec s.sec)
     (and_from (nat_lt a.original.off (b.original.off + b.original_len)) _ (lt-ltb a.original.off (b.original.off + b.original_len) s.one) (lt-ltb b.original.off (a.original.off + a.original_len) s.other)))
 
-same_as_earlier : (o : Elf) (j k : ℕ) → IsInOrder o → j < k → counts (entry_at (alternatives_of o) j) ≡ true → counts (entry_at (alternatives_of o) k) ≡ true
+same_as_earlier : (o : Elf) (j k : ℕ) → ObjectIsInOrder o → j < k → counts (entry_at (alternatives_of o) j) ≡ true → counts (entry_at (alternatives_of o) k) ≡ true
     → SharesByte (entry_at (alternatives_of o) k) (entry_at (alternatives_of o) j) → SameOriginal (entry_at (alternatives_of o) k) (entry_at (alternatives_of o) j)
 same_as_earlier o j k order less of-j of-k s =
     let entries = alternatives_of o in
@@ -73,11 +69,11 @@ same_as_earlier o j k order less of-j of-k s =
     let size : length (take k entries) ≡ min k (length entries) = length-take k entries in
     let listed : Contains (take k entries) b = subst (Contains (take k entries)) (get_or-take k entries j no_entry less) (Contains-get_or (take k entries) j no_entry (omega (arith, size, less, inside))) in
     let none = not_any (overlaps a) (take k entries) b fine.apart listed in
-    let same : is_same_original a b ≡ true = not_false (is_same_original a b) (and_false (shares_byte a b) (not (is_same_original a b)) (shares a b of-k of-j s) none) in
+    let same : is_same_original a b ≡ true = not-false (is_same_original a b) (and_false (shares_byte a b) (not (is_same_original a b)) (shares a b of-k of-j s) none) in
     let parts = and_true (a.original.off == b.original.off) (a.original_len == b.original_len) same in
     record { off = eqb-true a.original.off b.original.off parts.0; len = eqb-true a.original_len b.original_len parts.1 }
 
-same_original : (o : Elf) (j k : ℕ) → IsInOrder o → counts (entry_at (alternatives_of o) j) ≡ true → counts (entry_at (alternatives_of o) k) ≡ true
+same_original : (o : Elf) (j k : ℕ) → ObjectIsInOrder o → counts (entry_at (alternatives_of o) j) ≡ true → counts (entry_at (alternatives_of o) k) ≡ true
     → SharesByte (entry_at (alternatives_of o) j) (entry_at (alternatives_of o) k) → SameOriginal (entry_at (alternatives_of o) j) (entry_at (alternatives_of o) k)
 same_original o j k order of-j of-k s = elim (cases_lt j k) [
   | inl less ↦ let same = same_as_earlier o j k order less of-j of-k (record { sec = sym s.sec; one = s.other; other = s.one }) in record { off = sym same.off; len = sym same.len }
@@ -131,7 +127,7 @@ equal_sites a b sec same =
     one ∙ ap (λ (n : ℕ). let s : Site = record { start = b.original; len = n } in s) same.len
 
 -- sites that hold one place are one
-pub one_site : (o : Elf) (j k : ℕ) (place : Place) → IsInOrder o → counts (entry_at (alternatives_of o) j) ≡ true → counts (entry_at (alternatives_of o) k) ≡ true
+pub one_site : (o : Elf) (j k : ℕ) (place : Place) → ObjectIsInOrder o → counts (entry_at (alternatives_of o) j) ≡ true → counts (entry_at (alternatives_of o) k) ≡ true
     → InSite (site_of_entry (entry_at (alternatives_of o) j)) place → InSite (site_of_entry (entry_at (alternatives_of o) k)) place
     → site_of_entry (entry_at (alternatives_of o) j) ≡ site_of_entry (entry_at (alternatives_of o) k)
 one_site o j k place order of-j of-k one other =
@@ -142,7 +138,7 @@ one_site o j k place order of-j of-k one other =
     equal_sites a b sec (same_original o j k order of-j of-k s)
 
 -- the original of an alternative that counts begins below the end of its text
-pub starts_below : (o : Elf) (k : ℕ) → IsInOrder o → counts (entry_at (alternatives_of o) k) ≡ true → (entry_at (alternatives_of o) k).original.off < length (body_at o (entry_at (alternatives_of o) k).original.sec)
+pub starts_below : (o : Elf) (k : ℕ) → ObjectIsInOrder o → counts (entry_at (alternatives_of o) k) ≡ true → (entry_at (alternatives_of o) k).original.off < length (body_at o (entry_at (alternatives_of o) k).original.sec)
 starts_below o k order counting =
     let a = entry_at (alternatives_of o) k in
     omega (arith, some_len a.original_len counting, cut_within o (behind a.original a.original_len) (entry_is o k order counting).original_end)
@@ -156,7 +152,7 @@ listed_place o place listed below =
     (in_map (λ off. let p : Place = record { sec = place.sec; off = off } in p) _ place.off (in_below (length (body_at o place.sec)) place.off below))
 
 -- and is a site
-pub has_site : (o : Elf) (k : ℕ) → IsInOrder o → counts (entry_at (alternatives_of o) k) ≡ true → Contains (sites_of o) (site_of_entry (entry_at (alternatives_of o) k))
+pub has_site : (o : Elf) (k : ℕ) → ObjectIsInOrder o → counts (entry_at (alternatives_of o) k) ≡ true → Contains (sites_of o) (site_of_entry (entry_at (alternatives_of o) k))
 unfolding sites_of
 has_site o k order counting =
     let entries = alternatives_of o in

@@ -17,7 +17,7 @@ HasBytes o = (t : SectionText) → Contains (texts_of o) t → AllByRecursion (�
 
 -- An object is in order, as far as its readers ask: it is well-formed, and neither an entry of a special section nor an
 -- alternative is refused.
-pub record IsInOrder (o : Elf) : Type 0 where
+pub record ObjectIsInOrder (o : Elf) : Type 0 where
   pub object : IsObject o.bytes o
   pub bytes : HasBytes o
   pub special : special_faults o ≡ []
@@ -29,4 +29,4 @@ ProgramIsOne = (o : Elf) (lists : NameLists) → HasBytes o → special_faults o
 
 -- The program of every object in order is laid out as rows and walks ask.
 abbrev pub ProgramIsLaidOut : Type 0
-ProgramIsLaidOut = (o : Elf) (lists : NameLists) → IsInOrder o → IsLaidOut (program_of o lists)
+ProgramIsLaidOut = (o : Elf) (lists : NameLists) → ObjectIsInOrder o → IsLaidOut (program_of o lists)
