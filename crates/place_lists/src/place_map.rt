@@ -1,0 +1,109 @@
+//! Which places each place leads to.
+
+ghost use Rattle.std.specs.Prelude.{◌≡◌, ◌<◌, ◌≤◌, ℕ, true, false, length, map, filter, slice_index_or, IfOk, OnOk};
+ghost use Rattle.ot_base.specs.declared.place.Place.{Place};
+ghost use Rattle.symbols_relocs.specs.Places.{is_before as is_lower, same_place};
+ghost use Rattle.place_lists.specs.Places.{AreByPlace, AreByFirst, HaveSameTargets};
+
+use ot_base::{NoMemory, Place};
+use std::alloc::Global;
+use std::marker::Model;
+
+/// Places with the place that each leads to, in the order of the first. Contracts see it as the list of these pairs.
+#[derive(Drop)]
+pub struct PlaceMap {
+    places: Vec<Place>,
+    targets: Vec<Place>,
+}
+
+impl Model for PlaceMap {
+    ghost use Rattle.std.specs.Prelude.{◌≡◌, List, length};
+    ghost use Rattle.std.specs.List.{zip};
+    ghost use Rattle.ot_base.specs.declared.place.Place.{Place};
+    ghost use Rattle.place_lists.specs.Places.{AreByPlace};
+
+    ghost Value = { List (Place × Place) };
+
+    ghost view = { λ m. zip m.places.items m.targets.items };
+
+    ghost invariant = { λ m. AreByPlace m.places.items × (length m.targets.items ≡ length m.places.items) };
+}
+
+impl PlaceMap {
+    /// The pairs of a list, in any order: a place, and one where it leads. A place may stand in several.
+    ///
+    /// # Errors
+    ///
+    /// [`NoMemory`] may come at any list.
+    pub fn build(alloc: Global, mut pairs: Vec<(Place, Place)>) -> Result<PlaceMap, NoMemory>
+        ensures { IfOk result (HaveSameTargets pairs.items) }
+    {
+        sort_by_first(&mut pairs)?;
+        let places = first_places(alloc, pairs.as_slice())?;
+        let targets = second_places(alloc, pairs.as_slice())?;
+        Ok(PlaceMap { places, targets })
+    }
+
+    /// Where a place leads, in the order of the list.
+    pub fn targets(&self, place: Place) -> &[Place]
+        ensures { result.now ≡ map (λ e. e.1) (filter (λ e. same_place e.0 place) self.now) }
+    {
+        let first = count_before(&self.places, place);
+        let end = count_to(&self.places, place);
+        let (to_end, _) = self.targets.split_at(end);
+        let (_, run) = to_end.split_at(first);
+        run
+    }
+}
+
+/// Puts pairs in the order of their first places, and leaves those with one first place in their order.
+fn sort_by_first(pairs: &mut Vec<(Place, Place)>) -> Result<(), NoMemory>
+    ensures sorted { OnOk result (AreByFirst pairs.new.items) }
+    ensures same { OnOk result (HaveSameTargets pairs.old.items pairs.new.items) }
+{
+    pairs.sort_by_key(|pair| pair.0)?;
+    Ok(())
+}
+
+/// The first places of pairs.
+fn first_places(alloc: Global, pairs: &[(Place, Place)]) -> Result<Vec<Place>, NoMemory>
+    ensures { IfOk result (λ places. places.items ≡ map (λ e. e.0) pairs.now) }
+{
+    let places = pairs.iter().map(|pair| pair.0).collect(alloc)?;
+    Ok(places)
+}
+
+/// The second places of pairs.
+fn second_places(alloc: Global, pairs: &[(Place, Place)]) -> Result<Vec<Place>, NoMemory>
+    ensures { IfOk result (λ places. places.items ≡ map (λ e. e.1) pairs.now) }
+{
+    let places = pairs.iter().map(|pair| pair.1).collect(alloc)?;
+    Ok(places)
+}
+
+/// Whether a place is in an earlier section, or in the same one at a lower offset.
+fn is_before(place: Place, other: Place) -> bool
+    ensures { result ≡ is_lower place other }
+{
+    place.sec < other.sec || place.sec == other.sec && place.off < other.off
+}
+
+/// How many of these are before a place.
+fn count_before(places: &[Place], place: Place) -> usize
+    requires { AreByPlace places.now }
+    ensures within { result ≤ length places.now }
+    ensures before { (k : ℕ) (d : Place) → k < result → is_lower (slice_index_or places.now k d) place ≡ true }
+    ensures others { (k : ℕ) (d : Place) → result ≤ k → k < length places.now → is_lower (slice_index_or places.now k d) place ≡ false }
+{
+    places.partition_point(|other| is_before(*other, place))
+}
+
+/// How many of these are a place or before it.
+fn count_to(places: &[Place], place: Place) -> usize
+    requires { AreByPlace places.now }
+    ensures within { result ≤ length places.now }
+    ensures upto { (k : ℕ) (d : Place) → k < result → is_lower place (slice_index_or places.now k d) ≡ false }
+    ensures behind { (k : ℕ) (d : Place) → result ≤ k → k < length places.now → is_lower place (slice_index_or places.now k d) ≡ true }
+{
+    places.partition_point(|other| !is_before(place, *other))
+}

@@ -1,0 +1,50 @@
+//! Whether a place is one of a list.
+
+ghost use Rattle.std.specs.Prelude.{◌≡◌, IfOk};
+ghost use Rattle.std.specs.List.{list_any};
+ghost use Rattle.symbols_relocs.specs.Places.{same_place};
+ghost use Rattle.place_lists.specs.Places.{HaveSamePlaces};
+
+use ot_base::{NoMemory, Place};
+use std::alloc::Global;
+use std::marker::Model;
+
+/// A list of places in their order. Contracts see it as this list.
+#[derive(Drop)]
+pub struct PlaceSet {
+    places: Vec<Place>,
+}
+
+impl Model for PlaceSet {
+    ghost use Rattle.std.specs.Prelude.{List};
+    ghost use Rattle.ot_base.specs.declared.place.Place.{Place};
+    ghost use Rattle.place_lists.specs.Places.{AreByPlace};
+
+    ghost Value = { List Place };
+
+    ghost view = { λ s. s.places.items };
+
+    ghost invariant = { λ s. AreByPlace s.places.items };
+}
+
+impl PlaceSet {
+    /// The places of a list, in any order, some of them more than once.
+    ///
+    /// # Errors
+    ///
+    /// [`NoMemory`] may come at any list.
+    pub fn build(alloc: Global, places: &[Place]) -> Result<PlaceSet, NoMemory>
+        ensures { IfOk result (HaveSamePlaces places.now) }
+    {
+        let mut places = Vec::from_slice(alloc, places)?;
+        places.sort_unstable();
+        Ok(PlaceSet { places })
+    }
+
+    /// Whether a place is one of the list.
+    pub fn contains(&self, place: Place) -> bool
+        ensures { result ≡ list_any (same_place place) self.now }
+    {
+        self.places.binary_search(&place).is_ok()
+    }
+}
