@@ -1,0 +1,73 @@
+-- Which site holds a place.
+use Rattle.std.proofs.Common.{◌≡◌, ℕ, ◌+◌, ◌<◌, ◌≤◌, true, false, not, ◌&&◌, ◌||◌, eqb, ltb, leb, List, length, get_or, Contains, inl, inr, arith, ap, sym, ◌∙◌, subst}
+use Rattle.std.specs.List.Sorted.{IsPartitionedBy}
+use Rattle.std.proofs.lemmas.Bool.{cases_lt, cases_Bool, both_ways, not-true}
+use Rattle.std.proofs.lemmas.Bool.Decides.{nat_tests}
+use Rattle.std.proofs.lemmas.List.{get_or_default}
+use Rattle.std.proofs.lemmas.List.Elements.{All-get_or}
+use Rattle.ot_base.specs.declared.place.Place.{Place}
+use Rattle.program_graph.specs.declared.parts.Site.{Site as OwnSite}
+use Rattle.site_points.specs.Sites.{is_before, holds, AreApart, AreIndexed}
+
+behind_both : (a b c d e f : ℕ) → (ltb a c || (eqb a c && ltb b d)) ≡ true → (ltb e c || (eqb e c && ltb f d)) ≡ false → (ltb a e || (eqb a e && ltb b f)) ≡ true
+behind_both a b c d e f h k = grind (arith, nat_tests)
+
+-- those that begin at a place or before it stand in front
+pub parted : (sites : List OwnSite) (place : Place) → AreIndexed sites → IsPartitionedBy (λ (s : OwnSite). not (is_before place s.start)) sites
+parted sites place indexed i j d order inside h =
+    elim (cases_Bool (is_before place (get_or sites i d).start)) [
+      | inl before ↦ absurd (both_ways (is_before place (get_or sites j d).start) (not-true (is_before place (get_or sites j d).start) h)
+          (behind_both place.sec place.off (get_or sites i d).start.sec (get_or sites i d).start.off (get_or sites j d).start.sec (get_or sites j d).start.off before (indexed.ascend i j d order inside)))
+      | inr clear ↦ ap not clear
+    ]
+
+before_start : (a b c d n : ℕ) → (ltb a c || (eqb a c && ltb b d)) ≡ true → (eqb c a && (leb d b && ltb b (d + n))) ≡ false
+before_start a b c d n h = grind (arith, nat_tests)
+
+-- no site holds a place before its start
+pub before_not_held : (place : Place) (site : OwnSite) → is_before place site.start ≡ true → holds site place ≡ false
+before_not_held place site h = before_start place.sec place.off site.start.sec site.start.off site.len h
+
+some_there : (a b c d n : ℕ) → (eqb c a && (leb d b && ltb b (d + n))) ≡ true → 0 < n
+some_there a b c d n h = grind (arith, nat_tests)
+
+-- a site that holds a place has a byte
+pub held_some : (place : Place) (site : OwnSite) → holds site place ≡ true → 0 < site.len
+held_some place site h = some_there place.sec place.off site.start.sec site.start.off site.len h
+
+start_there : (a b n : ℕ) → 0 < n → (eqb a a && (leb b b && ltb b (b + n))) ≡ true
+start_there a b n h = grind (arith, nat_tests)
+
+-- a site with a byte holds its start
+pub start_held : (site : OwnSite) → 0 < site.len → holds site site.start ≡ true
+start_held site h = start_there site.start.sec site.start.off site.len h
+
+between_there : (a b c d n e f : ℕ) → (eqb c a && (leb d b && ltb b (d + n))) ≡ true → (ltb e c || (eqb e c && ltb f d)) ≡ false → (ltb a e || (eqb a e && ltb b f)) ≡ false → (eqb c e && (leb d f && ltb f (d + n))) ≡ true
+between_there a b c d n e f h k l = grind (arith, nat_tests)
+
+-- a site that holds a place holds what stands between its start and the place
+between_held : (place other : Place) (site : OwnSite) → holds site place ≡ true → is_before other site.start ≡ false → is_before place other ≡ false → holds site other ≡ true
+between_held place other site h k l = between_there place.sec place.off site.start.sec site.start.off site.len other.sec other.off h k l
+
+-- of sites that share no byte, where the last that begins at a place or before it doesn't hold it, none does
+pub none_holds : (sites : List OwnSite) (place : Place) (n : ℕ) (last : OwnSite) → AreIndexed sites → AreApart sites → n < length sites → last ≡ get_or sites n last
+    → is_before place last.start ≡ false → ((k : ℕ) (d : OwnSite) → n < k → k < length sites → is_before place (get_or sites k d).start ≡ true) → holds last place ≡ false
+    → (site : OwnSite) → Contains sites site → holds site place ≡ false
+none_holds sites place n last indexed apart inside is from behind not_held site (k, l, at) =
+    elim (cases_lt n k) [
+      | inl above ↦ before_not_held place site (subst (λ (s : OwnSite). is_before place s.start ≡ true) at (behind k site above l))
+      | inr low ↦ elim (cases_Bool (holds site place)) [ inr clear ↦ clear | inl held ↦ absurd (bad low held) ]
+    ]
+  where
+    listed : Contains sites last
+    listed = (n, inside, sym is)
+
+    bad : k ≤ n → holds site place ≡ true → ⊥
+    bad low held =
+        let ordered : is_before (get_or sites n last).start (get_or sites k last).start ≡ false = indexed.ascend k n last low inside in
+        let site_is : get_or sites k last ≡ site = get_or_default sites k last site l ∙ at in
+        let here : is_before last.start site.start ≡ false = subst (λ (s : OwnSite). is_before last.start s.start ≡ false) site_is (subst (λ (s : OwnSite). is_before s.start (get_or sites k last).start ≡ false) (sym is) ordered) in
+        let there : holds site last.start ≡ true = between_held place last.start site held here from in
+        let some : 0 < last.len = subst (λ (s : OwnSite). 0 < s.len) (sym is) (All-get_or (λ (s : OwnSite). 0 < s.len) sites n last inside indexed.some) in
+        let same : site ≡ last = apart site last last.start (k, l, at) listed there (start_held last some) in
+        both_ways (holds last place) not_held (subst (λ (s : OwnSite). holds s place ≡ true) same held)

@@ -1,0 +1,5 @@
+pub mod Order
+pub mod Finding
+pub mod Permuted
+pub mod Steps
+pub mod Listing

@@ -1,0 +1,31 @@
+-- The points that run in the kept sites, in order.
+use Rattle.std.proofs.Common.{◌≡◌, ◌<◌, List, IsSome, length, subst, sym, ◌∙◌}
+use Rattle.std.proofs.lemmas.List.Elements.{All-weaker}
+use Rattle.std.proofs.lemmas.List.Sorted.{All-permutation}
+use Rattle.program_graph.specs.declared.parts.Site.{Site}
+use Rattle.branch_check.specs.LevelStates.{at}
+use Rattle.site_points.specs.Sites.{AreApart, IsIndexOf}
+use Rattle.site_points.specs.Points.{ArePointsIn, AreKeptIn}
+use Rattle.site_points.specs.declared.points.SitePoint.{SitePoint}
+use Rattle.site_points.proofs.Listing.{index_apart, some_is_point, starts_apart, site_points}
+use Rattle.site_points.proofs.points.list_site_points.Goals as goal
+
+pub returns-clause-kept : goal.returns-clause-kept
+returns-clause-kept c = All-permutation (λ (x : SitePoint). IsSome (at c.args.kept.now x.point)) c.in_ok-points.points.items c.sort.new.points.items c.sort.ensures.same c.in_ok-points.ensures.kept
+
+pub returns-clause-points : goal.returns-clause-points
+returns-clause-points c =
+    All-weaker (λ (x : SitePoint). IsSome (at c.args.kept.now x.point)) (λ (x : SitePoint). x.point < length c.args.kept.now) (λ x h. some_is_point c.args.kept.now x.point h) c.sort.new.points.items (returns-clause-kept c)
+
+pub returns-clause-listed : goal.returns-clause-listed
+returns-clause-listed c p t laid states =
+    let count : p.count ≡ length c.args.kept.now = t.count ∙ sym c.requires in
+    let index : List Site = c.in_ok-sites.sites in
+    let all : List SitePoint = c.in_ok-all.all.items in
+    let starts : List Site = c.in_ok-kept_sites.kept_sites in
+    let is : IsIndexOf p index = c.in_ok-sites.ensures p t in
+    let are : ArePointsIn p (at c.args.kept.now) index all = c.in_ok-all.ensures.told p t (index_apart p index laid is) in
+    let kept_in : AreKeptIn all starts = subst (λ (xs : List SitePoint). AreKeptIn xs starts) c.as_slice.ensures.value c.in_ok-kept_sites.ensures in
+    let apart : AreApart starts = starts_apart p laid c.args.kept.now states count index is all are c.in_ok-all.ensures.kept starts kept_in in
+    site_points p laid c.args.kept.now states count index is all are c.in_ok-all.ensures.kept starts kept_in c.in_ok-points.points.items c.sort.new.points.items
+    (c.in_ok-points.ensures.told p t apart) c.in_ok-points.ensures.kept c.in_ok-points.ensures.ascending c.sort.ensures.same c.sort.ensures.ordered

@@ -1,0 +1,112 @@
+//! Sites by place.
+
+ghost use Rattle.std.specs.Prelude.{◌≡◌, ◌≤◌, ◌<◌, ◌↔◌, ℕ, true, false, All, Contains, IfOk, IfSome, IfNone, length, slice_index_or};
+ghost use Rattle.program_defs.specs.Program.{Program};
+ghost use Rattle.program_graph.specs.declared.parts.Site.{Site};
+ghost use Rattle.program_graph.specs.Tells.{Tells};
+ghost use Rattle.site_points.specs.Sites.{AreApart, AreIndexed, IsIndexOf, holds as is_held, is_before as is_lower};
+
+use ot_base::{NoMemory, Place};
+use program_graph::{Graph, Site};
+use std::alloc::Global;
+use std::marker::Model;
+
+/// Whether a place is in an earlier section, or in the same one at a lower offset.
+fn is_before(place: Place, other: Place) -> bool
+    ensures { result ≡ is_lower place other }
+{
+    place.sec < other.sec || place.sec == other.sec && place.off < other.off
+}
+
+/// Whether a place lies in a site.
+fn holds(site: &Site, place: Place) -> bool
+    ensures { result ≡ is_held site.now place }
+{
+    let start = site.start;
+    start.sec == place.sec
+        && start.off <= place.off
+        && u128::from(place.off) < u128::from(start.off) + u128::from(site.len)
+}
+
+/// How many of these begin at a place or before it.
+fn count_to(sites: &[Site], place: Place) -> usize
+    requires { AreIndexed sites.now }
+    ensures within { result ≤ length sites.now }
+    ensures from { (k : ℕ) (d : Site) → k < result → is_lower place (slice_index_or sites.now k d).start ≡ false }
+    ensures behind { (k : ℕ) (d : Site) → result ≤ k → k < length sites.now → is_lower place (slice_index_or sites.now k d).start ≡ true }
+{
+    sites.partition_point(|site| !is_before(place, site.start))
+}
+
+/// The site that holds a place.
+fn find_site(sites: &[Site], place: Place) -> Option<Site>
+    requires { AreIndexed sites.now }
+    ensures held { IfSome result (λ site. Contains sites.now site × (is_held site place ≡ true)) }
+    ensures none { AreApart sites.now → IfNone result ((site : Site) → Contains sites.now site → is_held site place ≡ false) }
+{
+    let count = count_to(sites, place);
+    if count == 0 {
+        return None;
+    }
+    let site = sites[count - 1];
+    if holds(&site, place) {
+        Some(site)
+    } else {
+        None
+    }
+}
+
+/// Sites by place, for quick look-up. Contracts see it as the list of them.
+#[derive(Drop)]
+pub struct SiteIndex {
+    sites: Vec<Site>,
+}
+
+impl Model for SiteIndex {
+    ghost use Rattle.std.specs.Prelude.{List};
+    ghost use Rattle.program_graph.specs.declared.parts.Site.{Site};
+    ghost use Rattle.site_points.specs.Sites.{AreIndexed};
+
+    ghost Value = { List Site };
+
+    ghost view = { λ s. s.sites.items };
+
+    ghost invariant = { λ s. AreIndexed s.sites.items };
+}
+
+impl SiteIndex {
+    /// The sites of a graph. A site without a byte is left out.
+    ///
+    /// # Errors
+    ///
+    /// [`NoMemory`] may come at any graph.
+    pub fn build(alloc: Global, graph: &Graph) -> Result<SiteIndex, NoMemory>
+        ensures { IfOk result (λ index. (p : Program) → Tells p graph.now.parts → IsIndexOf p index) }
+    {
+        let mut sites = Vec::new(alloc);
+        for site in graph.sites() {
+            if site.len != 0 {
+                sites.push(*site)?;
+            }
+        }
+        Ok(SiteIndex::sorted(sites))
+    }
+
+    /// These sites, in any order.
+    pub(crate) fn sorted(sites: Vec<Site>) -> SiteIndex
+        requires { All (λ site. 0 < site.len) sites.items }
+        ensures { (site : Site) → Contains result site ↔ Contains sites.items site }
+    {
+        let mut sites = sites;
+        sites.sort_unstable_by_key(|site| site.start);
+        SiteIndex { sites }
+    }
+
+    /// The site that holds a place, where one does. Of sites that share no byte that is the only one.
+    pub fn find(&self, place: Place) -> Option<Site>
+        ensures held { IfSome result (λ site. Contains self.now site × (is_held site place ≡ true)) }
+        ensures none { AreApart self.now → IfNone result ((site : Site) → Contains self.now site → is_held site place ≡ false) }
+    {
+        find_site(self.sites.as_slice(), place)
+    }
+}

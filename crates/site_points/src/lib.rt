@@ -1,0 +1,8 @@
+//! The kept points that run in alternatives sites, by their addresses, and the sites by place.
+#![tactic(auto)]
+
+mod index;
+mod points;
+
+pub use index::SiteIndex;
+pub use points::{SitePoint, list_site_points};
