@@ -1,0 +1,4 @@
+pub mod Made
+pub mod Places
+pub mod Entries
+pub mod AllSites
