@@ -1,7 +1,7 @@
-mod Ascend
-mod Starts
-mod Replaced
-mod EdgesEnter
-mod Enters
-mod FitRows
-mod PlacedRows
+pub mod Ascend
+pub mod Starts
+pub mod Replaced
+pub mod EdgesEnter
+pub mod Enters
+pub mod FitRows
+pub mod PlacedRows
