@@ -47,5 +47,5 @@ room o rows k can =
     whole place names k.names a b c headers k.headers can.short can.few_rows
   where
     sums : (l p h f all n x y z r s at : ℕ) → l ≡ p + (h + 192) → p ≤ f + all + x + y + z + 35 → all ≡ n + 47 → n ≤ f → x ≡ 6 * r → y ≡ 4 * r → z ≡ 24 * r
-        → h ≡ 64 * s → at + 64 * s ≤ f → f ≤ 67108864 → r ≤ 67108865 → l < 2 ^ 32
+        → h ≡ 64 * s → at + 64 * s ≤ f → f ≤ 268435456 → r ≤ 67108865 → l < 2 ^ 32
     sums l p h f all n x y z r s at e1 e2 e3 e4 e5 e6 e7 e8 e9 e10 e11 = omega arith

@@ -75,10 +75,10 @@ pub record IsOther (s : SectionEntry) : Type 0 where
   pub rela : s.name ≢ codes ".rela.orc_unwind_ip"
 
 -- Each row lies in a text section of the object, which has no ORC sections yet and room for three sections; and neither
--- the file (at most 64 MiB) nor the rows (at most one for each place of 64 MiB) are too many for a file of 32 bits.
+-- the file (at most 256 MiB) nor the rows (at most one for each place of 64 MiB) are too many for a file of 32 bits.
 pub record CanHaveOrc (o : Elf) (rows : List PlacedRow) : Type 0 where
   pub each : All (IsRowOf o) rows
   pub none : All IsOther o.sections
   pub few : length o.sections + 3 ≤ 262144
-  pub short : length o.bytes ≤ 67108864
+  pub short : length o.bytes ≤ 268435456
   pub few_rows : length rows ≤ 67108865

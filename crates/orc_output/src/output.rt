@@ -18,7 +18,7 @@ use std::alloc::Global;
 ///
 /// The result is a well-formed object, and its ORC sections are the rows in their order. Each row lies in a text section
 /// that a section symbol stands for. `CanHaveOrc` says this, that the object has none of the three sections yet, and how
-/// large it may be: at most 64 MiB and 262,141 sections, with at most 67,108,865 rows.
+/// large it may be: at most 256 MiB and 262,141 sections, with at most 67,108,865 rows.
 ///
 /// # Errors
 ///
