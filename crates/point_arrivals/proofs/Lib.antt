@@ -1,0 +1,5 @@
+pub mod LowPoints
+pub mod Numbers
+pub mod Arriving
+pub mod Following
+pub mod Ending

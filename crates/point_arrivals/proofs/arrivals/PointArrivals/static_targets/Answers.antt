@@ -1,0 +1,23 @@
+use Rattle.std.proofs.Common.{◌≡◌, false, sym, ap, ◌∙◌}
+use Rattle.elf_objects.specs.Elf.{Elf}
+use Rattle.special_sections.specs.Special.{special_of}
+use Rattle.alternatives.specs.declared.point.Point.{Point}
+use Rattle.flow_defs.specs.Arrival.{is_padding}
+use Rattle.flow_defs.specs.Code.{point_at}
+use Rattle.place_lists.specs.Places.{targets_of}
+use Rattle.point_arrivals.specs.Lists.{branch_pairs_of}
+use Rattle.point_arrivals.proofs.Ending.{targets_are}
+use Rattle.point_arrivals.proofs.arrivals.PointArrivals.static_targets.Goals as goal
+
+pub returns : goal.returns
+returns c =
+    let o : Elf = c.args.self.now in
+    let own : Elf = c.self.inside.places in
+    let p : Point = c.point.result in
+    let same : p ≡ point_at o c.args.n = c.point.ensures ∙ ap (λ (e : Elf). point_at e c.args.n) c.self.view_is in
+    let other : is_padding o (point_at o c.args.n) ≡ false = sym (c.is_padding.ensures ∙ ap (λ (e : Elf). is_padding e (point_at e c.args.n)) c.self.view_is) ∙ c.if-is_padding.false in
+    c.targets.ensures
+    ∙ c.self.invariant.1.branch_targets.same p.place
+    ∙ ap (λ (e : Elf). targets_of (branch_pairs_of (special_of e).branches) p.place) c.self.view_is
+    ∙ ap (λ (q : Point). targets_of (branch_pairs_of (special_of o).branches) q.place) same
+    ∙ targets_are o (point_at o c.args.n) other

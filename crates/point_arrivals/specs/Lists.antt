@@ -1,0 +1,22 @@
+-- What is kept of an object's lists of places.
+use Rattle.std.specs.Prelude.{List, map}
+use Rattle.ot_base.specs.declared.place.Place.{Place}
+use Rattle.elf_objects.specs.Elf.{Elf}
+use Rattle.special_sections.specs.declared.entries.BranchEntry.{BranchEntry}
+use Rattle.special_sections.specs.declared.entries.FixEntry.{FixEntry}
+use Rattle.special_sections.specs.Special.{special_of}
+use Rattle.place_lists.specs.Places.{HaveSamePlaces, HaveSameTargets}
+
+-- static branches by their code, and exception entries by their instruction
+abbrev pub branch_pairs_of : List BranchEntry → List (Place × Place)
+branch_pairs_of branches = map (λ b. (b.code, b.target)) branches
+
+abbrev pub fix_pairs_of : List FixEntry → List (Place × Place)
+fix_pairs_of fixes = map (λ f. (f.insn, f.fixup)) fixes
+
+-- the places behind which code is reachable, and isn't; where static branches lead, and exception entries
+pub record AreListsOf (o : Elf) (reachable unreachable : List Place) (branches fixes : List (Place × Place)) : Type 0 where
+  pub reachable_places : HaveSamePlaces (special_of o).after_reachable reachable
+  pub unreachable_places : HaveSamePlaces (special_of o).after_unreachable unreachable
+  pub branch_targets : HaveSameTargets (branch_pairs_of (special_of o).branches) branches
+  pub fix_targets : HaveSameTargets (fix_pairs_of (special_of o).fixes) fixes

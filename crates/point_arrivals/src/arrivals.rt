@@ -1,0 +1,172 @@
+//! Points with where control comes to them.
+
+ghost use Rattle.std.specs.Prelude.{◌≡◌, ◌<◌, length, All, IfOk};
+ghost use Rattle.flow_defs.specs.Arrival.{after as points_following, arrive as points_coming_to, insn_of_object, is_at_end as is_at_an_end, is_dead_end as is_a_dead_end, is_ud2 as is_an_ud2};
+ghost use Rattle.flow_defs.specs.Code.{point_at, points_of_object};
+ghost use Rattle.flow_defs.specs.Edges.{fixups as fixups_of, static_targets as static_targets_of};
+
+use crate::arrive::arrive;
+use crate::behind::{after, end_of, is_at_end};
+use crate::iret::insn;
+use crate::low::points_are_low;
+use crate::pairs::{branch_pairs, fix_pairs};
+use operation_defs::{Insn, Op};
+use ot_base::{NoMemory, Place};
+use place_lists::{PlaceMap, PlaceSet};
+use point_places::PointPlaces;
+use smallvec::SmallVec;
+use std::alloc::Global;
+use std::marker::Model;
+
+/// The points of an object with where control comes to them and from them, and what its lists say of their places.
+/// Contracts see it as the object.
+///
+/// A point is told by its number.
+#[derive(Drop)]
+pub struct PointArrivals<'l, 'o, 'a> {
+    places: PointPlaces<'l, 'o, 'a>,
+    reachable: PlaceSet,
+    unreachable: PlaceSet,
+    branches: PlaceMap,
+    fixes: PlaceMap,
+}
+
+impl<'l, 'o, 'a> Model for PointArrivals<'l, 'o, 'a> {
+    ghost use Rattle.elf_objects.specs.Elf.{Elf};
+    ghost use Rattle.point_arrivals.specs.Low.{AreLow};
+    ghost use Rattle.point_arrivals.specs.Lists.{AreListsOf};
+
+    ghost Value = { Elf };
+
+    ghost view = { λ a. a.places };
+
+    ghost invariant = { λ a. AreLow a.places × AreListsOf a.places a.reachable a.unreachable a.branches a.fixes };
+}
+
+impl<'l, 'o, 'a> PointArrivals<'l, 'o, 'a> {
+    /// The points of an object, with its lists.
+    ///
+    /// # Errors
+    ///
+    /// [`NoMemory`] may come at any object.
+    pub fn build(
+        alloc: Global,
+        places: PointPlaces<'l, 'o, 'a>,
+    ) -> Result<PointArrivals<'l, 'o, 'a>, NoMemory>
+        ensures { IfOk result (λ arrivals. arrivals ≡ places.entry) }
+    {
+        points_are_low(places.linked());
+        let special = places.linked().special();
+        let reachable = PlaceSet::build(alloc, special.after_reachable())?;
+        let unreachable = PlaceSet::build(alloc, special.after_unreachable())?;
+        let branches = PlaceMap::build(alloc, branch_pairs(alloc, special.branches())?)?;
+        let fixes = PlaceMap::build(alloc, fix_pairs(alloc, special.fixes())?)?;
+        Ok(PointArrivals {
+            places,
+            reachable,
+            unreachable,
+            branches,
+            fixes,
+        })
+    }
+
+    /// The points.
+    pub fn places(&self) -> &PointPlaces<'l, 'o, 'a>
+        ensures { result.now ≡ self.now }
+    {
+        &self.places
+    }
+
+    /// The points at which control may stand that comes to a place: the plain point there, and where a site starts there
+    /// also the first point of each of its replacements.
+    ///
+    /// # Errors
+    ///
+    /// [`NoMemory`] may come at any place.
+    pub fn arrive(&self, alloc: Global, place: Place) -> Result<SmallVec<u32, 4>, NoMemory>
+        ensures points { IfOk result (λ points. points.items ≡ points_coming_to self.now place) }
+        ensures known { IfOk result (λ points. All (λ q. q < length (points_of_object self.now)) points.items) }
+    {
+        arrive(alloc, &self.places, place)
+    }
+
+    /// The points that follow a point, whatever it does: the next of its replacement, and else those to which control
+    /// comes behind the point, or behind its site.
+    ///
+    /// # Errors
+    ///
+    /// [`NoMemory`] may come at any point.
+    pub fn after(&self, alloc: Global, n: u32) -> Result<SmallVec<u32, 4>, NoMemory>
+        requires { n < length (points_of_object self.now) }
+        ensures points { IfOk result (λ points. points.items ≡ points_following self.now (point_at self.now n)) }
+        ensures known { IfOk result (λ points. All (λ q. q < length (points_of_object self.now)) points.items) }
+    {
+        after(alloc, &self.places, n)
+    }
+
+    /// Whether nothing follows a point: behind it its section ends.
+    pub fn is_at_end(&self, n: u32) -> bool
+        requires { n < length (points_of_object self.now) }
+        ensures { result ≡ is_at_an_end self.now (point_at self.now n) }
+    {
+        is_at_end(&self.places, n)
+    }
+
+    /// Whether execution never passes a point: a Ud2, or an instruction that ends at a place of `.discard.unreachable`,
+    /// where no place of `.discard.reachable` is that end. The padding behind a replacement is always passed.
+    pub fn is_dead_end(&self, n: u32) -> bool
+        requires { n < length (points_of_object self.now) }
+        ensures { result ≡ is_a_dead_end self.now (point_at self.now n) }
+    {
+        if self.places.is_padding(n) {
+            return false;
+        }
+        let end = end_of(&self.places, n);
+        if self.reachable.contains(end) {
+            return false;
+        }
+        is_ud2(self.places.decoded_insn(n).op) || self.unreachable.contains(end)
+    }
+
+    /// The instruction of a point: as it is decoded, but for an IRET of a function that goes on right behind itself in
+    /// that function, which is an `IretNext`.
+    ///
+    /// # Errors
+    ///
+    /// [`NoMemory`] may come at any point.
+    pub fn insn(&self, alloc: Global, n: u32) -> Result<Insn, NoMemory>
+        requires { n < length (points_of_object self.now) }
+        ensures { IfOk result (λ insn. insn ≡ insn_of_object self.now (point_at self.now n)) }
+    {
+        insn(alloc, &self.places, n)
+    }
+
+    /// Where the static branches at a point lead, in the order of `__jump_table`; nowhere from padding.
+    pub fn static_targets(&self, n: u32) -> &[Place]
+        requires { n < length (points_of_object self.now) }
+        ensures { result.now ≡ static_targets_of self.now (point_at self.now n) }
+    {
+        if self.places.is_padding(n) {
+            return &[];
+        }
+        self.branches.targets(self.places.point(n).place)
+    }
+
+    /// Where the exception entries at a point lead, in the order of `__ex_table`; nowhere from padding.
+    pub fn fixups(&self, n: u32) -> &[Place]
+        requires { n < length (points_of_object self.now) }
+        ensures { result.now ≡ fixups_of self.now (point_at self.now n) }
+    {
+        if self.places.is_padding(n) {
+            return &[];
+        }
+        self.fixes.targets(self.places.point(n).place)
+    }
+}
+
+/// Whether an operation is a Ud2.
+fn is_ud2(op: Op) -> bool
+    ensures { result ≡ is_an_ud2 op }
+{
+    matches!(op, Op::Ud2)
+}
