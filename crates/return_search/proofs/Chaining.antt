@@ -1,0 +1,119 @@
+-- Chains when a number is added.
+use Rattle.std.proofs.Common.{◌≡◌, ◌≢◌, ℕ, zero, suc, ◌+◌, ◌<◌, ◌≤◌, ◌⊎◌, inl, inr, Bool, cond, List, [], ◌∷◌, ◌++◌, Option, Some, None, replicate, length, get_or, set, refl, sym, ap, ◌∙◌, subst, arith, get_or-set_same, get_or-set_other, length-set}
+use Rattle.std.specs.Prelude.{unwrap_or}
+use Rattle.std.proofs.lemmas.List.{get_or_append_left, get_or_push, length_push}
+use Rattle.std.proofs.lemmas.Bool.{cases_eq, lt-ltb, le-ltb}
+use Rattle.return_search.specs.Chained.{IsLastBelow, linked, AreChains}
+
+-- what is below a place stays as it is when more is put behind
+below_push : (keys : List (Option ℕ)) (y : Option ℕ) (key n : ℕ) (o : Option ℕ) → n ≤ length keys → IsLastBelow keys key n o → IsLastBelow (keys ++ y ∷ []) key n o
+below_push keys y key n None short h = λ j l e. h j l (sym (get_or_append_left keys (y ∷ []) None j (omega arith)) ∙ e)
+below_push keys y key n (Some i) short (l, is, past) = (l, get_or_append_left keys (y ∷ []) None i (omega arith) ∙ is, λ j above below e. past j above below (sym (get_or_append_left keys (y ∷ []) None j (omega arith)) ∙ e))
+
+split_last : (j n : ℕ) → j < n + 1 → (j < n) ⊎ (j ≡ n)
+split_last j n h = grind arith
+
+-- the last one stays so where another key is put behind
+last_other : (keys : List (Option ℕ)) (y : Option ℕ) (key : ℕ) (o : Option ℕ) → y ≢ Some key → IsLastBelow keys key (length keys) o → IsLastBelow (keys ++ y ∷ []) key (length (keys ++ y ∷ [])) o
+last_other keys y key None other h = λ j l e.
+    elim (split_last j (length keys) (omega (arith, length_push keys y))) [
+      | inl below ↦ h j below (sym (get_or_append_left keys (y ∷ []) None j below) ∙ e)
+      | inr at ↦ other (sym (get_or_push keys y None j (sym at)) ∙ e)
+    ]
+last_other keys y key (Some i) other (l, is, past) = (
+  omega (arith, length_push keys y),
+  get_or_append_left keys (y ∷ []) None i l ∙ is,
+  λ j above below e.
+      elim (split_last j (length keys) (omega (arith, length_push keys y))) [
+        | inl less ↦ past j above less (sym (get_or_append_left keys (y ∷ []) None j less) ∙ e)
+        | inr at ↦ other (sym (get_or_push keys y None j (sym at)) ∙ e)
+      ],
+)
+
+-- the one put behind is the last with its key
+last_new : (keys : List (Option ℕ)) (key : ℕ) → IsLastBelow (keys ++ Some key ∷ []) key (length (keys ++ Some key ∷ [])) (Some (length keys))
+last_new keys key = (omega (arith, length_push keys (Some key)), get_or_push keys (Some key) None (length keys) refl, λ j above below. absurd (omega (arith, length_push keys (Some key))))
+
+-- a link to a number before is told, and one to itself is none
+linked_before : (n link : ℕ) → link < n → linked n link ≡ Some link
+linked_before n link h = ap (λ (b : Bool). cond b (Some link) None) (lt-ltb link n h)
+
+linked_itself : (n link : ℕ) → n ≤ link → linked n link ≡ None
+linked_itself n link h = ap (λ (b : Bool). cond b (Some link) None) (le-ltb link n h)
+
+linked_last : (keys : List (Option ℕ)) (key n : ℕ) (o : Option ℕ) → IsLastBelow keys key n o → linked n (unwrap_or o n) ≡ o
+linked_last keys key n None h = linked_itself n n (omega arith)
+linked_last keys key n (Some i) h = linked_before n i h.0
+
+no_head : (n key : ℕ) → (let heads : List (Option ℕ) = replicate n None in get_or heads key None ≡ None)
+no_head zero key = refl
+no_head (suc n) zero = refl
+no_head (suc n) (suc key) = no_head n key
+
+-- no number yet
+pub chains_none : (n : ℕ) → AreChains (replicate n None) [] []
+chains_none n = record {
+  long = refl;
+  last = λ key l. subst (IsLastBelow [] key 0) (sym (no_head n key)) (λ j h. absurd (omega arith));
+  before = λ m key l. absurd (omega arith);
+}
+
+module _ (heads : List (Option ℕ)) (links : List ℕ) (keys : List (Option ℕ)) (are : AreChains heads links keys) (y : Option ℕ) (link : ℕ) where
+  before_push : ((key : ℕ) → y ≡ Some key → IsLastBelow keys key (length keys) (linked (length keys) link)) → (n key : ℕ) → n < length (keys ++ y ∷ []) → get_or (keys ++ y ∷ []) n None ≡ Some key → IsLastBelow (keys ++ y ∷ []) key n (linked n (get_or (links ++ link ∷ []) n 0))
+  before_push new n key l e = elim (split_last n (length keys) (omega (arith, length_push keys y))) [ inl less ↦ old less | inr at ↦ here at ]
+    where
+      old : n < length keys → IsLastBelow (keys ++ y ∷ []) key n (linked n (get_or (links ++ link ∷ []) n 0))
+      old less =
+          let long : length links ≡ length keys = are.long in
+          let same : get_or (links ++ link ∷ []) n 0 ≡ get_or links n 0 = get_or_append_left links (link ∷ []) 0 n (omega arith) in
+          let was : IsLastBelow keys key n (linked n (get_or links n 0)) = are.before n key less (sym (get_or_append_left keys (y ∷ []) None n less) ∙ e) in
+          subst (λ (k : ℕ). IsLastBelow (keys ++ y ∷ []) key n (linked n k)) (sym same) (below_push keys y key n (linked n (get_or links n 0)) (omega arith) was)
+
+      here : n ≡ length keys → IsLastBelow (keys ++ y ∷ []) key n (linked n (get_or (links ++ link ∷ []) n 0))
+      here at =
+          let long : length links ≡ length keys = are.long in
+          let is : get_or (links ++ link ∷ []) n 0 ≡ link = get_or_push links link 0 n (omega arith) in
+          let key_is : y ≡ Some key = sym (get_or_push keys y None n (sym at)) ∙ e in
+          let now : IsLastBelow keys key n (linked n link) = subst (λ (k : ℕ). IsLastBelow keys key k (linked k link)) (sym at) (new key key_is) in
+          subst (λ (k : ℕ). IsLastBelow (keys ++ y ∷ []) key n (linked n k)) (sym is) (below_push keys y key n (linked n link) (omega arith) now)
+
+  long_push : length (links ++ link ∷ []) ≡ length (keys ++ y ∷ [])
+  long_push = omega (arith, length_push links link, length_push keys y, are.long)
+
+-- a number without a key
+pub chains_skip : (heads : List (Option ℕ)) (links : List ℕ) (keys : List (Option ℕ)) (link : ℕ) → AreChains heads links keys → AreChains heads (links ++ link ∷ []) (keys ++ None ∷ [])
+chains_skip heads links keys link are = record {
+  long = long_push heads links keys are None link;
+  last = λ key l. last_other keys None key (get_or heads key None) (λ e. let z : ⊥ = cc in z) (are.last key l);
+  before = before_push heads links keys are None link (λ key e. absurd (let z : ⊥ = cc in z));
+}
+
+-- a number with a key
+pub chains_add : (heads : List (Option ℕ)) (links : List ℕ) (keys : List (Option ℕ)) (key n : ℕ) → n ≡ length links → key < length heads → AreChains heads links keys → AreChains (set heads key (Some n)) (links ++ unwrap_or (get_or heads key None) n ∷ []) (keys ++ Some key ∷ [])
+chains_add heads links keys key n is inside are = record {
+  long = long_push heads links keys are (Some key) link;
+  last = last;
+  before = before_push heads links keys are (Some key) link before;
+}
+  where
+    link : ℕ
+    link = unwrap_or (get_or heads key None) n
+
+    at : n ≡ length keys
+    at = is ∙ are.long
+
+    last : (other : ℕ) → other < length (set heads key (Some n)) → IsLastBelow (keys ++ Some key ∷ []) other (length (keys ++ Some key ∷ [])) (get_or (set heads key (Some n)) other None)
+    last other l = elim (cases_eq other key) [
+      | inl same ↦ subst (λ (k : ℕ). IsLastBelow (keys ++ Some key ∷ []) k (length (keys ++ Some key ∷ [])) (get_or (set heads key (Some n)) k None)) (sym same)
+          (subst (IsLastBelow (keys ++ Some key ∷ []) key (length (keys ++ Some key ∷ []))) (sym (get_or-set_same heads key (Some n) None inside ∙ ap Some at)) (last_new keys key))
+      | inr different ↦ subst (IsLastBelow (keys ++ Some key ∷ []) other (length (keys ++ Some key ∷ []))) (sym (get_or-set_other heads key other (Some n) None different))
+          (last_other keys (Some key) other (get_or heads other None) (λ e. different (let z : other ≡ key = cc in z)) (are.last other (omega (arith, simp length-set at l))))
+    ]
+
+    before : (k : ℕ) → Some key ≡ Some k → IsLastBelow keys k (length keys) (linked (length keys) link)
+    before k e =
+        let same : key ≡ k = cc in
+        let old : IsLastBelow keys key (length keys) (get_or heads key None) = are.last key inside in
+        let told : linked (length keys) (unwrap_or (get_or heads key None) (length keys)) ≡ get_or heads key None = linked_last keys key (length keys) (get_or heads key None) old in
+        let told_n : linked (length keys) link ≡ get_or heads key None = subst (λ (m : ℕ). linked (length keys) (unwrap_or (get_or heads key None) m) ≡ get_or heads key None) (sym at) told in
+        subst (λ (j : ℕ). IsLastBelow keys j (length keys) (linked (length keys) link)) same (subst (IsLastBelow keys key (length keys)) (sym told_n) old)

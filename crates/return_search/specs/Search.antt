@@ -1,0 +1,87 @@
+-- A search for the points from which a return may come.
+use Rattle.std.specs.Prelude.{◌≡◌, ℕ, ◌<◌, ◌≤◌, List, Some, Bool, true, false, not, ◌&&◌, All, Contains, length, count_by, vec_capacity, slice_index, slice_index_or}
+use Rattle.program_defs.specs.declared.flow.EdgeKind.{EdgeKind}
+use Rattle.program_defs.specs.declared.flow.EdgeKind.TheVariants.{Next, Taken, Fixup, Table, Sibling}
+use Rattle.program_defs.specs.declared.flow.Role.TheVariants.{CallIn}
+use Rattle.program_defs.specs.Program.{Program, IsPoint, entry_points}
+use Rattle.program_defs.specs.MayReturn.{MayReturn}
+use Rattle.return_search.specs.declared.flow.Exit.{Exit}
+use Rattle.return_search.specs.declared.flow.Exit.TheVariants.{Leaves, Calls, CallsOut, CallsNever, Passes}
+use Rattle.return_search.specs.declared.flow.Flow.{Flow}
+use Rattle.return_search.specs.declared.search.Search.{Search}
+use Rattle.return_search.specs.Told.{TellsFlow, exit_at, dead_end_at, entered_at}
+use Rattle.return_search.specs.Shape.{points_of}
+use Rattle.return_search.specs.Backward.{edge_at, IsEdgeOf}
+
+-- whether a list of tests has one that holds there
+abbrev pub holds : List Bool → ℕ → Bool
+holds tests q = slice_index_or tests q false
+
+-- whether the target of a point's call returns, where these entries are known to return; what isn't a call passes
+abbrev pub target_returns : List Bool → Exit → Bool
+target_returns known Leaves = true
+target_returns known (Calls entry) = holds known entry
+target_returns known CallsOut = true
+target_returns known CallsNever = false
+target_returns known Passes = true
+
+-- whether a point is a call
+abbrev pub is_calling : Exit → Bool
+is_calling Leaves = false
+is_calling (Calls entry) = true
+is_calling CallsOut = true
+is_calling CallsNever = true
+is_calling Passes = false
+
+-- whether a return that may come from the end of an edge of this kind may come from its point too
+abbrev pub carries : Flow → List Bool → ℕ → EdgeKind → Bool
+carries flow known q Next = target_returns known (exit_at flow q) && not (is_calling (exit_at flow q) && dead_end_at flow q)
+carries flow known q Taken = true
+carries flow known q Fixup = true
+carries flow known q Table = true
+carries flow known q Sibling = true
+
+-- Points are found and listed once each, in the order in which they were found.
+pub record AreListed (flow : Flow) (s : Search) : Type 0 where
+  pub long : length s.found.items ≡ points_of flow
+  pub room : points_of flow ≤ vec_capacity s.order
+  pub once : length s.order.items ≡ count_by (λ b. b) s.found.items
+  pub listed : (q : ℕ) → holds s.found.items q ≡ true → Contains s.order.items q
+  pub found : All (λ q. holds s.found.items q ≡ true) s.order.items
+  pub known : length s.known.items ≡ points_of flow
+
+-- A return may come from the points that are found, and from an entry that is known to return.
+pub record AreSound (flow : Flow) (found known : List Bool) : Type 0 where
+  pub points : (p : Program) → TellsFlow p flow → (q : ℕ) → holds found q ≡ true → MayReturn p q
+  pub entries : (p : Program) → TellsFlow p flow → (call entry : ℕ) → IsPoint p call → p.role call ≡ CallIn entry → holds known entry ≡ true → (first : ℕ) × Contains (entry_points p entry) first × MayReturn p first
+
+-- what is found stays so, and the order of what was found
+pub record Extends (before after : Search) : Type 0 where
+  pub found : (q : ℕ) → holds before.found.items q ≡ true → holds after.found.items q ≡ true
+  pub longer : length before.order.items ≤ length after.order.items
+  pub order : (k : ℕ) → k < length before.order.items → slice_index after.order.items k ≡ slice_index before.order.items k
+
+-- the points of edges that lead to x are found, as far as a return is carried along them
+abbrev pub FindsAlong : Flow → List Bool → List Bool → ℕ → Type 0
+FindsAlong flow found known x = (q i : ℕ) → IsEdgeOf flow q i → (edge_at flow i).to ≡ x → carries flow known q (edge_at flow i).kind ≡ true → holds found q ≡ true
+
+-- all is found that a return which comes from x is carried to
+pub record IsPassedOn (flow : Flow) (found known : List Bool) (x : ℕ) : Type 0 where
+  pub edges : FindsAlong flow found known x
+  pub entry : (entry : ℕ) → entered_at flow x ≡ Some entry → holds known entry ≡ true
+
+-- all points from which a return comes are found
+abbrev pub FindsLeaving : Flow → List Bool → Type 0
+FindsLeaving flow found = (q : ℕ) → q < points_of flow → exit_at flow q ≡ Leaves → holds found q ≡ true
+
+-- The search stands before the i-th of the points that it has found: those before it are passed on.
+pub record IsSearch (flow : Flow) (s : Search) (i : ℕ) : Type 0 where
+  pub listed : AreListed flow s
+  pub sound : AreSound flow s.found.items s.known.items
+  pub leaving : FindsLeaving flow s.found.items
+  pub passed : (k : ℕ) → k < i → k < length s.order.items → IsPassedOn flow s.found.items s.known.items (slice_index s.order.items k)
+
+-- what is found and known is closed: no return is carried any further
+pub record AreClosed (flow : Flow) (found known : List Bool) : Type 0 where
+  pub leaving : FindsLeaving flow found
+  pub passed : (x : ℕ) → holds found x ≡ true → IsPassedOn flow found known x

@@ -1,0 +1,56 @@
+-- When edges and exits tell a program, and when a result tells from where its returns come.
+use Rattle.std.specs.Prelude.{◌≡◌, ℕ, ◌+◌, ◌↔◌, Option, Some, None, Bool, false, Contains, List, length, slice_get, slice_index, slice_index_or, slice_range, if◌then◌else◌}
+use Rattle.program_defs.specs.declared.flow.Edge.{Edge}
+use Rattle.program_defs.specs.declared.flow.Role.{Role}
+use Rattle.program_defs.specs.declared.flow.Role.TheVariants.{Plain, CallIn, CallEither, CallOut, CallAny, Return, JumpOut, JumpAny, Switch}
+use Rattle.program_defs.specs.Program.{Program, IsPoint, entry_points}
+use Rattle.program_defs.specs.MayReturn.{target_may_return}
+use Rattle.checker_defs.specs.Kept.{edges_of}
+use Rattle.return_search.specs.declared.flow.Exit.{Exit}
+use Rattle.return_search.specs.declared.flow.Exit.TheVariants.{Leaves, Calls, CallsOut, CallsNever, Passes}
+use Rattle.return_search.specs.declared.flow.Flow.{Flow}
+use Rattle.return_search.specs.declared.returns.Returns.{Returns}
+
+-- what a point of this role is to a return
+abbrev pub exit_of : Program → Role → Exit
+exit_of p Plain = Passes
+exit_of p (CallIn entry) = Calls entry
+exit_of p (CallEither entry sym) = CallsOut
+exit_of p (CallOut sym) = if p.never_returns sym then CallsNever else CallsOut
+exit_of p CallAny = CallsOut
+exit_of p Return = Leaves
+exit_of p (JumpOut sym) = if p.never_returns sym then Passes else Leaves
+exit_of p JumpAny = Leaves
+exit_of p Switch = Passes
+
+-- what a flow has for a point, and the place in the list of edges where its own begin
+abbrev pub exit_at : Flow → ℕ → Exit
+exit_at flow q = slice_index_or flow.exits.items q Passes
+
+abbrev pub dead_end_at : Flow → ℕ → Bool
+dead_end_at flow q = slice_index_or flow.dead_ends.items q false
+
+abbrev pub entered_at : Flow → ℕ → Option ℕ
+entered_at flow q = slice_index_or flow.entered.items q None
+
+abbrev pub start_of : Flow → ℕ → ℕ
+start_of flow q = slice_index flow.starts.items q
+
+abbrev pub edges_from : Flow → ℕ → List Edge
+edges_from flow q = slice_range flow.edges.items (start_of flow q) (start_of flow (q + 1))
+
+-- The flow tells the program, as far as returns ask for it.
+pub record TellsFlow (p : Program) (flow : Flow) : Type 0 where
+  pub count : p.count ≡ length flow.exits.items
+  pub edges : (q : ℕ) → IsPoint p q → p.goes q ≡ edges_from flow q
+  pub exits : (q : ℕ) → IsPoint p q → exit_of p (p.role q) ≡ exit_at flow q
+  pub dead_ends : (q : ℕ) → IsPoint p q → p.dead_end q ≡ dead_end_at flow q
+  -- control that comes to an entry that is called may stand at the points that are entered there
+  pub entered : (call entry q : ℕ) → IsPoint p call → p.role call ≡ CallIn entry → IsPoint p q → Contains (entry_points p entry) q ↔ (entered_at flow q ≡ Some entry)
+
+-- The result tells of each point of the program whether a return may come from it on, whether the target of its call may
+-- return, and its edges without the Next of a call that can't come back.
+pub record TellsReturns (p : Program) (returns : Returns) : Type 0 where
+  pub may_return : (q : ℕ) → IsPoint p q → slice_get returns.may_return.items q ≡ Some (p.may_return q)
+  pub comes_back : (q : ℕ) → IsPoint p q → slice_get returns.comes_back.items q ≡ Some (target_may_return p (p.role q))
+  pub edges : (q : ℕ) → IsPoint p q → edges_of p q ≡ slice_range returns.edges.items (slice_index returns.starts.items q) (slice_index returns.starts.items (q + 1))

@@ -1,0 +1,66 @@
+//! Numbers in chains by key.
+
+ghost use Rattle.std.specs.Prelude.{◌≡◌, ◌+◌, ◌<◌, ◌^◌, ◌∷◌, ◌++◌, ℕ, [], None, Some, List, Option, OnOk, IfOk, length, replicate, slice_index_or};
+ghost use Rattle.return_search.specs.Chained.{AreChains, IsLastBelow};
+
+use ot_base::NoMemory;
+use std::alloc::Global;
+
+/// Numbers from 0 on in chains, one for each key. A number has a key or none, and gets its place as it is added.
+#[derive(Drop)]
+pub(crate) struct Chains {
+    /// For each key, the last number that has it.
+    heads: Vec<Option<u32>>,
+    /// For each number, the number before it that has its key, or itself where there is none.
+    links: Vec<u32>,
+}
+
+impl Chains {
+    /// No number has a key yet.
+    pub(crate) fn new(alloc: Global, keys: u32) -> Result<Chains, NoMemory>
+        ensures none { IfOk result (λ chains. AreChains chains.heads.items chains.links.items []) }
+        ensures heads { IfOk result (λ chains. length chains.heads.items ≡ keys) }
+        ensures links { IfOk result (λ chains. length chains.links.items ≡ 0) }
+    {
+        Ok(Chains {
+            heads: vec![in alloc; None; keys as usize]?,
+            links: Vec::new(alloc),
+        })
+    }
+
+    /// Adds the next number, with its key.
+    pub(crate) fn add(&mut self, key: Option<u32>) -> Result<(), NoMemory>
+        requires few { length self.old.links.items + 1 < 2 ^ 32 }
+        requires key { (k : ℕ) → key ≡ Some k → k < length self.old.heads.items }
+        ensures added { OnOk result ((keys : List (Option ℕ)) → AreChains self.old.heads.items self.old.links.items keys → AreChains self.new.heads.items self.new.links.items (keys ++ key ∷ [])) }
+        ensures heads { length self.new.heads.items ≡ length self.old.heads.items }
+        ensures links { OnOk result (length self.new.links.items ≡ length self.old.links.items + 1) }
+    {
+        let n = self.links.len() as u32;
+        match key {
+            None => self.links.push(n)?,
+            Some(key) => {
+                self.links.push(self.heads[key as usize].unwrap_or(n))?;
+                self.heads[key as usize] = Some(n);
+            }
+        }
+        Ok(())
+    }
+
+    /// The last number that has a key.
+    pub(crate) fn last(&self, key: u32) -> Option<u32>
+        requires { key < length self.now.heads.items }
+        ensures { (keys : List (Option ℕ)) → AreChains self.now.heads.items self.now.links.items keys → IsLastBelow keys key (length keys) result }
+    {
+        self.heads[key as usize]
+    }
+
+    /// The number before one that has its key.
+    pub(crate) fn before(&self, n: u32) -> Option<u32>
+        requires { n < length self.now.links.items }
+        ensures { (keys : List (Option ℕ)) (key : ℕ) → AreChains self.now.heads.items self.now.links.items keys → slice_index_or keys n None ≡ Some key → IsLastBelow keys key n result }
+    {
+        let link = self.links[n as usize];
+        if link < n { Some(link) } else { None }
+    }
+}

@@ -1,0 +1,65 @@
+//! From which points of a program a return may come.
+
+ghost use Rattle.std.specs.Prelude.{◌≡◌, ◌<◌, ℕ, IfOk, length, slice_index_or};
+ghost use Rattle.program_defs.specs.Program.{Program};
+ghost use Rattle.program_defs.specs.IsProgram.{IsProgram};
+ghost use Rattle.return_search.specs.Told.{TellsFlow, TellsReturns, exit_at};
+ghost use Rattle.return_search.specs.Shape.{HasShape, HaveShape, points_of};
+ghost use Rattle.return_search.specs.Search.{holds, target_returns as does_target_return};
+
+use crate::flow::Flow;
+use crate::kept_edges::{KeptEdges, kept_edges};
+use crate::search::Search;
+use crate::spreading::{spread, target_returns};
+use ot_base::NoMemory;
+use program_defs::Edge;
+use std::alloc::Global;
+
+/// From which points of a program a return may come, and its edges without the Next of a call that can't come back.
+#[derive(Drop)]
+pub struct Returns {
+    /// Whether a return may come from a point on.
+    pub may_return: Vec<bool>,
+    /// Whether the target of a point's call may return; true of what isn't a call.
+    pub comes_back: Vec<bool>,
+    /// For each point, and once more behind the last, where in the list of edges its own begin. They end where
+    /// those of the next begin.
+    pub starts: Vec<u32>,
+    /// The edges of all points, in the order of the points, without the Next of a call that can't come back.
+    pub edges: Vec<Edge>,
+}
+
+/// Whether the target of each point's call returns, where these entries are known to return.
+fn returning_targets(alloc: Global, flow: &Flow, known: &[bool]) -> Result<Vec<bool>, NoMemory>
+    requires shape { HasShape flow.now }
+    requires known { length known.now ≡ points_of flow.now }
+    ensures len { IfOk result (λ targets. length targets.items ≡ points_of flow.now) }
+    ensures each { IfOk result (λ targets. (q : ℕ) → q < points_of flow.now → holds targets.items q ≡ does_target_return known.now (exit_at flow.now q)) }
+{
+    let mut targets = Vec::with_capacity(alloc, flow.exits.len())?;
+    for q in 0..flow.exits.len() as u32 {
+        targets.push(target_returns(flow, known, q))?;
+    }
+    Ok(targets)
+}
+
+/// Finds from which points of a program a return may come, backwards over its edges, and drops the Next of each call that
+/// can't come back.
+///
+/// Each point is looked at once and each edge a few times. Beside the result it takes some 30 bytes a point and 8 an
+/// edge, and gives them back.
+pub fn find_returns(alloc: Global, flow: Flow) -> Result<Returns, NoMemory>
+    requires { HasShape flow }
+    ensures shape { IfOk result (HaveShape (points_of flow)) }
+    ensures told { (p : Program) → TellsFlow p flow → IsProgram p → IfOk result (TellsReturns p) }
+{
+    let Search { found, known, .. } = spread(alloc, &flow)?;
+    let comes_back = returning_targets(alloc, &flow, &known)?;
+    let KeptEdges { starts, edges } = kept_edges(alloc, &flow, &comes_back)?;
+    Ok(Returns {
+        may_return: found,
+        comes_back,
+        starts,
+        edges,
+    })
+}

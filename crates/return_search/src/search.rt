@@ -1,0 +1,54 @@
+//! What a search has found.
+
+ghost use Rattle.std.specs.Prelude.{◌≡◌, ◌<◌, ◌≤◌, false, true, IfOk, length, replicate, slice_index, slice_set};
+ghost use Rattle.return_search.specs.Shape.{HasShape, points_of};
+
+use crate::flow::{Exit, Flow};
+use ot_base::NoMemory;
+use program_defs::EdgeKind;
+use std::alloc::Global;
+
+/// What a search for the points from which a return may come has found.
+#[derive(Drop)]
+pub(crate) struct Search {
+    /// Whether a point is found.
+    pub(crate) found: Vec<bool>,
+    /// The points that are found, in the order in which they were.
+    pub(crate) order: Vec<u32>,
+    /// Whether an entry is known to return.
+    pub(crate) known: Vec<bool>,
+}
+
+impl Search {
+    ghost use Rattle.return_search.specs.Search.{AreListed, Extends, holds};
+
+    /// Nothing is found. No later call takes memory.
+    pub(crate) fn new(alloc: Global, flow: &Flow) -> Result<Search, NoMemory>
+        requires { HasShape flow.now }
+        ensures listed { IfOk result (AreListed flow.now) }
+        ensures found { IfOk result (λ search. search.found.items ≡ replicate (points_of flow.now) false) }
+        ensures known { IfOk result (λ search. search.known.items ≡ replicate (points_of flow.now) false) }
+    {
+        let points = flow.exits.len();
+        Ok(Search {
+            found: vec![in alloc; false; points]?,
+            order: Vec::with_capacity(alloc, points)?,
+            known: vec![in alloc; false; points]?,
+        })
+    }
+
+    /// A point is found.
+    pub(crate) fn find(&mut self, flow: &Flow, q: u32)
+        requires listed { AreListed flow.now self.old }
+        requires point { q < points_of flow.now }
+        ensures listed { AreListed flow.now self.new }
+        ensures extends { Extends self.old self.new }
+        ensures found { self.new.found.items ≡ slice_set self.old.found.items q true }
+        ensures known { self.new.known.items ≡ self.old.known.items }
+    {
+        if !self.found[q as usize] {
+            self.found[q as usize] = true;
+            self.order.push_reserved(q);
+        }
+    }
+}

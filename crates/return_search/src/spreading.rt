@@ -1,0 +1,177 @@
+//! How returns are carried backwards over the edges of a program.
+
+ghost use Rattle.std.specs.Prelude.{◌≡◌, ◌+◌, ◌<◌, ◌&&◌, ◌↔◌, ℕ, true, false, IfOk, IsTrue, length, slice_index, slice_index_or, slice_set};
+ghost use Rattle.return_search.specs.declared.flow.Exit.TheVariants.{Calls, Leaves};
+ghost use Rattle.return_search.specs.Told.{dead_end_at, exit_at};
+ghost use Rattle.return_search.specs.Shape.{HasShape, points_of};
+ghost use Rattle.return_search.specs.Backward.{IsBackward, IsEdgeOf, edge_at};
+ghost use Rattle.return_search.specs.Search.{AreClosed, AreListed, AreSound, Extends, FindsAlong, FindsLeaving, IsSearch, carries as carries_back, holds, target_returns as does_target_return, is_calling};
+
+use crate::backward::Backward;
+use crate::flow::{Exit, Flow};
+use crate::search::Search;
+use ot_base::NoMemory;
+use program_defs::EdgeKind;
+use std::alloc::Global;
+
+/// Whether a return comes from a point.
+fn leaves(exit: Exit) -> bool
+    ensures { IsTrue result ↔ (exit ≡ Leaves) }
+{
+    match exit {
+        Exit::Leaves => true,
+        Exit::Calls { .. } | Exit::CallsOut | Exit::CallsNever | Exit::Passes => false,
+    }
+}
+
+/// Whether the target of a point's call returns, as far as it is known. What isn't a call passes.
+pub(crate) fn target_returns(flow: &Flow, known: &[bool], q: u32) -> bool
+    requires shape { HasShape flow.now }
+    requires known { length known.now ≡ points_of flow.now }
+    requires point { q < points_of flow.now }
+    ensures { result ≡ does_target_return known.now (exit_at flow.now q) }
+{
+    match flow.exits[q as usize] {
+        Exit::Calls { entry } => known[entry as usize],
+        Exit::CallsNever => false,
+        Exit::Leaves | Exit::CallsOut | Exit::Passes => true,
+    }
+}
+
+/// Whether a point is a call that execution never passes.
+fn is_dead_call(flow: &Flow, q: u32) -> bool
+    requires shape { HasShape flow.now }
+    requires point { q < points_of flow.now }
+    ensures { result ≡ (is_calling (exit_at flow.now q) && dead_end_at flow.now q) }
+{
+    match flow.exits[q as usize] {
+        Exit::Calls { .. } | Exit::CallsOut | Exit::CallsNever => flow.dead_ends[q as usize],
+        Exit::Leaves | Exit::Passes => false,
+    }
+}
+
+/// Whether a return that may come from the end of an edge of this kind may come from its point too.
+fn carries(flow: &Flow, known: &[bool], q: u32, kind: EdgeKind) -> bool
+    requires shape { HasShape flow.now }
+    requires known { length known.now ≡ points_of flow.now }
+    requires point { q < points_of flow.now }
+    ensures { result ≡ carries_back flow.now known.now q kind }
+{
+    match kind {
+        EdgeKind::Next => target_returns(flow, known, q) && !is_dead_call(flow, q),
+        EdgeKind::Taken | EdgeKind::Fixup | EdgeKind::Table | EdgeKind::Sibling => true,
+    }
+}
+
+/// Finds the points of the edges that lead to a point that is found.
+fn find_along(flow: &Flow, backward: &Backward, search: &mut Search, x: u32)
+    requires shape { HasShape flow.now }
+    requires backward { IsBackward flow.now backward.now }
+    requires listed { AreListed flow.now search.old }
+    requires sound { AreSound flow.now search.old.found.items search.old.known.items }
+    requires found { holds search.old.found.items x ≡ true }
+    requires point { x < points_of flow.now }
+    ensures listed { AreListed flow.now search.new }
+    ensures extends { Extends search.old search.new }
+    ensures known { search.new.known.items ≡ search.old.known.items }
+    ensures sound { AreSound flow.now search.new.found.items search.new.known.items }
+    ensures along { FindsAlong flow.now search.new.found.items search.old.known.items x }
+{
+    let mut next = backward.by_target.last(x);
+    'edges: while let Some(i) = next {
+        let q = backward.sources[i as usize];
+        if carries(flow, &search.known, q, flow.edges[i as usize].kind) {
+            search.find(flow, q);
+        }
+        next = backward.by_target.before(i);
+    }
+}
+
+/// Whether a return is carried to a point from one that is found.
+fn is_carried_to(flow: &Flow, search: &Search, q: u32) -> bool
+    requires shape { HasShape flow.now }
+    requires listed { AreListed flow.now search.now }
+    requires point { q < points_of flow.now }
+    ensures carried { IsTrue result → (i : ℕ) × IsEdgeOf flow.now q i × (holds search.now.found.items (edge_at flow.now i).to ≡ true) × (carries_back flow.now search.now.known.items q (edge_at flow.now i).kind ≡ true) }
+    ensures not_carried { result ≡ false → (i : ℕ) → IsEdgeOf flow.now q i → holds search.now.found.items (edge_at flow.now i).to ≡ true → carries_back flow.now search.now.known.items q (edge_at flow.now i).kind ≡ true → ⊥ }
+{
+    for i in flow.start(q as usize)..flow.start(q as usize + 1) {
+        let edge = flow.edges[i];
+        if search.found[edge.to as usize] && carries(flow, &search.known, q, edge.kind) {
+            return true;
+        }
+    }
+    false
+}
+
+/// Finds the calls of an entry that is known to return.
+fn find_calls(flow: &Flow, backward: &Backward, search: &mut Search, entry: u32)
+    requires shape { HasShape flow.now }
+    requires backward { IsBackward flow.now backward.now }
+    requires listed { AreListed flow.now search.old }
+    requires sound { AreSound flow.now search.old.found.items search.old.known.items }
+    requires entry { entry < points_of flow.now }
+    ensures listed { AreListed flow.now search.new }
+    ensures extends { Extends search.old search.new }
+    ensures known { search.new.known.items ≡ search.old.known.items }
+    ensures sound { AreSound flow.now search.new.found.items search.new.known.items }
+    ensures calls { (q i : ℕ) → exit_at flow.now q ≡ Calls entry → IsEdgeOf flow.now q i → holds search.old.found.items (edge_at flow.now i).to ≡ true → carries_back flow.now search.old.known.items q (edge_at flow.now i).kind ≡ true → holds search.new.found.items q ≡ true }
+{
+    let mut next = backward.by_entry.last(entry);
+    'calls: while let Some(q) = next {
+        if is_carried_to(flow, search, q) {
+            search.find(flow, q);
+        }
+        next = backward.by_entry.before(q);
+    }
+}
+
+/// Passes a return on from the point that was found as the i-th.
+fn pass_on(flow: &Flow, backward: &Backward, search: &mut Search, i: usize)
+    requires shape { HasShape flow.now }
+    requires backward { IsBackward flow.now backward.now }
+    requires search { IsSearch flow.now search.old i }
+    requires inside { i < length search.old.order.items }
+    ensures search { IsSearch flow.now search.new (i + 1) }
+{
+    let x = search.order[i];
+    find_along(flow, backward, search, x);
+    if let Some(entry) = flow.entered[x as usize] {
+        if !search.known[entry as usize] {
+            search.known[entry as usize] = true;
+            find_calls(flow, backward, search, entry);
+        }
+    }
+}
+
+/// Finds the points from which a return comes.
+fn find_leaving(flow: &Flow, search: &mut Search)
+    requires shape { HasShape flow.now }
+    requires listed { AreListed flow.now search.old }
+    requires sound { AreSound flow.now search.old.found.items search.old.known.items }
+    ensures { IsSearch flow.now search.new 0 }
+{
+    for q in 0..flow.exits.len() as u32 {
+        if leaves(flow.exits[q as usize]) {
+            search.find(flow, q);
+        }
+    }
+}
+
+/// Finds the points from which a return may come. Each point is passed on once, and each edge is looked at twice at most.
+pub(crate) fn spread(alloc: Global, flow: &Flow) -> Result<Search, NoMemory>
+    requires { HasShape flow.now }
+    ensures listed { IfOk result (AreListed flow.now) }
+    ensures sound { IfOk result (λ search. AreSound flow.now search.found.items search.known.items) }
+    ensures closed { IfOk result (λ search. AreClosed flow.now search.found.items search.known.items) }
+{
+    let backward = Backward::new(alloc, flow)?;
+    let mut search = Search::new(alloc, flow)?;
+    find_leaving(flow, &mut search);
+    let mut i = 0;
+    'found: while i < search.order.len() {
+        pass_on(flow, &backward, &mut search, i);
+        i += 1;
+    }
+    Ok(search)
+}
