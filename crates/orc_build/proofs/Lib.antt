@@ -1,0 +1,11 @@
+pub mod Places
+pub mod Lists
+pub mod Merging
+pub mod Begins
+pub mod Whole
+pub mod Compressed
+pub mod Ended
+pub mod SiteRows
+pub mod Plain
+pub mod Kept
+pub mod Joined

@@ -1,0 +1,71 @@
+-- Point after point, with the rows in sites before it.
+use Rattle.std.proofs.Common.{◌≡◌, ℕ, true, false, pos, List, [], get_or, drop, sym, ap, subst, ◌∙◌, arith}
+use Rattle.std.specs.Prelude.{slice_range}
+use Rattle.std.proofs.lemmas.List.{take_rest}
+use Rattle.ot_base.specs.declared.place.Place.{Place}
+use Rattle.ot_base.specs.declared.row.PlacedRow.{PlacedRow}
+use Rattle.branch_check.specs.LevelStates.{at}
+use Rattle.site_points.specs.Sites.{is_before}
+use Rattle.orc_build.specs.Changes.{add_all, after_row}
+use Rattle.orc_build.proofs.Merging.{none_so_far, no_row, step, whole}
+use Rattle.orc_build.proofs.Kept.{kept_is_point}
+use Rattle.orc_build.proofs.changes.list_changes.Goals as goal
+use Rattle.orc_build.proofs.changes.list_changes.Goals.{in-Some+in_ok-next+in_ok-push_change, in_default}
+
+none : PlacedRow
+none = record { place = record { sec = 0; off = 0 }; row = record { sp_offset = pos 0; bp_offset = pos 0; sp_reg = 0; bp_reg = 0; kind = 0; signal = false } }
+
+pub loop-n-init : goal.loop-n-init
+loop-n-init c = record {
+  within = omega arith;
+  merged = λ p checked index rows. ([], none_so_far p (at c.args.kept.now) c.args.in_sites.now, c.new-rows.ensures.items);
+}
+
+pub loop-n-preserved : goal.loop-n-preserved
+loop-n-preserved c =
+    let in_sites : List PlacedRow = c.args.in_sites.now in
+    let n : ℕ = c.loop-n.n in
+    let next : ℕ = c.loop-n.next in
+    elim c.match-plain_row.branch [
+      | in-Some+in_ok-next+in_ok-push_change w ↦
+          let rows_is = w.rows-is in
+          let next_is = w.next-is in
+          let end : ℕ = w.in_ok-next.next in
+          rw (rows_is, next_is) (record {
+            within = w.in_ok-next.ensures.within;
+            merged = λ p checked index rows.
+                let row = w.in-Some.ensures p checked.tells index checked.laid in
+                let h = c.loop-n.invariant.merged p checked index rows in
+                let place : w.in-Some.row.place ≡ p.place n = ap (λ (x : PlacedRow). x.place) row.1 in
+                let r = step p (at c.args.kept.now) in_sites checked.ascending checked.laid checked.kept
+                (kept_is_point p c.args.kept.now checked.kept (checked.tells.count ∙ sym c.requires.points)) rows.ascend rows n next end none h.0 h.1
+                w.in_ok-next.ensures.behind w.in_ok-next.ensures.within
+                (λ k l m. subst (λ (z : Place). is_before (get_or in_sites k none).place z ≡ true) place (w.in_ok-next.ensures.before k none l m))
+                (λ l. subst (λ (z : Place). is_before (get_or in_sites end none).place z ≡ false) place (w.in_ok-next.ensures.other none l))
+                (omega (arith, c.loop-n-test.true, c.points-n-end.ensures.count p checked.tells)) row.0 in (
+                  r.0,
+                  r.1,
+                  w.in_ok-push_change.ensures
+                      ∙ ap (λ (xs : List PlacedRow). after_row xs w.in-Some.row) (w.in_ok-next.ensures.pushed ∙ ap (λ (xs : List PlacedRow). add_all xs (slice_range in_sites next end)) h.2)
+                      ∙ ap (λ (x : PlacedRow). after_row (add_all (add_all [] h.0) (slice_range in_sites next end)) x) row.1
+                      ∙ sym r.2,
+                );
+          })
+      | in_default w ↦
+          let rows_is = w.rows-is in
+          let next_is = w.next-is in
+          rw (rows_is, next_is) (record {
+            within = c.loop-n.invariant.within;
+            merged = λ p checked index rows.
+                let h = c.loop-n.invariant.merged p checked index rows in
+                (h.0, no_row p (at c.args.kept.now) in_sites n next h.0 h.1 (w.in_default.ensures p checked.tells index checked.laid), h.2);
+          })
+    ]
+
+pub returns : goal.returns
+returns c p checked index rows =
+    let in_sites : List PlacedRow = c.args.in_sites.now in
+    let h = c.loop-n.invariant.merged p checked index rows in
+    let last : c.loop-n.n ≡ p.count = omega (arith, c.loop-n-test.false, c.points-n-end.ensures.count p checked.tells) in
+    let r = whole p (at c.args.kept.now) in_sites c.loop-n.n c.loop-n.next none h.0 rows.ascend last c.loop-n.invariant.within h.1 in
+    (r.0, r.1, c.in_ok-push_all.ensures ∙ (ap (λ (xs : List PlacedRow). add_all c.loop-n.rows.items xs) (take_rest in_sites c.loop-n.next) ∙ ap (λ (xs : List PlacedRow). add_all xs (drop c.loop-n.next in_sites)) h.2 ∙ sym r.2))

@@ -1,0 +1,4 @@
+pub mod Fit
+pub mod Checked
+pub mod Changes
+pub mod Ends
