@@ -1,0 +1,114 @@
+//! The numbers that warnings tell of states.
+
+ghost use Rattle.std.specs.Prelude.{◌≡◌, ◌↔◌, IsTrue, OnOk, ℤ, ℕ, Some, pos};
+ghost use Rattle.state_defs.specs.State.{IsConsistent};
+ghost use Rattle.state_defs.specs.Row.{unfit_offset as unfit_offset_of};
+ghost use Rattle.state_defs.specs.Rules.{depth_number as depth_number_of};
+ghost use Rattle.rule_check.specs.Gains.{Gains, numbered_warning};
+ghost use Rattle.rule_check.specs.PointWarns.{RowWarns, depth_warning as depth_warning_of};
+
+use crate::listing::push;
+use frame_rules::unfit_offset;
+use ot_base::rules::OFFSET_OUT_OF_RANGE;
+use ot_base::{NoMemory, Place, Warning};
+use state_defs::{Depth, State};
+
+/// Whether two states are the same.
+pub(crate) fn is_same(one: State, other: State) -> bool
+    ensures { IsTrue result ↔ (one ≡ other) }
+{
+    match (one, other) {
+        (
+            State::Live { depth, fp, bp },
+            State::Live {
+                depth: other_depth,
+                fp: other_fp,
+                bp: other_bp,
+            },
+        ) => depth == other_depth && fp == other_fp && bp == other_bp,
+        (State::Ended(kind), State::Ended(other_kind)) => kind == other_kind,
+        (
+            State::Regs { full, depth },
+            State::Regs {
+                full: other_full,
+                depth: other_depth,
+            },
+        ) => full == other_full && depth == other_depth,
+        (State::Live { .. } | State::Ended(_) | State::Regs { .. }, _) => false,
+    }
+}
+
+/// The number that a warning tells of a consistent state: how many bytes rsp is below the frame's top, or minus the
+/// number that it is at least below; how many it is below the saved registers; or 0 where a hint ended the stack.
+fn depth_number(state: State) -> i64
+    ensures { IsConsistent state → result ≡ depth_number_of state }
+{
+    match state {
+        State::Live {
+            depth: Depth::Known(n),
+            ..
+        } => n,
+        State::Live {
+            depth: Depth::AtLeast(n),
+            ..
+        } => { if n < 0 { 0 } else { -n } }
+        State::Ended(_) => 0,
+        State::Regs { depth, .. } => depth,
+    }
+}
+
+/// A warning that tells a consistent state's depth.
+pub(crate) fn depth_warning(place: Place, rule: u8, state: State) -> Warning
+    ensures { IsConsistent state → result ≡ depth_warning_of place rule state }
+{
+    Warning {
+        place,
+        rule,
+        a: depth_number(state),
+        b: 0,
+    }
+}
+
+/// A warning that tells the depths of two consistent states.
+pub(crate) fn depths_warning(place: Place, rule: u8, one: State, other: State) -> Warning
+    ensures { IsConsistent one → IsConsistent other → result ≡ numbered_warning place rule (depth_number_of one) (depth_number_of other) }
+{
+    Warning {
+        place,
+        rule,
+        a: depth_number(one),
+        b: depth_number(other),
+    }
+}
+
+/// The first offset of a consistent state's row that doesn't fit the format, in bytes.
+fn offset_number(state: State) -> Option<i64>
+    ensures { IsConsistent state → result ≡ unfit_offset_of state }
+{
+    match unfit_offset(state) {
+        Some(a) if i128::from(i64::MIN) <= a && a <= i128::from(i64::MAX) => Some(a as i64),
+        Some(_) | None => None,
+    }
+}
+
+/// A warning that tells an offset.
+fn offset_warning(place: Place, offset: i64) -> Warning
+    ensures { result ≡ numbered_warning place OFFSET_OUT_OF_RANGE offset (pos 0) }
+{
+    Warning {
+        place,
+        rule: OFFSET_OUT_OF_RANGE,
+        a: offset,
+        b: 0,
+    }
+}
+
+/// Rule 10: an offset of the state's row doesn't fit.
+pub(crate) fn push_row(into: &mut Vec<Warning>, place: Place, state: State) -> Result<(), NoMemory>
+    ensures { OnOk result (IsConsistent state → Gains into.old.items into.new.items (RowWarns place state)) }
+{
+    match offset_number(state) {
+        Some(a) => push(into, offset_warning(place, a)),
+        None => Ok(()),
+    }
+}

@@ -1,0 +1,86 @@
+//! Rule 14: instructions that aren't reached.
+
+ghost use Rattle.std.specs.Prelude.{◌≡◌, ◌<◌, ◌⊎◌, ◌↔◌, IsTrue, OnOk, ℕ, Contains, length};
+ghost use Rattle.ot_base.specs.declared.warning.Warning.{Warning as WarningValue};
+ghost use Rattle.program_defs.specs.Program.{Program};
+ghost use Rattle.checker_defs.specs.Broken.{IsFirstUnreached, IsUnreached, is_padding as is_padding_op};
+ghost use Rattle.program_graph.specs.Tells.{Tells};
+ghost use Rattle.rule_check.specs.Checks.{Checks};
+ghost use Rattle.rule_check.specs.Telling.{IsTelling};
+ghost use Rattle.rule_check.specs.Gains.{Gains, bare_warning as bare};
+
+use crate::listing::{bare_warning, push_if};
+use branch_check::Kept;
+use operation_defs::Op;
+use ot_base::rules::UNREACHABLE_INSTRUCTION;
+use ot_base::{NoMemory, Warning};
+use program_graph::Graph;
+
+/// Whether an instruction may stand unreached, as padding.
+fn is_padding(op: Op) -> bool
+    ensures { result ≡ is_padding_op op }
+{
+    matches!(op, Op::Nop | Op::Int3 | Op::Ud2)
+}
+
+/// Whether a point is an instruction of a checked function that mustn't stand unreached.
+fn is_telling(graph: &Graph, n: u32) -> bool
+    requires { n < length graph.now.parts.points.items }
+    ensures { (p : Program) → Tells p graph.now.parts → IsTrue result ↔ IsTelling p n }
+{
+    if graph.unchecked(n) {
+        return false;
+    }
+    if graph.function(n).is_none() {
+        return false;
+    }
+    if is_padding(graph.insn(n).op) {
+        return false;
+    }
+    graph.variant(n) == 0
+}
+
+/// Whether a number is that of an instruction of a checked function that isn't reached.
+fn is_unreached(graph: &Graph, kept: &Kept, n: u32) -> bool
+    requires { length kept.now ≡ length graph.now.parts.points.items }
+    ensures point { IsTrue result → n < length graph.now.parts.points.items }
+    ensures unreached { (p : Program) → Checks p graph.now.parts kept.now → IsTrue result ↔ IsUnreached p n }
+{
+    if n >= graph.points() {
+        return false;
+    }
+    match kept.state(n) {
+        None => is_telling(graph, n),
+        Some(_) => false,
+    }
+}
+
+/// Whether a point is an instruction that isn't reached, and what is right before it of its function isn't one.
+fn is_first_unreached(graph: &Graph, kept: &Kept, n: u32) -> bool
+    requires points { length kept.now ≡ length graph.now.parts.points.items }
+    requires point { n < length graph.now.parts.points.items }
+    ensures { (p : Program) → Checks p graph.now.parts kept.now → IsTrue result ↔ IsFirstUnreached p n }
+{
+    if !is_unreached(graph, kept, n) {
+        return false;
+    }
+    match graph.previous(n) {
+        Some(before) if is_unreached(graph, kept, before) => {
+            graph.function(before) != graph.function(n)
+        }
+        Some(_) | None => true,
+    }
+}
+
+/// Adds a program's warnings of rule 14: the first of some instructions of a function that aren't reached, but
+/// padding. Where rule 14 is checked no other rule may be broken, which the caller sees to.
+pub fn push_unreachable(graph: &Graph, kept: &Kept, into: &mut Vec<Warning>) -> Result<(), NoMemory>
+    requires { length kept.now ≡ length graph.now.parts.points.items }
+    ensures { OnOk result ((p : Program) → Checks p graph.now.parts kept.now → (w : WarningValue) → Contains into.new.items w ↔ (Contains into.old.items w ⊎ ((q : ℕ) × IsFirstUnreached p q × (w ≡ bare (p.place q) UNREACHABLE_INSTRUCTION)))) }
+{
+    for n in 0..graph.points() {
+        let warning = bare_warning(graph.place(n), UNREACHABLE_INSTRUCTION);
+        push_if(into, is_first_unreached(graph, kept, n), warning)?;
+    }
+    Ok(())
+}
