@@ -1,0 +1,11 @@
+mod Totals
+mod Intervals
+mod Relas
+mod Counted
+pub mod FewEntries
+pub mod FirstFaults
+pub mod StartPlaces
+pub mod Ends
+pub mod Branches
+pub mod Told
+pub mod InOrder
