@@ -1,0 +1,4 @@
+pub mod SaveOrder
+pub mod Hinted
+pub mod Meanings
+pub mod HintedCode
