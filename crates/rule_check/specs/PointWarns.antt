@@ -90,6 +90,7 @@ EdgeWarns p states q s e w =
     ⊎ (e.kind ≡ Sibling × SiblingWarns (p.place q) s w)
     ⊎ ((brought : Option State) × IsBrought s (p.insn q).op e.kind brought × ArrivalWarns p states e.to brought w)
 
+-- some edge of a point
 abbrev pub EdgesWarn : Program → List (Option State) → ℕ → State → Warning → Type 0
 EdgesWarn p states q s w = (e : Edge) × Contains (edges_of p q) e × EdgeWarns p states q s e w
 

@@ -1,8 +1,7 @@
 //! The rules that an edge breaks: where control goes, and what it brings.
 
-ghost use Rattle.std.specs.Prelude.{◌≡◌, ◌≢◌, ◌<◌, ◌↔◌, IsTrue, OnOk, Some, None, ℕ, Contains, length, option_to_list, pos};
+ghost use Rattle.std.specs.Prelude.{◌≡◌, ◌≢◌, ◌<◌, ◌↔◌, IsTrue, OnOk, Some, length, option_to_list};
 ghost use Rattle.state_defs.specs.State.{IsConsistent};
-ghost use Rattle.state_defs.specs.Rules.{depth_number as depth_number_of};
 ghost use Rattle.program_defs.specs.Program.{Program};
 ghost use Rattle.checker_defs.specs.Kept.{brought_along as brought_along_edge, is_free as is_free_hint};
 ghost use Rattle.program_graph.specs.Tells.{Tells};

@@ -1,6 +1,6 @@
 //! A list of warnings, and what goes into it.
 
-ghost use Rattle.std.specs.Prelude.{◌≡◌, ◌↔◌, IsTrue, OnOk, Some, pos};
+ghost use Rattle.std.specs.Prelude.{◌≡◌, ◌↔◌, IsTrue, OnOk, Some};
 ghost use Rattle.rule_check.specs.Gains.{Gains, bare_warning as bare};
 
 use ot_base::{NoMemory, Place, Warning};

@@ -1,6 +1,6 @@
 //! The numbers that warnings tell of states.
 
-ghost use Rattle.std.specs.Prelude.{◌≡◌, ◌↔◌, IsTrue, OnOk, ℤ, ℕ, Some, pos};
+ghost use Rattle.std.specs.Prelude.{◌≡◌, ◌↔◌, IsTrue, OnOk, pos};
 ghost use Rattle.state_defs.specs.State.{IsConsistent};
 ghost use Rattle.state_defs.specs.Row.{unfit_offset as unfit_offset_of};
 ghost use Rattle.state_defs.specs.Rules.{depth_number as depth_number_of};
@@ -38,8 +38,9 @@ pub(crate) fn is_same(one: State, other: State) -> bool
     }
 }
 
-/// The number that a warning tells of a consistent state: how many bytes rsp is below the frame's top, or minus the
-/// number that it is at least below; how many it is below the saved registers; or 0 where a hint ended the stack.
+/// The number that a warning tells of a state that is consistent, so that no least depth is negative: how many
+/// bytes rsp is below the frame's top, or minus the number that it is at least below; how many it is below the saved
+/// registers; or 0 where a hint ended the stack.
 fn depth_number(state: State) -> i64
     ensures { IsConsistent state → result ≡ depth_number_of state }
 {

@@ -1,6 +1,6 @@
 //! The rules at each point, and at functions without a size.
 
-ghost use Rattle.std.specs.Prelude.{◌≡◌, ◌≢◌, ◌<◌, ◌⊎◌, ◌↔◌, true, IsTrue, OnOk, Some, None, ℕ, Contains, length};
+ghost use Rattle.std.specs.Prelude.{◌≡◌, ◌≢◌, ◌<◌, ◌⊎◌, ◌↔◌, true, IsTrue, OnOk, Some, Contains, length};
 ghost use Rattle.ot_base.specs.declared.warning.Warning.{Warning as WarningValue};
 ghost use Rattle.ot_base.specs.declared.rules.TheConstants.{ALTERNATIVES_DISAGREE};
 ghost use Rattle.program_defs.specs.Program.{Program};
@@ -103,7 +103,7 @@ fn push_sizes(into: &mut Vec<Warning>, places: &[Place]) -> Result<(), NoMemory>
 /// Adds a program's warnings of the rules 1 to 11, 13 and 15 to 18, in no certain order. A warning may be added more
 /// than once.
 ///
-/// Each point and each edge is looked at once.
+/// Each point and each edge is looked at once. An error says that memory ran out.
 pub fn push_warnings(graph: &Graph, kept: &Kept, into: &mut Vec<Warning>) -> Result<(), NoMemory>
     requires { length kept.now ≡ length graph.now.parts.points.items }
     ensures { OnOk result ((p : Program) → Checks p graph.now.parts kept.now → (w : WarningValue) → Contains into.new.items w ↔ (Contains into.old.items w ⊎ Warns p w.place w.rule w.a w.b × w.rule ≢ ALTERNATIVES_DISAGREE)) }

@@ -44,7 +44,7 @@ fn is_unframed(graph: &Graph, kept: &Kept, n: u32) -> bool
 }
 
 /// Adds a program's warnings of rule 21: calls, but those of `__fentry__`, that are made without a frame pointer set
-/// up.
+/// up. An error says that memory ran out.
 pub fn push_without_frame(
     graph: &Graph,
     kept: &Kept,

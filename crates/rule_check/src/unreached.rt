@@ -7,7 +7,7 @@ ghost use Rattle.checker_defs.specs.Broken.{IsFirstUnreached, IsUnreached, is_pa
 ghost use Rattle.program_graph.specs.Tells.{Tells};
 ghost use Rattle.rule_check.specs.Checks.{Checks};
 ghost use Rattle.rule_check.specs.Telling.{IsTelling};
-ghost use Rattle.rule_check.specs.Gains.{Gains, bare_warning as bare};
+ghost use Rattle.rule_check.specs.Gains.{bare_warning as bare};
 
 use crate::listing::{bare_warning, push_if};
 use branch_check::Kept;
@@ -73,7 +73,8 @@ fn is_first_unreached(graph: &Graph, kept: &Kept, n: u32) -> bool
 }
 
 /// Adds a program's warnings of rule 14: the first of some instructions of a function that aren't reached, but
-/// padding. Where rule 14 is checked no other rule may be broken, which the caller sees to.
+/// padding. Rule 14 is broken only where none of the rules 1 to 13 and 15 to 18 is, which is left to the caller. An error
+/// says that memory ran out.
 pub fn push_unreachable(graph: &Graph, kept: &Kept, into: &mut Vec<Warning>) -> Result<(), NoMemory>
     requires { length kept.now ≡ length graph.now.parts.points.items }
     ensures { OnOk result ((p : Program) → Checks p graph.now.parts kept.now → (w : WarningValue) → Contains into.new.items w ↔ (Contains into.old.items w ⊎ ((q : ℕ) × IsFirstUnreached p q × (w ≡ bare (p.place q) UNREACHABLE_INSTRUCTION)))) }
