@@ -1,0 +1,4 @@
+mod Pushing
+mod Going
+mod Within
+pub mod Inside

@@ -1,0 +1,109 @@
+//! The edges of direct and indirect jumps.
+
+ghost use Rattle.std.specs.Prelude.{◌≡◌, ◌<◌, ◌++◌, length, OnOk};
+ghost use Rattle.flow_defs.specs.Code.{point_at, points_of_object};
+ghost use Rattle.flow_defs.specs.Edges.{aim_edges, branch_edges_by, table_edges_by, target_edges};
+
+use crate::owners::is_same_owner;
+use crate::ways::{push_entries, push_jump};
+use alternatives::Point;
+use branch_ways::aim;
+use flow_defs::Aim;
+use flow_points::FlowPoints;
+use operation_defs::{Insn, Op};
+use ot_base::NoMemory;
+use program_defs::{Edge, EdgeKind};
+use std::alloc::Global;
+use symbols_relocs::Target;
+
+/// Pushes the edges of a direct jump to another point of its replacement.
+fn push_within(
+    points: &FlowPoints<'_, '_, '_>,
+    n: u32,
+    other: Point,
+    into: &mut Vec<Edge>,
+) -> Result<(), NoMemory>
+    requires { n < length (points_of_object points.now) }
+    ensures { OnOk result (into.new.items ≡ into.old.items ++ aim_edges points.now (point_at points.now n) (Aim.Within other)) }
+{
+    let places = points.places();
+    let Some(to) = places.number_of(other) else {
+        return Ok(());
+    };
+    if is_same_owner(places.owner(n), places.owner(to)) {
+        let kind = EdgeKind::Taken;
+        into.push(Edge { to, kind })?;
+    }
+    Ok(())
+}
+
+/// Pushes the edges of a direct jump to a target.
+fn push_target(
+    alloc: Global,
+    points: &FlowPoints<'_, '_, '_>,
+    n: u32,
+    target: Target,
+    into: &mut Vec<Edge>,
+) -> Result<(), NoMemory>
+    requires { n < length (points_of_object points.now) }
+    ensures { OnOk result (into.new.items ≡ into.old.items ++ target_edges points.now (point_at points.now n) target) }
+{
+    match target {
+        Target::Inside(place) => push_jump(alloc, points, true, n, place, into),
+        Target::Either(place, _) => push_jump(alloc, points, true, n, place, into),
+        _ => Ok(()),
+    }
+}
+
+/// Pushes the edges of a direct jump by where it goes.
+fn push_aim(
+    alloc: Global,
+    points: &FlowPoints<'_, '_, '_>,
+    n: u32,
+    to: Aim,
+    into: &mut Vec<Edge>,
+) -> Result<(), NoMemory>
+    requires { n < length (points_of_object points.now) }
+    ensures { OnOk result (into.new.items ≡ into.old.items ++ aim_edges points.now (point_at points.now n) to) }
+{
+    match to {
+        Aim::At(target) => push_target(alloc, points, n, target, into),
+        Aim::Within(other) => push_within(points, n, other, into),
+        Aim::Behind(place) => push_jump(alloc, points, false, n, place, into),
+    }
+}
+
+/// Pushes the edges of the direct jump at a point. Any other instruction has none.
+pub(crate) fn push_branch(
+    alloc: Global,
+    points: &FlowPoints<'_, '_, '_>,
+    n: u32,
+    insn: Insn,
+    into: &mut Vec<Edge>,
+) -> Result<(), NoMemory>
+    requires { n < length (points_of_object points.now) }
+    ensures { OnOk result (into.new.items ≡ into.old.items ++ branch_edges_by points.now (point_at points.now n) insn insn.op) }
+{
+    if !matches!(insn.op, Op::Jmp { .. } | Op::Jcc { .. }) {
+        return Ok(());
+    }
+    let to = aim(points.places(), n, insn);
+    push_aim(alloc, points, n, to, into)
+}
+
+/// Pushes the edges of the indirect jump with this operation through its table. Any other operation has none.
+pub(crate) fn push_table(
+    alloc: Global,
+    points: &FlowPoints<'_, '_, '_>,
+    n: u32,
+    op: Op,
+    into: &mut Vec<Edge>,
+) -> Result<(), NoMemory>
+    requires { n < length (points_of_object points.now) }
+    ensures { OnOk result (into.new.items ≡ into.old.items ++ table_edges_by points.now (point_at points.now n) op) }
+{
+    if !matches!(op, Op::JmpInd { .. }) {
+        return Ok(());
+    }
+    push_entries(alloc, points, n, points.table(n), into)
+}
