@@ -52,7 +52,7 @@ with_tables_object o rows = with_orc_object (with_symbols o rows) rows
 abbrev pub symbols_needed : Elf → List PlacedRow → ℕ
 symbols_needed o rows = length o.symbols + length (needed_symbols o rows)
 
--- The object stands in its bytes, and may have tables, with few enough symbols.
+-- The object is what its bytes say and may have tables, with which it has few enough symbols.
 pub record IsFit (o : Elf) (rows : List PlacedRow) : Type 0 where
   pub bytes : AreBytes o.bytes
   pub object : IsObject o.bytes o
