@@ -1,0 +1,84 @@
+-- The order of places, and of points in a list.
+use Rattle.std.proofs.Common.{◌≡◌, ℕ, ◌<◌, ◌≤◌, true, false, not, ◌&&◌, ◌||◌, eqb, ltb, List, length, get_or, inl, inr, arith, ap, sym, subst}
+use Rattle.std.specs.List.{AllPairs}
+use Rattle.std.specs.List.Sorted.{IsPartitionedBy}
+use Rattle.std.proofs.lemmas.Bool.{both_ways, cases_lt, cases_Bool, not-true}
+use Rattle.std.proofs.lemmas.Bool.Decides.{nat_tests}
+use Rattle.ot_base.specs.declared.place.Place.{Place}
+use Rattle.site_points.specs.Sites.{is_before}
+use Rattle.site_points.specs.Points.{ComesBefore}
+use Rattle.site_points.specs.declared.points.SitePoint.{SitePoint}
+use Rattle.site_points.proofs.Order.{first_of_places}
+
+itself : (a b : ℕ) → (ltb a a || (eqb a a && ltb b b)) ≡ true → ⊥
+itself a b h = grind (arith, nat_tests)
+
+-- no place is before itself
+pub not_before_itself : (a : Place) → is_before a a ≡ true → ⊥
+not_before_itself a h = itself a.sec a.off h
+
+-- nor before one that it is equal to
+pub not_before_equal : (a b : Place) → a ≡ b → is_before a b ≡ true → ⊥
+not_before_equal a b e h = not_before_itself b (subst (λ (z : Place). is_before z b ≡ true) e h)
+
+pub equal_not_before : (a b : Place) → a ≡ b → is_before a b ≡ false
+equal_not_before a b e = elim (cases_Bool (is_before a b)) [ inl h ↦ absurd (not_before_equal a b e h) | inr h ↦ h ]
+
+both : (a b c d : ℕ) → (ltb a c || (eqb a c && ltb b d)) ≡ true → (ltb c a || (eqb c a && ltb d b)) ≡ true → ⊥
+both a b c d h k = grind (arith, nat_tests)
+
+-- of two places not each is before the other
+pub not_both : (a b : Place) → is_before a b ≡ true → is_before b a ≡ true → ⊥
+not_both a b h k = both a.sec a.off b.sec b.off h k
+
+pub before_not_after : (a b : Place) → is_before a b ≡ true → is_before b a ≡ false
+before_not_after a b h = elim (cases_Bool (is_before b a)) [ inl k ↦ absurd (not_both a b h k) | inr k ↦ k ]
+
+through : (a b c d e f : ℕ) → (ltb a c || (eqb a c && ltb b d)) ≡ true → (ltb c e || (eqb c e && ltb d f)) ≡ true → (ltb a e || (eqb a e && ltb b f)) ≡ true
+through a b c d e f h k = grind (arith, nat_tests)
+
+pub before_through : (a b c : Place) → is_before a b ≡ true → is_before b c ≡ true → is_before a c ≡ true
+before_through a b c h k = through a.sec a.off b.sec b.off c.sec c.off h k
+
+lower_too : (a b c d e f : ℕ) → (ltb a c || (eqb a c && ltb b d)) ≡ false → (ltb c e || (eqb c e && ltb d f)) ≡ false → (ltb a e || (eqb a e && ltb b f)) ≡ false
+lower_too a b c d e f h k = grind (arith, nat_tests)
+
+-- a place that isn't before another, which isn't before a third, isn't before that
+pub not_before_through : (a b c : Place) → is_before a b ≡ false → is_before b c ≡ false → is_before a c ≡ false
+not_before_through a b c h k = lower_too a.sec a.off b.sec b.off c.sec c.off h k
+
+before_too : (a b c d e f : ℕ) → (ltb c a || (eqb c a && ltb d b)) ≡ true → (ltb c e || (eqb c e && ltb d f)) ≡ false → (ltb e a || (eqb e a && ltb f b)) ≡ true
+before_too a b c d e f h k = grind (arith, nat_tests)
+
+-- what isn't behind a place that is before another is before that
+pub before_by : (a b c : Place) → is_before b a ≡ true → is_before b c ≡ false → is_before c a ≡ true
+before_by a b c h k = before_too a.sec a.off b.sec b.off c.sec c.off h k
+
+-- of two places neither of which is before the other, they are one
+pub neither_before : (a b : Place) → is_before a b ≡ false → is_before b a ≡ false → a ≡ b
+neither_before a b h k = elim (first_of_places a b) [
+  | inl l ↦ absurd (both_ways (is_before a b) h l)
+  | inr m ↦ elim m [ inl l ↦ absurd (both_ways (is_before b a) k l) | inr e ↦ e ]
+]
+
+-- what comes before another runs no later
+pub comes_no_later : (x y : SitePoint) → ComesBefore x y → is_before y.address x.address ≡ false
+comes_no_later x y (inl h) = before_not_after x.address y.address h
+comes_no_later x y (inr (e, l)) = equal_not_before y.address x.address (sym e)
+
+module _ (points : List SitePoint) (up : AllPairs ComesBefore points) where
+  -- a later element runs no earlier
+  pub runs_no_later : (i j : ℕ) (d : SitePoint) → i ≤ j → j < length points → is_before (get_or points j d).address (get_or points i d).address ≡ false
+  runs_no_later i j d order inside = elim (cases_lt i j) [
+    | inl l ↦ comes_no_later (get_or points i d) (get_or points j d) (up i j d l inside)
+    | inr l ↦ let e : i ≡ j = omega arith in equal_not_before (get_or points j d).address (get_or points i d).address (ap (λ (k : ℕ). (get_or points k d).address) (sym e))
+  ]
+
+  -- those that run at a place or before it stand in front
+  pub up_to_parted : (place : Place) → IsPartitionedBy (λ (x : SitePoint). not (is_before place x.address)) points
+  up_to_parted place i j d order inside h =
+      ap not (not_before_through place (get_or points j d).address (get_or points i d).address (not-true (is_before place (get_or points j d).address) h) (runs_no_later i j d order inside))
+
+  -- and those that run before it
+  pub before_parted : (place : Place) → IsPartitionedBy (λ (x : SitePoint). is_before x.address place) points
+  before_parted place i j d order inside h = before_by place (get_or points j d).address (get_or points i d).address h (runs_no_later i j d order inside)
