@@ -1,0 +1,4 @@
+//! What holds of the code of every object in order: it is known by symbols.
+#![tactic(auto)]
+
+pub mod laws;
