@@ -34,15 +34,16 @@ pub record HaveOtherRows (states : ℕ → Option State) (q r : ℕ) : Type 0 wh
 abbrev pub IsOutOfForce : (ℕ → Option State) → List SitePoint → SitePoint → ℕ → Type 0
 IsOutOfForce states points x n = (y : SitePoint) × IsInForceAt points (ahead_of x.address n) y × HaveOtherRows states y.point x.point
 
--- it lies within 63 bits from the start of the point's site
+-- that byte lies fewer than 2^63 bytes behind the start of the point's site
 pub record FitsOffset (x : SitePoint) (n : ℕ) : Type 0 where
   pub start : x.site.start.off ≤ x.address.off
   pub fits : x.address.off + n < x.site.start.off + 2 ^ 63
 
--- the warning that tells it
+-- the warning that variants disagree there
 abbrev pub disagreement : SitePoint → ℕ → Warning
 disagreement x n = numbered_warning x.site.start ALTERNATIVES_DISAGREE (pos (x.address.off + n - x.site.start.off)) (pos 0)
 
+-- where it isn't, that is the warning
 abbrev pub Disagrees : (ℕ → Option State) → List SitePoint → SitePoint → ℕ → Warning → Type 0
 Disagrees states points x n w = IsOutOfForce states points x n × w ≡ disagreement x n
 
