@@ -1,0 +1,3 @@
+pub mod Checkable
+pub mod Asked
+pub mod Verdict

@@ -1,0 +1,64 @@
+//! Programs in which no rule is broken.
+
+ghost use Rattle.std.specs.Prelude.{◌≡◌, ◌<◌, IfOk, length};
+ghost use Rattle.program_defs.specs.Program.{Program};
+ghost use Rattle.checker_defs.specs.Broken.{IsAccepted};
+ghost use Rattle.checker_defs.specs.Rows.{rows_of};
+ghost use Rattle.branch_check.specs.LevelStates.{at};
+ghost use Rattle.program_check.specs.Checkable.{AreOfSomeAccepted, IsCheckable};
+
+use branch_check::Kept;
+use ot_base::{NoMemory, PlacedRow};
+use program_graph::Graph;
+use state_defs::State;
+use std::alloc::Global;
+
+/// The graph and the kept states of a program in which no rule is broken. [`check`](crate::check) alone makes one, so
+/// whoever has one has a program that was checked.
+///
+/// Contracts see it as its graph and its states.
+#[derive(Drop)]
+pub struct Checked {
+    graph: Graph,
+    kept: Kept,
+    pub ghost accepted: { AreOfSomeAccepted graph.parts kept },
+}
+
+impl Checked {
+    /// What was checked and accepted.
+    pub(crate) fn new(graph: Graph, kept: Kept) -> Checked
+        requires { AreOfSomeAccepted graph.parts kept }
+        ensures graph { result.graph.parts ≡ graph.parts }
+        ensures kept { result.kept ≡ kept }
+    {
+        Checked { graph, kept }
+    }
+
+    /// The graph of the program.
+    pub fn graph(&self) -> &Graph
+        ensures { result.now.parts ≡ self.now.graph.parts }
+    {
+        &self.graph
+    }
+
+    /// The state that is kept at a point, if one is.
+    pub fn state(&self, n: u32) -> Option<State>
+        requires { n < length self.now.graph.parts.points.items }
+        ensures { result ≡ at self.now.kept n }
+    {
+        self.kept.state(n)
+    }
+
+    /// The rows of the program's ORC table: section by section in ascending order, and in each by offset, without those
+    /// that are equal to the one before. A section that has a row ends with one that says that nothing is known behind it.
+    ///
+    /// # Errors
+    ///
+    /// [`NoMemory`] may come at any program.
+    pub fn rows(&self, alloc: Global) -> Result<Vec<PlacedRow>, NoMemory>
+        ensures each { IfOk result (λ rows. (p : Program) → IsCheckable p self.now.graph.parts self.now.kept → IsAccepted p → rows.items ≡ rows_of p (at self.now.kept)) }
+        ensures some { IfOk result (λ rows. ∥ ((p : Program) × IsCheckable p self.now.graph.parts self.now.kept × IsAccepted p × (rows.items ≡ rows_of p (at self.now.kept))) ∥₁) }
+    {
+        orc_build::rows(alloc, &self.graph, &self.kept)
+    }
+}
