@@ -2,5 +2,7 @@
 #![tactic(auto)]
 
 mod entered;
+mod preceding;
 
 pub use entered::entry_at;
+pub use preceding::previous;

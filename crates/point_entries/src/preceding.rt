@@ -1,0 +1,61 @@
+//! The point right before a point.
+
+ghost use Rattle.std.specs.Prelude.{◌≡◌, ◌<◌, ◌≤◌, ℕ, length, slice_index_or};
+ghost use Rattle.alternatives.specs.Texts.{AscendBySection};
+ghost use Rattle.alternatives.specs.declared.texts.SectionText.{SectionText};
+ghost use Rattle.flow_defs.specs.Code.{point_at, points_of_object};
+ghost use Rattle.flow_defs.specs.Program.{previous_of};
+ghost use Rattle.point_entries.specs.Gapless.{IsGapless, IsLastBefore};
+
+use alternatives::{Point, SectionText};
+use ot_base::Place;
+use point_places::PointPlaces;
+use x86_text::Text;
+
+/// The law that a text has no gaps between its instructions.
+fn text_is_gapless(text: &Text<'_>)
+    ensures { IsGapless text.now }
+{
+    text.count();
+}
+
+/// How many of these are of sections below one.
+fn count_below(texts: &[SectionText<'_>], sec: u32) -> usize
+    requires { AscendBySection texts.now }
+    ensures within { result ≤ length texts.now }
+    ensures below { (k : ℕ) (d : SectionText) → k < result → (slice_index_or texts.now k d).sec < sec }
+    ensures above { (k : ℕ) (d : SectionText) → result ≤ k → k < length texts.now → sec ≤ (slice_index_or texts.now k d).sec }
+{
+    texts.partition_point(|text| text.sec < sec)
+}
+
+/// The offset of the last instruction of its section that begins before a place.
+fn last_before(texts: &[SectionText<'_>], place: Place) -> Option<u64>
+    requires { AscendBySection texts.now }
+    ensures { IsLastBefore texts.now place result }
+{
+    let at = count_below(texts, place.sec);
+    if at >= texts.len() {
+        return None;
+    }
+    let text = &texts[at];
+    if text.sec != place.sec {
+        return None;
+    }
+    text_is_gapless(&text.text);
+    text.text.prev(place.off)
+}
+
+/// The plain point right before a plain point: the instruction of its section that ends where it begins.
+pub fn previous(places: &PointPlaces<'_, '_, '_>, n: u32) -> Option<u32>
+    requires { n < length (points_of_object places.now) }
+    ensures { result ≡ previous_of places.now (point_at places.now n) }
+{
+    let point = places.point(n);
+    if point.variant != 0 {
+        return None;
+    }
+    let off = last_before(places.linked().texts(), point.place)?;
+    let place = Place { off, ..point.place };
+    places.number_of(Point { place, variant: 0 })
+}
