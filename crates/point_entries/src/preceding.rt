@@ -46,7 +46,8 @@ fn last_before(texts: &[SectionText<'_>], place: Place) -> Option<u64>
     text.text.prev(place.off)
 }
 
-/// The plain point right before a plain point: the instruction of its section that ends where it begins.
+/// The plain point right before a plain point: the instruction of its section that ends where it begins. There is none
+/// before the first instruction of a section, and none is told of a point of a replacement.
 pub fn previous(places: &PointPlaces<'_, '_, '_>, n: u32) -> Option<u32>
     requires { n < length (points_of_object places.now) }
     ensures { result ≡ previous_of places.now (point_at places.now n) }
