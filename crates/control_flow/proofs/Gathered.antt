@@ -1,0 +1,130 @@
+-- Roles, dead ends, entries and edges, of one point more.
+use Rattle.std.proofs.Common.{◌≡◌, ℕ, ◌+◌, ◌-◌, ◌^◌, ◌<◌, ◌≤◌, Bool, List, [], ◌∷◌, ◌++◌, Option, Some, None, All, length, get_or, inl, inr, refl, sym, ap, ◌∙◌, subst, arith, length-append}
+use Rattle.std.specs.Prelude.{◌↔◌, IfSome, slice_index, slice_range}
+use Rattle.std.proofs.lemmas.Bool.{cases_lt}
+use Rattle.std.proofs.lemmas.List.{get_or_append_left, get_or_push, length_push}
+use Rattle.std.proofs.lemmas.List.Elements.{All-append, All-nil, All-push}
+use Rattle.elf_objects.specs.Elf.{Elf}
+use Rattle.program_defs.specs.declared.flow.Edge.{Edge}
+use Rattle.program_defs.specs.declared.flow.Role.{Role}
+use Rattle.flow_defs.specs.Arrival.{is_dead_end}
+use Rattle.flow_defs.specs.Code.{point_at}
+use Rattle.flow_defs.specs.Edges.{goes}
+use Rattle.flow_defs.specs.Roles.{role_of}
+use Rattle.return_search.proofs.Ranges.{range_new, range_push}
+use Rattle.point_entries.specs.Entered.{IsEnteredAt}
+use Rattle.control_flow.specs.Listed.{AreDeadEnds, AreEdges, AreEntered, AreRoles, CallsPoint, IsPointIfAny, count_of}
+use Rattle.control_flow.proofs.Steps.{each_more}
+
+pub no_roles : (o : Elf) → AreRoles o [] 0
+no_roles o = record { long = refl; each = λ q d l. absurd (omega arith); known = All-nil (CallsPoint o) }
+
+pub roles_more : (o : Elf) (roles : List Role) (n : ℕ) (role : Role) → AreRoles o roles n → role ≡ role_of o (point_at o n) → CallsPoint o role → AreRoles o (roles ++ role ∷ []) (n + 1)
+roles_more o roles n role are here known = record {
+  long = omega (arith, length_push roles role, are.long);
+  each = each_more (λ q. role_of o (point_at o q)) roles role n are.long are.each here;
+  known = All-push (CallsPoint o) roles role are.known known;
+}
+
+pub no_dead_ends : (o : Elf) → AreDeadEnds o [] 0
+no_dead_ends o = record { long = refl; each = λ q d l. absurd (omega arith) }
+
+pub dead_ends_more : (o : Elf) (dead_ends : List Bool) (n : ℕ) (is : Bool) → AreDeadEnds o dead_ends n → is ≡ is_dead_end o (point_at o n) → AreDeadEnds o (dead_ends ++ is ∷ []) (n + 1)
+dead_ends_more o dead_ends n is are here = record {
+  long = omega (arith, length_push dead_ends is, are.long);
+  each = each_more (λ q. is_dead_end o (point_at o q)) dead_ends is n are.long are.each here;
+}
+
+pub no_entered : (o : Elf) → AreEntered o [] 0
+no_entered o = record { long = refl; each = λ q entry l. absurd (omega arith); known = All-nil (IsPointIfAny o) }
+
+-- an entry that is told is a point
+pub known_entry : (o : Elf) (found : Option ℕ) → IfSome found (λ entry. entry < count_of o) → IsPointIfAny o found
+known_entry o None known entry e = absurd (let z : ⊥ = cc in z)
+known_entry o (Some k) known entry e = let same : k ≡ entry = cc in subst (λ (n : ℕ). n < count_of o) same known
+
+pub entered_more : (o : Elf) (entered : List (Option ℕ)) (n : ℕ) (found : Option ℕ) → AreEntered o entered n → ((entry : ℕ) → IsEnteredAt o entry n ↔ (found ≡ Some entry)) → IsPointIfAny o found → AreEntered o (entered ++ found ∷ []) (n + 1)
+entered_more o entered n found are here known = record {
+  long = omega (arith, length_push entered found, are.long);
+  each = each;
+  known = All-push (IsPointIfAny o) entered found are.known known;
+}
+  where
+    each : (q entry : ℕ) → q < n + 1 → IsEnteredAt o entry q ↔ (get_or (entered ++ found ∷ []) q None ≡ Some entry)
+    each q entry below = elim (cases_lt q n) [
+      | inl less ↦
+          let at : get_or (entered ++ found ∷ []) q None ≡ get_or entered q None = get_or_append_left entered (found ∷ []) None q (omega (arith, are.long)) in
+          subst (λ (x : Option ℕ). IsEnteredAt o entry q ↔ (x ≡ Some entry)) (sym at) (are.each q entry less)
+      | inr more ↦
+          let same : q ≡ n = omega arith in
+          let at : get_or (entered ++ found ∷ []) q None ≡ found = get_or_push entered found None q (are.long ∙ sym same) in
+          subst (λ (x : Option ℕ). IsEnteredAt o entry q ↔ (x ≡ Some entry)) (sym at) (subst (λ (k : ℕ). IsEnteredAt o entry k ↔ (found ≡ Some entry)) (sym same) (here entry))
+    ]
+
+pub no_edges : (o : Elf) → AreEdges o (0 ∷ []) [] 0
+no_edges o = record {
+  long = omega arith;
+  first = refl;
+  end = refl;
+  few = omega arith;
+  ascending = λ q l. absurd (omega arith);
+  within = λ q l. absurd (omega arith);
+  each = λ q l. absurd (omega arith);
+  targets = All-nil (λ (e : Edge). e.to < count_of o);
+}
+
+module _ (o : Elf) (starts : List ℕ) (edges : List Edge) (n : ℕ) (are : AreEdges o starts edges n) where
+  abbrev new : List Edge
+  new = goes o (point_at o n)
+
+  abbrev all_starts : List ℕ
+  all_starts = starts ++ length (edges ++ new) ∷ []
+
+  start_old : (q : ℕ) → q < n + 1 → slice_index all_starts q ≡ slice_index starts q
+  start_old q l = get_or_append_left starts (length (edges ++ new) ∷ []) 0 q (omega (arith, are.long))
+
+  start_new : slice_index all_starts (n + 1) ≡ length (edges ++ new)
+  start_new = get_or_push starts (length (edges ++ new)) 0 (n + 1) are.long
+
+  longer : length edges ≤ length (edges ++ new)
+  longer = omega (arith, length-append edges new)
+
+  ascending : (q : ℕ) → q < n + 1 → slice_index all_starts q ≤ slice_index all_starts (q + 1)
+  ascending q l = elim (cases_lt q n) [
+    | inl less ↦ omega (arith, start_old q l, start_old (q + 1) (omega arith), are.ascending q less)
+    | inr more ↦ let same : q ≡ n = omega arith in subst (λ (k : ℕ). slice_index all_starts k ≤ slice_index all_starts (k + 1)) (sym same) (omega (arith, start_old n (omega arith), start_new, are.end, longer))
+  ]
+
+  within : (q : ℕ) → q < n + 1 → slice_index all_starts (q + 1) ≤ length (edges ++ new)
+  within q l = elim (cases_lt q n) [
+    | inl less ↦ omega (arith, start_old (q + 1) (omega arith), are.within q less, longer)
+    | inr more ↦ let same : q ≡ n = omega arith in subst (λ (k : ℕ). slice_index all_starts (k + 1) ≤ length (edges ++ new)) (sym same) (omega (arith, start_new))
+  ]
+
+  range_old : (q : ℕ) → q < n → slice_range (edges ++ new) (slice_index all_starts q) (slice_index all_starts (q + 1)) ≡ slice_range edges (slice_index starts q) (slice_index starts (q + 1))
+  range_old q l =
+      ap (λ (a : ℕ). slice_range (edges ++ new) a (slice_index all_starts (q + 1))) (start_old q (omega arith))
+      ∙ (ap (slice_range (edges ++ new) (slice_index starts q)) (start_old (q + 1) (omega arith)) ∙ range_push edges new (slice_index starts q) (slice_index starts (q + 1)) (are.ascending q l) (are.within q l))
+
+  range_last : slice_range (edges ++ new) (slice_index all_starts n) (slice_index all_starts (n + 1)) ≡ new
+  range_last =
+      ap (λ (a : ℕ). slice_range (edges ++ new) a (slice_index all_starts (n + 1))) (start_old n (omega arith) ∙ are.end)
+      ∙ (ap (slice_range (edges ++ new) (length edges)) start_new ∙ range_new edges new)
+
+  each : (q : ℕ) → q < n + 1 → slice_range (edges ++ new) (slice_index all_starts q) (slice_index all_starts (q + 1)) ≡ goes o (point_at o q)
+  each q l = elim (cases_lt q n) [
+    | inl less ↦ range_old q less ∙ are.each q less
+    | inr more ↦ let same : q ≡ n = omega arith in subst (λ (k : ℕ). slice_range (edges ++ new) (slice_index all_starts k) (slice_index all_starts (k + 1)) ≡ goes o (point_at o k)) (sym same) range_last
+  ]
+
+  pub edges_more : length (edges ++ new) < 2 ^ 32 → All (λ e. e.to < count_of o) new → AreEdges o (starts ++ length (edges ++ new) ∷ []) (edges ++ new) (n + 1)
+  edges_more few inside = record {
+    long = omega (arith, length_push starts (length (edges ++ new)), are.long);
+    first = start_old 0 (omega arith) ∙ are.first;
+    end = start_new;
+    few = few;
+    ascending = ascending;
+    within = within;
+    each = each;
+    targets = All-append (λ (e : Edge). e.to < count_of o) edges new are.targets inside;
+  }

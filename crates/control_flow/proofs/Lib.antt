@@ -1,0 +1,9 @@
+pub mod Steps
+pub mod Gathered
+pub mod Bytes
+pub mod Fields
+pub mod Told
+pub mod RareSteps
+pub mod Meant
+pub mod Making
+pub mod Whole

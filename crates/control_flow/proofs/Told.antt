@@ -1,0 +1,97 @@
+-- A flow that has what is listed of the points tells their program.
+use Rattle.std.proofs.Common.{◌≡◌, ℕ, ◌+◌, ◌^◌, ◌<◌, ◌≤◌, Bool, true, false, cond, List, Option, Some, None, All, Contains, length, map, get_or, refl, sym, ap, ◌∙◌, subst, arith}
+use Rattle.std.specs.Prelude.{◌↔◌, slice_index}
+use Rattle.std.proofs.lemmas.List.{get_or-map, length-map}
+use Rattle.std.proofs.lemmas.List.Elements.{All-map, All-weaker}
+use Rattle.ot_base.specs.NameLists.{NameLists}
+use Rattle.elf_objects.specs.Elf.{Elf}
+use Rattle.program_defs.specs.declared.flow.Edge.{Edge}
+use Rattle.program_defs.specs.declared.flow.Role.{Role}
+use Rattle.program_defs.specs.declared.flow.Role.TheVariants as roles
+use Rattle.program_defs.specs.Program.{IsPoint, Program, entry_points}
+use Rattle.flow_defs.specs.Code.{point_at}
+use Rattle.flow_defs.specs.Arrival.{arrive}
+use Rattle.flow_defs.specs.Program.{entries_of, graph_of, never_returns_by, program_of, returning_graph}
+use Rattle.flow_defs.specs.Roles.{role_of}
+use Rattle.flow_law.proofs.Entries as of_entries
+use Rattle.return_search.specs.declared.flow.Exit.{Exit}
+use Rattle.return_search.specs.declared.flow.Exit.TheVariants as exits
+use Rattle.return_search.specs.declared.flow.Flow.{Flow}
+use Rattle.return_search.specs.Shape.{HasShape}
+use Rattle.return_search.specs.Told.{TellsFlow, exit_of, exit_at}
+use Rattle.point_entries.specs.Entered.{IsEnteredAt}
+use Rattle.control_flow.specs.Listed.{AreDeadEnds, AreEdges, AreEntered, AreRoles, CallsPoint, IsPointIfAny, count_of}
+use Rattle.control_flow.proofs.Steps.{all_at}
+
+by_name : (b : Bool) (x y : Exit) (entry : ℕ) → (x ≡ exits.Calls entry → ⊥) → (y ≡ exits.Calls entry → ⊥) → cond b x y ≡ exits.Calls entry → ⊥
+by_name true x y entry never back e = never e
+by_name false x y entry never back e = back e
+
+-- only the call of an entry calls one
+exit_calls : (p : Program) (role : Role) (entry : ℕ) → exit_of p role ≡ exits.Calls entry → role ≡ roles.CallIn entry
+exit_calls p roles.Plain entry e = absurd (let k : ⊥ = cc in k)
+exit_calls p (roles.CallIn own) entry e = let same : own ≡ entry = cc in ap roles.CallIn same
+exit_calls p (roles.CallEither own sym) entry e = absurd (let k : ⊥ = cc in k)
+exit_calls p (roles.CallOut sym) entry e = absurd (by_name (p.never_returns sym) exits.CallsNever exits.CallsOut entry (λ h. let k : ⊥ = cc in k) (λ h. let k : ⊥ = cc in k) e)
+exit_calls p roles.CallAny entry e = absurd (let k : ⊥ = cc in k)
+exit_calls p roles.Return entry e = absurd (let k : ⊥ = cc in k)
+exit_calls p (roles.JumpOut sym) entry e = absurd (by_name (p.never_returns sym) exits.Passes exits.Leaves entry (λ h. let k : ⊥ = cc in k) (λ h. let k : ⊥ = cc in k) e)
+exit_calls p roles.JumpAny entry e = absurd (let k : ⊥ = cc in k)
+exit_calls p roles.Switch entry e = absurd (let k : ⊥ = cc in k)
+
+-- an exit calls a point, if it calls any entry
+abbrev ExitCallsPoint : Elf → Exit → Type 0
+ExitCallsPoint o x = (entry : ℕ) → x ≡ exits.Calls entry → entry < count_of o
+
+module _ (o : Elf) (lists : NameLists) (flow : Flow) (all_roles : List Role)
+    (are : AreRoles o all_roles (count_of o))
+    (edges : AreEdges o flow.starts.items flow.edges.items (count_of o))
+    (leave : flow.exits.items ≡ map (exit_of (program_of o lists)) all_roles)
+    (dead : AreDeadEnds o flow.dead_ends.items (count_of o))
+    (entered : AreEntered o flow.entered.items (count_of o)) where
+  pub flow_count : length flow.exits.items ≡ count_of o
+  flow_count = ap length leave ∙ (length-map all_roles (exit_of (program_of o lists)) ∙ are.long)
+
+  exit_is : (q : ℕ) → q < count_of o → exit_of (program_of o lists) (role_of o (point_at o q)) ≡ exit_at flow q
+  exit_is q here =
+      ap (exit_of (program_of o lists)) (sym (are.each q roles.Plain here))
+      ∙ (sym (get_or-map (exit_of (program_of o lists)) all_roles q roles.Plain exits.Passes (omega (arith, are.long)))
+      ∙ ap (λ (xs : List Exit). get_or xs q exits.Passes) (sym leave))
+
+  entered_is : (call entry q : ℕ) → IsPoint (program_of o lists) call → (program_of o lists).role call ≡ roles.CallIn entry → q < count_of o → Contains (entry_points (program_of o lists) entry) q ↔ (get_or flow.entered.items q None ≡ Some entry)
+  unfolding program_of returning_graph graph_of
+  entered_is call entry q at calls here = (
+    λ c. (entered.each q entry here).0 (record { listed = of_entries.calls_entry o lists call entry at calls; stands = c }),
+    λ e. ((entered.each q entry here).1 e).stands,
+  )
+
+  pub tells_flow : TellsFlow (program_of o lists) flow
+  unfolding program_of returning_graph graph_of
+  tells_flow = record {
+    count = sym flow_count;
+    edges = λ q here. sym (edges.each q here);
+    exits = λ q here. exit_is q here;
+    dead_ends = λ q here. sym (dead.each q false here);
+    entered = λ call entry q at calls here. entered_is call entry q at calls here;
+  }
+
+  calls_points : All (ExitCallsPoint o) flow.exits.items
+  calls_points =
+      subst (All (ExitCallsPoint o)) (sym leave)
+      (All-map (ExitCallsPoint o) (exit_of (program_of o lists)) all_roles
+      (All-weaker (CallsPoint o) (λ role. ExitCallsPoint o (exit_of (program_of o lists) role)) (λ role known entry e. known entry (exit_calls (program_of o lists) role entry e)) all_roles are.known))
+
+  pub has_shape : count_of o < 2 ^ 32 → HasShape flow
+  has_shape few = record {
+    few = omega (arith, flow_count, few);
+    few_edges = edges.few;
+    starts = omega (arith, edges.long, flow_count);
+    first = edges.first;
+    ascending = λ q l. edges.ascending q (omega (arith, flow_count));
+    last = ap (slice_index flow.starts.items) flow_count ∙ edges.end;
+    targets = subst (λ (n : ℕ). All (λ (e : Edge). e.to < n) flow.edges.items) (sym flow_count) edges.targets;
+    calls = λ q entry e. subst (λ (n : ℕ). entry < n) (sym flow_count) (all_at (ExitCallsPoint o) flow.exits.items exits.Passes q calls_points (λ other h. absurd (let k : ⊥ = cc in k)) entry e);
+    entries = λ q entry e. subst (λ (n : ℕ). entry < n) (sym flow_count) (all_at (IsPointIfAny o) flow.entered.items None q entered.known (λ other h. absurd (let k : ⊥ = cc in k)) entry e);
+    dead_ends = omega (arith, dead.long, flow_count);
+    entered = omega (arith, entered.long, flow_count);
+  }

@@ -1,0 +1,5 @@
+use Rattle.control_flow.specs.Rares.{AreRares}
+use Rattle.control_flow.proofs.rares.list_rares.Given as goal
+
+abbrev pub invariant-loop-n : goal.invariant-loop-n
+invariant-loop-n l = AreRares l.places l.hints.restores l.rares.items l.numbers.items l.n

@@ -1,0 +1,101 @@
+//! The control-flow graph of an object.
+
+ghost use Rattle.std.specs.Prelude.{◌≡◌, [], IfErr, IfOk, OnOk};
+ghost use Rattle.flow_defs.specs.Faults.{IsFirstFlowFault, flow_faults};
+ghost use Rattle.flow_defs.specs.Program.{program_of};
+ghost use Rattle.program_graph.specs.Shape.{HaveShape};
+ghost use Rattle.program_graph.specs.Tells.{Tells};
+
+use crate::listed::list_roles;
+use crate::points::list_points;
+use crate::rares::{RareList, list_rares, restores_are_points};
+use crate::returning::returns_of;
+use flow_defs::FlowFault;
+use flow_faults::check_flow;
+use flow_points::FlowPoints;
+use hint_points::HintPoints;
+use object_code::Linked;
+use ot_base::{Lists, NoMemory};
+use point_arrivals::PointArrivals;
+use point_fields::{OwnerTable, list_texts, list_without_size};
+use point_places::PointPlaces;
+use program_graph::{Graph, GraphParts};
+use return_search::Returns;
+use site_places::list_sites;
+use std::alloc::Global;
+
+/// The parts of the graph of the points of an object.
+fn parts_of(
+    alloc: Global,
+    points: &FlowPoints<'_, '_, '_>,
+    lists: &Lists,
+) -> Result<GraphParts, NoMemory>
+    ensures tells { IfOk result (Tells (program_of points.now lists.now)) }
+    ensures shape { IfOk result HaveShape }
+{
+    let places = points.places();
+    let object = places.linked().object();
+    let roles = list_roles(alloc, points)?;
+    let returns = returns_of(alloc, points, lists, &roles)?;
+    let hints = HintPoints::build(alloc, places)?;
+    let owners = OwnerTable::build(alloc, places)?;
+    let RareList { rares, numbers } = list_rares(alloc, places, &hints)?;
+    let made = list_points(alloc, points, &owners, &roles, &returns, &numbers)?;
+    let sites = list_sites(alloc, places)?;
+    let texts = list_texts(alloc, object)?;
+    let without_size = list_without_size(alloc, object)?;
+    restores_are_points(&hints);
+    let Returns { starts, edges, .. } = returns;
+    Ok(GraphParts {
+        points: made,
+        starts,
+        edges,
+        owners: owners.into_owners(),
+        rares,
+        restores: hints.into_restores(),
+        sites,
+        texts,
+        without_size,
+    })
+}
+
+/// The graph of the points of an object.
+fn graph_of(
+    alloc: Global,
+    places: PointPlaces<'_, '_, '_>,
+    lists: &Lists,
+) -> Result<Graph, NoMemory>
+    ensures { IfOk result (λ graph. Tells (program_of places.entry lists.now) graph.parts) }
+{
+    let arrivals = PointArrivals::build(alloc, places)?;
+    let points = FlowPoints::build(alloc, arrivals)?;
+    Ok(Graph::new(parts_of(alloc, &points, lists)?))
+}
+
+/// The control-flow graph of an object whose code is read, where functions, lists of places and static branches are in
+/// order.
+///
+/// Names that never return are those of the lists. Each point is looked at a few times, and each edge. Beside the graph it
+/// takes some 60 bytes a point and 16 an edge, and gives them back.
+///
+/// # Errors
+///
+/// The first fault of functions, lists of places and static branches. [`FlowFault::NoMemory`] may come at any object.
+pub fn flow(
+    alloc: Global,
+    linked: &Linked<'_, '_>,
+    lists: &Lists,
+) -> Result<Graph, FlowFault>
+    ensures tells { IfOk result (λ graph. Tells (program_of linked.now lists.now) graph.parts) }
+    ensures right { OnOk result (flow_faults linked.now ≡ []) }
+    ensures err { IfErr result (IsFirstFlowFault linked.now) }
+{
+    let Ok(places) = PointPlaces::build(alloc, linked) else {
+        return Err(FlowFault::NoMemory);
+    };
+    check_flow(&places)?;
+    match graph_of(alloc, places, lists) {
+        Ok(graph) => Ok(graph),
+        Err(NoMemory) => Err(FlowFault::NoMemory),
+    }
+}

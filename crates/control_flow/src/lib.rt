@@ -1,0 +1,13 @@
+//! The control-flow graph of an object whose code is read.
+#![tactic(auto)]
+
+mod edges;
+mod graph;
+mod listed;
+mod order;
+mod points;
+mod rares;
+mod returning;
+
+pub use graph::flow;
+pub use order::object_is_in_order;

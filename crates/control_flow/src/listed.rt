@@ -1,0 +1,111 @@
+//! What the points are to their functions and to returns, by their numbers.
+
+ghost use Rattle.std.specs.Prelude.{◌≡◌, ◌<◌, IfOk, length, map};
+ghost use Rattle.flow_defs.specs.Program.{program_of};
+ghost use Rattle.return_search.specs.Told.{exit_of};
+ghost use Rattle.control_flow.specs.Listed.{AreDeadEnds, AreEntered, AreRoles, count_of};
+
+use elf_objects::Object;
+use flow_points::FlowPoints;
+use ot_base::{Lists, NoMemory};
+use point_entries::entry_at;
+use point_fields::never_returns;
+use point_places::PointPlaces;
+use point_roles::role;
+use program_defs::Role;
+use return_search::Exit;
+use std::alloc::Global;
+
+/// How many points there are.
+pub(crate) fn count_points(places: &PointPlaces<'_, '_, '_>) -> u32
+    ensures { result ≡ count_of places.now }
+{
+    places.linked().sites().points().len() as u32
+}
+
+/// What the points are to their functions.
+pub(crate) fn list_roles(
+    alloc: Global,
+    points: &FlowPoints<'_, '_, '_>,
+) -> Result<Vec<Role>, NoMemory>
+    ensures { IfOk result (λ roles. AreRoles points.now roles.items (count_of points.now)) }
+{
+    let count = count_points(points.places());
+    let mut roles = Vec::with_capacity(alloc, count as usize)?;
+    for n in 0..count {
+        let insn = points.arrivals().insn(alloc, n)?;
+        roles.push(role(points, n, insn))?;
+    }
+    Ok(roles)
+}
+
+/// What a point with this role is to a return.
+fn exit(object: &Object<'_>, lists: &Lists, role: Role) -> Exit
+    ensures { result ≡ exit_of (program_of object.now lists.now) role }
+{
+    match role {
+        Role::Return | Role::JumpAny => Exit::Leaves,
+        Role::JumpOut { sym } => {
+            if never_returns(object, lists, sym) {
+                Exit::Passes
+            } else {
+                Exit::Leaves
+            }
+        }
+        Role::CallIn { entry } => Exit::Calls { entry },
+        Role::CallOut { sym } => {
+            if never_returns(object, lists, sym) {
+                Exit::CallsNever
+            } else {
+                Exit::CallsOut
+            }
+        }
+        Role::CallEither { .. } | Role::CallAny => Exit::CallsOut,
+        Role::Plain | Role::Switch => Exit::Passes,
+    }
+}
+
+/// What points with these roles are to a return.
+pub(crate) fn list_exits(
+    alloc: Global,
+    object: &Object<'_>,
+    lists: &Lists,
+    roles: &[Role],
+) -> Result<Vec<Exit>, NoMemory>
+    ensures { IfOk result (λ exits. exits.items ≡ map (exit_of (program_of object.now lists.now)) roles.now) }
+{
+    Ok(roles
+        .iter()
+        .map(|role| exit(object, lists, *role))
+        .collect(alloc)?)
+}
+
+/// Whether execution never passes the points.
+pub(crate) fn list_dead_ends(
+    alloc: Global,
+    points: &FlowPoints<'_, '_, '_>,
+) -> Result<Vec<bool>, NoMemory>
+    ensures { IfOk result (λ dead_ends. AreDeadEnds points.now dead_ends.items (count_of points.now)) }
+{
+    let count = count_points(points.places());
+    let mut dead_ends = Vec::with_capacity(alloc, count as usize)?;
+    for n in 0..count {
+        dead_ends.push(points.arrivals().is_dead_end(n))?;
+    }
+    Ok(dead_ends)
+}
+
+/// The entries at which control comes to stand at the points.
+pub(crate) fn list_entered(
+    alloc: Global,
+    places: &PointPlaces<'_, '_, '_>,
+) -> Result<Vec<Option<u32>>, NoMemory>
+    ensures { IfOk result (λ entered. AreEntered places.now entered.items (count_of places.now)) }
+{
+    let count = count_points(places);
+    let mut entered = Vec::with_capacity(alloc, count as usize)?;
+    for n in 0..count {
+        entered.push(entry_at(places, n))?;
+    }
+    Ok(entered)
+}
