@@ -1,0 +1,235 @@
+//! Wrong targets, sites and RESTORE hints.
+
+use super::{Example, expect_all};
+use operation_defs::Op;
+use program_defs::{EdgeKind, Marks, Role};
+use stack_examples::lines::{Table, With};
+use state_defs::HintState;
+use std::test::Fail;
+
+/// A jump.
+const JMP: Op = Op::Jmp {
+    rel: 0,
+    wide: false,
+};
+
+/// A target is no place to go.
+const BAD: Marks = Marks {
+    bad: true,
+    past_end: false,
+    into_site: false,
+    into_function: false,
+};
+
+/// Execution runs off its section.
+const PAST_ITS_END: Marks = Marks {
+    bad: false,
+    past_end: true,
+    into_site: false,
+    into_function: false,
+};
+
+/// A target lies in a site.
+const INTO_A_SITE: Marks = Marks {
+    bad: false,
+    past_end: false,
+    into_site: true,
+    into_function: false,
+};
+
+/// It calls a place inside a function.
+const INTO_A_FUNCTION: Marks = Marks {
+    bad: false,
+    past_end: false,
+    into_site: false,
+    into_function: true,
+};
+
+/// Wrong targets.
+const TARGETS: [Example; 6] = [
+    Example {
+        name: "a jump to no place to go",
+        table: Table {
+            rows: &[(0, 1, Op::Push, &[]), (1, 2, JMP, &[With::Marks(BAD)])],
+            entries: &[0],
+            sites: &[],
+        },
+    },
+    Example {
+        name: "a nop at the end of its section",
+        table: Table {
+            rows: &[
+                (0, 1, Op::Push, &[]),
+                (1, 1, Op::Nop, &[With::Marks(PAST_ITS_END)]),
+            ],
+            entries: &[0],
+            sites: &[],
+        },
+    },
+    Example {
+        name: "a jump into a site",
+        table: Table {
+            rows: &[
+                (0, 1, Op::Push, &[]),
+                (1, 2, JMP, &[With::Marks(INTO_A_SITE)]),
+            ],
+            entries: &[0],
+            sites: &[],
+        },
+    },
+    Example {
+        name: "a call of a place inside a function",
+        table: Table {
+            rows: &[
+                (0, 1, Op::Push, &[]),
+                (1, 5, Op::Call { rel: 1 }, &[With::Marks(INTO_A_FUNCTION)]),
+            ],
+            entries: &[0],
+            sites: &[],
+        },
+    },
+    Example {
+        name: "a nop before a function that isn't checked",
+        table: Table {
+            rows: &[
+                (0, 1, Op::Nop, &[]),
+                (1, 1, Op::Ret, &[With::Of(1), With::Unchecked]),
+            ],
+            entries: &[0],
+            sites: &[],
+        },
+    },
+    Example {
+        name: "a branch around a push, to a return",
+        table: Table {
+            rows: &[
+                (
+                    0,
+                    2,
+                    Op::Jcc {
+                        rel: 1,
+                        wide: false,
+                    },
+                    &[With::To(3, EdgeKind::Taken)],
+                ),
+                (2, 1, Op::Push, &[]),
+                (3, 1, Op::Ret, &[]),
+            ],
+            entries: &[0],
+            sites: &[],
+        },
+    },
+];
+
+/// Wrong sites, and a function without a size.
+const SITES: [Example; 3] = [
+    Example {
+        name: "variants with different rows",
+        table: Table {
+            rows: &[
+                (0, 1, Op::Push, &[]),
+                (1, 1, Op::Pop, &[]),
+                (2, 1, Op::Ret, &[]),
+                (0, 1, Op::Nop, &[With::RunsAt(1, 0)]),
+                (1, 1, Op::Nop, &[With::RunsAt(1, 1)]),
+            ],
+            sites: &[(0, 2)],
+            entries: &[0],
+        },
+    },
+    Example {
+        name: "another row at a call's last byte",
+        table: Table {
+            rows: &[
+                (
+                    0,
+                    5,
+                    Op::Call { rel: 1 },
+                    &[With::Is(Role::CallIn { entry: 2 })],
+                ),
+                (5, 1, Op::Ret, &[]),
+                (6, 1, Op::Ret, &[With::Of(1)]),
+                (0, 1, Op::Nop, &[With::RunsAt(1, 0)]),
+                (1, 1, Op::Push, &[With::RunsAt(1, 1)]),
+                (2, 2, Op::Nop, &[With::RunsAt(1, 2)]),
+                (4, 1, Op::Pop, &[With::RunsAt(1, 4)]),
+            ],
+            entries: &[0, 2],
+            sites: &[(0, 5)],
+        },
+    },
+    Example {
+        name: "a function without a size",
+        table: Table {
+            rows: &[(0, 1, Op::Ret, &[With::WithoutSize])],
+            entries: &[0],
+            sites: &[],
+        },
+    },
+];
+
+/// RESTORE hints without a state.
+const RESTORES: [Example; 3] = [
+    Example {
+        name: "a RESTORE without a SAVE, in a site",
+        table: Table {
+            rows: &[
+                (0, 1, Op::Nop, &[With::Hint(HintState::Restore)]),
+                (1, 1, Op::Ret, &[]),
+                (0, 1, Op::Nop, &[With::RunsAt(1, 0)]),
+            ],
+            sites: &[(0, 1)],
+            entries: &[0],
+        },
+    },
+    Example {
+        name: "a RESTORE whose SAVE isn't reached",
+        table: Table {
+            rows: &[
+                (0, 1, Op::Nop, &[]),
+                (
+                    1,
+                    1,
+                    Op::Nop,
+                    &[With::Hint(HintState::Restore), With::SaveOf(3)],
+                ),
+                (2, 1, Op::Ret, &[]),
+                (3, 1, Op::Nop, &[With::Of(1), With::Hint(HintState::Save)]),
+                (4, 1, Op::Ret, &[With::Of(1)]),
+            ],
+            entries: &[0],
+            sites: &[],
+        },
+    },
+    Example {
+        name: "a RESTORE at an entry",
+        table: Table {
+            rows: &[
+                (
+                    0,
+                    1,
+                    Op::Nop,
+                    &[With::Hint(HintState::Restore), With::SaveOf(0)],
+                ),
+                (1, 1, Op::Ret, &[]),
+            ],
+            entries: &[0],
+            sites: &[],
+        },
+    },
+];
+
+#[test]
+fn targets(rt: HostRuntime) -> Result<(), Fail> {
+    expect_all(&rt, rt.alloc(), &TARGETS)
+}
+
+#[test]
+fn sites(rt: HostRuntime) -> Result<(), Fail> {
+    expect_all(&rt, rt.alloc(), &SITES)
+}
+
+#[test]
+fn restores(rt: HostRuntime) -> Result<(), Fail> {
+    expect_all(&rt, rt.alloc(), &RESTORES)
+}

@@ -1,0 +1,146 @@
+//! The parts of a graph, of a program of the plain reading.
+
+use checker_model::may_return;
+use ot_base::NoMemory;
+use program_defs::{EdgeKind, Role};
+use program_graph::{GraphParts, Owner, Point, Rare, Site, TextSection};
+use program_model::{Point as ModelPoint, Program};
+use state_defs::HintState;
+use std::alloc::{AllocError, Global};
+
+/// A place in a list, which has fewer than 2^32 elements.
+fn number(n: usize) -> u32 {
+    u32::try_from(n).unwrap_or(u32::MAX)
+}
+
+/// Whether what is called or jumped to by this role may return.
+fn comes_back(p: &Program, returning: &[bool], role: Role) -> bool {
+    match role {
+        Role::CallIn { entry } => (0u32..)
+            .zip(returning)
+            .any(|(q, returns)| *returns && p.enters(entry, q)),
+        Role::CallOut { sym } => !p.never_returns(sym),
+        _ => true,
+    }
+}
+
+/// Adds the RESTORE points that mean a point, and gives where they begin and end.
+fn add_restores(parts: &mut GraphParts, p: &Program, q: u32) -> Result<(u32, u32), AllocError> {
+    let from = number(parts.restores.len());
+    for (r, point) in (0u32..).zip(&p.points) {
+        if point.hint == Some(HintState::Restore) && point.save_of == Some(q) {
+            parts.restores.push(r)?;
+        }
+    }
+    Ok((from, number(parts.restores.len())))
+}
+
+/// Adds what few points have, where a point has it, and gives its number.
+fn add_rare(
+    parts: &mut GraphParts,
+    p: &Program,
+    q: u32,
+    point: &ModelPoint,
+) -> Result<Option<u32>, AllocError> {
+    let (restores_from, restores_to) = add_restores(parts, p, q)?;
+    let is_usual = point.hint.is_none()
+        && point.save_of.is_none()
+        && restores_from == restores_to
+        && point.variant == 0
+        && point.address == point.place;
+    if is_usual {
+        return Ok(None);
+    }
+    let number = number(parts.rares.len());
+    parts.rares.push(Rare {
+        hint: point.hint,
+        save_of: point.save_of,
+        restores_from,
+        restores_to,
+        variant: point.variant,
+        address: point.address,
+    })?;
+    Ok(Some(number))
+}
+
+/// Adds the edges of a point, without the Next of a call that can't come back.
+fn add_edges(
+    parts: &mut GraphParts,
+    p: &Program,
+    returning: &[bool],
+    point: &ModelPoint,
+) -> Result<(), AllocError> {
+    parts.starts.push(number(parts.edges.len()))?;
+    let comes_back = comes_back(p, returning, point.role);
+    for edge in &point.goes {
+        if comes_back || edge.kind != EdgeKind::Next {
+            parts.edges.push(*edge)?;
+        }
+    }
+    Ok(())
+}
+
+/// Adds a point, with an owner of its own.
+fn add_point(
+    parts: &mut GraphParts,
+    p: &Program,
+    returning: &[bool],
+    q: u32,
+    point: &ModelPoint,
+) -> Result<(), AllocError> {
+    let rare = add_rare(parts, p, q, point)?;
+    add_edges(parts, p, returning, point)?;
+    parts.owners.push(Owner {
+        function: point.function,
+        owner: point.owner,
+        is_unchecked: point.is_unchecked,
+    })?;
+    parts.points.push(Point {
+        insn: point.insn,
+        place: point.place,
+        previous: point.previous,
+        rare,
+        owner: q,
+        role: point.role,
+        marks: point.marks,
+        is_dead_end: point.is_dead_end,
+        may_return: returning.get(q as usize).copied().unwrap_or(false),
+        is_entered: p.is_entry_point(q),
+        calls_fentry: point.calls_fentry,
+    })?;
+    Ok(())
+}
+
+/// The parts without points.
+fn without_points(alloc: Global, p: &Program) -> Result<GraphParts, AllocError> {
+    let site = |site: &program_model::Site| Site {
+        start: site.start,
+        len: site.len,
+    };
+    let text = |text: &program_model::TextSection| TextSection {
+        sec: text.sec,
+        size: text.size,
+    };
+    Ok(GraphParts {
+        points: Vec::new(alloc),
+        starts: Vec::new(alloc),
+        edges: Vec::new(alloc),
+        owners: Vec::new(alloc),
+        rares: Vec::new(alloc),
+        restores: Vec::new(alloc),
+        sites: p.sites.iter().map(site).collect(alloc)?,
+        texts: p.texts.iter().map(text).collect(alloc)?,
+        without_size: p.without_size.clone()?,
+    })
+}
+
+/// The parts of the graph of a program.
+pub fn parts_of(alloc: Global, p: &Program) -> Result<GraphParts, NoMemory> {
+    let returning = may_return(alloc, p)?;
+    let mut parts = without_points(alloc, p)?;
+    for (q, point) in (0u32..).zip(&p.points) {
+        add_point(&mut parts, p, returning.as_slice(), q, point)?;
+    }
+    parts.starts.push(number(parts.edges.len()))?;
+    Ok(parts)
+}

@@ -1,0 +1,96 @@
+//! Whether parts make a graph.
+
+ghost use Rattle.std.specs.Prelude.{◌≡◌, ◌+◌, ◌<◌, ◌≤◌, ◌^◌, ℕ, All, IfSome, IsTrue, length};
+ghost use Rattle.program_graph.specs.Shape.{HaveShape, start_of};
+
+use program_defs::Edge;
+use program_graph::{Graph, GraphParts, Point, Rare, Site};
+
+/// Whether the owner of each point is one of so many.
+fn owners_are_there(points: &[Point], owners: usize) -> bool
+    ensures { IsTrue result → All (λ x. x.owner < owners) points.now }
+{
+    points.iter().all(|point| (point.owner as usize) < owners)
+}
+
+/// Whether what each point names rare is one of so many.
+fn rares_are_there(points: &[Point], rares: usize) -> bool
+    ensures { IsTrue result → All (λ x. IfSome x.rare (λ k. k < rares)) points.now }
+{
+    points
+        .iter()
+        .all(|point| point.rare.is_none_or(|k| (k as usize) < rares))
+}
+
+/// Whether the RESTOREs of each rare one are a range among so many.
+fn restores_are_ranges(rares: &[Rare], restores: usize) -> bool
+    ensures { IsTrue result → All (λ x. (x.restores_from ≤ x.restores_to) × (x.restores_to ≤ restores)) rares.now }
+{
+    rares.iter().all(|rare| {
+        rare.restores_from <= rare.restores_to && rare.restores_to as usize <= restores
+    })
+}
+
+/// Whether the edges of each point end behind where they begin, and are there.
+fn starts_ascend(parts: &GraphParts) -> bool
+    requires { length parts.now.starts.items ≡ length parts.now.points.items + 1 }
+    ensures ascending { IsTrue result → (q : ℕ) → q < length parts.now.points.items → start_of parts.now q ≤ start_of parts.now (q + 1) }
+    ensures within { IsTrue result → (q : ℕ) → q < length parts.now.points.items → start_of parts.now (q + 1) ≤ length parts.now.edges.items }
+{
+    for q in 0..parts.points.len() {
+        let from = parts.starts[q];
+        let to = parts.starts[q + 1];
+        if from > to || to as usize > parts.edges.len() {
+            return false;
+        }
+    }
+    true
+}
+
+/// Whether each edge leads to one of so many points.
+fn edges_lead_to_points(edges: &[Edge], points: usize) -> bool
+    ensures { IsTrue result → All (λ e. e.to < points) edges.now }
+{
+    edges.iter().all(|edge| (edge.to as usize) < points)
+}
+
+/// Whether each RESTORE is one of so many points.
+fn restores_are_points(restores: &[u32], points: usize) -> bool
+    ensures { IsTrue result → All (λ r. r < points) restores.now }
+{
+    restores.iter().all(|restore| (*restore as usize) < points)
+}
+
+/// Whether what the parts name by a number is in their lists.
+fn have_shape(parts: &GraphParts) -> bool
+    ensures { IsTrue result → HaveShape parts.now }
+{
+    let points = parts.points.len();
+    if points > u32::MAX as usize || parts.starts.len() != points + 1 {
+        return false;
+    }
+    owners_are_there(parts.points.as_slice(), parts.owners.len())
+        && rares_are_there(parts.points.as_slice(), parts.rares.len())
+        && restores_are_ranges(parts.rares.as_slice(), parts.restores.len())
+        && starts_ascend(parts)
+        && edges_lead_to_points(parts.edges.as_slice(), points)
+        && restores_are_points(parts.restores.as_slice(), points)
+}
+
+/// Whether each site has fewer than 2^63 bytes.
+fn sites_are_short(sites: &[Site]) -> bool
+    ensures { IsTrue result → All (λ site. site.len < 2 ^ 63) sites.now }
+{
+    sites.iter().all(|site| site.len < 0x8000_0000_0000_0000)
+}
+
+/// The graph of these parts, where they make one and its sites are short.
+pub fn graph_of(parts: GraphParts) -> Option<Graph>
+    ensures { IfSome result (λ graph. All (λ site. site.len < 2 ^ 63) graph.parts.sites.items) }
+{
+    if have_shape(&parts) && sites_are_short(parts.sites.as_slice()) {
+        Some(Graph::new(parts))
+    } else {
+        None
+    }
+}
