@@ -1,0 +1,5 @@
+mod Faults
+mod OrcSections
+mod SmallSites
+mod Verdicts
+mod Found

@@ -1,0 +1,5 @@
+pub mod Order
+pub mod Told
+pub mod Outcome
+pub mod Ready
+pub mod Unwinding

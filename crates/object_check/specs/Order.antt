@@ -1,0 +1,45 @@
+-- Which objects are checked, and why others aren't.
+use Rattle.std.specs.Prelude.{◌≡◌, ◌≢◌, ℕ, ◌-◌, ◌<◌, ◌≤◌, ◌||◌, Bool, List, [], length, position, Option, Some, None, bytes_eq, codes}
+use Rattle.elf_objects.specs.Elf.{Elf}
+use Rattle.elf_objects.specs.declared.TheConstants.{MAX_SECTIONS}
+use Rattle.object_code.specs.declared.fault.LinkFault.{LinkFault}
+use Rattle.object_code.specs.declared.fault.LinkFault.TheVariants as link
+use Rattle.object_code.specs.Linked.{IsLinked, IsLinkFault}
+use Rattle.flow_defs.specs.declared.fault.FlowFault.{FlowFault}
+use Rattle.flow_defs.specs.declared.fault.FlowFault.TheVariants as flow
+use Rattle.flow_defs.specs.Faults.{flow_faults, IsFirstFlowFault}
+use Rattle.object_check.specs.declared.fault.CheckFault.{CheckFault}
+use Rattle.object_check.specs.declared.fault.CheckFault.TheVariants.{Link, Flow, HasOrc, TooManySections, NoMemory}
+
+-- The object's code is read, and its program can be checked: texts, special sections, functions, alternatives, starts of
+-- functions, lists of places, static branches and unchecked functions are in order.
+pub record IsInOrder (o : Elf) : Type 0 where
+  pub linked : IsLinked o
+  pub flow : flow_faults o ≡ []
+
+-- the name is that of an ORC section
+abbrev pub is_orc_name : List ℕ → Bool
+is_orc_name name =
+    bytes_eq name (codes ".orc_unwind") || (bytes_eq name (codes ".orc_unwind_ip") || bytes_eq name (codes ".rela.orc_unwind_ip"))
+
+-- the first ORC section of the object
+unfoldable pub orc_section : Elf → Option ℕ
+orc_section o = position (λ s. is_orc_name s.name) o.sections
+
+-- so many sections an object may have, so that those of the tables still find room
+abbrev pub most_sections : ℕ
+most_sections = MAX_SECTIONS - 3
+
+-- The object is checked: it is in order, has no ORC sections yet, and room for them.
+pub record IsCheckable (o : Elf) : Type 0 where
+  pub in_order : IsInOrder o
+  pub new : orc_section o ≡ None
+  pub few : length o.sections ≤ most_sections
+
+-- Why the object isn't checked: the first that is wrong, in this order. Want of memory says nothing of the object.
+pub data IsCheckFault (o : Elf) : CheckFault → Type 0 where
+  unlinked : (fault : LinkFault) → fault ≢ link.NoMemory → IsLinkFault o fault → IsCheckFault o (Link fault)
+  unflowed : (fault : FlowFault) → fault ≢ flow.NoMemory → IsLinked o → IsFirstFlowFault o fault → IsCheckFault o (Flow fault)
+  has_orc : (sec : ℕ) → IsInOrder o → orc_section o ≡ Some sec → IsCheckFault o (HasOrc sec)
+  crowded : IsInOrder o → orc_section o ≡ None → most_sections < length o.sections → IsCheckFault o (TooManySections (length o.sections))
+  no_memory : IsCheckFault o NoMemory

@@ -1,0 +1,16 @@
+-- What the faults of those who read an object are told as.
+use Rattle.object_code.specs.declared.fault.LinkFault.{LinkFault}
+use Rattle.object_code.specs.declared.fault.LinkFault.TheVariants as link
+use Rattle.flow_defs.specs.declared.fault.FlowFault.{FlowFault}
+use Rattle.flow_defs.specs.declared.fault.FlowFault.TheVariants as flow
+use Rattle.object_check.specs.declared.fault.CheckFault.{CheckFault}
+use Rattle.object_check.specs.declared.fault.CheckFault.TheVariants.{Link, Flow, NoMemory}
+
+-- want of memory is told as such
+abbrev pub link_fault : LinkFault → CheckFault
+link_fault link.NoMemory = NoMemory
+link_fault fault = Link fault
+
+abbrev pub flow_fault : FlowFault → CheckFault
+flow_fault flow.NoMemory = NoMemory
+flow_fault fault = Flow fault

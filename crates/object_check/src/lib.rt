@@ -1,0 +1,13 @@
+//! The check of an object: its code is read, its control flow followed, and the rules of stack validation are tested; where none
+//! is broken, the rows of its ORC table are made (Linux 6.6, tools/objtool/Documentation/objtool.txt).
+#![tactic(auto)]
+
+mod check;
+mod fault;
+mod graph;
+mod outcome;
+mod room;
+
+pub use check::check_object;
+pub use fault::CheckFault;
+pub use outcome::Outcome;

@@ -1,0 +1,13 @@
+//! What the check of an object comes to.
+
+use ot_base::{PlacedRow, Warning};
+
+/// What the check of an object comes to.
+#[derive(Debug, Drop)]
+pub enum Outcome {
+    /// No rule is broken that is asked for: these are the rows of the ORC table, section by section in ascending order, and
+    /// ascending by offset.
+    Accepted(Vec<PlacedRow>),
+    /// Rules are broken: these are all warnings, each once, ascending by section, offset, rule and numbers.
+    Broken(Vec<Warning>),
+}
