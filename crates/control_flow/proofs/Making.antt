@@ -1,6 +1,5 @@
 -- The points of a graph, one more.
 use Rattle.std.proofs.Common.{◌≡◌, ℕ, ◌+◌, ◌<◌, Bool, List, [], ◌∷◌, ◌++◌, Option, None, false, length, get_or, refl, sym, ◌∙◌, subst, arith}
-use Rattle.std.specs.Prelude.{slice_get}
 use Rattle.std.proofs.lemmas.List.{get_or_default, length_push}
 use Rattle.elf_objects.specs.Elf.{Elf}
 use Rattle.program_graph.specs.declared.parts.Owner.{Owner}

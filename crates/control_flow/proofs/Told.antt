@@ -1,5 +1,5 @@
 -- A flow that has what is listed of the points tells their program.
-use Rattle.std.proofs.Common.{◌≡◌, ℕ, ◌+◌, ◌^◌, ◌<◌, ◌≤◌, Bool, true, false, cond, List, Option, Some, None, All, Contains, length, map, get_or, refl, sym, ap, ◌∙◌, subst, arith}
+use Rattle.std.proofs.Common.{◌≡◌, ℕ, ◌^◌, ◌<◌, Bool, true, false, cond, List, Some, None, All, Contains, length, map, get_or, sym, ap, ◌∙◌, subst, arith}
 use Rattle.std.specs.Prelude.{◌↔◌, slice_index}
 use Rattle.std.proofs.lemmas.List.{get_or-map, length-map}
 use Rattle.std.proofs.lemmas.List.Elements.{All-map, All-weaker}
@@ -10,8 +10,7 @@ use Rattle.program_defs.specs.declared.flow.Role.{Role}
 use Rattle.program_defs.specs.declared.flow.Role.TheVariants as roles
 use Rattle.program_defs.specs.Program.{IsPoint, Program, entry_points}
 use Rattle.flow_defs.specs.Code.{point_at}
-use Rattle.flow_defs.specs.Arrival.{arrive}
-use Rattle.flow_defs.specs.Program.{entries_of, graph_of, never_returns_by, program_of, returning_graph}
+use Rattle.flow_defs.specs.Program.{graph_of, program_of, returning_graph}
 use Rattle.flow_defs.specs.Roles.{role_of}
 use Rattle.flow_law.proofs.Entries as of_entries
 use Rattle.return_search.specs.declared.flow.Exit.{Exit}
@@ -19,7 +18,6 @@ use Rattle.return_search.specs.declared.flow.Exit.TheVariants as exits
 use Rattle.return_search.specs.declared.flow.Flow.{Flow}
 use Rattle.return_search.specs.Shape.{HasShape}
 use Rattle.return_search.specs.Told.{TellsFlow, exit_of, exit_at}
-use Rattle.point_entries.specs.Entered.{IsEnteredAt}
 use Rattle.control_flow.specs.Listed.{AreDeadEnds, AreEdges, AreEntered, AreRoles, CallsPoint, IsPointIfAny, count_of}
 use Rattle.control_flow.proofs.Steps.{all_at}
 

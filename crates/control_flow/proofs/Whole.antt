@@ -1,6 +1,6 @@
 -- The parts of a graph tell the program of an object.
-use Rattle.std.proofs.Common.{◌≡◌, ℕ, ◌+◌, ◌-◌, ◌^◌, ◌<◌, ◌≤◌, Bool, false, cond, List, Option, Some, None, All, Contains, length, map, get_or, refl, sym, ap, ◌∙◌, subst, arith}
-use Rattle.std.specs.Prelude.{◌↔◌, ◌==◌, slice_get, slice_index, slice_index_or, slice_range, if◌then◌else◌}
+use Rattle.std.proofs.Common.{◌≡◌, ℕ, ◌+◌, ◌-◌, ◌^◌, ◌<◌, ◌≤◌, false, List, Option, Some, All, length, map, sym, ap, ◌∙◌, subst, arith}
+use Rattle.std.specs.Prelude.{◌==◌, slice_get, slice_index, slice_index_or, slice_range, if◌then◌else◌}
 use Rattle.std.proofs.lemmas.Option.{get_or_from_slice_get, slice_get_within}
 use Rattle.ot_base.specs.NameLists.{NameLists}
 use Rattle.ot_base.specs.declared.place.Place.{Place}
@@ -12,7 +12,6 @@ use Rattle.program_defs.specs.MayReturn.{target_may_return}
 use Rattle.flow_defs.specs.Code.{alternatives_of, point_at}
 use Rattle.flow_defs.specs.Hints.{is_restore}
 use Rattle.flow_defs.specs.Marks.{marks_of}
-use Rattle.flow_defs.specs.Owners.{is_unchecked}
 use Rattle.flow_defs.specs.Program.{comes_back, graph_of, program_of, returning_graph, text_sections_of, unsized_of}
 use Rattle.flow_defs.specs.Sites.{sites_of}
 use Rattle.hint_points.proofs.Meant.{other_means}
@@ -27,7 +26,7 @@ use Rattle.return_search.specs.Shape.{HaveShape as HaveReturnShape}
 use Rattle.return_search.specs.Told.{TellsReturns}
 use Rattle.point_fields.specs.Owners.{IsOwnerBy}
 use Rattle.control_flow.specs.Listed.{count_of}
-use Rattle.control_flow.specs.Points.{AreMade, IsMade}
+use Rattle.control_flow.specs.Points.{AreMade}
 use Rattle.control_flow.specs.Rares.{AreRares, IsMeant, IsRare, IsUsual}
 use Rattle.control_flow.proofs.Fields.{comes_back_is}
 use Rattle.control_flow.proofs.Meant.{meant_has_hint}

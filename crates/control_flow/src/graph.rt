@@ -81,11 +81,7 @@ fn graph_of(
 /// # Errors
 ///
 /// The first fault of functions, lists of places and static branches. [`FlowFault::NoMemory`] may come at any object.
-pub fn flow(
-    alloc: Global,
-    linked: &Linked<'_, '_>,
-    lists: &Lists,
-) -> Result<Graph, FlowFault>
+pub fn flow(alloc: Global, linked: &Linked<'_, '_>, lists: &Lists) -> Result<Graph, FlowFault>
     ensures tells { IfOk result (λ graph. Tells (program_of linked.now lists.now) graph.parts) }
     ensures right { OnOk result (flow_faults linked.now ≡ []) }
     ensures err { IfErr result (IsFirstFlowFault linked.now) }

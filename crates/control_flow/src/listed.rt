@@ -74,10 +74,12 @@ pub(crate) fn list_exits(
 ) -> Result<Vec<Exit>, NoMemory>
     ensures { IfOk result (λ exits. exits.items ≡ map (exit_of (program_of object.now lists.now)) roles.now) }
 {
-    Ok(roles
-        .iter()
-        .map(|role| exit(object, lists, *role))
-        .collect(alloc)?)
+    Ok(
+        roles
+            .iter()
+            .map(|role| exit(object, lists, *role))
+            .collect(alloc)?,
+    )
 }
 
 /// Whether execution never passes the points.

@@ -12,7 +12,11 @@ use program_graph::Rare;
 use std::alloc::Global;
 
 /// What a point with a hint or of a replacement has.
-fn rare_of(places: &PointPlaces<'_, '_, '_>, hints: &HintPoints<'_, '_, '_, '_>, n: u32) -> Option<Rare>
+fn rare_of(
+    places: &PointPlaces<'_, '_, '_>,
+    hints: &HintPoints<'_, '_, '_, '_>,
+    n: u32,
+) -> Option<Rare>
     requires point { n < count_of places.now }
     requires object { hints.now.object ≡ places.now }
     ensures { MatchOption result (IsUsual places.now n) (IsRare places.now hints.now.restores n) }

@@ -1,4 +1,4 @@
-use Rattle.std.proofs.Common.{◌≡◌, ◌+◌, ◌<◌, ℕ, List, Option, None, length, sym, ap, subst, arith}
+use Rattle.std.proofs.Common.{◌+◌, ◌<◌, ℕ, List, Option, None, length, sym, ap, subst, arith}
 use Rattle.std.proofs.lemmas.List.{get_or_default}
 use Rattle.elf_objects.specs.Elf.{Elf}
 use Rattle.program_graph.specs.declared.parts.Point.{Point}
