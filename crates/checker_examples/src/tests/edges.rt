@@ -115,7 +115,7 @@ fn add_branch(
     kind: EdgeKind,
 ) -> Result<(), AllocError> {
     let place = if kind == EdgeKind::Sibling {
-        p.entries.first().map(|entry| p.place(*entry))
+        Some(p.place(draw.one_of(p.entries.as_slice(), 0)))
     } else {
         draw_target(draw, p, point)
     };

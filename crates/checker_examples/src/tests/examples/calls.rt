@@ -1,4 +1,4 @@
-//! Calls, alternatives and interrupts that break no rule.
+//! Alternatives, calls and interrupts that break no rule.
 
 use super::{Example, expect_all};
 use operation_defs::Op;
@@ -22,8 +22,8 @@ const ABOVE: State = State::Regs {
     depth: 8,
 };
 
-/// Code with alternatives.
-const ALTERNATIVES: [Example; 3] = [
+/// Code with alternatives, calls to other functions, and gates of interrupts.
+const CALLS: [Example; 9] = [
     Example {
         name: "two variants",
         table: Table {
@@ -116,10 +116,6 @@ const ALTERNATIVES: [Example; 3] = [
             sites: &[(4, 9)],
         },
     },
-];
-
-/// Calls and jumps to other functions.
-const CALLS: [Example; 3] = [
     Example {
         name: "call that never returns",
         table: Table {
@@ -199,10 +195,6 @@ const CALLS: [Example; 3] = [
             sites: &[],
         },
     },
-];
-
-/// Gates of interrupts, and an iret to what follows it.
-const INTERRUPTS: [Example; 3] = [
     Example {
         name: "interrupts in a prologue and at a gate",
         table: Table {
@@ -275,16 +267,6 @@ const INTERRUPTS: [Example; 3] = [
 ];
 
 #[test]
-fn alternatives(rt: HostRuntime) -> Result<(), Fail> {
-    expect_all(&rt, rt.alloc(), &ALTERNATIVES)
-}
-
-#[test]
 fn calls(rt: HostRuntime) -> Result<(), Fail> {
     expect_all(&rt, rt.alloc(), &CALLS)
-}
-
-#[test]
-fn interrupts(rt: HostRuntime) -> Result<(), Fail> {
-    expect_all(&rt, rt.alloc(), &INTERRUPTS)
 }

@@ -19,8 +19,8 @@ const GATE: With = With::Hint(HintState::Set(State::Regs {
     depth: 0,
 }));
 
-/// Wrong returns and jumps.
-const FUNCTION_EXITS: [Example; 4] = [
+/// Wrong returns and jumps, and ways out of gates and to the system.
+const EXITS: [Example; 9] = [
     Example {
         name: "a return that leaves a push on the stack",
         table: Table {
@@ -60,10 +60,6 @@ const FUNCTION_EXITS: [Example; 4] = [
             sites: &[],
         },
     },
-];
-
-/// Wrong ways out of gates, and to the system.
-const OTHER_EXITS: [Example; 5] = [
     Example {
         name: "a gate that returns",
         table: Table {
@@ -126,11 +122,6 @@ const OTHER_EXITS: [Example; 5] = [
 ];
 
 #[test]
-fn exits_of_functions(rt: HostRuntime) -> Result<(), Fail> {
-    expect_all(&rt, rt.alloc(), &FUNCTION_EXITS)
-}
-
-#[test]
-fn other_exits(rt: HostRuntime) -> Result<(), Fail> {
-    expect_all(&rt, rt.alloc(), &OTHER_EXITS)
+fn exits(rt: HostRuntime) -> Result<(), Fail> {
+    expect_all(&rt, rt.alloc(), &EXITS)
 }

@@ -14,8 +14,8 @@ const PUSHED: State = State::Live {
     bp: BpHome::Same,
 };
 
-/// Functions of several parts and ways.
-const FUNCTIONS: [Example; 6] = [
+/// Functions of several parts and ways, and code with hints.
+const FUNCTIONS: [Example; 8] = [
     Example {
         name: "frame pointer",
         table: Table {
@@ -136,10 +136,6 @@ const FUNCTIONS: [Example; 6] = [
             sites: &[],
         },
     },
-];
-
-/// Code with hints.
-const HINTED: [Example; 2] = [
     Example {
         name: "SAVE and RESTORE",
         table: Table {
@@ -184,9 +180,4 @@ const HINTED: [Example; 2] = [
 #[test]
 fn functions(rt: HostRuntime) -> Result<(), Fail> {
     expect_all(&rt, rt.alloc(), &FUNCTIONS)
-}
-
-#[test]
-fn hinted_code(rt: HostRuntime) -> Result<(), Fail> {
-    expect_all(&rt, rt.alloc(), &HINTED)
 }

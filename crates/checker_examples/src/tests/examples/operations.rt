@@ -7,8 +7,8 @@ use stack_examples::lines::{Table, With};
 use state_defs::{BpHome, Depth, HintState, State};
 use std::test::Fail;
 
-/// Wrong writes to rsp and rbp.
-const REGISTERS: [Example; 4] = [
+/// Wrong writes to rsp and rbp, wrong offsets, and what options ask for.
+const OPERATIONS: [Example; 10] = [
     Example {
         name: "rsp written in another way",
         table: Table {
@@ -57,10 +57,6 @@ const REGISTERS: [Example; 4] = [
             sites: &[],
         },
     },
-];
-
-/// Wrong offsets, leaves and irets.
-const OFFSETS: [Example; 4] = [
     Example {
         name: "a depth of more than a gigabyte",
         table: Table {
@@ -119,10 +115,6 @@ const OFFSETS: [Example; 4] = [
             sites: &[],
         },
     },
-];
-
-/// What options ask for.
-const ASKED: [Example; 2] = [
     Example {
         name: "unreached instructions",
         table: Table {
@@ -166,16 +158,6 @@ const ASKED: [Example; 2] = [
 ];
 
 #[test]
-fn registers(rt: HostRuntime) -> Result<(), Fail> {
-    expect_all(&rt, rt.alloc(), &REGISTERS)
-}
-
-#[test]
-fn offsets(rt: HostRuntime) -> Result<(), Fail> {
-    expect_all(&rt, rt.alloc(), &OFFSETS)
-}
-
-#[test]
-fn asked(rt: HostRuntime) -> Result<(), Fail> {
-    expect_all(&rt, rt.alloc(), &ASKED)
+fn operations(rt: HostRuntime) -> Result<(), Fail> {
+    expect_all(&rt, rt.alloc(), &OPERATIONS)
 }

@@ -45,8 +45,8 @@ const INTO_A_FUNCTION: Marks = Marks {
     into_function: true,
 };
 
-/// Wrong targets.
-const TARGETS: [Example; 6] = [
+/// Wrong targets, sites and RESTORE hints, and a function without a size.
+const TARGETS: [Example; 12] = [
     Example {
         name: "a jump to no place to go",
         table: Table {
@@ -119,10 +119,6 @@ const TARGETS: [Example; 6] = [
             sites: &[],
         },
     },
-];
-
-/// Wrong sites, and a function without a size.
-const SITES: [Example; 3] = [
     Example {
         name: "variants with different rows",
         table: Table {
@@ -166,10 +162,6 @@ const SITES: [Example; 3] = [
             sites: &[],
         },
     },
-];
-
-/// RESTORE hints without a state.
-const RESTORES: [Example; 3] = [
     Example {
         name: "a RESTORE without a SAVE, in a site",
         table: Table {
@@ -222,14 +214,4 @@ const RESTORES: [Example; 3] = [
 #[test]
 fn targets(rt: HostRuntime) -> Result<(), Fail> {
     expect_all(&rt, rt.alloc(), &TARGETS)
-}
-
-#[test]
-fn sites(rt: HostRuntime) -> Result<(), Fail> {
-    expect_all(&rt, rt.alloc(), &SITES)
-}
-
-#[test]
-fn restores(rt: HostRuntime) -> Result<(), Fail> {
-    expect_all(&rt, rt.alloc(), &RESTORES)
 }
