@@ -59,7 +59,8 @@ object() {
 }
 object straight 'push %rbx\n\tmov %rax, (%rdi)\n\tpop %rbx\n\tret'
 object vector 'vzeroupper\n\tret'
-object jumping 'jmp leaf'
+object jumping 'test %rax, %rax\n\tje 1f\n\tpush %rbp\n\tmov %rsp, %rbp\n\tpop %rbp\n1:\tret'
+object broken 'push %rbx\n\tret'
 
 # The table of push %rbp; mov %rsp, %rbp; pop %rbp; ret.
 cat >"$scratch/table.s" <<'S'
@@ -117,7 +118,8 @@ try() {
 }
 try 0 check straight "$scratch/out"
 try 2 check vector "$scratch/out"
-try 2 check jumping "$scratch/out"
+try 0 check jumping "$scratch/out"
+try 1 check broken "$scratch/out"
 try 2 check missing "$scratch/out"
 try 0 dump table
 try 0 unwind table "$scratch/two_frames"

@@ -75,7 +75,7 @@ fn switches(alloc: Global) -> Result<Vec<Arg<'static>>, AllocError> {
         switch(
             alloc,
             "fp",
-            "Check that each call is made with a frame pointer set up (not built yet)"
+            "Check that each call is made with a frame pointer set up"
         ),
         switch(
             alloc,

@@ -1,6 +1,6 @@
 -- What is printed, from what writing a line ensures.
 use Rattle.std.proofs.Common.{◌≡◌, ℕ, ◌≤◌, List, ◌++◌, refl, sym, ap, ◌∙◌, append-nil, append_assoc, arith, subst, ◌∷◌}
-use Rattle.std.specs.Prelude.{[], Some, None, Option, Result, Ok, Err, OnOk, OnErr, IsErrOf}
+use Rattle.std.specs.Prelude.{◌≢◌, [], Some, None, Option, Result, Ok, Err, OnOk, OnErr, IsErrOf}
 use Rattle.ot_files.specs.Causes.{Rose}
 use Rattle.ot_files.specs.Output.{AppendsPrefix, appending}
 use Rattle.ot_files.specs.declared.output.SinkError.{SinkError}
@@ -62,14 +62,17 @@ prefix_of_whole before middle after front part rest so h = (
 )
 
 -- the text ends early so where one of its parts fails
+pub part_fails_of : (end : Status) (front part rest : List ℕ) (before middle after : Output) (s : Status) → end ≢ status.FileFault → middle.written ≡ appending before.written front → before.faults ≤ middle.faults → FailsToPrint part middle after s → Prints end (front ++ part ++ rest) before after s
+part_fails_of end front part rest before middle after status.SinkFault other so later h = fails (prefix_of_whole before.written middle.written after.written front part rest so h.0) (rose_before before.faults middle.faults after.faults later h.1) other
+part_fails_of end front part rest before middle after status.NoMemory other so later h = runs_out (prefix_of_whole before.written middle.written after.written front part rest so h)
+part_fails_of end front part rest before middle after status.Done other so later h = absurd h
+part_fails_of end front part rest before middle after status.Warnings other so later h = absurd h
+part_fails_of end front part rest before middle after status.Refused other so later h = absurd h
+part_fails_of end front part rest before middle after status.Usage other so later h = absurd h
+part_fails_of end front part rest before middle after status.FileFault other so later h = absurd h
+
 pub part_fails : (front part rest : List ℕ) (before middle after : Output) (s : Status) → middle.written ≡ appending before.written front → before.faults ≤ middle.faults → FailsToPrint part middle after s → Prints status.Done (front ++ part ++ rest) before after s
-part_fails front part rest before middle after status.SinkFault so later h = fails (prefix_of_whole before.written middle.written after.written front part rest so h.0) (rose_before before.faults middle.faults after.faults later h.1) (λ e. cc)
-part_fails front part rest before middle after status.NoMemory so later h = runs_out (prefix_of_whole before.written middle.written after.written front part rest so h)
-part_fails front part rest before middle after status.Done so later h = absurd h
-part_fails front part rest before middle after status.Warnings so later h = absurd h
-part_fails front part rest before middle after status.Refused so later h = absurd h
-part_fails front part rest before middle after status.Usage so later h = absurd h
-part_fails front part rest before middle after status.FileFault so later h = absurd h
+part_fails front part rest before middle after s so later h = part_fails_of status.Done front part rest before middle after s (λ e. cc) so later h
 
 -- and where memory runs out before a part
 pub stops_short : (front rest : List ℕ) (before after : Output) → after.written ≡ appending before.written front → Prints status.Done (front ++ rest) before after status.NoMemory

@@ -33,7 +33,7 @@ pub fn print_line<S: Sink>(status: Status, line: &[u8], out: &mut S) -> Status
 }
 
 /// Prints a whole line of a longer text. Where that fails, answers the status that the command then
-/// ends with, whose text was to end with `Done`.
+/// ends with, which is no file's fault where nothing fails.
 pub fn print_part<S: Sink>(line: &[u8], out: &mut S) -> Result<(), Status>
     ensures ok { OnOk result (S.written out.new ≡ appending (S.written out.old) line.now) }
     ensures err { IfErr result (FailsToPrint line.now

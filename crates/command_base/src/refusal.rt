@@ -1,10 +1,11 @@
 use elf_objects::{Counted, ElfFault};
+use flow_faults::FlowFaultText;
+use object_code::LinkFaultText;
 use orc_bytes::OrcFault;
 use orc_table::PlaceFault;
 use ot_base::ListsFault;
 use stack_image::ImageFault;
 use std::fmt;
-use x86_text::TextFaultText;
 
 /// Why an input is refused.
 #[derive(Clone, Copy, Debug, PartialEq, Eq)]
@@ -21,12 +22,14 @@ pub enum Refusal<'a> {
     NoText { sec: u32 },
     /// The object's rows can't be placed as an image says.
     Unplaced(PlaceFault),
-    /// The code of a text section doesn't decode.
-    Undecoded(TextFaultText<'a>),
-    /// The object has `count` sections, so that those of the tables would be too many.
-    TooManySections { count: u64 },
-    /// It is a well-formed object of no form that is checked so far.
-    NotBuilt,
+    /// The object's code isn't read.
+    Unlinked(LinkFaultText<'a>),
+    /// What the object says of its code doesn't fit the code.
+    Unflowed(FlowFaultText),
+    /// The object has ORC sections already; the section with this number is the first.
+    HasOrc { sec: u32 },
+    /// With its tables the object would have too many: it has `count` sections, or needs `count` symbols.
+    TooMany { what: Counted, count: u64 },
 }
 
 impl fmt::Display for Refusal<'_> {
@@ -43,12 +46,12 @@ impl fmt::Display for Refusal<'_> {
             Refusal::Image(fault) => write!(f, "{fault}"),
             Refusal::NoText { sec } => write!(f, "section {sec}: no text"),
             Refusal::Unplaced(fault) => write!(f, "{fault}"),
-            Refusal::Undecoded(fault) => write!(f, "{fault}"),
-            Refusal::TooManySections { count } => {
-                let what = Counted::Sections;
+            Refusal::Unlinked(fault) => write!(f, "{fault}"),
+            Refusal::Unflowed(fault) => write!(f, "{fault}"),
+            Refusal::HasOrc { sec } => write!(f, "section {sec} is an ORC section"),
+            Refusal::TooMany { what, count } => {
                 write!(f, "{}", ElfFault::TooMany { what, count })
             }
-            Refusal::NotBuilt => write!(f, "not built yet"),
         }
     }
 }

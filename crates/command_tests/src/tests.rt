@@ -7,7 +7,7 @@ mod object;
 mod reading;
 mod walking;
 
-use object::make;
+use object::{make, make_call};
 use objtool_cli::{Status, run};
 use ot_files::{FileError, Files, MemFiles, MemSink, SureFiles, SureSink};
 use reading::section;
@@ -44,11 +44,18 @@ const DEPTH_16: [u8; 6] = [0x10, 0, 0, 0, 0x05, 0x02];
 
 const ZERO: [u8; 6] = [0; 6];
 
-/// The bodies of the three ORC sections of OUT are those of these rows, of section 1 by its symbol 1.
+/// rbp was pushed: it is saved right below the return address.
+const BP_SAVED: [u8; 6] = [0x10, 0, 0xF0, 0xFF, 0x15, 0x02];
+
+/// And rbp is the frame's base.
+const FRAME_BASE: [u8; 6] = [0x10, 0, 0xF0, 0xFF, 0x14, 0x02];
+
+/// The bodies of the three ORC sections of OUT are those of these rows, of section 1 by this symbol.
 fn expect_rows(
     rt: &impl Abort,
     alloc: Global,
     out: &[u8],
+    symbol: u8,
     rows: &[RowBytes],
 ) -> Result<(), AllocError> {
     let mut orc = Vec::new(alloc);
@@ -57,7 +64,7 @@ fn expect_rows(
     for (off, row) in rows {
         let place = places.len() as u64;
         relocations.extend_from_slice(&place.to_le_bytes())?;
-        relocations.extend_from_slice(&[2, 0, 0, 0, 1, 0, 0, 0])?;
+        relocations.extend_from_slice(&[2, 0, 0, 0, symbol, 0, 0, 0])?;
         relocations.extend_from_slice(&u64::from(*off).to_le_bytes())?;
         orc.extend_from_slice(row)?;
         places.extend_from_slice(&[0; 4])?;
@@ -110,7 +117,7 @@ fn straight_code_gets_its_rows(rt: HostRuntime) -> Result<(), Fail> {
         assert_eq!(rt; out.written().len(), 0, "{code:?}");
         let written = files.content("OUT").ok_or("OUT is there")?;
         assert_eq!(rt; written.len(), size, "{code:?}");
-        expect_rows(&rt, alloc, written, rows)?;
+        expect_rows(&rt, alloc, written, 1, rows)?;
         assert!(rt; files.content("IN") == Some(object.as_slice()), "{code:?}");
     }
     Ok(())
@@ -134,25 +141,106 @@ fn expect_refused(
     Ok(())
 }
 
-/// A function with a frame, which isn't straight code.
+/// A function with a frame: push %rbp; mov %rsp,%rbp; pop %rbp; ret.
 const FRAME: [u8; 6] = [0x55, 0x48, 0x89, 0xE5, 0x5D, 0xC3];
 
+/// `check IN OUT` on these bytes is done, prints nothing, and OUT holds these rows by this symbol.
+fn expect_accepted(
+    rt: &impl Abort,
+    alloc: Global,
+    bytes: &[u8],
+    symbol: u8,
+    rows: &[RowBytes],
+) -> Result<(), Fail> {
+    let words = words(alloc, &["check", "IN", "OUT"])?;
+    let mut files = SureFiles::new(alloc, only_in(alloc, bytes)?);
+    let mut out = SureSink::new(alloc, 100);
+    let status = run(alloc, &words, &mut files, &mut out);
+    assert_eq!(rt; status, Status::Done, "{rows:?}");
+    assert_eq!(rt; out.written().len(), 0, "{rows:?}");
+    let written = files.content("OUT").ok_or("OUT is there")?;
+    expect_rows(rt, alloc, written, symbol, rows)?;
+    Ok(())
+}
+
 #[test]
-fn other_code_is_not_built(rt: HostRuntime) -> Result<(), Fail> {
-    let table: [&[u8]; 8] = [
-        &FRAME,
-        b"",
-        b"\x53\xC3",
-        b"\x5B\xC3",
-        b"\x90",
-        b"\xC3\xC3",
-        b"\x55\x5D\xC3",
-        b"\x54\x5C\xC3",
+fn rbp_is_followed(rt: HostRuntime) -> Result<(), Fail> {
+    let alloc = rt.alloc();
+    let rows_of_a_frame = [
+        (0, DEPTH_8),
+        (1, BP_SAVED),
+        (4, FRAME_BASE),
+        (5, DEPTH_8),
+        (6, ZERO),
     ];
-    for code in table {
+    expect_accepted(&rt, alloc, &make(alloc, &FRAME)?, 1, &rows_of_a_frame)?;
+    // push %rbp; pop %rbp; ret
+    let rows_of_a_push = [(0, DEPTH_8), (1, BP_SAVED), (2, DEPTH_8), (3, ZERO)];
+    expect_accepted(
+        &rt,
+        alloc,
+        &make(alloc, b"\x55\x5D\xC3")?,
+        1,
+        &rows_of_a_push,
+    )
+}
+
+/// `check IN OUT` on these bytes prints these lines of warnings, and writes no OUT.
+fn expect_warned(
+    rt: &impl Abort,
+    alloc: Global,
+    bytes: &[u8],
+    lines: &str,
+) -> Result<(), AllocError> {
+    let words = words(alloc, &["check", "IN", "OUT"])?;
+    let mut files = MemFiles::new(alloc, only_in(alloc, bytes)?, Vec::new(alloc));
+    let mut out = MemSink::new(alloc, 100, Vec::new(alloc));
+    let status = run(alloc, &words, &mut files, &mut out);
+    assert_eq!(rt; status, Status::Warnings, "{lines:?}");
+    assert_eq!(rt; out.written(), lines.as_bytes(), "{lines:?}");
+    assert!(rt; files.content("OUT").is_none(), "{lines:?}");
+    assert_eq!(rt; (files.faults(), out.faults()), (0, 0), "{lines:?}");
+    Ok(())
+}
+
+#[test]
+fn broken_rules_are_told(rt: HostRuntime) -> Result<(), Fail> {
+    let table: [(&[u8], &str); 6] = [
+        // push %rbx; ret: eight bytes too many are on the stack.
+        (
+            b"\x53\xC3",
+            ".text+0x1: rule 5: return with modified stack: depth 16\n",
+        ),
+        // pop %rbx, of the return address; the ret behind isn't reached.
+        (b"\x5B\xC3", ".text+0x0: rule 9: stack pointer lost\n"),
+        // nop, and no return.
+        (b"\x90", ".text+0x0: rule 3: runs off the section\n"),
+        // A second return, to which nothing comes.
+        (b"\xC3\xC3", ".text+0x1: rule 14: unreachable instruction\n"),
+        // push %rsp; pop %rsp; ret
+        (
+            b"\x54\x5C\xC3",
+            ".text+0x1: rule 7: unsupported write of rsp\n",
+        ),
+        // push %rbx; nop, which runs off: one line only, since each rule tells its own place.
+        (b"\x53\x90", ".text+0x1: rule 3: runs off the section\n"),
+    ];
+    for (code, lines) in table {
         let object = make(rt.alloc(), code)?;
-        expect_refused(&rt, rt.alloc(), &object, "refused: not built yet\n")?;
+        expect_warned(&rt, rt.alloc(), &object, lines)?;
     }
+    Ok(())
+}
+
+#[test]
+fn an_empty_function_is_refused(rt: HostRuntime) -> Result<(), Fail> {
+    let object = make(rt.alloc(), b"")?;
+    expect_refused(
+        &rt,
+        rt.alloc(),
+        &object,
+        "refused: symbol 2: bad function\n",
+    )?;
     Ok(())
 }
 
@@ -185,7 +273,7 @@ fn code_that_does_not_decode_is_refused(rt: HostRuntime) -> Result<(), Fail> {
         let object = make(alloc, code)?;
         expect_refused(&rt, alloc, &object, line)?;
     }
-    // The code is read before the question whether its form is built: here the function is none.
+    // The code is read also where there is no function.
     let object = changed(alloc, b"\xC5\xF8\x77\xC3", 124, &[0x10])?;
     expect_refused(
         &rt,
@@ -207,25 +295,104 @@ fn changed(alloc: Global, code: &[u8], at: usize, bytes: &[u8]) -> Result<Vec<u8
     Ok(object)
 }
 
+/// push %rbx; pop %rbx; ret
+const PUSH: [u8; 3] = [0x53, 0x5B, 0xC3];
+
 #[test]
-fn an_object_of_another_form_is_not_built(rt: HostRuntime) -> Result<(), Fail> {
-    let table: [(usize, &[u8]); 7] = [
-        // The function is no function, begins later, or is shorter.
-        (124, &[0x10]),
-        (128, &[1]),
-        (136, &[1]),
-        // The section symbol is none, or a second function.
-        (100, &[0]),
-        (100, &[2]),
-        // `.text` isn't executable.
-        (256, &[2]),
-        // `.symtab` has another name.
-        (154, b"__ex_table\0"),
-    ];
-    for (at, bytes) in table {
-        let object = changed(rt.alloc(), b"\x53\x5B\xC3", at, bytes)?;
-        expect_refused(&rt, rt.alloc(), &object, "refused: not built yet\n")?;
+fn symbols_and_sections_count(rt: HostRuntime) -> Result<(), Fail> {
+    let alloc = rt.alloc();
+    // The function is no function, or `.text` isn't executable: there is nothing to check.
+    for (at, byte) in [(124, 0x10), (256, 2)] {
+        expect_accepted(&rt, alloc, &changed(alloc, &PUSH, at, &[byte])?, 1, &[])?;
     }
+    // `.text` has no section symbol: it gets one, behind the local symbols.
+    let rows = [(0, DEPTH_8), (1, DEPTH_16), (2, DEPTH_8), (3, ZERO)];
+    expect_accepted(&rt, alloc, &changed(alloc, &PUSH, 100, &[0])?, 2, &rows)?;
+    // The function begins at the second byte, and so leaves `.text`.
+    expect_refused(
+        &rt,
+        alloc,
+        &changed(alloc, &PUSH, 128, &[1])?,
+        "refused: symbol 2: bad function\n",
+    )?;
+    // It covers the first instruction alone.
+    expect_warned(
+        &rt,
+        alloc,
+        &changed(alloc, &PUSH, 136, &[1])?,
+        ".text+0x0: rule 2: falls into another function\n",
+    )?;
+    // A second function has no size.
+    expect_warned(
+        &rt,
+        alloc,
+        &changed(alloc, &PUSH, 100, &[2])?,
+        ".text+0x0: rule 17: function without size\n",
+    )?;
+    Ok(())
+}
+
+#[test]
+fn options_and_names_count(rt: HostRuntime) -> Result<(), Fail> {
+    let alloc = rt.alloc();
+    let object = make_call(alloc)?;
+    let table = [
+        (
+            "check IN OUT",
+            "",
+            Status::Warnings,
+            ".text+0x0: rule 3: runs off the section\n",
+        ),
+        ("check IN OUT --names=names", "noreturn g", Status::Done, ""),
+        (
+            "check IN OUT --names=names --fp",
+            "noreturn g",
+            Status::Warnings,
+            ".text+0x0: rule 21: call without frame\n",
+        ),
+        (
+            "check --fp IN OUT --names=names",
+            "noreturn f\nuaccess g\n",
+            Status::Warnings,
+            ".text+0x0: rule 3: runs off the section\n.text+0x0: rule 21: call without frame\n",
+        ),
+    ];
+    for (line, names, status, text) in table {
+        let mut files = SureFiles::new(alloc, with_names(alloc, &object, names)?);
+        let mut out = SureSink::new(alloc, 100);
+        let ended = run(alloc, &words_of(alloc, line)?, &mut files, &mut out);
+        assert!(rt; ended == status, "{line}: {ended:?}");
+        assert!(rt; out.written() == text.as_bytes(), "{line}");
+        let written = files.content("OUT");
+        assert!(rt; written.is_some() == (status == Status::Done), "{line}");
+        if let Some(written) = written {
+            expect_rows(&rt, alloc, written, 1, &[(0, DEPTH_8), (5, ZERO)])?;
+        }
+    }
+    Ok(())
+}
+
+#[test]
+fn unreached_code_may_stand(rt: HostRuntime) -> Result<(), Fail> {
+    let alloc = rt.alloc();
+    let words = words(alloc, &["check", "IN", "OUT", "--no-unreachable"])?;
+    let object = make(alloc, b"\xC3\xC3")?;
+    let mut files = SureFiles::new(alloc, only_in(alloc, &object)?);
+    let mut out = SureSink::new(alloc, 100);
+    let status = run(alloc, &words, &mut files, &mut out);
+    assert_eq!(rt; status, Status::Done);
+    let written = files.content("OUT").ok_or("OUT is there")?;
+    // Nothing is known of the second return, nor behind it.
+    let rows = [(0, DEPTH_8), (1, ZERO), (2, ZERO)];
+    expect_rows(&rt, alloc, written, 1, &rows)?;
+    // OUT has tables now, so it isn't checked again.
+    let out_again = Vec::from_slice(alloc, written)?;
+    expect_refused(
+        &rt,
+        alloc,
+        &out_again,
+        "refused: section 5 is an ORC section\n",
+    )?;
     Ok(())
 }
 
@@ -305,7 +472,7 @@ fn a_file_that_is_too_long_is_refused(rt: HostRuntime) -> Result<(), Fail> {
 /// the status that the command ends with, and its text.
 type Run = (&'static str, &'static str, Status, &'static str);
 
-const USAGE: [Run; 16] = [
+const USAGE: [Run; 15] = [
     ("", "", Status::Usage, "usage: no command at word 0\n"),
     ("dump", "", Status::Usage, "usage: missing at word 1\n"),
     (
@@ -360,12 +527,6 @@ const USAGE: [Run; 16] = [
     ),
     ("demo 3", "", Status::Usage, "usage: not built yet\n"),
     (
-        "check IN OUT --fp",
-        "",
-        Status::Usage,
-        "usage: not built yet\n",
-    ),
-    (
         "check NO OUT --uaccess --names=no",
         "",
         Status::Usage,
@@ -379,7 +540,8 @@ const USAGE: [Run; 16] = [
     ),
 ];
 
-const NAMED: [Run; 9] = [
+const NAMED: [Run; 10] = [
+    ("check IN OUT --fp", "", Status::Done, ""),
     ("check IN OUT --names=names", "", Status::Done, ""),
     ("check --no-unreachable IN OUT", "", Status::Done, ""),
     (

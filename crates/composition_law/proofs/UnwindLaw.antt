@@ -15,7 +15,9 @@ use Rattle.walk_defs.specs.Laws.{WalkIsDetermined}
 use Rattle.walk_defs.specs.Walk.{Walks}
 use Rattle.table_defs.specs.Walks.{StopsAs, registers_of, walk_frame}
 use Rattle.elf_objects.specs.Elf.{Elf}
-use Rattle.orc_output.specs.OrcOutput.{with_orc_object}
+use Rattle.table_output.specs.Tables.{with_symbols, with_tables_object}
+use Rattle.flow_defs.specs.Program.{program_of}
+use Rattle.ot_base.specs.NameLists.{NameLists}
 use Rattle.orc_unwind.specs.Memory.{Piece, byte_at, bytes_at, word_at}
 use Rattle.stack_image.specs.ImageFile.{StackImage, IsImage, sayings}
 use Rattle.stack_image.specs.Lines.{lines}
@@ -30,16 +32,21 @@ use Rattle.read_back.proofs.UnwindLaws.{walk_excluded}
 use Rattle.composition_law.specs.Laws.{StatesAreUnwound, TellsState, UnwindTellsTheFrames}
 use Rattle.composition_law.proofs.DumpLaw.{rows_are}
 use Rattle.composition_law.proofs.MoreMemory.{TellsOfWords, walk_more}
+use Rattle.walk_defs.specs.Placement.{IsPlacement}
+use Rattle.command_base.specs.TextSections.{texts_of}
+use Rattle.composition_law.proofs.Named.{texts_stay}
 use Rattle.composition_law.proofs.Placed.{none_foreign, none_refused}
 
 pub placed_law : StatesAreUnwound
-placed_law o written text unwinds state told =
-    let out : Elf = with_orc_object o unwinds.rows in
+placed_law o lists written text unwinds state told =
+    let named : Elf = with_symbols o unwinds.rows in
+    let out : Elf = with_tables_object o unwinds.rows in
+    let placement : IsPlacement (texts_of named) (ranges_of out told.image.places) = subst (λ texts. IsPlacement texts (ranges_of out told.image.places)) (sym (texts_stay o unwinds.rows)) told.holds.placement in
     record {
       is_image = told.is_image;
       held = record { object = unwinds.reads_back; held = unwinds.holds };
-      texts = none_foreign o unwinds.rows told.image.places told.holds.placement;
-      fits = none_refused o unwinds.rows (ranges_of out told.image.places) told.holds.placement unwinds.holds;
+      texts = none_foreign named unwinds.rows told.image.places placement;
+      fits = none_refused named unwinds.rows (ranges_of out told.image.places) placement unwinds.holds;
     }
 
 same_regs : {a b : Regs} {xs : List Regs} → xs ≡ a ∷ [] → xs ≡ b ∷ [] → a ≡ b
@@ -67,15 +74,15 @@ stops_known (Some kind.Undefined) s (inr e) t = subst TellsOfWords e t
 
 -- The walk from any image of the text is the machine's.
 pub walk_is : WalkIsDetermined → MemoryIsSaid
-    → (o : Elf) (written text : List ℕ) (unwinds : UnwindsBy o written) (state : Standing) (told : TellsState o written text unwinds state) (other : StackImage)
+    → (o : Elf) (lists : NameLists) (written text : List ℕ) (unwinds : UnwindsBy o lists written) (state : Standing) (told : TellsState o lists written text unwinds state) (other : StackImage)
     → IsImage text other
     → (found : List Frame) (stop : walk.Stop)
-    → Walks unwinds.rows (ranges_of (with_orc_object o unwinds.rows) other.places) (word_at other.memory) other.regs found stop
+    → Walks unwinds.rows (ranges_of (with_tables_object o unwinds.rows) other.places) (word_at other.memory) other.regs found stop
     → StopsAs (frames_end state) stop × (found ≡ map walk_frame (frames state))
-walk_is determined said o written text unwinds state told other also found stop walks =
+walk_is determined said o lists written text unwinds state told other also found stop walks =
     let image = told.image in
-    let out : Elf = with_orc_object o unwinds.rows in
-    let start : Regs = registers_of unwinds.program told.bases state in
+    let out : Elf = with_tables_object o unwinds.rows in
+    let start : Regs = registers_of (program_of o lists) told.bases state in
     let regs : other.regs ≡ start = same_regs also.says.regs told.is_image.says.regs ∙ told.holds.regs in
     let places : other.places ≡ image.places = also.says.places ∙ sym told.is_image.says.places in
     let here : Walks unwinds.rows (ranges_of out image.places) (word_at other.memory) start found stop =
@@ -90,14 +97,14 @@ walk_is determined said o written text unwinds state told other also found stop 
     (subst (StopsAs (frames_end state)) (sym same.1) machine.2, same.0)
 
 pub unwind_law : WalkIsDetermined → MemoryIsSaid → UnwindTellsTheFrames
-unwind_law determined said o written text unwinds state told out out' answer (walked other p rows found stop placed walks prints) =
-    let are = rows_are o written unwinds p rows placed.held in
-    let by_rows : Walks unwinds.rows (ranges_of (with_orc_object o unwinds.rows) other.places) (word_at other.memory) other.regs found stop =
-    subst (λ (rs : List PlacedRow). Walks rs (ranges_of (with_orc_object o unwinds.rows) other.places) (word_at other.memory) other.regs found stop) are.1
+unwind_law determined said o lists written text unwinds state told out out' answer (walked other p rows found stop placed walks prints) =
+    let are = rows_are o lists written unwinds p rows placed.held in
+    let by_rows : Walks unwinds.rows (ranges_of (with_tables_object o unwinds.rows) other.places) (word_at other.memory) other.regs found stop =
+    subst (λ (rs : List PlacedRow). Walks rs (ranges_of (with_tables_object o unwinds.rows) other.places) (word_at other.memory) other.regs found stop) are.1
     (subst (λ (q : Elf). Walks rows (ranges_of q other.places) (word_at other.memory) other.regs found stop) are.0 walks) in
-    let machine = walk_is determined said o written text unwinds state told other placed.is_image found stop by_rows in
+    let machine = walk_is determined said o lists written text unwinds state told other placed.is_image found stop by_rows in
     inl (stop, machine.0, subst (λ (fs : List Frame). Prints status.Done (walk_text fs stop) out out' answer) machine.1 prints)
-unwind_law determined said o written text unwinds state told out out' answer (stopped why none concludes) =
+unwind_law determined said o lists written text unwinds state told out out' answer (stopped why none concludes) =
     inr
     (subst (λ (w : Stop). Concludes w out out' answer)
-    (walk_excluded written text told.image (with_orc_object o unwinds.rows) unwinds.rows why (placed_law o written text unwinds state told) none) concludes)
+    (walk_excluded written text told.image (with_tables_object o unwinds.rows) unwinds.rows why (placed_law o lists written text unwinds state told) none) concludes)

@@ -1,9 +1,9 @@
--- An input that is accepted is refused by no stop.
-use Rattle.std.proofs.Common.{◌≡◌, ℕ, ◌-◌, ◌<◌, ◌≤◌, List, [], length, drop, refl, sym, ◌∙◌, subst, arith, inl, inr}
-use Rattle.std.specs.Prelude.{◌⊎◌, Some, None, Option, Result, Ok, Err, true}
+-- An input that is accepted is refused by no stop, and one whose program breaks a rule is neither refused nor done.
+use Rattle.std.proofs.Common.{◌≡◌, ℕ, ◌-◌, ◌<◌, ◌≤◌, List, [], ◌∷◌, length, refl, sym, ◌∙◌, subst, arith, inl, inr}
+use Rattle.std.specs.Prelude.{◌≢◌, ◌⊎◌, Contains, Some, None, Option, Result, Ok, Err, true}
 use Rattle.elf_objects.specs.Elf.{Elf}
 use Rattle.elf_objects.specs.Object.{IsObject}
-use Rattle.elf_objects.specs.declared.TheConstants.{MAX_FILE_BYTES}
+use Rattle.elf_objects.specs.declared.TheConstants.{MAX_FILE_BYTES, MAX_SYMBOLS}
 use Rattle.elf_objects.proofs.FirstFault.{FirstFault-not}
 use Rattle.ot_files.specs.Content.{Content, reading}
 use Rattle.ot_files.specs.declared.access.FileError.{FileError}
@@ -14,100 +14,133 @@ use Rattle.command_base.specs.declared.refusal.Refusal.{Refusal}
 use Rattle.command_base.specs.declared.stop.Stop.{Stop}
 use Rattle.command_base.specs.declared.stop.Stop.TheVariants as stop
 use Rattle.command_base.specs.Outside.{Outside, Output}
-use Rattle.command_base.specs.Printing.{Concludes}
+use Rattle.command_base.specs.Printing.{Concludes, Prints, fails, fault_stays, runs_out, whole}
 use Rattle.command_base.specs.Reading.{MayRead, StopsAtRead}
 use Rattle.command_base.proofs.ConcludeLemmas.{concluded_after_fault, concluded_no_memory}
-use Rattle.objtool_cli.specs.Checked.{Accepts, IsRefusal, Refuses, crowded, malformed, most_sections, not_built, undecoded}
-use Rattle.objtool_cli.specs.Command.{Ends, EndsCheck, Stops, StopsAtWrite, checked, done, dumped, faulty, not_built as unbuilt, refused, stopped, shown, unfinished, unread, unwound, unwritten, without_names}
-use Rattle.objtool_cli.specs.Lists.{HasNames, HoldsNames, IsListsStop, StopsAtNames, names_unread, no_names}
-use Rattle.objtool_cli.specs.Form.{IsStraightCode}
-use Rattle.objtool_cli.specs.Texts.{IsFirstUndecoded, IsUndecoded}
-use Rattle.cli_words.specs.Grammar.{Command, check, dump, unwind}
+use Rattle.objtool_cli.specs.Checked.{Accepts, BreaksRule, IsRefusal, Refuses, TellsCheckFault, Warns, crowded, malformed, unchecked}
+use Rattle.objtool_cli.specs.Command.{Ends, EndsCheck, IsRead, Stops, checked, done, dumped, faulty, not_built as unbuilt, refused, stopped, shown, unfinished, unread, unwound, unwritten, warned, without_names}
+use Rattle.objtool_cli.specs.Lists.{HasNames, HoldsNames, IsListsStop, StopsAtNames, names_unread, no_lists, no_names}
+use Rattle.objtool_cli.specs.Writing.{StopsAtWrite}
+use Rattle.cli_words.specs.Grammar.{check, dump, unwind}
 use Rattle.ot_base.specs.declared.options.Options.{Options}
-use Rattle.ot_base.specs.NamesFile.{IsFirstFault, IsNamesFile, line_fault, lines}
-use Rattle.ot_base.specs.declared.lists.ListsFault.TheVariants as lists
+use Rattle.ot_base.specs.declared.row.PlacedRow.{PlacedRow}
+use Rattle.ot_base.specs.declared.warning.Warning.{Warning}
+use Rattle.ot_base.specs.NameLists.{NameLists, lists_with}
+use Rattle.ot_base.specs.NamesFile.{IsFirstFault, IsNamesFile, lines}
+use Rattle.ot_base.specs.declared.lists.ListsFault.TheVariants as lists_fault
 use Rattle.ot_base.specs.declared.lists.ListsWhy.{ListsWhy}
 use Rattle.command_base.specs.declared.refusal.Refusal.TheVariants as refusal
 use Rattle.objtool_cli.specs.Words.{Meaning, are_built}
-use Rattle.x86_decode.specs.declared.DecodeFault.{DecodeFault}
-use Rattle.x86_decode.specs.Decoding.{OneOutcome, Outcome, StandsInFront}
-use Rattle.x86_text.specs.declared.fault.TextFault.{TextFault}
-use Rattle.x86_text.specs.declared.fault.TextFault.TheVariants as text
-use Rattle.x86_text.specs.declared.fault_text.TextFaultText.{TextFaultText}
-use Rattle.operation_defs.specs.declared.insn.Insn.{Insn}
-use Rattle.elf_objects.specs.Contents.{section_at}
-use Rattle.objtool_cli.proofs.EndsLemmas.{no_fault_and_command, not_told, not_unbuilt, same_command, same_inputs, same_lists}
+use Rattle.x86_decode.specs.Decoding.{OneOutcome}
+use Rattle.checker_defs.specs.Broken.{IsBroken}
+use Rattle.flow_defs.specs.Program.{program_of}
+use Rattle.object_check.specs.Outcome.{HasRows, IsUnbroken}
+use Rattle.table_output.specs.Tables.{symbols_needed}
+use Rattle.objtool_cli.proofs.CheckableLemmas.{not_told, one_rows}
+use Rattle.objtool_cli.proofs.EndsLemmas.{ChecksAs, no_fault_and_command, not_told as not_text, not_unbuilt, same_command}
+
+-- ---- what is known of the bytes
 
 -- bytes are those of one object
 one_object : (bytes : List ℕ) (o p : Elf) → IsObject bytes o → IsObject bytes p → o ≡ p
 one_object bytes o p h k = h.says ∙ sym k.says
 
--- an instruction and a refusal can't both be the answer to some bytes
-no_instruction : OneOutcome → (bytes : List ℕ) (insn : Insn) (why : DecodeFault) → StandsInFront bytes insn → Outcome bytes (Err why) → ⊥
-no_instruction one bytes insn why stands answer =
-    let same : ◌≡◌ {A = Result Insn DecodeFault} (Ok insn) (Err why) = one bytes (Ok insn) (Err why) stands answer in
-    cc
+-- the bytes are refused in no way
+abbrev IsUnrefused : List ℕ → NameLists → Options → Type 0
+IsUnrefused bytes lists options = (told : Refusal) → Refuses bytes lists options told → ⊥
 
--- straight code decodes
-not_undecoded : OneOutcome → (o : Elf) (sec : ℕ) (insns : List Insn) (t : TextFaultText) → IsStraightCode o sec insns → IsFirstUndecoded o t → ⊥
-not_undecoded one o sec insns t code h = go t.fault (subst (λ (n : ℕ). IsUndecoded (section_at o n).body t.fault) (code.text.only h.sec h.inside h.text) h.undecoded)
-  where
-    go : (f : TextFault) → IsUndecoded (section_at o sec).body f → ⊥
-    go (text.At off why) u =
-        let stands = code.code off u.0 in
-        no_instruction one (drop off (section_at o sec).body) stands.0 why stands.1 u.1
-    go text.NoMemory u = u
+accepted_unrefused : OneOutcome → (bytes table : List ℕ) (lists : NameLists) (options : Options) → Accepts bytes lists options table → IsUnrefused bytes lists options
+accepted_unrefused one bytes table lists options accepts told (malformed fault) = FirstFault-not bytes _ fault accepts.is.well_formed
+accepted_unrefused one bytes table lists options accepts told (unchecked o is tells) =
+    not_told one accepts.object told accepts.checkable (subst (λ (x : Elf). TellsCheckFault x told) (one_object bytes o accepts.object is accepts.is) tells)
+accepted_unrefused one bytes table lists options accepts told (crowded o others is checkable unbroken has many count) =
+    let same = one_object bytes o accepts.object is accepts.is in
+    let rows = one_rows (program_of accepts.object lists) others accepts.rows (subst (λ (x : Elf). HasRows (program_of x lists) others) same has) accepts.has_rows in
+    let needed : MAX_SYMBOLS < symbols_needed accepts.object accepts.rows = subst (λ (rs : List PlacedRow). MAX_SYMBOLS < symbols_needed accepts.object rs) rows (subst (λ (x : Elf). MAX_SYMBOLS < symbols_needed x others) same many) in
+    let few : symbols_needed accepts.object accepts.rows ≤ MAX_SYMBOLS = accepts.table_is.few in
+    absurd (omega (arith, needed, few))
 
-not_refused : OneOutcome → (bytes table : List ℕ) (refusal : Refusal) → Accepts bytes table → Refuses bytes refusal → ⊥
-not_refused one bytes table refusal accepts (malformed fault) = FirstFault-not bytes _ fault accepts.is.well_formed
-not_refused one bytes table refusal accepts (undecoded o is place) =
-    let same = one_object bytes accepts.object o accepts.is is in
-    not_undecoded one o accepts.sec accepts.insns _ (subst (λ (x : Elf). IsStraightCode x accepts.sec accepts.insns) same accepts.form) place
-not_refused one bytes table refusal accepts (not_built o is code none) =
-    let same = one_object bytes accepts.object o accepts.is is in
-    none (record { sec = accepts.sec; insns = accepts.insns; form = subst (λ (x : Elf). IsStraightCode x accepts.sec accepts.insns) same accepts.form })
-not_refused one bytes table refusal accepts (crowded o is form many) =
-    let same = one_object bytes accepts.object o accepts.is is in
-    let few : length o.sections ≤ most_sections = subst (λ (x : Elf). length x.sections ≤ 262141) same accepts.few in
-    absurd (omega (arith, few, many))
+breaks_unbroken : (bytes : List ℕ) (lists : NameLists) (options : Options) (o : Elf) → BreaksRule bytes lists options → IsObject bytes o → IsUnbroken (program_of o lists) options → ⊥
+breaks_unbroken bytes lists options o breaks is unbroken =
+    let same = one_object bytes o breaks.object is breaks.is in
+    (subst (λ (x : Elf). IsUnbroken (program_of x lists) options) same unbroken).unbroken breaks.place breaks.rule breaks.a breaks.b breaks.broken
 
--- the answers that are left
-abbrev Left : Status → Type 0
-Left x = (x ≡ status.Done) ⊎ ((x ≡ status.FileFault) ⊎ (x ≡ status.NoMemory))
+broken_unrefused : OneOutcome → (bytes : List ℕ) (lists : NameLists) (options : Options) → BreaksRule bytes lists options → IsUnrefused bytes lists options
+broken_unrefused one bytes lists options breaks told (malformed fault) = FirstFault-not bytes _ fault breaks.is.well_formed
+broken_unrefused one bytes lists options breaks told (unchecked o is tells) =
+    not_told one breaks.object told breaks.checkable (subst (λ (x : Elf). TellsCheckFault x told) (one_object bytes o breaks.object is breaks.is) tells)
+broken_unrefused one bytes lists options breaks told (crowded o others is checkable unbroken has many count) = breaks_unbroken bytes lists options o breaks is unbroken
 
-faults_left : (x : Status) → (x ≡ status.FileFault) ⊎ (x ≡ status.NoMemory) → Left x
-faults_left x h = inr h
+some_contained : (warnings : List Warning) → warnings ≢ [] → (w : Warning) × Contains warnings w
+some_contained [] some = absurd (some refl)
+some_contained (w ∷ warnings) some = (w, (0, omega arith, refl))
+
+-- what is accepted has no warnings
+accepted_unwarned : (bytes table : List ℕ) (lists : NameLists) (options : Options) (o : Elf) (warnings : List Warning) → Accepts bytes lists options table → Warns bytes lists options o warnings → ⊥
+accepted_unwarned bytes table lists options o warnings accepts warns =
+    let first = some_contained warnings warns.are.some in
+    let same = one_object bytes o accepts.object warns.is accepts.is in
+    let broken = (warns.are.all first.0).0 first.1 in
+    accepts.unbroken.unbroken first.0.place first.0.rule first.0.a first.0.b (subst (λ (x : Elf). IsBroken (program_of x lists) options first.0.place first.0.rule first.0.a first.0.b) same broken)
+
+-- ---- what was read
 
 -- what may be read is one thing, where the content is told
 told_read : (limit : ℕ) (content : Option Content) (held : Content) (name : List ℕ) (r : Result (List ℕ) FileError) → content ≡ Some held → MayRead limit content name r → r ≡ reading held name limit
 told_read limit content held name r is may = subst (λ (c : Option Content). MayRead limit c name r) is may
 
-left_unread : (s : Stop) (input read : List ℕ) (held : Content) (before after : Outside) (out out' : Output) (x : Status) → before.content ≡ Some held → reading held input MAX_FILE_BYTES ≡ Ok read → StopsAtRead MAX_FILE_BYTES input before after s → Concludes s out out' x → Left x
-left_unread (stop.Usage usage) input read held before after out out' x c is h t = absurd h
-left_unread (stop.Missing told) input read held before after out out' x c is h t = let u : ◌≡◌ {A = Result (List ℕ) FileError} (Err file.Missing) (Ok read) = told_read MAX_FILE_BYTES before.content held input _ c h.1 ∙ is in cc
-left_unread (stop.TooLong told limit) input read held before after out out' x c is h t = let u : ◌≡◌ {A = Result (List ℕ) FileError} (Err (file.TooLong MAX_FILE_BYTES)) (Ok read) = told_read MAX_FILE_BYTES before.content held input _ c h.1.1 ∙ is in cc
-left_unread (stop.Refused refusal) input read held before after out out' x c is h t = absurd h
-left_unread (stop.FileFault told) input read held before after out out' x c is h t = faults_left x (concluded_after_fault (stop.FileFault told) out out' x refl t)
-left_unread stop.NoMemory input read held before after out out' x c is h t = faults_left x (inr (concluded_no_memory out out' x t))
-
-left_refused : OneOutcome → (s : Stop) (read table : List ℕ) (out out' : Output) (x : Status) → Accepts read table → IsRefusal read s → Concludes s out out' x → Left x
-left_refused one (stop.Refused refusal) read table out out' x accepts h t = absurd (not_refused one read table refusal accepts h)
-left_refused one (stop.Usage usage) read table out out' x accepts h t = absurd h
-left_refused one (stop.Missing told) read table out out' x accepts h t = absurd h
-left_refused one (stop.TooLong told limit) read table out out' x accepts h t = absurd h
-left_refused one (stop.FileFault told) read table out out' x accepts h t = absurd h
-left_refused one stop.NoMemory read table out out' x accepts h t = faults_left x (inr (concluded_no_memory out out' x t))
-
-left_unwritten : (s : Stop) (name : List ℕ) (before after : Outside) (out out' : Output) (x : Status) → StopsAtWrite name before after s → Concludes s out out' x → Left x
-left_unwritten (stop.Usage usage) name before after out out' x h t = absurd h
-left_unwritten (stop.Missing told) name before after out out' x h t = absurd h
-left_unwritten (stop.TooLong told limit) name before after out out' x h t = absurd h
-left_unwritten (stop.Refused refusal) name before after out out' x h t = absurd h
-left_unwritten (stop.FileFault told) name before after out out' x h t = faults_left x (concluded_after_fault (stop.FileFault told) out out' x refl t)
-left_unwritten stop.NoMemory name before after out out' x h t = faults_left x (inr (concluded_no_memory out out' x t))
-
 same_read : (a b : List ℕ) → ◌≡◌ {A = Result (List ℕ) FileError} (Ok a) (Ok b) → a ≡ b
 same_read a b e = cc
+
+same_names : (held : Content) (names : Option (List ℕ)) (one other : NameLists) → HasNames (Some held) names one → HasNames (Some held) names other → one ≡ other
+same_names held None one other h k = h ∙ sym k
+same_names held (Some file) one other h k =
+    let same = same_read h.text k.text (h.may ∙ sym k.may) in
+    h.are ∙ subst (λ (text : List ℕ). lists_with h.text ≡ lists_with text) same refl ∙ sym k.are
+
+-- what is known of a run: what IN and the names file hold
+record IsKnown (before : Outside) (input : List ℕ) (names : Option (List ℕ)) (read : List ℕ) (lists : NameLists) : Type 0 where
+  held : Content
+  told : before.content ≡ Some held
+  is : reading held input MAX_FILE_BYTES ≡ Ok read
+  named : HasNames (Some held) names lists
+
+-- other bytes and lists that it may have read are these
+one_reading : (P : List ℕ → NameLists → Type 0) (before : Outside) (input : List ℕ) (names : Option (List ℕ)) (read other : List ℕ) (lists others : NameLists) → IsKnown before input names read lists → IsRead before.content input names other others → P other others → P read lists
+one_reading P before input names read other lists others known is h =
+    let bytes = same_read other read (told_read MAX_FILE_BYTES before.content known.held input _ known.told is.may ∙ known.is) in
+    let named = same_names known.held names others lists (subst (λ (c : Option Content). HasNames c names others) known.told is.named) known.named in
+    subst (λ (l : NameLists). P read l) named (subst (λ (b : List ℕ). P b others) bytes h)
+
+-- ---- what stops it
+
+-- a file's fault, or want of memory
+abbrev Faults : Status → Type 0
+Faults x = (x ≡ status.FileFault) ⊎ (x ≡ status.NoMemory)
+
+stopped_unread : (s : Stop) (name read : List ℕ) (held : Content) (before after : Outside) (out out' : Output) (x : Status) → before.content ≡ Some held → reading held name MAX_FILE_BYTES ≡ Ok read → StopsAtRead MAX_FILE_BYTES name before after s → Concludes s out out' x → Faults x
+stopped_unread (stop.Usage usage) name read held before after out out' x c is h t = absurd h
+stopped_unread (stop.Missing told) name read held before after out out' x c is h t = let u : ◌≡◌ {A = Result (List ℕ) FileError} (Err file.Missing) (Ok read) = told_read MAX_FILE_BYTES before.content held name _ c h.1 ∙ is in cc
+stopped_unread (stop.TooLong told limit) name read held before after out out' x c is h t = let u : ◌≡◌ {A = Result (List ℕ) FileError} (Err (file.TooLong MAX_FILE_BYTES)) (Ok read) = told_read MAX_FILE_BYTES before.content held name _ c h.1.1 ∙ is in cc
+stopped_unread (stop.Refused refusal) name read held before after out out' x c is h t = absurd h
+stopped_unread (stop.FileFault told) name read held before after out out' x c is h t = concluded_after_fault (stop.FileFault told) out out' x refl t
+stopped_unread stop.NoMemory name read held before after out out' x c is h t = inr (concluded_no_memory out out' x t)
+
+stopped_refused : (s : Stop) (read : List ℕ) (lists : NameLists) (options : Options) (out out' : Output) (x : Status) → IsUnrefused read lists options → IsRefusal read lists options s → Concludes s out out' x → Faults x
+stopped_refused (stop.Refused told) read lists options out out' x never h t = absurd (never told h)
+stopped_refused (stop.Usage usage) read lists options out out' x never h t = absurd h
+stopped_refused (stop.Missing told) read lists options out out' x never h t = absurd h
+stopped_refused (stop.TooLong told limit) read lists options out out' x never h t = absurd h
+stopped_refused (stop.FileFault told) read lists options out out' x never h t = absurd h
+stopped_refused stop.NoMemory read lists options out out' x never h t = inr (concluded_no_memory out out' x t)
+
+stopped_unwritten : (s : Stop) (name : List ℕ) (before after : Outside) (out out' : Output) (x : Status) → StopsAtWrite name before after s → Concludes s out out' x → Faults x
+stopped_unwritten (stop.Usage usage) name before after out out' x h t = absurd h
+stopped_unwritten (stop.Missing told) name before after out out' x h t = absurd h
+stopped_unwritten (stop.TooLong told limit) name before after out out' x h t = absurd h
+stopped_unwritten (stop.Refused refusal) name before after out out' x h t = absurd h
+stopped_unwritten (stop.FileFault told) name before after out out' x h t = concluded_after_fault (stop.FileFault told) out out' x refl t
+stopped_unwritten stop.NoMemory name before after out out' x h t = inr (concluded_no_memory out out' x t)
 
 -- ---- the names file
 
@@ -118,54 +151,101 @@ no_faulty_line text line why right h =
     let same : ◌≡◌ {A = Option ListsWhy} None (Some why) = sym (right (line - 1) [] inside) ∙ h.fault in
     cc
 
-left_unlisted : (s : Stop) (text : List ℕ) (out out' : Output) (x : Status) → IsNamesFile text → IsListsStop text s → Concludes s out out' x → Left x
-left_unlisted (stop.Refused (refusal.Lists (lists.Line line why))) text out out' x right h t = absurd (no_faulty_line text line why right h)
-left_unlisted (stop.Refused (refusal.Lists lists.NoMemory)) text out out' x right h t = absurd h
-left_unlisted (stop.Refused (refusal.Malformed fault)) text out out' x right h t = absurd h
-left_unlisted (stop.Refused (refusal.Orc fault)) text out out' x right h t = absurd h
-left_unlisted (stop.Refused (refusal.Image fault)) text out out' x right h t = absurd h
-left_unlisted (stop.Refused (refusal.NoText sec)) text out out' x right h t = absurd h
-left_unlisted (stop.Refused (refusal.Unplaced fault)) text out out' x right h t = absurd h
-left_unlisted (stop.Refused (refusal.Undecoded place)) text out out' x right h t = absurd h
-left_unlisted (stop.Refused (refusal.TooManySections count)) text out out' x right h t = absurd h
-left_unlisted (stop.Refused refusal.NotBuilt) text out out' x right h t = absurd h
-left_unlisted stop.NoMemory text out out' x right h t = faults_left x (inr (concluded_no_memory out out' x t))
-left_unlisted (stop.Usage usage) text out out' x right h t = absurd h
-left_unlisted (stop.Missing told) text out out' x right h t = absurd h
-left_unlisted (stop.TooLong told limit) text out out' x right h t = absurd h
-left_unlisted (stop.FileFault told) text out out' x right h t = absurd h
+stopped_unlisted : (s : Stop) (text : List ℕ) (out out' : Output) (x : Status) → IsNamesFile text → IsListsStop text s → Concludes s out out' x → Faults x
+stopped_unlisted (stop.Refused (refusal.Lists (lists_fault.Line line why))) text out out' x right h t = absurd (no_faulty_line text line why right h)
+stopped_unlisted (stop.Refused (refusal.Lists lists_fault.NoMemory)) text out out' x right h t = absurd h
+stopped_unlisted (stop.Refused (refusal.Malformed fault)) text out out' x right h t = absurd h
+stopped_unlisted (stop.Refused (refusal.Orc fault)) text out out' x right h t = absurd h
+stopped_unlisted (stop.Refused (refusal.Image fault)) text out out' x right h t = absurd h
+stopped_unlisted (stop.Refused (refusal.NoText sec)) text out out' x right h t = absurd h
+stopped_unlisted (stop.Refused (refusal.Unplaced fault)) text out out' x right h t = absurd h
+stopped_unlisted (stop.Refused (refusal.Unlinked told)) text out out' x right h t = absurd h
+stopped_unlisted (stop.Refused (refusal.Unflowed told)) text out out' x right h t = absurd h
+stopped_unlisted (stop.Refused (refusal.HasOrc sec)) text out out' x right h t = absurd h
+stopped_unlisted (stop.Refused (refusal.TooMany what count)) text out out' x right h t = absurd h
+stopped_unlisted stop.NoMemory text out out' x right h t = inr (concluded_no_memory out out' x t)
+stopped_unlisted (stop.Usage usage) text out out' x right h t = absurd h
+stopped_unlisted (stop.Missing told) text out out' x right h t = absurd h
+stopped_unlisted (stop.TooLong told limit) text out out' x right h t = absurd h
+stopped_unlisted (stop.FileFault told) text out out' x right h t = absurd h
 
-given_names : (held : Content) (names : Option (List ℕ)) (file : List ℕ) → names ≡ Some file → HasNames (Some held) names → HoldsNames (Some held) file
-given_names held names file is h = subst (λ (given : Option (List ℕ)). HasNames (Some held) given) is h
+given_names : (held : Content) (names : Option (List ℕ)) (file : List ℕ) (lists : NameLists) → names ≡ Some file → HasNames (Some held) names lists → HoldsNames (Some held) file lists
+given_names held names file lists is h = subst (λ (given : Option (List ℕ)). HasNames (Some held) given lists) is h
 
-left_by_names : (s : Stop) (names : Option (List ℕ)) (held : Content) (before after : Outside) (out out' : Output) (x : Status) → before.content ≡ Some held → HasNames (Some held) names → StopsAtNames names before after s → Concludes s out out' x → Left x
-left_by_names s names held before after out out' x c has (names_unread file is h) t =
-    let given = given_names held names file is has in
-    left_unread s file given.text held before after out out' x c (sym given.may) h t
-left_by_names s names held before after out out' x c has (no_names file text is may h) t =
-    let given = given_names held names file is has in
+stopped_by_names : (s : Stop) (names : Option (List ℕ)) (lists : NameLists) (held : Content) (before after : Outside) (out out' : Output) (x : Status) → before.content ≡ Some held → HasNames (Some held) names lists → StopsAtNames names before after s → Concludes s out out' x → Faults x
+stopped_by_names s names lists held before after out out' x c has (names_unread file is h) t =
+    let given = given_names held names file lists is has in
+    stopped_unread s file given.text held before after out out' x c (sym given.may) h t
+stopped_by_names s names lists held before after out out' x c has (no_names file text is may h) t =
+    let given = given_names held names file lists is has in
     let same = same_read given.text text (given.may ∙ sym (told_read MAX_FILE_BYTES before.content held file _ c may)) in
-    left_unlisted s text out out' x (subst IsNamesFile same given.right) h t
+    stopped_unlisted s text out out' x (subst IsNamesFile same given.right) h t
+stopped_by_names stop.NoMemory names lists held before after out out' x c has no_lists t = inr (concluded_no_memory out out' x t)
 
-left_by_stop : OneOutcome → (s : Stop) (input output : List ℕ) (names : Option (List ℕ)) (read table : List ℕ) (held : Content) (before after : Outside) (out out' : Output) (x : Status) → before.content ≡ Some held → reading held input MAX_FILE_BYTES ≡ Ok read → Accepts read table → HasNames (Some held) names → Stops input output names before after s → Concludes s out out' x → Left x
-left_by_stop one s input output names read table held before after out out' x c is accepts has (unread h kept) t = left_unread s input read held before after out out' x c is h t
-left_by_stop one s input output names read table held before after out out' x c is accepts has (without_names other may h kept) t = left_by_names s names held before after out out' x c has h t
-left_by_stop one s input output names read table held before after out out' x c is accepts has (refused other may lists h kept) t =
-    let same = same_read other read (told_read MAX_FILE_BYTES before.content held input _ c may ∙ is) in
-    left_refused one s read table out out' x accepts (subst (λ (b : List ℕ). IsRefusal b s) same h) t
-left_by_stop one s input output names read table held before after out out' x c is accepts has (unwritten other accepted h others) t = left_unwritten s output before after out out' x h t
+-- where the bytes are refused in no way, only faults and want of memory stop the command
+stop_faults : (s : Stop) (input output : List ℕ) (options : Options) (names : Option (List ℕ)) (read : List ℕ) (lists : NameLists) (before after : Outside) (out out' : Output) (x : Status) → IsKnown before input names read lists → IsUnrefused read lists options → Stops input output options names before after s → Concludes s out out' x → Faults x
+stop_faults s input output options names read lists before after out out' x known never (unread h kept) t = stopped_unread s input read known.held before after out out' x known.told known.is h t
+stop_faults s input output options names read lists before after out out' x known never (without_names other may h kept) t = stopped_by_names s names lists known.held before after out out' x known.told known.named h t
+stop_faults s input output options names read lists before after out out' x known never (refused other others is h kept) t =
+    stopped_refused s read lists options out out' x never (one_reading (λ b l. IsRefusal b l options s) before input names read other lists others known is h) t
+stop_faults s input output options names read lists before after out out' x known never (unwritten table accepted h others) t = stopped_unwritten s output before after out out' x h t
 
-left_by_check : OneOutcome → (input output : List ℕ) (names : Option (List ℕ)) (read table : List ℕ) (held : Content) (before after : Outside) (out out' : Output) (x : Status) → before.content ≡ Some held → reading held input MAX_FILE_BYTES ≡ Ok read → Accepts read table → HasNames (Some held) names → EndsCheck input output names before after out out' x → Left x
-left_by_check one input output names read table held before after out out' status.Done c is accepts has (done d same) = inl refl
-left_by_check one input output names read table held before after out out' x c is accepts has (stopped s h t) = left_by_stop one s input output names read table held before after out out' x c is accepts has h t
+-- ---- how `check` ends
 
-pub left : OneOutcome → (meaning : Meaning) (input output : List ℕ) (options : Options) (names : Option (List ℕ)) (read table : List ℕ) (held : Content) (before after : Outside) (out out' : Output) (x : Status) → meaning ≡ Ok (check input output options names) → are_built options ≡ true → before.content ≡ Some held → reading held input MAX_FILE_BYTES ≡ Ok read → HasNames (Some held) names → Accepts read table → Ends meaning before after out out' x → Left x
-left one meaning input output options names read table held before after out out' x n built c is has accepts (faulty word kind none same t) = absurd (no_fault_and_command meaning word kind _ none n)
-left one meaning input output options names read table held before after out out' x n built c is has accepts (unfinished same t) = faults_left x (inr (concluded_no_memory out out' x t))
-left one meaning input output options names read table held before after out out' x n built c is has accepts (unbuilt command some none same t) = absurd (not_unbuilt meaning command _ some n none built)
-left one meaning input output options names read table held before after out out' x n built c is has accepts (shown command some shows same t) = absurd (not_told meaning command _ some n shows refl)
-left one meaning input output options names read table held before after out out' x n built c is has accepts (dumped file some h kept) = let same : dump file ≡ check input output options names = same_command meaning _ _ some n in cc
-left one meaning input output options names read table held before after out out' x n built c is has accepts (unwound file image some h kept) = let same : unwind file image ≡ check input output options names = same_command meaning _ _ some n in cc
-left one meaning input output options names read table held before after out out' x n built c is has accepts (checked i o os ns some ready h) =
-    let same : check i o os ns ≡ check input output options names = same_command meaning _ _ some n in
-    left_by_check one i o ns read table held before after out out' x c (subst (λ (name : List ℕ). reading held name MAX_FILE_BYTES ≡ Ok read) (sym (same_inputs _ _ same)) is) accepts (subst (λ (given : Option (List ℕ)). HasNames (Some held) given) (sym (same_lists _ _ same)) has) h
+-- words that ask for `check` end as it does, or for want of memory
+ends_as_check : (meaning : Meaning) (input output : List ℕ) (options : Options) (names : Option (List ℕ)) (before after : Outside) (out out' : Output) (x : Status) → meaning ≡ Ok (check input output options names) → are_built options ≡ true → Ends meaning before after out out' x → EndsCheck input output options names before after out out' x ⊎ (x ≡ status.NoMemory)
+ends_as_check meaning input output options names before after out out' x n built (faulty word kind none same t) = absurd (no_fault_and_command meaning word kind _ none n)
+ends_as_check meaning input output options names before after out out' x n built (unfinished same t) = inr (concluded_no_memory out out' x t)
+ends_as_check meaning input output options names before after out out' x n built (unbuilt command some none same t) = absurd (not_unbuilt meaning command _ some n none built)
+ends_as_check meaning input output options names before after out out' x n built (shown command some shows same t) = absurd (not_text meaning command _ some n shows refl)
+ends_as_check meaning input output options names before after out out' x n built (dumped file some h kept) = let same : dump file ≡ check input output options names = same_command meaning _ _ some n in cc
+ends_as_check meaning input output options names before after out out' x n built (unwound file image some h kept) = let same : unwind file image ≡ check input output options names = same_command meaning _ _ some n in cc
+ends_as_check meaning input output options names before after out out' x n built (checked i o os ns some ready h) =
+    inl (subst (ChecksAs before after out out' x) (same_command meaning (check i o os ns) (check input output options names) some n) h)
+
+-- ---- what is accepted
+
+abbrev Left : Status → Type 0
+Left x = (x ≡ status.Done) ⊎ Faults x
+
+left_by_check : OneOutcome → (input output : List ℕ) (options : Options) (names : Option (List ℕ)) (read table : List ℕ) (lists : NameLists) (before after : Outside) (out out' : Output) (x : Status) → IsKnown before input names read lists → Accepts read lists options table → EndsCheck input output options names before after out out' x → Left x
+left_by_check one input output options names read table lists before after out out' status.Done known accepts (done d same) = inl refl
+left_by_check one input output options names read table lists before after out out' x known accepts (warned o warnings is kept t) =
+    absurd (accepted_unwarned read table lists options o warnings accepts (one_reading (λ b l. Warns b l options o warnings) before input names read is.read lists is.lists known is.is_read is.warns))
+left_by_check one input output options names read table lists before after out out' x known accepts (stopped s h t) =
+    inr (stop_faults s input output options names read lists before after out out' x known (accepted_unrefused one read table lists options accepts) h t)
+
+pub left : OneOutcome → (meaning : Meaning) (input output : List ℕ) (options : Options) (names : Option (List ℕ)) (read table : List ℕ) (lists : NameLists) (held : Content) (before after : Outside) (out out' : Output) (x : Status) → meaning ≡ Ok (check input output options names) → are_built options ≡ true → before.content ≡ Some held → reading held input MAX_FILE_BYTES ≡ Ok read → HasNames (Some held) names lists → Accepts read lists options table → Ends meaning before after out out' x → Left x
+left one meaning input output options names read table lists held before after out out' x n built told is named accepts ends = elim (ends_as_check meaning input output options names before after out out' x n built ends) [
+  | inl h ↦ left_by_check one input output options names read table lists before after out out' x (record { held = held; told = told; is = is; named = named }) accepts h
+  | inr none ↦ inr (inr none)
+]
+
+-- ---- what breaks a rule
+
+abbrev Warned : Status → Type 0
+Warned x = (x ≡ status.Warnings) ⊎ ((x ≡ status.FileFault) ⊎ ((x ≡ status.SinkFault) ⊎ (x ≡ status.NoMemory)))
+
+faults_warned : (x : Status) → Faults x → Warned x
+faults_warned x (inl e) = inr (inl e)
+faults_warned x (inr e) = inr (inr (inr e))
+
+text_warned : (text : List ℕ) (out out' : Output) (x : Status) → Prints status.Warnings text out out' x → Warned x
+text_warned text out out' x (whole at all) = inl at
+text_warned text out out' status.FileFault (fault_stays prefix rose at) = inr (inl refl)
+text_warned text out out' status.SinkFault (fails prefix rose other) = inr (inr (inl refl))
+text_warned text out out' status.NoMemory (runs_out prefix) = inr (inr (inr refl))
+
+warned_by_check : OneOutcome → (input output : List ℕ) (options : Options) (names : Option (List ℕ)) (read : List ℕ) (lists : NameLists) (before after : Outside) (out out' : Output) (x : Status) → IsKnown before input names read lists → BreaksRule read lists options → EndsCheck input output options names before after out out' x → Warned x
+warned_by_check one input output options names read lists before after out out' status.Done known breaks (done d same) =
+    let accepts : Accepts read lists options d.table = one_reading (λ b l. Accepts b l options d.table) before input names read d.accepted.read lists d.accepted.lists known d.accepted.is_read d.accepted.accepts in
+    absurd (breaks_unbroken read lists options accepts.object breaks accepts.is accepts.unbroken)
+warned_by_check one input output options names read lists before after out out' x known breaks (warned o warnings is kept t) = text_warned _ out out' x t
+warned_by_check one input output options names read lists before after out out' x known breaks (stopped s h t) =
+    faults_warned x (stop_faults s input output options names read lists before after out out' x known (broken_unrefused one read lists options breaks) h t)
+
+pub all_warned : OneOutcome → (meaning : Meaning) (input output : List ℕ) (options : Options) (names : Option (List ℕ)) (read : List ℕ) (lists : NameLists) (held : Content) (before after : Outside) (out out' : Output) (x : Status) → meaning ≡ Ok (check input output options names) → are_built options ≡ true → before.content ≡ Some held → reading held input MAX_FILE_BYTES ≡ Ok read → HasNames (Some held) names lists → BreaksRule read lists options → Ends meaning before after out out' x → Warned x
+all_warned one meaning input output options names read lists held before after out out' x n built told is named breaks ends = elim (ends_as_check meaning input output options names before after out out' x n built ends) [
+  | inl h ↦ warned_by_check one input output options names read lists before after out out' x (record { held = held; told = told; is = is; named = named }) breaks h
+  | inr none ↦ inr (inr (inr none))
+]

@@ -12,9 +12,9 @@ use Rattle.ot_files.specs.declared.access.FileError.TheVariants.{Missing, TooLon
 use Rattle.elf_objects.specs.declared.TheConstants.{MAX_FILE_BYTES}
 use Rattle.objtool_cli.specs.Checked.{Accepts}
 use Rattle.command_base.specs.Outside.{Outside}
-use Rattle.command_base.specs.Reading.{MayRead}
-use Rattle.objtool_cli.specs.Command.{IsDone}
-use Rattle.objtool_cli.specs.Lists.{HasNames}
+use Rattle.ot_base.specs.NameLists.{NameLists}
+use Rattle.ot_base.specs.declared.options.Options.{Options}
+use Rattle.objtool_cli.specs.Command.{IsDone, IsRead}
 use Rattle.objtool_cli.specs.Unwinding.{OutUnwinds, Unwinds}
 
 not_same : (a b : List ℕ) → a ≢ b → eq_by_cmp (slice_cmp nat_cmp) a b ≡ false
@@ -46,22 +46,24 @@ held_is limit (Some read) bytes is = within (nat_lt limit (length read)) is
     within false e = let u : ◌≡◌ {A = Result (List ℕ) FileError} (Ok bytes) (Ok read) = e in cc
 
 -- the bytes that are written unwind those that were read
-pub out_unwinds : (input output bytes table : List ℕ) (before after : Option Content) → MayRead MAX_FILE_BYTES before input (Ok bytes) → after ≡ writing before output table → Unwinds bytes table → OutUnwinds input output before after
-out_unwinds input output bytes table None after may e h = tt
-out_unwinds input output bytes table (Some content) after may e h =
-    subst (λ (c : Option Content). OutUnwinds input output (Some content) c) (sym e) (record {
+pub out_unwinds : (input output : List ℕ) (names : Option (List ℕ)) (bytes table : List ℕ) (lists : NameLists) (before after : Option Content) → IsRead before input names bytes lists → after ≡ writing before output table → Unwinds bytes lists table → OutUnwinds input output names before after
+out_unwinds input output names bytes table lists None after read e h = tt
+out_unwinds input output names bytes table lists (Some content) after read e h =
+    subst (λ (c : Option Content). OutUnwinds input output names (Some content) c) (sym e) (record {
       read = bytes;
-      held = held_is MAX_FILE_BYTES (get content input) bytes may;
+      held = held_is MAX_FILE_BYTES (get content input) bytes read.may;
+      lists = lists;
+      named = read.named;
       written = table;
       left = get-insert_same content output table;
       unwinds = h;
     })
 
 -- what stands where the command is done
-pub is_done : (input output : List ℕ) (names : Option (List ℕ)) (bytes table : List ℕ) (before after : Outside) → MayRead MAX_FILE_BYTES before.content input (Ok bytes) → HasNames before.content names → Accepts bytes table → Unwinds bytes table → after.content ≡ writing before.content output table → IsDone input output names before after
-is_done input output names bytes table before after may lists accepted unwinds e = record {
+pub is_done : (input output : List ℕ) (options : Options) (names : Option (List ℕ)) (bytes table : List ℕ) (lists : NameLists) (before after : Outside) → IsRead before.content input names bytes lists → Accepts bytes lists options table → Unwinds bytes lists table → after.content ≡ writing before.content output table → IsDone input output options names before after
+is_done input output options names bytes table lists before after read accepted unwinds e = record {
   table = table;
-  accepted = record { read = bytes; may = may; accepts = accepted; lists = lists };
+  accepted = record { read = bytes; lists = lists; is_read = read; accepts = accepted };
   written = e;
-  unwinds = out_unwinds input output bytes table before.content after.content may e unwinds;
+  unwinds = out_unwinds input output names bytes table lists before.content after.content read e unwinds;
 }

@@ -1,6 +1,6 @@
 -- What follows from how a command ends.
 use Rattle.std.proofs.Common.{◌≡◌, ℕ, List, refl, sym, ap, ◌∙◌, subst, inl, inr}
-use Rattle.std.specs.Prelude.{◌≢◌, ◌⊎◌, [], Some, None, Option, Result, Ok, Err, Bool, true, false}
+use Rattle.std.specs.Prelude.{◌≢◌, ◌⊎◌, [], Some, None, Option, Ok, Err, Bool, true, false}
 use Rattle.ot_files.specs.Causes.{Rose}
 use Rattle.ot_files.specs.Content.{Content, ChangesAtMost, reading, writing}
 use Rattle.command_base.specs.declared.status.Status.{Status}
@@ -15,18 +15,22 @@ use Rattle.command_base.specs.Stop.{status_of}
 use Rattle.command_base.proofs.ConcludeLemmas.{concluded_after_fault, concluded_fault, concluded_no_memory, concluded_no_warnings, concluded_not_done, concluded_sink_fault}
 use Rattle.elf_objects.specs.declared.TheConstants.{MAX_FILE_BYTES}
 use Rattle.objtool_cli.specs.Checked.{IsRefusal}
-use Rattle.objtool_cli.specs.Command.{Ends, EndsCheck, IsDone, IsFaulty, IsUsageAnswer, MayChange, Stops, StopsAtWrite, asks_too_much, at_fault, checked, done, faulty, not_built, output_of_check, refused, stopped, shown, unfinished, unread, unwritten, without_names, dumped, unwound}
-use Rattle.objtool_cli.specs.Lists.{IsListsStop, StopsAtNames, names_unread, no_names}
+use Rattle.objtool_cli.specs.Command.{Ends, EndsCheck, IsFaulty, IsUsageAnswer, IsWarned, MayChange, PrintsWarnings, Stops, asks_too_much, at_fault, checked, done, faulty, not_built, output_of_check, refused, stopped, shown, unfinished, unread, unwritten, warned, without_names, dumped, unwound}
+use Rattle.objtool_cli.specs.Lists.{IsListsStop, StopsAtNames, names_unread, no_lists, no_names}
+use Rattle.objtool_cli.specs.Writing.{StopsAtWrite}
+use Rattle.objtool_cli.specs.Warnings.{warnings_text}
+use Rattle.ot_base.specs.declared.warning.Warning.{Warning}
+use Rattle.ot_files.specs.Output.{appending}
+use Rattle.ot_base.specs.NameLists.{NameLists}
 use Rattle.objtool_cli.specs.Unwinding.{OutUnwinds}
 use Rattle.cli_words.specs.Grammar.{Command, check, demo, dump, help, unwind, version}
 use Rattle.cli_words.specs.declared.fault.UsageKind.{UsageKind}
 use Rattle.ot_base.specs.declared.options.Options.{Options}
 use Rattle.command_base.specs.declared.usage.Usage as declared
 use Rattle.command_base.specs.declared.usage.Usage.TheVariants as usage
-use Rattle.command_base.specs.declared.refusal.Refusal.TheVariants as refusal
 use Rattle.command_base.specs.Printing.{Prints, fails, fault_stays, runs_out, silent, tells, whole}
-use Rattle.command_base.proofs.ConcludeLemmas.{printed_fault, printed_sink_fault, printed_warnings}
-use Rattle.objtool_cli.specs.Words.{Meaning, are_built, is_built, is_told}
+use Rattle.command_base.proofs.ConcludeLemmas.{printed_done, printed_fault, printed_sink_fault, printed_warnings}
+use Rattle.objtool_cli.specs.Words.{Meaning, is_built, is_told}
 use Rattle.ot_base.specs.declared.row.PlacedRow.{PlacedRow}
 use Rattle.elf_objects.specs.Elf.{Elf}
 use Rattle.read_back.specs.Dump.{HoldsRows, IsAnswered, IsDumped}
@@ -54,13 +58,13 @@ write_fault (stop.Refused refusal) name before after h e = absurd h
 write_fault (stop.FileFault file) name before after h e = h.1
 write_fault stop.NoMemory name before after h e = cc
 
-refusal_no_fault : (s : Stop) (bytes : List ℕ) → IsRefusal bytes s → status_of s ≢ FileFault
-refusal_no_fault (stop.Usage usage) bytes h e = absurd h
-refusal_no_fault (stop.Missing file) bytes h e = absurd h
-refusal_no_fault (stop.TooLong file limit) bytes h e = absurd h
-refusal_no_fault (stop.Refused refusal) bytes h e = cc
-refusal_no_fault (stop.FileFault file) bytes h e = absurd h
-refusal_no_fault stop.NoMemory bytes h e = cc
+refusal_no_fault : (s : Stop) (bytes : List ℕ) (lists : NameLists) (options : Options) → IsRefusal bytes lists options s → status_of s ≢ FileFault
+refusal_no_fault (stop.Usage usage) bytes lists options h e = absurd h
+refusal_no_fault (stop.Missing file) bytes lists options h e = absurd h
+refusal_no_fault (stop.TooLong file limit) bytes lists options h e = absurd h
+refusal_no_fault (stop.Refused refusal) bytes lists options h e = cc
+refusal_no_fault (stop.FileFault file) bytes lists options h e = absurd h
+refusal_no_fault stop.NoMemory bytes lists options h e = cc
 
 -- nor is a faulty line of a names file a file's fault
 lists_no_fault : (s : Stop) (text : List ℕ) → IsListsStop text s → status_of s ≢ FileFault
@@ -74,16 +78,18 @@ lists_no_fault stop.NoMemory text h e = cc
 names_fault : (s : Stop) (names : Option (List ℕ)) (before after : Outside) → StopsAtNames names before after s → status_of s ≡ FileFault → Rose before.faults after.faults
 names_fault s names before after (names_unread file is h) e = read_fault s file before after h e
 names_fault s names before after (no_names file text is may h) e = absurd (lists_no_fault s text h e)
+names_fault stop.NoMemory names before after no_lists e = cc
 
-stop_fault : (s : Stop) (input output : List ℕ) (names : Option (List ℕ)) (before after : Outside) → Stops input output names before after s → status_of s ≡ FileFault → Rose before.faults after.faults
-stop_fault s input output names before after (unread h kept) e = read_fault s input before after h e
-stop_fault s input output names before after (without_names read may h kept) e = names_fault s names before after h e
-stop_fault s input output names before after (refused read may lists h kept) e = absurd (refusal_no_fault s read h e)
-stop_fault s input output names before after (unwritten table accepted h others) e = write_fault s output before after h e
+stop_fault : (s : Stop) (input output : List ℕ) (options : Options) (names : Option (List ℕ)) (before after : Outside) → Stops input output options names before after s → status_of s ≡ FileFault → Rose before.faults after.faults
+stop_fault s input output options names before after (unread h kept) e = read_fault s input before after h e
+stop_fault s input output options names before after (without_names read may h kept) e = names_fault s names before after h e
+stop_fault s input output options names before after (refused read lists is_read h kept) e = absurd (refusal_no_fault s read lists options h e)
+stop_fault s input output options names before after (unwritten table accepted h others) e = write_fault s output before after h e
 
-fault_of_check : (input output : List ℕ) (names : Option (List ℕ)) (before after : Outside) (out out' : Output) (x : Status) → EndsCheck input output names before after out out' x → x ≡ FileFault → Rose before.faults after.faults
-fault_of_check input output names before after out out' Done (done is same) e = cc
-fault_of_check input output names before after out out' x (stopped s h t) e = stop_fault s input output names before after h (concluded_fault s out out' x t e)
+fault_of_check : (input output : List ℕ) (options : Options) (names : Option (List ℕ)) (before after : Outside) (out out' : Output) (x : Status) → EndsCheck input output options names before after out out' x → x ≡ FileFault → Rose before.faults after.faults
+fault_of_check input output options names before after out out' Done (done is same) e = cc
+fault_of_check input output options names before after out out' x (warned o warnings is kept t) e = let same = printed_fault status.Warnings _ out out' x t e in cc
+fault_of_check input output options names before after out out' x (stopped s h t) e = stop_fault s input output options names before after h (concluded_fault s out out' x t e)
 
 no_usage_fault : (usage : declared.Usage) → status_of (stop.Usage usage) ≢ FileFault
 no_usage_fault usage e = cc
@@ -97,6 +103,12 @@ done_no_fault e = cc
 done_no_sink_fault : status.Done ≢ SinkFault
 done_no_sink_fault e = cc
 
+warnings_no_sink_fault : status.Warnings ≢ SinkFault
+warnings_no_sink_fault e = cc
+
+warnings_not_done : status.Warnings ≢ Done
+warnings_not_done e = cc
+
 done_no_warnings : status.Done ≢ Warnings
 done_no_warnings e = cc
 
@@ -105,20 +117,21 @@ file_fault meaning before after out out' x (faulty word kind is same t) e = absu
 file_fault meaning before after out out' x (unfinished same t) e = absurd (no_memory_fault (concluded_fault stop.NoMemory out out' x t e))
 file_fault meaning before after out out' x (not_built command is none same t) e = absurd (no_usage_fault usage.NotBuilt (concluded_fault (stop.Usage usage.NotBuilt) out out' x t e))
 file_fault meaning before after out out' x (shown command is shows same t) e = absurd (done_no_fault (printed_fault Done t.text out out' x t.printed e))
-file_fault meaning before after out out' x (checked input output options names is built h) e = fault_of_check input output names before after out out' x h e
+file_fault meaning before after out out' x (checked input output options names is built h) e = fault_of_check input output options names before after out out' x h e
 file_fault meaning before after out out' x (dumped file is h kept) e = dump_fault file before after out out' x h e
 file_fault meaning before after out out' x (unwound file image is h kept) e = unwind_fault file image before after out out' x h e
 
-sink_fault_of_check : (input output : List ℕ) (names : Option (List ℕ)) (before after : Outside) (out out' : Output) (x : Status) → EndsCheck input output names before after out out' x → x ≡ SinkFault → Rose out.faults out'.faults
-sink_fault_of_check input output names before after out out' Done (done is same) e = cc
-sink_fault_of_check input output names before after out out' x (stopped s h t) e = concluded_sink_fault s out out' x t e
+sink_fault_of_check : (input output : List ℕ) (options : Options) (names : Option (List ℕ)) (before after : Outside) (out out' : Output) (x : Status) → EndsCheck input output options names before after out out' x → x ≡ SinkFault → Rose out.faults out'.faults
+sink_fault_of_check input output options names before after out out' Done (done is same) e = cc
+sink_fault_of_check input output options names before after out out' x (warned o warnings is kept t) e = printed_sink_fault status.Warnings _ out out' x t warnings_no_sink_fault e
+sink_fault_of_check input output options names before after out out' x (stopped s h t) e = concluded_sink_fault s out out' x t e
 
 pub sink_fault : (meaning : Meaning) (before after : Outside) (out out' : Output) (x : Status) → Ends meaning before after out out' x → x ≡ SinkFault → Rose out.faults out'.faults
 sink_fault meaning before after out out' x (faulty word kind is same t) e = concluded_sink_fault (stop.Usage (usage.Words word kind)) out out' x t e
 sink_fault meaning before after out out' x (unfinished same t) e = concluded_sink_fault stop.NoMemory out out' x t e
 sink_fault meaning before after out out' x (not_built command is none same t) e = concluded_sink_fault (stop.Usage usage.NotBuilt) out out' x t e
 sink_fault meaning before after out out' x (shown command is shows same t) e = printed_sink_fault Done t.text out out' x t.printed done_no_sink_fault e
-sink_fault meaning before after out out' x (checked input output options names is built h) e = sink_fault_of_check input output names before after out out' x h e
+sink_fault meaning before after out out' x (checked input output options names is built h) e = sink_fault_of_check input output options names before after out out' x h e
 sink_fault meaning before after out out' x (dumped file is h kept) e = dump_sink_fault file before after out out' x h e
 sink_fault meaning before after out out' x (unwound file image is h kept) e = unwind_sink_fault file image before after out out' x h e
 
@@ -135,22 +148,23 @@ write_told (stop.Refused refusal) name before after out out' x h t = absurd h
 write_told (stop.FileFault file) name before after out out' x h t = concluded_after_fault (stop.FileFault file) out out' x refl t
 write_told stop.NoMemory name before after out out' x h t = inr (concluded_no_memory out out' x t)
 
-stop_keeps : (s : Stop) (input output : List ℕ) (names : Option (List ℕ)) (before after : Outside) (out out' : Output) (x : Status) → Stops input output names before after s → Concludes s out out' x → x ≢ FileFault → x ≢ NoMemory → after.content ≡ before.content
-stop_keeps s input output names before after out out' x (unread h kept) t f m = kept
-stop_keeps s input output names before after out out' x (without_names read may h kept) t f m = kept
-stop_keeps s input output names before after out out' x (refused read may lists h kept) t f m = kept
-stop_keeps s input output names before after out out' x (unwritten table accepted h others) t f m = absurd (neither x (write_told s output before after out out' x h t) f m)
+stop_keeps : (s : Stop) (input output : List ℕ) (options : Options) (names : Option (List ℕ)) (before after : Outside) (out out' : Output) (x : Status) → Stops input output options names before after s → Concludes s out out' x → x ≢ FileFault → x ≢ NoMemory → after.content ≡ before.content
+stop_keeps s input output options names before after out out' x (unread h kept) t f m = kept
+stop_keeps s input output options names before after out out' x (without_names read may h kept) t f m = kept
+stop_keeps s input output options names before after out out' x (refused read lists is_read h kept) t f m = kept
+stop_keeps s input output options names before after out out' x (unwritten table accepted h others) t f m = absurd (neither x (write_told s output before after out out' x h t) f m)
 
-check_keeps : (input output : List ℕ) (names : Option (List ℕ)) (before after : Outside) (out out' : Output) (x : Status) → EndsCheck input output names before after out out' x → x ≢ Done → x ≢ FileFault → x ≢ NoMemory → after.content ≡ before.content
-check_keeps input output names before after out out' Done (done is same) d f m = absurd (d refl)
-check_keeps input output names before after out out' x (stopped s h t) d f m = stop_keeps s input output names before after out out' x h t f m
+check_keeps : (input output : List ℕ) (options : Options) (names : Option (List ℕ)) (before after : Outside) (out out' : Output) (x : Status) → EndsCheck input output options names before after out out' x → x ≢ Done → x ≢ FileFault → x ≢ NoMemory → after.content ≡ before.content
+check_keeps input output options names before after out out' Done (done is same) d f m = absurd (d refl)
+check_keeps input output options names before after out out' x (warned o warnings is kept t) d f m = kept
+check_keeps input output options names before after out out' x (stopped s h t) d f m = stop_keeps s input output options names before after out out' x h t f m
 
 pub unchanged : (meaning : Meaning) (before after : Outside) (out out' : Output) (x : Status) → Ends meaning before after out out' x → x ≢ Done → x ≢ FileFault → x ≢ NoMemory → after.content ≡ before.content
 unchanged meaning before after out out' x (faulty word kind is same t) d f m = ap (λ (o : Outside). o.content) same
 unchanged meaning before after out out' x (unfinished same t) d f m = ap (λ (o : Outside). o.content) same
 unchanged meaning before after out out' x (not_built command is none same t) d f m = ap (λ (o : Outside). o.content) same
 unchanged meaning before after out out' x (shown command is shows same t) d f m = ap (λ (o : Outside). o.content) same
-unchanged meaning before after out out' x (checked input output options names is built h) d f m = check_keeps input output names before after out out' x h d f m
+unchanged meaning before after out out' x (checked input output options names is built h) d f m = check_keeps input output options names before after out out' x h d f m
 unchanged meaning before after out out' x (dumped file is h kept) d f m = kept
 unchanged meaning before after out out' x (unwound file image is h kept) d f m = kept
 
@@ -162,14 +176,15 @@ written_others output table (Some held) after is = subst (λ (c : Option Content
 abbrev Left : Meaning → Outside → Outside → Type 0
 Left meaning before after = (after.content ≡ before.content) ⊎ MayChange meaning before.content after.content
 
-stop_changes : (s : Stop) (meaning : Meaning) (input output : List ℕ) (options : Options) (names : Option (List ℕ)) (before after : Outside) → meaning ≡ Ok (check input output options names) → Stops input output names before after s → Left meaning before after
+stop_changes : (s : Stop) (meaning : Meaning) (input output : List ℕ) (options : Options) (names : Option (List ℕ)) (before after : Outside) → meaning ≡ Ok (check input output options names) → Stops input output options names before after s → Left meaning before after
 stop_changes s meaning input output options names before after is (unread h kept) = inl kept
 stop_changes s meaning input output options names before after is (without_names read may h kept) = inl kept
-stop_changes s meaning input output options names before after is (refused read may lists h kept) = inl kept
+stop_changes s meaning input output options names before after is (refused read lists is_read h kept) = inl kept
 stop_changes s meaning input output options names before after is (unwritten table accepted h others) = inr (output_of_check input output options names table is accepted others)
 
-check_changes : (meaning : Meaning) (input output : List ℕ) (options : Options) (names : Option (List ℕ)) (before after : Outside) (out out' : Output) (x : Status) → meaning ≡ Ok (check input output options names) → EndsCheck input output names before after out out' x → Left meaning before after
+check_changes : (meaning : Meaning) (input output : List ℕ) (options : Options) (names : Option (List ℕ)) (before after : Outside) (out out' : Output) (x : Status) → meaning ≡ Ok (check input output options names) → EndsCheck input output options names before after out out' x → Left meaning before after
 check_changes meaning input output options names before after out out' Done is (done d same) = inr (output_of_check input output options names d.table is d.accepted (written_others output d.table before.content after.content d.written))
+check_changes meaning input output options names before after out out' x is (warned o warnings found kept t) = inl kept
 check_changes meaning input output options names before after out out' x is (stopped s h t) = stop_changes s meaning input output options names before after is h
 
 pub changes : (meaning : Meaning) (before after : Outside) (out out' : Output) (x : Status) → Ends meaning before after out out' x → Left meaning before after
@@ -212,9 +227,10 @@ no_check_unwind meaning input output options names file image p q = let same = s
 no_dump_unwind : (meaning : Meaning) (other file image : List ℕ) → meaning ≡ Ok (dump other) → meaning ≡ Ok (unwind file image) → ⊥
 no_dump_unwind meaning other file image p q = let same = same_command meaning _ _ p q in cc
 
-silent_check : (input output : List ℕ) (names : Option (List ℕ)) (before after : Outside) (out out' : Output) (x : Status) → EndsCheck input output names before after out out' x → x ≡ Done → out'.written ≡ out.written
-silent_check input output names before after out out' Done (done is same) e = ap (λ (o : Output). o.written) same
-silent_check input output names before after out out' x (stopped s h t) e = absurd (concluded_not_done s out out' x t e)
+silent_check : (input output : List ℕ) (options : Options) (names : Option (List ℕ)) (before after : Outside) (out out' : Output) (x : Status) → EndsCheck input output options names before after out out' x → x ≡ Done → out'.written ≡ out.written
+silent_check input output options names before after out out' Done (done is same) e = ap (λ (o : Output). o.written) same
+silent_check input output options names before after out out' x (warned o warnings is kept t) e = absurd (warnings_not_done (printed_done status.Warnings _ out out' x t e))
+silent_check input output options names before after out out' x (stopped s h t) e = absurd (concluded_not_done s out out' x t e)
 
 -- a stop that is told is no command that is done
 unless_told : (s : Stop) (out out' : Output) (x : Status) → Concludes s out out' x → x ≡ Done → ⊥
@@ -227,20 +243,43 @@ tells_nothing meaning before after out out' x input output options names (not_bu
 tells_nothing meaning before after out out' x input output options names (shown command is shows same t) n e = absurd (not_told meaning command _ is n shows refl)
 tells_nothing meaning before after out out' x input output options names (dumped file is h kept) n e = absurd (no_check_dump meaning input output options names file n is)
 tells_nothing meaning before after out out' x input output options names (unwound file image is h kept) n e = absurd (no_check_unwind meaning input output options names file image n is)
-tells_nothing meaning before after out out' x input output options names (checked i o os ns is built h) n e = silent_check i o ns before after out out' x h e
+tells_nothing meaning before after out out' x input output options names (checked i o os ns is built h) n e = silent_check i o os ns before after out out' x h e
 
-no_warnings_of_check : (input output : List ℕ) (names : Option (List ℕ)) (before after : Outside) (out out' : Output) (x : Status) → EndsCheck input output names before after out out' x → x ≢ Warnings
-no_warnings_of_check input output names before after out out' Done (done is same) e = cc
-no_warnings_of_check input output names before after out out' x (stopped s h t) e = concluded_no_warnings s out out' x t e
+-- ---- warnings
 
-pub without_warnings : (meaning : Meaning) (before after : Outside) (out out' : Output) (x : Status) → Ends meaning before after out out' x → x ≢ Warnings
-without_warnings meaning before after out out' x (faulty word kind is same t) e = concluded_no_warnings (stop.Usage (usage.Words word kind)) out out' x t e
-without_warnings meaning before after out out' x (unfinished same t) e = concluded_no_warnings stop.NoMemory out out' x t e
-without_warnings meaning before after out out' x (not_built command is none same t) e = concluded_no_warnings (stop.Usage usage.NotBuilt) out out' x t e
-without_warnings meaning before after out out' x (shown command is shows same t) e = done_no_warnings (printed_warnings Done t.text out out' x t.printed e)
-without_warnings meaning before after out out' x (checked input output options names is built h) e = no_warnings_of_check input output names before after out out' x h e
-without_warnings meaning before after out out' x (dumped file is h kept) e = dump_no_warnings file before after out out' x h e
-without_warnings meaning before after out out' x (unwound file image is h kept) e = unwind_no_warnings file image before after out out' x h e
+whole_text : (text : List ℕ) (out out' : Output) (x : Status) → Prints status.Warnings text out out' x → x ≡ Warnings → out'.written ≡ appending out.written text
+whole_text text out out' x (whole at all) e = all
+whole_text text out out' FileFault (fault_stays prefix rose at) e = cc
+whole_text text out out' SinkFault (fails prefix rose other) e = cc
+whole_text text out out' NoMemory (runs_out prefix) e = cc
+
+prints_warnings : (meaning : Meaning) (input output : List ℕ) (options : Options) (names : Option (List ℕ)) (content : Option Content) (before after : Option (List ℕ)) (o : Elf) (warnings : List Warning) → meaning ≡ Ok (check input output options names) → IsWarned content input options names o warnings → after ≡ appending before (warnings_text o warnings) → PrintsWarnings meaning content before after
+prints_warnings meaning input output options names content before after o warnings asked is printed = record {
+  input = input;
+  output = output;
+  options = options;
+  names = names;
+  asked = asked;
+  object = o;
+  warnings = warnings;
+  warned = is;
+  printed = printed;
+}
+
+check_warned : (meaning : Meaning) (input output : List ℕ) (options : Options) (names : Option (List ℕ)) (before after : Outside) (out out' : Output) (x : Status) → meaning ≡ Ok (check input output options names) → EndsCheck input output options names before after out out' x → x ≡ Warnings → PrintsWarnings meaning before.content out.written out'.written
+check_warned meaning input output options names before after out out' Done asked (done is same) e = absurd (done_no_warnings e)
+check_warned meaning input output options names before after out out' x asked (warned o warnings is kept t) e =
+    prints_warnings meaning input output options names before.content out.written out'.written o warnings asked is (whole_text (warnings_text o warnings) out out' x t e)
+check_warned meaning input output options names before after out out' x asked (stopped s h t) e = absurd (concluded_no_warnings s out out' x t e)
+
+pub warnings_printed : (meaning : Meaning) (before after : Outside) (out out' : Output) (x : Status) → Ends meaning before after out out' x → x ≡ Warnings → PrintsWarnings meaning before.content out.written out'.written
+warnings_printed meaning before after out out' x (faulty word kind is same t) e = absurd (concluded_no_warnings (stop.Usage (usage.Words word kind)) out out' x t e)
+warnings_printed meaning before after out out' x (unfinished same t) e = absurd (concluded_no_warnings stop.NoMemory out out' x t e)
+warnings_printed meaning before after out out' x (not_built command is none same t) e = absurd (concluded_no_warnings (stop.Usage usage.NotBuilt) out out' x t e)
+warnings_printed meaning before after out out' x (shown command is shows same t) e = absurd (done_no_warnings (printed_warnings Done t.text out out' x t.printed e))
+warnings_printed meaning before after out out' x (checked input output options names is built h) e = check_warned meaning input output options names before after out out' x is h e
+warnings_printed meaning before after out out' x (dumped file is h kept) e = absurd (dump_no_warnings file before after out out' x h e)
+warnings_printed meaning before after out out' x (unwound file image is h kept) e = absurd (unwind_no_warnings file image before after out out' x h e)
 
 -- ---- a command's names
 
@@ -260,25 +299,21 @@ output_of (demo n) = []
 output_of help = []
 output_of version = []
 
-abbrev lists_of : Command → Option (List ℕ)
-lists_of (check input output options names) = names
-lists_of (dump file) = None
-lists_of (unwind file image) = None
-lists_of (demo n) = None
-lists_of help = None
-lists_of version = None
+-- how a command ends that is `check`
+abbrev pub ChecksAs : Outside → Outside → Output → Output → Status → Command → Type 0
+ChecksAs before after out out' x (check input output options names) = EndsCheck input output options names before after out out' x
+ChecksAs before after out out' x (dump file) = Unit {0}
+ChecksAs before after out out' x (unwind file image) = Unit {0}
+ChecksAs before after out out' x (demo n) = Unit {0}
+ChecksAs before after out out' x help = Unit {0}
+ChecksAs before after out out' x version = Unit {0}
 
-pub same_inputs : (c d : Command) → c ≡ d → input_of c ≡ input_of d
-same_inputs c d same = ap input_of same
+check_unwound : (input output : List ℕ) (options : Options) (names : Option (List ℕ)) (before after : Outside) (out out' : Output) (x : Status) → EndsCheck input output options names before after out out' x → x ≡ Done → OutUnwinds input output names before.content after.content
+check_unwound input output options names before after out out' Done (done is same) e = is.unwinds
+check_unwound input output options names before after out out' x (warned o warnings is kept t) e = absurd (warnings_not_done (printed_done status.Warnings _ out out' x t e))
+check_unwound input output options names before after out out' x (stopped s h t) e = absurd (concluded_not_done s out out' x t e)
 
-pub same_lists : (c d : Command) → c ≡ d → lists_of c ≡ lists_of d
-same_lists c d same = ap lists_of same
-
-check_unwound : (input output : List ℕ) (names : Option (List ℕ)) (before after : Outside) (out out' : Output) (x : Status) → EndsCheck input output names before after out out' x → x ≡ Done → OutUnwinds input output before.content after.content
-check_unwound input output names before after out out' Done (done is same) e = is.unwinds
-check_unwound input output names before after out out' x (stopped s h t) e = absurd (concluded_not_done s out out' x t e)
-
-pub out_unwinds : (meaning : Meaning) (before after : Outside) (out out' : Output) (x : Status) (input output : List ℕ) (options : Options) (names : Option (List ℕ)) → Ends meaning before after out out' x → x ≡ Done → meaning ≡ Ok (check input output options names) → OutUnwinds input output before.content after.content
+pub out_unwinds : (meaning : Meaning) (before after : Outside) (out out' : Output) (x : Status) (input output : List ℕ) (options : Options) (names : Option (List ℕ)) → Ends meaning before after out out' x → x ≡ Done → meaning ≡ Ok (check input output options names) → OutUnwinds input output names before.content after.content
 out_unwinds meaning before after out out' x input output options names (faulty word kind is same t) e n = absurd (unless_told _ out out' x t e)
 out_unwinds meaning before after out out' x input output options names (unfinished same t) e n = absurd (unless_told _ out out' x t e)
 out_unwinds meaning before after out out' x input output options names (not_built command is none same t) e n = absurd (unless_told _ out out' x t e)
@@ -286,8 +321,7 @@ out_unwinds meaning before after out out' x input output options names (shown co
 out_unwinds meaning before after out out' x input output options names (dumped file is h kept) e n = absurd (no_check_dump meaning input output options names file n is)
 out_unwinds meaning before after out out' x input output options names (unwound file image is h kept) e n = absurd (no_check_unwind meaning input output options names file image n is)
 out_unwinds meaning before after out out' x input output options names (checked i o os ns is built h) e n =
-    let same : check i o os ns ≡ check input output options names = same_command meaning _ _ is n in
-    subst (λ (m : List ℕ). OutUnwinds m output before.content after.content) (ap input_of same) (subst (λ (m : List ℕ). OutUnwinds i m before.content after.content) (ap output_of same) (check_unwound i o ns before after out out' x h e))
+    check_unwound input output options names before after out out' x (subst (ChecksAs before after out out' x) (same_command meaning (check i o os ns) (check input output options names) is n) h) e
 
 -- ---- `dump`
 

@@ -7,10 +7,14 @@ use Rattle.ot_files.specs.Causes.{Rose}
 use Rattle.ot_files.specs.Content.{Content}
 use Rattle.command_base.specs.declared.stop.Stop.{Stop}
 use Rattle.command_base.specs.declared.stop.Stop.TheVariants as stop
-use Rattle.command_base.specs.Outside.{Outside}
+use Rattle.command_base.specs.Outside.{Outside, Output}
 use Rattle.command_base.specs.Reading.{StopsAtRead}
-use Rattle.objtool_cli.specs.Command.{IsDone, Stops, StopsAtWrite, refused, unread, unwritten, without_names}
-use Rattle.objtool_cli.specs.Lists.{StopsAtNames, names_unread, no_names}
+use Rattle.command_base.specs.declared.status.Status.{Status}
+use Rattle.command_base.specs.declared.status.Status.TheVariants as status
+use Rattle.ot_base.specs.declared.options.Options.{Options}
+use Rattle.objtool_cli.specs.Command.{EndsCheck, IsDone, Stops, done, refused, stopped, unread, unwritten, warned, without_names}
+use Rattle.objtool_cli.specs.Lists.{StopsAtNames, names_unread, no_lists, no_names}
+use Rattle.objtool_cli.specs.Writing.{StopsAtWrite}
 
 abbrev outside : Option Content → ℕ → Outside
 outside content faults = record { content = content; faults = faults }
@@ -40,22 +44,25 @@ write_earlier stop.NoMemory name content before middle after later h = h
 names_earlier : (s : Stop) (names : Option (List ℕ)) (content : Option Content) (before middle : ℕ) (after : Outside) → before ≤ middle → StopsAtNames names (outside content middle) after s → StopsAtNames names (outside content before) after s
 names_earlier s names content before middle after later (names_unread file is h) = names_unread file is (read_earlier s file content before middle after later h)
 names_earlier s names content before middle after later (no_names file text is may h) = no_names file text is may h
+names_earlier s names content before middle after later no_lists = no_lists
 
 -- fewer faults at the beginning
-done_earlier : (input output : List ℕ) (names : Option (List ℕ)) (content : Option Content) (before middle : ℕ) (after : Outside) → IsDone input output names (outside content middle) after → IsDone input output names (outside content before) after
-done_earlier input output names content before middle after d = record { table = d.table; accepted = d.accepted; written = d.written; unwinds = d.unwinds }
+done_earlier : (input output : List ℕ) (options : Options) (names : Option (List ℕ)) (content : Option Content) (before middle : ℕ) (after : Outside) → IsDone input output options names (outside content middle) after → IsDone input output options names (outside content before) after
+done_earlier input output options names content before middle after d = record { table = d.table; accepted = d.accepted; written = d.written; unwinds = d.unwinds }
 
-stops_earlier : (s : Stop) (input output : List ℕ) (names : Option (List ℕ)) (content : Option Content) (before middle : ℕ) (after : Outside) → before ≤ middle → Stops input output names (outside content middle) after s → Stops input output names (outside content before) after s
-stops_earlier s input output names content before middle after later (unread h kept) = unread (read_earlier s input content before middle after later h) kept
-stops_earlier s input output names content before middle after later (without_names read may h kept) = without_names read may (names_earlier s names content before middle after later h) kept
-stops_earlier s input output names content before middle after later (refused read may lists h kept) = refused read may lists h kept
-stops_earlier s input output names content before middle after later (unwritten table accepted h others) = unwritten table accepted (write_earlier s output content before middle after later h) others
+stops_earlier : (s : Stop) (input output : List ℕ) (options : Options) (names : Option (List ℕ)) (content : Option Content) (before middle : ℕ) (after : Outside) → before ≤ middle → Stops input output options names (outside content middle) after s → Stops input output options names (outside content before) after s
+stops_earlier s input output options names content before middle after later (unread h kept) = unread (read_earlier s input content before middle after later h) kept
+stops_earlier s input output options names content before middle after later (without_names read may h kept) = without_names read may (names_earlier s names content before middle after later h) kept
+stops_earlier s input output options names content before middle after later (refused read lists is h kept) = refused read lists is h kept
+stops_earlier s input output options names content before middle after later (unwritten table accepted h others) = unwritten table accepted (write_earlier s output content before middle after later h) others
 
-pub done_later : (input output : List ℕ) (names : Option (List ℕ)) (content middle : Option Content) (before faults : ℕ) (after : Outside) → middle ≡ content → IsDone input output names (outside middle faults) after → IsDone input output names (outside content before) after
-done_later input output names content middle before faults after same d = done_earlier input output names content before faults after (subst (λ (c : Option Content). IsDone input output names (outside c faults) after) same d)
+ends_earlier : (input output : List ℕ) (options : Options) (names : Option (List ℕ)) (content : Option Content) (before middle : ℕ) (after : Outside) (out out' : Output) (x : Status) → before ≤ middle → EndsCheck input output options names (outside content middle) after out out' x → EndsCheck input output options names (outside content before) after out out' x
+ends_earlier input output options names content before middle after out out' status.Done later (done d same) = done (done_earlier input output options names content before middle after d) same
+ends_earlier input output options names content before middle after out out' x later (warned o warnings is kept t) = warned o warnings is kept t
+ends_earlier input output options names content before middle after out out' x later (stopped s h t) = stopped s (stops_earlier s input output options names content before middle after later h) t
 
-pub stops_later : (s : Stop) (input output : List ℕ) (names : Option (List ℕ)) (content middle : Option Content) (before faults : ℕ) (after : Outside) → middle ≡ content → before ≤ faults → Stops input output names (outside middle faults) after s → Stops input output names (outside content before) after s
-stops_later s input output names content middle before faults after same later h = stops_earlier s input output names content before faults after later (subst (λ (c : Option Content). Stops input output names (outside c faults) after s) same h)
+pub ends_later : (input output : List ℕ) (options : Options) (names : Option (List ℕ)) (content middle : Option Content) (before faults : ℕ) (after : Outside) (out out' : Output) (x : Status) → middle ≡ content → before ≤ faults → EndsCheck input output options names (outside middle faults) after out out' x → EndsCheck input output options names (outside content before) after out out' x
+ends_later input output options names content middle before faults after out out' x same later h = ends_earlier input output options names content before faults after out out' x later (subst (λ (c : Option Content). EndsCheck input output options names (outside c faults) after out out' x) same h)
 
 pub names_later : (s : Stop) (names : Option (List ℕ)) (content middle : Option Content) (before faults : ℕ) (after : Outside) → middle ≡ content → before ≤ faults → StopsAtNames names (outside middle faults) after s → StopsAtNames names (outside content before) after s
 names_later s names content middle before faults after same later h = names_earlier s names content before faults after later (subst (λ (c : Option Content). StopsAtNames names (outside c faults) after s) same h)

@@ -1,11 +1,11 @@
 pub mod AcceptsLemmas
-pub mod CodeLemmas
+pub mod CheckLemmas
+pub mod CheckableLemmas
 pub mod ContentLemmas
 pub mod EndsLemmas
-pub mod FormLemmas
 pub mod LaterLemmas
-pub mod ListsLemmas
 pub mod ParseLemmas
-pub mod TextsLemmas
+pub mod PlacementLemmas
 pub mod UnwindingLemmas
 pub mod UsageLemmas
+pub mod WarningLemmas

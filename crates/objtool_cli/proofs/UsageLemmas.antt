@@ -15,8 +15,10 @@ use Rattle.read_back.specs.Dump.{Dumps, EndsDump, HoldsNoRows}
 use Rattle.read_back.specs.Unwind as unwind
 use Rattle.read_back.specs.Unwind.{EndsUnwind, HasNoWalk, Unwinds}
 use Rattle.objtool_cli.specs.Checked.{IsRefusal}
-use Rattle.objtool_cli.specs.Command.{Ends, EndsCheck, IsFaulty, Stops, StopsAtWrite, asks_too_much, at_fault, checked, done, dumped, faulty, not_built, refused, shown, stopped, unfinished, unread, unwound, unwritten, without_names}
-use Rattle.objtool_cli.specs.Lists.{IsListsStop, StopsAtNames, names_unread, no_names}
+use Rattle.objtool_cli.specs.Command.{Ends, EndsCheck, IsFaulty, Stops, asks_too_much, at_fault, checked, done, dumped, faulty, not_built, refused, shown, stopped, unfinished, unread, unwound, unwritten, warned, without_names}
+use Rattle.objtool_cli.specs.Lists.{IsListsStop, StopsAtNames, names_unread, no_lists, no_names}
+use Rattle.objtool_cli.specs.Writing.{StopsAtWrite}
+use Rattle.ot_base.specs.declared.options.Options.{Options}
 use Rattle.objtool_cli.specs.Words.{Meaning}
 
 not_usage : (end : Status) (text : List ℕ) (before after : Output) (x : Status) → Prints end text before after x → end ≢ status.Usage → x ≢ status.Usage
@@ -80,24 +82,29 @@ files_unwound file image before after out out' x (unwind.no_file s h t) e = conc
 files_unwound file image before after out out' x (unwind.no_text bytes s may h t) e = concluded_other s out out' x t (unread_other _ image before after s h) e
 files_unwound file image before after out out' x (unwind.read bytes text may may_text h) e = bytes_unwound bytes text out out' x h e
 
+memory_other : IsOther stop.NoMemory
+memory_other usage e = cc
+
 -- ---- `check`
 
 names_other : (names : Option (List ℕ)) (before after : Outside) (s : Stop) → StopsAtNames names before after s → IsOther s
 names_other names before after s (names_unread file is h) = unread_other _ file before after s h
 names_other names before after s (no_names file text is may h) = λ usage same. subst (λ (t : Stop). IsListsStop text t) same h
+names_other names before after stop.NoMemory no_lists = memory_other
 
-stop_other : (s : Stop) (input output : List ℕ) (names : Option (List ℕ)) (before after : Outside) → Stops input output names before after s → IsOther s
-stop_other s input output names before after (unread h kept) = unread_other _ input before after s h
-stop_other s input output names before after (without_names read may h kept) = names_other names before after s h
-stop_other s input output names before after (refused read may lists h kept) = λ usage same. subst (λ (t : Stop). IsRefusal read t) same h
-stop_other s input output names before after (unwritten table accepted h others) = λ usage same. subst (λ (t : Stop). StopsAtWrite output before after t) same h
+stop_other : (s : Stop) (input output : List ℕ) (options : Options) (names : Option (List ℕ)) (before after : Outside) → Stops input output options names before after s → IsOther s
+stop_other s input output options names before after (unread h kept) = unread_other _ input before after s h
+stop_other s input output options names before after (without_names read may h kept) = names_other names before after s h
+stop_other s input output options names before after (refused read lists is h kept) = λ usage same. subst (λ (t : Stop). IsRefusal read lists options t) same h
+stop_other s input output options names before after (unwritten table accepted h others) = λ usage same. subst (λ (t : Stop). StopsAtWrite output before after t) same h
 
-check_ended : (input output : List ℕ) (names : Option (List ℕ)) (before after : Outside) (out out' : Output) (x : Status) → EndsCheck input output names before after out out' x → x ≢ status.Usage
-check_ended input output names before after out out' status.Done (done d same) e = cc
-check_ended input output names before after out out' x (stopped s h t) e = concluded_other s out out' x t (stop_other s input output names before after h) e
+warnings_not_usage : status.Warnings ≢ status.Usage
+warnings_not_usage e = cc
 
-memory_other : IsOther stop.NoMemory
-memory_other usage e = cc
+check_ended : (input output : List ℕ) (options : Options) (names : Option (List ℕ)) (before after : Outside) (out out' : Output) (x : Status) → EndsCheck input output options names before after out out' x → x ≢ status.Usage
+check_ended input output options names before after out out' status.Done (done d same) e = cc
+check_ended input output options names before after out out' x (warned o warnings is kept t) e = not_usage _ _ out out' x t warnings_not_usage e
+check_ended input output options names before after out out' x (stopped s h t) e = concluded_other s out out' x t (stop_other s input output options names before after h) e
 
 pub only_faulty : (meaning : Meaning) (before after : Outside) (out out' : Output) (x : Status) → Ends meaning before after out out' x → x ≡ status.Usage → IsFaulty meaning
 only_faulty meaning before after out out' x (faulty word kind is same t) e = at_fault word kind is
@@ -106,4 +113,4 @@ only_faulty meaning before after out out' x (not_built command is none same t) e
 only_faulty meaning before after out out' x (shown command is shows same t) e = absurd (not_usage _ _ out out' x t.printed done_not_usage e)
 only_faulty meaning before after out out' x (dumped file is h kept) e = absurd (file_dumped file before after out out' x h e)
 only_faulty meaning before after out out' x (unwound file image is h kept) e = absurd (files_unwound file image before after out out' x h e)
-only_faulty meaning before after out out' x (checked i o os ns is built h) e = absurd (check_ended i o ns before after out out' x h e)
+only_faulty meaning before after out out' x (checked i o options ns is built h) e = absurd (check_ended i o options ns before after out out' x h e)

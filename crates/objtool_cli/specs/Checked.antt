@@ -1,61 +1,103 @@
 -- What `check` makes of the bytes of its input.
-use Rattle.std.specs.Prelude.{◌≡◌, ℕ, ◌-◌, ◌<◌, ◌≤◌, List, length}
-use Rattle.operation_defs.specs.declared.insn.Insn.{Insn}
+use Rattle.std.specs.Prelude.{◌≡◌, ℕ, ℤ, ◌<◌, List}
+use Rattle.ot_base.specs.NameLists.{NameLists}
+use Rattle.ot_base.specs.declared.options.Options.{Options}
+use Rattle.ot_base.specs.declared.place.Place.{Place}
+use Rattle.ot_base.specs.declared.row.PlacedRow.{PlacedRow}
+use Rattle.ot_base.specs.declared.warning.Warning.{Warning}
+use Rattle.elf_objects.specs.declared.fault.Counted.TheVariants.{Sections, Symbols}
 use Rattle.elf_objects.specs.declared.fault.ElfFault.{ElfFault}
+use Rattle.elf_objects.specs.Contents.{section_at}
 use Rattle.elf_objects.specs.Elf.{Elf}
 use Rattle.elf_objects.specs.Object.{FirstFault, IsObject}
-use Rattle.elf_write.specs.Object.{appended_to}
-use Rattle.straight_table.specs.Rows.{straight_rows}
-use Rattle.orc_output.specs.OrcOutput.{orc_sections}
+use Rattle.elf_objects.specs.declared.TheConstants.{MAX_SYMBOLS}
+use Rattle.x86_text.specs.declared.fault.TextFault.{TextFault}
+use Rattle.checker_defs.specs.Broken.{IsBroken}
+use Rattle.flow_defs.specs.Program.{program_of}
+use Rattle.object_code.specs.declared.fault.LinkFault.TheVariants.{Text}
+use Rattle.object_code.specs.declared.fault_text.LinkFaultText.{LinkFaultText}
+use Rattle.object_check.specs.Order.{IsCheckable, IsCheckFault}
+use Rattle.object_check.specs.Outcome.{AreWarnings, HasRows, IsUnbroken}
+use Rattle.object_check.specs.declared.fault.CheckFault.TheVariants as fault
+use Rattle.table_output.specs.Tables.{symbols_needed}
 use Rattle.command_base.specs.declared.refusal.Refusal.{Refusal}
-use Rattle.command_base.specs.declared.refusal.Refusal.TheVariants.{Malformed, Undecoded, TooManySections, NotBuilt}
+use Rattle.command_base.specs.declared.refusal.Refusal.TheVariants.{Malformed, Unlinked, Unflowed, HasOrc, TooMany}
 use Rattle.command_base.specs.declared.stop.Stop.{Stop}
 use Rattle.command_base.specs.declared.stop.Stop.TheVariants.{Usage, Missing, TooLong, Refused, FileFault, NoMemory}
-use Rattle.elf_objects.specs.declared.TheConstants.{MAX_SECTIONS}
-use Rattle.x86_text.specs.declared.fault_text.TextFaultText.{TextFaultText}
-use Rattle.objtool_cli.specs.Form.{IsStraightCode}
-use Rattle.objtool_cli.specs.Texts.{AreCode, IsFirstUndecoded}
+use Rattle.objtool_cli.specs.Writing.{IsTable}
 
--- so many sections an object may have, so that those of the tables still find room
-abbrev pub most_sections : ℕ
-most_sections = MAX_SECTIONS - 3
-
--- An input of these bytes is accepted, and OUT is to hold these: they are an object of the form that is checked, with
--- no more sections than may be, and the same with the ORC sections of its rows.
-pub record Accepts (bytes table : List ℕ) : Type 0 where
+-- An input of these bytes is accepted under these lists of names and these options, and OUT is to hold the table: they are
+-- an object that is checked, and whose program breaks no rule that is asked for; and the same with the tables of the rows of
+-- its program.
+pub record Accepts (bytes : List ℕ) (lists : NameLists) (options : Options) (table : List ℕ) : Type 0 where
   pub object : Elf
   pub is : IsObject bytes object
-  pub sec : ℕ
-  pub insns : List Insn
-  pub form : IsStraightCode object sec insns
-  pub few : length object.sections ≤ most_sections
-  pub added : table ≡ appended_to object (orc_sections object (straight_rows sec insns))
+  pub checkable : IsCheckable object
+  pub unbroken : IsUnbroken (program_of object lists) options
+  pub rows : List PlacedRow
+  pub has_rows : HasRows (program_of object lists) rows
+  pub table_is : IsTable object rows table
 
--- the object is of the form
-pub record HasForm (o : Elf) : Type 0 where
-  pub sec : ℕ
-  pub insns : List Insn
-  pub form : IsStraightCode o sec insns
+-- They are this object, which is checked, and whose program breaks rules that are asked for: these are all warnings, in
+-- their order.
+pub record Warns (bytes : List ℕ) (lists : NameLists) (options : Options) (o : Elf) (warnings : List Warning) : Type 0 where
+  pub is : IsObject bytes o
+  pub checkable : IsCheckable o
+  pub are : AreWarnings (program_of o lists) options warnings
 
--- An input of these bytes is refused so, in this order: they are no object, and this is their first fault; or an object in
--- whose code this is the first place without an instruction; or one of another form; or one with too many sections.
-pub data Refuses (bytes : List ℕ) : Refusal → Type 0 where
-  malformed : {fault : ElfFault} → FirstFault bytes fault → Refuses bytes (Malformed fault)
-  undecoded : {place : TextFaultText} (o : Elf) → IsObject bytes o → IsFirstUndecoded o place → Refuses bytes (Undecoded place)
-  not_built : (o : Elf) → IsObject bytes o → AreCode o (length o.sections) → (HasForm o → ⊥) → Refuses bytes NotBuilt
-  crowded : (o : Elf) → IsObject bytes o → HasForm o → most_sections < length o.sections → Refuses bytes (TooManySections (length o.sections))
+-- they are an object that is checked, and whose program breaks a rule that is asked for
+pub record BreaksRule (bytes : List ℕ) (lists : NameLists) (options : Options) : Type 0 where
+  pub object : Elf
+  pub is : IsObject bytes object
+  pub checkable : IsCheckable object
+  pub place : Place
+  pub rule : ℕ
+  pub a : ℤ
+  pub b : ℤ
+  pub broken : IsBroken (program_of object lists) options place rule a b
+
+-- where a text section isn't code, it is told by its name and its body
+pub record NamesText (o : Elf) (told : LinkFaultText) (sec : ℕ) : Type 0 where
+  pub section : told.section.now ≡ (section_at o sec).name
+  pub body : told.body.now ≡ (section_at o sec).body
+
+abbrev pub IsWorded : Elf → LinkFaultText → Type 0
+IsWorded o told = (sec : ℕ) (why : TextFault) → told.fault ≡ Text sec why → NamesText o told sec
+
+-- the refusal tells why the object isn't checked
+abbrev pub TellsCheckFault : Elf → Refusal → Type 0
+TellsCheckFault o (Unlinked told) = IsCheckFault o (fault.Link told.fault) × IsWorded o told
+TellsCheckFault o (Unflowed told) = IsCheckFault o (fault.Flow told.fault)
+TellsCheckFault o (HasOrc sec) = IsCheckFault o (fault.HasOrc sec)
+TellsCheckFault o (TooMany Sections count) = IsCheckFault o (fault.TooManySections count)
+TellsCheckFault o _ = ⊥
+
+-- the stop tells this, or want of memory
+abbrev pub IsUnchecked : Elf → Stop → Type 0
+IsUnchecked o (Refused refusal) = TellsCheckFault o refusal
+IsUnchecked o NoMemory = Unit {0}
+IsUnchecked o _ = ⊥
+
+-- An input of these bytes is refused so, in this order: they are no object, and this is their first fault; or an object that
+-- isn't checked, and this is why; or one that breaks no rule, and whose tables need too many symbols.
+pub data Refuses (bytes : List ℕ) (lists : NameLists) (options : Options) : Refusal → Type 0 where
+  malformed : {fault : ElfFault} → FirstFault bytes fault → Refuses bytes lists options (Malformed fault)
+  unchecked : {refusal : Refusal} (o : Elf) → IsObject bytes o → TellsCheckFault o refusal → Refuses bytes lists options refusal
+  crowded :
+      {count : ℕ} (o : Elf) (rows : List PlacedRow)
+      → IsObject bytes o
+      → IsCheckable o
+      → IsUnbroken (program_of o lists) options
+      → HasRows (program_of o lists) rows
+      → MAX_SYMBOLS < symbols_needed o rows
+      → count ≡ symbols_needed o rows
+      → Refuses bytes lists options (TooMany Symbols count)
 
 -- the stop is a refusal of these bytes, or want of memory
-abbrev pub IsRefusal : List ℕ → Stop → Type 0
-IsRefusal bytes (Refused refusal) = Refuses bytes refusal
-IsRefusal bytes NoMemory = Unit {0}
-IsRefusal bytes (Usage usage) = ⊥
-IsRefusal bytes (Missing file) = ⊥
-IsRefusal bytes (TooLong file limit) = ⊥
-IsRefusal bytes (FileFault file) = ⊥
-
--- the stop tells the first place of the object's code where no instruction stands, or want of memory
-abbrev pub IsUnread : Elf → Stop → Type 0
-IsUnread o (Refused (Undecoded place)) = IsFirstUndecoded o place
-IsUnread o NoMemory = Unit {0}
-IsUnread o _ = ⊥
+abbrev pub IsRefusal : List ℕ → NameLists → Options → Stop → Type 0
+IsRefusal bytes lists options (Refused refusal) = Refuses bytes lists options refusal
+IsRefusal bytes lists options NoMemory = Unit {0}
+IsRefusal bytes lists options (Usage usage) = ⊥
+IsRefusal bytes lists options (Missing file) = ⊥
+IsRefusal bytes lists options (TooLong file limit) = ⊥
+IsRefusal bytes lists options (FileFault file) = ⊥

@@ -1,81 +1,94 @@
 -- What the commands do, on whatever their files hold, and how they end.
-use Rattle.std.specs.Prelude.{◌≡◌, ◌⊎◌, ℕ, List, Option, Some, None, Result, Ok, Err, true, false}
-use Rattle.ot_files.specs.Causes.{Rose}
+use Rattle.std.specs.Prelude.{◌≡◌, ◌⊎◌, ℕ, List, Option, Ok, Err, true, false}
 use Rattle.ot_files.specs.Content.{Content, ChangesAtMost, writing}
+use Rattle.ot_files.specs.Output.{appending}
+use Rattle.elf_objects.specs.Elf.{Elf}
 use Rattle.elf_objects.specs.declared.TheConstants.{MAX_FILE_BYTES}
 use Rattle.command_base.specs.declared.status.Status.{Status}
 use Rattle.command_base.specs.declared.status.Status.TheVariants as status
 use Rattle.command_base.specs.declared.stop.Stop.{Stop}
-use Rattle.command_base.specs.declared.stop.Stop.TheVariants.{Usage, Missing, TooLong, Refused, FileFault, NoMemory}
+use Rattle.command_base.specs.declared.stop.Stop.TheVariants.{Usage, NoMemory}
 use Rattle.command_base.specs.Outside.{Outside, Output}
 use Rattle.command_base.specs.Printing.{Concludes, Prints}
 use Rattle.command_base.specs.Reading.{MayRead, StopsAtRead}
 use Rattle.read_back.specs.Dump.{EndsDump}
 use Rattle.read_back.specs.Unwind.{EndsUnwind}
-use Rattle.objtool_cli.specs.Checked.{Accepts, IsRefusal}
+use Rattle.objtool_cli.specs.Checked.{Accepts, IsRefusal, Warns}
 use Rattle.objtool_cli.specs.Unwinding.{OutUnwinds}
 use Rattle.cli_words.specs.Grammar.{Command, check, dump, unwind}
 use Rattle.cli_words.specs.declared.fault.UsageKind.{UsageKind}
 use Rattle.command_base.specs.declared.usage.Usage.TheVariants as usage
+use Rattle.ot_base.specs.NameLists.{NameLists}
 use Rattle.ot_base.specs.declared.options.Options.{Options}
+use Rattle.ot_base.specs.declared.warning.Warning.{Warning}
 use Rattle.objtool_cli.specs.Lists.{HasNames, StopsAtNames}
+use Rattle.objtool_cli.specs.Warnings.{warnings_text}
 use Rattle.objtool_cli.specs.Words.{Meaning, are_built, is_built, is_told}
+use Rattle.objtool_cli.specs.Writing.{StopsAtWrite}
 
--- The file of this name may read as bytes that are accepted, and for which these are to be written; and the names file,
--- where one is given, is in order.
-pub record IsAccepted (content : Option Content) (input : List ℕ) (names : Option (List ℕ)) (table : List ℕ) : Type 0 where
-  pub read : List ℕ
+-- The file of this name may read as these bytes, and these are the lists of names of the names file, or the built-in ones
+-- where none is given.
+pub record IsRead (content : Option Content) (input : List ℕ) (names : Option (List ℕ)) (read : List ℕ) (lists : NameLists) : Type 0 where
   pub may : MayRead MAX_FILE_BYTES content input (Ok read)
-  pub accepts : Accepts read table
-  pub lists : HasNames content names
+  pub named : HasNames content names lists
+
+-- the file may read as bytes that are accepted, and for which these are to be written
+pub record IsAccepted (content : Option Content) (input : List ℕ) (options : Options) (names : Option (List ℕ)) (table : List ℕ) : Type 0 where
+  pub read : List ℕ
+  pub lists : NameLists
+  pub is_read : IsRead content input names read lists
+  pub accepts : Accepts read lists options table
+
+-- the file may read as the bytes of this object, which breaks rules: these are all warnings
+pub record IsWarned (content : Option Content) (input : List ℕ) (options : Options) (names : Option (List ℕ)) (o : Elf) (warnings : List Warning) : Type 0 where
+  pub read : List ℕ
+  pub lists : NameLists
+  pub is_read : IsRead content input names read lists
+  pub warns : Warns read lists options o warnings
 
 -- `check` is done: IN was accepted, OUT holds its bytes with the tables, which unwind it, and every other name what it
 -- held.
-pub record IsDone (input output : List ℕ) (names : Option (List ℕ)) (before after : Outside) : Type 0 where
+pub record IsDone (input output : List ℕ) (options : Options) (names : Option (List ℕ)) (before after : Outside) : Type 0 where
   pub table : List ℕ
-  pub accepted : IsAccepted before.content input names table
+  pub accepted : IsAccepted before.content input options names table
   pub written : after.content ≡ writing before.content output table
-  pub unwinds : OutUnwinds input output before.content after.content
-
--- a command stops so that can't write the file of this name: writing failed, and the count of faults rose; or memory ran
--- out
-abbrev pub StopsAtWrite : List ℕ → Outside → Outside → Stop → Type 0
-StopsAtWrite name before after (FileFault told) = (told.now ≡ name) × Rose before.faults after.faults
-StopsAtWrite name before after NoMemory = Unit {0}
-StopsAtWrite name before after (Usage usage) = ⊥
-StopsAtWrite name before after (Missing told) = ⊥
-StopsAtWrite name before after (TooLong told limit) = ⊥
-StopsAtWrite name before after (Refused refusal) = ⊥
+  pub unwinds : OutUnwinds input output names before.content after.content
 
 -- How `check` stops, and what stands then. Where IN or the names file isn't read, a line of the names file isn't in order,
 -- the bytes of IN are refused or memory runs out before OUT is written, no file has changed. Only where IN was accepted and
 -- then writing OUT didn't come to its end is it open what OUT holds; every other name holds what it held.
-pub data Stops (input output : List ℕ) (names : Option (List ℕ)) (before after : Outside) : Stop → Type 0 where
-  unread : {stop : Stop} → StopsAtRead MAX_FILE_BYTES input before after stop → after.content ≡ before.content → Stops input output names before after stop
+pub data Stops (input output : List ℕ) (options : Options) (names : Option (List ℕ)) (before after : Outside) : Stop → Type 0 where
+  unread : {stop : Stop} → StopsAtRead MAX_FILE_BYTES input before after stop → after.content ≡ before.content → Stops input output options names before after stop
   without_names :
       {stop : Stop} (read : List ℕ)
       → MayRead MAX_FILE_BYTES before.content input (Ok read)
       → StopsAtNames names before after stop
       → after.content ≡ before.content
-      → Stops input output names before after stop
+      → Stops input output options names before after stop
   refused :
-      {stop : Stop} (read : List ℕ)
-      → MayRead MAX_FILE_BYTES before.content input (Ok read)
-      → HasNames before.content names
-      → IsRefusal read stop
+      {stop : Stop} (read : List ℕ) (lists : NameLists)
+      → IsRead before.content input names read lists
+      → IsRefusal read lists options stop
       → after.content ≡ before.content
-      → Stops input output names before after stop
+      → Stops input output options names before after stop
   unwritten :
       {stop : Stop} (table : List ℕ)
-      → IsAccepted before.content input names table
+      → IsAccepted before.content input options names table
       → StopsAtWrite output before after stop
       → ChangesAtMost output before.content after.content
-      → Stops input output names before after stop
+      → Stops input output options names before after stop
 
--- How `check` ends: it is done, and has printed nothing, or it stops, and tells why.
-pub data EndsCheck (input output : List ℕ) (names : Option (List ℕ)) (before after : Outside) (out out' : Output) : Status → Type 0 where
-  done : IsDone input output names before after → out' ≡ out → EndsCheck input output names before after out out' status.Done
-  stopped : {s : Status} (stop : Stop) → Stops input output names before after stop → Concludes stop out out' s → EndsCheck input output names before after out out' s
+-- How `check` ends: it is done, and has printed nothing; or IN breaks rules, and it prints the lines of all warnings and changes
+-- no file; or it stops, and tells why.
+pub data EndsCheck (input output : List ℕ) (options : Options) (names : Option (List ℕ)) (before after : Outside) (out out' : Output) : Status → Type 0 where
+  done : IsDone input output options names before after → out' ≡ out → EndsCheck input output options names before after out out' status.Done
+  warned :
+      {s : Status} (o : Elf) (warnings : List Warning)
+      → IsWarned before.content input options names o warnings
+      → after.content ≡ before.content
+      → Prints status.Warnings (warnings_text o warnings) out out' s
+      → EndsCheck input output options names before after out out' s
+  stopped : {s : Status} (stop : Stop) → Stops input output options names before after stop → Concludes stop out out' s → EndsCheck input output options names before after out out' s
 
 -- A text of the program was printed, or a beginning of it.
 pub record IsShown (out out' : Output) (s : Status) : Type 0 where
@@ -100,7 +113,7 @@ pub data Ends (meaning : Meaning) (before after : Outside) (out out' : Output) :
       {s : Status} (input output : List ℕ) (options : Options) (names : Option (List ℕ))
       → meaning ≡ Ok (check input output options names)
       → are_built options ≡ true
-      → EndsCheck input output names before after out out' s
+      → EndsCheck input output options names before after out out' s
       → Ends meaning before after out out' s
 
 -- The command may have changed a file: it is `check`, its input was accepted, and only OUT has changed.
@@ -108,9 +121,22 @@ pub data MayChange (meaning : Meaning) (before after : Option Content) : Type 0 
   output_of_check :
       (input output : List ℕ) (options : Options) (names : Option (List ℕ)) (table : List ℕ)
       → meaning ≡ Ok (check input output options names)
-      → IsAccepted before input names table
+      → IsAccepted before input options names table
       → ChangesAtMost output before after
       → MayChange meaning before after
+
+-- The command was `check`, IN was read as an object that breaks rules, these are all warnings of it, and exactly their lines
+-- were printed.
+pub record PrintsWarnings (meaning : Meaning) (content : Option Content) (before after : Option (List ℕ)) : Type 0 where
+  pub input : List ℕ
+  pub output : List ℕ
+  pub options : Options
+  pub names : Option (List ℕ)
+  pub asked : meaning ≡ Ok (check input output options names)
+  pub object : Elf
+  pub warnings : List Warning
+  pub warned : IsWarned content input options names object warnings
+  pub printed : after ≡ appending before (warnings_text object warnings)
 
 -- the words are at fault, or ask for what isn't built yet
 pub data IsFaulty (meaning : Meaning) : Type 0 where

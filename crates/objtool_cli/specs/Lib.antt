@@ -1,7 +1,7 @@
 pub mod Checked
 pub mod Command
-pub mod Form
 pub mod Lists
-pub mod Texts
 pub mod Unwinding
+pub mod Warnings
 pub mod Words
+pub mod Writing

@@ -2,64 +2,62 @@
 -- that are written for it finds exactly the callers that it has.
 use Rattle.std.specs.Prelude.{◌≡◌, ⊤, ℕ, List, Option, Some, None}
 use Rattle.std.specs.FinMap.{get}
+use Rattle.ot_base.specs.NameLists.{NameLists}
 use Rattle.ot_base.specs.declared.row.PlacedRow.{PlacedRow}
 use Rattle.ot_files.specs.Content.{Content}
-use Rattle.operation_defs.specs.declared.insn.Insn.{Insn}
-use Rattle.program_defs.specs.Program.{Program}
 use Rattle.machine_defs.specs.Machine.{Bases, Machine}
 use Rattle.machine_defs.specs.Run.{Run}
 use Rattle.walk_defs.specs.declared.range.Range.{Range}
 use Rattle.walk_defs.specs.Placement.{IsPlacement}
-use Rattle.elf_objects.specs.Contents.{section_at}
 use Rattle.elf_objects.specs.Elf.{Elf}
 use Rattle.elf_objects.specs.Object.{IsObject}
+use Rattle.elf_symbols.specs.Added.{IsAdded}
 use Rattle.orc_bytes.specs.Sections.{HoldsOrc}
-use Rattle.orc_output.specs.OrcOutput.{with_orc_object}
+use Rattle.orc_output.specs.OrcOutput.{orc_sections}
 use Rattle.table_defs.specs.Placed.{BeginAt}
 use Rattle.table_defs.specs.Walks.{WalksToFrames}
-use Rattle.straight_law.specs.Program.{program_of}
+use Rattle.table_output.specs.Needed.{needed_symbols}
+use Rattle.table_output.specs.Tables.{with_symbols, with_tables_object}
+use Rattle.flow_defs.specs.Program.{program_of}
 use Rattle.command_base.specs.TextSections.{texts_of}
-use Rattle.objtool_cli.specs.Form.{IsStraightCode}
+use Rattle.objtool_cli.specs.Lists.{HasNames}
 
--- The program that an object is, by the form of the object: of straight code, that of its instructions.
-pub data IsProgramOf (o : Elf) : Program → Type 0 where
-  straight_code : {p : Program} (sec : ℕ) (insns : List Insn) → IsStraightCode o sec insns → p ≡ program_of (record { sec = sec; size = (section_at o sec).size }) insns → IsProgramOf o p
-
--- The object is exactly one program. The bytes that are written for it are this object with the ORC sections of some rows
--- added, which hold exactly this list of rows. And for every placement of the text sections and every state of every run
--- of the program, walking over these rows gives exactly the frames.
-pub record UnwindsBy (o : Elf) (written : List ℕ) : Type 0 where
-  pub program : Program
-  pub is_program : IsProgramOf o program
-  pub only_program : (other : Program) → IsProgramOf o other → other ≡ program
+-- The bytes that are written for an object are this object with exactly the section symbols inserted that some rows need, and
+-- then the ORC sections of these rows added, and its ORC sections hold exactly this list of rows. And for every placement of
+-- the text sections and every state of every run of the object's program, walking over these rows gives exactly the frames.
+pub record UnwindsBy (o : Elf) (lists : NameLists) (written : List ℕ) : Type 0 where
   pub rows : List PlacedRow
-  pub reads_back : IsObject written (with_orc_object o rows)
-  pub holds : HoldsOrc (with_orc_object o rows) rows
-  pub only : (others : List PlacedRow) → HoldsOrc (with_orc_object o rows) others → others ≡ rows
+  pub added : IsAdded o (needed_symbols o rows) (orc_sections (with_symbols o rows) rows) written
+  pub reads_back : IsObject written (with_tables_object o rows)
+  pub holds : HoldsOrc (with_tables_object o rows) rows
+  pub only : (others : List PlacedRow) → HoldsOrc (with_tables_object o rows) others → others ≡ rows
   pub walks :
       (bases : Bases) (ranges : List Range)
       → IsPlacement (texts_of o) ranges
       → BeginAt bases ranges
       → (m : Machine)
-      → Run program bases m
-      → WalksToFrames program rows bases ranges m
+      → Run (program_of o lists) bases m
+      → WalksToFrames (program_of o lists) rows bases ranges m
 
 -- the same for the bytes that were read
-pub record Unwinds (read written : List ℕ) : Type 0 where
+pub record Unwinds (read : List ℕ) (lists : NameLists) (written : List ℕ) : Type 0 where
   pub object : Elf
   pub is_object : IsObject read object
-  pub unwinds : UnwindsBy object written
+  pub unwinds : UnwindsBy object lists written
 
--- The bytes that OUT holds after a command unwind the object whose bytes IN held before it.
-pub record LeavesTables (input output : List ℕ) (before after : Content) : Type 0 where
+-- The bytes that OUT holds after a command unwind the object whose bytes IN held before it, under the lists of names of the
+-- names file, or the built-in ones where none is given.
+pub record LeavesTables (input output : List ℕ) (names : Option (List ℕ)) (before after : Content) : Type 0 where
   pub read : List ℕ
   pub held : get before input ≡ Some read
+  pub lists : NameLists
+  pub named : HasNames (Some before) names lists
   pub written : List ℕ
   pub left : get after output ≡ Some written
-  pub unwinds : Unwinds read written
+  pub unwinds : Unwinds read lists written
 
 -- the same where the files tell their content
-abbrev pub OutUnwinds : List ℕ → List ℕ → Option Content → Option Content → Type 0
-OutUnwinds input output (Some before) (Some after) = LeavesTables input output before after
-OutUnwinds input output (Some before) None = ⊥
-OutUnwinds input output None after = ⊤
+abbrev pub OutUnwinds : List ℕ → List ℕ → Option (List ℕ) → Option Content → Option Content → Type 0
+OutUnwinds input output names (Some before) (Some after) = LeavesTables input output names before after
+OutUnwinds input output names (Some before) None = ⊥
+OutUnwinds input output names None after = ⊤

@@ -10,7 +10,7 @@ Meaning = Result Command (ℕ × UsageKind)
 
 -- the rules that the options of `check` ask for are none of those that no code looks for yet
 abbrev pub are_built : Options → Bool
-are_built options = not (options.fp || (options.retpoline || (options.rethunk || options.uaccess)))
+are_built options = not (options.retpoline || (options.rethunk || options.uaccess))
 
 abbrev pub is_built : Command → Bool
 is_built (check input output options names) = are_built options

@@ -1,99 +1,91 @@
-ghost use Rattle.std.specs.Prelude.{◌≡◌, ◌≤◌, Ok, map, length, option_map, IfOk, IfErr, OnOk};
-ghost use Rattle.elf_objects.specs.Object.{IsObject};
-ghost use Rattle.command_base.specs.Reading.{MayRead};
-ghost use Rattle.objtool_cli.specs.Checked.{Accepts, IsRefusal};
-ghost use Rattle.objtool_cli.specs.Texts.{AreCode, bodies_of, body_in};
-ghost use Rattle.objtool_cli.specs.Unwinding.{Unwinds};
-ghost use Rattle.objtool_cli.specs.Command.{IsDone, Stops};
-ghost use Rattle.objtool_cli.specs.Lists.{HasNames};
+//! The check of the bytes of an input.
 
-use crate::form::straight_code;
-use crate::tables::code_table;
-use crate::texts::{SectionText, read_texts};
+ghost use Rattle.std.specs.Prelude.{◌≡◌, ◌≤◌, Ok, length, option_map};
+ghost use Rattle.object_check.specs.Order.{IsCheckFault};
+ghost use Rattle.object_code.specs.Linked.{IsLinkFault};
+ghost use Rattle.objtool_cli.specs.Checked.{IsUnchecked, IsWorded};
+ghost use Rattle.objtool_cli.specs.Command.{EndsCheck, IsRead};
+
+use crate::warnings::print_warnings;
 use crate::words::Check;
-use command_base::{Refusal, Stop, parse_stop};
-use elf_objects::{MAX_FILE_BYTES, MAX_SECTIONS, Object};
-use ot_base::NoMemory;
-use ot_files::{FileError, Files};
+use crate::writing::write_table;
+use command_base::{Refusal, Status, Stop, conclude, parse_stop};
+use elf_objects::{Counted, MAX_FILE_BYTES, Object};
+use flow_faults::FlowFaultText;
+use object_check::{CheckFault, Outcome, check_object};
+use object_code::{LinkFault, LinkFaultText};
+use ot_base::Lists;
+use ot_files::{Files, Sink};
 use std::alloc::Global;
 
-/// How many sections an object may have, so that three more aren't too many.
-const MOST_SECTIONS: u64 = MAX_SECTIONS - 3;
+/// Why an object's code isn't read, in words.
+fn link_text<'a>(object: &Object<'a>, fault: LinkFault) -> LinkFaultText<'a>
+    requires { IsLinkFault object.now fault }
+    ensures fault { result.fault ≡ fault }
+    ensures worded { IsWorded object.now result }
+{
+    match fault {
+        LinkFault::Text { sec, .. } => LinkFaultText {
+            fault,
+            section: object.name_of_section(sec),
+            body: object.section(sec).body,
+        },
+        _ => LinkFaultText {
+            fault,
+            section: &[],
+            body: &[],
+        },
+    }
+}
 
-/// The bytes of an object with its ORC tables added, or why it is refused.
-fn with_tables<'a>(alloc: Global, bytes: &'a [u8]) -> Result<Vec<u8>, Stop<'a>>
-    requires { length bytes.now ≤ MAX_FILE_BYTES }
-    ensures accepted { IfOk result (λ table. Accepts bytes.now table.items) }
-    ensures unwinds { IfOk result (λ table. Unwinds bytes.now table.items) }
-    ensures refused { IfErr result (IsRefusal bytes.now) }
+/// Why a command stops whose object isn't checked.
+fn check_stop<'a>(object: &Object<'a>, fault: CheckFault) -> Stop<'a>
+    requires { IsCheckFault object.now fault }
+    ensures { IsUnchecked object.now result }
+{
+    match fault {
+        CheckFault::Link(fault) => Stop::Refused(Refusal::Unlinked(link_text(object, fault))),
+        CheckFault::Flow(fault) => Stop::Refused(Refusal::Unflowed(FlowFaultText { fault })),
+        CheckFault::HasOrc { sec } => Stop::Refused(Refusal::HasOrc { sec }),
+        CheckFault::TooManySections { count } => Stop::Refused(Refusal::TooMany {
+            what: Counted::Sections,
+            count,
+        }),
+        CheckFault::NoMemory => Stop::NoMemory,
+    }
+}
+
+/// Checks the bytes that were read of the input under lists of names. Writes them with their tables to the
+/// output file; or prints the warnings, where they break rules; or tells why they are refused.
+pub fn check<F: Files, S: Sink>(
+    alloc: Global,
+    asked: Check<'_>,
+    bytes: &[u8],
+    lists: &Lists,
+    files: &mut F,
+    out: &mut S,
+) -> Status
+    requires few { length bytes.now ≤ MAX_FILE_BYTES }
+    requires read { IsRead (F.content files.old) asked.input.now (option_map (λ file. file.now) asked.names) bytes.now lists.now }
+    ensures ends { EndsCheck asked.entry.input.now asked.entry.output.now asked.entry.options (option_map (λ file. file.now) asked.entry.names)
+        (record { content = F.content files.old; faults = F.faults files.old })
+        (record { content = F.content files.new; faults = F.faults files.new })
+        (record { written = S.written out.old; faults = S.faults out.old })
+        (record { written = S.written out.new; faults = S.faults out.new }) result }
+    ensures files_later { F.faults files.old ≤ F.faults files.new }
+    ensures out_later { S.faults out.old ≤ S.faults out.new }
 {
     let object = match Object::parse(alloc, bytes) {
         Ok(object) => object,
-        Err(fault) => return Err(parse_stop(fault)),
+        Err(fault) => return conclude(alloc, parse_stop(fault), out),
     };
-    match read_texts(alloc, &object) {
-        Ok(texts) => tables_of(alloc, &object, &texts),
-        Err(stop) => Err(stop),
-    }
-}
-
-/// The bytes of an object whose texts were read with its ORC tables added, or why it is refused.
-fn tables_of<'a>(
-    alloc: Global,
-    object: &Object<'a>,
-    texts: &[SectionText<'a>],
-) -> Result<Vec<u8>, Stop<'a>>
-    requires object { IsObject object.now.bytes object.now }
-    requires read { map body_in texts.now ≡ bodies_of object.now }
-    requires code { AreCode object.now (length object.now.sections) }
-    ensures accepted { IfOk result (λ table. Accepts object.now.bytes table.items) }
-    ensures unwinds { IfOk result (λ table. Unwinds object.now.bytes table.items) }
-    ensures refused { IfErr result (IsRefusal object.now.bytes) }
-{
-    let code = match straight_code(alloc, object, texts) {
-        Err(NoMemory) => return Err(Stop::NoMemory),
-        Ok(None) => return Err(Stop::Refused(Refusal::NotBuilt)),
-        Ok(Some(code)) => code,
+    let rows = match check_object(alloc, &object, lists, asked.options) {
+        Ok(Outcome::Accepted(rows)) => rows,
+        Ok(Outcome::Broken(warnings)) => return print_warnings(alloc, &object, &warnings, out),
+        Err(fault) => return conclude(alloc, check_stop(&object, fault), out),
     };
-    let count = u64::from(object.sections());
-    if count > MOST_SECTIONS {
-        return Err(Stop::Refused(Refusal::TooManySections { count }));
-    }
-    match code_table(alloc, object, &code) {
-        Ok(table) => Ok(table),
-        Err(NoMemory) => Err(Stop::NoMemory),
-    }
-}
-
-/// Checks the bytes that were read of the input, and writes them with their tables to the output file.
-pub fn check<'a, F: Files>(
-    alloc: Global,
-    names: Check<'a>,
-    bytes: &'a [u8],
-    files: &mut F,
-) -> Result<(), Stop<'a>>
-    requires few { length bytes.now ≤ MAX_FILE_BYTES }
-    requires read { MayRead MAX_FILE_BYTES (F.content files.old) names.input.now (Ok bytes.now) }
-    requires lists { HasNames (F.content files.old) (option_map (λ file. file.now) names.lists) }
-    ensures done { OnOk result (IsDone names.entry.input.now names.entry.output.now (option_map (λ file. file.now) names.entry.lists)
-        (record { content = F.content files.old; faults = F.faults files.old })
-        (record { content = F.content files.new; faults = F.faults files.new })) }
-    ensures stopped { IfErr result (Stops names.entry.input.now names.entry.output.now (option_map (λ file. file.now) names.entry.lists)
-        (record { content = F.content files.old; faults = F.faults files.old })
-        (record { content = F.content files.new; faults = F.faults files.new })) }
-    ensures later { F.faults files.old ≤ F.faults files.new }
-{
-    let table = match with_tables(alloc, bytes) {
-        Ok(table) => table,
-        Err(stop) => return Err(stop),
-    };
-    let file = names.output;
-    match files.write(file, table.as_slice()) {
-        Ok(()) => Ok(()),
-        Err(FileError::NoMemory) => Err(Stop::NoMemory),
-        Err(FileError::Failed) => Err(Stop::FileFault { file }),
-        // No write answers these.
-        Err(FileError::Missing) => unreachable!(),
-        Err(FileError::TooLong { .. }) => unreachable!(),
+    match write_table(alloc, &object, &rows, asked.output, files) {
+        Ok(()) => Status::Done,
+        Err(stop) => conclude(alloc, stop, out),
     }
 }

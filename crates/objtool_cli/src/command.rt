@@ -6,13 +6,14 @@ ghost use Rattle.elf_objects.specs.Elf.{Elf};
 ghost use Rattle.stack_image.specs.ImageFile.{StackImage};
 ghost use Rattle.read_back.specs.Dump.{HoldsRows, IsAnswered, IsDumped};
 ghost use Rattle.read_back.specs.Unwind.{IsPlaced, IsUnwound};
-ghost use Rattle.objtool_cli.specs.Checked.{Accepts};
+ghost use Rattle.objtool_cli.specs.Checked.{Accepts, BreaksRule};
 ghost use Rattle.cli_words.specs.Grammar.{check, command_in, dump, meaning, unwind};
+ghost use Rattle.ot_base.specs.NameLists.{NameLists};
 ghost use Rattle.ot_base.specs.declared.options.Options.{Options};
 ghost use Rattle.objtool_cli.specs.Lists.{HasNames};
 ghost use Rattle.objtool_cli.specs.Words.{are_built};
 ghost use Rattle.objtool_cli.specs.Unwinding.{OutUnwinds};
-ghost use Rattle.objtool_cli.specs.Command.{Ends, EndsCheck, IsFaulty, IsShown, IsUsageAnswer, MayChange};
+ghost use Rattle.objtool_cli.specs.Command.{Ends, EndsCheck, IsFaulty, IsShown, IsUsageAnswer, MayChange, PrintsWarnings};
 
 use crate::check::check;
 use crate::lists::read_names;
@@ -26,15 +27,15 @@ use read_back::{dump, unwind};
 use std::alloc::Global;
 use x86_decode::one_outcome;
 
-/// Reads the input and the names file, checks the input, writes it with its tables, and tells why where it
-/// stops.
+/// Reads the input and the names file, checks the input, writes it with its tables or prints its warnings,
+/// and tells why where it stops.
 fn read_and_check<F: Files, S: Sink>(
     alloc: Global,
-    names: Check<'_>,
+    asked: Check<'_>,
     files: &mut F,
     out: &mut S,
 ) -> Status
-    ensures ends { EndsCheck names.entry.input.now names.entry.output.now (option_map (λ file. file.now) names.entry.lists)
+    ensures ends { EndsCheck asked.entry.input.now asked.entry.output.now asked.entry.options (option_map (λ file. file.now) asked.entry.names)
         (record { content = F.content files.old; faults = F.faults files.old })
         (record { content = F.content files.new; faults = F.faults files.new })
         (record { written = S.written out.old; faults = S.faults out.old })
@@ -42,15 +43,12 @@ fn read_and_check<F: Files, S: Sink>(
     ensures files_later { F.faults files.old ≤ F.faults files.new }
     ensures out_later { S.faults out.old ≤ S.faults out.new }
 {
-    let bytes = match read_file(alloc, names.input, MAX_FILE_BYTES, files) {
+    let bytes = match read_file(alloc, asked.input, MAX_FILE_BYTES, files) {
         Ok(bytes) => bytes,
         Err(stop) => return conclude(alloc, stop, out),
     };
-    if let Err(stop) = read_names(alloc, names.lists, files) {
-        return conclude(alloc, stop, out);
-    }
-    match check(alloc, names, bytes.as_slice(), files) {
-        Ok(()) => Status::Done,
+    match read_names(alloc, asked.names, files) {
+        Ok(lists) => check(alloc, asked, bytes.as_slice(), &lists, files, out),
         Err(stop) => conclude(alloc, stop, out),
     }
 }
@@ -71,12 +69,11 @@ fn show<S: Sink>(text: Result<String, NoMemory>, out: &mut S) -> Status
 /// Runs `check`, where its options ask for no rule that no code looks for yet.
 fn run_check<F: Files, S: Sink>(
     alloc: Global,
-    names: Check<'_>,
-    options: Options,
+    asked: Check<'_>,
     files: &mut F,
     out: &mut S,
 ) -> Status
-    ensures ends { Ends (Ok (check names.entry.input.now names.entry.output.now options (option_map (λ file. file.now) names.entry.lists)))
+    ensures ends { Ends (Ok (check asked.entry.input.now asked.entry.output.now asked.entry.options (option_map (λ file. file.now) asked.entry.names)))
         (record { content = F.content files.old; faults = F.faults files.old })
         (record { content = F.content files.new; faults = F.faults files.new })
         (record { written = S.written out.old; faults = S.faults out.old })
@@ -84,10 +81,10 @@ fn run_check<F: Files, S: Sink>(
     ensures files_later { F.faults files.old ≤ F.faults files.new }
     ensures out_later { S.faults out.old ≤ S.faults out.new }
 {
-    if !are_built(options) {
+    if !are_built(asked.options) {
         return conclude(alloc, Stop::Usage(Usage::NotBuilt), out);
     }
-    read_and_check(alloc, names, files, out)
+    read_and_check(alloc, asked, files, out)
 }
 
 /// The text of a name, where there is one.
@@ -122,12 +119,13 @@ fn run_command<F: Files, S: Sink>(
             options,
             names,
         } => {
-            let names = Check {
+            let asked = Check {
                 input: input.as_str(),
                 output: output.as_str(),
-                lists: text_of(names),
+                options: *options,
+                names: text_of(names),
             };
-            run_check(alloc, names, *options, files, out)
+            run_check(alloc, asked, files, out)
         }
         Command::Dump { file } => dump(alloc, file.as_str(), files, out),
         Command::Unwind { file, image } => unwind(alloc, file.as_str(), image.as_str(), files, out),
@@ -165,7 +163,8 @@ fn dispatch<F: Files, S: Sink>(
 /// over files and an output, and gives the status that it ends with.
 ///
 /// `check IN OUT` with its options reads the object IN and the names file, and writes IN to OUT with its
-/// ORC tables added. `dump FILE` prints the rows of the ORC tables of the object FILE, one line each.
+/// ORC tables added, and with the section symbols that these need; where IN breaks rules of stack validation
+/// it prints the line of each warning and writes nothing. `dump FILE` prints the rows of the ORC tables of the object FILE, one line each.
 /// `unwind FILE IMAGE` prints the frames of the walk that the image IMAGE begins over the rows of FILE,
 /// one line each, and why it stopped. `--help` and `--version` print a text of the program. The first word
 /// at fault is told by one line to the output, and so is every refusal. Where the words, the bytes of the
@@ -187,17 +186,31 @@ pub fn run<F: Files, S: Sink>(alloc: Global, words: &[String], files: &mut F, ou
     // Where it is done and the files tell their content: for every placement of the text sections of IN and every state
     // of every run of the stack machine on IN, walking the tables in the bytes that OUT holds gives exactly the frames of
     // the machine's shadow call stack, innermost first, down to the outermost frame or to the first place whose unwind
-    // hint ends the stack.
+    // hint ends the stack. The names of functions that don't return are the built-in ones and those of the names file.
     ensures unwinds { (input output : List ℕ) (options : Options) (names : Option (List ℕ)) → result ≡ Status.Done
         → meaning (map string_bytes words.now) ≡ Ok (check input output options names)
-        → OutUnwinds input output (F.content files.old) (F.content files.new) }
+        → OutUnwinds input output names (F.content files.old) (F.content files.new) }
 
     // An input that is accepted, with a names file in order where one is given, is refused nowhere: it is done, unless a
     // file's fault or want of memory is answered. The options ask for no rule that no code looks for yet.
-    ensures accepts { (input output : List ℕ) (options : Options) (names : Option (List ℕ)) (read table : List ℕ) (held : Content)
+    ensures accepts { (input output : List ℕ) (options : Options) (names : Option (List ℕ)) (read table : List ℕ) (lists : NameLists) (held : Content)
         → meaning (map string_bytes words.now) ≡ Ok (check input output options names) → are_built options ≡ true
-        → F.content files.old ≡ Some held → reading held input MAX_FILE_BYTES ≡ Ok read → HasNames (Some held) names → Accepts read table
+        → F.content files.old ≡ Some held → reading held input MAX_FILE_BYTES ≡ Ok read → HasNames (Some held) names lists
+        → Accepts read lists options table
         → (result ≡ Status.Done) ⊎ ((result ≡ Status.FileFault) ⊎ (result ≡ Status.NoMemory)) }
+
+    // Where warnings are answered, the words ask for `check`, IN is read as an object whose program, under the names that the
+    // names file gives, breaks exactly the rules that the warnings tell, and exactly the lines of these were printed.
+    ensures warned { result ≡ Status.Warnings
+        → PrintsWarnings (meaning (map string_bytes words.now)) (F.content files.old) (S.written out.old) (S.written out.new) }
+
+    // An input whose program breaks a rule that is asked for is neither refused nor done: its warnings are answered, unless a
+    // fault or want of memory is.
+    ensures warns { (input output : List ℕ) (options : Options) (names : Option (List ℕ)) (read : List ℕ) (lists : NameLists) (held : Content)
+        → meaning (map string_bytes words.now) ≡ Ok (check input output options names) → are_built options ≡ true
+        → F.content files.old ≡ Some held → reading held input MAX_FILE_BYTES ≡ Ok read → HasNames (Some held) names lists
+        → BreaksRule read lists options
+        → (result ≡ Status.Warnings) ⊎ ((result ≡ Status.FileFault) ⊎ ((result ≡ Status.SinkFault) ⊎ (result ≡ Status.NoMemory))) }
 
     // Where `dump` is done, FILE is read as an object that holds rows, and exactly their lines were printed; and such a
     // FILE isn't refused: it is done, unless a fault or want of memory is answered.
@@ -228,10 +241,9 @@ pub fn run<F: Files, S: Sink>(alloc: Global, words: &[String], files: &mut F, ou
     ensures changes { (F.content files.new ≡ F.content files.old)
         ⊎ MayChange (meaning (map string_bytes words.now)) (F.content files.old) (F.content files.new) }
 
-    // Nothing is told where `check` is done, and no warning is made so far.
+    // Nothing is told where `check` is done.
     ensures silent { (input output : List ℕ) (options : Options) (names : Option (List ℕ))
         → meaning (map string_bytes words.now) ≡ Ok (check input output options names) → result ≡ Status.Done → S.written out.new ≡ S.written out.old }
-    ensures no_warnings { result ≢ Status.Warnings }
 {
     one_outcome();
     dispatch(alloc, words, files, out)

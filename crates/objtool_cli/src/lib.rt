@@ -3,11 +3,10 @@
 
 mod check;
 mod command;
-mod form;
 mod lists;
-mod tables;
-mod texts;
+mod warnings;
 mod words;
+mod writing;
 
 pub use command::run;
 pub use command_base::Status;

@@ -169,9 +169,10 @@ foreign_walk bytes text image o rows (stop.Refused (refusal.Orc fault)) is held 
 foreign_walk bytes text image o rows (stop.Refused (refusal.Lists fault)) is held h = absurd h
 foreign_walk bytes text image o rows (stop.Refused (refusal.Image fault)) is held h = absurd h
 foreign_walk bytes text image o rows (stop.Refused (refusal.Unplaced fault)) is held h = absurd h
-foreign_walk bytes text image o rows (stop.Refused (refusal.Undecoded fault)) is held h = absurd h
-foreign_walk bytes text image o rows (stop.Refused (refusal.TooManySections count)) is held h = absurd h
-foreign_walk bytes text image o rows (stop.Refused refusal.NotBuilt) is held h = absurd h
+foreign_walk bytes text image o rows (stop.Refused (refusal.Unlinked told)) is held h = absurd h
+foreign_walk bytes text image o rows (stop.Refused (refusal.Unflowed told)) is held h = absurd h
+foreign_walk bytes text image o rows (stop.Refused (refusal.HasOrc sec)) is held h = absurd h
+foreign_walk bytes text image o rows (stop.Refused (refusal.TooMany what count)) is held h = absurd h
 foreign_walk bytes text image o rows (stop.Usage usage) is held h = absurd h
 foreign_walk bytes text image o rows (stop.Missing file) is held h = absurd h
 foreign_walk bytes text image o rows (stop.TooLong file limit) is held h = absurd h

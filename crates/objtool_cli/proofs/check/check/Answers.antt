@@ -1,27 +1,40 @@
-use Rattle.std.proofs.Common.{◌≡◌, ℕ, List, ap, ◌∙◌, refl}
-use Rattle.std.specs.Prelude.{Option, Err}
-use Rattle.ot_files.specs.Content.{Content, writing}
-use Rattle.objtool_cli.specs.Command.{refused, unwritten}
-use Rattle.objtool_cli.proofs.ContentLemmas.{is_done}
+use Rattle.std.proofs.Common.{refl, sym, subst}
+use Rattle.object_check.specs.Outcome.{IsOutcome, OnAccepted}
+use Rattle.object_check.specs.Unwinding.{RowsUnwind}
+use Rattle.objtool_cli.specs.Checked.{IsRefusal}
+use Rattle.objtool_cli.specs.Command.{done, refused, stopped}
+use Rattle.objtool_cli.proofs.CheckLemmas.{done_end, stopped_end, warned_end}
+use Rattle.objtool_cli.proofs.ParseLemmas.{check_refusal, parse_refusal}
 use Rattle.objtool_cli.proofs.check.check.Goals as goal
 
--- what was written
-written_as : (output sent table : List ℕ) (before after : Option Content) → after ≡ writing before output sent → sent ≡ table → after ≡ writing before output table
-written_as output sent table before after e s = e ∙ ap (λ (b : List ℕ). writing before output b) s
+pub returns-in-Err-clause-ends : goal.returns-in-Err-clause-ends
+returns-in-Err-clause-ends g c =
+    stopped c.parse_stop.result
+    (refused c.args.bytes.now c.args.lists.now c.requires.read (subst (IsRefusal c.args.bytes.now c.args.lists.now c.args.asked.options) (sym c.parse_stop.ensures) (parse_refusal c.args.bytes.now c.args.lists.now c.args.asked.options c.in-Err.fault c.in-Err.ensures.err)) refl)
+    c.conclude.ensures.concluded
 
-pub returns-in-Ok-write-clause-done : goal.returns-in-Ok-write-clause-done
-returns-in-Ok-write-clause-done g c =
-    let output : List ℕ = c.args.names.output.now in
-    is_done c.args.names.input.now output _ c.args.bytes.now c.in-Ok.table.items _ _ c.requires.read c.requires.lists c.in-Ok.ensures.accepted c.in-Ok.ensures.unwinds
-    (written_as output _ c.in-Ok.table.items _ _ c.in-Ok-write.ensures.ok c.as_slice.ensures.value)
+pub returns-in-Ok-Broken-clause-ends : goal.returns-in-Ok-Broken-clause-ends
+returns-in-Ok-Broken-clause-ends g c =
+    warned_end _ _ _ _ c.args.bytes.now c.args.lists.now _ _ _ _ _ c.in-Ok.object c.in-Ok-Broken.warnings.items c.deref.result.now c.requires.read c.in-Ok.ensures.ok
+    (subst (IsOutcome c.in-Ok.object c.args.lists.now c.args.asked.options) c.in-Ok-Broken.field-0-is c.in-Ok-Broken.ensures.ok) refl c.deref.ensures.value c.print_warnings.ensures.printed
 
-pub returns-in-Err-clause-stopped : goal.returns-in-Err-clause-stopped
-returns-in-Err-clause-stopped g c = refused c.args.bytes.now c.requires.read c.requires.lists c.in-Err.ensures.refused refl
+pub returns-in-Err-check_object-clause-ends : goal.returns-in-Err-check_object-clause-ends
+returns-in-Err-check_object-clause-ends g c =
+    stopped c.check_stop.result
+    (refused c.args.bytes.now c.args.lists.now c.requires.read (check_refusal c.args.bytes.now c.args.lists.now c.args.asked.options c.in-Ok.object c.check_stop.result c.in-Ok.ensures.ok c.check_stop.ensures) refl)
+    c.conclude-in-Err-check_object.ensures.concluded
 
-pub returns-in-Err-NoMemory-clause-stopped : goal.returns-in-Err-NoMemory-clause-stopped
-returns-in-Err-NoMemory-clause-stopped g c =
-    unwritten c.in-Ok.table.items (record { read = c.args.bytes.now; may = c.requires.read; accepts = c.in-Ok.ensures.accepted; lists = c.requires.lists }) tt c.in-Err-NoMemory.ensures.err
+pub returns-in-Ok-write_table-clause-ends : goal.returns-in-Ok-write_table-clause-ends
+returns-in-Ok-write_table-clause-ends g c =
+    done
+    (done_end _ _ _ _ c.args.bytes.now c.args.lists.now _ _ c.in-Ok.object c.in-Ok-Accepted.rows.items c.deref-2.result.now c.requires.read c.in-Ok.ensures.ok
+    (subst (IsOutcome c.in-Ok.object c.args.lists.now c.args.asked.options) c.in-Ok-Accepted.field-0-is c.in-Ok-Accepted.ensures.ok)
+    (subst (λ outcome. OnAccepted outcome (RowsUnwind c.in-Ok.object c.args.lists.now)) c.in-Ok-Accepted.field-0-is c.in-Ok-Accepted.ensures.unwinds) c.deref-2.ensures.value c.in-Ok-write_table.ensures.written)
+    refl
 
-pub returns-in-Err-Failed-clause-stopped : goal.returns-in-Err-Failed-clause-stopped
-returns-in-Err-Failed-clause-stopped g c =
-    unwritten c.in-Ok.table.items (record { read = c.args.bytes.now; may = c.requires.read; accepts = c.in-Ok.ensures.accepted; lists = c.requires.lists }) (refl, c.in-Err-Failed.ensures.failed (ap Err c.in-Err-Failed.field-0-is)) c.in-Err-Failed.ensures.err
+pub returns-clause-ends : goal.returns-clause-ends
+returns-clause-ends g c =
+    stopped c.in-Err-write_table.stop
+    (stopped_end _ _ _ _ c.args.bytes.now c.args.lists.now _ _ c.in-Ok.object c.in-Ok-Accepted.rows.items c.deref-2.result.now c.in-Err-write_table.stop c.requires.read c.in-Ok.ensures.ok
+    (subst (IsOutcome c.in-Ok.object c.args.lists.now c.args.asked.options) c.in-Ok-Accepted.field-0-is c.in-Ok-Accepted.ensures.ok) c.deref-2.ensures.value c.in-Err-write_table.ensures.stopped)
+    c.conclude-in-Err-write_table.ensures.concluded

@@ -1,22 +1,17 @@
-use Rattle.std.proofs.Common.{◌≤◌, refl, ◌∙◌, arith}
-use Rattle.objtool_cli.specs.Command.{done, stopped, unread, without_names}
-use Rattle.objtool_cli.proofs.LaterLemmas.{done_later, later_still, names_later, stops_later}
+use Rattle.std.proofs.Common.{◌∙◌}
+use Rattle.objtool_cli.specs.Command.{stopped, unread, without_names}
+use Rattle.objtool_cli.proofs.LaterLemmas.{ends_later, later_still, names_later}
 use Rattle.objtool_cli.proofs.command.read_and_check.Goals as goal
 
 pub returns-in-Err-clause-ends : goal.returns-in-Err-clause-ends
 returns-in-Err-clause-ends g c = stopped c.in-Err.stop (unread c.in-Err.ensures.stopped c.read_file.ensures.unchanged) c.conclude.ensures.concluded
 
-pub returns-in-Err-read_names-clause-ends : goal.returns-in-Err-read_names-clause-ends
-returns-in-Err-read_names-clause-ends g c =
-    stopped c.in-Err-read_names.stop
-    (without_names c.in-Ok.bytes.items c.in-Ok.ensures.ok (names_later c.in-Err-read_names.stop _ _ _ _ _ _ c.read_file.ensures.unchanged c.read_file.ensures.later c.in-Err-read_names.ensures.stopped) (c.read_names.ensures.unchanged ∙ c.read_file.ensures.unchanged))
-    c.conclude-in-Err-read_names.ensures.concluded
-
-pub returns-in-Ok-check-clause-ends : goal.returns-in-Ok-check-clause-ends
-returns-in-Ok-check-clause-ends g c = done (done_later _ _ _ _ _ _ _ _ (c.read_names.ensures.unchanged ∙ c.read_file.ensures.unchanged) c.in-Ok-check.ensures.done) refl
+pub returns-in-Ok-read_names-clause-ends : goal.returns-in-Ok-read_names-clause-ends
+returns-in-Ok-read_names-clause-ends g c =
+    ends_later _ _ _ _ _ _ _ _ _ _ _ _ (c.read_names.ensures.unchanged ∙ c.read_file.ensures.unchanged) (later_still _ _ _ c.read_file.ensures.later c.read_names.ensures.later) c.check.ensures.ends
 
 pub returns-clause-ends : goal.returns-clause-ends
 returns-clause-ends g c =
-    stopped c.in-Err-check.stop
-    (stops_later c.in-Err-check.stop _ _ _ _ _ _ _ _ (c.read_names.ensures.unchanged ∙ c.read_file.ensures.unchanged) (later_still _ _ _ c.read_file.ensures.later c.read_names.ensures.later) c.in-Err-check.ensures.stopped)
-    c.conclude-in-Err-check.ensures.concluded
+    stopped c.in-Err-read_names.stop
+    (without_names c.in-Ok.bytes.items c.in-Ok.ensures.ok (names_later c.in-Err-read_names.stop _ _ _ _ _ _ c.read_file.ensures.unchanged c.read_file.ensures.later c.in-Err-read_names.ensures.stopped) (c.read_names.ensures.unchanged ∙ c.read_file.ensures.unchanged))
+    c.conclude-in-Err-read_names.ensures.concluded

@@ -1,5 +1,5 @@
-use Rattle.objtool_cli.proofs.EndsLemmas.{changes, file_fault, out_unwinds, dump_answered, rows_dumped, sink_fault, tells_nothing, unchanged, unwind_answered, usage_answered, walk_printed, without_warnings}
-use Rattle.objtool_cli.proofs.AcceptsLemmas.{left}
+use Rattle.objtool_cli.proofs.EndsLemmas.{changes, file_fault, out_unwinds, dump_answered, rows_dumped, sink_fault, tells_nothing, unchanged, unwind_answered, usage_answered, walk_printed, warnings_printed}
+use Rattle.objtool_cli.proofs.AcceptsLemmas.{all_warned, left}
 use Rattle.objtool_cli.proofs.UsageLemmas.{only_faulty}
 use Rattle.objtool_cli.proofs.command.run.Goals as goal
 
@@ -18,14 +18,17 @@ returns-clause-changes g c = changes _ _ _ _ _ _ c.dispatch.ensures.ends
 pub returns-clause-silent : goal.returns-clause-silent
 returns-clause-silent g c input output options names n e = tells_nothing _ _ _ _ _ _ input output options names c.dispatch.ensures.ends n e
 
-pub returns-clause-no_warnings : goal.returns-clause-no_warnings
-returns-clause-no_warnings g c = without_warnings _ _ _ _ _ _ c.dispatch.ensures.ends
+pub returns-clause-warned : goal.returns-clause-warned
+returns-clause-warned g c e = warnings_printed _ _ _ _ _ _ c.dispatch.ensures.ends e
+
+pub returns-clause-warns : goal.returns-clause-warns
+returns-clause-warns g c input output options names read lists held n built told is named breaks = all_warned c.one_outcome.ensures _ input output options names read lists held _ _ _ _ _ n built told is named breaks c.dispatch.ensures.ends
 
 pub returns-clause-unwinds : goal.returns-clause-unwinds
 returns-clause-unwinds g c input output options names e n = out_unwinds _ _ _ _ _ _ input output options names c.dispatch.ensures.ends e n
 
 pub returns-clause-accepts : goal.returns-clause-accepts
-returns-clause-accepts g c input output options names read table held n built told is has accepts = left c.one_outcome.ensures _ input output options names read table held _ _ _ _ _ n built told is has accepts c.dispatch.ensures.ends
+returns-clause-accepts g c input output options names read table lists held n built told is named accepts = left c.one_outcome.ensures _ input output options names read table lists held _ _ _ _ _ n built told is named accepts c.dispatch.ensures.ends
 
 pub returns-clause-dumps : goal.returns-clause-dumps
 returns-clause-dumps g c file e n = rows_dumped _ _ _ _ _ _ file c.dispatch.ensures.ends e n

@@ -1,0 +1,109 @@
+-- How `check` ends, from what checking and writing ensure.
+use Rattle.std.proofs.Common.{◌≡◌, ℕ, List, refl, subst}
+use Rattle.std.specs.Prelude.{Option, Result, Ok, Err, Some, OnOk, OnErr, IfOk, IfErr}
+use Rattle.ot_base.specs.NameLists.{NameLists, lists_with}
+use Rattle.ot_base.specs.NamesFile.{IsNamesFile}
+use Rattle.ot_base.specs.declared.options.Options.{Options}
+use Rattle.ot_base.specs.declared.row.PlacedRow.{PlacedRow}
+use Rattle.ot_base.specs.declared.warning.Warning.{Warning}
+use Rattle.ot_files.specs.Content.{Content, ChangesAtMost, writing}
+use Rattle.elf_objects.specs.Elf.{Elf}
+use Rattle.elf_objects.specs.Object.{IsObject}
+use Rattle.elf_objects.specs.declared.TheConstants.{MAX_FILE_BYTES}
+use Rattle.elf_objects.specs.declared.fault.Counted.TheVariants as counted
+use Rattle.flow_defs.specs.Program.{program_of}
+use Rattle.object_check.specs.Order.{IsCheckable}
+use Rattle.object_check.specs.Outcome.{AreWarnings, HasRows, IsUnbroken}
+use Rattle.object_check.specs.Unwinding.{RowsUnwind}
+use Rattle.orc_bytes.proofs.OneList.{one_list_fits}
+use Rattle.command_base.specs.declared.refusal.Refusal.TheVariants as refusal
+use Rattle.command_base.specs.declared.status.Status.{Status}
+use Rattle.command_base.specs.declared.status.Status.TheVariants as status
+use Rattle.command_base.specs.declared.stop.Stop.{Stop}
+use Rattle.command_base.specs.declared.stop.Stop.TheVariants as stop
+use Rattle.command_base.specs.Outside.{Outside, Output}
+use Rattle.command_base.specs.Printing.{Prints}
+use Rattle.command_base.specs.Reading.{MayRead}
+use Rattle.objtool_cli.specs.Checked.{Accepts, IsRefusal, crowded}
+use Rattle.objtool_cli.specs.Command.{EndsCheck, IsDone, IsRead, Stops, refused, unwritten, warned}
+use Rattle.objtool_cli.specs.Lists.{HoldsNames, IsListsStop, StopsAtNames, no_names}
+use Rattle.objtool_cli.specs.Warnings.{warnings_text}
+use Rattle.objtool_cli.specs.Writing.{IsCrowded, IsTable, StopsAtTable, StopsAtWrite, WritesTable, crowded as too_many, cut_off}
+use Rattle.objtool_cli.proofs.ContentLemmas.{is_done}
+use Rattle.objtool_cli.proofs.UnwindingLemmas.{unwinds_by}
+
+-- ---- the lists of names
+
+pub names_held : {E : Type 0} (r : Result NameLists E) (content : Option Content) (file text shown : List ℕ) → MayRead MAX_FILE_BYTES content file (Ok text) → shown ≡ text → OnOk r (IsNamesFile shown) → IfOk r (λ lists. lists ≡ lists_with shown) → IfOk r (HoldsNames content file)
+names_held (Ok lists) content file text shown may same right are = record { text = text; may = may; right = subst IsNamesFile same right; are = subst (λ (t : List ℕ). lists ≡ lists_with t) same are }
+names_held (Err e) content file text shown may same right are = tt
+
+pub names_refused : {T : Type 0} (r : Result T Stop) (file text shown : List ℕ) (before after : Outside) → MayRead MAX_FILE_BYTES before.content file (Ok text) → shown ≡ text → IfErr r (IsListsStop shown) → IfErr r (StopsAtNames (Some file) before after)
+names_refused (Ok lists) file text shown before after may same h = tt
+names_refused (Err s) file text shown before after may same h = no_names file text refl may (subst (λ (t : List ℕ). IsListsStop t s) same h)
+
+-- ---- OUT
+
+pub table_written : {T E : Type 0} (r : Result T E) (o : Elf) (rows : List PlacedRow) (output table shown : List ℕ) (before after : Option Content) → IsTable o rows table → shown ≡ table → OnOk r (after ≡ writing before output shown) → OnOk r (WritesTable o rows output before after)
+table_written (Ok u) o rows output table shown before after is same h = record { table = table; is = is; written = subst (λ (bytes : List ℕ). after ≡ writing before output bytes) same h }
+table_written (Err e) o rows output table shown before after is same h = tt
+
+pub table_cut_off : {T : Type 0} (r : Result T Stop) (o : Elf) (rows : List PlacedRow) (output table : List ℕ) (before after : Outside) → IsTable o rows table → IfErr r (StopsAtWrite output before after) → OnErr r (ChangesAtMost output before.content after.content) → IfErr r (StopsAtTable o rows output before after)
+table_cut_off (Ok u) o rows output table before after is h others = tt
+table_cut_off (Err s) o rows output table before after is h others = cut_off table is h others
+
+-- ---- what the check comes to
+
+pub warned_end : (input output : List ℕ) (options : Options) (names : Option (List ℕ)) (read : List ℕ) (lists : NameLists) (before after : Outside) (out out' : Output) (x : Status) (o : Elf) (warnings told : List Warning) → IsRead before.content input names read lists → IsObject read o → IsCheckable o × AreWarnings (program_of o lists) options warnings → after.content ≡ before.content → told ≡ warnings → Prints status.Warnings (warnings_text o told) out out' x → EndsCheck input output options names before after out out' x
+warned_end input output options names read lists before after out out' x o warnings told is_read is found kept same t =
+    warned o warnings (record { read = read; lists = lists; is_read = is_read; warns = record { is = is; checkable = found.0; are = found.1 } }) kept
+    (subst (λ (ws : List Warning). Prints status.Warnings (warnings_text o ws) out out' x) same t)
+
+-- an object that breaks no rule, and its rows
+abbrev pub IsSound : Elf → NameLists → Options → List PlacedRow → Type 0
+IsSound o lists options rows = IsCheckable o × IsUnbroken (program_of o lists) options × HasRows (program_of o lists) rows
+
+accepts : (o : Elf) (read : List ℕ) (lists : NameLists) (options : Options) (rows : List PlacedRow) (table : List ℕ) → IsObject read o → IsSound o lists options rows → IsTable o rows table → Accepts read lists options table
+accepts o read lists options rows table is sound has = record {
+  object = o;
+  is = is;
+  checkable = sound.0;
+  unbroken = sound.1;
+  rows = rows;
+  has_rows = sound.2;
+  table_is = has;
+}
+
+pub done_end : (input output : List ℕ) (options : Options) (names : Option (List ℕ)) (read : List ℕ) (lists : NameLists) (before after : Outside) (o : Elf) (rows told : List PlacedRow) → IsRead before.content input names read lists → IsObject read o → IsSound o lists options rows → RowsUnwind o lists rows → told ≡ rows → WritesTable o told output before.content after.content → IsDone input output options names before after
+done_end input output options names read lists before after o rows told is_read is sound unwind same h =
+    let wrote = subst (λ (rs : List PlacedRow). WritesTable o rs output before.content after.content) same h in
+    is_done input output options names read wrote.table lists before after is_read (accepts o read lists options rows wrote.table is sound wrote.is)
+    (record { object = o; is_object = is; unwinds = unwinds_by one_list_fits o lists rows wrote.table unwind wrote.is.tables }) wrote.written
+
+crowd_refusal : (o : Elf) (read : List ℕ) (lists : NameLists) (options : Options) (rows : List PlacedRow) (s : Stop) → IsObject read o → IsSound o lists options rows → IsCrowded o rows s → IsRefusal read lists options s
+crowd_refusal o read lists options rows (stop.Refused (refusal.TooMany counted.Symbols count)) is sound h = crowded o rows is sound.0 sound.1 sound.2 h.0 h.1
+crowd_refusal o read lists options rows (stop.Refused (refusal.TooMany counted.Sections count)) is sound h = absurd h
+crowd_refusal o read lists options rows (stop.Refused (refusal.TooMany counted.TextBytes count)) is sound h = absurd h
+crowd_refusal o read lists options rows (stop.Refused (refusal.Malformed why)) is sound h = absurd h
+crowd_refusal o read lists options rows (stop.Refused (refusal.Orc why)) is sound h = absurd h
+crowd_refusal o read lists options rows (stop.Refused (refusal.Lists why)) is sound h = absurd h
+crowd_refusal o read lists options rows (stop.Refused (refusal.Image why)) is sound h = absurd h
+crowd_refusal o read lists options rows (stop.Refused (refusal.NoText sec)) is sound h = absurd h
+crowd_refusal o read lists options rows (stop.Refused (refusal.Unplaced why)) is sound h = absurd h
+crowd_refusal o read lists options rows (stop.Refused (refusal.Unlinked told)) is sound h = absurd h
+crowd_refusal o read lists options rows (stop.Refused (refusal.Unflowed told)) is sound h = absurd h
+crowd_refusal o read lists options rows (stop.Refused (refusal.HasOrc sec)) is sound h = absurd h
+crowd_refusal o read lists options rows stop.NoMemory is sound h = tt
+crowd_refusal o read lists options rows (stop.Usage usage) is sound h = absurd h
+crowd_refusal o read lists options rows (stop.Missing file) is sound h = absurd h
+crowd_refusal o read lists options rows (stop.TooLong file limit) is sound h = absurd h
+crowd_refusal o read lists options rows (stop.FileFault file) is sound h = absurd h
+
+stop_of_table : (input output : List ℕ) (options : Options) (names : Option (List ℕ)) (read : List ℕ) (lists : NameLists) (before after : Outside) (o : Elf) (rows : List PlacedRow) (s : Stop) → IsRead before.content input names read lists → IsObject read o → IsSound o lists options rows → StopsAtTable o rows output before after s → Stops input output options names before after s
+stop_of_table input output options names read lists before after o rows s is_read is sound (too_many h kept) = refused read lists is_read (crowd_refusal o read lists options rows s is sound h) kept
+stop_of_table input output options names read lists before after o rows s is_read is sound (cut_off table has h others) =
+    unwritten table (record { read = read; lists = lists; is_read = is_read; accepts = accepts o read lists options rows table is sound has }) h others
+
+pub stopped_end : (input output : List ℕ) (options : Options) (names : Option (List ℕ)) (read : List ℕ) (lists : NameLists) (before after : Outside) (o : Elf) (rows told : List PlacedRow) (s : Stop) → IsRead before.content input names read lists → IsObject read o → IsSound o lists options rows → told ≡ rows → StopsAtTable o told output before after s → Stops input output options names before after s
+stopped_end input output options names read lists before after o rows told s is_read is sound same h =
+    stop_of_table input output options names read lists before after o rows s is_read is sound (subst (λ (rs : List PlacedRow). StopsAtTable o rs output before after s) same h)

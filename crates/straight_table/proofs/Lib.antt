@@ -1,3 +1,0 @@
-pub mod StraightLemmas
-pub mod RowsLemmas
-pub mod PlacedLemmas
