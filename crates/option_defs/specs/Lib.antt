@@ -1,0 +1,4 @@
+pub mod Allowances
+pub mod Access
+pub mod AccessRules
+pub mod Asked

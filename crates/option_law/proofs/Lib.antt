@@ -1,0 +1,12 @@
+pub mod Clean
+pub mod Frames
+pub mod Branches
+pub mod Home
+pub mod Effects
+pub mod Targets
+pub mod Steps
+pub mod Access
+pub mod WorkedProgram
+pub mod WorkedStates
+pub mod WorkedClean
+pub mod WorkedRun
