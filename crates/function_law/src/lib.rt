@@ -1,0 +1,4 @@
+//! What holds of the entries of the program of every object.
+#![tactic(auto)]
+
+pub mod laws;

@@ -1,0 +1,15 @@
+use Rattle.std.proofs.Common.{◌≡◌, length, ap, ◌∙◌, arith}
+use Rattle.elf_objects.specs.Elf.{Elf}
+use Rattle.special_sections.specs.Special.{special_of}
+use Rattle.alternatives.specs.declared.point.Point.{Point}
+use Rattle.alternatives.proofs.Opened.{variant_inside}
+use Rattle.flow_defs.specs.Code.{alternatives_of, point_at, texts_of}
+use Rattle.point_places.proofs.Points.{numbered_point}
+use Rattle.point_allowances.proofs.smap.is_smap_point.Goals as goal
+
+pub bounds-alternatives-point : goal.bounds-alternatives-point
+bounds-alternatives-point c =
+    let o : Elf = c.args.places.now in
+    let all : c.alternatives.result.now ≡ alternatives_of o = c.alternatives.ensures ∙ ap (λ s. s.alternatives) (c.special.ensures ∙ ap special_of c.linked.ensures) in
+    let known = variant_inside (texts_of o) (alternatives_of o) (point_at o c.args.n) (numbered_point o c.args.n c.requires) in
+    omega (arith, known, ap (λ (q : Point). q.variant) c.point-point.ensures, ap length all, c.if-point-eq0.false)

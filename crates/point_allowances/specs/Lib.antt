@@ -1,0 +1,3 @@
+pub mod Allowances
+pub mod Flags
+pub mod SmapSites
