@@ -1,0 +1,4 @@
+pub mod WaySets
+pub mod Finding
+pub mod Following
+pub mod AllWarnings
