@@ -1,5 +1,5 @@
 -- What the check of an object's program says of the object.
-use Rattle.std.proofs.Common.{◌≤◌, List, length, sym, ap, subst, arith}
+use Rattle.std.proofs.Common.{◌≡◌, ◌≤◌, List, Option, Bor, length, option_copied, sym, ap, subst, arith}
 use Rattle.std.specs.Prelude.{All}
 use Rattle.std.proofs.lemmas.List.Elements.{All-contains}
 use Rattle.ot_base.specs.declared.options.Options.{Options}
@@ -11,33 +11,48 @@ use Rattle.checker_defs.specs.Rows.{rows_of}
 use Rattle.table_defs.specs.Walks.{WalksToFrames}
 use Rattle.program_graph.specs.declared.parts.GraphParts.{GraphParts}
 use Rattle.unwinding_law.proofs.Lists.{all_of}
+use Rattle.allowances.specs.declared.table.AllowanceTable.{AllowanceTable}
 use Rattle.flow_defs.specs.Program.{program_of}
+use Rattle.function_law.specs.Laws.{ProgramHasFunctions}
+use Rattle.option_law.specs.Access.{AccessLaw}
+use Rattle.option_law.specs.Branches.{BranchLaw}
+use Rattle.option_law.specs.Frames.{FrameLaw}
+use Rattle.point_allowances.specs.Allowances.{allowances_of}
 use Rattle.flow_law.specs.Flows.{ObjectIsInOrder, ProgramIsLaidOut, ProgramIsOne}
 use Rattle.object_law.specs.Laws.{ObjectUnwinds, PointsAscend}
 use Rattle.object_law.specs.Rows.{IsPlacedRow, RowsAreFew, RowsArePlaced}
 use Rattle.named_law.specs.Laws.{RowsAreNamed}
 use Rattle.named_law.specs.Named.{IsNamed}
 use Rattle.table_output.specs.Tables.{CanHaveTables, IsRowIn}
+use Rattle.object_check.specs.Counts.{IsCounted}
 use Rattle.object_check.specs.Order.{IsCheckable}
 use Rattle.object_check.specs.Outcome.{IsOutcome, OnAccepted}
-use Rattle.object_check.specs.Ready.{IsGraphOf, IsOutcomeOf, IsReady}
+use Rattle.object_check.specs.Promises.{KeepsPromises}
+use Rattle.object_check.specs.Ready.{IsGraphOf, IsOutcomeOf, IsReady, IsTableOf}
 use Rattle.object_check.specs.Unwinding.{RowsUnwind}
+use Rattle.object_check.specs.declared.counts.CodeCounts.{CodeCounts}
 use Rattle.object_check.specs.declared.outcome.Outcome.{Outcome}
 use Rattle.object_check.specs.declared.outcome.Outcome.TheVariants.{Accepted, Broken}
 use Rattle.object_check.proofs.OrcSections.{all_other}
 
-pub ready : (o : Elf) (lists : NameLists) (parts : GraphParts) → ProgramIsOne → ProgramIsLaidOut → PointsAscend → IsGraphOf o lists parts → IsReady (program_of o lists) parts
-ready o lists parts one laid ascend is = record {
+pub ready : (o : Elf) (lists : NameLists) (parts : GraphParts) → ProgramIsOne → ProgramIsLaidOut → PointsAscend → ProgramHasFunctions → IsGraphOf o lists parts → IsReady (program_of o lists) parts
+ready o lists parts one laid ascend functions is = record {
   tells = is.tells;
   is_program = one o lists is.object.bytes is.object.special;
   laid = laid o lists is.object;
   ascending = ascend o lists;
+  functions = functions o lists;
 }
 
+-- a table that is lent is the table
+pub lent_table : (o : Elf) (lists : NameLists) (table : Option AllowanceTable) (lent : Option (Bor AllowanceTable)) → option_copied lent ≡ table → IsTableOf (program_of o lists) (allowances_of o lists) table → IsTableOf (program_of o lists) (allowances_of o lists) (option_copied lent)
+lent_table o lists table lent same is = subst (IsTableOf (program_of o lists) (allowances_of o lists)) (sym same) is
+
 -- what was found of the program of an object that can be checked is the outcome
-pub is_outcome : (o : Elf) (lists : NameLists) (options : Options) (outcome : Outcome) → IsCheckable o → IsOutcomeOf (program_of o lists) options outcome → IsOutcome o lists options outcome
-is_outcome o lists options (Accepted rows) can found = (can, found.0, found.1)
-is_outcome o lists options (Broken warnings) can found = (can, found)
+pub is_outcome : (o : Elf) (lists : NameLists) (options : Options) (counts : CodeCounts) (outcome : Outcome)
+    → IsCheckable o → IsCounted o counts → IsOutcomeOf (program_of o lists) (allowances_of o lists) options counts outcome → IsOutcome o lists options outcome
+is_outcome o lists options counts (Accepted rows told) can counted found = (can, found.0, found.1, subst (IsCounted o) (sym found.2) counted)
+is_outcome o lists options counts (Broken warnings) can counted found = (can, found)
 
 -- a row that lies in a text section that a symbol names
 row_in : (o : Elf) (x : PlacedRow) → IsPlacedRow o x → IsNamed o x.place.sec → IsRowIn o x
@@ -50,10 +65,10 @@ row_in o x is named = record {
   row = is.row;
 }
 
-pub can_have_tables : (o : Elf) (lists : NameLists) (options : Options) (outcome : Outcome)
-    → length o.bytes ≤ MAX_FILE_BYTES → RowsArePlaced → RowsAreFew → RowsAreNamed → ObjectIsInOrder o → IsCheckable o → IsOutcomeOf (program_of o lists) options outcome
+pub can_have_tables : (o : Elf) (lists : NameLists) (options : Options) (counts : CodeCounts) (outcome : Outcome)
+    → length o.bytes ≤ MAX_FILE_BYTES → RowsArePlaced → RowsAreFew → RowsAreNamed → ObjectIsInOrder o → IsCheckable o → IsOutcomeOf (program_of o lists) (allowances_of o lists) options counts outcome
     → OnAccepted outcome (CanHaveTables o)
-can_have_tables o lists options (Accepted rows) short are_placed are_few are_named order can found =
+can_have_tables o lists options counts (Accepted rows told) short are_placed are_few are_named order can found =
     let has = found.1 in
     let all : List PlacedRow = rows_of (program_of o lists) has.states in
     let placed = are_placed o lists has.states order.object found.0.accepted has.kept in
@@ -67,13 +82,27 @@ can_have_tables o lists options (Accepted rows) short are_placed are_few are_nam
       short = short;
       few_rows = omega (arith, are_few o lists has.states order.object, ap length has.is);
     }
-can_have_tables o lists options (Broken warnings) short are_placed are_few are_named order can found = tt
+can_have_tables o lists options counts (Broken warnings) short are_placed are_few are_named order can found = tt
 
-pub rows_unwind : (o : Elf) (lists : NameLists) (options : Options) (outcome : Outcome)
-    → ObjectUnwinds → ObjectIsInOrder o → IsCheckable o → IsOutcomeOf (program_of o lists) options outcome
+pub rows_unwind : (o : Elf) (lists : NameLists) (options : Options) (counts : CodeCounts) (outcome : Outcome)
+    → ObjectUnwinds → ObjectIsInOrder o → IsCheckable o → IsOutcomeOf (program_of o lists) (allowances_of o lists) options counts outcome
     → OnAccepted outcome (RowsUnwind o lists)
-rows_unwind o lists options (Accepted rows) unwinds order can found = λ bases ranges placed m run.
+rows_unwind o lists options counts (Accepted rows told) unwinds order can found = λ bases ranges placed m run.
     let has = found.1 in
     subst (λ (all : List PlacedRow). WalksToFrames (program_of o lists) all bases ranges m) (sym has.is)
     (unwinds o lists has.states bases ranges order can.in_order.flow found.0.accepted has.kept placed m run)
-rows_unwind o lists options (Broken warnings) unwinds order can found = tt
+rows_unwind o lists options counts (Broken warnings) unwinds order can found = tt
+
+-- what the options promise of its runs
+pub keeps_promises : (o : Elf) (lists : NameLists) (options : Options) (counts : CodeCounts) (outcome : Outcome)
+    → FrameLaw → BranchLaw → AccessLaw → ProgramIsOne → ProgramHasFunctions → ObjectIsInOrder o
+    → IsOutcomeOf (program_of o lists) (allowances_of o lists) options counts outcome
+    → OnAccepted outcome (λ rows. KeepsPromises o lists options)
+keeps_promises o lists options counts (Accepted rows told) frames branches access one functions order found =
+    let is = one o lists order.bytes order.special in
+    record {
+      frames = λ asked bases placed m run. frames (program_of o lists) (allowances_of o lists) options bases is placed asked found.0.clean m run;
+      branches = λ bases placed m run. branches (program_of o lists) (allowances_of o lists) options bases is placed found.0.clean m run;
+      access = λ asked bases placed m homes run. access (program_of o lists) (allowances_of o lists) options bases is (functions o lists) placed asked found.0.clean m homes run;
+    }
+keeps_promises o lists options counts (Broken warnings) frames branches access one functions order found = tt

@@ -3,3 +3,4 @@ mod OrcSections
 mod SmallSites
 mod Verdicts
 mod Found
+pub mod OneCount

@@ -7,14 +7,16 @@ use Rattle.ot_base.specs.declared.warning.Warning.{Warning}
 use Rattle.state_defs.specs.declared.state.State.{State}
 use Rattle.program_defs.specs.Program.{Program}
 use Rattle.checker_defs.specs.Broken.{IsAccepted}
+use Rattle.option_defs.specs.Allowances.{Allowances}
 use Rattle.checker_defs.specs.Kept.{AreKeptStates}
 use Rattle.checker_defs.specs.Rows.{rows_of}
 use Rattle.program_graph.specs.declared.parts.GraphParts.{GraphParts}
 use Rattle.branch_check.specs.LevelStates.{at}
 use Rattle.program_check.specs.Checkable.{IsCheckable}
-use Rattle.program_check.specs.Verdict.{IsAcceptance, IsRefusal}
+use Rattle.allowances.specs.declared.table.AllowanceTable.{AllowanceTable}
+use Rattle.option_check.specs.Verdict.{IsAskable, IsFoundBroken, IsFoundClean}
 use Rattle.object_check.specs.Outcome.{AreWarnings, HasRows, IsUnbroken}
-use Rattle.object_check.specs.Ready.{IsReady}
+use Rattle.object_check.specs.Ready.{IsReady, IsTableOf}
 
 pub can_check : (p : Program) (parts : GraphParts) (states : List (Option State)) → IsReady p parts → AreKeptStates p (at states) → length states ≡ length parts.points.items → IsCheckable p parts states
 can_check p parts states ready kept points = record {
@@ -26,19 +28,22 @@ can_check p parts states ready kept points = record {
   points = points ∙ sym ready.tells.count;
 }
 
+pub can_ask : (p : Program) (allowed : Allowances) (parts : GraphParts) (states : List (Option State)) (table : Option AllowanceTable) → IsReady p parts → IsTableOf p allowed table → IsCheckable p parts states → IsAskable p allowed parts states table
+can_ask p allowed parts states table ready tells can = record { checkable = can; functions = ready.functions; allows = tells }
+
 -- the rows of what was accepted are those of the program
-pub accepted : (p : Program) (options : Options) (parts its : GraphParts) (states kept : List (Option State)) (rows : List PlacedRow)
-    → IsCheckable p parts states → IsAcceptance p options parts its states kept
+pub accepted : (p : Program) (allowed : Allowances) (options : Options) (parts its : GraphParts) (states kept : List (Option State)) (rows : List PlacedRow)
+    → IsCheckable p parts states → IsFoundClean p allowed options parts its states kept
     → ((q : Program) → IsCheckable q its kept → IsAccepted q → rows ≡ rows_of q (at kept))
-    → IsUnbroken p options × HasRows p rows
-accepted p options parts its states kept rows can is are =
+    → IsUnbroken p allowed options × HasRows p rows
+accepted p allowed options parts its states kept rows can is are =
     let own : IsCheckable p its kept = subst (λ (g : GraphParts). IsCheckable p g kept) (sym is.graph) (subst (λ (s : List (Option State)). IsCheckable p parts s) (sym is.kept) can) in
-    (record { accepted = is.accepted; unbroken = is.unbroken }, record { states = at kept; kept = own.kept; is = are p own is.accepted })
+    (record { accepted = is.accepted; clean = is.clean }, record { states = at kept; kept = own.kept; is = are p own is.accepted })
 
 -- the warnings of what was refused are those of the program
-pub refused : (p : Program) (options : Options) (parts its : GraphParts) (warnings : List Warning) → IsRefusal p options parts its warnings → AreWarnings p options warnings
-refused p options parts its warnings is = record {
+pub refused : (p : Program) (allowed : Allowances) (options : Options) (warnings : List Warning) → IsFoundBroken p allowed options warnings → AreWarnings p allowed options warnings
+refused p allowed options warnings is = record {
   some = λ none. absurd (omega (arith, is.some, ap length none));
   ascend = is.ascending;
-  all = is.broken;
+  all = is.all;
 }

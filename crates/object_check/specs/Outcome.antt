@@ -1,7 +1,6 @@
 -- What the check of an object comes to.
-use Rattle.std.specs.Prelude.{◌≡◌, ◌≢◌, ℕ, ℤ, ◌↔◌, List, [], Option, AllPairs, Contains}
+use Rattle.std.specs.Prelude.{◌≡◌, ◌≢◌, ℕ, ◌↔◌, List, [], Option, AllPairs, Contains}
 use Rattle.ot_base.specs.declared.options.Options.{Options}
-use Rattle.ot_base.specs.declared.place.Place.{Place}
 use Rattle.ot_base.specs.declared.row.PlacedRow.{PlacedRow}
 use Rattle.ot_base.specs.declared.warning.Warning.{Warning}
 use Rattle.ot_base.specs.NameLists.{NameLists}
@@ -9,18 +8,22 @@ use Rattle.elf_objects.specs.Elf.{Elf}
 use Rattle.state_defs.specs.declared.state.State.{State}
 use Rattle.program_defs.specs.Program.{Program}
 use Rattle.checker_defs.specs.Kept.{AreKeptStates}
-use Rattle.checker_defs.specs.Broken.{IsAccepted, IsBroken}
+use Rattle.checker_defs.specs.Broken.{IsAccepted}
+use Rattle.option_defs.specs.Allowances.{Allowances}
+use Rattle.option_defs.specs.Asked.{IsClean, IsWarned}
 use Rattle.checker_defs.specs.Rows.{rows_of}
 use Rattle.flow_defs.specs.Program.{program_of}
+use Rattle.point_allowances.specs.Allowances.{allowances_of}
 use Rattle.rule_check.specs.Before.{ComesBefore}
+use Rattle.object_check.specs.Counts.{IsCounted}
 use Rattle.object_check.specs.Order.{IsCheckable}
 use Rattle.object_check.specs.declared.outcome.Outcome.{Outcome}
 use Rattle.object_check.specs.declared.outcome.Outcome.TheVariants.{Accepted, Broken}
 
 -- no rule is broken, of those that are always asked for and of those that the options ask for
-pub record IsUnbroken (p : Program) (options : Options) : Type 0 where
+pub record IsUnbroken (p : Program) (allowed : Allowances) (options : Options) : Type 0 where
   pub accepted : IsAccepted p
-  pub unbroken : (place : Place) (rule : ℕ) (a b : ℤ) → IsBroken p options place rule a b → ⊥
+  pub clean : IsClean p allowed options
 
 -- the rows are those of the program's kept states
 pub record HasRows (p : Program) (rows : List PlacedRow) : Type 0 where
@@ -29,18 +32,18 @@ pub record HasRows (p : Program) (rows : List PlacedRow) : Type 0 where
   pub is : rows ≡ rows_of p states
 
 -- there are warnings, and these are they: each once, ascending by section, offset, rule and numbers
-pub record AreWarnings (p : Program) (options : Options) (warnings : List Warning) : Type 0 where
+pub record AreWarnings (p : Program) (allowed : Allowances) (options : Options) (warnings : List Warning) : Type 0 where
   pub some : warnings ≢ []
   pub ascend : AllPairs ComesBefore warnings
-  pub all : (w : Warning) → Contains warnings w ↔ IsBroken p options w.place w.rule w.a w.b
+  pub all : (w : Warning) → Contains warnings w ↔ IsWarned p allowed options w.place w.rule w.a w.b
 
--- The object is checked. Its program, under the lists of names, breaks no rule that is asked for, and the rows are
--- the program's; or it breaks some, and the warnings are exactly these.
+-- The object is checked. Its program, under the lists of names, breaks no rule that is asked for, the rows are the
+-- program's, and the object has so much code; or the program breaks some, and the warnings are exactly these.
 abbrev pub IsOutcome : Elf → NameLists → Options → Outcome → Type 0
-IsOutcome o lists options (Accepted rows) = IsCheckable o × IsUnbroken (program_of o lists) options × HasRows (program_of o lists) rows.items
-IsOutcome o lists options (Broken warnings) = IsCheckable o × AreWarnings (program_of o lists) options warnings.items
+IsOutcome o lists options (Accepted rows counts) = IsCheckable o × IsUnbroken (program_of o lists) (allowances_of o lists) options × HasRows (program_of o lists) rows.items × IsCounted o counts
+IsOutcome o lists options (Broken warnings) = IsCheckable o × AreWarnings (program_of o lists) (allowances_of o lists) options warnings.items
 
 -- what holds of the rows, where it is accepted
 abbrev pub OnAccepted : Outcome → (List PlacedRow → Type 0) → Type 0
-OnAccepted (Accepted rows) P = P rows.items
+OnAccepted (Accepted rows counts) P = P rows.items
 OnAccepted (Broken warnings) P = Unit {0}

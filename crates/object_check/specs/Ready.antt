@@ -1,17 +1,21 @@
 -- Graphs that are ready to be checked, and what their check comes to.
-use Rattle.std.specs.Prelude.{◌^◌, ◌<◌, All}
+use Rattle.std.specs.Prelude.{◌≡◌, ◌^◌, ◌<◌, Option, All, IfSome}
 use Rattle.ot_base.specs.declared.options.Options.{Options}
 use Rattle.ot_base.specs.NameLists.{NameLists}
 use Rattle.elf_objects.specs.Elf.{Elf}
 use Rattle.program_defs.specs.Program.{Program}
 use Rattle.program_defs.specs.IsProgram.{IsLaidOut, IsProgram}
 use Rattle.table_defs.specs.Order.{PlainPointsAscend}
+use Rattle.option_defs.specs.Allowances.{Allowances, HasFunctions}
+use Rattle.allowances.specs.declared.table.AllowanceTable.{AllowanceTable}
+use Rattle.allowances.specs.Allows.{Allows}
 use Rattle.program_graph.specs.declared.parts.GraphParts.{GraphParts}
 use Rattle.program_graph.specs.Tells.{Tells}
 use Rattle.flow_defs.specs.Program.{program_of}
 use Rattle.flow_law.specs.Flows.{ObjectIsInOrder}
 use Rattle.object_check.specs.Order.{IsInOrder}
 use Rattle.object_check.specs.Outcome.{AreWarnings, HasRows, IsUnbroken}
+use Rattle.object_check.specs.declared.counts.CodeCounts.{CodeCounts}
 use Rattle.object_check.specs.declared.outcome.Outcome.{Outcome}
 use Rattle.object_check.specs.declared.outcome.Outcome.TheVariants.{Accepted, Broken}
 
@@ -21,18 +25,23 @@ pub record IsGraphOf (o : Elf) (lists : NameLists) (parts : GraphParts) : Type 0
   pub in_order : IsInOrder o
   pub object : ObjectIsInOrder o
 
--- The graph tells a program that is one as the laws ask, and whose instructions lie in order.
+-- The graph tells a program that is one as the laws ask, whose instructions lie in order, and which has functions.
 pub record IsReady (p : Program) (parts : GraphParts) : Type 0 where
   pub tells : Tells p parts
   pub is_program : IsProgram p
   pub laid : IsLaidOut p
   pub ascending : PlainPointsAscend p
+  pub functions : HasFunctions p
+
+-- the table, if there is one, tells what is allowed at the program's points
+abbrev pub IsTableOf : Program → Allowances → Option AllowanceTable → Type 0
+IsTableOf p allowed table = IfSome table (λ t. Allows allowed t p.count)
 
 -- sites end where a file may
 abbrev pub HasSmallSites : GraphParts → Type 0
 HasSmallSites parts = All (λ site. site.len < 2 ^ 63) parts.sites.items
 
--- what the check of a program comes to
-abbrev pub IsOutcomeOf : Program → Options → Outcome → Type 0
-IsOutcomeOf p options (Accepted rows) = IsUnbroken p options × HasRows p rows.items
-IsOutcomeOf p options (Broken warnings) = AreWarnings p options warnings.items
+-- what the check of a program comes to, whose object has so much code
+abbrev pub IsOutcomeOf : Program → Allowances → Options → CodeCounts → Outcome → Type 0
+IsOutcomeOf p allowed options counts (Accepted rows told) = IsUnbroken p allowed options × HasRows p rows.items × (told ≡ counts)
+IsOutcomeOf p allowed options counts (Broken warnings) = AreWarnings p allowed options warnings.items

@@ -1,44 +1,61 @@
 //! The public call.
 
-ghost use Rattle.std.specs.Prelude.{◌≤◌, IfOk, IfErr, length};
+ghost use Rattle.std.specs.Prelude.{◌≤◌, IfOk, IfErr, length, option_copied};
 ghost use Rattle.elf_objects.specs.declared.TheConstants.{MAX_FILE_BYTES as most_bytes};
 ghost use Rattle.program_defs.specs.Program.{Program};
+ghost use Rattle.option_defs.specs.Allowances.{Allowances};
+ghost use Rattle.option_check.specs.Asked.{IsEnough};
 ghost use Rattle.object_check.specs.Order.{IsCheckFault};
 ghost use Rattle.object_check.specs.Outcome.{IsOutcome, OnAccepted};
-ghost use Rattle.object_check.specs.Ready.{HasSmallSites, IsOutcomeOf, IsReady};
+ghost use Rattle.object_check.specs.Promises.{KeepsPromises};
+ghost use Rattle.object_check.specs.Ready.{HasSmallSites, IsOutcomeOf, IsReady, IsTableOf};
 ghost use Rattle.object_check.specs.Unwinding.{RowsUnwind};
 ghost use Rattle.table_output.specs.Tables.{CanHaveTables};
 
+use crate::counts::CodeCounts;
 use crate::fault::CheckFault;
-use crate::graph::graph_of;
+use crate::graph::{ReadCode, read_code};
 use crate::outcome::Outcome;
 use crate::room::check_room;
+use allowances::AllowanceTable;
 use branch_check::{Scratch, spread};
 use elf_objects::Object;
 use flow_law::laws::{program_is_laid_out, program_is_one};
+use function_law::laws::program_has_functions;
 use named_law::laws::rows_are_named;
 use object_law::laws::{object_unwinds, plain_points_ascend, rows_are_rows_of};
+use option_check::{Verdict, check};
+use option_law::laws::{access_is_kept, branches_are_safe, calls_have_frames};
 use ot_base::{Lists, NoMemory, Options};
-use program_check::{Verdict, check};
 use program_graph::Graph;
 use std::alloc::Global;
 
-/// Checks a program by its graph.
-fn outcome_of(alloc: Global, graph: Graph, options: Options) -> Result<Outcome, NoMemory>
-    requires program { (p : Program) × IsReady p graph.parts }
+/// Checks a program by its graph, and by what is allowed at its points and symbols. Its object has so much code.
+fn outcome_of(
+    alloc: Global,
+    graph: Graph,
+    table: Option<&AllowanceTable>,
+    counts: CodeCounts,
+    options: Options,
+) -> Result<Outcome, NoMemory>
+    requires program { (p : Program) × (allowed : Allowances) × IsReady p graph.parts × IsTableOf p allowed (option_copied table) }
+    requires enough { IsEnough options (option_copied table) }
     requires sites { HasSmallSites graph.parts }
-    ensures { IfOk result (λ outcome. (p : Program) → IsReady p graph.parts → IsOutcomeOf p options outcome) }
+    ensures { IfOk result (λ outcome. (p : Program) (allowed : Allowances) → IsReady p graph.parts → IsTableOf p allowed (option_copied table.entry) → IsOutcomeOf p allowed options counts outcome) }
 {
     let scratch = Scratch::reserve(alloc, graph.points())?;
     let kept = spread(&graph, scratch);
-    match check(alloc, graph, kept, options)? {
-        Verdict::Accepted(checked) => Ok(Outcome::Accepted(checked.rows(alloc)?)),
-        Verdict::Broken(_, warnings) => Ok(Outcome::Broken(warnings)),
+    match check(alloc, graph, kept, table, options)? {
+        Verdict::Clean(checked) => Ok(Outcome::Accepted {
+            rows: checked.rows(alloc)?,
+            counts,
+        }),
+        Verdict::Warned(warnings) => Ok(Outcome::Broken(warnings)),
     }
 }
 
 /// Checks an object of at most 67,108,864 bytes (64 MiB) under lists of function names: the rules 1 to 13 and 15 to 18, and 14
-/// (`unreachable`) and 21 (`fp`) where the options ask for them.
+/// (`unreachable`), 21 (`fp`), 31 (`retpoline`), 32 (`rethunk`) and 41 to 47 (`uaccess`) where the options ask for them.
 ///
 /// # Errors
 ///
@@ -55,6 +72,8 @@ pub fn check_object(
     ensures ok { IfOk result (IsOutcome object.now lists.now options) }
     // The rows can be added to the object, and unwind its program.
     ensures tables { IfOk result (λ outcome. OnAccepted outcome (CanHaveTables object.now)) }
+    // What the options promise of every run of its program.
+    ensures promises { IfOk result (λ outcome. OnAccepted outcome (λ rows. KeepsPromises object.now lists.now options)) }
     ensures unwinds { IfOk result (λ outcome. OnAccepted outcome (RowsUnwind object.now lists.now)) }
     ensures err { IfErr result (IsCheckFault object.now) }
 {
@@ -64,8 +83,16 @@ pub fn check_object(
     rows_are_rows_of();
     rows_are_named();
     object_unwinds();
-    let graph = graph_of(alloc, object, lists)?;
+    program_has_functions();
+    calls_have_frames();
+    branches_are_safe();
+    access_is_kept();
+    let ReadCode {
+        graph,
+        table,
+        counts,
+    } = read_code(alloc, object, lists, options)?;
     check_room(object)?;
-    let outcome = outcome_of(alloc, graph, options)?;
+    let outcome = outcome_of(alloc, graph, table.as_ref(), counts, options)?;
     Ok(outcome)
 }

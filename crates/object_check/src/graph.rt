@@ -1,35 +1,88 @@
-//! The control-flow graph of an object's program.
+//! The control-flow graph of an object's program, and how much code it has.
 
-ghost use Rattle.std.specs.Prelude.{◌≤◌, IfErr, IfOk, length};
+ghost use Rattle.std.specs.Prelude.{◌≡◌, ◌≤◌, IfErr, IfOk, length};
+ghost use Rattle.flow_defs.specs.Program.{program_of};
+ghost use Rattle.option_check.specs.Asked.{IsEnough, needs_allowances as need_allowances};
+ghost use Rattle.point_allowances.specs.Allowances.{allowances_of};
 ghost use Rattle.elf_objects.specs.declared.TheConstants.{MAX_FILE_BYTES as most_bytes};
+ghost use Rattle.object_check.specs.Counts.{IsCounted};
 ghost use Rattle.object_check.specs.Order.{IsCheckFault};
-ghost use Rattle.object_check.specs.Ready.{IsGraphOf};
+ghost use Rattle.object_check.specs.Ready.{IsGraphOf, IsTableOf};
 
+use crate::counts::{CodeCounts, count_code};
 use crate::fault::CheckFault;
+use allowances::AllowanceTable;
 use control_flow::{flow, object_is_in_order};
 use elf_objects::Object;
 use object_code::Linked;
-use ot_base::Lists;
+use ot_base::{Lists, NoMemory, Options};
+use point_allowances::table_of;
 use program_graph::Graph;
 use std::alloc::Global;
 
-/// Reads the code of an object and follows its control flow. Of what it reads it keeps the graph alone.
+/// What is kept of an object's code.
+#[derive(Drop)]
+pub(crate) struct ReadCode {
+    /// The control-flow graph.
+    pub(crate) graph: Graph,
+    /// What is allowed at its points and symbols, where the options ask for rules that look at it.
+    pub(crate) table: Option<AllowanceTable>,
+    /// How much code there is.
+    pub(crate) counts: CodeCounts,
+}
+
+/// Whether the options ask for a rule that looks at what is allowed.
+fn needs_allowances(options: Options) -> bool
+    ensures { result ≡ need_allowances options }
+{
+    options.retpoline || options.rethunk || options.uaccess
+}
+
+/// What is allowed at the points and symbols of an object whose code is read, where it is needed.
+fn table_if_needed(
+    alloc: Global,
+    linked: &Linked<'_, '_>,
+    lists: &Lists,
+    options: Options,
+) -> Result<Option<AllowanceTable>, NoMemory>
+    ensures enough { IfOk result (IsEnough options) }
+    ensures allows { IfOk result (IsTableOf (program_of linked.now lists.now) (allowances_of linked.now lists.now)) }
+{
+    if needs_allowances(options) {
+        Ok(Some(table_of(alloc, linked, lists)?))
+    } else {
+        Ok(None)
+    }
+}
+
+/// Reads the code of an object and follows its control flow. Of what it reads it keeps the graph, what is allowed at its points
+/// and symbols, and the counts alone.
 ///
 /// # Errors
 ///
 /// The first fault of texts, special sections, functions and alternatives; then the first of the starts of functions, lists
 /// of places, static branches and unchecked functions. [`CheckFault::NoMemory`] may come at any object.
-pub(crate) fn graph_of(
+pub(crate) fn read_code(
     alloc: Global,
     object: &Object<'_>,
     lists: &Lists,
-) -> Result<Graph, CheckFault>
+    options: Options,
+) -> Result<ReadCode, CheckFault>
     requires { length object.now.bytes ≤ most_bytes }
-    ensures ok { IfOk result (λ graph. IsGraphOf object.now lists.now graph.parts) }
+    ensures ok { IfOk result (λ read. IsGraphOf object.now lists.now read.graph.parts) }
+    ensures enough { IfOk result (λ read. IsEnough options read.table) }
+    ensures allows { IfOk result (λ read. IsTableOf (program_of object.now lists.now) (allowances_of object.now lists.now) read.table) }
+    ensures counted { IfOk result (λ read. IsCounted object.now read.counts) }
     ensures err { IfErr result (IsCheckFault object.now) }
 {
     let linked = Linked::link(alloc, object)?;
     object_is_in_order(&linked);
     let graph = flow(alloc, &linked, lists)?;
-    Ok(graph)
+    let table = table_if_needed(alloc, &linked, lists, options)?;
+    let counts = count_code(&linked);
+    Ok(ReadCode {
+        graph,
+        table,
+        counts,
+    })
 }

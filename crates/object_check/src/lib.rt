@@ -3,11 +3,13 @@
 #![tactic(auto)]
 
 mod check;
+mod counts;
 mod fault;
 mod graph;
 mod outcome;
 mod room;
 
 pub use check::check_object;
+pub use counts::CodeCounts;
 pub use fault::CheckFault;
 pub use outcome::Outcome;

@@ -1,13 +1,18 @@
 //! What the check of an object comes to.
 
+use crate::counts::CodeCounts;
 use ot_base::{PlacedRow, Warning};
 
 /// What the check of an object comes to.
 #[derive(Debug, Drop)]
 pub enum Outcome {
-    /// No rule is broken that is asked for: these are the rows of the ORC table, section by section in ascending order, and
-    /// ascending by offset.
-    Accepted(Vec<PlacedRow>),
+    /// No rule is broken that is asked for.
+    Accepted {
+        /// The rows of the ORC table, section by section in ascending order, and ascending by offset.
+        rows: Vec<PlacedRow>,
+        /// How much code the object has.
+        counts: CodeCounts,
+    },
     /// Rules are broken: these are all warnings, each once, ascending by section, offset, rule and numbers.
     Broken(Vec<Warning>),
 }

@@ -5,8 +5,9 @@ use Rattle.program_graph.specs.Tells.{Tells}
 use Rattle.flow_defs.specs.Faults.{IsFirstFlowFault, flow_faults}
 use Rattle.flow_defs.specs.Program.{program_of}
 use Rattle.flow_law.specs.Flows.{ObjectIsInOrder}
+use Rattle.object_check.specs.Order.{no_memory}
 use Rattle.object_check.proofs.Faults.{flow_told, link_told}
-use Rattle.object_check.proofs.graph.graph_of.Goals as goal
+use Rattle.object_check.proofs.graph.read_code.Goals as goal
 
 pub returns-in_err-linked-clause-err : goal.returns-in_err-linked-clause-err
 returns-in_err-linked-clause-err c =
@@ -29,3 +30,8 @@ returns-clause-ok c =
       in_order = record { linked = c.in_ok-linked.ensures.right; flow = subst (λ (e : Elf). flow_faults e ≡ []) same c.in_ok-graph.ensures.right };
       object = subst ObjectIsInOrder same c.object_is_in_order.ensures;
     }
+
+pub returns-in_err-table-clause-err : goal.returns-in_err-table-clause-err
+returns-in_err-table-clause-err c =
+    let p = err_from_is_err_and c.from_residual-in_err-table.result c.from_residual-in_err-table.ensures.1 in
+    rw (p.1, p.2) no_memory

@@ -1,0 +1,56 @@
+//! How much code an object has.
+
+ghost use Rattle.std.specs.Prelude.{◌≡◌, ◌≤◌, ◌<◌, ◌^◌, length, count_by};
+ghost use Rattle.alternatives.specs.declared.point.Point.{Point};
+ghost use Rattle.elf_objects.specs.declared.TheConstants.{MAX_FILE_BYTES as most_bytes};
+ghost use Rattle.flow_defs.specs.Code.{is_plain};
+ghost use Rattle.object_check.specs.Counts.{IsCounted, text_bytes};
+
+use alternatives::Point;
+use elf_objects::Object;
+use object_code::Linked;
+
+/// How much code an object has.
+#[derive(Clone, Copy, Debug, PartialEq, Eq)]
+pub struct CodeCounts {
+    /// Its functions, parts included.
+    pub functions: u32,
+    /// The instructions of its text sections.
+    pub instructions: u32,
+    /// The bytes of its text sections.
+    pub text_bytes: u64,
+}
+
+/// How many of these points are instructions of the code as it is assembled.
+fn count_plain(points: &[Point]) -> u32
+    requires { length points.now < 2 ^ 32 }
+    ensures { result ≡ count_by is_plain points.now }
+{
+    points.iter().filter(|point| point.variant == 0).count() as u32
+}
+
+/// How many bytes the text sections of an object have.
+fn count_text(object: &Object<'_>) -> u64
+    requires { length object.now.bytes ≤ most_bytes }
+    ensures { result ≡ text_bytes object.now }
+{
+    let mut total = 0;
+    for sec in 0..object.sections() {
+        if object.is_text(sec) {
+            total += object.section(sec).size;
+        }
+    }
+    total
+}
+
+/// How much code an object has whose code is read.
+pub(crate) fn count_code(linked: &Linked<'_, '_>) -> CodeCounts
+    requires { length linked.now.bytes ≤ most_bytes }
+    ensures { IsCounted linked.now result }
+{
+    CodeCounts {
+        functions: linked.index().functions().len() as u32,
+        instructions: count_plain(linked.sites().points()),
+        text_bytes: count_text(linked.object()),
+    }
+}
