@@ -17,7 +17,7 @@ const DUMP: &str = "Print the rows of an object's ORC tables";
 
 const UNWIND: &str = "Print the frames of a stack, by an object's ORC tables";
 
-const DEMO: &str = "Check an object of N functions that is made up (not built yet)";
+const DEMO: &str = "Make an object of N functions, check it, and print what it has";
 
 /// What the statuses mean, and an example.
 const AFTER: &str = "
@@ -80,17 +80,17 @@ fn switches(alloc: Global) -> Result<Vec<Arg<'static>>, AllocError> {
         switch(
             alloc,
             "retpoline",
-            "Check that no indirect branch is left (not built yet)"
+            "Check that no indirect branch is left outside listed places"
         ),
         switch(
             alloc,
             "rethunk",
-            "Check that no return instruction is left (not built yet)"
+            "Check that no return instruction is left outside listed places"
         ),
         switch(
             alloc,
             "uaccess",
-            "Check that user access is off outside of listed functions (not built yet)"
+            "Check that user access is off outside of listed functions"
         ),
         switch(
             alloc,

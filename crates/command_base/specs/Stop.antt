@@ -4,11 +4,11 @@ use Rattle.std.specs.Fmt.{decimal}
 use Rattle.ot_base.specs.PlaceText.{escaped}
 use Rattle.cli_words.specs.FaultText.{fault_text}
 use Rattle.cli_words.specs.declared.fault.UsageFault.TheVariants.{At}
+use Rattle.cli_words.specs.declared.fault.UsageKind.{UsageKind}
 use Rattle.command_base.specs.Refusal.{refusal_text}
 use Rattle.command_base.specs.declared.status.Status.{Status}
 use Rattle.command_base.specs.declared.status.Status.TheVariants as status
 use Rattle.command_base.specs.declared.usage.Usage as declared
-use Rattle.command_base.specs.declared.usage.Usage.TheVariants as usage
 use Rattle.command_base.specs.declared.stop.Stop.{Stop}
 use Rattle.command_base.specs.declared.stop.Stop.TheVariants.{Usage, Missing, TooLong, Refused, FileFault, NoMemory}
 
@@ -17,8 +17,11 @@ longer_text file limit = escaped file ++ codes " is longer than " ++ decimal lim
 
 -- what is told of the words
 abbrev pub usage_text : declared.Usage → List ℕ
-usage_text (usage.Words word kind) = fault_text (At word kind)
-usage_text usage.NotBuilt = codes "not built yet"
+usage_text usage = fault_text (At usage.word usage.kind)
+
+-- a word at fault, and what is wrong with it
+abbrev pub usage_at : ℕ → UsageKind → declared.Usage
+usage_at word kind = record { word = word; kind = kind }
 
 abbrev pub line_of : Stop → List ℕ
 line_of (Usage usage) = codes "usage: " ++ usage_text usage ++ codes "\n"

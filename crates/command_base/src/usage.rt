@@ -1,13 +1,13 @@
 use cli_words::{UsageFault, UsageKind};
 use std::fmt;
 
-/// Why the words of a command line ask for nothing that is done.
+/// Why the words of a command line ask for nothing: the first word at fault, counted from 0, and what is wrong with it.
 #[derive(Clone, Copy, Debug, PartialEq, Eq)]
-pub enum Usage {
-    /// The first word at fault, counted from 0, and what is wrong with it.
-    Words { word: u64, kind: UsageKind },
-    /// They ask for what isn't built yet.
-    NotBuilt,
+pub struct Usage {
+    /// The number of the word, counted from 0.
+    pub word: u64,
+    /// What is wrong with it.
+    pub kind: UsageKind,
 }
 
 impl fmt::Display for Usage {
@@ -17,9 +17,7 @@ impl fmt::Display for Usage {
     ghost output = { λ usage. Some (usage_text usage) };
 
     fn fmt<W: fmt::Write>(&self, f: &mut fmt::Formatter<W>) -> fmt::Result {
-        match *self {
-            Usage::Words { word, kind } => write!(f, "{}", UsageFault::At { word, kind }),
-            Usage::NotBuilt => write!(f, "not built yet"),
-        }
+        let Usage { word, kind } = *self;
+        write!(f, "{}", UsageFault::At { word, kind })
     }
 }

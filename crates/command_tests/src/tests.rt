@@ -5,6 +5,7 @@ ghost use Rattle.ot_files.specs.Memory.{names_of, names_differ};
 
 mod object;
 mod reading;
+mod summing;
 mod walking;
 
 use object::{make, make_call};
@@ -84,6 +85,29 @@ fn expect_rows(
     Ok(())
 }
 
+/// What a run over files in memory comes to: its status, what it printed, and the files.
+#[derive(Drop)]
+struct Ran {
+    status: Status,
+    text: Vec<u8>,
+    files: SureFiles,
+}
+
+/// Runs the words of a line over files that hold this.
+fn run_line(alloc: Global, line: &str, entries: Vec<(String, Vec<u8>)>) -> Result<Ran, AllocError>
+    requires { IsTrue (names_differ (names_of entries.items)) }
+{
+    let mut files = SureFiles::new(alloc, entries);
+    let mut out = SureSink::new(alloc, 100);
+    let status = run(alloc, &words_of(alloc, line)?, &mut files, &mut out);
+    let text = Vec::from_slice(alloc, out.written())?;
+    Ok(Ran {
+        status,
+        text,
+        files,
+    })
+}
+
 /// A code, the bytes of its object and of OUT, and its rows.
 type Straight<'a> = (&'a [u8], usize, usize, &'a [RowBytes]);
 
@@ -106,19 +130,19 @@ fn straight_code_gets_its_rows(rt: HostRuntime) -> Result<(), Fail> {
             &rows_of_a_store,
         ),
     ];
-    let words = words(alloc, &["check", "IN", "OUT"])?;
     for (code, size_before, size, rows) in table {
         let object = make(alloc, code)?;
         assert_eq!(rt; object.len(), size_before, "{code:?}");
-        let mut files = SureFiles::new(alloc, only_in(alloc, &object)?);
-        let mut out = SureSink::new(alloc, 100);
-        let status = run(alloc, &words, &mut files, &mut out);
-        assert_eq!(rt; status, Status::Done, "{code:?}");
-        assert_eq!(rt; out.written().len(), 0, "{code:?}");
-        let written = files.content("OUT").ok_or("OUT is there")?;
+        let ran = run_line(alloc, "check IN OUT", only_in(alloc, &object)?)?;
+        assert_eq!(rt; ran.status, Status::Done, "{code:?}");
+        assert_eq!(rt; ran.text.len(), 0, "{code:?}");
+        let written = ran.files.content("OUT").ok_or("OUT is there")?;
         assert_eq!(rt; written.len(), size, "{code:?}");
         expect_rows(&rt, alloc, written, 1, rows)?;
-        assert!(rt; files.content("IN") == Some(object.as_slice()), "{code:?}");
+        assert!(rt;
+            ran.files.content("IN") == Some(object.as_slice()),
+            "{code:?}"
+        );
     }
     Ok(())
 }
@@ -130,14 +154,10 @@ fn expect_refused(
     bytes: &[u8],
     line: &str,
 ) -> Result<(), AllocError> {
-    let words = words(alloc, &["check", "IN", "OUT"])?;
-    let mut files = MemFiles::new(alloc, only_in(alloc, bytes)?, Vec::new(alloc));
-    let mut out = MemSink::new(alloc, 100, Vec::new(alloc));
-    let status = run(alloc, &words, &mut files, &mut out);
-    assert_eq!(rt; status, Status::Refused, "{line:?}");
-    assert_eq!(rt; out.written(), line.as_bytes(), "{line:?}");
-    assert!(rt; files.content("OUT").is_none(), "{line:?}");
-    assert_eq!(rt; (files.faults(), out.faults()), (0, 0), "{line:?}");
+    let ran = run_line(alloc, "check IN OUT", only_in(alloc, bytes)?)?;
+    assert_eq!(rt; ran.status, Status::Refused, "{line:?}");
+    assert_eq!(rt; ran.text.as_slice(), line.as_bytes(), "{line:?}");
+    assert!(rt; ran.files.content("OUT").is_none(), "{line:?}");
     Ok(())
 }
 
@@ -152,13 +172,10 @@ fn expect_accepted(
     symbol: u8,
     rows: &[RowBytes],
 ) -> Result<(), Fail> {
-    let words = words(alloc, &["check", "IN", "OUT"])?;
-    let mut files = SureFiles::new(alloc, only_in(alloc, bytes)?);
-    let mut out = SureSink::new(alloc, 100);
-    let status = run(alloc, &words, &mut files, &mut out);
-    assert_eq!(rt; status, Status::Done, "{rows:?}");
-    assert_eq!(rt; out.written().len(), 0, "{rows:?}");
-    let written = files.content("OUT").ok_or("OUT is there")?;
+    let ran = run_line(alloc, "check IN OUT", only_in(alloc, bytes)?)?;
+    assert_eq!(rt; ran.status, Status::Done, "{rows:?}");
+    assert_eq!(rt; ran.text.len(), 0, "{rows:?}");
+    let written = ran.files.content("OUT").ok_or("OUT is there")?;
     expect_rows(rt, alloc, written, symbol, rows)?;
     Ok(())
 }
@@ -192,14 +209,10 @@ fn expect_warned(
     bytes: &[u8],
     lines: &str,
 ) -> Result<(), AllocError> {
-    let words = words(alloc, &["check", "IN", "OUT"])?;
-    let mut files = MemFiles::new(alloc, only_in(alloc, bytes)?, Vec::new(alloc));
-    let mut out = MemSink::new(alloc, 100, Vec::new(alloc));
-    let status = run(alloc, &words, &mut files, &mut out);
-    assert_eq!(rt; status, Status::Warnings, "{lines:?}");
-    assert_eq!(rt; out.written(), lines.as_bytes(), "{lines:?}");
-    assert!(rt; files.content("OUT").is_none(), "{lines:?}");
-    assert_eq!(rt; (files.faults(), out.faults()), (0, 0), "{lines:?}");
+    let ran = run_line(alloc, "check IN OUT", only_in(alloc, bytes)?)?;
+    assert_eq!(rt; ran.status, Status::Warnings, "{lines:?}");
+    assert_eq!(rt; ran.text.as_slice(), lines.as_bytes(), "{lines:?}");
+    assert!(rt; ran.files.content("OUT").is_none(), "{lines:?}");
     Ok(())
 }
 
@@ -332,42 +345,119 @@ fn symbols_and_sections_count(rt: HostRuntime) -> Result<(), Fail> {
     Ok(())
 }
 
+/// Each line, with a names file of this text, ends so on the object of these bytes. OUT is written exactly where it is done.
+fn expect_checks(rt: &impl Abort, alloc: Global, bytes: &[u8], runs: &[Run]) -> Result<(), Fail> {
+    for (line, names, status, text) in runs {
+        let ran = run_line(alloc, line, with_names(alloc, bytes, names)?)?;
+        assert!(rt; ran.status == *status, "{line}: {:?}", ran.status);
+        assert!(rt; ran.text.as_slice() == text.as_bytes(), "{line}");
+        let written = ran.files.content("OUT").is_some();
+        assert!(rt; written == (*status == Status::Done), "{line}");
+    }
+    Ok(())
+}
+
+/// call g, which may not return
+const CALL: [Run; 4] = [
+    (
+        "check IN OUT",
+        "",
+        Status::Warnings,
+        ".text+0x0: rule 3: runs off the section\n",
+    ),
+    ("check IN OUT --names=names", "noreturn g", Status::Done, ""),
+    (
+        "check IN OUT --names=names --fp",
+        "noreturn g",
+        Status::Warnings,
+        ".text+0x0: rule 21: call without frame\n",
+    ),
+    (
+        "check --fp IN OUT --names=names",
+        "noreturn f\nuaccess g\n",
+        Status::Warnings,
+        ".text+0x0: rule 3: runs off the section\n.text+0x0: rule 21: call without frame\n",
+    ),
+];
+
+/// stac; call g; clac; ret
+const ACCESS: [Run; 5] = [
+    ("check IN OUT", "", Status::Done, ""),
+    (
+        "check IN OUT --uaccess",
+        "",
+        Status::Warnings,
+        ".text+0x3: rule 41: call to g with user access on\n",
+    ),
+    (
+        "check IN OUT --uaccess --names=names",
+        "uaccess g",
+        Status::Done,
+        "",
+    ),
+    (
+        "check IN OUT --rethunk --retpoline",
+        "",
+        Status::Warnings,
+        ".text+0xb: rule 32: naked return\n",
+    ),
+    (
+        "check IN OUT --names=names --uaccess --fp --rethunk",
+        "uaccess f\n",
+        Status::Warnings,
+        ".text+0x0: rule 44: user access turned on twice\n.text+0x3: rule 21: call without frame\n.text+0x3: rule 41: call to g with user access on\n.text+0x8: rule 46: safe function turns user access off\n.text+0xb: rule 32: naked return\n.text+0xb: rule 43: return with user access off\n",
+    ),
+];
+
+/// jmp *%rax
+const JUMP: [Run; 2] = [
+    ("check IN OUT --rethunk --uaccess", "", Status::Done, ""),
+    (
+        "check --retpoline IN OUT",
+        "",
+        Status::Warnings,
+        ".text+0x0: rule 31: indirect branch\n",
+    ),
+];
+
 #[test]
 fn options_and_names_count(rt: HostRuntime) -> Result<(), Fail> {
     let alloc = rt.alloc();
-    let object = make_call(alloc)?;
-    let table = [
-        (
-            "check IN OUT",
-            "",
-            Status::Warnings,
-            ".text+0x0: rule 3: runs off the section\n",
-        ),
-        ("check IN OUT --names=names", "noreturn g", Status::Done, ""),
-        (
-            "check IN OUT --names=names --fp",
-            "noreturn g",
-            Status::Warnings,
-            ".text+0x0: rule 21: call without frame\n",
-        ),
-        (
-            "check --fp IN OUT --names=names",
-            "noreturn f\nuaccess g\n",
-            Status::Warnings,
-            ".text+0x0: rule 3: runs off the section\n.text+0x0: rule 21: call without frame\n",
-        ),
-    ];
-    for (line, names, status, text) in table {
-        let mut files = SureFiles::new(alloc, with_names(alloc, &object, names)?);
-        let mut out = SureSink::new(alloc, 100);
-        let ended = run(alloc, &words_of(alloc, line)?, &mut files, &mut out);
-        assert!(rt; ended == status, "{line}: {ended:?}");
-        assert!(rt; out.written() == text.as_bytes(), "{line}");
-        let written = files.content("OUT");
-        assert!(rt; written.is_some() == (status == Status::Done), "{line}");
-        if let Some(written) = written {
-            expect_rows(&rt, alloc, written, 1, &[(0, DEPTH_8), (5, ZERO)])?;
-        }
+    let call = make_call(alloc, b"\xE8\0\0\0\0", 1)?;
+    expect_checks(&rt, alloc, &call, &CALL)?;
+    let access = make_call(alloc, b"\x0F\x01\xCB\xE8\0\0\0\0\x0F\x01\xCA\xC3", 4)?;
+    expect_checks(&rt, alloc, &access, &ACCESS)?;
+    expect_checks(&rt, alloc, &make(alloc, b"\xFF\xE0")?, &JUMP)
+}
+
+/// Code that breaks one rule of user access, and the line that `check IN OUT --uaccess` prints of it.
+const ACCESS_ALONE: [(&[u8], &str); 3] = [
+    // stac; ret
+    (
+        b"\x0F\x01\xCB\xC3",
+        ".text+0x3: rule 42: return with user access on\n",
+    ),
+    // clac; ret
+    (
+        b"\x0F\x01\xCA\xC3",
+        ".text+0x0: rule 45: user access turned off twice\n",
+    ),
+    // pushf; popf; ret
+    (
+        b"\x9C\x9D\xC3",
+        ".text+0x1: rule 47: popf where user access is tracked\n",
+    ),
+];
+
+#[test]
+fn user_access_is_tracked(rt: HostRuntime) -> Result<(), Fail> {
+    let alloc = rt.alloc();
+    for (code, line) in ACCESS_ALONE {
+        let runs = [
+            ("check IN OUT", "", Status::Done, ""),
+            ("check IN OUT --uaccess", "", Status::Warnings, line),
+        ];
+        expect_checks(&rt, alloc, &make(alloc, code)?, &runs)?;
     }
     Ok(())
 }
@@ -375,13 +465,11 @@ fn options_and_names_count(rt: HostRuntime) -> Result<(), Fail> {
 #[test]
 fn unreached_code_may_stand(rt: HostRuntime) -> Result<(), Fail> {
     let alloc = rt.alloc();
-    let words = words(alloc, &["check", "IN", "OUT", "--no-unreachable"])?;
     let object = make(alloc, b"\xC3\xC3")?;
-    let mut files = SureFiles::new(alloc, only_in(alloc, &object)?);
-    let mut out = SureSink::new(alloc, 100);
-    let status = run(alloc, &words, &mut files, &mut out);
-    assert_eq!(rt; status, Status::Done);
-    let written = files.content("OUT").ok_or("OUT is there")?;
+    let line = "check IN OUT --no-unreachable";
+    let ran = run_line(alloc, line, only_in(alloc, &object)?)?;
+    assert_eq!(rt; ran.status, Status::Done);
+    let written = ran.files.content("OUT").ok_or("OUT is there")?;
     // Nothing is known of the second return, nor behind it.
     let rows = [(0, DEPTH_8), (1, ZERO), (2, ZERO)];
     expect_rows(&rt, alloc, written, 1, &rows)?;
@@ -472,7 +560,7 @@ fn a_file_that_is_too_long_is_refused(rt: HostRuntime) -> Result<(), Fail> {
 /// the status that the command ends with, and its text.
 type Run = (&'static str, &'static str, Status, &'static str);
 
-const USAGE: [Run; 15] = [
+const USAGE: [Run; 13] = [
     ("", "", Status::Usage, "usage: no command at word 0\n"),
     ("dump", "", Status::Usage, "usage: missing at word 1\n"),
     (
@@ -525,18 +613,11 @@ const USAGE: [Run; 15] = [
         Status::Usage,
         "usage: bad number at word 1\n",
     ),
-    ("demo 3", "", Status::Usage, "usage: not built yet\n"),
     (
-        "check NO OUT --uaccess --names=no",
+        "demo 100001",
         "",
         Status::Usage,
-        "usage: not built yet\n",
-    ),
-    (
-        "check --rethunk --retpoline IN OUT",
-        "",
-        Status::Usage,
-        "usage: not built yet\n",
+        "usage: bad number at word 1\n",
     ),
 ];
 
@@ -616,15 +697,12 @@ fn words_of(alloc: Global, line: &str) -> Result<Vec<String>, AllocError> {
 fn expect_runs(rt: &impl Abort, alloc: Global, runs: &[Run]) -> Result<(), Fail> {
     for (line, names, status, text) in runs {
         let object = make(alloc, b"\xC3")?;
-        let mut files = SureFiles::new(alloc, with_names(alloc, &object, names)?);
-        let mut out = SureSink::new(alloc, 100);
-        let words = words_of(alloc, line)?;
-        let ended = run(alloc, &words, &mut files, &mut out);
-        assert!(rt; ended == *status, "{line}: {ended:?}");
-        assert!(rt; out.written() == text.as_bytes(), "{line}");
-        let written = files.content("OUT").is_some();
+        let ran = run_line(alloc, line, with_names(alloc, &object, names)?)?;
+        assert!(rt; ran.status == *status, "{line}: {:?}", ran.status);
+        assert!(rt; ran.text.as_slice() == text.as_bytes(), "{line}");
+        let written = ran.files.content("OUT").is_some();
         assert!(rt;
-            written == (ended == Status::Done && line.starts_with("check")),
+            written == (*status == Status::Done && line.starts_with("check")),
             "{line}"
         );
     }

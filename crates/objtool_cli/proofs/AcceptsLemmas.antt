@@ -4,7 +4,6 @@ use Rattle.std.specs.Prelude.{◌≢◌, ◌⊎◌, Contains, Some, None, Option
 use Rattle.elf_objects.specs.Elf.{Elf}
 use Rattle.elf_objects.specs.Object.{IsObject}
 use Rattle.elf_objects.specs.declared.TheConstants.{MAX_FILE_BYTES, MAX_SYMBOLS}
-use Rattle.elf_objects.proofs.FirstFault.{FirstFault-not}
 use Rattle.ot_files.specs.Content.{Content, reading}
 use Rattle.ot_files.specs.declared.access.FileError.{FileError}
 use Rattle.ot_files.specs.declared.access.FileError.TheVariants as file
@@ -17,11 +16,11 @@ use Rattle.command_base.specs.Outside.{Outside, Output}
 use Rattle.command_base.specs.Printing.{Concludes, Prints, fails, fault_stays, runs_out, whole}
 use Rattle.command_base.specs.Reading.{MayRead, StopsAtRead}
 use Rattle.command_base.proofs.ConcludeLemmas.{concluded_after_fault, concluded_no_memory}
-use Rattle.objtool_cli.specs.Checked.{Accepts, BreaksRule, IsRefusal, Refuses, TellsCheckFault, Warns, crowded, malformed, unchecked}
-use Rattle.objtool_cli.specs.Command.{Ends, EndsCheck, IsRead, Stops, checked, done, dumped, faulty, not_built as unbuilt, refused, stopped, shown, unfinished, unread, unwound, unwritten, warned, without_names}
+use Rattle.objtool_cli.specs.Checked.{Accepts, BreaksRule, IsRefusal, Refuses, Warns, crowded, uncheckable}
+use Rattle.objtool_cli.specs.Command.{Ends, EndsCheck, IsRead, Stops, checked, demoed, done, dumped, faulty, refused, stopped, shown, unfinished, unread, unwound, unwritten, warned, without_names}
 use Rattle.objtool_cli.specs.Lists.{HasNames, HoldsNames, IsListsStop, StopsAtNames, names_unread, no_lists, no_names}
 use Rattle.objtool_cli.specs.Writing.{StopsAtWrite}
-use Rattle.cli_words.specs.Grammar.{check, dump, unwind}
+use Rattle.cli_words.specs.Grammar.{check, demo, dump, unwind}
 use Rattle.ot_base.specs.declared.options.Options.{Options}
 use Rattle.ot_base.specs.declared.row.PlacedRow.{PlacedRow}
 use Rattle.ot_base.specs.declared.warning.Warning.{Warning}
@@ -30,29 +29,23 @@ use Rattle.ot_base.specs.NamesFile.{IsFirstFault, IsNamesFile, lines}
 use Rattle.ot_base.specs.declared.lists.ListsFault.TheVariants as lists_fault
 use Rattle.ot_base.specs.declared.lists.ListsWhy.{ListsWhy}
 use Rattle.command_base.specs.declared.refusal.Refusal.TheVariants as refusal
-use Rattle.objtool_cli.specs.Words.{Meaning, are_built}
+use Rattle.objtool_cli.specs.Words.{Meaning}
 use Rattle.x86_decode.specs.Decoding.{OneOutcome}
-use Rattle.checker_defs.specs.Broken.{IsBroken}
 use Rattle.flow_defs.specs.Program.{program_of}
+use Rattle.point_allowances.specs.Allowances.{allowances_of}
 use Rattle.object_check.specs.Outcome.{HasRows, IsUnbroken}
 use Rattle.table_output.specs.Tables.{symbols_needed}
-use Rattle.objtool_cli.proofs.CheckableLemmas.{not_told, one_rows}
-use Rattle.objtool_cli.proofs.EndsLemmas.{ChecksAs, no_fault_and_command, not_told as not_text, not_unbuilt, same_command}
+use Rattle.objtool_cli.proofs.CheckableLemmas.{checkable_unrefused, one_object, one_rows}
+use Rattle.objtool_cli.proofs.EndsLemmas.{ChecksAs, no_fault_and_command, not_told as not_text, same_command}
 
 -- ---- what is known of the bytes
-
--- bytes are those of one object
-one_object : (bytes : List ℕ) (o p : Elf) → IsObject bytes o → IsObject bytes p → o ≡ p
-one_object bytes o p h k = h.says ∙ sym k.says
 
 -- the bytes are refused in no way
 abbrev IsUnrefused : List ℕ → NameLists → Options → Type 0
 IsUnrefused bytes lists options = (told : Refusal) → Refuses bytes lists options told → ⊥
 
 accepted_unrefused : OneOutcome → (bytes table : List ℕ) (lists : NameLists) (options : Options) → Accepts bytes lists options table → IsUnrefused bytes lists options
-accepted_unrefused one bytes table lists options accepts told (malformed fault) = FirstFault-not bytes _ fault accepts.is.well_formed
-accepted_unrefused one bytes table lists options accepts told (unchecked o is tells) =
-    not_told one accepts.object told accepts.checkable (subst (λ (x : Elf). TellsCheckFault x told) (one_object bytes o accepts.object is accepts.is) tells)
+accepted_unrefused one bytes table lists options accepts told (uncheckable why) = checkable_unrefused one bytes accepts.object told accepts.is accepts.checkable why
 accepted_unrefused one bytes table lists options accepts told (crowded o others is checkable unbroken has many count) =
     let same = one_object bytes o accepts.object is accepts.is in
     let rows = one_rows (program_of accepts.object lists) others accepts.rows (subst (λ (x : Elf). HasRows (program_of x lists) others) same has) accepts.has_rows in
@@ -60,28 +53,37 @@ accepted_unrefused one bytes table lists options accepts told (crowded o others 
     let few : symbols_needed accepts.object accepts.rows ≤ MAX_SYMBOLS = accepts.table_is.few in
     absurd (omega (arith, needed, few))
 
-breaks_unbroken : (bytes : List ℕ) (lists : NameLists) (options : Options) (o : Elf) → BreaksRule bytes lists options → IsObject bytes o → IsUnbroken (program_of o lists) options → ⊥
+pub breaks_unbroken : (bytes : List ℕ) (lists : NameLists) (options : Options) (o : Elf) → BreaksRule bytes lists options → IsObject bytes o → IsUnbroken (program_of o lists) (allowances_of o lists) options → ⊥
 breaks_unbroken bytes lists options o breaks is unbroken =
     let same = one_object bytes o breaks.object is breaks.is in
-    (subst (λ (x : Elf). IsUnbroken (program_of x lists) options) same unbroken).unbroken breaks.place breaks.rule breaks.a breaks.b breaks.broken
+    (subst (λ (x : Elf). IsUnbroken (program_of x lists) (allowances_of x lists) options) same unbroken).clean breaks.place breaks.rule breaks.a breaks.b breaks.broken
 
 broken_unrefused : OneOutcome → (bytes : List ℕ) (lists : NameLists) (options : Options) → BreaksRule bytes lists options → IsUnrefused bytes lists options
-broken_unrefused one bytes lists options breaks told (malformed fault) = FirstFault-not bytes _ fault breaks.is.well_formed
-broken_unrefused one bytes lists options breaks told (unchecked o is tells) =
-    not_told one breaks.object told breaks.checkable (subst (λ (x : Elf). TellsCheckFault x told) (one_object bytes o breaks.object is breaks.is) tells)
+broken_unrefused one bytes lists options breaks told (uncheckable why) = checkable_unrefused one bytes breaks.object told breaks.is breaks.checkable why
 broken_unrefused one bytes lists options breaks told (crowded o others is checkable unbroken has many count) = breaks_unbroken bytes lists options o breaks is unbroken
 
 some_contained : (warnings : List Warning) → warnings ≢ [] → (w : Warning) × Contains warnings w
 some_contained [] some = absurd (some refl)
 some_contained (w ∷ warnings) some = (w, (0, omega arith, refl))
 
+-- where there are warnings a rule is broken
+pub warns_breaks : (bytes : List ℕ) (lists : NameLists) (options : Options) (o : Elf) (warnings : List Warning) → Warns bytes lists options o warnings → BreaksRule bytes lists options
+warns_breaks bytes lists options o warnings warns =
+    let first = some_contained warnings warns.are.some in
+    record {
+      object = o;
+      is = warns.is;
+      checkable = warns.checkable;
+      place = first.0.place;
+      rule = first.0.rule;
+      a = first.0.a;
+      b = first.0.b;
+      broken = (warns.are.all first.0).0 first.1;
+    }
+
 -- what is accepted has no warnings
 accepted_unwarned : (bytes table : List ℕ) (lists : NameLists) (options : Options) (o : Elf) (warnings : List Warning) → Accepts bytes lists options table → Warns bytes lists options o warnings → ⊥
-accepted_unwarned bytes table lists options o warnings accepts warns =
-    let first = some_contained warnings warns.are.some in
-    let same = one_object bytes o accepts.object warns.is accepts.is in
-    let broken = (warns.are.all first.0).0 first.1 in
-    accepts.unbroken.unbroken first.0.place first.0.rule first.0.a first.0.b (subst (λ (x : Elf). IsBroken (program_of x lists) options first.0.place first.0.rule first.0.a first.0.b) same broken)
+accepted_unwarned bytes table lists options o warnings accepts warns = breaks_unbroken bytes lists options accepts.object (warns_breaks bytes lists options o warnings warns) accepts.is accepts.unbroken
 
 -- ---- what was read
 
@@ -193,14 +195,14 @@ stop_faults s input output options names read lists before after out out' x know
 -- ---- how `check` ends
 
 -- words that ask for `check` end as it does, or for want of memory
-ends_as_check : (meaning : Meaning) (input output : List ℕ) (options : Options) (names : Option (List ℕ)) (before after : Outside) (out out' : Output) (x : Status) → meaning ≡ Ok (check input output options names) → are_built options ≡ true → Ends meaning before after out out' x → EndsCheck input output options names before after out out' x ⊎ (x ≡ status.NoMemory)
-ends_as_check meaning input output options names before after out out' x n built (faulty word kind none same t) = absurd (no_fault_and_command meaning word kind _ none n)
-ends_as_check meaning input output options names before after out out' x n built (unfinished same t) = inr (concluded_no_memory out out' x t)
-ends_as_check meaning input output options names before after out out' x n built (unbuilt command some none same t) = absurd (not_unbuilt meaning command _ some n none built)
-ends_as_check meaning input output options names before after out out' x n built (shown command some shows same t) = absurd (not_text meaning command _ some n shows refl)
-ends_as_check meaning input output options names before after out out' x n built (dumped file some h kept) = let same : dump file ≡ check input output options names = same_command meaning _ _ some n in cc
-ends_as_check meaning input output options names before after out out' x n built (unwound file image some h kept) = let same : unwind file image ≡ check input output options names = same_command meaning _ _ some n in cc
-ends_as_check meaning input output options names before after out out' x n built (checked i o os ns some ready h) =
+ends_as_check : (meaning : Meaning) (input output : List ℕ) (options : Options) (names : Option (List ℕ)) (before after : Outside) (out out' : Output) (x : Status) → meaning ≡ Ok (check input output options names) → Ends meaning before after out out' x → EndsCheck input output options names before after out out' x ⊎ (x ≡ status.NoMemory)
+ends_as_check meaning input output options names before after out out' x n (faulty word kind none same t) = absurd (no_fault_and_command meaning word kind _ none n)
+ends_as_check meaning input output options names before after out out' x n (unfinished same t) = inr (concluded_no_memory out out' x t)
+ends_as_check meaning input output options names before after out out' x n (shown command some shows same t) = absurd (not_text meaning command _ some n shows refl)
+ends_as_check meaning input output options names before after out out' x n (demoed k some same h) = let same : demo k ≡ check input output options names = same_command meaning _ _ some n in cc
+ends_as_check meaning input output options names before after out out' x n (dumped file some h kept) = let same : dump file ≡ check input output options names = same_command meaning _ _ some n in cc
+ends_as_check meaning input output options names before after out out' x n (unwound file image some h kept) = let same : unwind file image ≡ check input output options names = same_command meaning _ _ some n in cc
+ends_as_check meaning input output options names before after out out' x n (checked i o os ns some h) =
     inl (subst (ChecksAs before after out out' x) (same_command meaning (check i o os ns) (check input output options names) some n) h)
 
 -- ---- what is accepted
@@ -215,8 +217,8 @@ left_by_check one input output options names read table lists before after out o
 left_by_check one input output options names read table lists before after out out' x known accepts (stopped s h t) =
     inr (stop_faults s input output options names read lists before after out out' x known (accepted_unrefused one read table lists options accepts) h t)
 
-pub left : OneOutcome → (meaning : Meaning) (input output : List ℕ) (options : Options) (names : Option (List ℕ)) (read table : List ℕ) (lists : NameLists) (held : Content) (before after : Outside) (out out' : Output) (x : Status) → meaning ≡ Ok (check input output options names) → are_built options ≡ true → before.content ≡ Some held → reading held input MAX_FILE_BYTES ≡ Ok read → HasNames (Some held) names lists → Accepts read lists options table → Ends meaning before after out out' x → Left x
-left one meaning input output options names read table lists held before after out out' x n built told is named accepts ends = elim (ends_as_check meaning input output options names before after out out' x n built ends) [
+pub left : OneOutcome → (meaning : Meaning) (input output : List ℕ) (options : Options) (names : Option (List ℕ)) (read table : List ℕ) (lists : NameLists) (held : Content) (before after : Outside) (out out' : Output) (x : Status) → meaning ≡ Ok (check input output options names) → before.content ≡ Some held → reading held input MAX_FILE_BYTES ≡ Ok read → HasNames (Some held) names lists → Accepts read lists options table → Ends meaning before after out out' x → Left x
+left one meaning input output options names read table lists held before after out out' x n told is named accepts ends = elim (ends_as_check meaning input output options names before after out out' x n ends) [
   | inl h ↦ left_by_check one input output options names read table lists before after out out' x (record { held = held; told = told; is = is; named = named }) accepts h
   | inr none ↦ inr (inr none)
 ]
@@ -244,8 +246,8 @@ warned_by_check one input output options names read lists before after out out' 
 warned_by_check one input output options names read lists before after out out' x known breaks (stopped s h t) =
     faults_warned x (stop_faults s input output options names read lists before after out out' x known (broken_unrefused one read lists options breaks) h t)
 
-pub all_warned : OneOutcome → (meaning : Meaning) (input output : List ℕ) (options : Options) (names : Option (List ℕ)) (read : List ℕ) (lists : NameLists) (held : Content) (before after : Outside) (out out' : Output) (x : Status) → meaning ≡ Ok (check input output options names) → are_built options ≡ true → before.content ≡ Some held → reading held input MAX_FILE_BYTES ≡ Ok read → HasNames (Some held) names lists → BreaksRule read lists options → Ends meaning before after out out' x → Warned x
-all_warned one meaning input output options names read lists held before after out out' x n built told is named breaks ends = elim (ends_as_check meaning input output options names before after out out' x n built ends) [
+pub all_warned : OneOutcome → (meaning : Meaning) (input output : List ℕ) (options : Options) (names : Option (List ℕ)) (read : List ℕ) (lists : NameLists) (held : Content) (before after : Outside) (out out' : Output) (x : Status) → meaning ≡ Ok (check input output options names) → before.content ≡ Some held → reading held input MAX_FILE_BYTES ≡ Ok read → HasNames (Some held) names lists → BreaksRule read lists options → Ends meaning before after out out' x → Warned x
+all_warned one meaning input output options names read lists held before after out out' x n told is named breaks ends = elim (ends_as_check meaning input output options names before after out out' x n ends) [
   | inl h ↦ warned_by_check one input output options names read lists before after out out' x (record { held = held; told = told; is = is; named = named }) breaks h
   | inr none ↦ inr (inr (inr none))
 ]

@@ -12,9 +12,13 @@ use Rattle.elf_objects.specs.Object.{IsObject}
 use Rattle.elf_objects.specs.declared.TheConstants.{MAX_FILE_BYTES}
 use Rattle.elf_objects.specs.declared.fault.Counted.TheVariants as counted
 use Rattle.flow_defs.specs.Program.{program_of}
+use Rattle.point_allowances.specs.Allowances.{allowances_of}
+use Rattle.object_check.specs.Counts.{IsCounted}
 use Rattle.object_check.specs.Order.{IsCheckable}
 use Rattle.object_check.specs.Outcome.{AreWarnings, HasRows, IsUnbroken}
+use Rattle.object_check.specs.Promises.{KeepsPromises}
 use Rattle.object_check.specs.Unwinding.{RowsUnwind}
+use Rattle.object_check.specs.declared.counts.CodeCounts.{CodeCounts}
 use Rattle.orc_bytes.proofs.OneList.{one_list_fits}
 use Rattle.command_base.specs.declared.refusal.Refusal.TheVariants as refusal
 use Rattle.command_base.specs.declared.status.Status.{Status}
@@ -54,14 +58,19 @@ table_cut_off (Err s) o rows output table before after is h others = cut_off tab
 
 -- ---- what the check comes to
 
-pub warned_end : (input output : List ℕ) (options : Options) (names : Option (List ℕ)) (read : List ℕ) (lists : NameLists) (before after : Outside) (out out' : Output) (x : Status) (o : Elf) (warnings told : List Warning) → IsRead before.content input names read lists → IsObject read o → IsCheckable o × AreWarnings (program_of o lists) options warnings → after.content ≡ before.content → told ≡ warnings → Prints status.Warnings (warnings_text o told) out out' x → EndsCheck input output options names before after out out' x
+pub warned_end : (input output : List ℕ) (options : Options) (names : Option (List ℕ)) (read : List ℕ) (lists : NameLists) (before after : Outside) (out out' : Output) (x : Status) (o : Elf) (warnings told : List Warning) → IsRead before.content input names read lists → IsObject read o → IsCheckable o × AreWarnings (program_of o lists) (allowances_of o lists) options warnings → after.content ≡ before.content → told ≡ warnings → Prints status.Warnings (warnings_text o told) out out' x → EndsCheck input output options names before after out out' x
 warned_end input output options names read lists before after out out' x o warnings told is_read is found kept same t =
     warned o warnings (record { read = read; lists = lists; is_read = is_read; warns = record { is = is; checkable = found.0; are = found.1 } }) kept
     (subst (λ (ws : List Warning). Prints status.Warnings (warnings_text o ws) out out' x) same t)
 
 -- an object that breaks no rule, and its rows
 abbrev pub IsSound : Elf → NameLists → Options → List PlacedRow → Type 0
-IsSound o lists options rows = IsCheckable o × IsUnbroken (program_of o lists) options × HasRows (program_of o lists) rows
+IsSound o lists options rows = IsCheckable o × IsUnbroken (program_of o lists) (allowances_of o lists) options × HasRows (program_of o lists) rows
+
+-- as its check finds it
+pub sound : (o : Elf) (lists : NameLists) (options : Options) (rows : List PlacedRow) (counts : CodeCounts)
+    → IsCheckable o × IsUnbroken (program_of o lists) (allowances_of o lists) options × HasRows (program_of o lists) rows × IsCounted o counts → IsSound o lists options rows
+sound o lists options rows counts found = (found.0, found.1, found.2)
 
 accepts : (o : Elf) (read : List ℕ) (lists : NameLists) (options : Options) (rows : List PlacedRow) (table : List ℕ) → IsObject read o → IsSound o lists options rows → IsTable o rows table → Accepts read lists options table
 accepts o read lists options rows table is sound has = record {
@@ -74,10 +83,10 @@ accepts o read lists options rows table is sound has = record {
   table_is = has;
 }
 
-pub done_end : (input output : List ℕ) (options : Options) (names : Option (List ℕ)) (read : List ℕ) (lists : NameLists) (before after : Outside) (o : Elf) (rows told : List PlacedRow) → IsRead before.content input names read lists → IsObject read o → IsSound o lists options rows → RowsUnwind o lists rows → told ≡ rows → WritesTable o told output before.content after.content → IsDone input output options names before after
-done_end input output options names read lists before after o rows told is_read is sound unwind same h =
+pub done_end : (input output : List ℕ) (options : Options) (names : Option (List ℕ)) (read : List ℕ) (lists : NameLists) (before after : Outside) (o : Elf) (rows told : List PlacedRow) → IsRead before.content input names read lists → IsObject read o → IsSound o lists options rows → RowsUnwind o lists rows → KeepsPromises o lists options → told ≡ rows → WritesTable o told output before.content after.content → IsDone input output options names before after
+done_end input output options names read lists before after o rows told is_read is sound unwind keeps same h =
     let wrote = subst (λ (rs : List PlacedRow). WritesTable o rs output before.content after.content) same h in
-    is_done input output options names read wrote.table lists before after is_read (accepts o read lists options rows wrote.table is sound wrote.is)
+    is_done input output options names read wrote.table lists before after o is_read is keeps (accepts o read lists options rows wrote.table is sound wrote.is)
     (record { object = o; is_object = is; unwinds = unwinds_by one_list_fits o lists rows wrote.table unwind wrote.is.tables }) wrote.written
 
 crowd_refusal : (o : Elf) (read : List ℕ) (lists : NameLists) (options : Options) (rows : List PlacedRow) (s : Stop) → IsObject read o → IsSound o lists options rows → IsCrowded o rows s → IsRefusal read lists options s

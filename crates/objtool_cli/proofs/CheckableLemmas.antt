@@ -1,5 +1,6 @@
--- An object that is checked has nothing that keeps it from being checked, and its program has one list of rows.
-use Rattle.std.proofs.Common.{◌≡◌, ℕ, ◌≤◌, List, [], length, drop, refl, sym, ap, ◌∙◌, arith}
+-- An object that is checked has nothing that keeps it from being checked, nor have its bytes, and its program has one list of
+-- rows.
+use Rattle.std.proofs.Common.{◌≡◌, ℕ, ◌≤◌, List, [], length, drop, refl, sym, ap, ◌∙◌, arith, subst}
 use Rattle.std.specs.Prelude.{◌≢◌, Some, None, Option, Result, Ok, Err, slice_get}
 use Rattle.std.proofs.Math.Path.{fun_ext}
 use Rattle.ot_base.specs.declared.row.PlacedRow.{PlacedRow}
@@ -10,7 +11,9 @@ use Rattle.checker_defs.specs.Kept.{AreKeptStates}
 use Rattle.checker_defs.specs.Rows.{rows_of}
 use Rattle.elf_objects.specs.Contents.{section_at}
 use Rattle.elf_objects.specs.Elf.{Elf}
+use Rattle.elf_objects.specs.Object.{IsObject}
 use Rattle.elf_objects.specs.declared.fault.Counted.TheVariants as counted
+use Rattle.elf_objects.proofs.FirstFault.{FirstFault-not}
 use Rattle.x86_decode.specs.declared.DecodeFault.{DecodeFault}
 use Rattle.x86_decode.specs.Decoding.{OneOutcome, Outcome, StandsInFront}
 use Rattle.x86_text.specs.declared.fault.TextFault.{TextFault}
@@ -32,7 +35,7 @@ use Rattle.object_check.specs.declared.fault.CheckFault.{CheckFault}
 use Rattle.object_check.specs.declared.fault.CheckFault.TheVariants as fault
 use Rattle.command_base.specs.declared.refusal.Refusal.{Refusal}
 use Rattle.command_base.specs.declared.refusal.Refusal.TheVariants as refusal
-use Rattle.objtool_cli.specs.Checked.{TellsCheckFault}
+use Rattle.objtool_cli.specs.Checked.{IsUncheckable, TellsCheckFault, malformed, unchecked}
 
 none_and_some : {A : Type 0} (found : Option A) (x : A) → found ≡ None → found ≡ Some x → ⊥
 none_and_some found x none some = let same : ◌≡◌ {A = Option _} None (Some x) = sym none ∙ some in cc
@@ -93,6 +96,17 @@ not_told one o (refusal.Lists why) can h = h
 not_told one o (refusal.Image why) can h = h
 not_told one o (refusal.NoText sec) can h = h
 not_told one o (refusal.Unplaced why) can h = h
+
+-- ---- its bytes
+
+-- bytes are those of one object
+pub one_object : (bytes : List ℕ) (o p : Elf) → IsObject bytes o → IsObject bytes p → o ≡ p
+one_object bytes o p h k = h.says ∙ sym k.says
+
+-- and nothing keeps them from being checked
+pub checkable_unrefused : OneOutcome → (bytes : List ℕ) (o : Elf) (told : Refusal) → IsObject bytes o → IsCheckable o → IsUncheckable bytes told → ⊥
+checkable_unrefused one bytes o told is can (malformed fault) = FirstFault-not bytes _ fault is.well_formed
+checkable_unrefused one bytes o told is can (unchecked p other tells) = not_told one o told can (subst (λ (x : Elf). TellsCheckFault x told) (one_object bytes p o other is) tells)
 
 -- ---- the rows of a program
 

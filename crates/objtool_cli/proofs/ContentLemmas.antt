@@ -15,7 +15,11 @@ use Rattle.command_base.specs.Outside.{Outside}
 use Rattle.ot_base.specs.NameLists.{NameLists}
 use Rattle.ot_base.specs.declared.options.Options.{Options}
 use Rattle.objtool_cli.specs.Command.{IsDone, IsRead}
+use Rattle.objtool_cli.specs.Promises.{InKeepsPromises}
 use Rattle.objtool_cli.specs.Unwinding.{OutUnwinds, Unwinds}
+use Rattle.elf_objects.specs.Elf.{Elf}
+use Rattle.elf_objects.specs.Object.{IsObject}
+use Rattle.object_check.specs.Promises.{KeepsPromises}
 
 not_same : (a b : List ℕ) → a ≢ b → eq_by_cmp (slice_cmp nat_cmp) a b ≡ false
 not_same a b differs = is_eq-slice_cmp a b ∙ decided (bytes_eq a b) (bytes_eq-Decides a b).0
@@ -59,11 +63,25 @@ out_unwinds input output names bytes table lists (Some content) after read e h =
       unwinds = h;
     })
 
+-- the object that was read keeps its promises
+in_keeps : (input : List ℕ) (options : Options) (names : Option (List ℕ)) (bytes : List ℕ) (lists : NameLists) (before : Option Content) (o : Elf) → IsRead before input names bytes lists → IsObject bytes o → KeepsPromises o lists options → InKeepsPromises input options names before
+in_keeps input options names bytes lists None o read is keeps = tt
+in_keeps input options names bytes lists (Some content) o read is keeps = record {
+  read = bytes;
+  held = held_is MAX_FILE_BYTES (get content input) bytes read.may;
+  lists = lists;
+  named = read.named;
+  object = o;
+  is_object = is;
+  keeps = keeps;
+}
+
 -- what stands where the command is done
-pub is_done : (input output : List ℕ) (options : Options) (names : Option (List ℕ)) (bytes table : List ℕ) (lists : NameLists) (before after : Outside) → IsRead before.content input names bytes lists → Accepts bytes lists options table → Unwinds bytes lists table → after.content ≡ writing before.content output table → IsDone input output options names before after
-is_done input output options names bytes table lists before after read accepted unwinds e = record {
+pub is_done : (input output : List ℕ) (options : Options) (names : Option (List ℕ)) (bytes table : List ℕ) (lists : NameLists) (before after : Outside) (o : Elf) → IsRead before.content input names bytes lists → IsObject bytes o → KeepsPromises o lists options → Accepts bytes lists options table → Unwinds bytes lists table → after.content ≡ writing before.content output table → IsDone input output options names before after
+is_done input output options names bytes table lists before after o read is keeps accepted unwinds e = record {
   table = table;
   accepted = record { read = bytes; lists = lists; is_read = read; accepts = accepted };
   written = e;
   unwinds = out_unwinds input output names bytes table lists before.content after.content read e unwinds;
+  keeps = in_keeps input options names bytes lists before.content o read is keeps;
 }

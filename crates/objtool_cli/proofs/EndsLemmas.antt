@@ -11,26 +11,26 @@ use Rattle.command_base.specs.declared.stop.Stop.TheVariants as stop
 use Rattle.command_base.specs.Outside.{Outside, Output}
 use Rattle.command_base.specs.Printing.{Concludes}
 use Rattle.command_base.specs.Reading.{StopsAtRead}
-use Rattle.command_base.specs.Stop.{status_of}
+use Rattle.command_base.specs.Stop.{status_of, usage_at}
 use Rattle.command_base.proofs.ConcludeLemmas.{concluded_after_fault, concluded_fault, concluded_no_memory, concluded_no_warnings, concluded_not_done, concluded_sink_fault}
 use Rattle.elf_objects.specs.declared.TheConstants.{MAX_FILE_BYTES}
 use Rattle.objtool_cli.specs.Checked.{IsRefusal}
-use Rattle.objtool_cli.specs.Command.{Ends, EndsCheck, IsFaulty, IsUsageAnswer, IsWarned, MayChange, PrintsWarnings, Stops, asks_too_much, at_fault, checked, done, faulty, not_built, output_of_check, refused, stopped, shown, unfinished, unread, unwritten, warned, without_names, dumped, unwound}
+use Rattle.objtool_cli.specs.Command.{Ends, EndsCheck, IsFaulty, IsUsageAnswer, MayChange, PrintsWarnings, Stops, at_fault, checked, demoed, done, faulty, of_check, of_demo, output_of_check, refused, stopped, shown, unfinished, unread, unwritten, warned, without_names, dumped, unwound}
 use Rattle.objtool_cli.specs.Lists.{IsListsStop, StopsAtNames, names_unread, no_lists, no_names}
+use Rattle.objtool_cli.specs.Summary.{SumsUp, demo_bytes, demo_title, stopped as sums_stopped}
 use Rattle.objtool_cli.specs.Writing.{StopsAtWrite}
 use Rattle.objtool_cli.specs.Warnings.{warnings_text}
-use Rattle.ot_base.specs.declared.warning.Warning.{Warning}
 use Rattle.ot_files.specs.Output.{appending}
 use Rattle.ot_base.specs.NameLists.{NameLists}
+use Rattle.objtool_cli.specs.Promises.{InKeepsPromises}
 use Rattle.objtool_cli.specs.Unwinding.{OutUnwinds}
 use Rattle.cli_words.specs.Grammar.{Command, check, demo, dump, help, unwind, version}
 use Rattle.cli_words.specs.declared.fault.UsageKind.{UsageKind}
 use Rattle.ot_base.specs.declared.options.Options.{Options}
 use Rattle.command_base.specs.declared.usage.Usage as declared
-use Rattle.command_base.specs.declared.usage.Usage.TheVariants as usage
 use Rattle.command_base.specs.Printing.{Prints, fails, fault_stays, runs_out, silent, tells, whole}
 use Rattle.command_base.proofs.ConcludeLemmas.{printed_done, printed_fault, printed_sink_fault, printed_warnings}
-use Rattle.objtool_cli.specs.Words.{Meaning, is_built, is_told}
+use Rattle.objtool_cli.specs.Words.{Meaning, is_told}
 use Rattle.ot_base.specs.declared.row.PlacedRow.{PlacedRow}
 use Rattle.elf_objects.specs.Elf.{Elf}
 use Rattle.read_back.specs.Dump.{HoldsRows, IsAnswered, IsDumped}
@@ -40,6 +40,7 @@ use Rattle.read_back.specs.Unwind.{IsPlaced, IsUnwound}
 use Rattle.read_back.proofs.UnwindLaws.{unwind_fault, unwind_left, unwind_no_warnings, unwind_sink_fault, unwound as files_unwound}
 use Rattle.read_back.proofs.DumpLaws.{dump_fault, dump_left, dump_no_warnings, dump_sink_fault, dumped as file_dumped}
 use Rattle.objtool_cli.proofs.ContentLemmas.{get-insert_other}
+use Rattle.objtool_cli.proofs.SummaryEnds.{sums_no_file_fault, sums_sink_fault, sums_warned}
 
 -- a stop with the status of a file's fault is one
 read_fault : (s : Stop) (name : List ℕ) (before after : Outside) → StopsAtRead MAX_FILE_BYTES name before after s → status_of s ≡ FileFault → Rose before.faults after.faults
@@ -113,11 +114,11 @@ done_no_warnings : status.Done ≢ Warnings
 done_no_warnings e = cc
 
 pub file_fault : (meaning : Meaning) (before after : Outside) (out out' : Output) (x : Status) → Ends meaning before after out out' x → x ≡ FileFault → Rose before.faults after.faults
-file_fault meaning before after out out' x (faulty word kind is same t) e = absurd (no_usage_fault (usage.Words word kind) (concluded_fault (stop.Usage (usage.Words word kind)) out out' x t e))
+file_fault meaning before after out out' x (faulty word kind is same t) e = absurd (no_usage_fault (usage_at word kind) (concluded_fault (stop.Usage (usage_at word kind)) out out' x t e))
 file_fault meaning before after out out' x (unfinished same t) e = absurd (no_memory_fault (concluded_fault stop.NoMemory out out' x t e))
-file_fault meaning before after out out' x (not_built command is none same t) e = absurd (no_usage_fault usage.NotBuilt (concluded_fault (stop.Usage usage.NotBuilt) out out' x t e))
 file_fault meaning before after out out' x (shown command is shows same t) e = absurd (done_no_fault (printed_fault Done t.text out out' x t.printed e))
-file_fault meaning before after out out' x (checked input output options names is built h) e = fault_of_check input output options names before after out out' x h e
+file_fault meaning before after out out' x (checked input output options names is h) e = fault_of_check input output options names before after out out' x h e
+file_fault meaning before after out out' x (demoed n is same h) e = absurd (sums_no_file_fault _ _ out out' x h e)
 file_fault meaning before after out out' x (dumped file is h kept) e = dump_fault file before after out out' x h e
 file_fault meaning before after out out' x (unwound file image is h kept) e = unwind_fault file image before after out out' x h e
 
@@ -127,11 +128,11 @@ sink_fault_of_check input output options names before after out out' x (warned o
 sink_fault_of_check input output options names before after out out' x (stopped s h t) e = concluded_sink_fault s out out' x t e
 
 pub sink_fault : (meaning : Meaning) (before after : Outside) (out out' : Output) (x : Status) → Ends meaning before after out out' x → x ≡ SinkFault → Rose out.faults out'.faults
-sink_fault meaning before after out out' x (faulty word kind is same t) e = concluded_sink_fault (stop.Usage (usage.Words word kind)) out out' x t e
+sink_fault meaning before after out out' x (faulty word kind is same t) e = concluded_sink_fault (stop.Usage (usage_at word kind)) out out' x t e
 sink_fault meaning before after out out' x (unfinished same t) e = concluded_sink_fault stop.NoMemory out out' x t e
-sink_fault meaning before after out out' x (not_built command is none same t) e = concluded_sink_fault (stop.Usage usage.NotBuilt) out out' x t e
 sink_fault meaning before after out out' x (shown command is shows same t) e = printed_sink_fault Done t.text out out' x t.printed done_no_sink_fault e
-sink_fault meaning before after out out' x (checked input output options names is built h) e = sink_fault_of_check input output options names before after out out' x h e
+sink_fault meaning before after out out' x (checked input output options names is h) e = sink_fault_of_check input output options names before after out out' x h e
+sink_fault meaning before after out out' x (demoed n is same h) e = sums_sink_fault _ _ out out' x h e
 sink_fault meaning before after out out' x (dumped file is h kept) e = dump_sink_fault file before after out out' x h e
 sink_fault meaning before after out out' x (unwound file image is h kept) e = unwind_sink_fault file image before after out out' x h e
 
@@ -162,9 +163,9 @@ check_keeps input output options names before after out out' x (stopped s h t) d
 pub unchanged : (meaning : Meaning) (before after : Outside) (out out' : Output) (x : Status) → Ends meaning before after out out' x → x ≢ Done → x ≢ FileFault → x ≢ NoMemory → after.content ≡ before.content
 unchanged meaning before after out out' x (faulty word kind is same t) d f m = ap (λ (o : Outside). o.content) same
 unchanged meaning before after out out' x (unfinished same t) d f m = ap (λ (o : Outside). o.content) same
-unchanged meaning before after out out' x (not_built command is none same t) d f m = ap (λ (o : Outside). o.content) same
 unchanged meaning before after out out' x (shown command is shows same t) d f m = ap (λ (o : Outside). o.content) same
-unchanged meaning before after out out' x (checked input output options names is built h) d f m = check_keeps input output options names before after out out' x h d f m
+unchanged meaning before after out out' x (checked input output options names is h) d f m = check_keeps input output options names before after out out' x h d f m
+unchanged meaning before after out out' x (demoed n is same h) d f m = ap (λ (o : Outside). o.content) same
 unchanged meaning before after out out' x (dumped file is h kept) d f m = kept
 unchanged meaning before after out out' x (unwound file image is h kept) d f m = kept
 
@@ -190,9 +191,9 @@ check_changes meaning input output options names before after out out' x is (sto
 pub changes : (meaning : Meaning) (before after : Outside) (out out' : Output) (x : Status) → Ends meaning before after out out' x → Left meaning before after
 changes meaning before after out out' x (faulty word kind is same t) = inl (ap (λ (o : Outside). o.content) same)
 changes meaning before after out out' x (unfinished same t) = inl (ap (λ (o : Outside). o.content) same)
-changes meaning before after out out' x (not_built command is none same t) = inl (ap (λ (o : Outside). o.content) same)
 changes meaning before after out out' x (shown command is shows same t) = inl (ap (λ (o : Outside). o.content) same)
-changes meaning before after out out' x (checked input output options names is built h) = check_changes meaning input output options names before after out out' x is h
+changes meaning before after out out' x (checked input output options names is h) = check_changes meaning input output options names before after out out' x is h
+changes meaning before after out out' x (demoed n is same h) = inl (ap (λ (o : Outside). o.content) same)
 changes meaning before after out out' x (dumped file is h kept) = inl kept
 changes meaning before after out out' x (unwound file image is h kept) = inl kept
 
@@ -211,18 +212,24 @@ no_fault_and_command meaning word kind c p q =
 not_both : (b : Bool) → b ≡ true → b ≡ false → ⊥
 not_both b p q = let same : true ≡ false = sym p ∙ q in cc
 
--- a command that prints a text of the program is no other, and a command that isn't built is none that is
+-- a command that prints a text of the program is no other
 pub not_told : (meaning : Meaning) (c d : Command) → meaning ≡ Ok c → meaning ≡ Ok d → is_told c ≡ true → is_told d ≡ false → ⊥
 not_told meaning c d p q told other = not_both (is_told c) told (ap is_told (same_command meaning c d p q) ∙ other)
-
-pub not_unbuilt : (meaning : Meaning) (c d : Command) → meaning ≡ Ok c → meaning ≡ Ok d → is_built c ≡ false → is_built d ≡ true → ⊥
-not_unbuilt meaning c d p q none built = not_both (is_built c) (ap is_built (same_command meaning c d p q) ∙ built) none
 
 no_check_dump : (meaning : Meaning) (input output : List ℕ) (options : Options) (names : Option (List ℕ)) (file : List ℕ) → meaning ≡ Ok (check input output options names) → meaning ≡ Ok (dump file) → ⊥
 no_check_dump meaning input output options names file p q = let same = same_command meaning _ _ p q in cc
 
 no_check_unwind : (meaning : Meaning) (input output : List ℕ) (options : Options) (names : Option (List ℕ)) (file image : List ℕ) → meaning ≡ Ok (check input output options names) → meaning ≡ Ok (unwind file image) → ⊥
 no_check_unwind meaning input output options names file image p q = let same = same_command meaning _ _ p q in cc
+
+no_check_demo : (meaning : Meaning) (input output : List ℕ) (options : Options) (names : Option (List ℕ)) (n : ℕ) → meaning ≡ Ok (check input output options names) → meaning ≡ Ok (demo n) → ⊥
+no_check_demo meaning input output options names n p q = let same = same_command meaning _ _ p q in cc
+
+no_dump_demo : (meaning : Meaning) (file : List ℕ) (n : ℕ) → meaning ≡ Ok (dump file) → meaning ≡ Ok (demo n) → ⊥
+no_dump_demo meaning file n p q = let same = same_command meaning _ _ p q in cc
+
+no_unwind_demo : (meaning : Meaning) (file image : List ℕ) (n : ℕ) → meaning ≡ Ok (unwind file image) → meaning ≡ Ok (demo n) → ⊥
+no_unwind_demo meaning file image n p q = let same = same_command meaning _ _ p q in cc
 
 no_dump_unwind : (meaning : Meaning) (other file image : List ℕ) → meaning ≡ Ok (dump other) → meaning ≡ Ok (unwind file image) → ⊥
 no_dump_unwind meaning other file image p q = let same = same_command meaning _ _ p q in cc
@@ -239,11 +246,11 @@ unless_told s out out' x t e = concluded_not_done s out out' x t e
 pub tells_nothing : (meaning : Meaning) (before after : Outside) (out out' : Output) (x : Status) (input output : List ℕ) (options : Options) (names : Option (List ℕ)) → Ends meaning before after out out' x → meaning ≡ Ok (check input output options names) → x ≡ Done → out'.written ≡ out.written
 tells_nothing meaning before after out out' x input output options names (faulty word kind is same t) n e = absurd (unless_told _ out out' x t e)
 tells_nothing meaning before after out out' x input output options names (unfinished same t) n e = absurd (unless_told _ out out' x t e)
-tells_nothing meaning before after out out' x input output options names (not_built command is none same t) n e = absurd (unless_told _ out out' x t e)
 tells_nothing meaning before after out out' x input output options names (shown command is shows same t) n e = absurd (not_told meaning command _ is n shows refl)
+tells_nothing meaning before after out out' x input output options names (demoed k is same h) n e = absurd (no_check_demo meaning input output options names k n is)
 tells_nothing meaning before after out out' x input output options names (dumped file is h kept) n e = absurd (no_check_dump meaning input output options names file n is)
 tells_nothing meaning before after out out' x input output options names (unwound file image is h kept) n e = absurd (no_check_unwind meaning input output options names file image n is)
-tells_nothing meaning before after out out' x input output options names (checked i o os ns is built h) n e = silent_check i o os ns before after out out' x h e
+tells_nothing meaning before after out out' x input output options names (checked i o os ns is h) n e = silent_check i o os ns before after out out' x h e
 
 -- ---- warnings
 
@@ -253,31 +260,18 @@ whole_text text out out' FileFault (fault_stays prefix rose at) e = cc
 whole_text text out out' SinkFault (fails prefix rose other) e = cc
 whole_text text out out' NoMemory (runs_out prefix) e = cc
 
-prints_warnings : (meaning : Meaning) (input output : List ℕ) (options : Options) (names : Option (List ℕ)) (content : Option Content) (before after : Option (List ℕ)) (o : Elf) (warnings : List Warning) → meaning ≡ Ok (check input output options names) → IsWarned content input options names o warnings → after ≡ appending before (warnings_text o warnings) → PrintsWarnings meaning content before after
-prints_warnings meaning input output options names content before after o warnings asked is printed = record {
-  input = input;
-  output = output;
-  options = options;
-  names = names;
-  asked = asked;
-  object = o;
-  warnings = warnings;
-  warned = is;
-  printed = printed;
-}
-
 check_warned : (meaning : Meaning) (input output : List ℕ) (options : Options) (names : Option (List ℕ)) (before after : Outside) (out out' : Output) (x : Status) → meaning ≡ Ok (check input output options names) → EndsCheck input output options names before after out out' x → x ≡ Warnings → PrintsWarnings meaning before.content out.written out'.written
 check_warned meaning input output options names before after out out' Done asked (done is same) e = absurd (done_no_warnings e)
 check_warned meaning input output options names before after out out' x asked (warned o warnings is kept t) e =
-    prints_warnings meaning input output options names before.content out.written out'.written o warnings asked is (whole_text (warnings_text o warnings) out out' x t e)
+    of_check input output options names o warnings asked is (whole_text (warnings_text o warnings) out out' x t e)
 check_warned meaning input output options names before after out out' x asked (stopped s h t) e = absurd (concluded_no_warnings s out out' x t e)
 
 pub warnings_printed : (meaning : Meaning) (before after : Outside) (out out' : Output) (x : Status) → Ends meaning before after out out' x → x ≡ Warnings → PrintsWarnings meaning before.content out.written out'.written
-warnings_printed meaning before after out out' x (faulty word kind is same t) e = absurd (concluded_no_warnings (stop.Usage (usage.Words word kind)) out out' x t e)
+warnings_printed meaning before after out out' x (faulty word kind is same t) e = absurd (concluded_no_warnings (stop.Usage (usage_at word kind)) out out' x t e)
 warnings_printed meaning before after out out' x (unfinished same t) e = absurd (concluded_no_warnings stop.NoMemory out out' x t e)
-warnings_printed meaning before after out out' x (not_built command is none same t) e = absurd (concluded_no_warnings (stop.Usage usage.NotBuilt) out out' x t e)
 warnings_printed meaning before after out out' x (shown command is shows same t) e = absurd (done_no_warnings (printed_warnings Done t.text out out' x t.printed e))
-warnings_printed meaning before after out out' x (checked input output options names is built h) e = check_warned meaning input output options names before after out out' x is h e
+warnings_printed meaning before after out out' x (checked input output options names is h) e = check_warned meaning input output options names before after out out' x is h e
+warnings_printed meaning before after out out' x (demoed n is same h) e = of_demo n is (sums_warned _ _ out out' x h e)
 warnings_printed meaning before after out out' x (dumped file is h kept) e = absurd (dump_no_warnings file before after out out' x h e)
 warnings_printed meaning before after out out' x (unwound file image is h kept) e = absurd (unwind_no_warnings file image before after out out' x h e)
 
@@ -316,21 +310,36 @@ check_unwound input output options names before after out out' x (stopped s h t)
 pub out_unwinds : (meaning : Meaning) (before after : Outside) (out out' : Output) (x : Status) (input output : List ℕ) (options : Options) (names : Option (List ℕ)) → Ends meaning before after out out' x → x ≡ Done → meaning ≡ Ok (check input output options names) → OutUnwinds input output names before.content after.content
 out_unwinds meaning before after out out' x input output options names (faulty word kind is same t) e n = absurd (unless_told _ out out' x t e)
 out_unwinds meaning before after out out' x input output options names (unfinished same t) e n = absurd (unless_told _ out out' x t e)
-out_unwinds meaning before after out out' x input output options names (not_built command is none same t) e n = absurd (unless_told _ out out' x t e)
 out_unwinds meaning before after out out' x input output options names (shown command is shows same t) e n = absurd (not_told meaning command _ is n shows refl)
+out_unwinds meaning before after out out' x input output options names (demoed k is same h) e n = absurd (no_check_demo meaning input output options names k n is)
 out_unwinds meaning before after out out' x input output options names (dumped file is h kept) e n = absurd (no_check_dump meaning input output options names file n is)
 out_unwinds meaning before after out out' x input output options names (unwound file image is h kept) e n = absurd (no_check_unwind meaning input output options names file image n is)
-out_unwinds meaning before after out out' x input output options names (checked i o os ns is built h) e n =
+out_unwinds meaning before after out out' x input output options names (checked i o os ns is h) e n =
     check_unwound input output options names before after out out' x (subst (ChecksAs before after out out' x) (same_command meaning (check i o os ns) (check input output options names) is n) h) e
+
+check_promised : (input output : List ℕ) (options : Options) (names : Option (List ℕ)) (before after : Outside) (out out' : Output) (x : Status) → EndsCheck input output options names before after out out' x → x ≡ Done → InKeepsPromises input options names before.content
+check_promised input output options names before after out out' Done (done is same) e = is.keeps
+check_promised input output options names before after out out' x (warned o warnings is kept t) e = absurd (warnings_not_done (printed_done status.Warnings _ out out' x t e))
+check_promised input output options names before after out out' x (stopped s h t) e = absurd (concluded_not_done s out out' x t e)
+
+pub promises_kept : (meaning : Meaning) (before after : Outside) (out out' : Output) (x : Status) (input output : List ℕ) (options : Options) (names : Option (List ℕ)) → Ends meaning before after out out' x → x ≡ Done → meaning ≡ Ok (check input output options names) → InKeepsPromises input options names before.content
+promises_kept meaning before after out out' x input output options names (faulty word kind is same t) e n = absurd (unless_told _ out out' x t e)
+promises_kept meaning before after out out' x input output options names (unfinished same t) e n = absurd (unless_told _ out out' x t e)
+promises_kept meaning before after out out' x input output options names (shown command is shows same t) e n = absurd (not_told meaning command _ is n shows refl)
+promises_kept meaning before after out out' x input output options names (demoed k is same h) e n = absurd (no_check_demo meaning input output options names k n is)
+promises_kept meaning before after out out' x input output options names (dumped file is h kept) e n = absurd (no_check_dump meaning input output options names file n is)
+promises_kept meaning before after out out' x input output options names (unwound file image is h kept) e n = absurd (no_check_unwind meaning input output options names file image n is)
+promises_kept meaning before after out out' x input output options names (checked i o os ns is h) e n =
+    check_promised input output options names before after out out' x (subst (ChecksAs before after out out' x) (same_command meaning (check i o os ns) (check input output options names) is n) h) e
 
 -- ---- `dump`
 
 pub rows_dumped : (meaning : Meaning) (before after : Outside) (out out' : Output) (x : Status) (file : List ℕ) → Ends meaning before after out out' x → x ≡ Done → meaning ≡ Ok (dump file) → IsDumped file before.content out.written out'.written
 rows_dumped meaning before after out out' x file (faulty word kind is same t) e n = absurd (unless_told _ out out' x t e)
 rows_dumped meaning before after out out' x file (unfinished same t) e n = absurd (unless_told _ out out' x t e)
-rows_dumped meaning before after out out' x file (not_built command is none same t) e n = absurd (unless_told _ out out' x t e)
 rows_dumped meaning before after out out' x file (shown command is shows same t) e n = absurd (not_told meaning command _ is n shows refl)
-rows_dumped meaning before after out out' x file (checked i o os ns is built h) e n = absurd (no_check_dump meaning i o os ns file is n)
+rows_dumped meaning before after out out' x file (demoed k is same h) e n = absurd (no_dump_demo meaning file k n is)
+rows_dumped meaning before after out out' x file (checked i o os ns is h) e n = absurd (no_check_dump meaning i o os ns file is n)
 rows_dumped meaning before after out out' x file (unwound other image is h kept) e n = absurd (no_dump_unwind meaning file other image n is)
 rows_dumped meaning before after out out' x file (dumped other is h kept) e n = subst (λ (name : List ℕ). IsDumped name before.content out.written out'.written) (ap input_of (same_command meaning (dump other) (dump file) is n)) (file_dumped other before after out out' x h e)
 
@@ -341,9 +350,9 @@ no_memory_left out out' x t = inr (inr (inr (concluded_no_memory out out' x t)))
 pub dump_answered : (meaning : Meaning) (before after : Outside) (out out' : Output) (x : Status) (file bytes : List ℕ) (o : Elf) (rows : List PlacedRow) (content : Content) → Ends meaning before after out out' x → meaning ≡ Ok (dump file) → before.content ≡ Some content → reading content file MAX_FILE_BYTES ≡ Ok bytes → HoldsRows bytes o rows → IsAnswered x
 dump_answered meaning before after out out' x file bytes o rows content (faulty word kind is same t) n c r held = absurd (no_fault_and_command meaning word kind _ is n)
 dump_answered meaning before after out out' x file bytes o rows content (unfinished same t) n c r held = no_memory_left out out' x t
-dump_answered meaning before after out out' x file bytes o rows content (not_built command is none same t) n c r held = absurd (not_unbuilt meaning command _ is n none refl)
 dump_answered meaning before after out out' x file bytes o rows content (shown command is shows same t) n c r held = absurd (not_told meaning command _ is n shows refl)
-dump_answered meaning before after out out' x file bytes o rows content (checked i p os ns is built h) n c r held = absurd (no_check_dump meaning i p os ns file is n)
+dump_answered meaning before after out out' x file bytes o rows content (demoed k is same h) n c r held = absurd (no_dump_demo meaning file k n is)
+dump_answered meaning before after out out' x file bytes o rows content (checked i p os ns is h) n c r held = absurd (no_check_dump meaning i p os ns file is n)
 dump_answered meaning before after out out' x file bytes o rows content (unwound other image is h kept) n c r held = absurd (no_dump_unwind meaning file other image n is)
 dump_answered meaning before after out out' x file bytes o rows content (dumped other is h kept) n c r held = dump_left other bytes o rows content before after out out' x c (subst (λ (name : List ℕ). reading content name MAX_FILE_BYTES ≡ Ok bytes) (sym (ap input_of (same_command meaning (dump other) (dump file) is n))) r) held h
 
@@ -352,9 +361,9 @@ dump_answered meaning before after out out' x file bytes o rows content (dumped 
 pub walk_printed : (meaning : Meaning) (before after : Outside) (out out' : Output) (x : Status) (file image : List ℕ) → Ends meaning before after out out' x → x ≡ Done → meaning ≡ Ok (unwind file image) → IsUnwound file image before.content out.written out'.written
 walk_printed meaning before after out out' x file image (faulty word kind is same t) e n = absurd (unless_told _ out out' x t e)
 walk_printed meaning before after out out' x file image (unfinished same t) e n = absurd (unless_told _ out out' x t e)
-walk_printed meaning before after out out' x file image (not_built command is none same t) e n = absurd (unless_told _ out out' x t e)
 walk_printed meaning before after out out' x file image (shown command is shows same t) e n = absurd (not_told meaning command _ is n shows refl)
-walk_printed meaning before after out out' x file image (checked i o os ns is built h) e n = absurd (no_check_unwind meaning i o os ns file image is n)
+walk_printed meaning before after out out' x file image (demoed k is same h) e n = absurd (no_unwind_demo meaning file image k n is)
+walk_printed meaning before after out out' x file image (checked i o os ns is h) e n = absurd (no_check_unwind meaning i o os ns file image is n)
 walk_printed meaning before after out out' x file image (dumped other is h kept) e n = absurd (no_dump_unwind meaning other file image is n)
 walk_printed meaning before after out out' x file image (unwound other others is h kept) e n =
     let same : unwind other others ≡ unwind file image = same_command meaning _ _ is n in
@@ -363,9 +372,9 @@ walk_printed meaning before after out out' x file image (unwound other others is
 pub unwind_answered : (meaning : Meaning) (before after : Outside) (out out' : Output) (x : Status) (file image bytes text : List ℕ) (stack : StackImage) (o : Elf) (rows : List PlacedRow) (content : Content) → Ends meaning before after out out' x → meaning ≡ Ok (unwind file image) → before.content ≡ Some content → reading content file MAX_FILE_BYTES ≡ Ok bytes → reading content image MAX_IMAGE_BYTES ≡ Ok text → IsPlaced bytes text stack o rows → IsAnswered x
 unwind_answered meaning before after out out' x file image bytes text stack o rows content (faulty word kind is same t) n c r q placed = absurd (no_fault_and_command meaning word kind _ is n)
 unwind_answered meaning before after out out' x file image bytes text stack o rows content (unfinished same t) n c r q placed = no_memory_left out out' x t
-unwind_answered meaning before after out out' x file image bytes text stack o rows content (not_built command is none same t) n c r q placed = absurd (not_unbuilt meaning command _ is n none refl)
 unwind_answered meaning before after out out' x file image bytes text stack o rows content (shown command is shows same t) n c r q placed = absurd (not_told meaning command _ is n shows refl)
-unwind_answered meaning before after out out' x file image bytes text stack o rows content (checked i p os ns is built h) n c r q placed = absurd (no_check_unwind meaning i p os ns file image is n)
+unwind_answered meaning before after out out' x file image bytes text stack o rows content (demoed k is same h) n c r q placed = absurd (no_unwind_demo meaning file image k n is)
+unwind_answered meaning before after out out' x file image bytes text stack o rows content (checked i p os ns is h) n c r q placed = absurd (no_check_unwind meaning i p os ns file image is n)
 unwind_answered meaning before after out out' x file image bytes text stack o rows content (dumped other is h kept) n c r q placed = absurd (no_dump_unwind meaning other file image is n)
 unwind_answered meaning before after out out' x file image bytes text stack o rows content (unwound other others is h kept) n c r q placed =
     let same : unwind other others ≡ unwind file image = same_command meaning _ _ is n in
@@ -386,35 +395,40 @@ concluded_usage usage out out' status.NoMemory (silent none same) = inr (inr ref
 memory_answered : (out out' : Output) (x : Status) → Concludes stop.NoMemory out out' x → IsUsageAnswer x
 memory_answered out out' x t = inr (inr (concluded_no_memory out out' x t))
 
-told_built : (c : Command) → is_told c ≡ true → is_built c ≡ true
-told_built (check input output options names) told = absurd (not_both false told refl)
-told_built (dump file) told = refl
-told_built (unwind file image) told = refl
-told_built (demo n) told = absurd (not_both false told refl)
-told_built help told = refl
-told_built version told = refl
-
 fault_answered : (meaning : Meaning) (word : ℕ) (kind : UsageKind) (before after : Outside) (out out' : Output) (x : Status) → meaning ≡ Err (word, kind) → Ends meaning before after out out' x → IsUsageAnswer x
 fault_answered meaning word kind before after out out' x p (faulty at why is same t) = concluded_usage _ out out' x t
 fault_answered meaning word kind before after out out' x p (unfinished same t) = memory_answered out out' x t
-fault_answered meaning word kind before after out out' x p (not_built command is none same t) = concluded_usage _ out out' x t
 fault_answered meaning word kind before after out out' x p (shown command is shows same t) = absurd (no_fault_and_command meaning word kind _ p is)
+fault_answered meaning word kind before after out out' x p (demoed n is same h) = absurd (no_fault_and_command meaning word kind _ p is)
 fault_answered meaning word kind before after out out' x p (dumped file is h kept) = absurd (no_fault_and_command meaning word kind _ p is)
 fault_answered meaning word kind before after out out' x p (unwound file image is h kept) = absurd (no_fault_and_command meaning word kind _ p is)
-fault_answered meaning word kind before after out out' x p (checked i o os ns is built h) = absurd (no_fault_and_command meaning word kind _ p is)
-
-unbuilt_answered : (meaning : Meaning) (c : Command) (before after : Outside) (out out' : Output) (x : Status) → meaning ≡ Ok c → is_built c ≡ false → Ends meaning before after out out' x → IsUsageAnswer x
-unbuilt_answered meaning c before after out out' x p none (faulty at why is same t) = concluded_usage _ out out' x t
-unbuilt_answered meaning c before after out out' x p none (unfinished same t) = memory_answered out out' x t
-unbuilt_answered meaning c before after out out' x p none (not_built command is other same t) = concluded_usage _ out out' x t
-unbuilt_answered meaning c before after out out' x p none (shown command is shows same t) = absurd (not_unbuilt meaning c command p is none (told_built command shows))
-unbuilt_answered meaning c before after out out' x p none (dumped file is h kept) = absurd (not_unbuilt meaning c _ p is none refl)
-unbuilt_answered meaning c before after out out' x p none (unwound file image is h kept) = absurd (not_unbuilt meaning c _ p is none refl)
-unbuilt_answered meaning c before after out out' x p none (checked i o os ns is built h) = absurd (not_unbuilt meaning c _ p is none built)
+fault_answered meaning word kind before after out out' x p (checked i o os ns is h) = absurd (no_fault_and_command meaning word kind _ p is)
 
 pub usage_answered : (meaning : Meaning) (before after : Outside) (out out' : Output) (x : Status) → Ends meaning before after out out' x → IsFaulty meaning → IsUsageAnswer x
 usage_answered meaning before after out out' x h (at_fault word kind p) = fault_answered meaning word kind before after out out' x p h
-usage_answered meaning before after out out' x h (asks_too_much c p none) = unbuilt_answered meaning c before after out out' x p none h
+
+-- ---- `demo`
+
+abbrev demo_number : Command → ℕ
+demo_number (check input output options names) = 0
+demo_number (dump file) = 0
+demo_number (unwind file image) = 0
+demo_number (demo n) = n
+demo_number help = 0
+demo_number version = 0
+
+same_number : (meaning : Meaning) (n k : ℕ) → meaning ≡ Ok (demo n) → meaning ≡ Ok (demo k) → n ≡ k
+same_number meaning n k p q = ap demo_number (same_command meaning (demo n) (demo k) p q)
+
+-- words that ask for `demo` end as it does
+pub demo_sums_up : (meaning : Meaning) (before after : Outside) (out out' : Output) (x : Status) (n : ℕ) → Ends meaning before after out out' x → meaning ≡ Ok (demo n) → SumsUp (demo_title n) (demo_bytes n) out out' x
+demo_sums_up meaning before after out out' x n (faulty word kind is same t) p = absurd (no_fault_and_command meaning word kind _ is p)
+demo_sums_up meaning before after out out' x n (unfinished same t) p = sums_stopped stop.NoMemory tt t
+demo_sums_up meaning before after out out' x n (shown command is shows same t) p = absurd (not_told meaning command _ is p shows refl)
+demo_sums_up meaning before after out out' x n (demoed k is same h) p = subst (λ (m : ℕ). SumsUp (demo_title m) (demo_bytes m) out out' x) (same_number meaning k n is p) h
+demo_sums_up meaning before after out out' x n (dumped file is h kept) p = absurd (no_dump_demo meaning file n is p)
+demo_sums_up meaning before after out out' x n (unwound file image is h kept) p = absurd (no_unwind_demo meaning file image n is p)
+demo_sums_up meaning before after out out' x n (checked i o os ns is h) p = absurd (no_check_demo meaning i o os ns n is p)
 
 -- the end of one command is that of another that is the same
 pub ends_of : (c d : Command) (before after : Outside) (out out' : Output) (x : Status) → c ≡ d → Ends (Ok c) before after out out' x → Ends (Ok d) before after out out' x

@@ -48,7 +48,7 @@ names_earlier s names content before middle after later no_lists = no_lists
 
 -- fewer faults at the beginning
 done_earlier : (input output : List ℕ) (options : Options) (names : Option (List ℕ)) (content : Option Content) (before middle : ℕ) (after : Outside) → IsDone input output options names (outside content middle) after → IsDone input output options names (outside content before) after
-done_earlier input output options names content before middle after d = record { table = d.table; accepted = d.accepted; written = d.written; unwinds = d.unwinds }
+done_earlier input output options names content before middle after d = record { table = d.table; accepted = d.accepted; written = d.written; unwinds = d.unwinds; keeps = d.keeps }
 
 stops_earlier : (s : Stop) (input output : List ℕ) (options : Options) (names : Option (List ℕ)) (content : Option Content) (before middle : ℕ) (after : Outside) → before ≤ middle → Stops input output options names (outside content middle) after s → Stops input output options names (outside content before) after s
 stops_earlier s input output options names content before middle after later (unread h kept) = unread (read_earlier s input content before middle after later h) kept

@@ -2,10 +2,14 @@ pub mod AcceptsLemmas
 pub mod CheckLemmas
 pub mod CheckableLemmas
 pub mod ContentLemmas
+pub mod DemoBytes
+pub mod DemoWords
 pub mod EndsLemmas
 pub mod LaterLemmas
 pub mod ParseLemmas
 pub mod PlacementLemmas
+pub mod SummaryEnds
+pub mod SummaryLemmas
 pub mod UnwindingLemmas
 pub mod UsageLemmas
 pub mod WarningLemmas

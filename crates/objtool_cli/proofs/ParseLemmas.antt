@@ -1,4 +1,4 @@
--- Why bytes are refused that are no object.
+-- Why bytes can't be checked, and are refused.
 use Rattle.std.proofs.Common.{ℕ, List, inl, inr}
 use Rattle.std.specs.Prelude.{◌≢◌}
 use Rattle.ot_base.specs.NameLists.{NameLists}
@@ -10,30 +10,39 @@ use Rattle.elf_objects.specs.declared.fault.ElfFault.TheVariants.{Short, NotElfR
 use Rattle.command_base.specs.declared.stop.Stop.{Stop}
 use Rattle.command_base.specs.declared.stop.Stop.TheVariants as stop
 use Rattle.command_base.specs.Reading.{parse_stop}
-use Rattle.objtool_cli.specs.Checked.{IsRefusal, IsUnchecked, malformed, unchecked}
+use Rattle.objtool_cli.specs.Checked.{IsRefusal, IsUnchecked, IsUncheckableStop, malformed, uncheckable, unchecked}
 
 -- a refusal is a fault where it isn't want of memory
 fault_of : (bytes : List ℕ) (e : ElfFault) → Refuses (FirstFault bytes) e → e ≢ NoMemory → FirstFault bytes e
 fault_of bytes e (inl none) other = absurd (other none)
 fault_of bytes e (inr fault) other = fault
 
-pub parse_refusal : (bytes : List ℕ) (lists : NameLists) (options : Options) (e : ElfFault) → Refuses (FirstFault bytes) e → IsRefusal bytes lists options (parse_stop e)
-parse_refusal bytes lists options (Short need have) h = malformed (fault_of bytes _ h (λ x. cc))
-parse_refusal bytes lists options (NotElfRel64 at) h = malformed (fault_of bytes _ h (λ x. cc))
-parse_refusal bytes lists options (BadTable sec) h = malformed (fault_of bytes _ h (λ x. cc))
-parse_refusal bytes lists options (BadRange sec) h = malformed (fault_of bytes _ h (λ x. cc))
-parse_refusal bytes lists options (BadName what index) h = malformed (fault_of bytes _ h (λ x. cc))
-parse_refusal bytes lists options (BadLink sec) h = malformed (fault_of bytes _ h (λ x. cc))
-parse_refusal bytes lists options (BadSymbol sym) h = malformed (fault_of bytes _ h (λ x. cc))
-parse_refusal bytes lists options (BadReloc sec index) h = malformed (fault_of bytes _ h (λ x. cc))
-parse_refusal bytes lists options (TooMany what count) h = malformed (fault_of bytes _ h (λ x. cc))
-parse_refusal bytes lists options NoMemory h = tt
+pub parse_uncheckable : (bytes : List ℕ) (e : ElfFault) → Refuses (FirstFault bytes) e → IsUncheckableStop bytes (parse_stop e)
+parse_uncheckable bytes (Short need have) h = malformed (fault_of bytes _ h (λ x. cc))
+parse_uncheckable bytes (NotElfRel64 at) h = malformed (fault_of bytes _ h (λ x. cc))
+parse_uncheckable bytes (BadTable sec) h = malformed (fault_of bytes _ h (λ x. cc))
+parse_uncheckable bytes (BadRange sec) h = malformed (fault_of bytes _ h (λ x. cc))
+parse_uncheckable bytes (BadName what index) h = malformed (fault_of bytes _ h (λ x. cc))
+parse_uncheckable bytes (BadLink sec) h = malformed (fault_of bytes _ h (λ x. cc))
+parse_uncheckable bytes (BadSymbol sym) h = malformed (fault_of bytes _ h (λ x. cc))
+parse_uncheckable bytes (BadReloc sec index) h = malformed (fault_of bytes _ h (λ x. cc))
+parse_uncheckable bytes (TooMany what count) h = malformed (fault_of bytes _ h (λ x. cc))
+parse_uncheckable bytes NoMemory h = tt
 
--- what is told of an object that isn't checked is a refusal of its bytes
-pub check_refusal : (bytes : List ℕ) (lists : NameLists) (options : Options) (o : Elf) (s : Stop) → IsObject bytes o → IsUnchecked o s → IsRefusal bytes lists options s
-check_refusal bytes lists options o (stop.Refused refusal) is h = unchecked o is h
-check_refusal bytes lists options o stop.NoMemory is h = tt
-check_refusal bytes lists options o (stop.Usage usage) is h = absurd h
-check_refusal bytes lists options o (stop.Missing file) is h = absurd h
-check_refusal bytes lists options o (stop.TooLong file limit) is h = absurd h
-check_refusal bytes lists options o (stop.FileFault file) is h = absurd h
+-- what is told of an object that isn't checked is why its bytes can't be
+pub check_uncheckable : (bytes : List ℕ) (o : Elf) (s : Stop) → IsObject bytes o → IsUnchecked o s → IsUncheckableStop bytes s
+check_uncheckable bytes o (stop.Refused refusal) is h = unchecked o is h
+check_uncheckable bytes o stop.NoMemory is h = tt
+check_uncheckable bytes o (stop.Usage usage) is h = absurd h
+check_uncheckable bytes o (stop.Missing file) is h = absurd h
+check_uncheckable bytes o (stop.TooLong file limit) is h = absurd h
+check_uncheckable bytes o (stop.FileFault file) is h = absurd h
+
+-- an input is refused whose bytes can't be checked
+pub uncheckable_refusal : (bytes : List ℕ) (lists : NameLists) (options : Options) (s : Stop) → IsUncheckableStop bytes s → IsRefusal bytes lists options s
+uncheckable_refusal bytes lists options (stop.Refused refusal) h = uncheckable h
+uncheckable_refusal bytes lists options stop.NoMemory h = tt
+uncheckable_refusal bytes lists options (stop.Usage usage) h = absurd h
+uncheckable_refusal bytes lists options (stop.Missing file) h = absurd h
+uncheckable_refusal bytes lists options (stop.TooLong file limit) h = absurd h
+uncheckable_refusal bytes lists options (stop.FileFault file) h = absurd h

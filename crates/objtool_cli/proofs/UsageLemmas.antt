@@ -14,9 +14,11 @@ use Rattle.read_back.specs.Dump as dump
 use Rattle.read_back.specs.Dump.{Dumps, EndsDump, HoldsNoRows}
 use Rattle.read_back.specs.Unwind as unwind
 use Rattle.read_back.specs.Unwind.{EndsUnwind, HasNoWalk, Unwinds}
-use Rattle.objtool_cli.specs.Checked.{IsRefusal}
-use Rattle.objtool_cli.specs.Command.{Ends, EndsCheck, IsFaulty, Stops, asks_too_much, at_fault, checked, done, dumped, faulty, not_built, refused, shown, stopped, unfinished, unread, unwound, unwritten, warned, without_names}
+use Rattle.objtool_cli.specs.Checked.{IsRefusal, IsUncheckableStop}
+use Rattle.objtool_cli.specs.Command.{Ends, EndsCheck, IsFaulty, Stops, at_fault, checked, demoed, done, dumped, faulty, refused, shown, stopped, unfinished, unread, unwound, unwritten, warned, without_names}
 use Rattle.objtool_cli.specs.Lists.{IsListsStop, StopsAtNames, names_unread, no_lists, no_names}
+use Rattle.objtool_cli.specs.Summary as sums
+use Rattle.objtool_cli.specs.Summary.{SumsUp}
 use Rattle.objtool_cli.specs.Writing.{StopsAtWrite}
 use Rattle.ot_base.specs.declared.options.Options.{Options}
 use Rattle.objtool_cli.specs.Words.{Meaning}
@@ -106,11 +108,18 @@ check_ended input output options names before after out out' status.Done (done d
 check_ended input output options names before after out out' x (warned o warnings is kept t) e = not_usage _ _ out out' x t warnings_not_usage e
 check_ended input output options names before after out out' x (stopped s h t) e = concluded_other s out out' x t (stop_other s input output options names before after h) e
 
+-- ---- `demo`
+
+pub sums_no_usage : (title bytes : List ℕ) (out out' : Output) (x : Status) → SumsUp title bytes out out' x → x ≢ status.Usage
+sums_no_usage title bytes out out' x (sums.passed counts rows p t) e = not_usage _ _ out out' x t done_not_usage e
+sums_no_usage title bytes out out' x (sums.warned o warnings w t) e = not_usage _ _ out out' x t warnings_not_usage e
+sums_no_usage title bytes out out' x (sums.stopped s h t) e = concluded_other s out out' x t (λ usage same. subst (λ (u : Stop). IsUncheckableStop bytes u) same h) e
+
 pub only_faulty : (meaning : Meaning) (before after : Outside) (out out' : Output) (x : Status) → Ends meaning before after out out' x → x ≡ status.Usage → IsFaulty meaning
 only_faulty meaning before after out out' x (faulty word kind is same t) e = at_fault word kind is
 only_faulty meaning before after out out' x (unfinished same t) e = absurd (concluded_other stop.NoMemory out out' x t memory_other e)
-only_faulty meaning before after out out' x (not_built command is none same t) e = asks_too_much command is none
 only_faulty meaning before after out out' x (shown command is shows same t) e = absurd (not_usage _ _ out out' x t.printed done_not_usage e)
+only_faulty meaning before after out out' x (demoed n is same h) e = absurd (sums_no_usage _ _ out out' x h e)
 only_faulty meaning before after out out' x (dumped file is h kept) e = absurd (file_dumped file before after out out' x h e)
 only_faulty meaning before after out out' x (unwound file image is h kept) e = absurd (files_unwound file image before after out out' x h e)
-only_faulty meaning before after out out' x (checked i o options ns is built h) e = absurd (check_ended i o options ns before after out out' x h e)
+only_faulty meaning before after out out' x (checked i o options ns is h) e = absurd (check_ended i o options ns before after out out' x h e)

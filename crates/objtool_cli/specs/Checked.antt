@@ -12,8 +12,9 @@ use Rattle.elf_objects.specs.Elf.{Elf}
 use Rattle.elf_objects.specs.Object.{FirstFault, IsObject}
 use Rattle.elf_objects.specs.declared.TheConstants.{MAX_SYMBOLS}
 use Rattle.x86_text.specs.declared.fault.TextFault.{TextFault}
-use Rattle.checker_defs.specs.Broken.{IsBroken}
+use Rattle.option_defs.specs.Asked.{IsWarned}
 use Rattle.flow_defs.specs.Program.{program_of}
+use Rattle.point_allowances.specs.Allowances.{allowances_of}
 use Rattle.object_code.specs.declared.fault.LinkFault.TheVariants.{Text}
 use Rattle.object_code.specs.declared.fault_text.LinkFaultText.{LinkFaultText}
 use Rattle.object_check.specs.Order.{IsCheckable, IsCheckFault}
@@ -33,7 +34,7 @@ pub record Accepts (bytes : List ℕ) (lists : NameLists) (options : Options) (t
   pub object : Elf
   pub is : IsObject bytes object
   pub checkable : IsCheckable object
-  pub unbroken : IsUnbroken (program_of object lists) options
+  pub unbroken : IsUnbroken (program_of object lists) (allowances_of object lists) options
   pub rows : List PlacedRow
   pub has_rows : HasRows (program_of object lists) rows
   pub table_is : IsTable object rows table
@@ -43,7 +44,7 @@ pub record Accepts (bytes : List ℕ) (lists : NameLists) (options : Options) (t
 pub record Warns (bytes : List ℕ) (lists : NameLists) (options : Options) (o : Elf) (warnings : List Warning) : Type 0 where
   pub is : IsObject bytes o
   pub checkable : IsCheckable o
-  pub are : AreWarnings (program_of o lists) options warnings
+  pub are : AreWarnings (program_of o lists) (allowances_of o lists) options warnings
 
 -- they are an object that is checked, and whose program breaks a rule that is asked for
 pub record BreaksRule (bytes : List ℕ) (lists : NameLists) (options : Options) : Type 0 where
@@ -54,7 +55,7 @@ pub record BreaksRule (bytes : List ℕ) (lists : NameLists) (options : Options)
   pub rule : ℕ
   pub a : ℤ
   pub b : ℤ
-  pub broken : IsBroken (program_of object lists) options place rule a b
+  pub broken : IsWarned (program_of object lists) (allowances_of object lists) options place rule a b
 
 -- where a text section isn't code, it is told by its name and its body
 pub record NamesText (o : Elf) (told : LinkFaultText) (sec : ℕ) : Type 0 where
@@ -78,16 +79,27 @@ IsUnchecked o (Refused refusal) = TellsCheckFault o refusal
 IsUnchecked o NoMemory = Unit {0}
 IsUnchecked o _ = ⊥
 
--- An input of these bytes is refused so, in this order: they are no object, and this is their first fault; or an object that
--- isn't checked, and this is why; or one that breaks no rule, and whose tables need too many symbols.
+-- These bytes can't be checked, and this is why: they are no object, and this is their first fault; or an object that isn't
+-- checked.
+pub data IsUncheckable (bytes : List ℕ) : Refusal → Type 0 where
+  malformed : {fault : ElfFault} → FirstFault bytes fault → IsUncheckable bytes (Malformed fault)
+  unchecked : {refusal : Refusal} (o : Elf) → IsObject bytes o → TellsCheckFault o refusal → IsUncheckable bytes refusal
+
+-- the stop tells this, or want of memory
+abbrev pub IsUncheckableStop : List ℕ → Stop → Type 0
+IsUncheckableStop bytes (Refused refusal) = IsUncheckable bytes refusal
+IsUncheckableStop bytes NoMemory = Unit {0}
+IsUncheckableStop bytes _ = ⊥
+
+-- An input of these bytes is refused so, in this order: they can't be checked, and this is why; or they are an object that
+-- breaks no rule, and whose tables need too many symbols.
 pub data Refuses (bytes : List ℕ) (lists : NameLists) (options : Options) : Refusal → Type 0 where
-  malformed : {fault : ElfFault} → FirstFault bytes fault → Refuses bytes lists options (Malformed fault)
-  unchecked : {refusal : Refusal} (o : Elf) → IsObject bytes o → TellsCheckFault o refusal → Refuses bytes lists options refusal
+  uncheckable : {refusal : Refusal} → IsUncheckable bytes refusal → Refuses bytes lists options refusal
   crowded :
       {count : ℕ} (o : Elf) (rows : List PlacedRow)
       → IsObject bytes o
       → IsCheckable o
-      → IsUnbroken (program_of o lists) options
+      → IsUnbroken (program_of o lists) (allowances_of o lists) options
       → HasRows (program_of o lists) rows
       → MAX_SYMBOLS < symbols_needed o rows
       → count ≡ symbols_needed o rows

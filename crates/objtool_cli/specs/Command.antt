@@ -9,21 +9,23 @@ use Rattle.command_base.specs.declared.status.Status.TheVariants as status
 use Rattle.command_base.specs.declared.stop.Stop.{Stop}
 use Rattle.command_base.specs.declared.stop.Stop.TheVariants.{Usage, NoMemory}
 use Rattle.command_base.specs.Outside.{Outside, Output}
+use Rattle.command_base.specs.Stop.{usage_at}
 use Rattle.command_base.specs.Printing.{Concludes, Prints}
 use Rattle.command_base.specs.Reading.{MayRead, StopsAtRead}
 use Rattle.read_back.specs.Dump.{EndsDump}
 use Rattle.read_back.specs.Unwind.{EndsUnwind}
 use Rattle.objtool_cli.specs.Checked.{Accepts, IsRefusal, Warns}
+use Rattle.objtool_cli.specs.Promises.{InKeepsPromises}
 use Rattle.objtool_cli.specs.Unwinding.{OutUnwinds}
-use Rattle.cli_words.specs.Grammar.{Command, check, dump, unwind}
+use Rattle.cli_words.specs.Grammar.{Command, check, demo, dump, unwind}
 use Rattle.cli_words.specs.declared.fault.UsageKind.{UsageKind}
-use Rattle.command_base.specs.declared.usage.Usage.TheVariants as usage
 use Rattle.ot_base.specs.NameLists.{NameLists}
 use Rattle.ot_base.specs.declared.options.Options.{Options}
 use Rattle.ot_base.specs.declared.warning.Warning.{Warning}
 use Rattle.objtool_cli.specs.Lists.{HasNames, StopsAtNames}
+use Rattle.objtool_cli.specs.Summary.{PrintsWarningsOf, SumsUp, demo_bytes, demo_title}
 use Rattle.objtool_cli.specs.Warnings.{warnings_text}
-use Rattle.objtool_cli.specs.Words.{Meaning, are_built, is_built, is_told}
+use Rattle.objtool_cli.specs.Words.{Meaning, is_told}
 use Rattle.objtool_cli.specs.Writing.{StopsAtWrite}
 
 -- The file of this name may read as these bytes, and these are the lists of names of the names file, or the built-in ones
@@ -47,12 +49,13 @@ pub record IsWarned (content : Option Content) (input : List ℕ) (options : Opt
   pub warns : Warns read lists options o warnings
 
 -- `check` is done: IN was accepted, OUT holds its bytes with the tables, which unwind it, and every other name what it
--- held.
+-- held; and IN keeps what the options promise.
 pub record IsDone (input output : List ℕ) (options : Options) (names : Option (List ℕ)) (before after : Outside) : Type 0 where
   pub table : List ℕ
   pub accepted : IsAccepted before.content input options names table
   pub written : after.content ≡ writing before.content output table
   pub unwinds : OutUnwinds input output names before.content after.content
+  pub keeps : InKeepsPromises input options names before.content
 
 -- How `check` stops, and what stands then. Where IN or the names file isn't read, a line of the names file isn't in order,
 -- the bytes of IN are refused or memory runs out before OUT is written, no file has changed. Only where IN was accepted and
@@ -95,13 +98,13 @@ pub record IsShown (out out' : Output) (s : Status) : Type 0 where
   pub text : List ℕ
   pub printed : Prints status.Done text out out' s
 
--- How the words end that mean this: words at fault are told, and so is a command that isn't built yet, and nothing else is
--- done; `--help` and `--version` print a text of the program. Memory may run out while the words are read.
+-- How the words end that mean this: words at fault are told, and nothing else is done; `--help` and `--version` print a text of the program; `demo N` sums up the object that it makes, and changes no file.
+-- Memory may run out while the words are read.
 pub data Ends (meaning : Meaning) (before after : Outside) (out out' : Output) : Status → Type 0 where
-  faulty : {s : Status} (word : ℕ) (kind : UsageKind) → meaning ≡ Err (word, kind) → after ≡ before → Concludes (Usage (usage.Words word kind)) out out' s → Ends meaning before after out out' s
+  faulty : {s : Status} (word : ℕ) (kind : UsageKind) → meaning ≡ Err (word, kind) → after ≡ before → Concludes (Usage (usage_at word kind)) out out' s → Ends meaning before after out out' s
   unfinished : {s : Status} → after ≡ before → Concludes NoMemory out out' s → Ends meaning before after out out' s
-  not_built : {s : Status} (command : Command) → meaning ≡ Ok command → is_built command ≡ false → after ≡ before → Concludes (Usage usage.NotBuilt) out out' s → Ends meaning before after out out' s
   shown : {s : Status} (command : Command) → meaning ≡ Ok command → is_told command ≡ true → after ≡ before → IsShown out out' s → Ends meaning before after out out' s
+  demoed : {s : Status} (n : ℕ) → meaning ≡ Ok (demo n) → after ≡ before → SumsUp (demo_title n) (demo_bytes n) out out' s → Ends meaning before after out out' s
   dumped : {s : Status} (file : List ℕ) → meaning ≡ Ok (dump file) → EndsDump file before after out out' s → after.content ≡ before.content → Ends meaning before after out out' s
   unwound :
       {s : Status} (file image : List ℕ)
@@ -112,7 +115,6 @@ pub data Ends (meaning : Meaning) (before after : Outside) (out out' : Output) :
   checked :
       {s : Status} (input output : List ℕ) (options : Options) (names : Option (List ℕ))
       → meaning ≡ Ok (check input output options names)
-      → are_built options ≡ true
       → EndsCheck input output options names before after out out' s
       → Ends meaning before after out out' s
 
@@ -125,23 +127,20 @@ pub data MayChange (meaning : Meaning) (before after : Option Content) : Type 0 
       → ChangesAtMost output before after
       → MayChange meaning before after
 
--- The command was `check`, IN was read as an object that breaks rules, these are all warnings of it, and exactly their lines
--- were printed.
-pub record PrintsWarnings (meaning : Meaning) (content : Option Content) (before after : Option (List ℕ)) : Type 0 where
-  pub input : List ℕ
-  pub output : List ℕ
-  pub options : Options
-  pub names : Option (List ℕ)
-  pub asked : meaning ≡ Ok (check input output options names)
-  pub object : Elf
-  pub warnings : List Warning
-  pub warned : IsWarned content input options names object warnings
-  pub printed : after ≡ appending before (warnings_text object warnings)
+-- The command was `check`, and IN was read as an object that breaks rules, or it was `demo`, and the object that it makes
+-- breaks some; these are all warnings of it, and exactly their lines were printed.
+pub data PrintsWarnings (meaning : Meaning) (content : Option Content) (before after : Option (List ℕ)) : Type 0 where
+  of_check :
+      (input output : List ℕ) (options : Options) (names : Option (List ℕ)) (o : Elf) (warnings : List Warning)
+      → meaning ≡ Ok (check input output options names)
+      → IsWarned content input options names o warnings
+      → after ≡ appending before (warnings_text o warnings)
+      → PrintsWarnings meaning content before after
+  of_demo : (n : ℕ) → meaning ≡ Ok (demo n) → PrintsWarningsOf (demo_bytes n) before after → PrintsWarnings meaning content before after
 
--- the words are at fault, or ask for what isn't built yet
+-- the words are at fault
 pub data IsFaulty (meaning : Meaning) : Type 0 where
   at_fault : (word : ℕ) (kind : UsageKind) → meaning ≡ Err (word, kind) → IsFaulty meaning
-  asks_too_much : (command : Command) → meaning ≡ Ok command → is_built command ≡ false → IsFaulty meaning
 
 -- what such words are answered by
 abbrev pub IsUsageAnswer : Status → Type 0

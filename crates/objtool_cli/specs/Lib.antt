@@ -1,6 +1,8 @@
 pub mod Checked
 pub mod Command
 pub mod Lists
+pub mod Promises
+pub mod Summary
 pub mod Unwinding
 pub mod Warnings
 pub mod Words

@@ -39,7 +39,7 @@ fn link_text<'a>(object: &Object<'a>, fault: LinkFault) -> LinkFaultText<'a>
 }
 
 /// Why a command stops whose object isn't checked.
-fn check_stop<'a>(object: &Object<'a>, fault: CheckFault) -> Stop<'a>
+pub(crate) fn check_stop<'a>(object: &Object<'a>, fault: CheckFault) -> Stop<'a>
     requires { IsCheckFault object.now fault }
     ensures { IsUnchecked object.now result }
 {
@@ -80,7 +80,7 @@ pub fn check<F: Files, S: Sink>(
         Err(fault) => return conclude(alloc, parse_stop(fault), out),
     };
     let rows = match check_object(alloc, &object, lists, asked.options) {
-        Ok(Outcome::Accepted(rows)) => rows,
+        Ok(Outcome::Accepted { rows, .. }) => rows,
         Ok(Outcome::Broken(warnings)) => return print_warnings(alloc, &object, &warnings, out),
         Err(fault) => return conclude(alloc, check_stop(&object, fault), out),
     };

@@ -7,17 +7,19 @@ ghost use Rattle.stack_image.specs.ImageFile.{StackImage};
 ghost use Rattle.read_back.specs.Dump.{HoldsRows, IsAnswered, IsDumped};
 ghost use Rattle.read_back.specs.Unwind.{IsPlaced, IsUnwound};
 ghost use Rattle.objtool_cli.specs.Checked.{Accepts, BreaksRule};
-ghost use Rattle.cli_words.specs.Grammar.{check, command_in, dump, meaning, unwind};
+ghost use Rattle.cli_words.specs.Grammar.{check, command_in, demo, dump, meaning, unwind};
 ghost use Rattle.ot_base.specs.NameLists.{NameLists};
 ghost use Rattle.ot_base.specs.declared.options.Options.{Options};
 ghost use Rattle.objtool_cli.specs.Lists.{HasNames};
-ghost use Rattle.objtool_cli.specs.Words.{are_built};
+ghost use Rattle.objtool_cli.specs.Summary.{SumsUp, demo_bytes, demo_title};
+ghost use Rattle.objtool_cli.specs.Promises.{InKeepsPromises};
 ghost use Rattle.objtool_cli.specs.Unwinding.{OutUnwinds};
 ghost use Rattle.objtool_cli.specs.Command.{Ends, EndsCheck, IsFaulty, IsShown, IsUsageAnswer, MayChange, PrintsWarnings};
 
 use crate::check::check;
+use crate::demo::demo;
 use crate::lists::read_names;
-use crate::words::{Check, are_built};
+use crate::words::Check;
 use cli_words::{Command, UsageFault, help_text, read_words, version_text};
 use command_base::{MAX_IMAGE_BYTES, Status, Stop, Usage, conclude, print_line, read_file};
 use elf_objects::MAX_FILE_BYTES;
@@ -66,27 +68,6 @@ fn show<S: Sink>(text: Result<String, NoMemory>, out: &mut S) -> Status
     }
 }
 
-/// Runs `check`, where its options ask for no rule that no code looks for yet.
-fn run_check<F: Files, S: Sink>(
-    alloc: Global,
-    asked: Check<'_>,
-    files: &mut F,
-    out: &mut S,
-) -> Status
-    ensures ends { Ends (Ok (check asked.entry.input.now asked.entry.output.now asked.entry.options (option_map (λ file. file.now) asked.entry.names)))
-        (record { content = F.content files.old; faults = F.faults files.old })
-        (record { content = F.content files.new; faults = F.faults files.new })
-        (record { written = S.written out.old; faults = S.faults out.old })
-        (record { written = S.written out.new; faults = S.faults out.new }) result }
-    ensures files_later { F.faults files.old ≤ F.faults files.new }
-    ensures out_later { S.faults out.old ≤ S.faults out.new }
-{
-    if !are_built(asked.options) {
-        return conclude(alloc, Stop::Usage(Usage::NotBuilt), out);
-    }
-    read_and_check(alloc, asked, files, out)
-}
-
 /// The text of a name, where there is one.
 fn text_of(name: &Option<String>) -> Option<&str>
     ensures { option_map (λ text. text.now) result ≡ option_map string_bytes name.now }
@@ -97,13 +78,14 @@ fn text_of(name: &Option<String>) -> Option<&str>
     }
 }
 
-/// Runs a command.
+/// Runs a command. The number of `demo` is one from 0 to 100,000, as the words of each are read.
 fn run_command<F: Files, S: Sink>(
     alloc: Global,
     command: &Command,
     files: &mut F,
     out: &mut S,
 ) -> Status
+    requires { (n : ℕ) → command_in command.now ≡ demo n → n ≤ 100000 }
     ensures ends { Ends (Ok (command_in command.now))
         (record { content = F.content files.old; faults = F.faults files.old })
         (record { content = F.content files.new; faults = F.faults files.new })
@@ -125,11 +107,11 @@ fn run_command<F: Files, S: Sink>(
                 options: *options,
                 names: text_of(names),
             };
-            run_check(alloc, asked, files, out)
+            read_and_check(alloc, asked, files, out)
         }
         Command::Dump { file } => dump(alloc, file.as_str(), files, out),
         Command::Unwind { file, image } => unwind(alloc, file.as_str(), image.as_str(), files, out),
-        Command::Demo { .. } => conclude(alloc, Stop::Usage(Usage::NotBuilt), out),
+        Command::Demo { n } => demo(alloc, *n, out),
         Command::Help => show(help_text(alloc), out),
         Command::Version => show(version_text(alloc), out),
     }
@@ -153,7 +135,7 @@ fn dispatch<F: Files, S: Sink>(
     match read_words(alloc, words) {
         Ok(command) => run_command(alloc, &command, files, out),
         Err(UsageFault::At { word, kind }) => {
-            conclude(alloc, Stop::Usage(Usage::Words { word, kind }), out)
+            conclude(alloc, Stop::Usage(Usage { word, kind }), out)
         }
         Err(UsageFault::NoMemory) => conclude(alloc, Stop::NoMemory, out),
     }
@@ -166,7 +148,8 @@ fn dispatch<F: Files, S: Sink>(
 /// ORC tables added, and with the section symbols that these need; where IN breaks rules of stack validation
 /// it prints the line of each warning and writes nothing. `dump FILE` prints the rows of the ORC tables of the object FILE, one line each.
 /// `unwind FILE IMAGE` prints the frames of the walk that the image IMAGE begins over the rows of FILE,
-/// one line each, and why it stopped. `--help` and `--version` print a text of the program. The first word
+/// one line each, and why it stopped. `demo N` makes an object of N functions, checks it, and prints one line of what it
+/// has. `--help` and `--version` print a text of the program. The first word
 /// at fault is told by one line to the output, and so is every refusal. Where the words, the bytes of the
 /// input and faults of the files and of the output leave no other cause, the answer may still be want of
 /// memory.
@@ -178,8 +161,8 @@ pub fn run<F: Files, S: Sink>(alloc: Global, words: &[String], files: &mut F, ou
         (record { written = S.written out.old; faults = S.faults out.old })
         (record { written = S.written out.new; faults = S.faults out.new }) result }
 
-    // Words at fault, and those that ask for what isn't built yet, are answered as such, unless the line that says so can't be
-    // written or memory runs out; and no other words are.
+    // Words at fault are answered as such, unless the line that says so can't be written or memory runs out; and no other words
+    // are.
     ensures faulty { IsFaulty (meaning (map string_bytes words.now)) → IsUsageAnswer result }
     ensures only_faulty { result ≡ Status.Usage → IsFaulty (meaning (map string_bytes words.now)) }
 
@@ -191,23 +174,30 @@ pub fn run<F: Files, S: Sink>(alloc: Global, words: &[String], files: &mut F, ou
         → meaning (map string_bytes words.now) ≡ Ok (check input output options names)
         → OutUnwinds input output names (F.content files.old) (F.content files.new) }
 
+    // And IN's program keeps what the options promise of every run: calls have frames (`fp`), no indirect branch and no return is
+    // come to that isn't listed as safe (`retpoline`, `rethunk`), and user access is in order (`uaccess`).
+    ensures promises { (input output : List ℕ) (options : Options) (names : Option (List ℕ)) → result ≡ Status.Done
+        → meaning (map string_bytes words.now) ≡ Ok (check input output options names)
+        → InKeepsPromises input options names (F.content files.old) }
+
     // An input that is accepted, with a names file in order where one is given, is refused nowhere: it is done, unless a
-    // file's fault or want of memory is answered. The options ask for no rule that no code looks for yet.
+    // file's fault or want of memory is answered.
     ensures accepts { (input output : List ℕ) (options : Options) (names : Option (List ℕ)) (read table : List ℕ) (lists : NameLists) (held : Content)
-        → meaning (map string_bytes words.now) ≡ Ok (check input output options names) → are_built options ≡ true
+        → meaning (map string_bytes words.now) ≡ Ok (check input output options names)
         → F.content files.old ≡ Some held → reading held input MAX_FILE_BYTES ≡ Ok read → HasNames (Some held) names lists
         → Accepts read lists options table
         → (result ≡ Status.Done) ⊎ ((result ≡ Status.FileFault) ⊎ (result ≡ Status.NoMemory)) }
 
     // Where warnings are answered, the words ask for `check`, IN is read as an object whose program, under the names that the
-    // names file gives, breaks exactly the rules that the warnings tell, and exactly the lines of these were printed.
+    // names file gives, breaks exactly the rules that the warnings tell, and exactly the lines of these were printed; or they
+    // ask for `demo`, and the same holds of the object that it makes.
     ensures warned { result ≡ Status.Warnings
         → PrintsWarnings (meaning (map string_bytes words.now)) (F.content files.old) (S.written out.old) (S.written out.new) }
 
     // An input whose program breaks a rule that is asked for is neither refused nor done: its warnings are answered, unless a
     // fault or want of memory is.
     ensures warns { (input output : List ℕ) (options : Options) (names : Option (List ℕ)) (read : List ℕ) (lists : NameLists) (held : Content)
-        → meaning (map string_bytes words.now) ≡ Ok (check input output options names) → are_built options ≡ true
+        → meaning (map string_bytes words.now) ≡ Ok (check input output options names)
         → F.content files.old ≡ Some held → reading held input MAX_FILE_BYTES ≡ Ok read → HasNames (Some held) names lists
         → BreaksRule read lists options
         → (result ≡ Status.Warnings) ⊎ ((result ≡ Status.FileFault) ⊎ ((result ≡ Status.SinkFault) ⊎ (result ≡ Status.NoMemory))) }
@@ -228,6 +218,12 @@ pub fn run<F: Files, S: Sink>(alloc: Global, words: &[String], files: &mut F, ou
         → meaning (map string_bytes words.now) ≡ Ok (unwind file image) → F.content files.old ≡ Some held
         → reading held file MAX_FILE_BYTES ≡ Ok bytes → reading held image MAX_IMAGE_BYTES ≡ Ok text
         → IsPlaced bytes text stack object rows → IsAnswered result }
+
+    // `demo N` answers and prints what `summary` does of the bytes that are made up, with the title `demo N`.
+    ensures sums_up { (n : ℕ) → meaning (map string_bytes words.now) ≡ Ok (demo n)
+        → SumsUp (demo_title n) (demo_bytes n)
+        (record { written = S.written out.old; faults = S.faults out.old })
+        (record { written = S.written out.new; faults = S.faults out.new }) result }
 
     // A fault is answered only where its count rose in this call, and no count falls.
     ensures file_fault { result ≡ Status.FileFault → Rose (F.faults files.old) (F.faults files.new) }

@@ -3,10 +3,13 @@
 
 mod check;
 mod command;
+mod demo;
 mod lists;
+mod summaries;
 mod warnings;
 mod words;
 mod writing;
 
 pub use command::run;
 pub use command_base::Status;
+pub use summaries::summary;

@@ -39,15 +39,15 @@ pub(super) fn make(alloc: Global, code: &[u8]) -> Result<Vec<u8>, Fail> {
     Ok(build(alloc, &spec)?.ok_or("the code makes an object")?)
 }
 
-/// The object of a call of the function `g`, which is defined elsewhere.
-pub(super) fn make_call(alloc: Global) -> Result<Vec<u8>, Fail> {
-    let mut spec = code_spec(alloc, b"\xE8\0\0\0\0")?;
+/// The object of a code that calls the function `g`, which is defined elsewhere: `offset` is that of the call's displacement.
+pub(super) fn make_call(alloc: Global, code: &[u8], offset: u64) -> Result<Vec<u8>, Fail> {
+    let mut spec = code_spec(alloc, code)?;
     spec.symbols.push(SymSpec {
         home: Home::Undefined,
         ..symbol(alloc, b"g", STB_GLOBAL, STT_NOTYPE, 0)?
     })?;
     let reloc = Reloc {
-        offset: 1,
+        offset,
         kind: R_X86_64_PLT32,
         sym: 3,
         addend: -4,

@@ -1,4 +1,4 @@
-use Rattle.objtool_cli.proofs.EndsLemmas.{changes, file_fault, out_unwinds, dump_answered, rows_dumped, sink_fault, tells_nothing, unchanged, unwind_answered, usage_answered, walk_printed, warnings_printed}
+use Rattle.objtool_cli.proofs.EndsLemmas.{changes, demo_sums_up, file_fault, out_unwinds, promises_kept, dump_answered, rows_dumped, sink_fault, tells_nothing, unchanged, unwind_answered, usage_answered, walk_printed, warnings_printed}
 use Rattle.objtool_cli.proofs.AcceptsLemmas.{all_warned, left}
 use Rattle.objtool_cli.proofs.UsageLemmas.{only_faulty}
 use Rattle.objtool_cli.proofs.command.run.Goals as goal
@@ -22,13 +22,16 @@ pub returns-clause-warned : goal.returns-clause-warned
 returns-clause-warned g c e = warnings_printed _ _ _ _ _ _ c.dispatch.ensures.ends e
 
 pub returns-clause-warns : goal.returns-clause-warns
-returns-clause-warns g c input output options names read lists held n built told is named breaks = all_warned c.one_outcome.ensures _ input output options names read lists held _ _ _ _ _ n built told is named breaks c.dispatch.ensures.ends
+returns-clause-warns g c input output options names read lists held n told is named breaks = all_warned c.one_outcome.ensures _ input output options names read lists held _ _ _ _ _ n told is named breaks c.dispatch.ensures.ends
 
 pub returns-clause-unwinds : goal.returns-clause-unwinds
 returns-clause-unwinds g c input output options names e n = out_unwinds _ _ _ _ _ _ input output options names c.dispatch.ensures.ends e n
 
+pub returns-clause-promises : goal.returns-clause-promises
+returns-clause-promises g c input output options names e n = promises_kept _ _ _ _ _ _ input output options names c.dispatch.ensures.ends e n
+
 pub returns-clause-accepts : goal.returns-clause-accepts
-returns-clause-accepts g c input output options names read table lists held n built told is named accepts = left c.one_outcome.ensures _ input output options names read table lists held _ _ _ _ _ n built told is named accepts c.dispatch.ensures.ends
+returns-clause-accepts g c input output options names read table lists held n told is named accepts = left c.one_outcome.ensures _ input output options names read table lists held _ _ _ _ _ n told is named accepts c.dispatch.ensures.ends
 
 pub returns-clause-dumps : goal.returns-clause-dumps
 returns-clause-dumps g c file e n = rows_dumped _ _ _ _ _ _ file c.dispatch.ensures.ends e n
@@ -47,3 +50,6 @@ returns-clause-faulty g c h = usage_answered _ _ _ _ _ _ c.dispatch.ensures.ends
 
 pub returns-clause-only_faulty : goal.returns-clause-only_faulty
 returns-clause-only_faulty g c e = only_faulty _ _ _ _ _ _ c.dispatch.ensures.ends e
+
+pub returns-clause-sums_up : goal.returns-clause-sums_up
+returns-clause-sums_up g c n asked = demo_sums_up _ _ _ _ _ _ n c.dispatch.ensures.ends asked
