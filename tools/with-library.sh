@@ -7,22 +7,24 @@ root=$(cd "$(dirname "$0")/.." && pwd)
 folder=$1 name=$2 file=$3
 uses=$(sed -n '1s|^// uses: ||p' "$file")
 
-# The libraries of this repository that one stands on.
+# The libraries of this repository that a program stands on, itself or by others, each once.
 needed() {
-    local library
-    for library in $(sed -n "s/^$1://p" "$root/crates.txt"); do
-        if [ -d "$root/crates/$library" ]; then echo "$library"; needed "$library"; fi
+    local todo="$*" first library
+    declare -A seen=()
+    while [ -n "$todo" ]; do
+        read -r first todo <<<"$todo"
+        if [ -n "${seen[$first]:-}" ] || [ ! -d "$root/crates/$first" ]; then continue; fi
+        seen[$first]=1
+        echo "$first"
+        for library in $(sed -n "s/^$first://p" "$root/crates.txt"); do todo="$todo $library"; done
     done
 }
 mkdir -p "$folder/crates/$name/src"
 cp "$file" "$folder/crates/$name/src/main.rt"
 {
     echo "$name: $uses"
-    for first in $uses; do
-        [ -d "$root/crates/$first" ] || continue
-        for library in "$first" $(needed "$first"); do
-            [ -d "$folder/crates/$library" ] || tar -C "$root/crates" --exclude=out/incremental --exclude="out/*_tests*" -cf - "$library" | tar -C "$folder/crates" -xf -
-            grep "^$library:" "$root/crates.txt"
-        done
+    for library in $(needed $uses); do
+        [ -d "$folder/crates/$library" ] || tar -C "$root/crates" --exclude=out/incremental --exclude="out/*_tests*" -cf - "$library" | tar -C "$folder/crates" -xf -
+        grep "^$library:" "$root/crates.txt"
     done
 } | sort -u >"$folder/crates.txt"

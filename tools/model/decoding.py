@@ -1,0 +1,64 @@
+"""Compares what is decoded with the model, over instructions by lot: decoding.py PROGRAM SEED.
+
+Each opcode of the three maps stands with each ModRM byte, behind prefixes by lot; besides there are bytes by lot, and bytes that end
+early. PROGRAM prints what it decodes from records (tools/decoding).
+"""
+
+import random
+import subprocess
+import sys
+import tempfile
+
+from graph import op_text
+from opcodes import Fault, decode
+
+PREFIXES = (0x66, 0x67, 0xF2, 0xF3, 0xF0, 0x2E, 0x36, 0x3E, 0x26, 0x64, 0x65)
+ESCAPES = (b"", b"\x0f", b"\x0f\x38")
+# SIB bytes and displacements that tell stack operations apart.
+SIBS = (0x24, 0x64, 0x20, 0xC5, 0xE5, 0x25, 0x2C)
+
+
+def prefixes(rng: random.Random) -> bytes:
+    code = bytes(rng.choice(PREFIXES) for _ in range(rng.choice((0, 0, 0, 1, 1, 2, 3))))
+    return code + (bytes([rng.choice((0x48, 0x48, 0x40, 0x41, 0x44, 0x4C, rng.randrange(0x40, 0x50)))]) if rng.random() < 0.5 else b"")
+
+
+def codes(rng: random.Random):
+    for escape in ESCAPES:
+        for opcode in range(256):
+            for modrm in range(256):
+                sib = rng.choice(SIBS) if rng.random() < 0.7 else rng.getrandbits(8)
+                yield prefixes(rng) + escape + bytes([opcode, modrm, sib]) + bytes(rng.getrandbits(8) for _ in range(16))
+    for _ in range(20_000):
+        yield bytes(rng.choice((rng.getrandbits(8), rng.choice(PREFIXES), 0x0F, 0x48)) for _ in range(16))
+    for _ in range(20_000):
+        code = prefixes(rng) + rng.choice(ESCAPES) + bytes(rng.getrandbits(8) for _ in range(10))
+        yield code[: rng.randint(0, len(code))]
+
+
+def model_line(code: bytes) -> str:
+    found = decode(code)
+    if isinstance(found, Fault):
+        return {"cut": f"= cut {found.count}", "outside": f"= outside {found.count}", "long": "= long"}[found.why]
+    return f"= {found.length} {op_text(found)}"
+
+
+def main(program: str, seed: str) -> int:
+    records = [code[:16] for code in codes(random.Random(seed))]
+    with tempfile.NamedTemporaryFile() as file:
+        file.write(b"".join(bytes([len(code)]) + code.ljust(16, b"\0") for code in records))
+        file.flush()
+        ran = subprocess.run([program, file.name], capture_output=True, text=True, check=True)
+    told = [line for line in ran.stdout.splitlines() if line.startswith("= ")]
+    different = 0 if len(told) == len(records) else 1
+    for code, line in zip(records, told):
+        if line != model_line(code):
+            different += 1
+            if different <= 20:
+                print(f"{code.hex()}: decoded {line}, by the model {model_line(code)}")
+    print(f"decoding: {len(records)} codes, {different} different")
+    return 1 if different else 0
+
+
+if __name__ == "__main__":
+    sys.exit(main(*sys.argv[1:]))

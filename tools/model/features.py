@@ -1,0 +1,255 @@
+"""Objects written down by hand, one for each feature of the control-flow graph: features.py FOLDER writes them there."""
+
+import sys
+
+from elf import LOCAL, R_32S, R_64, WEAK
+from sketch import CALL, END, PARTIAL, REPLACEMENTS, RESTORE, SAVE, UNDEFINED_HINT, Sketch, alt, hint, to
+
+COLD, AUX = ".text.unlikely", ".altinstr_aux"
+
+# The names that are built in, with one that isn't.
+NEVER = (
+    "panic do_exit make_task_dead kthread_exit __stack_chk_fail fortify_panic usercopy_abort __ubsan_handle_builtin_unreachable "
+    "stop_this_cpu cpu_startup_entry rewind_stack_and_make_dead printk"
+).split()
+SAFE = (
+    "__fentry__ rep_movs_alternative rep_stos_alternative __copy_user_nocache copy_mc_fragile copy_mc_enhanced_fast_string "
+    "ftrace_likely_update memcpy"
+).split()
+
+
+def f(code: str, more=(), **rest) -> Sketch:
+    """Code in the function f, with other sections of code."""
+    return Sketch({".text": code, **dict(more)}, [("f", 0, len(bytes.fromhex(code)))], **rest)
+
+
+FEATURES = {
+    # Branches, calls and returns
+    "branches": f("7403 50 eb01 58 e300 0f8400000000 e900000000 c3"),
+    "branch_to_the_end": f("7402 c3 90"),
+    "branch_between_instructions": f("eb01 b800000000 c3"),
+    "branch_behind_the_section": f("90 e97f000000"),
+    "calls": Sketch({".text": "e807000000 e802000000 c3 90 c3 53 c3"}, [("f", 0, 11), ("g", 12, 1), ("h", 13, 2)]),
+    "calls_out": f("e800000000 e900000000", relocs=[to(1, "g"), to(6, "h")]),
+    "conditional_jump_out": f("0f8400000000 c3", relocs=[to(2, "g")]),
+    "never_returns": Sketch({".text": "e800000000 90 e8f5ffffff c3"}, [("f", 0, 6), ("g", 6, 6)], relocs=[to(1, "panic")]),
+    "names_that_never_return": f("7405 e800000000" * 12 + "c3", relocs=[to(3 + 7 * i, name) for i, name in enumerate(NEVER)]),
+    "jump_to_what_never_returns": f("7405 e900000000 c3", relocs=[to(3, "do_exit")]),
+    "endless": Sketch({".text": "90 ebfd e8f8ffffff c3"}, [("f", 0, 3), ("g", 3, 6)]),
+    "recursion": f("e8fbffffff c3"),
+    "weak_call": Sketch({".text": "e800000000 c3 c3"}, [("f", 0, 6), ("g", 6, 1, WEAK)], relocs=[to(1, "g")]),
+    "weak_jump": Sketch({".text": "7405 e900000000 c3 c3"}, [("f", 0, 8), ("g", 8, 1, WEAK)], relocs=[to(3, "g")]),
+    "weak_jump_to_itself": Sketch({".text": "90 0f8400000000 c3"}, [("f", 0, 8, WEAK)], relocs=[to(3, "f")]),
+    "weak_into_the_middle": Sketch({".text": "e800000000 c3 c3c3"}, [("f", 0, 6), ("g", 6, 2, WEAK)], relocs=[(".text", 1, 4, "g", -3)]),
+    "thunks": f(
+        "e800000000 0f8400000000 0f8500000000 740a e900000000 e900000000 e800000000 c3",
+        relocs=[
+            to(1, "__x86_indirect_thunk_rax"), to(7, "__x86_indirect_thunk_r11"), to(13, "__x86_return_thunk"),
+            to(20, "__x86_return_thunk"), to(25, "__x86_indirect_thunk_array"), to(30, "__x86_return_thunk"),
+        ],
+    ),  # fmt: skip
+    "indirect": f("ffd0 7402 ffe0 ff6708 ff24c500000000"),
+    "other_relocations": f("e800000000 e900000000 eb00 c3", relocs=[to(1, "g", kind=10), to(6, (".text", 0), kind=24), (".text", 11, 15, "g", 0)]),
+    "several_relocations": f("e800000000 c3", relocs=[to(1, "g"), to(1, "panic")]),
+    "call_into_a_function": f("90 e8fbffffff 53 5b e8f9ffffff c3"),
+    "call_to_a_part": Sketch({".text": "e800000000 c3", COLD: "c3"}, [("f", 0, 6), ("f.cold", (COLD, 0), 1, LOCAL)], relocs=[to(1, (COLD, 0))]),
+    "switches": f("0f05 0f07 cb ca0000 ff28 ff18 cf c3"),
+    "returns": f("7401 c3 c20800 f3c3"),
+    "runs_off": f("7405 e800000000", relocs=[to(3, "panic")]),
+    "runs_off_behind_a_call": f("e800000000", relocs=[to(1, "g")]),
+    # Functions
+    "falls_through": Sketch({".text": "90 90 c3"}, [("f", 0, 1), ("g", 1, 2)]),
+    "sibling_jumps": Sketch({".text": "7403 eb02 90 ebfb c3"}, [("f", 0, 5), ("g", 5, 3)]),
+    "jump_into_another": Sketch({".text": "eb01 90 90 c3"}, [("f", 0, 2), ("g", 2, 3)]),
+    "aliases": Sketch({".text": "90 c3 e8f9ffffff c3"}, [("a", 0, 1), ("f", 0, 2), ("g", 2, 6)]),
+    "overlapping": Sketch({".text": "90 74fd 90 ebfb c3 90 c3"}, [("f", 0, 9), ("inner", 3, 3), ("h", 6, 2)]),
+    "parts": Sketch(
+        {".text": "7400 e900000000 c3", COLD: "90 e900000000 90 e900000000 0f0b"},
+        [("f", 0, 8), ("f.cold", (COLD, 0), 6, LOCAL), ("f.cold.1", (COLD, 6), 6, LOCAL), ("f.cold.cold", (COLD, 12), 2, LOCAL)],
+        relocs=[to(3, (COLD, 0)), to(2, (COLD, 6), COLD), to(8, 7, COLD)],
+    ),
+    "no_parts": Sketch({".text": "e301 90 c3 c3 c3 c3"}, [("f", 0, 4), ("f.cold.", 4, 1), ("f.cold.x", 5, 1), (".cold", 6, 1)]),
+    "part_of_an_alias": Sketch({".text": "90 c3 eb00 90"}, [("a", 0, 2), ("f", 0, 1), ("f.cold", 2, 3, LOCAL)]),
+    "part_that_goes_to_the_start": Sketch({".text": "90 c3 ebfc"}, [("f", 0, 2), ("f.cold", 2, 2, LOCAL)]),
+    "without_size": Sketch({".text": "90 c3"}, [("f", 0, 2), ("g", 1, 0), ("h", 0, 0)]),
+    "unchecked": Sketch(
+        {".text": "e806000000 7404 eb03 c3 90 5c 90 c3"}, [("f", 0, 10), ("g", 11, 3)], unchecked=[11]
+    ),
+    "unchecked_calls": Sketch({".text": "e800000000 e803000000 90 c3 c3 90 e8fafffffff4"}, [("f", 0, 12), ("g", 13, 7)], unchecked=[13], relocs=[to(1, 13)]),
+    "jump_into_an_unchecked": Sketch({".text": "eb01 90 90 c3"}, [("f", 0, 2), ("g", 2, 3)], unchecked=[2]),
+    "runs_into_an_unchecked": Sketch({".text": "90 c3"}, [("f", 0, 1), ("g", 1, 1)], unchecked=[1]),
+    "unchecked_part": Sketch({".text": "90 c3 90 c3 90 c3"}, [("f", 0, 2), ("f.cold", 2, 2, LOCAL), ("g", 4, 2)], unchecked=[2]),
+    "listed_outside_code": Sketch({".text": "c3"}, [("f", 0, 1)], {".rodata": 8}, unchecked=[(".rodata", 0), 0]),
+    "no_owner": Sketch(
+        {".text": "7400 e900000000 90 c3", AUX: "7406 e900000000 90 e900000000"},
+        [("f", 0, 9)],
+        relocs=[to(3, (AUX, 0)), to(3, 7, AUX), to(9, 0, AUX)],
+    ),
+    "no_owner_and_unchecked": Sketch({".text": "eb01 90 c3 eb02 90 c3 90 c3"}, [("f", 2, 2), ("g", 8, 2)], unchecked=[8]),
+    "section_without_symbols": Sketch({".text": "c3", ".text.more": "90 ebfd c3"}, [("f", 0, 1)], without_symbol=[".text.more"]),
+    "empty_section": Sketch({".text": "", ".text.more": "c3"}, [("f", (".text.more", 0), 1)]),
+    "fentry": Sketch({".text": "e800000000 e806000000 e801000000 c3 c3 c3"}, [("f", 0, 16), ("__fentry__", 17, 1)], relocs=[to(1, "__fentry__")]),
+    "fentry_by_another_name": Sketch(
+        {".text": "e800000000 e800000000 e800000000 c3 c3 c3 c3"},
+        [("f", 0, 16), ("__fentry__", 16, 1), ("w", 16, 1, WEAK), ("x", 17, 1), ("__fentry__x", 18, 1), ("v", 17, 1, WEAK)],
+        relocs=[to(1, "w"), to(6, "v"), to(11, "__fentry__x")],
+    ),
+    "unchecked_fentry": Sketch({".text": "e801000000 c3 90 c3"}, [("f", 0, 6), ("__fentry__", 6, 2)], unchecked=[6]),
+    # Irets
+    "iret_goes_on": f("50 50 50 50 50 48cf c3"),
+    "iret_at_the_end": f("90 48cf"),
+    "iret_without_owner": Sketch({".text": "c3 58 48cf 90 c3"}, [("f", 0, 1)], hints=[hint(1, PARTIAL, 0, 1)]),
+    "iret_before_another": Sketch({".text": "48cf c3"}, [("f", 0, 2), ("g", 2, 1)]),
+    "iret_in_a_replacement": f("0f1f00 c3", {REPLACEMENTS: "48cf90 90 48cf"}.items(), alternatives=[alt(0, 3, 0, 3), alt(0, 3, 3, 3)]),
+    "iret_before_a_site": f("48cf 90 c3", {REPLACEMENTS: "f4"}.items(), alternatives=[alt(2, 1, 0, 1)]),
+    "marked_iret": f("48cf c3", unreachable=[2]),
+    # Dead ends
+    "dead_ends": f("7402 0f0b 7403 0fb9c0 7402 0f0b e800000000 90 c3", reachable=[4, 11], unreachable=[18, 19], relocs=[to(14, "g")]),
+    "reachable_and_unreachable": f("90 90 0f0b c3", reachable=[1, 4], unreachable=[1, 2]),
+    "marked_branch": f("7401 90 c3", unreachable=[2]),
+    "marked_section_end": f("90 90", unreachable=[2]),
+    "marked_call": f("ffd0", unreachable=[2]),
+    # Static branches and exceptions
+    "static_nop": f("0f1f440000 c3 90 c3", branches=[[0, 6]]),
+    "static_jump": f("eb01 90 c3 90 c3", branches=[[0, 4]]),
+    "static_jump_out": f("e900000000 c3", branches=[[0, 5]], relocs=[to(1, "g")]),
+    "static_thunk": f("e900000000 c3", branches=[[0, 0]], relocs=[to(1, "__x86_return_thunk")]),
+    "static_at_the_end": f("eb02 c3 90 ebfd", branches=[[4, 2]]),
+    "static_dead_end": f("6690 c3 c3", branches=[[0, 3]], unreachable=[2]),
+    "static_twice": f("90 90 90 c3", branches=[[0, 2], [0, 3]]),
+    "static_to_another": Sketch({".text": "90 c3 90 c3 90 c3"}, [("f", 0, 2), ("g", 2, 2), ("h", 4, 2)], branches=[[0, 2], [2, 5], [4, 4]]),
+    "static_to_an_unchecked": Sketch({".text": "90 c3 90 c3"}, [("f", 0, 2), ("g", 2, 2)], branches=[[0, 2]], unchecked=[2]),
+    "static_to_no_boundary": f("90 c3 b800000000", branches=[[0, 3]]),
+    "static_of_no_owner": Sketch({".text": "90 c3 90 90 c3"}, [("f", 0, 2)], branches=[[0, 3], [2, 1], [3, 0]]),
+    "fixup": f("8b07 c3 31c0 c3", fixups=[[0, 3]]),
+    "fixups_twice": f("8b07 90 c3", fixups=[[0, 2], [0, 3], [0, 2]]),
+    "fixup_to_a_part": Sketch({".text": "8b07 c3", COLD: "90 c3"}, [("f", 0, 3), ("f.cold", (COLD, 0), 2, LOCAL)], fixups=[[0, (COLD, 0)], [2, (COLD, 1)]]),
+    "fixup_to_another": Sketch({".text": "8b07 c3 90 c3"}, [("f", 0, 3), ("g", 3, 2)], fixups=[[0, 3], [2, 4]]),
+    "fixup_to_an_unchecked": Sketch({".text": "8b07 c3 90 c3"}, [("f", 0, 3), ("g", 3, 2)], fixups=[[0, 3]], unchecked=[3]),
+    "fixup_of_no_owner": Sketch({".text": "8b07 c3 90 c3"}, [("f", 0, 3)], fixups=[[0, 3], [3, 2]]),
+    "fixup_of_a_call": f("e800000000 90 c3", fixups=[[0, 6]], relocs=[to(1, "panic")]),
+    "fixup_of_a_dead_end": f("0f0b c3", fixups=[[0, 2]]),
+    # Jump tables
+    "table": f("ff24c500000000 c3 90 c3", data={".rodata": 24}, relocs=[(".text", 3, R_32S, (".rodata", 0), 0)] + [(".rodata", 8 * i, R_64, 7 + i, 0) for i in range(3)]),
+    "table_cut_by_the_next": f(
+        "7407 ff24c500000000 ff24c500000000 c3 c3",
+        data={".rodata.x": 32},
+        relocs=[(".text", 5, R_32S, (".rodata.x", 0), 0), (".text", 12, R_32S, (".rodata.x", 16), 0)]
+        + [(".rodata.x", 8 * i, R_64, 16 + i % 2, 0) for i in range(4)],
+    ),
+    "table_of_two_owners": Sketch(
+        {".text": "ff24c500000000 c3 c3 ff24c500000000"},
+        [("f", 0, 8), ("g", 8, 1)],
+        {".rodata": 16},
+        relocs=[(".text", 3, R_32S, (".rodata", 0), 0), (".text", 12, R_32S, (".rodata", 8), 0), (".rodata", 0, R_64, 7, 0), (".rodata", 8, R_64, 9, 0)],
+    ),
+    "table_with_a_gap": f("ff24c500000000 c3 c3", data={".rodata": 24}, relocs=[(".text", 3, R_32S, (".rodata", 0), 0), (".rodata", 0, R_64, 7, 0), (".rodata", 16, R_64, 8, 0)]),
+    "table_elsewhere": f("ff24c500000000 c3", data={".data": 8}, relocs=[(".text", 3, R_32S, (".data", 0), 0), (".data", 0, R_64, 7, 0)]),
+    "table_into_a_site": f(
+        "ff24c500000000 9090 c3", {REPLACEMENTS: "6690"}.items(), data={".rodata": 8},
+        relocs=[(".text", 3, R_32S, (".rodata", 0), 0), (".rodata", 0, R_64, 8, 0)], alternatives=[alt(7, 2, 0, 2)],
+    ),  # fmt: skip
+    # Sites
+    "padding": f("e800000000 c3", {REPLACEMENTS: "6690 ffd0 90"}.items(), relocs=[to(1, "g")], alternatives=[alt(0, 5, 0, 2), alt(0, 5, 2, 3)]),
+    "empty_replacement": f("0f1f00 c3", {REPLACEMENTS: "90"}.items(), alternatives=[alt(0, 3, 0, 0), alt(0, 3, 1, 0)]),
+    "empty_original": f("0f1f00 c3", {REPLACEMENTS: "6690"}.items(), alternatives=[alt(0, 0, 0, 2), alt(0, 3, 0, 2)]),
+    "branch_out_of_a_replacement": f(
+        "0f1f440000 c3 90 c3", {REPLACEMENTS: "e900000000 eb03 0f1f00"}.items(), relocs=[to(1, 6, REPLACEMENTS)], alternatives=[alt(0, 5, 0, 5), alt(0, 5, 5, 5)]
+    ),
+    "branches_in_a_replacement": f(
+        "0f1f8400000000009090 c3", {REPLACEMENTS: "90 7401 90 ebfa eb00 74f5 eb00 7510"}.items(), alternatives=[alt(0, 10, 0, 8), alt(0, 10, 8, 4), alt(0, 10, 0, 10)]
+    ),
+    "short_branch_with_a_relocation": f("6690 c3", {REPLACEMENTS: "eb00"}.items(), relocs=[(REPLACEMENTS, 1, 15, "g", 0)], alternatives=[alt(0, 2, 0, 2)]),
+    "site_at_the_end": f("c3 90 eb00", {REPLACEMENTS: "eb00 6690 90"}.items(), alternatives=[alt(2, 2, 0, 2), alt(2, 2, 2, 2), alt(2, 2, 4, 1)]),
+    "site_before_no_owner": Sketch({".text": "6690 90", REPLACEMENTS: "eb00 6690"}, [("f", 0, 2)], alternatives=[alt(0, 2, 0, 2), alt(0, 2, 2, 2)]),
+    "site_over_an_end": Sketch({".text": "90 90 90 c3", REPLACEMENTS: "9090 eb00 6690 90"}, [("f", 0, 1)], alternatives=[alt(0, 2, 0, 2), alt(0, 2, 2, 2), alt(0, 2, 4, 2), alt(0, 2, 6, 1)]),
+    "site_after_a_site": f("90 90 c3", {REPLACEMENTS: "f4 f5"}.items(), alternatives=[alt(0, 1, 0, 1), alt(1, 1, 1, 1)]),
+    "calls_in_a_replacement": Sketch(
+        {".text": "0f1f440000 c3", REPLACEMENTS: "e8fbffffff e800000000 e8fbffffff"},
+        [("f", 0, 6), ("r", (REPLACEMENTS, 10), 5)],
+        alternatives=[alt(0, 5, 0, 5), alt(0, 5, 5, 5), alt(0, 5, 10, 5)],
+    ),
+    "call_to_padding": f("0f1f840000000000 c3", {REPLACEMENTS: "e800000000"}.items(), alternatives=[alt(0, 8, 0, 5)]),
+    "into_a_site": f("eb01 9090 ebfd 74fb e8f8ffffff c3", {REPLACEMENTS: "6690"}.items(), alternatives=[alt(2, 2, 0, 2)]),
+    "into_a_site_from_itself": f("90 74fd 90 c3", {REPLACEMENTS: "74fe 6690"}.items(), alternatives=[alt(0, 4, 0, 4)]),
+    "into_a_site_of_no_owner": Sketch({".text": "eb02 c3 90 90 c3", REPLACEMENTS: "6690"}, [("f", 0, 3)], alternatives=[alt(3, 2, 0, 2)]),
+    "into_a_site_of_another": Sketch({".text": "eb01 90 90 c3", REPLACEMENTS: "6690"}, [("f", 0, 2), ("g", 2, 3)], alternatives=[alt(2, 2, 0, 2)]),
+    "nested_sites": f("0f1f00 c3", {REPLACEMENTS: "90 eb00 f4f4 9090"}.items(), alternatives=[alt(0, 3, 0, 3), [(REPLACEMENTS, 1), (REPLACEMENTS, 3), bytes([1, 0, 0, 0, 2, 2])]]),
+    "replacement_in_the_function": f("0f1f00 7403 90 f4 f4 c3", alternatives=[alt(0, 3, 5, 3, sec=".text")]),
+    "marks_in_a_replacement": f(
+        "0f1f440000 c3 90 c3", {REPLACEMENTS: "90 8b07 0f0b 9090"}.items(),
+        branches=[[(REPLACEMENTS, 0), 6]], fixups=[[(REPLACEMENTS, 1), 7]], reachable=[(REPLACEMENTS, 5)], unreachable=[(REPLACEMENTS, 3)],
+        alternatives=[alt(0, 5, 0, 5)],
+    ),  # fmt: skip
+    "marks_at_padding": f(
+        "0f1f440000 c3 90 c3", {REPLACEMENTS: "90 90 90"}.items(),
+        branches=[[(REPLACEMENTS, 1), 6]], fixups=[[(REPLACEMENTS, 1), 7]], unreachable=[(REPLACEMENTS, 2)], hints=[hint((REPLACEMENTS, 1), SAVE)],
+        alternatives=[alt(0, 5, 0, 1)],
+    ),  # fmt: skip
+    # Hints
+    "hints": f("90 90 90 90 90 c3", hints=[hint(i, kind, 16) for i, kind in enumerate((UNDEFINED_HINT, END, CALL, SAVE, RESTORE))]),
+    "saves": Sketch(
+        {".text": "90 90 90 90 90 c3 90 c3 90 90"}, [("f", 0, 6), ("g", 6, 2)], hints=[hint(1, SAVE), hint(2, SAVE), hint(3, RESTORE), hint(4, RESTORE), hint(7, RESTORE), hint(8, SAVE), hint(9, RESTORE), hint(0, RESTORE)]
+    ),
+    "saves_of_no_owner": Sketch({".text": "90 c3 90 90"}, [("f", 0, 2)], hints=[hint(0, SAVE), hint(2, SAVE), hint(3, RESTORE)]),
+    "saves_in_two_variants": Sketch(
+        {".text": "554889e54883ec10904883c41090904883c4105dc3", REPLACEMENTS: "0f1f4000900f1f4000"}, [("f", 0, 21)],
+        alternatives=[alt(4, 9, 0, 9)], hints=[hint(8, SAVE), hint((REPLACEMENTS, 4), SAVE), hint(14, RESTORE)],
+    ),  # fmt: skip
+    "saves_in_a_replacement": Sketch(
+        {".text": "90 0f1f00 90 c3", REPLACEMENTS: "90 90 90"}, [("f", 0, 6)],
+        alternatives=[alt(1, 3, 0, 3)], hints=[hint((REPLACEMENTS, 1), SAVE), hint(0, SAVE), hint((REPLACEMENTS, 2), RESTORE), hint(4, RESTORE)],
+    ),  # fmt: skip
+    "hints_of_an_unchecked": f("90 90 c3", hints=[hint(0, SAVE), hint(1, RESTORE)], unchecked=[0]),
+    # User access; `rep_movs_alternative` is safe
+    "access": f("0f01cb 90 0f01ca c3"),
+    "access_twice": f("0f01cb 0f01cb 0f01ca 0f01ca c3"),
+    "access_left_on": f("0f01cb 7401 c3 ffe0"),
+    "access_on_at_a_join": f("7403 0f01cb 90 0f01ca c3"),
+    "access_and_calls": Sketch(
+        {".text": "0f01cb e810000000 e800000000 ffd0 e800000000 0f01ca c3 c3 c3"}, [("f", 0, 24), ("g", 24, 1), ("w", 25, 1, WEAK)],
+        relocs=[to(9, "rep_movs_alternative"), to(16, "w")],
+    ),  # fmt: skip
+    "access_and_jumps": Sketch(
+        {".text": "0f01cb 740a 7509 0f8000000000 ffe0 c3 c3"}, [("f", 0, 15), ("g", 15, 1), ("rep_stos_alternative", 16, 1)], relocs=[to(9, "h")]
+    ),
+    "access_and_popf": f("9c 9d 0f01cb 9c 9d 0f01ca c3"),
+    "access_and_faults": f("0f01cb 8b07 0f01ca c3 0f01ca c3", fixups=[[0, 8], [3, 9]]),
+    "access_in_a_safe_function": Sketch({".text": "90 0f01cb c3 0f01ca 0f01cb c3 c3"}, [("rep_movs_alternative", 0, 5), ("copy_mc_fragile", 5, 7), ("__fentry__", 12, 1)]),
+    "access_in_a_part": Sketch(
+        {".text": "7405 e900000000 c3", COLD: "0f8400000000 e900000000"},
+        [("rep_movs_alternative", 0, 8), ("rep_movs_alternative.cold", (COLD, 0), 11, LOCAL)],
+        relocs=[to(3, (COLD, 0)), to(2, "g", COLD), to(7, 7, COLD)],
+    ),
+    "access_in_no_owner": Sketch(
+        {".text": "0f8400000000 c3 0f8400000000 c3", AUX: "0f01ca c3 0f01cb c3"},
+        [("f", 0, 7), ("rep_movs_alternative", 7, 7)],
+        relocs=[to(2, (AUX, 0)), to(9, (AUX, 0))],
+        hints=[hint((AUX, 4), 5)],
+    ),
+    "access_by_smap": f(
+        "909090 ffd0 909090 c3", {REPLACEMENTS: "0f01cb 0f01ca 0f01cb 0f1f00"}.items(),
+        alternatives=[alt(0, 3, 0, 3, 308), alt(5, 3, 3, 3, 308), alt(0, 3, 6, 3, 308, flags=1), alt(5, 3, 9, 3, 1)],
+    ),  # fmt: skip
+    "access_by_smap_at_an_entry": Sketch({".text": "909090 c3 909090 c3", REPLACEMENTS: "0f01cb 0f01cb"}, [("f", 0, 4)], alternatives=[alt(0, 3, 0, 3, 308), alt(4, 3, 3, 3, 308)], hints=[hint(4, 5), hint((REPLACEMENTS, 0), CALL)]),
+    "access_started_in_a_site": Sketch({".text": "c3 9090 0f01ca c3", REPLACEMENTS: "6690"}, [("f", 0, 1)], alternatives=[alt(1, 2, 0, 2, 308)], hints=[hint(1, 5), hint(2, CALL), hint(6, SAVE)]),
+    "safe_names": f("0f01cb" + "7405 e900000000" * 8 + "0f01ca c3", relocs=[to(6 + 7 * i, name) for i, name in enumerate(SAFE)]),
+    # Thunks that an option asks for
+    "safe_branches": f("7402 ffe0 7402 ffe0 7401 c3 ffd0 c3", {REPLACEMENTS: "ffd0 c3"}.items(), safe=[2, 10, (REPLACEMENTS, 2)]),
+    # Frames
+    "frames": f("55 4889e5 ffd0 50 ffd0 4883e4f0 ffd0 c9 e800000000 c3", relocs=[to(17, "__fentry__")]),
+    "frames_saved_elsewhere": f("50 55 4889e5 ffd0 5d 59 c3"),
+    "frames_and_ends": f("ffd0 0f0b", hints=[hint(0, END)]),
+}
+
+
+def main(folder: str) -> int:
+    for name, sketch in FEATURES.items():
+        with open(f"{folder}/{name}.o", "wb") as file:
+            file.write(sketch.object())
+    print(f"{len(FEATURES)} objects")
+    return 0
+
+
+if __name__ == "__main__":
+    sys.exit(main(*sys.argv[1:]))

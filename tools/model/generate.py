@@ -1,0 +1,199 @@
+"""Made-up objects: functions, parts, unowned code and special sections by lot, right or wrong in one place.
+
+`made_object(seed)` is the same object for the same seed. generate.py FOLDER COUNT SEED writes some of them.
+"""
+
+import random
+import sys
+from typing import Optional
+
+from assemble import Assembler, Label
+from bodies import PLAIN, Body, Frame
+from elf import FUNC, GLOBAL, LOCAL, NOTYPE, WEAK
+from layout import Layout, TooFar
+from mutate import spoil
+from stray import misplace, stray
+from world import World
+
+NAMES = ["f", "g0", "h", "copy_data", "memset", "safe_one", "rep_movs_alternative", "stop_here", "panic", "__fentry__"]
+NAMES += ["__x86_return_thunk", "__x86_indirect_thunk_rax", "odd\\name", "with blank", "größe", "x.cold.3"]
+
+
+class Maker:
+    """Makes one object."""
+
+    def __init__(self, seed, short: bool = True, wrong_at: Optional[int] = None):
+        self.rng = random.Random(f"{seed}/{short}")
+        self.asm = Assembler(self.rng, short)
+        self.world = World(self.asm, self.rng)
+        self.asm.wrong_at = wrong_at
+        self.asm.wrong = lambda code: spoil(random.Random(f"{seed}/wrong"), code)
+        self.budget = self.rng.choice((1, 1, 2, 2, 3))
+
+    def make(self) -> Assembler:
+        rng, asm = self.rng, self.asm
+        text = asm.section(".text")
+        plans = []
+        for i in range(rng.randint(1, 4)):
+            name = rng.choice(NAMES) if rng.random() < 0.25 else f"f{i}"
+            sec = asm.section(rng.choice((".init.text", ".init.text", ".text\\ odd"))) if rng.random() < 0.15 else text
+            plans.append((name if all(name != other for other, *_ in plans) else f"f{i}", sec, Label(sec)))
+        self.world.functions = [label for *_, label in plans]
+        kinds = [rng.choice(("plain",) * 6 + ("leaf", "stopper", "ended", "unchecked", "weak")) for _ in plans]
+        self.world.weak = [name for (name, *_), kind in zip(plans, kinds) if kind == "weak"]
+        self.world.stoppers = [label for (*_, label), kind in zip(plans, kinds) if kind == "stopper"]
+        for (name, sec, label), kind in zip(plans, kinds):
+            self.function(name, sec, label, kind)
+            if rng.random() < 0.15:
+                self.unowned(sec)
+            for _ in range(rng.choice((0, 0, 1, 3))):
+                asm.emit(sec, rng.choice(("cc", "90", "6690")))
+        self.sections()
+        return asm
+
+    def function(self, name: str, sec: int, label: Label, kind: str) -> None:
+        rng, asm, world = self.rng, self.asm, self.world
+        label.bind(sec, asm.end(sec))
+        body, frame = Body(asm, rng, sec, world), Frame()
+        if kind == "ended":
+            world.hint(body, rng.choice((0, 1)))
+        if rng.random() < 0.2:
+            body.emit("f30f1efa")
+        if kind == "unchecked":
+            for _ in range(rng.randint(1, 4)):
+                asm.emit(sec, rng.choice((*PLAIN, "5c", "c9", "ffe0", "74fe", "e800000000", "0f0b", "48cf", "c3")))
+            asm.listed(".discard.func_stack_frame_non_standard", label)
+        elif kind == "leaf":
+            body.go_out(frame)
+        else:
+            make = body.frame_pointer if rng.random() < 0.25 else body.block
+            make(frame, self.budget)
+        if kind in ("stopper", "ended"):
+            asm.branch_out(sec, "e8", rng.choice(world.never)) if rng.random() < 0.5 else body.emit("0f0b")
+        elif kind != "leaf":
+            body.go_out(frame)
+        parts = self.later(name, body)
+        size = asm.end(sec) - label.off
+        bind = WEAK if kind == "weak" else rng.choice((GLOBAL, GLOBAL, LOCAL))
+        asm.define(name, label, size if rng.random() < 0.98 else 0, bind)
+        if rng.random() < 0.1:
+            asm.define(name + "_alias", label, rng.choice((size, max(1, size - 1), 1)), rng.choice((GLOBAL, WEAK, LOCAL)), rng.choice((FUNC, NOTYPE)))
+        for part, start, part_size in parts:
+            asm.define(part, start, part_size, LOCAL)
+
+    def later(self, name: str, body: Body) -> list[tuple[str, Label, int]]:
+        """The code that stands elsewhere; tells the parts of the function that it makes."""
+        rng, asm = self.rng, self.asm
+        parts, waiting, turns = [], list(body.later), 0
+        body.later.clear()
+        while waiting and turns < 12:
+            label, frame, back = waiting.pop(0)
+            turns += 1
+            sec = label.home if label.home is not None else body.sec
+            label.bind(sec, asm.end(sec))
+            owned = sec == body.sec or asm.parts[sec].name == b".text.unlikely"
+            there = Body(asm, rng, sec, self.world, owned and body.in_function)
+            if not owned:
+                self.world.shared.append((label, frame))
+            there.labels = body.labels
+            there.block(frame, 0)
+            if not frame.access and rng.random() < 0.15:
+                there.go_out(frame)
+            else:
+                asm.branch(sec, "e9", back, relocated=rng.random() < 0.2)
+            waiting += there.later
+            if sec != body.sec and owned:
+                parts.append((f"{name}.cold" + (f".{len(parts)}" if parts else ""), label, asm.end(sec) - label.off))
+        for label, *_ in waiting:
+            label.bind(body.sec, 0)
+        return parts
+
+    def unowned(self, sec: int) -> None:
+        """Code of no function: an interrupt's gate, code that a hint begins, or code that nothing comes to."""
+        rng, asm, world = self.rng, self.asm, self.world
+        body, frame = Body(asm, rng, sec, world, False), Frame()
+        kind = rng.choice(("gate", "full", "func", "end", "junk", "call"))
+        if kind == "gate":
+            pushed = rng.choice((0, 8))
+            world.hint(body, 4, pushed, 1)
+            for code in ["50"] * (pushed == 0) + ["0f1f00"]:
+                body.emit(code)
+            body.emit("58" if rng.random() < 0.8 else "4883c408")
+            body.emit("48cf")
+        elif kind == "full":
+            world.hint(body, 3, rng.choice((0, 8)), 1)
+            for code in ("415f", "415e", "415d", "415c", "5d", "5b"):
+                body.emit(code)
+            body.emit("4883c450")
+            body.emit("48cf")
+        elif kind == "junk":
+            for _ in range(rng.randint(1, 4)):
+                asm.emit(sec, rng.choice((*PLAIN, "5c", "c9", "c3", "74fe")))
+        else:
+            world.hint(body, {"func": 5, "end": rng.choice((0, 1)), "call": 2}[kind], 24)
+            body.block(frame, 1)
+            if kind == "call":
+                body.emit("4883c410")
+            body.emit(rng.choice(("0f07", "48cf", "0f0b"))) if kind == "end" else body.go_out(frame)
+        self.later("", body)
+
+    def sections(self) -> None:
+        """What stands beside the code: empty sections, sections without symbols, labels, functions that overlap."""
+        rng, asm = self.rng, self.asm
+        if rng.random() < 0.1:
+            asm.section(".text.empty")
+        if rng.random() < 0.1:
+            sec = asm.section(".text.more")
+            for _ in range(rng.randint(1, 3)):
+                asm.emit(sec, rng.choice((*PLAIN, "c3", "e9fbffffff")))
+        symbols = {symbol.label.sec for symbol in asm.symbols if symbol.bind != WEAK and symbol.kind == FUNC}
+        for sec, part in enumerate(asm.parts[1:], 1):
+            part.has_symbol = rng.random() < (0.8 if sec in symbols else 0.5 if part.name == b".text.more" else 0.99)
+        text = asm.section(".text")
+        if rng.random() < 0.06 and asm.end(text) > 4:
+            label = Label()
+            label.bind(text, rng.randint(0, asm.end(text) - 2))
+            asm.define(rng.choice(("inner", "f0.cold", "f0.cold.7", "f1.cold.x")), label, rng.randint(1, asm.end(text) - label.off), LOCAL)
+        if rng.random() < 0.05 and asm.end(text):
+            label = Label()
+            label.bind(text, rng.randint(0, asm.end(text) - 1))
+            asm.define("nowhere", label, 0, LOCAL, rng.choice((FUNC, NOTYPE)))
+        if rng.random() < 0.2:
+            stray(asm, self.world, rng)
+
+
+def built(seed, wrong_at: Optional[int] = None) -> Assembler:
+    """The object before it is put together, with short branches where they reach."""
+    for short in (True, False):
+        try:
+            Layout(Maker(seed, short, wrong_at).make(), seed)
+            return Maker(seed, short, wrong_at).make()
+        except TooFar:
+            continue
+    raise TooFar
+
+
+def made_object(seed) -> bytes:
+    """An object: in about three of five cases right as made, else wrong in one place."""
+    rng = random.Random(f"{seed}/how")
+    asm = built(seed)
+    how = rng.random()
+    try:
+        if how < 0.2:
+            asm = built(seed, rng.randrange(asm.emitted))
+        elif how < 0.4:
+            misplace(asm, rng)
+        return Layout(asm, seed).object()
+    except TooFar:
+        return Layout(built(seed), seed).object()
+
+
+def main(folder: str, count: str, seed: str) -> int:
+    for number in range(int(count)):
+        with open(f"{folder}/made{number}.o", "wb") as file:
+            file.write(made_object(f"{seed}/{number}"))
+    return 0
+
+
+if __name__ == "__main__":
+    sys.exit(main(*sys.argv[1:]))

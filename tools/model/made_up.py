@@ -1,0 +1,139 @@
+"""Compares the built program with the model over made-up objects: made_up.py PROGRAM COUNT SEED KEPT [FOLDER].
+
+Object after object, the program checks it with the options of its turn, in a folder of its own. Its status, its lines and what it
+writes are compared with the model's answer, and where the object is accepted, its rows with those that `dump` prints. The
+program must leave all other files alone. Before the made-up objects come the worked ones and those of single features. Objects
+with different answers are kept in the folder KEPT. The objects of FOLDER, as those of a kernel's build, are changed by lot too;
+where they are large, of the changed ones only the form of the answer is asked.
+"""
+
+import hashlib
+import itertools
+import os
+import random
+import sys
+from typing import NamedTuple, Optional
+
+from check import Answer, check, options_of, read_file
+from containers import container_by_lot
+from entries import entries_by_lot
+from features import FEATURES
+from generate import made_object
+from mutate import mutated
+from program import Program, Run, differences, is_well_formed
+from soup import soup
+from worked import WORKED
+
+OPTIONS = ("fp", "no-unreachable", "retpoline", "rethunk", "uaccess")
+LARGE = 20_000
+NAMES_FILES = [
+    b"noreturn stop_here\nuaccess safe_one\n",
+    b"# names\n\nuaccess memcpy\nuaccess out\nnoreturn g",
+    b"",
+    b"uaccess f0\nuaccess f1\nuaccess memset\nuaccess g\n",
+    b"\n\nnoreturn memcpy\nnoreturn f0\nnoreturn f1\n#",
+]
+FAULTY_NAMES_FILES = [
+    b"noreturn out\nnoreturn\n",
+    b"uaccess f0\nuses f1\n",
+    b"noreturn  g\n",
+    b"noreturn g \n",
+    b"uaccess \x7f",
+    b" \n",
+    b"uaccess\tg",
+    b"noreturn g\r\n",
+    b"noreturn g h",
+    b"\n#\nNoreturn g",
+]
+
+
+class Case(NamedTuple):
+    """An object to be checked with some options."""
+
+    what: str
+    data: bytes
+    options: list[str]
+    names: Optional[bytes]
+    # Whether the model answers it too.
+    compared: bool = True
+
+
+def worked_cases():
+    """The worked objects with their options, and the objects of single features with no option and with all."""
+    for what, data, given, _ in WORKED:
+        yield Case(what, data, [f"--{name}" for name in given if name != "names"], given.get("names"))
+    for what, sketch in FEATURES.items():
+        yield Case(what, sketch.object(), [], None)
+        yield Case(what, sketch.object(), [f"--{name}" for name in OPTIONS], None)
+
+
+def turn_of(number: int) -> tuple[list[str], Optional[bytes]]:
+    """The options of the turn, of which there is one for each combination, and a names file or none."""
+    combinations = list(itertools.product((False, True), repeat=len(OPTIONS) + 1))
+    *given, named = combinations[number % len(combinations)]
+    options = [f"--{name}" for name, there in zip(OPTIONS, given) if there]
+    turn = number // len(combinations)
+    files = FAULTY_NAMES_FILES if turn % 30 == 0 else NAMES_FILES
+    return options, files[turn % len(files) if files is NAMES_FILES else turn // 30 % len(files)] if named else None
+
+
+def object_of(name: str, real: list[str]) -> tuple[str, bytes]:
+    """What the object of this name is, and the object."""
+    rng = random.Random(f"{name}/kind")
+    how = rng.random()
+    if real and how < 0.1:
+        path = rng.choice(real)
+        return f"changed {os.path.basename(path)}", mutated(read_file(path), rng)
+    for share, kind, make in ((0.2, "instructions", soup), (0.3, "entries", entries_by_lot), (0.4, "container", container_by_lot)):
+        if how < share:
+            return kind, make(name)
+    made = made_object(name)
+    return ("changed", mutated(made, rng)) if how < 0.5 else ("made", made)
+
+
+def made_cases(count: int, seed: str, real: list[str]):
+    for number in range(count):
+        what, data = object_of(f"{seed}/{number}", real)
+        compared = not what.startswith("changed ") or len(data) <= LARGE
+        yield Case(f"{number} ({what})", data, *turn_of(number), compared)
+
+
+def keep(folder: str, name: str, case: Case, run: Run, answer: Optional[Answer]) -> None:
+    """Keeps the object and both answers."""
+    os.makedirs(folder, exist_ok=True)
+    with open(f"{folder}/{name}.o", "wb") as file:
+        file.write(case.data)
+    with open(f"{folder}/{name}.txt", "w", encoding="utf-8") as file:
+        print("options:", *case.options, "names file:", case.names, file=file)
+        print("program:", run.status, *run.lines, *run.rows, run.fault, sep="\n", file=file)
+        if answer is not None:
+            print("model:", answer.status, *answer.lines, *answer.rows, sep="\n", file=file)
+
+
+def is_right(program: Program, case: Case, kept: str, statuses: dict[int, int]) -> bool:
+    """Checks a case, and tells what is different."""
+    run = program.check(case.data, case.options, case.names)
+    answer = check(case.data, options_of(case.options), case.names) if case.compared else None
+    found = differences(run, answer) if answer is not None else [] if is_well_formed(run) else ["form of the answer"]
+    statuses[run.status] = statuses.get(run.status, 0) + 1
+    if found:
+        name = hashlib.sha256(case.data).hexdigest()[:12]
+        print(f"object {case.what}, {' '.join(case.options)}: different {', '.join(found)}; kept as {kept}/{name}.o", flush=True)
+        keep(kept, name, case, run, answer)
+    return not found
+
+
+def main(path: str, count: str, seed: str, kept: str, folder: str = "") -> int:
+    program = Program(path)
+    real = sorted(f"{folder}/{name}" for name in os.listdir(folder) if name.endswith(".o")) if folder else []
+    statuses: dict[int, int] = {}
+    cases = itertools.chain(worked_cases(), made_cases(int(count), seed, real))
+    right = [is_right(program, case, kept, statuses) for case in cases]
+    different = right.count(False)
+    print(", ".join(f"status {status}: {number}" for status, number in sorted(statuses.items())))
+    print(f"{len(right)} objects, {different} different")
+    return 1 if different else 0
+
+
+if __name__ == "__main__":
+    sys.exit(main(*sys.argv[1:]))

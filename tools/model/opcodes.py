@@ -1,0 +1,307 @@
+"""Instructions: reading one off the front of some bytes, and its operation: what it does to rsp, rbp and the flow of control.
+
+A spelling of an instruction is: legacy prefixes in any number and order, at most one REX prefix, the opcode (one byte, `0F` and
+a byte, or `0F 38` and a byte), ModRM with SIB and displacement where the opcode has them, and the immediate. What follows the
+prefixes is told by the opcode map.
+"""
+
+from typing import NamedTuple, Optional
+
+from opcode_map import Entry, Prefixes, lookup, map_has_some
+
+LEGACY = {0x66, 0x67, 0x2E, 0x36, 0x3E, 0x26, 0x64, 0x65, 0xF0, 0xF2, 0xF3}
+LONGEST = 15
+RSP, RBP = 4, 5
+
+
+class Insn(NamedTuple):
+    """An instruction: its length, its operation, and that operation's number or distance, if it has one."""
+
+    length: int
+    op: str
+    value: Optional[int] = None
+    # Of a branch: whether its distance has four bytes, so that a relocation can name its target.
+    wide: bool = False
+
+
+class Fault(NamedTuple):
+    """Why there is no instruction: `outside` the map as the first `count` bytes show, `cut` after `count` bytes, or too `long`."""
+
+    why: str
+    count: int = 0
+
+
+class Stop(Exception):
+    """Reading ended without an instruction."""
+
+    def __init__(self, fault: Fault):
+        super().__init__(fault)
+        self.fault = fault
+
+
+class Reader:
+    """Reads the bytes of an instruction, at most 15."""
+
+    def __init__(self, code: bytes, start: int):
+        self.code, self.start, self.at = code, start, 0
+        # How many bytes an instruction could have here.
+        self.there = len(code) - start
+
+    def byte(self) -> int:
+        if self.at == LONGEST:
+            raise Stop(Fault("long"))
+        if self.at == self.there:
+            raise Stop(Fault("cut", self.at))
+        self.at += 1
+        return self.code[self.start + self.at - 1]
+
+    def number(self, count: int) -> int:
+        """A signed number."""
+        return int.from_bytes(bytes(self.byte() for _ in range(count)), "little", signed=True)
+
+    def outside(self) -> Stop:
+        """The byte that was read last begins no spelling with those before it."""
+        return Stop(Fault("outside", self.at))
+
+
+class Spelling(NamedTuple):
+    """The parts of a spelling that decide its operation."""
+
+    prefixes: Prefixes
+    segment: bool  # 64 or 65 is among the prefixes
+    rex: Optional[int]
+    map: int
+    opcode: int
+    entry: Entry
+    modrm: Optional[int]
+    sib: Optional[int]
+    displacement: Optional[int]
+    displacement_at: int
+    immediate: Optional[int]
+    length: int
+
+    def rex_bit(self, bit: int) -> int:
+        """REX.W is bit 3, R is 2, X is 1, B is 0."""
+        return (self.rex or 0) >> bit & 1
+
+    @property
+    def wide(self) -> bool:
+        return self.rex_bit(3) == 1
+
+    @property
+    def mod(self) -> Optional[int]:
+        return self.modrm >> 6 if self.modrm is not None else None
+
+    @property
+    def reg(self) -> int:
+        """The register of ModRM's reg field."""
+        return (self.modrm >> 3 & 7) + 8 * self.rex_bit(2)
+
+    @property
+    def digit(self) -> int:
+        """ModRM's reg field, where it tells instructions apart."""
+        return self.modrm >> 3 & 7
+
+    @property
+    def rm(self) -> Optional[int]:
+        """The register of ModRM's rm field, where it is one."""
+        return (self.modrm & 7) + 8 * self.rex_bit(0) if self.mod == 3 else None
+
+    @property
+    def low(self) -> int:
+        """The register of the opcode's low three bits."""
+        return (self.opcode & 7) + 8 * self.rex_bit(0)
+
+
+def read_spelling(code: bytes, start: int) -> Spelling:
+    """The spelling that stands there. Raises Stop."""
+    reader = Reader(code, start)
+    seen = set()
+    byte = reader.byte()
+    while byte in LEGACY:
+        seen.add(byte)
+        byte = reader.byte()
+    prefixes = Prefixes(0x66 in seen, 0x67 in seen, 0xF2 in seen, 0xF3 in seen)
+    rex = byte if 0x40 <= byte <= 0x4F else None
+    opcode = byte if rex is None else reader.byte()
+    number = 1
+    while (number, opcode) in ((1, 0x0F), (2, 0x38)):
+        number += 1
+        if not map_has_some(prefixes, number):
+            raise reader.outside()
+        opcode = reader.byte()
+    found = lookup(prefixes, number, opcode)
+    if found is None:
+        raise reader.outside()
+    modrm = sib = displacement = None
+    displacement_at = 0
+    if isinstance(found, dict):
+        modrm = reader.byte()
+        if modrm not in found:
+            raise reader.outside()
+        found = found[modrm]
+        sib, displacement_at, displacement = read_address(reader, modrm)
+    immediate = read_immediate(reader, found.imm, prefixes.opsize, rex is not None and rex & 8 != 0)
+    segment = 0x64 in seen or 0x65 in seen
+    return Spelling(prefixes, segment, rex, number, opcode, found, modrm, sib, displacement, displacement_at, immediate, reader.at)
+
+
+def read_address(reader: Reader, modrm: int) -> tuple[Optional[int], int, Optional[int]]:
+    """SIB, and where the displacement stands and its number."""
+    mod, rm = modrm >> 6, modrm & 7
+    if mod == 3:
+        return None, 0, None
+    sib = reader.byte() if rm == 4 else None
+    base = rm if sib is None else sib & 7
+    count = {0: 4 if base == 5 else 0, 1: 1, 2: 4}[mod]
+    at = reader.at
+    return sib, at, reader.number(count) if count else None
+
+
+def read_immediate(reader: Reader, imm: str, opsize: bool, wide: bool) -> Optional[int]:
+    """The immediate: ib, iw and id have 1, 2 and 4 bytes, iz 2 under 66 without REX.W, else 4; iv is iz, or 8 bytes with REX.W."""
+    if not imm:
+        return None
+    iz = 2 if opsize and not wide else 4
+    count = {"ib": 1, "iw": 2, "id": 4, "iw ib": 3, "iz": iz, "iv": 8 if wide else iz, "moffs": 8}[imm]
+    return reader.number(count)
+
+
+def decode(code: bytes, start: int = 0):
+    """The instruction in front of the bytes from `start` on, or the Fault: why there is none."""
+    try:
+        spelling = read_spelling(code, start)
+    except Stop as stop:
+        return stop.fault
+    op, *rest = operation(spelling)
+    return Insn(spelling.length, op, *rest)
+
+
+def written(s: Spelling) -> set[int]:
+    """The registers that the instruction writes, by its entry in the map."""
+    registers = set()
+    for write in s.entry.writes.split():
+        register = {"m": s.rm if s.modrm is not None else None, "r": s.reg if s.modrm is not None else None, "o": s.low}[write[0]]
+        high_byte = write.endswith("b") and s.rex is None and register in range(4, 8)
+        if register is not None and not high_byte:
+            registers.add(register)
+    return registers
+
+
+def sp_distance(s: Spelling) -> Optional[int]:
+    """k where the operand is k(rsp), addressed with no other prefix."""
+    if s.mod is None or s.mod == 3 or s.prefixes.addrsize or s.segment or s.sib is None:
+        return None
+    plain = s.sib & 7 == 4 and s.sib >> 3 & 7 == 4 and not s.rex_bit(0) and not s.rex_bit(1)
+    return (s.displacement or 0) if plain else None
+
+
+def bp_distance(s: Spelling) -> Optional[int]:
+    """k where the operand is k(rbp), addressed with no other prefix."""
+    if s.mod not in (1, 2) or s.prefixes.addrsize or s.segment:
+        return None
+    return s.displacement if s.modrm & 7 == 5 and not s.rex_bit(0) else None
+
+
+def operation(s: Spelling) -> tuple:
+    """The operation's name, with its number and whether it is a wide branch, where it has them."""
+    found = flow_operation(s) or stack_operation(s) or pointer_operation(s)
+    if found:
+        return found
+    registers = written(s)
+    return ("SpOther",) if RSP in registers else ("BpOther",) if RBP in registers else ("Plain",)
+
+
+ONE_BYTE_OPS = {
+    0xC3: "Ret", 0xC2: "RetImm", 0xC9: "Leave", 0xC8: "SpOther", 0xCA: "Switch", 0xCB: "Switch", 0xCC: "Int3",
+    0x68: "Push", 0x6A: "Push", 0x9C: "Push", 0x9D: "Popf",
+}  # fmt: skip
+TWO_BYTE_OPS = {
+    0x0B: "Ud2", 0xB9: "Ud2", 0x1F: "Nop", 0x05: "Switch", 0x07: "Switch", 0x34: "Switch", 0x35: "Switch",
+    0xA0: "Push", 0xA8: "Push", 0xA1: "Pop", 0xA9: "Pop",
+}  # fmt: skip
+
+
+def flow_operation(s: Spelling) -> Optional[tuple]:
+    """Calls, branches, returns, and what one opcode tells."""
+    if s.map == 1:
+        if s.opcode in ONE_BYTE_OPS:
+            return (ONE_BYTE_OPS[s.opcode],)
+        if s.opcode == 0x90 and not s.rex_bit(0):
+            return ("Nop",)
+        if s.opcode == 0xCF:
+            return ("Iret",) if s.wide else ("Switch",)
+        if s.opcode == 0xE8:
+            return "Call", s.immediate, True
+        if s.opcode in (0xE9, 0xEB):
+            return "Jmp", s.immediate, s.opcode == 0xE9
+        if 0x70 <= s.opcode <= 0x7F or 0xE0 <= s.opcode <= 0xE3:
+            return "Jcc", s.immediate, False
+        if s.opcode == 0xFF and s.digit in (2, 3, 4, 5):
+            return {2: ("CallInd",), 4: ("JmpInd", table_field(s))}.get(s.digit, ("Switch",))
+    if s.map == 2:
+        if s.opcode in TWO_BYTE_OPS:
+            return (TWO_BYTE_OPS[s.opcode],)
+        if 0x80 <= s.opcode <= 0x8F:
+            return "Jcc", s.immediate, True
+        if s.opcode == 0x1E and s.modrm in (0xFA, 0xFB):
+            return ("Endbr",)
+        if s.opcode == 0x01 and s.modrm in (0xCA, 0xCB):
+            return ("Clac",) if s.modrm == 0xCA else ("Stac",)
+    return None
+
+
+def table_field(s: Spelling) -> Optional[int]:
+    """Where the displacement stands in a jump through an array of addresses: disp32 plus eight times an index."""
+    if s.mod != 0 or s.sib is None or s.prefixes.addrsize or s.segment:
+        return None
+    index = (s.sib >> 3 & 7) + 8 * s.rex_bit(1)
+    return s.displacement_at if s.sib >> 6 == 3 and index != 4 and s.sib & 7 == 5 else None
+
+
+def stack_operation(s: Spelling) -> Optional[tuple]:
+    """Pushes and pops of registers and memory."""
+    if s.map != 1:
+        return None
+    if 0x50 <= s.opcode <= 0x57:
+        return ("PushBp",) if s.low == RBP else ("Push",)
+    if s.opcode == 0xFF and s.digit == 6:
+        return ("PushBp",) if s.rm == RBP else ("Push",)
+    register = s.low if 0x58 <= s.opcode <= 0x5F else s.rm if s.opcode == 0x8F else None
+    if 0x58 <= s.opcode <= 0x5F or s.opcode == 0x8F:
+        return {RSP: ("SpOther",), RBP: ("PopBp",)}.get(register, ("Pop",))
+    return None
+
+
+def pointer_operation(s: Spelling) -> Optional[tuple]:
+    """What moves rsp or rbp by a known distance, and what stores and loads rbp. All are of 64 bits."""
+    if s.map != 1 or not s.wide or s.modrm is None:
+        return None
+    if s.opcode in (0x81, 0x83) and s.rm == RSP and s.digit in (0, 4, 5):
+        return {0: ("AddSp", s.immediate), 5: ("AddSp", -s.immediate), 4: ("AndSp", s.immediate)}[s.digit]
+    sp, bp = sp_distance(s), bp_distance(s)
+    if s.opcode == 0x8D:
+        forms = {(RSP, True): ("AddSp", sp), (RBP, True): ("LeaBpSp", sp)}
+        if (s.reg, sp is not None) in forms:
+            return forms[s.reg, True]
+        return ("LeaSpBp", bp) if s.reg == RSP and bp is not None else None
+    if s.opcode not in (0x89, 0x8B):
+        return None
+    if s.mod == 3:
+        source, target = (s.reg, s.rm) if s.opcode == 0x89 else (s.rm, s.reg)
+        return {(RBP, RSP): ("LeaSpBp", 0), (RSP, RBP): ("LeaBpSp", 0)}.get((source, target))
+    if s.reg == RBP and sp is not None:
+        return ("StoreBp" if s.opcode == 0x89 else "LoadBp"), sp
+    return None
+
+
+def read_text(body: bytes):
+    """The instructions of a text section by their offsets; where one doesn't decode, its offset and why."""
+    insns, at = {}, 0
+    while at < len(body):
+        found = decode(body, at)
+        if isinstance(found, Fault):
+            return insns, (at, found)
+        insns[at] = found
+        at += found.length
+    return insns, None

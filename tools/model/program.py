@@ -1,0 +1,78 @@
+"""The built program, run on an object, and its answer beside the model's."""
+
+import os
+import re
+import subprocess
+import tempfile
+from typing import NamedTuple, Optional
+
+from check import Answer, read_file
+from texts import WARNINGS
+
+SECONDS = 120
+TEXTS = (re.sub(r"\\\{.\w*\\\}", ".+", re.escape(text)) for text in WARNINGS.values())
+LINE = re.compile(r"refused: .+|\S+\+0x[0-9a-f]+: rule \d+: (?:" + "|".join(TEXTS) + ")")
+
+
+class Run(NamedTuple):
+    status: int
+    lines: list[str]
+    written: Optional[bytes]
+    rows: list[str]
+    # What the program did that it must not do.
+    fault: str
+
+
+class Program:
+    """The program at a path, run in a folder of its own."""
+
+    def __init__(self, path: str):
+        self.path = os.path.abspath(path)
+        self.folder = tempfile.TemporaryDirectory()
+
+    def call(self, *words: str) -> tuple[int, list[str]]:
+        """Its status and lines."""
+        ran = subprocess.run([self.path, *words], cwd=self.folder.name, capture_output=True, timeout=SECONDS, check=False)
+        return ran.returncode, (ran.stdout + ran.stderr).decode("ascii", "replace").splitlines()
+
+    def check(self, data: bytes, options: list[str], names: Optional[bytes]) -> Run:
+        """Its answer on an object, with the rows that it prints of what it writes."""
+        folder = self.folder.name
+        files = {"in.o": data} | ({"names": names} if names is not None else {})
+        for name in os.listdir(folder):
+            os.unlink(f"{folder}/{name}")
+        for name, body in files.items():
+            with open(f"{folder}/{name}", "wb") as file:
+                file.write(body)
+        words = options + (["--names=names"] if names is not None else [])
+        try:
+            status, lines = self.call("check", "in.o", "out.o", *words)
+        except subprocess.TimeoutExpired:
+            return Run(-1, [], None, [], f"no answer in {SECONDS} seconds")
+        there = {name: read_file(f"{folder}/{name}") for name in os.listdir(folder)}
+        written = there.pop("out.o", None)
+        fault = "" if there == files else "other files changed"
+        rows = []
+        if written is not None:
+            dumped, rows = self.call("dump", "out.o")
+            fault = fault or ("" if dumped == 0 else f"dump has status {dumped}")
+        return Run(status, lines, written, rows, fault)
+
+
+def differences(run: Run, answer: Answer) -> list[str]:
+    """What is different between the program's run and the model's answer."""
+    pairs = {
+        "status": (run.status, answer.status),
+        "lines": (run.lines, answer.lines),
+        "rows": (run.rows, answer.rows),
+        "written": (run.written, answer.written),
+    }
+    found = [name for name, (there, wanted) in pairs.items() if there != wanted]
+    return found + ([run.fault] if run.fault else [])
+
+
+def is_well_formed(run: Run) -> bool:
+    """Whether the program ended with a status of `check` and lines that belong to it."""
+    lines = all(LINE.fullmatch(line) for line in run.lines)
+    fits = {0: not run.lines and run.written is not None, 1: run.lines and run.written is None, 2: len(run.lines) == 1 and run.written is None}
+    return bool(lines and fits.get(run.status, False) and not run.fault)
