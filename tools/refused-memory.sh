@@ -1,34 +1,35 @@
 #!/usr/bin/env bash
-# Runs the built program with each of its requests for memory refused in turn, one a run, and then with all behind it
-# refused too: it ends with status 6, what it told is a beginning of the text that it tells with ample memory, and OUT isn't
-# written. Where one alone is refused, all may be done as well: a list that can't grow to twice its length asks again for
-# what it needs. Skipped where a tool is missing.
+# Runs each command of a table with each of its requests for memory refused in turn, one a run, and then with all behind it
+# refused too: it ends with status 6, what it told is a beginning of the text that it tells with ample memory, and OUT is as
+# it was. Where one alone is refused, all may be done as well: a list that can't grow to twice its length asks again for what
+# it needs. Skipped where a tool is missing.
 set -eu
 . "$(dirname "$0")/prepare.sh"
 needs "refused memory" gcc as ld
-cd "$root"
-program=$root/crates/objtool/out/objtool
+program=${OBJTOOL:-$root/crates/objtool/out/objtool}
 [ -x "$program" ] || { echo "refused memory: skipped, the program isn't built"; exit 0; }
+failed() { echo "refused memory: $*"; exit 1; }
+cd "$scratch"
 
-# The C library's allocation, of which the request whose number REFUSED holds gets nothing, and makes the file REFUSAL; nor
-# do those behind it, where ONWARDS isn't empty.
-cat >"$scratch/refuse.c" <<'C'
+# The C library's allocation, of which the request whose number REFUSED holds gets nothing; nor do those behind it, where
+# ONWARDS isn't empty. How many requests there were is written to the file COUNT, where that is given.
+cat >refuse.c <<'C'
 #define _GNU_SOURCE
 #include <dlfcn.h>
-#include <fcntl.h>
+#include <stdio.h>
 #include <stdlib.h>
-#include <unistd.h>
+
+static long requests;
 
 static int is_refused(void)
 {
-	static long requests, refused;
+	static long refused;
 
 	if (!refused) {
 		const char *number = getenv("REFUSED");
 		refused = number ? atol(number) : -1;
 	}
-	if (++requests == refused)
-		close(open(getenv("REFUSAL"), O_CREAT | O_WRONLY, 0600));
+	requests++;
 	return requests == refused || (refused > 0 && requests > refused && *getenv("ONWARDS"));
 }
 
@@ -49,21 +50,120 @@ void *realloc(void *old, size_t size)
 		real = dlsym(RTLD_NEXT, "realloc");
 	return is_refused() ? NULL : real(old, size);
 }
-C
-gcc -O1 -shared -fPIC -o "$scratch/refuse.so" "$scratch/refuse.c" -ldl
 
-object() {
-    printf '\t.text\n\t.globl leaf\n\t.type leaf, @function\nleaf:\n\t%b\n\t.size leaf, .-leaf\n' "$2" >"$scratch/$1.s"
-    as -o "$scratch/$1.assembled" "$scratch/$1.s"
-    ld -r -o "$scratch/$1.o" "$scratch/$1.assembled"
+__attribute__((destructor)) static void tell(void)
+{
+	const char *name = getenv("COUNT");
+	long made = requests;
+	FILE *file = name ? fopen(name, "w") : NULL;
+
+	if (file) {
+		fprintf(file, "%ld\n", made);
+		fclose(file);
+	}
 }
-object straight 'push %rbx\n\tmov %rax, (%rdi)\n\tpop %rbx\n\tret'
-object vector 'vzeroupper\n\tret'
-object jumping 'test %rax, %rax\n\tje 1f\n\tpush %rbp\n\tmov %rsp, %rbp\n\tpop %rbp\n1:\tret'
-object broken 'push %rbx\n\tret'
+C
+gcc -O1 -shared -fPIC -o refuse.so refuse.c -ldl
+
+# object NAME: what the assembler makes of its standard input, passed through ld -r, which gives sections a symbol.
+object() { as -o assembled - && ld -r -o "$1.o" assembled; }
+# leaf NAME CODE: an object with one function.
+leaf() { printf '\t.text\n\t.globl leaf\n\t.type leaf, @function\nleaf:\n\t%b\n\t.size leaf, .-leaf\n' "$2" | object "$1"; }
+leaf straight 'push %rbx\n\tmov %rax, (%rdi)\n\tpop %rbx\n\tret'
+leaf jumping 'test %rax, %rax\n\tje 1f\n\tpush %rbp\n\tmov %rsp, %rbp\n\tpop %rbp\n1:\tret'
+leaf vector 'vzeroupper\n\tret'
+leaf broken 'push %rbx\n\tje 1f\n\tcall far\n\tud2\n1:\tret\n\tret'
+leaf unclosed 'ret\n\t.section .orc_unwind,"a"\n\t.text'
+head -c 300 straight.o >cut.o
+# Code of two sections, one of them a function's seldom part; a call that doesn't return, and one through a pointer; a jump
+# table. The assembler alone gives no section a symbol here.
+cat >many.s <<'S'
+	.text
+	.globl	first, second
+	.type	first, @function
+first:	push	%rbp
+	mov	%rsp, %rbp
+	call	second
+	jmp	*table(,%rax,8)
+1:	call	*%rax
+2:	je	first.cold
+	pop	%rbp
+	jmp	far
+	.size	first, . - first
+	.type	second, @function
+second:	ret
+	.size	second, . - second
+	.section .text.unlikely,"ax",@progbits
+	.type	first.cold, @function
+first.cold:
+	call	panic
+	.size	first.cold, . - first.cold
+	.section .rodata,"a",@progbits
+table:	.quad	1b, 2b
+S
+as -o many.o many.s
+# Each special section: an alternative, a static branch, an exception, hints that save and restore, an end that is reached, a
+# function that is left unchecked.
+object special <<'S'
+	.text
+	.type	first, @function
+first:	push	%rbx
+	nop
+	nop
+	nop
+	mov	(%rdi), %rax
+1:	pop	%rbx
+	ret
+2:	ud2
+	jmp	1b
+	.size	first, . - first
+	.type	loose, @function
+loose:	mov	%rax, %rsp
+	ret
+	.size	loose, . - loose
+	.section .altinstr_replacement,"ax",@progbits
+	call	far + 1
+	.section .altinstructions,"a",@progbits
+	.long	first + 1 - ., .altinstr_replacement - .
+	.word	5, 0
+	.byte	0, 0
+	.long	first + 2 - ., .altinstr_replacement + 5 - .
+	.word	5, 0
+	.byte	1, 0
+	.section __jump_table,"aw",@progbits
+	.long	first + 3 - ., 2b - .
+	.quad	0
+	.section __ex_table,"a",@progbits
+	.long	first + 4 - ., 1b - ., 0
+	.section .discard.unwind_hints,"",@progbits
+	.long	first + 3
+	.word	0
+	.byte	0, 6, 0, 0, 0, 0
+	.long	1b
+	.word	0
+	.byte	0, 7, 0, 0, 0, 0
+	.section .discard.reachable,"",@progbits
+	.long	2b + 2
+	.section .discard.func_stack_frame_non_standard,"",@progbits
+	.quad	loose
+S
+faulty() { { printf '\t.text\n\t.type leaf, @function\nleaf:\tnop\n\txor %%eax, %%eax\n\tret\n\t.size leaf, 4\n'; cat; } | object "$1"; }
+faulty hinted <<<'	.section .discard.unwind_hints,""
+	.long leaf, 0x09050008, 0'
+faulty unsited <<<'	.section .altinstructions,"a"
+	.long leaf - ., leaf - .
+	.word 5, 0
+	.byte 2, 1'
+faulty listed <<<'	.section .discard.func_stack_frame_non_standard,""
+	.quad leaf + 1'
+faulty sized <<<'	.type other, @function
+	.set other, leaf + 1
+	.size other, 9'
+printf 'noreturn far\nuaccess near\n' >names
+printf 'noreturn far\nnear\n' >faulty_names
 
 # The table of push %rbp; mov %rsp, %rbp; pop %rbp; ret.
-cat >"$scratch/table.s" <<'S'
+cat >table.s <<'S'
 	.text
 	push %rbp
 	mov %rsp, %rbp
@@ -82,45 +182,86 @@ cat >"$scratch/table.s" <<'S'
 	.long .text + 5 - .
 	.long .text + 6 - .
 S
-as -o "$scratch/table.o" "$scratch/table.s"
-
-# Behind the push in a function that the first one called; and an image whose memory ends behind the last address.
-cat >"$scratch/two_frames" <<'I'
+as -o table.o table.s
+# Behind the push in a function that the first one called; an image whose memory ends behind the last address; and one that
+# places a section that isn't text.
+cat >two_frames <<'I'
 regs 1001 8000 5
 place 1 1000
 mem 8000 20800000000000000510000000000000
 mem 8020 7700000000000000000000a000000000
 I
-printf 'regs 1 2 3\nmem ffffffffffffffff 0000\n' >"$scratch/wraps"
+printf 'regs 1 2 3\nmem ffffffffffffffff 0000\n' >wraps
+printf 'regs 1 2 3\nplace 2 1000\n' >misplaced
+cp straight.o itself.o
 
-# try STATUS COMMAND NAME WORD..: the command on NAME.o, with these words behind it, ends so with ample memory.
-try() {
-    local wanted=$1 command=$2 name=$3 line told status number onwards
-    shift 3
-    line=$("$program" "$command" "$scratch/$name.o" "$@") && status=0 || status=$?
-    [ "$status" = "$wanted" ] || { echo "refused memory: $command $name ends with status $status, not $wanted"; exit 1; }
-    for ((number = 1; number < 1000; number++)); do
+# Status with ample memory, and the words. OUT is `out`, which isn't there, or IN itself.
+commands=(
+    "0 --help"
+    "0 --version"
+    "3"
+    "3 check"
+    "3 check straight.o out --fp --fp"
+    "0 check straight.o out"
+    "0 check itself.o itself.o"
+    "0 check jumping.o out --no-unreachable --names=names"
+    "0 check many.o out"
+    "0 check special.o out --fp"
+    "1 check broken.o out --fp"
+    "2 check missing.o out"
+    "2 check cut.o out"
+    "2 check vector.o out"
+    "2 check unclosed.o out"
+    "2 check hinted.o out"
+    "2 check unsited.o out"
+    "2 check listed.o out"
+    "2 check sized.o out"
+    "2 check straight.o out --names=faulty_names"
+    "4 check straight.o no/out"
+    "0 dump table.o"
+    "2 dump straight.o"
+    "0 unwind table.o two_frames"
+    "2 unwind table.o wraps"
+    "2 unwind table.o misplaced"
+    "0 demo 3"
+)
+
+# run REFUSED ONWARDS: the text that the command tells, and its status.
+run() {
+    told=$(REFUSED=$1 ONWARDS=$2 LD_PRELOAD=$scratch/refuse.so "$program" "${words[@]}"; printf .%d $?)
+    status=${told##*.}
+    told=${told%.*}
+}
+touch -d '1 hour ago' itself.o
+touch stamp
+total=0
+for command in "${commands[@]}"; do
+    read -ra words <<<"$command"
+    wanted=${words[0]}
+    words=("${words[@]:1}")
+    name=${words[*]:-no words}
+    COUNT=$scratch/count run 0 ""
+    rm -f out
+    text=$told
+    [ "$status" = "$wanted" ] || failed "$name ends with status $status, not $wanted"
+    count=$(<count)
+    [ "$count" -gt 3 ] || failed "$name: $count requests"
+    [ "$name" != "check itself.o itself.o" ] || { cp straight.o itself.o; touch -d '1 hour ago' itself.o; }
+    for ((number = 1; number <= count; number++)); do
         for onwards in "" onwards; do
-            rm -f "$scratch/out" "$scratch/refusal"
-            told=$(REFUSED=$number ONWARDS=$onwards REFUSAL=$scratch/refusal LD_PRELOAD=$scratch/refuse.so "$program" "$command" "$scratch/$name.o" "$@") && status=0 || status=$?
-            [ -e "$scratch/refusal" ] || break 2
+            run "$number" "$onwards"
             if [ "$status" = 6 ]; then
-                [ "${line#"$told"}" != "$line" ] || [ -z "$told" ] || { echo "refused memory: $command $name, request $number: told '$told'"; exit 1; }
-                [ ! -e "$scratch/out" ] || { echo "refused memory: $command $name, request $number: OUT was written"; exit 1; }
+                [[ $text == "$told"* ]] || failed "$name, request $number $onwards: told '$told'"
+                [ ! -e out ] && [ ! itself.o -nt stamp ] || failed "$name, request $number $onwards: OUT was written"
             else
-                [ -z "$onwards" ] && [ "$status" = "$wanted" ] && [ "$told" = "$line" ] || { echo "refused memory: $command $name, request $number $onwards: status $status, told '$told'"; exit 1; }
+                [ -z "$onwards" ] && [ "$status" = "$wanted" ] && [ "$told" = "$text" ] || failed "$name, request $number $onwards: status $status, told '$told'"
+                rm -f out
+                [ ! itself.o -nt stamp ] || { cp straight.o itself.o; touch -d '1 hour ago' itself.o; }
             fi
         done
     done
-    [ "$status" = "$wanted" ] && [ "$told" = "$line" ] || { echo "refused memory: $command $name, with none refused: status $status, told '$told'"; exit 1; }
-    [ "$number" -gt 1 ] || { echo "refused memory: $command $name: no request was refused"; exit 1; }
-    echo "refused memory: $command $name: each of $((number - 1)) requests refused in turn"
-}
-try 0 check straight "$scratch/out"
-try 2 check vector "$scratch/out"
-try 0 check jumping "$scratch/out"
-try 1 check broken "$scratch/out"
-try 2 check missing "$scratch/out"
-try 0 dump table
-try 0 unwind table "$scratch/two_frames"
-try 2 unwind table "$scratch/wraps"
+    [ -z "$(compgen -G '.objtool-*')" ] || failed "$name: a file is left"
+    echo "refused memory: $name: each of $count requests refused in turn"
+    total=$((total + count))
+done
+echo "refused memory: $total requests of ${#commands[@]} commands"
