@@ -1,5 +1,6 @@
 -- ORC sections that hold rows have no fault.
 use Rattle.std.proofs.Common.{◌≡◌, ◌≢◌, ℕ, zero, suc, ◌+◌, ◌-◌, ◌*◌, ◌/◌, ◌%◌, ◌^◌, ◌<◌, ◌≤◌, List, [], ◌∷◌, ◌++◌, map, length, take, drop, get_or, replicate, Option, Some, None, pos, ℤ, refl, sym, inl, inr, ◌∙◌, ap, subst, append_assoc, length-append, length-drop, arith}
+use Rattle.std.proofs.lemmas.Option.{none-some}
 use Rattle.std.proofs.lemmas.Bool.{false≢true, cases_lt}
 use Rattle.std.proofs.lemmas.List.{get_or-drop, get_or_past, get_or-replicate, length-replicate}
 use Rattle.std.proofs.lemmas.List.Elements.{All-head, All-tail}
@@ -25,9 +26,6 @@ use Rattle.orc_bytes.proofs.RowRead.{has_row}
 
 some_alike : {A : Type 0} {x y : A} {o : Option A} → o ≡ Some x → o ≡ Some y → x ≡ y
 some_alike h k = cc
-
-none_some : {A : Type 0} {x : A} {o : Option A} → o ≡ None → o ≡ Some x → ⊥
-none_some h k = cc
 
 six_long : (placed : PlacedRow) → length (bytes_of_row placed.row) ≡ 6
 unfolding bytes_of_row
@@ -140,7 +138,7 @@ no_place_fault object parts rows i why all ips relocs count h fault = go why fau
     is_slot reloc e = some_alike e there
 
     go : (why : SlotWhy) → PlaceFault object parts i why → ⊥
-    go _ (no_reloc none) = none_some none there
+    go _ (no_reloc none) = none-some _ (sym none ∙ there)
     go _ (more last left) = omega (arith, long)
     go _ (kind reloc has other) = other (ap (λ (r : Reloc). r.kind) (is_slot reloc has.there))
     go _ (offset reloc has is other) = other (ap (λ (r : Reloc). r.offset) (is_slot reloc has.there))
@@ -182,8 +180,8 @@ no_fault object rows fault holds first = go fault first
         no_place_fault object parts rows i why holds.each (ips_are parts has) (relocs_are parts has) (omega arith) (omega arith) place
 
     go : (fault : OrcFault) → FirstFault object fault → ⊥
-    go _ (no_table none) = none_some (ap (option_and_then (λ i. option_map (λ section. section.body) (slice_get object.sections i))) none) holds.table
-    go _ (no_ips table has none) = none_some (ap (option_and_then (λ i. option_map (λ section. section.body) (slice_get object.sections i))) none) holds.ip
+    go _ (no_table none) = none-some _ (sym (ap (option_and_then (λ i. option_map (λ section. section.body) (slice_get object.sections i))) none) ∙ holds.table)
+    go _ (no_ips table has none) = none-some _ (sym (ap (option_and_then (λ i. option_map (λ section. section.body) (slice_get object.sections i))) none) ∙ holds.ip)
     go _ (table_length parts has other) = let long = table_long parts has in other (omega arith)
     go _ (ips_length parts has even other) = let long = ips_long parts has in other (omega arith)
     go _ (counts parts has even places other) = let long = table_long parts has in let places_long = ips_long parts has in other (omega arith)

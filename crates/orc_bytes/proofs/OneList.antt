@@ -1,5 +1,6 @@
 -- The ORC sections of an object tell their rows.
 use Rattle.std.proofs.Common.{◌≡◌, ℕ, zero, suc, ◌+◌, ◌*◌, ◌/◌, ◌%◌, ◌^◌, ◌<◌, ◌≤◌, ◌⊎◌, Bool, true, false, cond, List, [], ◌∷◌, ◌++◌, map, length, Option, Some, None, ℤ, pos, refl, sym, ◌∙◌, ap, subst, inl, inr, FitsSigned, Fits, w16, of_z, to_z, arith}
+use Rattle.std.proofs.lemmas.Option.{none-some}
 use Rattle.std.proofs.Math.Facts.{Fits-of_z, to_z-of_z}
 use Rattle.std.proofs.lemmas.Bool.{and_parts, eqb-true, false≢true}
 use Rattle.std.specs.Prelude.{All, IsSome, unwrap_or}
@@ -21,17 +22,11 @@ use Rattle.orc_bytes.specs.Laws.{OneListFits}
 found_front : (o : Option ℕ) (b : Bool) (n k : ℕ) → first_of o (cond b (Some n) None) ≡ Some k → (o ≡ Some k) ⊎ ((b ≡ true) × (n ≡ k))
 found_front (Some j) b n k h = inl h
 found_front None true n k h = inr (refl, cc)
-found_front None false n k h = absurd (none_some h)
-  where
-    none_some : None ≡ Some k → ⊥
-    none_some h = cc
+found_front None false n k h = absurd (none-some _ h)
 
 found_passes : (p : ℕ → Bool) (n k : ℕ) → least_below p n ≡ Some k → p k ≡ true
 unfolding least_below
-found_passes p zero k h = absurd (none_some h)
-  where
-    none_some : None ≡ Some k → ⊥
-    none_some h = cc
+found_passes p zero k h = absurd (none-some _ h)
 found_passes p (suc n) k h =
     elim (found_front (least_below p n) (p n) n k h) [
       | inl lower ↦ found_passes p n k lower
@@ -41,10 +36,7 @@ found_passes p (suc n) k h =
 -- and lies below the bound
 found_below : (p : ℕ → Bool) (n k : ℕ) → least_below p n ≡ Some k → k < n
 unfolding least_below
-found_below p zero k h = absurd (none_some h)
-  where
-    none_some : None ≡ Some k → ⊥
-    none_some h = cc
+found_below p zero k h = absurd (none-some _ h)
 found_below p (suc n) k h =
     elim (found_front (least_below p n) (p n) n k h) [
       | inl lower ↦ let below = found_below p n k lower in omega arith

@@ -3,25 +3,18 @@ use Rattle.std.specs.Prelude.{◌≢◌, ℕ, ◌+◌, ◌≤◌, List, [], ◌�
 use Rattle.ot_base.specs.declared.row.PlacedRow.{PlacedRow}
 use Rattle.elf_objects.specs.Contents.{section_symbol_of}
 use Rattle.elf_objects.specs.Elf.{Elf, SectionEntry}
-use Rattle.elf_objects.specs.declared.TheConstants.{SHT_PROGBITS, SHT_RELA}
+use Rattle.elf_objects.specs.declared.TheConstants.{SHF_ALLOC, SHF_INFO_LINK, SHT_PROGBITS, SHT_RELA}
 use Rattle.elf_objects.specs.Sections.{link_of}
 use Rattle.elf_write.specs.Added.{object_with}
 use Rattle.elf_write.specs.Layout.{NewEntry}
 use Rattle.orc_bytes.specs.Sections.{IsRowOf, row_section, ip_section, rela_section}
-
--- sh_flags: SHF_ALLOC, the section is in memory; SHF_INFO_LINK, sh_info is the number of a section
-abbrev pub shf_alloc : ℕ
-shf_alloc = 2
-
-abbrev pub shf_info_link : ℕ
-shf_info_link = 0x40
 
 -- `.orc_unwind`: six bytes for each row
 abbrev pub orc_entry : List ℕ → NewEntry
 orc_entry body = record {
   name = codes ".orc_unwind";
   kind = SHT_PROGBITS;
-  flags = shf_alloc;
+  flags = SHF_ALLOC;
   link = 0;
   info = 0;
   align = 1;
@@ -34,7 +27,7 @@ abbrev pub ip_entry : List ℕ → NewEntry
 ip_entry body = record {
   name = codes ".orc_unwind_ip";
   kind = SHT_PROGBITS;
-  flags = shf_alloc;
+  flags = SHF_ALLOC;
   link = 0;
   info = 0;
   align = 4;
@@ -51,7 +44,7 @@ abbrev pub rela_entry : Elf → List ℕ → NewEntry
 rela_entry o body = record {
   name = codes ".rela.orc_unwind_ip";
   kind = SHT_RELA;
-  flags = shf_info_link;
+  flags = SHF_INFO_LINK;
   link = link_of o.symbol_table;
   info = ip_number o;
   align = 8;

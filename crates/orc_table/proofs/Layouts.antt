@@ -1,5 +1,6 @@
 -- Ranges that are laid out, one more of them.
 use Rattle.std.proofs.Common.{◌≡◌, ℕ, suc, ◌+◌, ◌^◌, ◌<◌, ◌≤◌, ◌⊎◌, Bool, true, false, cond, ◌&&◌, List, [], ◌∷◌, ◌++◌, Option, Some, None, refl, sym, ◌∙◌, ap, subst, inl, inr, leb, ltb, eqb, max, length, get_or, take, drop, add-one, drop-cons, arith, rules}
+use Rattle.std.proofs.lemmas.Option.{none-some}
 use Rattle.std.specs.Prelude.{All, Contains, IsTrue, IsSome, find, option_map}
 use Rattle.std.specs.Option.{option_or}
 use Rattle.std.specs.Ordering.{nat_cmp, is_lt}
@@ -69,9 +70,6 @@ empty_fits earlier range lt empty = no_fault earlier range lt (λ k d k_lt. shar
 other_empty : (one other : Range) → one.size ≡ 0 → overlap one other ≡ false
 other_empty one other empty = ap (λ n. (leb one.base (max one.base other.base) && ltb (max one.base other.base) (one.base + n)) && (leb other.base (max one.base other.base) && ltb (max one.base other.base) (other.base + other.size))) empty ∙ empty_left one.base other.base other.size
 
-none_some : {A : Type 0} {x : A} → None ≡ Some x → ⊥
-none_some h = cc
-
 -- no laid range begins below the end of the new one
 pub first_fits : (earlier : List Range) (laid : BTreeMap ℕ Range) (range : Range) → IsLaid earlier laid → range.base + range.size < 2 ^ 64 → ((base : ℕ) → base < range.base + range.size → get nat_cmp laid base ≡ None) → range_fault earlier range ≡ None
 first_fits earlier laid range is lt none = no_fault earlier range lt (λ k d k_lt. shares (get_or earlier k d) (is.kept k d k_lt))
@@ -79,7 +77,7 @@ first_fits earlier laid range is lt none = no_fault earlier range lt (λ k d k_l
     shares : (one : Range) → (0 < one.size → get nat_cmp laid one.base ≡ Some one) → overlap one range ≡ false
     shares one kept = elim (cases_lt 0 one.size) [
       | inl some ↦ elim (cases_lt one.base (range.base + range.size)) [
-        | inl below ↦ absurd (none_some (sym (none one.base below) ∙ kept some))
+        | inl below ↦ absurd (none-some _ (sym (none one.base below) ∙ kept some))
         | inr above ↦ no_overlap one range (inr (omega arith))
       ]
       | inr empty ↦ other_empty one range (omega arith)
@@ -135,12 +133,12 @@ find_all p [] none = All-nil _
 find_all p (x ∷ xs) none = go (find_all p xs) (p x) refl
   where
     go : (find p xs ≡ None → All (λ x. p x ≡ false) xs) → (b : Bool) → p x ≡ b → All (λ x. p x ≡ false) (x ∷ xs)
-    go rest true is = absurd (none_some (sym none ∙ ap (λ b. cond b (Some x) (find p xs)) is))
+    go rest true is = absurd (none-some _ (sym none ∙ ap (λ b. cond b (Some x) (find p xs)) is))
     go rest false is = All-cons (λ x. p x ≡ false) x xs is (rest (sym (ap (λ b. cond b (Some x) (find p xs)) is) ∙ none))
 
 map_none : {A B : Type 0} (f : A → B) (o : Option A) → option_map f o ≡ None → o ≡ None
 map_none f None h = refl
-map_none f (Some x) h = absurd (none_some (sym h))
+map_none f (Some x) h = absurd (none-some _ (sym h))
 
 -- what a range without a fault meets
 record IsGood (done : List Range) (x : Range) : Type 0 where
@@ -151,7 +149,7 @@ good : (done : List Range) (x : Range) → range_fault done x ≡ None → IsGoo
 good done x none = go (leb (2 ^ 64) (x.base + x.size)) refl
   where
     go : (b : Bool) → leb (2 ^ 64) (x.base + x.size) ≡ b → IsGood done x
-    go true is = absurd (none_some (sym none ∙ ap (λ b. cond b (Some Wraps) (fault_found done x)) is))
+    go true is = absurd (none-some _ (sym none ∙ ap (λ b. cond b (Some Wraps) (fault_found done x)) is))
     go false is = record {
       in_memory = leb-false _ _ is;
       apart_from = find_all (λ other. overlap other x) done (map_none (λ other. Overlaps other.sec) (find (λ other. overlap other x) done) (sym (ap (λ b. cond b (Some Wraps) (fault_found done x)) is) ∙ none));
@@ -248,8 +246,8 @@ pub no_ranges : (m : BTreeMap ℕ Range) → ((base : ℕ) → get nat_cmp m bas
 no_ranges m none = record {
   laid_out = record { in_memory = All-nil _; apart = (λ i j d less lt. absurd (omega arith)) };
   kept = All-nil _;
-  of_these = λ base range there. absurd (none_some (sym (none base) ∙ there));
-  apart = λ base next range other first second lt. absurd (none_some (sym (none base) ∙ first));
+  of_these = λ base range there. absurd (none-some _ (sym (none base) ∙ there));
+  apart = λ base next range other first second lt. absurd (none-some _ (sym (none base) ∙ first));
 }
 
 -- a range without a fault is passed by

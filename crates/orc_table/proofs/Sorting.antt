@@ -1,5 +1,6 @@
 -- A stable sort keeps which row is the last at or below an address.
 use Rattle.std.proofs.Common.{◌≡◌, ℕ, zero, suc, ◌+◌, ◌*◌, ◌<◌, ◌≤◌, Bool, true, false, cond, not, ◌&&◌, ◌||◌, List, [], ◌∷◌, ◌++◌, Option, Some, None, refl, sym, ◌∙◌, ap, subst, inl, inr, leb, ltb, eqb, length, get_or, take, map, add-one, arith}
+use Rattle.std.proofs.lemmas.Option.{none-some}
 use Rattle.std.specs.Prelude.{All, filter, option_map, IsPermutation}
 use Rattle.std.specs.List.Sorted.{IsNonDecreasingBy, IsSortedByKey, IsStableByKey, IsStableBy, ties}
 use Rattle.std.specs.Ordering.{nat_cmp, bool_cmp, ordering_then, is_lt}
@@ -107,10 +108,7 @@ stable_rows xs ys stable row =
         ∙ ap (λ b. not (is_lt (key_cmp (key_of (row.address, row.row)) (key_of x))) && not b) (sym (before_key x (row.address, row.row)))))
 
 last_among : (P : AddressedRow → Type 0) (rows : List AddressedRow) (row : AddressedRow) → All P rows → last_of rows ≡ Some row → P row
-last_among P [] row all h = absurd (none_some h)
-  where
-    none_some : {A : Type 0} {x : A} → None ≡ Some x → ⊥
-    none_some h = cc
+last_among P [] row all h = absurd (none-some _ h)
 last_among P (x ∷ rows) row all h = go (λ other is. last_among P rows other (All-tail P x rows all) is) (last_of rows) refl h
   where
     some_same : {A : Type 0} {x y : A} → Some x ≡ Some y → x ≡ y

@@ -1,5 +1,6 @@
 -- What follows from how `unwind` ends.
 use Rattle.std.proofs.Common.{◌≡◌, ℕ, ◌+◌, ◌-◌, ◌<◌, ◌≤◌, List, [], ◌∷◌, length, refl, sym, ap, ◌∙◌, subst, inl, inr, arith, Option, Some, None}
+use Rattle.std.proofs.lemmas.Option.{none-some}
 use Rattle.std.specs.Prelude.{◌≢◌, ◌⊎◌, Ok}
 use Rattle.ot_base.specs.declared.row.PlacedRow.{PlacedRow}
 use Rattle.ot_files.specs.Causes.{Rose}
@@ -91,14 +92,11 @@ unwind_no_warnings file image before after out out' x (read bytes text may may_t
 
 -- ---- what is answered where the files give a walk
 
-none_some : {A : Type 0} (found : Option A) (x : A) → found ≡ None → found ≡ Some x → ⊥
-none_some found x none some = let u : ◌≡◌ {A = Option _} None (Some x) = sym none ∙ some in cc
-
 regs_none : (found : List Regs) (regs : Regs) → found ≡ [] → found ≡ regs ∷ [] → ⊥
 regs_none found regs none some = let u : ◌≡◌ {A = List Regs} [] (regs ∷ []) = sym none ∙ some in cc
 
 image_excluded : (text : List ℕ) (image : StackImage) (line : ℕ) (why : ImageWhy) → IsImage text image → IsFirstFault text line why ⊎ LacksRegisters text line why → ⊥
-image_excluded text image line why is (inl fault) = none_some (fault_at (lines text) (line - 1)) why (is.no_fault (line - 1) (omega (arith, fault.counted, fault.there))) fault.fault
+image_excluded text image line why is (inl fault) = none-some why (sym (is.no_fault (line - 1) (omega (arith, fault.counted, fault.there))) ∙ fault.fault)
 image_excluded text image line why is (inr lacks) = regs_none _ image.regs lacks.none is.says.regs
 
 same_places : (text : List ℕ) (one other : StackImage) → IsImage text one → IsImage text other → one.places ≡ other.places
@@ -113,13 +111,13 @@ walk_excluded bytes text image o rows s placed (no_rows other is h) = no_rows_ex
 walk_excluded bytes text image o rows s placed (foreign other p others is held f) =
     let places = same_places text image other placed.is_image is in
     let same = one_object bytes o p placed.held.object held.object in
-    absurd (none_some (first_foreign p other.places) _ (ap (λ (x : Elf). first_foreign x other.places) (sym same) ∙ ap (λ (ps : List (ℕ × ℕ)). first_foreign o ps) (sym places) ∙ placed.texts) f)
+    absurd (none-some _ (sym (ap (λ (x : Elf). first_foreign x other.places) (sym same) ∙ ap (λ (ps : List (ℕ × ℕ)). first_foreign o ps) (sym places) ∙ placed.texts) ∙ f))
 walk_excluded bytes text image o rows s placed (unplaced other p others is held f fault) =
     let places = same_places text image other placed.is_image is in
     let same = one_object bytes o p placed.held.object held.object in
     let list = same_rows o p rows others same placed.held.held held.held in
-    absurd (none_some (place_fault others (ranges_of p other.places)) _
-    (ap (λ (r : List PlacedRow). place_fault r (ranges_of p other.places)) (sym list) ∙ ap (λ (x : Elf). place_fault rows (ranges_of x other.places)) (sym same) ∙ ap (λ (ps : List (ℕ × ℕ)). place_fault rows (ranges_of o ps)) (sym places) ∙ placed.fits) fault)
+    absurd (none-some _ (sym
+    (ap (λ (r : List PlacedRow). place_fault r (ranges_of p other.places)) (sym list) ∙ ap (λ (x : Elf). place_fault rows (ranges_of x other.places)) (sym same) ∙ ap (λ (ps : List (ℕ × ℕ)). place_fault rows (ranges_of o ps)) (sym places) ∙ placed.fits) ∙ fault))
 walk_excluded bytes text image o rows s placed no_memory = refl
 
 bytes_left : (bytes text : List ℕ) (image : StackImage) (o : Elf) (rows : List PlacedRow) (before after : Output) (x : Status) → IsPlaced bytes text image o rows → Unwinds bytes text before after x → IsAnswered x

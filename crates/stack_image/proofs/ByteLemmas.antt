@@ -5,18 +5,18 @@ use Rattle.std.specs.Option.{option_or}
 use Rattle.std.proofs.lemmas.Bool.{le-leb, leb-true}
 use Rattle.std.proofs.lemmas.List.Elements.{All-nil, All-cons, All-head, All-tail}
 use Rattle.std.proofs.lemmas.List.Sorted.{All-permutation, Contains-permutation}
-use Rattle.std.proofs.lemmas.Option.{slice_get_past}
+use Rattle.std.proofs.lemmas.Option.{none-some, slice_get_past}
 use Rattle.orc_unwind.specs.Memory.{Piece, end_of, byte_in, byte_at}
 use Rattle.stack_image.specs.ImageFile.{pieces_in}
 use Rattle.stack_image.specs.Laws.{MemoryIsSaid}
-use Rattle.stack_image.proofs.PieceLemmas.{Before, none_some, pairs_tail}
+use Rattle.stack_image.proofs.PieceLemmas.{Before, pairs_tail}
 
 begins : (p : Piece) (address byte : ℕ) → byte_in p address ≡ Some byte → p.base ≤ address
 begins p address byte h = go (leb p.base address) refl
   where
     go : (b : Bool) → leb p.base address ≡ b → p.base ≤ address
     go true is = leb-true p.base address is
-    go false is = none_some (ap (λ b. cond b (slice_get p.bytes (address - p.base)) None) is) h
+    go false is = absurd (none-some _ (sym (ap (λ b. cond b (slice_get p.bytes (address - p.base)) None) is) ∙ h))
 
 past : (p : Piece) (address : ℕ) → end_of p ≤ address → byte_in p address ≡ None
 past p address le =
@@ -33,7 +33,7 @@ later : (p : Piece) (ps : List Piece) (address byte : ℕ) → Has ps address by
 later p ps address byte h = record { piece = h.piece; among = (suc h.among.0, omega (arith, h.among.1), h.among.2); is = h.is }
 
 found : (ps : List Piece) (address byte : ℕ) → byte_at ps address ≡ Some byte → Has ps address byte
-found [] address byte h = none_some refl h
+found [] address byte h = absurd (none-some _ h)
 found (p ∷ ps) address byte h = go (found ps address byte) (byte_in p address) refl
   where
     go : (byte_at ps address ≡ Some byte → Has ps address byte) → (o : Option ℕ) → byte_in p address ≡ o → Has (p ∷ ps) address byte
@@ -58,7 +58,7 @@ none_of (p ∷ ps) address h = go (none_of ps address) (byte_in p address) refl
   where
     go : (byte_at ps address ≡ None → All (λ p. byte_in p address ≡ None) ps) → (o : Option ℕ) → byte_in p address ≡ o → All (λ p. byte_in p address ≡ None) (p ∷ ps)
     go rest None is = All-cons (λ p. byte_in p address ≡ None) p ps is (rest (sym (ap (λ o. option_or o (byte_at ps address)) is) ∙ h))
-    go rest (Some b) is = none_some h (ap (λ o. option_or o (byte_at ps address)) is)
+    go rest (Some b) is = absurd (none-some _ (sym h ∙ ap (λ o. option_or o (byte_at ps address)) is))
 
 none_at : (ps : List Piece) (address : ℕ) → All (λ p. byte_in p address ≡ None) ps → byte_at ps address ≡ None
 none_at [] address none = refl

@@ -1,5 +1,6 @@
 -- Pieces of memory in a map by their addresses, and one more of them.
 use Rattle.std.proofs.Common.{◌≡◌, ℕ, suc, ◌+◌, ◌^◌, ◌<◌, ◌≤◌, ◌⊎◌, Bool, true, false, cond, ◌&&◌, ◌||◌, List, [], ◌∷◌, Option, Some, None, Vec, refl, sym, ◌∙◌, ap, subst, inl, inr, ltb, length, get_or, arith, rules}
+use Rattle.std.proofs.lemmas.Option.{none-some}
 use Rattle.std.specs.Prelude.{All, AllPairs, Contains, IsPermutation, IsSome}
 use Rattle.std.specs.List.{list_any}
 use Rattle.std.specs.Ordering.{nat_cmp, eq_by_cmp, match_ordering, is_gt, is_lt}
@@ -47,9 +48,6 @@ overlaps one other h k = overlap_bits one.base (end_of one) other.base (end_of o
 true_false : {A : Type 0} {b : Bool} → b ≡ true → b ≡ false → A
 true_false one other = cc
 
-pub none_some : {A B : Type 0} {o : Option A} {x : A} → o ≡ None → o ≡ Some x → B
-none_some one other = cc
-
 Some-same : {A : Type 0} {o : Option A} {x y : A} → o ≡ Some x → o ≡ Some y → x ≡ y
 Some-same h k = cc
 
@@ -76,8 +74,8 @@ abbrev fault_by : Bool → Bool → Option ImageWhy
 fault_by high shared = cond high (Some Wraps) (cond shared (Some Overlaps) None)
 
 by_none : (high shared : Bool) → fault_by high shared ≡ None → (high ≡ false) × (shared ≡ false)
-by_none true shared h = none_some h refl
-by_none false true h = none_some h refl
+by_none true shared h = absurd (none-some _ (sym h))
+by_none false true h = absurd (none-some _ (sym h))
 by_none false false h = (refl, refl)
 
 pub fits_from : (pieces : List Piece) (x : Piece) → piece_fault pieces x ≡ None → Fits pieces x
@@ -190,7 +188,7 @@ none_begins m x ordered none = list_any_none (λ p. overlap p x) (pieces_of m.en
   where
     shares : (e : Entry) → get nat_cmp m e.0 ≡ Some e.1 → overlap (piece_of e) x ≡ false
     shares e there = elim (cases_lt e.0 (end_of x)) [
-      | inl below ↦ none_some (none e.0 below) there
+      | inl below ↦ absurd (none-some _ (sym (none e.0 below) ∙ there))
       | inr above ↦ no_overlap (piece_of e) x (inr (omega arith))
     ]
 
