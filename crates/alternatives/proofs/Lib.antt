@@ -16,3 +16,4 @@ pub mod Listing
 pub mod Gathering
 pub mod Numbering
 pub mod SiteEntries
+pub mod ListedInsns

@@ -6,6 +6,7 @@ mod check;
 mod fault;
 mod insns;
 pub mod laws;
+mod near;
 mod original;
 mod overlap;
 mod point;

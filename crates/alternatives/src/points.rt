@@ -49,7 +49,7 @@ fn push_replaced(
         let place = Place { off, ..start };
         let variant = entry + 1;
         let point = Point { place, variant };
-        if insn_of_point(texts, entries, point).is_some() {
+        if insn_of_point(texts, entries, point, 0).is_some() {
             points.push(point)?;
         }
     }
@@ -99,6 +99,27 @@ pub(crate) fn points_of(
     Ok(points)
 }
 
+/// Where the instruction of a plain point is tried first: by its number in the text of a section.
+#[derive(Clone, Copy)]
+struct Near {
+    sec: u32,
+    index: u32,
+}
+
+/// The same for a point behind others.
+fn near_behind(near: Near, point: Point) -> Near {
+    if point.variant != 0 {
+        return near;
+    }
+    let sec = point.place.sec;
+    let index = if sec == near.sec {
+        near.index.saturating_add(1)
+    } else {
+        0
+    };
+    Near { sec, index }
+}
+
 /// The instructions of points.
 pub(crate) fn insns_of(
     alloc: Global,
@@ -111,9 +132,11 @@ pub(crate) fn insns_of(
     requires each { All (IsPoint texts.now entries.now) points.now }
     ensures { IfOk result (λ insns. map (λ insn. Some insn) insns.items ≡ map (insn_of_a_point texts.now entries.now) points.now) }
 {
-    let mut insns = Vec::new(alloc);
+    let mut insns = Vec::with_capacity(alloc, points.len())?;
+    let mut near = Near { sec: 0, index: 0 };
     for point in points {
-        if let Some(insn) = insn_of_point(texts, entries, *point) {
+        near = near_behind(near, *point);
+        if let Some(insn) = insn_of_point(texts, entries, *point, near.index) {
             insns.push(insn)?;
         }
     }

@@ -6,6 +6,7 @@ ghost use Rattle.alternatives.specs.Numbers.{IsNumberOf, IsRunOf};
 ghost use Rattle.alternatives.specs.Points.{address_of_point, first_of as first_point, insn_of_point as insn_of_a_point, point_after, points_of as points_in_order};
 ghost use Rattle.alternatives.specs.Texts.{text_bytes, AreShort, AscendBySection};
 
+use crate::near::{near_number, slots_of};
 use crate::point::{Point, count_before, count_to};
 use crate::points::{insns_of, points_of};
 use crate::texts::SectionText;
@@ -22,6 +23,8 @@ pub(crate) struct PointTable {
     points: Vec<Point>,
     insns: Vec<Insn>,
     entries: Vec<AltEntry>,
+    /// The number of the last point in each slot of places.
+    slots: Vec<u32>,
 }
 
 impl Model for PointTable {
@@ -52,11 +55,13 @@ impl PointTable {
     {
         let points = points_of(alloc, texts, entries)?;
         let insns = insns_of(alloc, texts, entries, points.as_slice())?;
+        let slots = slots_of(alloc, points.as_slice())?;
         let entries = entries.to_vec(alloc)?;
         Ok(PointTable {
             points,
             insns,
             entries,
+            slots,
         })
     }
 
@@ -72,6 +77,9 @@ impl PointTable {
     pub(crate) fn number_of(&self, point: Point) -> Option<u32>
         ensures { IsNumberOf self.now.points point result }
     {
+        if let Some(n) = near_number(&self.points, &self.slots, point) {
+            return Some(n);
+        }
         match self.points.binary_search(&point) {
             Ok(n) => Some(n as u32),
             Err(_) => None,

@@ -1,2 +1,3 @@
 mod Order
 mod Runs
+mod Marked

@@ -1,6 +1,7 @@
 //! Lists of places for quick look-up.
 #![tactic(auto)]
 
+mod marks;
 mod place_map;
 mod place_set;
 

@@ -5,6 +5,7 @@ ghost use Rattle.ot_base.specs.declared.place.Place.{Place};
 ghost use Rattle.symbols_relocs.specs.Places.{is_before as is_lower, same_place};
 ghost use Rattle.place_lists.specs.Places.{AreByPlace, AreByFirst, HaveSameTargets};
 
+use crate::marks::{is_marked, mark_places};
 use ot_base::{NoMemory, Place};
 use std::alloc::Global;
 use std::marker::Model;
@@ -14,6 +15,7 @@ use std::marker::Model;
 pub struct PlaceMap {
     places: Vec<Place>,
     targets: Vec<Place>,
+    marks: Vec<bool>,
 }
 
 impl Model for PlaceMap {
@@ -21,12 +23,13 @@ impl Model for PlaceMap {
     ghost use Rattle.std.specs.List.{zip};
     ghost use Rattle.ot_base.specs.declared.place.Place.{Place};
     ghost use Rattle.place_lists.specs.Places.{AreByPlace};
+    ghost use Rattle.place_lists.specs.Marks.{AreMarked};
 
     ghost Value = { List (Place × Place) };
 
     ghost view = { λ m. zip m.places.items m.targets.items };
 
-    ghost invariant = { λ m. AreByPlace m.places.items × (length m.targets.items ≡ length m.places.items) };
+    ghost invariant = { λ m. AreByPlace m.places.items × (length m.targets.items ≡ length m.places.items) × AreMarked (length m.marks.items) m.places.items m.marks.items };
 }
 
 impl PlaceMap {
@@ -41,13 +44,21 @@ impl PlaceMap {
         sort_by_first(&mut pairs)?;
         let places = first_places(alloc, pairs.as_slice())?;
         let targets = second_places(alloc, pairs.as_slice())?;
-        Ok(PlaceMap { places, targets })
+        let marks = mark_places(alloc, &places)?;
+        Ok(PlaceMap {
+            places,
+            targets,
+            marks,
+        })
     }
 
     /// Where a place leads, in the order of the list.
     pub fn targets(&self, place: Place) -> &[Place]
         ensures { result.now ≡ map (λ e. e.1) (filter (λ e. same_place e.0 place) self.now) }
     {
+        if !is_marked(&self.marks, place) {
+            return &[];
+        }
         let first = count_before(&self.places, place);
         let end = count_to(&self.places, place);
         let (to_end, _) = self.targets.split_at(end);

@@ -5,6 +5,7 @@ ghost use Rattle.std.specs.List.{list_any};
 ghost use Rattle.symbols_relocs.specs.Places.{same_place};
 ghost use Rattle.place_lists.specs.Places.{HaveSamePlaces};
 
+use crate::marks::{is_marked, mark_places};
 use ot_base::{NoMemory, Place};
 use std::alloc::Global;
 use std::marker::Model;
@@ -13,18 +14,20 @@ use std::marker::Model;
 #[derive(Drop)]
 pub struct PlaceSet {
     places: Vec<Place>,
+    marks: Vec<bool>,
 }
 
 impl Model for PlaceSet {
-    ghost use Rattle.std.specs.Prelude.{List};
+    ghost use Rattle.std.specs.Prelude.{List, length};
     ghost use Rattle.ot_base.specs.declared.place.Place.{Place};
     ghost use Rattle.place_lists.specs.Places.{AreByPlace};
+    ghost use Rattle.place_lists.specs.Marks.{AreMarked};
 
     ghost Value = { List Place };
 
     ghost view = { λ s. s.places.items };
 
-    ghost invariant = { λ s. AreByPlace s.places.items };
+    ghost invariant = { λ s. AreByPlace s.places.items × AreMarked (length s.marks.items) s.places.items s.marks.items };
 }
 
 impl PlaceSet {
@@ -38,13 +41,17 @@ impl PlaceSet {
     {
         let mut places = Vec::from_slice(alloc, places)?;
         places.sort_unstable();
-        Ok(PlaceSet { places })
+        let marks = mark_places(alloc, &places)?;
+        Ok(PlaceSet { places, marks })
     }
 
     /// Whether a place is one of the list.
     pub fn contains(&self, place: Place) -> bool
         ensures { result ≡ list_any (same_place place) self.now }
     {
+        if !is_marked(&self.marks, place) {
+            return false;
+        }
         self.places.binary_search(&place).is_ok()
     }
 }

@@ -74,6 +74,9 @@ pub(crate) fn push_listed(
     requires { n < length (points_of_object points.now) }
     ensures { OnOk result (into.new.items ≡ into.old.items ++ listed_edges points.now kind (point_at points.now n) places.now) }
 {
+    if places.is_empty() {
+        return Ok(());
+    }
     let owner = points.places().owner(n);
     for place in places {
         let way = listed_way(points.places(), kind, owner, *place);

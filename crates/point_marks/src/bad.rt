@@ -9,7 +9,7 @@ ghost use Rattle.flow_defs.specs.Ways.{is_bad as is_bad_of};
 
 use crate::owners::is_same_owner;
 use alternatives::Point;
-use branch_ways::{aim, branch_way, listed_way};
+use branch_ways::{branch_way, listed_way};
 use flow_defs::{Aim, Way};
 use flow_points::FlowPoints;
 use operation_defs::{Insn, Op};
@@ -89,27 +89,30 @@ fn leaves_owner(places: &PointPlaces<'_, '_, '_>, n: u32, other: Point) -> bool
     }
 }
 
-/// Whether a jump with this instruction from a point goes to a place that is none to go to.
-fn is_bad_jump(places: &PointPlaces<'_, '_, '_>, n: u32, insn: Insn) -> bool
-    requires { n < length (points_of_object places.now) }
+/// Whether a jump with this instruction from a point, which goes `to` there, goes to a place that is none to go to.
+fn is_bad_jump(places: &PointPlaces<'_, '_, '_>, n: u32, insn: Insn, to: Aim) -> bool
+    requires point { n < length (points_of_object places.now) }
+    requires aim { to ≡ aim_of places.now (point_at places.now n) insn }
     ensures { result ≡ is_bad_jumped places.now (point_at places.now n) (aim_of places.now (point_at places.now n) insn) }
 {
-    match aim(places, n, insn) {
+    match to {
         Aim::At(target) => is_bad_jump_target(places, n, target),
         Aim::Within(other) => leaves_owner(places, n, other),
         Aim::Behind(place) => is_bad_jump_to(places, false, n, place),
     }
 }
 
-/// Whether the direct call or jump with this instruction at a point goes to a place that is none to go to.
-pub(crate) fn is_bad_branch(points: &FlowPoints<'_, '_, '_>, n: u32, insn: Insn) -> bool
-    requires { n < length (points_of_object points.now) }
+/// Whether the direct call or jump with this instruction at a point, which goes `to` there, goes to a place that is none to go
+/// to.
+pub(crate) fn is_bad_branch(points: &FlowPoints<'_, '_, '_>, n: u32, insn: Insn, to: Aim) -> bool
+    requires point { n < length (points_of_object points.now) }
+    requires aim { to ≡ aim_of points.now (point_at points.now n) insn }
     ensures { result ≡ is_bad_of_op points.now (point_at points.now n) insn insn.op }
 {
     let places = points.places();
     match insn.op {
-        Op::Call { .. } => is_bad_call(places, aim(places, n, insn)),
-        Op::Jmp { .. } | Op::Jcc { .. } => is_bad_jump(places, n, insn),
+        Op::Call { .. } => is_bad_call(places, to),
+        Op::Jmp { .. } | Op::Jcc { .. } => is_bad_jump(places, n, insn, to),
         _ => false,
     }
 }
@@ -124,6 +127,9 @@ pub(crate) fn is_bad_listed(
     requires { n < length (points_of_object places.now) }
     ensures { result ≡ is_bad_among places.now kind (point_at places.now n) listed.now }
 {
+    if listed.is_empty() {
+        return false;
+    }
     let owner = places.owner(n);
     listed
         .iter()

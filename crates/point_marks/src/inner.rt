@@ -8,7 +8,6 @@ ghost use Rattle.flow_defs.specs.Marks.{calls_into_function as calls_into_a_func
 ghost use Rattle.flow_defs.specs.Targets.{aim as aim_of};
 
 use alternatives::Point;
-use branch_ways::aim;
 use flow_defs::Aim;
 use flow_points::FlowPoints;
 use operation_defs::{Insn, Op};
@@ -45,34 +44,42 @@ fn is_inner_point(places: &PointPlaces<'_, '_, '_>, point: Point) -> bool
     places.is_padding(n) || is_inner_place(places, point.place)
 }
 
-/// Whether a call with this instruction at a point goes into a function.
-fn is_inner_call(places: &PointPlaces<'_, '_, '_>, n: u32, insn: Insn) -> bool
-    requires { n < length (points_of_object places.now) }
+/// Whether a call with this instruction at a point, which goes `to` there, goes into a function.
+fn is_inner_call(places: &PointPlaces<'_, '_, '_>, n: u32, insn: Insn, to: Aim) -> bool
+    requires point { n < length (points_of_object places.now) }
+    requires aim { to ≡ aim_of places.now (point_at places.now n) insn }
     ensures { result ≡ is_inner_called places.now (aim_of places.now (point_at places.now n) insn) }
 {
-    match aim(places, n, insn) {
+    match to {
         Aim::At(target) => is_inner_target(places, target),
         Aim::Within(point) => is_inner_point(places, point),
         Aim::Behind(place) => is_inner_place(places, place),
     }
 }
 
-/// Whether the instruction at a point is a call that goes into a function.
-fn is_inner_branch(places: &PointPlaces<'_, '_, '_>, n: u32, insn: Insn) -> bool
-    requires { n < length (points_of_object places.now) }
+/// Whether the instruction at a point, which goes `to` there, is a call that goes into a function.
+fn is_inner_branch(places: &PointPlaces<'_, '_, '_>, n: u32, insn: Insn, to: Aim) -> bool
+    requires point { n < length (points_of_object places.now) }
+    requires aim { to ≡ aim_of places.now (point_at places.now n) insn }
     ensures { result ≡ is_inner_call_by places.now (point_at places.now n) insn insn.op }
 {
     match insn.op {
-        Op::Call { .. } => is_inner_call(places, n, insn),
+        Op::Call { .. } => is_inner_call(places, n, insn, to),
         _ => false,
     }
 }
 
-/// Whether a point with this instruction calls into a function.
-pub(crate) fn calls_into_function(points: &FlowPoints<'_, '_, '_>, n: u32, insn: Insn) -> bool
+/// Whether a point with this instruction, which goes `to` there, calls into a function.
+pub(crate) fn calls_into_function(
+    points: &FlowPoints<'_, '_, '_>,
+    n: u32,
+    insn: Insn,
+    to: Aim,
+) -> bool
     requires point { n < length (points_of_object points.now) }
     requires insn { insn ≡ insn_of_object points.now (point_at points.now n) }
+    requires aim { to ≡ aim_of points.now (point_at points.now n) insn }
     ensures { result ≡ calls_into_a_function points.now (point_at points.now n) }
 {
-    is_inner_branch(points.places(), n, insn)
+    is_inner_branch(points.places(), n, insn, to)
 }

@@ -6,9 +6,10 @@ ghost use Rattle.jump_tables.specs.Texts.{is_boundary as is_boundary_of};
 ghost use Rattle.flow_defs.specs.Code.{point_at, points_of_object, texts_of};
 ghost use Rattle.flow_defs.specs.Marks.{call_places, jump_places, jump_places_by, listed_places, places_by};
 ghost use Rattle.flow_defs.specs.Sites.{is_into_site as comes_into_site};
+ghost use Rattle.flow_defs.specs.Targets.{aim as aim_of};
 ghost use Rattle.flow_defs.specs.Ways.{is_along as is_along_of};
 
-use branch_ways::{aim, branch_way, listed_way};
+use branch_ways::{branch_way, listed_way};
 use flow_defs::{Aim, Way};
 use flow_points::FlowPoints;
 use operation_defs::{Insn, Op};
@@ -98,15 +99,16 @@ fn table_enters(places: &PointPlaces<'_, '_, '_>, n: u32, table: &[Place]) -> bo
     table.iter().any(|place| is_into_site(places, n, *place))
 }
 
-/// Whether the call or jump with this instruction at a point comes into a site.
-pub(crate) fn branch_enters(points: &FlowPoints<'_, '_, '_>, n: u32, insn: Insn) -> bool
-    requires { n < length (points_of_object points.now) }
+/// Whether the call or jump with this instruction at a point, which goes `to` there, comes into a site.
+pub(crate) fn branch_enters(points: &FlowPoints<'_, '_, '_>, n: u32, insn: Insn, to: Aim) -> bool
+    requires point { n < length (points_of_object points.now) }
+    requires aim { to ≡ aim_of points.now (point_at points.now n) insn }
     ensures { result ≡ list_any (comes_into_site points.now (point_at points.now n)) (places_by points.now (point_at points.now n) insn insn.op) }
 {
     let places = points.places();
     match insn.op {
-        Op::Call { .. } => call_aim_enters(places, n, aim(places, n, insn)),
-        Op::Jmp { .. } | Op::Jcc { .. } => jump_aim_enters(places, n, aim(places, n, insn)),
+        Op::Call { .. } => call_aim_enters(places, n, to),
+        Op::Jmp { .. } | Op::Jcc { .. } => jump_aim_enters(places, n, to),
         Op::JmpInd { .. } => table_enters(places, n, points.table(n)),
         _ => false,
     }
@@ -122,6 +124,9 @@ pub(crate) fn listed_enter(
     requires { n < length (points_of_object places.now) }
     ensures { result ≡ list_any (comes_into_site places.now (point_at places.now n)) (listed_places places.now kind (point_at places.now n) listed.now) }
 {
+    if listed.is_empty() {
+        return false;
+    }
     let owner = places.owner(n);
     listed
         .iter()

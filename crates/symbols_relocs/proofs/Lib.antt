@@ -4,3 +4,4 @@ mod Least
 mod Listed
 mod Found
 mod Named
+mod Counted

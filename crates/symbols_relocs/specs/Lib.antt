@@ -6,3 +6,4 @@ pub mod Lists
 pub mod Names
 pub mod Faults
 pub mod FaultText
+pub mod Counts

@@ -13,6 +13,7 @@ ghost use Rattle.symbols_relocs.specs.Targets.{branch_target as branch_target_of
 use crate::fault::IndexFault;
 use crate::function::Function;
 use crate::merge::merge_symbols;
+use crate::near::list_counts;
 use crate::order::find_start;
 use crate::outer::{find_holder, link_outer};
 use crate::parents::with_parents;
@@ -35,6 +36,8 @@ pub struct Index<'o, 'a> {
     functions: Vec<Function>,
     /// For each function, how many there are up to the last one before it that ends behind its end.
     outer: Vec<usize>,
+    /// How many functions may start at a place or before it, by the slots of places.
+    near: Vec<u32>,
     /// The relocations of each section.
     relocs: Vec<RelocIndex>,
 }
@@ -65,11 +68,13 @@ impl<'o, 'a> Index<'o, 'a> {
         let functions = merge_symbols(alloc, symbols)?;
         let functions = with_parents(alloc, object, &functions)?;
         let outer = link_outer(alloc, &functions)?;
+        let near = list_counts(alloc, &functions)?;
         let relocs = index_relocs(alloc, object)?;
         Ok(Index {
             object,
             functions,
             outer,
+            near,
             relocs,
         })
     }
@@ -96,7 +101,7 @@ impl<'o, 'a> Index<'o, 'a> {
     pub fn function_at(&self, place: Place) -> Option<u32>
         ensures { IsIndexOfSymbol self.now.functions result (function_symbol_at self.now.elf place) }
     {
-        let index = find_holder(&self.functions, &self.outer, place)?;
+        let index = find_holder(&self.functions, &self.outer, &self.near, place)?;
         Some(index as u32)
     }
 
@@ -116,7 +121,7 @@ impl<'o, 'a> Index<'o, 'a> {
     pub fn starts_at(&self, place: Place) -> Option<u32>
         ensures { IsIndexOfSymbol self.now.functions result (starts_symbol_at self.now.elf place) }
     {
-        let index = find_start(&self.functions, place)?;
+        let index = find_start(&self.functions, &self.near, place)?;
         Some(index as u32)
     }
 

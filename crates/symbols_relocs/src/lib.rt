@@ -11,6 +11,7 @@ mod function;
 mod index;
 mod merge;
 mod names;
+mod near;
 mod order;
 mod outer;
 mod parents;

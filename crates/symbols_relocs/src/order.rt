@@ -2,9 +2,11 @@
 
 ghost use Rattle.std.specs.Prelude.{◌≡◌, ◌<◌, ◌≤◌, ℕ, true, false, length, MatchOption};
 ghost use Rattle.symbols_relocs.specs.Lists.{function, AreRising};
+ghost use Rattle.symbols_relocs.specs.Counts.{is_behind as is_one_behind, is_count as is_count_to, is_upto as is_one_upto};
 ghost use Rattle.symbols_relocs.specs.Places.{is_before as is_lower, same_place};
 
 use crate::function::Function;
+use crate::near::near_count;
 use ot_base::Place;
 
 /// Whether a place is in an earlier section, or in the same one at a lower offset.
@@ -24,12 +26,50 @@ pub(crate) fn count_to(functions: &[Function], place: Place) -> usize
     functions.partition_point(|function| !is_before(place, function.start))
 }
 
+/// Whether the one with an index starts behind a place, or there is none.
+fn is_behind(functions: &[Function], index: usize, place: Place) -> bool
+    ensures { result ≡ is_one_behind functions.now index place }
+{
+    index >= functions.len() || is_before(place, functions[index].start)
+}
+
+/// Whether the last of so many starts at a place or before it, or there is none.
+fn is_upto(functions: &[Function], count: usize, place: Place) -> bool
+    requires { count ≤ length functions.now }
+    ensures { result ≡ is_one_upto functions.now count place }
+{
+    count == 0 || !is_before(place, functions[count - 1].start)
+}
+
+/// Whether so many of these start at a place or before it, where they ascend.
+fn is_count(functions: &[Function], count: usize, place: Place) -> bool
+    ensures { result ≡ is_count_to functions.now count place }
+{
+    count <= functions.len()
+        && is_behind(functions, count, place)
+        && is_upto(functions, count, place)
+}
+
+/// How many of these start at a place or before it, where `near` has what to try first.
+pub(crate) fn count_near(functions: &[Function], near: &[u32], place: Place) -> usize
+    requires { AreRising functions.now }
+    ensures within { result ≤ length functions.now }
+    ensures to { (k : ℕ) → k < result → is_lower place (function functions.now k).start ≡ false }
+    ensures behind { (k : ℕ) → result ≤ k → k < length functions.now → is_lower place (function functions.now k).start ≡ true }
+{
+    let count = near_count(near, place);
+    if is_count(functions, count, place) {
+        return count;
+    }
+    count_to(functions, place)
+}
+
 /// The index of the one that starts at a place.
-pub(crate) fn find_start(functions: &[Function], place: Place) -> Option<usize>
+pub(crate) fn find_start(functions: &[Function], near: &[u32], place: Place) -> Option<usize>
     requires { AreRising functions.now }
     ensures { MatchOption result ((k : ℕ) → k < length functions.now → same_place (function functions.now k).start place ≡ false) (λ i. (i < length functions.now) × ((function functions.now i).start ≡ place)) }
 {
-    let count = count_to(functions, place);
+    let count = count_near(functions, near, place);
     if count > 0 && functions[count - 1].start == place {
         Some(count - 1)
     } else {

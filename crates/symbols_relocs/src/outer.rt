@@ -4,7 +4,7 @@ ghost use Rattle.std.specs.Prelude.{◌≡◌, ◌<◌, ◌≤◌, ◌+◌, ◌-
 ghost use Rattle.symbols_relocs.specs.Lists.{function, AreOuter, AreRising, ends_beyond as ends_after, holds, IsLastBeyond};
 
 use crate::function::Function;
-use crate::order::count_to;
+use crate::order::count_near;
 use ot_base::{NoMemory, Place};
 use std::alloc::Global;
 
@@ -56,13 +56,18 @@ pub(crate) fn link_outer(alloc: Global, functions: &[Function]) -> Result<Vec<us
 }
 
 /// The index of the last function that holds a place.
-pub(crate) fn find_holder(functions: &[Function], outer: &[usize], place: Place) -> Option<usize>
+pub(crate) fn find_holder(
+    functions: &[Function],
+    outer: &[usize],
+    near: &[u32],
+    place: Place,
+) -> Option<usize>
     requires rising { AreRising functions.now }
     requires links { AreOuter functions.now outer.now }
     requires len { length outer.now ≡ length functions.now }
     ensures { MatchOption result ((k : ℕ) → k < length functions.now → holds (function functions.now k) place ≡ false) (λ i. (i < length functions.now) × (holds (function functions.now i) place ≡ true) × ((k : ℕ) → i < k → k < length functions.now → holds (function functions.now k) place ≡ false)) }
 {
-    let count = count_to(functions, place);
+    let count = count_near(functions, near, place);
     let count = count_beyond(functions, outer, count, place.sec, u128::from(place.off));
     if count > 0 { Some(count - 1) } else { None }
 }

@@ -63,7 +63,7 @@ fn parent_of(
     if parent >= object.symbols() {
         return None;
     }
-    let index = find_start(functions, start_of(object, parent))?;
+    let index = find_start(functions, &[], start_of(object, parent))?;
     Some(index as u32)
 }
 

@@ -39,3 +39,6 @@ invariant_of-result c =
       each = sym (length-map insns (λ (insn : Insn). Some insn)) ∙ mapped ∙ length-map c.as_slice.result.now (insn_of_point texts entries) ∙ told;
       kept = subst (λ es. All (IsKept es) points) (sym same) (points_kept texts entries c.requires.short c.requires.right points (all_points texts entries points c.in_ok-points.ensures.all));
     }
+
+pub slots_of-requires : goal.slots_of-requires
+slots_of-requires c = omega (arith, c.in_ok-points.ensures.few, c.requires.bytes, c.requires.few, ap length c.as_slice-2.ensures.value)

@@ -3,6 +3,7 @@ use Rattle.std.specs.List.{zip}
 use Rattle.std.proofs.lemmas.List.{length-map}
 use Rattle.ot_base.specs.declared.place.Place.{Place}
 use Rattle.place_lists.specs.Places.{targets_of, AreByPlace}
+use Rattle.place_lists.specs.Marks.{AreMarked}
 use Rattle.place_lists.proofs.Runs.{zip_parts}
 use Rattle.place_lists.proofs.place_map.PlaceMap.build.Goals as goal
 
@@ -19,6 +20,7 @@ invariant_of-result c =
     let targets : c.in_ok-targets.targets.items ≡ map second sorted = c.in_ok-targets.ensures ∙ ap (map second) c.as_slice-2.ensures.value in (
       subst AreByPlace (sym places) c.in_ok-sort_by_first.ensures.sorted,
       ap length targets ∙ length-map sorted second ∙ sym (length-map sorted first) ∙ sym (ap length places),
+      subst (λ ps. AreMarked (length c.in_ok-marks.marks.items) ps c.in_ok-marks.marks.items) c.deref.ensures.value c.in_ok-marks.ensures,
     )
 
 pub returns : goal.returns

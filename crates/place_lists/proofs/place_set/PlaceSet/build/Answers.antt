@@ -1,13 +1,17 @@
-use Rattle.std.proofs.Common.{List, sym, ap, ◌∙◌}
+use Rattle.std.proofs.Common.{List, length, sym, ap, ◌∙◌, subst}
 use Rattle.std.proofs.lemmas.List.Sorted.{list_any-IsPermutation}
 use Rattle.ot_base.specs.declared.place.Place.{Place}
 use Rattle.symbols_relocs.specs.Places.{same_place}
 use Rattle.place_lists.specs.Places.{is_among}
+use Rattle.place_lists.specs.Marks.{AreMarked}
 use Rattle.place_lists.proofs.Order.{by_place}
 use Rattle.place_lists.proofs.place_set.PlaceSet.build.Goals as goal
 
 pub invariant_of-result : goal.invariant_of-result
-invariant_of-result c = by_place _ c.sort_unstable.ensures.sorted
+invariant_of-result c = (
+  by_place _ c.sort_unstable.ensures.sorted,
+  subst (λ ps. AreMarked (length c.in_ok-marks.marks.items) ps c.in_ok-marks.marks.items) c.deref.ensures.value c.in_ok-marks.ensures,
+)
 
 pub returns : goal.returns
 returns c =

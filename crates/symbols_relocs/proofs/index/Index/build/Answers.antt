@@ -29,3 +29,7 @@ invariant_of-result c =
       sections = c.in_ok-relocs.ensures.len;
       relocs = c.in_ok-relocs.ensures.each;
     }
+
+pub list_counts-requires : goal.list_counts-requires
+list_counts-requires c =
+    omega (arith, ap length c.deref-3.ensures.value, c.in_ok-functions-2.ensures.same.len, ap length c.deref.ensures.value, c.in_ok-functions.ensures.few, c.in_ok-symbols.ensures.few)

@@ -1,0 +1,15 @@
+-- Marks at the offsets of places.
+use Rattle.std.specs.Prelude.{◌≡◌, ◌<◌, ◌%◌, ℕ, Bool, true, false, List, length, slice_index_or}
+use Rattle.ot_base.specs.declared.place.Place.{Place}
+
+-- the number of the mark of a place, of so many
+abbrev pub mark_of : ℕ → Place → ℕ
+mark_of count place = place.off % count
+
+-- the mark of a place is set
+abbrev pub is_marked : ℕ → List Bool → Place → Bool
+is_marked count marks place = slice_index_or marks (mark_of count place) false
+
+-- those of all these are
+abbrev pub AreMarked : ℕ → List Place → List Bool → Type 0
+AreMarked count places marks = (k : ℕ) (d : Place) → k < length places → is_marked count marks (slice_index_or places k d) ≡ true

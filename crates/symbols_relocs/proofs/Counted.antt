@@ -1,0 +1,49 @@
+-- What a count that fits its neighbours tells of all functions.
+use Rattle.std.proofs.Common.{◌≡◌, ℕ, ◌-◌, ◌<◌, ◌≤◌, Bool, true, false, not, eqb, leb, ◌&&◌, ◌||◌, List, length, refl, sym, ap, ◌∙◌, arith, inl, inr}
+use Rattle.std.proofs.lemmas.Bool.{cases_Bool, false≢true}
+use Rattle.std.proofs.lemmas.Bool.Decides.{nat_tests}
+use Rattle.ot_base.specs.declared.place.Place.{Place}
+use Rattle.symbols_relocs.specs.declared.function.Function.{Function}
+use Rattle.symbols_relocs.specs.Counts.{is_behind, is_count, is_upto}
+use Rattle.symbols_relocs.specs.Lists.{function, no_function, AreRising}
+use Rattle.symbols_relocs.specs.Places.{is_before}
+use Rattle.symbols_relocs.proofs.PlaceOrder.{rising_parts, not_true}
+
+left : (a b : Bool) → (a && b) ≡ true → a ≡ true
+left true b h = refl
+left false b h = h
+
+right : (a b : Bool) → (a && b) ≡ true → b ≡ true
+right true b h = h
+right false b h = absurd (false≢true h)
+
+within : (count len : ℕ) → leb count len ≡ true → count ≤ len
+within count len h = grind (arith, nat_tests)
+
+not_behind : (len count : ℕ) (b : Bool) → count < len → (leb len count || b) ≡ true → b ≡ true
+not_behind len count true less h = refl
+not_behind len count false less h = grind (arith, nat_tests)
+
+not_upto : (count : ℕ) (b : Bool) → 0 < count → (eqb count 0 || b) ≡ true → b ≡ true
+not_upto count true some h = refl
+not_upto count false some h = grind (arith, nat_tests)
+
+not_of : (b : Bool) → b ≡ false → not b ≡ true
+not_of b h = ap not h
+
+pub counted_within : (fs : List Function) (count : ℕ) (place : Place) → is_count fs count place ≡ true → count ≤ length fs
+counted_within fs count place is = within count (length fs) (left _ _ is)
+
+pub counted_to : (fs : List Function) (count : ℕ) (place : Place) → AreRising fs → is_count fs count place ≡ true → (k : ℕ) → k < count → is_before place (function fs k).start ≡ false
+counted_to fs count place up is k lower =
+    let inside : count ≤ length fs = counted_within fs count place is in
+    let last : not (is_before place (function fs (count - 1)).start) ≡ true = not_upto count _ (omega arith) (right (is_behind fs count place) _ (right (leb count (length fs)) _ is)) in
+    not_true _ (rising_parts fs place up k (count - 1) no_function (omega arith) (omega arith) last)
+
+pub counted_behind : (fs : List Function) (count : ℕ) (place : Place) → AreRising fs → is_count fs count place ≡ true → (k : ℕ) → count ≤ k → k < length fs → is_before place (function fs k).start ≡ true
+counted_behind fs count place up is k from inside =
+    let next : is_before place (function fs count).start ≡ true = not_behind (length fs) count _ (omega arith) (left (is_behind fs count place) (is_upto fs count place) (right (leb count (length fs)) _ is)) in
+    elim (cases_Bool (is_before place (function fs k).start)) [
+      | inl behind ↦ behind
+      | inr not_so ↦ absurd (false≢true (sym (not_true _ (rising_parts fs place up count k no_function from inside (not_of _ not_so))) ∙ next))
+    ]
