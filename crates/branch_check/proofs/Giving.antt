@@ -16,7 +16,7 @@ use Rattle.branch_check.specs.LevelStates.{at, after_offer}
 use Rattle.branch_check.specs.Gives.{Gives, IsGiven}
 use Rattle.branch_check.specs.Told.{AreLeast, offer_all, given_along, given_to_restore}
 use Rattle.branch_check.proofs.Least.{least_more, least_same}
-use Rattle.branch_check.proofs.Offers.{at_same, at_other, same_or_not}
+use Rattle.branch_check.proofs.Places.{at_same, at_other, same_or_not}
 
 -- the elements of a front of a list with one more
 in_more : {X : Type 0} (xs : List X) (i : ℕ) (d x : X) → i < length xs → Contains (take (i + 1) xs) x → Contains (take i xs) x ⊎ (get_or xs i d ≡ x)

@@ -1,6 +1,7 @@
 pub mod StateOrder
 pub mod Least
 pub mod LevelSteps
-pub mod Offers
+pub mod Places
 pub mod Giving
 pub mod Rounds
+pub mod Numbered

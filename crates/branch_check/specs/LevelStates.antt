@@ -1,5 +1,5 @@
 -- The states of points by levels, as contracts see them.
-use Rattle.std.specs.Prelude.{◌≡◌, ℕ, ◌+◌, ◌<◌, List, [], ◌∷◌, Option, Some, None, Contains, IsSome, All, length, slice_index_or}
+use Rattle.std.specs.Prelude.{ℕ, ◌+◌, List, [], ◌∷◌, Option, Some, None, slice_index_or}
 use Rattle.state_defs.specs.declared.state.State.{State}
 use Rattle.branch_check.specs.Least.{lesser_of}
 
@@ -35,11 +35,3 @@ count_some (o ∷ states) = is_one o + count_some states
 abbrev pub count_open : List (Option State) → ℕ
 count_open [] = 0
 count_open (o ∷ states) = is_open o + count_open states
-
--- The points that something is offered to are listed, once each, and aren't kept.
-pub record AreOffered (kept next : List (Option State)) (offered : List ℕ) : Type 0 where
-  pub long : length next ≡ length kept
-  pub points : All (λ q. q < length kept) offered
-  pub listed : (q : ℕ) → IsSome (at next q) → Contains offered q
-  pub once : length offered ≡ count_some next
-  pub not_kept : (q : ℕ) → IsSome (at next q) → at kept q ≡ None

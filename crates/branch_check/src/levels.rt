@@ -2,33 +2,45 @@
 
 ghost use Rattle.std.specs.Prelude.{◌≡◌, ◌+◌, ◌<◌, ℕ, [], None, All, Contains, IfOk, IsSome, length, replicate, slice_index, slice_set};
 ghost use Rattle.checker_defs.specs.Kept.{kept_or};
-ghost use Rattle.branch_check.specs.LevelStates.{AreOffered, LevelStates, after_offer, at, count_open};
+ghost use Rattle.branch_check.specs.LevelStates.{LevelStates, after_offer, at, count_open};
+ghost use Rattle.branch_check.specs.Reached.{AreReached, kept_at, offered_at};
 
 use crate::order::lesser;
+use crate::region::Region;
 use ot_base::NoMemory;
 use state_defs::State;
 use std::alloc::Global;
 use std::marker::Model;
-use std::mem::swap;
+
+/// The place of a point that isn't reached.
+const NOWHERE: u32 = u32::MAX;
 
 /// The states of the points of a program, by levels.
+///
+/// The points that are reached stand in the order in which they were: those that are kept, of which the last ones are
+/// in front, then those that were offered a state for the next level. A point takes 40 bytes.
 #[derive(Drop)]
 pub(crate) struct Levels {
-    kept: Vec<Option<State>>,
-    next: Vec<Option<State>>,
-    front: Vec<u32>,
-    offered: Vec<u32>,
+    /// By point, its place among those that are reached.
+    places: Vec<u32>,
+    reached: Vec<u32>,
+    /// By place, the state that a point keeps, or the least of those that were offered to it.
+    states: Region,
+    /// How many points were kept before those in front, and how many are kept.
+    before: usize,
+    kept: usize,
 }
 
 impl Model for Levels {
-    ghost use Rattle.std.specs.Prelude.{◌<◌, ◌≤◌, ◌^◌, All, length, vec_capacity};
-    ghost use Rattle.branch_check.specs.LevelStates.{LevelStates, AreOffered};
+    ghost use Rattle.std.specs.Prelude.{◌≤◌, drop, length, map, take, vec_capacity};
+    ghost use Rattle.branch_check.specs.LevelStates.{LevelStates};
+    ghost use Rattle.branch_check.specs.Reached.{AreReached, kept_at, offered_at};
 
     ghost Value = { LevelStates };
 
-    ghost view = { λ l. record { kept = l.kept.items; next = l.next.items; front = l.front.items } };
+    ghost view = { λ l. record { kept = map (kept_at l.kept l.states.list) l.places.items; next = map (offered_at l.kept l.states.list) l.places.items; front = drop l.before (take l.kept l.reached.items) } };
 
-    ghost invariant = { λ l. (length l.kept.items < 2 ^ 32) × (length l.kept.items ≤ vec_capacity l.front) × (length l.kept.items ≤ vec_capacity l.offered) × All (λ q. q < length l.kept.items) l.front.items × AreOffered l.kept.items l.next.items l.offered.items };
+    ghost invariant = { λ l. (length l.places.items ≤ vec_capacity l.reached) × (length l.places.items ≤ l.states.room) × AreReached l.places.items l.reached.items l.states.list l.before l.kept };
 }
 
 impl Levels {
@@ -37,11 +49,19 @@ impl Levels {
         ensures { IfOk result (λ levels. levels ≡ record { kept = replicate points None; next = replicate points None; front = [] }) }
     {
         Ok(Levels {
-            kept: no_states(alloc, points)?,
-            next: no_states(alloc, points)?,
-            front: Vec::with_capacity(alloc, points as usize)?,
-            offered: Vec::with_capacity(alloc, points as usize)?,
+            places: no_places(alloc, points)?,
+            reached: Vec::with_capacity(alloc, points as usize)?,
+            states: Region::reserve(alloc, points)?,
+            before: 0,
+            kept: 0,
         })
+    }
+
+    /// How many points there are.
+    pub(crate) fn points(&self) -> u32
+        ensures { result ≡ length self.now.kept }
+    {
+        self.places.len() as u32
     }
 
     /// The state that a point keeps.
@@ -49,7 +69,12 @@ impl Levels {
         requires { n < length self.now.kept }
         ensures { result ≡ at self.now.kept n }
     {
-        self.kept[n as usize]
+        let place = self.places[n as usize] as usize;
+        if place < self.kept {
+            Some(self.states.state(place))
+        } else {
+            None
+        }
     }
 
     /// How many points are kept since the last level.
@@ -57,7 +82,7 @@ impl Levels {
         ensures len { result ≡ length self.now.front }
         ensures points { All (λ q. q < length self.now.kept) self.now.front }
     {
-        self.front.len()
+        self.kept - self.before
     }
 
     /// A point that is kept since the last level.
@@ -66,7 +91,7 @@ impl Levels {
         ensures front { result ≡ slice_index self.now.front i }
         ensures point { result < length self.now.kept }
     {
-        self.front[i]
+        self.reached[self.before + i]
     }
 
     /// Offers a point a state for the next level.
@@ -76,13 +101,17 @@ impl Levels {
         ensures front { self.new.front ≡ self.old.front }
         ensures next { self.new.next ≡ slice_set self.old.next n (after_offer (at self.old.kept n) (at self.old.next n) state) }
     {
-        match (self.kept[n as usize], self.next[n as usize]) {
-            (None, None) => {
-                self.offered.push_reserved(n);
-                self.next[n as usize] = Some(state);
-            }
-            (None, Some(best)) => self.next[n as usize] = Some(lesser(best, state)),
-            (Some(_), _) => {}
+        let place = self.places[n as usize] as usize;
+        if place < self.kept {
+            return;
+        }
+        if place < self.states.len() {
+            let best = self.states.state(place);
+            self.states.set(place, lesser(best, state));
+        } else {
+            self.places[n as usize] = self.states.len() as u32;
+            self.reached.push_reserved(n);
+            self.states.push(state);
         }
     }
 
@@ -96,32 +125,14 @@ impl Levels {
         ensures next_len { length self.new.next ≡ length self.old.next }
         ensures fewer { count_open self.new.kept + length self.new.front ≡ count_open self.old.kept }
     {
-        swap(&mut self.front, &mut self.offered);
-        self.offered.clear();
-        keep(&mut self.kept, &mut self.next, self.front.as_slice());
+        self.before = self.kept;
+        self.kept = self.reached.len();
     }
 }
 
-/// No state for any point.
-fn no_states(alloc: Global, points: u32) -> Result<Vec<Option<State>>, NoMemory>
-    ensures { IfOk result (λ states. states.items ≡ replicate points None) }
+/// No point is reached.
+fn no_places(alloc: Global, points: u32) -> Result<Vec<u32>, NoMemory>
+    ensures { IfOk result (λ places. places.items ≡ replicate points 4294967295) }
 {
-    Ok(vec![in alloc; None; points as usize]?)
-}
-
-/// Each of these points keeps what was offered to it.
-fn keep(kept: &mut Vec<Option<State>>, next: &mut Vec<Option<State>>, front: &[u32])
-    requires { AreOffered kept.old.items next.old.items front.now }
-    ensures kept { (q : ℕ) → at kept.new.items q ≡ kept_or (at kept.old.items q) (at next.old.items q) }
-    ensures next { (q : ℕ) → at next.new.items q ≡ None }
-    ensures len { length kept.new.items ≡ length kept.old.items }
-    ensures next_len { length next.new.items ≡ length next.old.items }
-    ensures fewer { count_open kept.new.items + length front.now ≡ count_open kept.old.items }
-{
-    for q in front {
-        if let Some(state) = next[*q as usize] {
-            kept[*q as usize] = Some(state);
-            next[*q as usize] = None;
-        }
-    }
+    Ok(vec![in alloc; NOWHERE; points as usize]?)
 }

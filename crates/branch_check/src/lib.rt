@@ -1,9 +1,12 @@
 //! The states that a checker keeps for the points of a program.
 #![tactic(auto)]
 
+mod counting;
 mod gifts;
 mod levels;
 mod order;
+mod packed;
+mod region;
 mod spreading;
 
 pub use spreading::{Kept, Scratch, spread};

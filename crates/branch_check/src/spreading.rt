@@ -5,10 +5,12 @@ ghost use Rattle.program_defs.specs.Program.{Program, IsPoint};
 ghost use Rattle.program_defs.specs.IsProgram.{IsProgram, HintsStandAtPoints};
 ghost use Rattle.checker_defs.specs.Kept.{AreKeptStates, state_at};
 ghost use Rattle.program_graph.specs.Tells.{Tells};
+ghost use Rattle.branch_check.specs.Counted.{IsStateCount};
 ghost use Rattle.branch_check.specs.Gives.{IsLevel};
 ghost use Rattle.branch_check.specs.LevelStates.{at};
 ghost use Rattle.branch_check.specs.Told.{HaveGiven};
 
+use crate::counting::count_states;
 use crate::gifts::{give_along, give_to_restore};
 use crate::levels::Levels;
 use ot_base::NoMemory;
@@ -179,6 +181,17 @@ impl Kept {
         ensures { result ≡ at self.now n }
     {
         self.levels.state(n)
+    }
+
+    /// How many different states are kept.
+    ///
+    /// # Errors
+    ///
+    /// [`NoMemory`] may come at any program: the states are numbered in a pool, which is let go again.
+    pub fn states(&self, alloc: Global) -> Result<u32, NoMemory>
+        ensures { IfOk result (IsStateCount self.now) }
+    {
+        count_states(alloc, &self.levels)
     }
 }
 

@@ -99,7 +99,20 @@ fn all_fit(graph: &Graph, kept: &Kept) -> bool
     true
 }
 
-/// Both keep the same states.
+/// How many different states there are.
+fn count_different(alloc: Global, states: &[Option<State>]) -> Result<usize, AllocError> {
+    let mut different = Vec::new(alloc);
+    for state in states {
+        if let Some(state) = state {
+            different.push(*state)?;
+        }
+    }
+    different.sort_unstable();
+    different.dedup();
+    Ok(different.len())
+}
+
+/// Both keep the same states, and as many different ones.
 fn expect_same_states(
     rt: &impl Abort,
     alloc: Global,
@@ -116,6 +129,8 @@ fn expect_same_states(
         let expected = states.get(n as usize).copied().flatten();
         assert_eq!(rt; kept.state(n), expected, "{name} at {n}");
     }
+    let different = count_different(alloc, &states)?;
+    assert_eq!(rt; kept.states(alloc)? as usize, different, "{name}");
     Ok(())
 }
 

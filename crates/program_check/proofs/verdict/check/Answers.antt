@@ -1,5 +1,6 @@
 -- Without a warning no rule is broken.
-use Rattle.program_check.proofs.Empty.{is_empty}
+use Rattle.std.specs.Prelude.{refl}
+use Rattle.program_check.proofs.Empty.{is_empty, is_longer}
 use Rattle.program_check.proofs.Sums.{nothing_accepts, none_is_broken}
 use Rattle.program_check.proofs.verdict.check.Goals as goal
 
@@ -19,3 +20,11 @@ returns-then-is_empty c p ch =
       accepted = nothing_accepts p c.args.options c.in_ok-warnings.warnings.items none (c.in_ok-warnings.ensures.broken p ch);
       unbroken = none_is_broken p c.args.options c.in_ok-warnings.warnings.items none (c.in_ok-warnings.ensures.broken p ch);
     }
+
+pub returns-else-is_empty : goal.returns-else-is_empty
+returns-else-is_empty c p ch = record {
+  graph = refl;
+  some = is_longer c.is_empty.result c.in_ok-warnings.warnings.len c.in_ok-warnings.warnings.items c.is_empty.ensures c.in_ok-warnings.warnings.ok.0 (search);
+  ascending = c.in_ok-warnings.ensures.ascending;
+  broken = c.in_ok-warnings.ensures.broken p ch;
+}

@@ -1,17 +1,30 @@
--- What was offered is in front now, and nothing is offered.
-use Rattle.std.proofs.Common.{◌≡◌, ◌<◌, ◌≤◌, All, [], length, vec_capacity, sym, ◌∙◌, arith}
-use Rattle.branch_check.specs.LevelStates.{AreOffered}
-use Rattle.branch_check.proofs.Offers.{none_offered}
+-- All that were reached are kept now.
+use Rattle.std.proofs.Common.{◌≡◌, ◌+◌, Contains, IsSome, length, map, take, drop, subst, arith}
+use Rattle.checker_defs.specs.Kept.{kept_or}
+use Rattle.branch_check.specs.LevelStates.{LevelStates, at, count_open}
+use Rattle.branch_check.specs.Reached.{kept_at}
+use Rattle.branch_check.proofs.Places.{kept_then, none_then, in_front_then, fewer, front_length}
 use Rattle.branch_check.proofs.levels.Levels.advance.Goals as goal
 
-pub invariant_of-self : goal.invariant_of-self
-invariant_of-self c =
-    let are : AreOffered c.self.inside.kept.items c.self.inside.next.items c.self.inside.offered.items = c.self.invariant.4 in
-    let len : length c.keep.new.kept.items ≡ length c.self.inside.kept.items = c.keep.ensures.len in
-    let next_len : length c.keep.new.next.items ≡ length c.self.inside.next.items = c.keep.ensures.next_len in
-    let none : AreOffered c.keep.new.kept.items c.keep.new.next.items [] = none_offered c.keep.new.kept.items c.keep.new.next.items (next_len ∙ (are.long ∙ sym len)) c.keep.ensures.next in
-    let points : All (λ q. q < length c.keep.new.kept.items) c.self.inside.offered.items = rw len are.points in
-    let few : length c.keep.new.kept.items < 4294967296 = omega (arith, len, c.self.invariant.0) in
-    let front : length c.keep.new.kept.items ≤ vec_capacity c.swap.new.x = rw (len, c.swap.ensures.x_after) c.self.invariant.2 in
-    let back : length c.keep.new.kept.items ≤ vec_capacity c.clear.new.self = rw (len, c.clear.ensures.capacity, c.swap.ensures.y_after) c.self.invariant.1 in
-    (few, front, back, rw c.swap.ensures.x_after points, rw c.clear.ensures.items none)
+pub returns-clause-kept : goal.returns-clause-kept
+returns-clause-kept c q =
+    let len : c.len-self-inside.result ≡ length c.self.inside.reached.items = omega (arith, c.len-self-inside.ensures, c.self.inside.reached.ok) in
+    rw len (subst (λ (v : LevelStates). at (map (kept_at (length c.self.inside.reached.items) c.self.inside.states.list) c.self.inside.places.items) q ≡ kept_or (at v.kept q) (at v.next q)) c.self.view_is
+    (kept_then c.self.inside.places.items c.self.inside.reached.items c.self.inside.states.list c.self.inside.before c.self.inside.kept c.self.invariant.2 q))
+
+pub returns-clause-next : goal.returns-clause-next
+returns-clause-next c q =
+    let len : c.len-self-inside.result ≡ length c.self.inside.reached.items = omega (arith, c.len-self-inside.ensures, c.self.inside.reached.ok) in
+    rw len (none_then c.self.inside.places.items c.self.inside.reached.items c.self.inside.states.list c.self.inside.before c.self.inside.kept c.self.invariant.2 q)
+
+pub returns-clause-front : goal.returns-clause-front
+returns-clause-front c q =
+    let len : c.len-self-inside.result ≡ length c.self.inside.reached.items = omega (arith, c.len-self-inside.ensures, c.self.inside.reached.ok) in
+    rw len (subst (λ (v : LevelStates). IsSome (at v.next q) → Contains (drop c.self.inside.kept (take (length c.self.inside.reached.items) c.self.inside.reached.items)) q) c.self.view_is
+    (in_front_then c.self.inside.places.items c.self.inside.reached.items c.self.inside.states.list c.self.inside.before c.self.inside.kept c.self.invariant.2 q))
+
+pub returns-clause-fewer : goal.returns-clause-fewer
+returns-clause-fewer c =
+    let len : c.len-self-inside.result ≡ length c.self.inside.reached.items = omega (arith, c.len-self-inside.ensures, c.self.inside.reached.ok) in
+    rw len (subst (λ (v : LevelStates). count_open (map (kept_at (length c.self.inside.reached.items) c.self.inside.states.list) c.self.inside.places.items) + length (drop c.self.inside.kept (take (length c.self.inside.reached.items) c.self.inside.reached.items)) ≡ count_open v.kept) c.self.view_is
+    (rw (front_length c.self.inside.kept c.self.inside.reached.items) (fewer c.self.inside.places.items c.self.inside.reached.items c.self.inside.states.list c.self.inside.before c.self.inside.kept c.self.invariant.2)))

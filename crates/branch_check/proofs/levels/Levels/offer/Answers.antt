@@ -1,33 +1,92 @@
--- A point that was offered nothing is put at the end of the list.
-use Rattle.std.proofs.Common.{◌≡◌, ◌<◌, ◌≤◌, length, vec_capacity, get_or, Option, None, Some, IsSome, refl, sym, ◌∙◌, subst, arith}
-use Rattle.state_defs.specs.declared.state.State.{State}
-use Rattle.branch_check.specs.LevelStates.{LevelStates, at, AreOffered, count_some}
-use Rattle.branch_check.proofs.Offers.{room_for_new, offered_new, offered_known, at_read}
+-- A point that is offered a state for the first time is put behind those that are reached.
+use Rattle.std.proofs.Common.{◌≡◌, ◌<◌, ℕ, List, [], ◌∷◌, ◌++◌, Some, length, get_or, set, slice_get, map, ap, sym, ◌∙◌, subst, arith, length-set}
+use Rattle.branch_check.specs.LevelStates.{LevelStates, at, after_offer}
+use Rattle.branch_check.specs.Reached.{AreReached, kept_at, offered_at}
+use Rattle.branch_check.proofs.Places.{point_inside, read_place, leaves_kept, kept_same, offered_better, better_reached, has_room, kept_too, offered_too, new_reached}
 use Rattle.branch_check.proofs.levels.Levels.offer.Goals as goal
 
-pub push_reserved-requires : goal.push_reserved-requires
-push_reserved-requires c =
-    let inside : c.args.n < length c.self.inside.kept.items = subst (λ (v : LevelStates). c.args.n < length v.kept) (sym c.self.view_is) c.requires in
-    let none : at c.self.inside.next.items c.args.n ≡ None = subst (λ (o : Option State). get_or c.self.inside.next.items c.args.n o ≡ o) c.in-None-None.is-1 (sym c.index-2.ensures) in
-    let are : AreOffered c.self.inside.kept.items c.self.inside.next.items c.self.inside.offered.items = c.self.invariant.4 in
-    let long : length c.self.inside.next.items ≡ length c.self.inside.kept.items = are.long in
-    let room : count_some c.self.inside.next.items < length c.self.inside.next.items = room_for_new c.self.inside.next.items c.args.n (omega (arith, long, inside)) none in
-    let once : length c.self.inside.offered.items ≡ count_some c.self.inside.next.items = are.once in
-    omega (arith, long, room, once, c.self.invariant.2, c.self.inside.offered.ok)
+pub returns-then-place-self-clause-next : goal.returns-then-place-self-clause-next
+returns-then-place-self-clause-next c =
+    let places : List ℕ = c.self.inside.places.items in
+    let inside : c.args.n < length places = point_inside places (kept_at c.self.inside.kept c.self.inside.states.list) c.args.n (subst (λ (v : LevelStates). c.args.n < length v.kept) (sym c.self.view_is) c.requires) in
+    let place : c.index.result.now ≡ get_or places c.args.n 0 = read_place places c.args.n c.index.result.now inside c.index.ensures in
+    subst (λ (v : LevelStates). v.next ≡ set v.next c.args.n (after_offer (at v.kept c.args.n) (at v.next c.args.n) c.args.state)) c.self.view_is
+    (leaves_kept places c.self.inside.reached.items c.self.inside.states.list c.self.inside.before c.self.inside.kept c.self.invariant.2 c.args.n c.args.state inside (omega (arith, place, c.if-place-self.true)))
 
 pub invariant_of-self : goal.invariant_of-self
 invariant_of-self c =
-    let inside : c.args.n < length c.self.inside.kept.items = subst (λ (v : LevelStates). c.args.n < length v.kept) (sym c.self.view_is) c.requires in
-    let none : at c.self.inside.next.items c.args.n ≡ None = subst (λ (o : Option State). get_or c.self.inside.next.items c.args.n o ≡ o) c.in-None-None.is-1 (sym c.index-2.ensures) in
-    let vacant : at c.self.inside.kept.items c.args.n ≡ None = subst (λ (o : Option State). get_or c.self.inside.kept.items c.args.n o ≡ o) c.in-None-None.is-0 (sym c.index.ensures) in
-    let are : AreOffered c.self.inside.kept.items c.self.inside.next.items c.self.inside.offered.items = c.self.invariant.4 in
-    let room : length c.self.inside.kept.items ≤ vec_capacity c.push_reserved.new.self = rw c.push_reserved.ensures.capacity c.self.invariant.2 in
-    (c.self.invariant.0, c.self.invariant.1, room, c.self.invariant.3, rw c.push_reserved.ensures.items (offered_new c.self.inside.kept.items c.self.inside.next.items c.self.inside.offered.items are c.args.n c.args.state inside vacant none))
+    let places : List ℕ = c.self.inside.places.items in
+    let inside : c.args.n < length places = point_inside places (kept_at c.self.inside.kept c.self.inside.states.list) c.args.n (subst (λ (v : LevelStates). c.args.n < length v.kept) (sym c.self.view_is) c.requires) in
+    let place : c.index.result.now ≡ get_or places c.args.n 0 = read_place places c.args.n c.index.result.now inside c.index.ensures in
+    let was : slice_get c.self.inside.states.list (get_or places c.args.n 0) ≡ Some c.state-best.result = ap (slice_get c.self.inside.states.list) (sym place) ∙ c.state-best.ensures in
+    rw (c.set.ensures, place)
+    (c.self.invariant.0, c.self.invariant.1, better_reached places c.self.inside.reached.items c.self.inside.states.list c.self.inside.before c.self.inside.kept c.self.invariant.2 c.args.n c.args.state inside (omega (arith, place, c.if-place-self.false)) c.state-best.result c.lesser.result was)
 
-pub invariant_of-self-in-None-Some : goal.invariant_of-self-in-None-Some
-invariant_of-self-in-None-Some c =
-    let inside : c.args.n < length c.self.inside.kept.items = subst (λ (v : LevelStates). c.args.n < length v.kept) (sym c.self.view_is) c.requires in
-    let are : AreOffered c.self.inside.kept.items c.self.inside.next.items c.self.inside.offered.items = c.self.invariant.4 in
-    let long : length c.self.inside.next.items ≡ length c.self.inside.kept.items = are.long in
-    let some : at c.self.inside.next.items c.args.n ≡ Some c.in-None-Some.best = at_read c.self.inside.next.items c.args.n (c.index-2.result).now (omega (arith, long, inside)) c.index-2.ensures ∙ c.in-None-Some.is-1 in
-    (c.self.invariant.0, c.self.invariant.1, c.self.invariant.2, c.self.invariant.3, offered_known c.self.inside.kept.items c.self.inside.next.items c.self.inside.offered.items are c.args.n c.lesser.result inside (subst IsSome (sym some) refl))
+pub returns-then-place-len-clause-kept : goal.returns-then-place-len-clause-kept
+returns-then-place-len-clause-kept c =
+    let places : List ℕ = c.self.inside.places.items in
+    let inside : c.args.n < length places = point_inside places (kept_at c.self.inside.kept c.self.inside.states.list) c.args.n (subst (λ (v : LevelStates). c.args.n < length v.kept) (sym c.self.view_is) c.requires) in
+    let place : c.index.result.now ≡ get_or places c.args.n 0 = read_place places c.args.n c.index.result.now inside c.index.ensures in
+    let was : slice_get c.self.inside.states.list (get_or places c.args.n 0) ≡ Some c.state-best.result = ap (slice_get c.self.inside.states.list) (sym place) ∙ c.state-best.ensures in
+    rw (c.set.ensures, place)
+    (subst (λ (v : LevelStates). map (kept_at c.self.inside.kept (set c.self.inside.states.list (get_or places c.args.n 0) c.lesser.result)) places ≡ v.kept) c.self.view_is
+    (kept_same places c.self.inside.reached.items c.self.inside.states.list c.self.inside.before c.self.inside.kept c.self.invariant.2 c.args.n c.args.state inside (omega (arith, place, c.if-place-self.false)) c.state-best.result c.lesser.result was))
+
+pub returns-then-place-len-clause-next : goal.returns-then-place-len-clause-next
+returns-then-place-len-clause-next c =
+    let places : List ℕ = c.self.inside.places.items in
+    let inside : c.args.n < length places = point_inside places (kept_at c.self.inside.kept c.self.inside.states.list) c.args.n (subst (λ (v : LevelStates). c.args.n < length v.kept) (sym c.self.view_is) c.requires) in
+    let place : c.index.result.now ≡ get_or places c.args.n 0 = read_place places c.args.n c.index.result.now inside c.index.ensures in
+    let was : slice_get c.self.inside.states.list (get_or places c.args.n 0) ≡ Some c.state-best.result = ap (slice_get c.self.inside.states.list) (sym place) ∙ c.state-best.ensures in
+    rw (c.set.ensures, place)
+    (subst (λ (v : LevelStates). map (offered_at c.self.inside.kept (set c.self.inside.states.list (get_or places c.args.n 0) c.lesser.result)) places ≡ set v.next c.args.n (after_offer (at v.kept c.args.n) (at v.next c.args.n) c.args.state)) c.self.view_is
+    (offered_better places c.self.inside.reached.items c.self.inside.states.list c.self.inside.before c.self.inside.kept c.self.invariant.2 c.args.n c.args.state inside (omega (arith, place, c.if-place-self.false)) c.state-best.result c.lesser.result was c.lesser.ensures))
+
+pub push_reserved-requires : goal.push_reserved-requires
+push_reserved-requires c =
+    let places : List ℕ = c.self.inside.places.items in
+    let inside : c.args.n < length places = point_inside places (kept_at c.self.inside.kept c.self.inside.states.list) c.args.n (subst (λ (v : LevelStates). c.args.n < length v.kept) (sym c.self.view_is) c.requires) in
+    let place : c.index.result.now ≡ get_or places c.args.n 0 = read_place places c.args.n c.index.result.now inside c.index.ensures in
+    let room : length c.self.inside.reached.items < length places =
+    has_room places c.self.inside.reached.items c.self.inside.states.list c.self.inside.before c.self.inside.kept c.self.invariant.2 c.args.n c.args.state inside (omega (arith, place, c.if-place-len.false, c.len.ensures)) in
+    omega (arith, room, c.self.invariant.0, c.self.inside.reached.ok)
+
+pub push-requires : goal.push-requires
+push-requires c =
+    let places : List ℕ = c.self.inside.places.items in
+    let are : AreReached places c.self.inside.reached.items c.self.inside.states.list c.self.inside.before c.self.inside.kept = c.self.invariant.2 in
+    let inside : c.args.n < length places = point_inside places (kept_at c.self.inside.kept c.self.inside.states.list) c.args.n (subst (λ (v : LevelStates). c.args.n < length v.kept) (sym c.self.view_is) c.requires) in
+    let place : c.index.result.now ≡ get_or places c.args.n 0 = read_place places c.args.n c.index.result.now inside c.index.ensures in
+    let room : length c.self.inside.reached.items < length places =
+    has_room places c.self.inside.reached.items c.self.inside.states.list c.self.inside.before c.self.inside.kept are c.args.n c.args.state inside (omega (arith, place, c.if-place-len.false, c.len.ensures)) in
+    omega (arith, room, c.self.invariant.1, are.long)
+
+pub invariant_of-self-else-place-len : goal.invariant_of-self-else-place-len
+invariant_of-self-else-place-len c =
+    let places : List ℕ = c.self.inside.places.items in
+    let inside : c.args.n < length places = point_inside places (kept_at c.self.inside.kept c.self.inside.states.list) c.args.n (subst (λ (v : LevelStates). c.args.n < length v.kept) (sym c.self.view_is) c.requires) in
+    let place : c.index.result.now ≡ get_or places c.args.n 0 = read_place places c.args.n c.index.result.now inside c.index.ensures in
+    let long : length (set places c.args.n (length c.self.inside.states.list)) ≡ length places = length-set places c.args.n (length c.self.inside.states.list) in
+    rw (c.len-else-place-len.ensures, c.push_reserved.ensures.items, c.push.ensures) (
+      omega (arith, long, c.push_reserved.ensures.capacity, c.self.invariant.0),
+      omega (arith, long, c.self.invariant.1),
+      new_reached places c.self.inside.reached.items c.self.inside.states.list c.self.inside.before c.self.inside.kept c.self.invariant.2 c.args.n c.args.state inside (omega (arith, place, c.if-place-len.false, c.len.ensures)),
+    )
+
+pub returns-else-place-len-clause-kept : goal.returns-else-place-len-clause-kept
+returns-else-place-len-clause-kept c =
+    let places : List ℕ = c.self.inside.places.items in
+    let inside : c.args.n < length places = point_inside places (kept_at c.self.inside.kept c.self.inside.states.list) c.args.n (subst (λ (v : LevelStates). c.args.n < length v.kept) (sym c.self.view_is) c.requires) in
+    let place : c.index.result.now ≡ get_or places c.args.n 0 = read_place places c.args.n c.index.result.now inside c.index.ensures in
+    rw (c.len-else-place-len.ensures, c.push.ensures)
+    (subst (λ (v : LevelStates). map (kept_at c.self.inside.kept (c.self.inside.states.list ++ c.args.state ∷ [])) (set places c.args.n (length c.self.inside.states.list)) ≡ v.kept) c.self.view_is
+    (kept_too places c.self.inside.reached.items c.self.inside.states.list c.self.inside.before c.self.inside.kept c.self.invariant.2 c.args.n c.args.state inside (omega (arith, place, c.if-place-len.false, c.len.ensures))))
+
+pub returns-else-place-len-clause-next : goal.returns-else-place-len-clause-next
+returns-else-place-len-clause-next c =
+    let places : List ℕ = c.self.inside.places.items in
+    let inside : c.args.n < length places = point_inside places (kept_at c.self.inside.kept c.self.inside.states.list) c.args.n (subst (λ (v : LevelStates). c.args.n < length v.kept) (sym c.self.view_is) c.requires) in
+    let place : c.index.result.now ≡ get_or places c.args.n 0 = read_place places c.args.n c.index.result.now inside c.index.ensures in
+    rw (c.len-else-place-len.ensures, c.push.ensures)
+    (subst (λ (v : LevelStates). map (offered_at c.self.inside.kept (c.self.inside.states.list ++ c.args.state ∷ [])) (set places c.args.n (length c.self.inside.states.list)) ≡ set v.next c.args.n (after_offer (at v.kept c.args.n) (at v.next c.args.n) c.args.state)) c.self.view_is
+    (offered_too places c.self.inside.reached.items c.self.inside.states.list c.self.inside.before c.self.inside.kept c.self.invariant.2 c.args.n c.args.state inside (omega (arith, place, c.if-place-len.false, c.len.ensures))))

@@ -1,0 +1,25 @@
+-- The points that are reached, in the order in which they were, and their states.
+use Rattle.std.specs.Prelude.{◌≡◌, ℕ, ◌^◌, ◌<◌, ◌≤◌, ◌⊎◌, List, Option, None, All, if◌then◌else◌, nat_lt, length, map, slice_get, slice_index}
+use Rattle.state_defs.specs.declared.state.State.{State}
+use Rattle.branch_check.specs.LevelStates.{count_some}
+
+-- the place of a point that isn't reached
+abbrev pub nowhere : ℕ
+nowhere = 4294967295
+
+-- the state at a place where it is one of the first few, and where it isn't
+abbrev pub kept_at : ℕ → List State → ℕ → Option State
+kept_at kept states place = if nat_lt place kept then slice_get states place else None
+
+abbrev pub offered_at : ℕ → List State → ℕ → Option State
+offered_at kept states place = if nat_lt place kept then None else slice_get states place
+
+-- Each point that is reached has its place there, and each place has a state. The first ones are kept.
+pub record AreReached (places reached : List ℕ) (states : List State) (before kept : ℕ) : Type 0 where
+  pub few : length places < 2 ^ 32
+  pub long : length states ≡ length reached
+  pub ordered : (before ≤ kept) × (kept ≤ length reached)
+  pub points : All (λ q. q < length places) reached
+  pub placed : (q : ℕ) → q < length places → (slice_index places q ≡ nowhere) ⊎ ((slice_index places q < length reached) × (slice_index reached (slice_index places q) ≡ q))
+  pub kept_count : count_some (map (kept_at kept states) places) ≡ kept
+  pub count : count_some (map (slice_get states) places) ≡ length reached

@@ -1,0 +1,103 @@
+//! A state in 32 bytes.
+
+ghost use Rattle.std.specs.Prelude.{◌≡◌};
+ghost use Rattle.branch_check.specs.Region.{state_of};
+
+use state_defs::{BpHome, Depth, EndKind, State};
+
+/// Which state it is, but for its numbers.
+#[derive(Clone, Copy)]
+enum Shape {
+    Live {
+        at_least: bool,
+        framed: bool,
+        saved: bool,
+    },
+    Ended(EndKind),
+    Regs {
+        full: bool,
+    },
+}
+
+/// A state whose numbers stand beside its shape; one that it doesn't have is 0.
+#[derive(Clone, Copy)]
+pub(crate) struct PackedState {
+    shape: Shape,
+    depth: i64,
+    fp: i64,
+    home: i64,
+}
+
+const _: () = prove!(size_of::<PackedState>() == 32);
+
+impl PackedState {
+    /// A state in its packed form.
+    pub(crate) fn new(state: State) -> PackedState
+        ensures { state_of result ≡ state }
+    {
+        let (shape, depth, fp, home) = match state {
+            State::Live { depth, fp, bp } => {
+                let (at_least, depth) = match depth {
+                    Depth::Known(number) => (false, number),
+                    Depth::AtLeast(number) => (true, number),
+                };
+                let (framed, fp) = match fp {
+                    None => (false, 0),
+                    Some(number) => (true, number),
+                };
+                let (saved, home) = match bp {
+                    BpHome::Same => (false, 0),
+                    BpHome::Saved(number) => (true, number),
+                };
+                (
+                    Shape::Live {
+                        at_least,
+                        framed,
+                        saved,
+                    },
+                    depth,
+                    fp,
+                    home,
+                )
+            }
+            State::Ended(kind) => (Shape::Ended(kind), 0, 0, 0),
+            State::Regs { full, depth } => (Shape::Regs { full }, depth, 0, 0),
+        };
+        PackedState {
+            shape,
+            depth,
+            fp,
+            home,
+        }
+    }
+
+    /// The state of a packed form.
+    pub(crate) fn state(self) -> State
+        ensures { result ≡ state_of self }
+    {
+        match self.shape {
+            Shape::Live {
+                at_least,
+                framed,
+                saved,
+            } => State::Live {
+                depth: if at_least {
+                    Depth::AtLeast(self.depth)
+                } else {
+                    Depth::Known(self.depth)
+                },
+                fp: if framed { Some(self.fp) } else { None },
+                bp: if saved {
+                    BpHome::Saved(self.home)
+                } else {
+                    BpHome::Same
+                },
+            },
+            Shape::Ended(kind) => State::Ended(kind),
+            Shape::Regs { full } => State::Regs {
+                full,
+                depth: self.depth,
+            },
+        }
+    }
+}
