@@ -1,20 +1,15 @@
-//! The command line of objtool: what its words ask for, or the first of them that is at fault, and the
-//! texts that tell its user of it.
+//! The words of a command line: what they mean, and the first of them that is at fault.
 #![tactic(auto)]
 
 mod command;
-mod definition;
 mod fault;
 mod judge;
+mod line;
 mod number;
-mod read;
 mod word;
 
 pub use command::Command;
-pub use definition::{help_text, version_text};
 pub use fault::{UsageFault, UsageKind};
-pub use read::read_words;
+pub use line::judge_words;
+pub use number::number_of;
 pub use word::CommandWord;
-
-#[cfg(test)]
-mod tests;

@@ -30,7 +30,7 @@ fn is_numeral(word: &[u8]) -> bool
 
 /// The number that a word writes, where it is one from 0 to 100,000.
 #[tactic(auto, unfolding(crate::specs::Numbers::number_of))]
-pub(crate) fn number_of(word: &str) -> Option<u32>
+pub fn number_of(word: &str) -> Option<u32>
     ensures { result ≡ number_of word.now }
 {
     if !is_numeral(word.as_bytes()) {

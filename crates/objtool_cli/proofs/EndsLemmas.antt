@@ -29,8 +29,9 @@ use Rattle.cli_words.specs.declared.fault.UsageKind.{UsageKind}
 use Rattle.ot_base.specs.declared.options.Options.{Options}
 use Rattle.command_base.specs.declared.usage.Usage as declared
 use Rattle.command_base.specs.Printing.{Prints, fails, fault_stays, runs_out, silent, tells, whole}
+use Rattle.command_base.proofs.PrintLemmas.{nothing_printed}
 use Rattle.command_base.proofs.ConcludeLemmas.{printed_done, printed_fault, printed_sink_fault, printed_warnings}
-use Rattle.objtool_cli.specs.Words.{Meaning, is_told}
+use Rattle.objtool_cli.specs.Words.{Meaning, is_told, told_text}
 use Rattle.ot_base.specs.declared.row.PlacedRow.{PlacedRow}
 use Rattle.elf_objects.specs.Elf.{Elf}
 use Rattle.read_back.specs.Dump.{HoldsRows, IsAnswered, IsDumped}
@@ -116,7 +117,7 @@ done_no_warnings e = cc
 pub file_fault : (meaning : Meaning) (before after : Outside) (out out' : Output) (x : Status) → Ends meaning before after out out' x → x ≡ FileFault → Rose before.faults after.faults
 file_fault meaning before after out out' x (faulty word kind is same t) e = absurd (no_usage_fault (usage_at word kind) (concluded_fault (stop.Usage (usage_at word kind)) out out' x t e))
 file_fault meaning before after out out' x (unfinished same t) e = absurd (no_memory_fault (concluded_fault stop.NoMemory out out' x t e))
-file_fault meaning before after out out' x (shown command is shows same t) e = absurd (done_no_fault (printed_fault Done t.text out out' x t.printed e))
+file_fault meaning before after out out' x (shown command is shows same t) e = absurd (done_no_fault (printed_fault Done (told_text command) out out' x t e))
 file_fault meaning before after out out' x (checked input output options names is h) e = fault_of_check input output options names before after out out' x h e
 file_fault meaning before after out out' x (demoed n is same h) e = absurd (sums_no_file_fault _ _ out out' x h e)
 file_fault meaning before after out out' x (dumped file is h kept) e = dump_fault file before after out out' x h e
@@ -130,7 +131,7 @@ sink_fault_of_check input output options names before after out out' x (stopped 
 pub sink_fault : (meaning : Meaning) (before after : Outside) (out out' : Output) (x : Status) → Ends meaning before after out out' x → x ≡ SinkFault → Rose out.faults out'.faults
 sink_fault meaning before after out out' x (faulty word kind is same t) e = concluded_sink_fault (stop.Usage (usage_at word kind)) out out' x t e
 sink_fault meaning before after out out' x (unfinished same t) e = concluded_sink_fault stop.NoMemory out out' x t e
-sink_fault meaning before after out out' x (shown command is shows same t) e = printed_sink_fault Done t.text out out' x t.printed done_no_sink_fault e
+sink_fault meaning before after out out' x (shown command is shows same t) e = printed_sink_fault Done (told_text command) out out' x t done_no_sink_fault e
 sink_fault meaning before after out out' x (checked input output options names is h) e = sink_fault_of_check input output options names before after out out' x h e
 sink_fault meaning before after out out' x (demoed n is same h) e = sums_sink_fault _ _ out out' x h e
 sink_fault meaning before after out out' x (dumped file is h kept) e = dump_sink_fault file before after out out' x h e
@@ -269,7 +270,7 @@ check_warned meaning input output options names before after out out' x asked (s
 pub warnings_printed : (meaning : Meaning) (before after : Outside) (out out' : Output) (x : Status) → Ends meaning before after out out' x → x ≡ Warnings → PrintsWarnings meaning before.content out.written out'.written
 warnings_printed meaning before after out out' x (faulty word kind is same t) e = absurd (concluded_no_warnings (stop.Usage (usage_at word kind)) out out' x t e)
 warnings_printed meaning before after out out' x (unfinished same t) e = absurd (concluded_no_warnings stop.NoMemory out out' x t e)
-warnings_printed meaning before after out out' x (shown command is shows same t) e = absurd (done_no_warnings (printed_warnings Done t.text out out' x t.printed e))
+warnings_printed meaning before after out out' x (shown command is shows same t) e = absurd (done_no_warnings (printed_warnings Done (told_text command) out out' x t e))
 warnings_printed meaning before after out out' x (checked input output options names is h) e = check_warned meaning input output options names before after out out' x is h e
 warnings_printed meaning before after out out' x (demoed n is same h) e = of_demo n is (sums_warned _ _ out out' x h e)
 warnings_printed meaning before after out out' x (dumped file is h kept) e = absurd (dump_no_warnings file before after out out' x h e)
@@ -429,6 +430,26 @@ demo_sums_up meaning before after out out' x n (demoed k is same h) p = subst (�
 demo_sums_up meaning before after out out' x n (dumped file is h kept) p = absurd (no_dump_demo meaning file n is p)
 demo_sums_up meaning before after out out' x n (unwound file image is h kept) p = absurd (no_unwind_demo meaning file image n is p)
 demo_sums_up meaning before after out out' x n (checked i o os ns is h) p = absurd (no_check_demo meaning i o os ns n is p)
+
+-- ---- `--help` and `--version`
+
+printed_nothing : (text : List ℕ) (out out' : Output) (x : Status) → Concludes stop.NoMemory out out' x → Prints Done text out out' x
+printed_nothing text out out' x (tells some t) = absurd (some refl)
+printed_nothing text out out' status.NoMemory (silent is same) = nothing_printed Done text out out' same
+
+-- words that ask for a text of the program end with it
+pub text_shown : (meaning : Meaning) (before after : Outside) (out out' : Output) (x : Status) (c : Command) → Ends meaning before after out out' x → meaning ≡ Ok c → is_told c ≡ true → Prints Done (told_text c) out out' x
+text_shown meaning before after out out' x c (faulty word kind is same t) p told = absurd (no_fault_and_command meaning word kind _ is p)
+text_shown meaning before after out out' x c (unfinished same t) p told = printed_nothing (told_text c) out out' x t
+text_shown meaning before after out out' x c (shown command is shows same t) p told = subst (λ (d : Command). Prints Done (told_text d) out out' x) (same_command meaning command c is p) t
+text_shown meaning before after out out' x c (demoed n is same h) p told = absurd (not_told meaning c _ p is told refl)
+text_shown meaning before after out out' x c (dumped file is h kept) p told = absurd (not_told meaning c _ p is told refl)
+text_shown meaning before after out out' x c (unwound file image is h kept) p told = absurd (not_told meaning c _ p is told refl)
+text_shown meaning before after out out' x c (checked i o os ns is h) p told = absurd (not_told meaning c _ p is told refl)
+
+-- what was printed is the same text
+pub text_is : (one other : List ℕ) (out out' : Output) (x : Status) → one ≡ other → Prints Done one out out' x → Prints Done other out out' x
+text_is one other out out' x same printed = subst (λ (text : List ℕ). Prints Done text out out' x) same printed
 
 -- the end of one command is that of another that is the same
 pub ends_of : (c d : Command) (before after : Outside) (out out' : Output) (x : Status) → c ≡ d → Ends (Ok c) before after out out' x → Ends (Ok d) before after out out' x

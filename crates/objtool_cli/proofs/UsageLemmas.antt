@@ -118,7 +118,7 @@ sums_no_usage title bytes out out' x (sums.stopped s h t) e = concluded_other s 
 pub only_faulty : (meaning : Meaning) (before after : Outside) (out out' : Output) (x : Status) → Ends meaning before after out out' x → x ≡ status.Usage → IsFaulty meaning
 only_faulty meaning before after out out' x (faulty word kind is same t) e = at_fault word kind is
 only_faulty meaning before after out out' x (unfinished same t) e = absurd (concluded_other stop.NoMemory out out' x t memory_other e)
-only_faulty meaning before after out out' x (shown command is shows same t) e = absurd (not_usage _ _ out out' x t.printed done_not_usage e)
+only_faulty meaning before after out out' x (shown command is shows same t) e = absurd (not_usage _ _ out out' x t done_not_usage e)
 only_faulty meaning before after out out' x (demoed n is same h) e = absurd (sums_no_usage _ _ out out' x h e)
 only_faulty meaning before after out out' x (dumped file is h kept) e = absurd (file_dumped file before after out out' x h e)
 only_faulty meaning before after out out' x (unwound file image is h kept) e = absurd (files_unwound file image before after out out' x h e)

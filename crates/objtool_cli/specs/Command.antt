@@ -25,7 +25,7 @@ use Rattle.ot_base.specs.declared.warning.Warning.{Warning}
 use Rattle.objtool_cli.specs.Lists.{HasNames, StopsAtNames}
 use Rattle.objtool_cli.specs.Summary.{PrintsWarningsOf, SumsUp, demo_bytes, demo_title}
 use Rattle.objtool_cli.specs.Warnings.{warnings_text}
-use Rattle.objtool_cli.specs.Words.{Meaning, is_told}
+use Rattle.objtool_cli.specs.Words.{Meaning, is_told, told_text}
 use Rattle.objtool_cli.specs.Writing.{StopsAtWrite}
 
 -- The file of this name may read as these bytes, and these are the lists of names of the names file, or the built-in ones
@@ -93,17 +93,12 @@ pub data EndsCheck (input output : List ℕ) (options : Options) (names : Option
       → EndsCheck input output options names before after out out' s
   stopped : {s : Status} (stop : Stop) → Stops input output options names before after stop → Concludes stop out out' s → EndsCheck input output options names before after out out' s
 
--- A text of the program was printed, or a beginning of it.
-pub record IsShown (out out' : Output) (s : Status) : Type 0 where
-  pub text : List ℕ
-  pub printed : Prints status.Done text out out' s
-
--- How the words end that mean this: words at fault are told, and nothing else is done; `--help` and `--version` print a text of the program; `demo N` sums up the object that it makes, and changes no file.
+-- How the words end that mean this: words at fault are told, and nothing else is done; `--help` and `--version` print their texts; `demo N` sums up the object that it makes, and changes no file.
 -- Memory may run out while the words are read.
 pub data Ends (meaning : Meaning) (before after : Outside) (out out' : Output) : Status → Type 0 where
   faulty : {s : Status} (word : ℕ) (kind : UsageKind) → meaning ≡ Err (word, kind) → after ≡ before → Concludes (Usage (usage_at word kind)) out out' s → Ends meaning before after out out' s
   unfinished : {s : Status} → after ≡ before → Concludes NoMemory out out' s → Ends meaning before after out out' s
-  shown : {s : Status} (command : Command) → meaning ≡ Ok command → is_told command ≡ true → after ≡ before → IsShown out out' s → Ends meaning before after out out' s
+  shown : {s : Status} (command : Command) → meaning ≡ Ok command → is_told command ≡ true → after ≡ before → Prints status.Done (told_text command) out out' s → Ends meaning before after out out' s
   demoed : {s : Status} (n : ℕ) → meaning ≡ Ok (demo n) → after ≡ before → SumsUp (demo_title n) (demo_bytes n) out out' s → Ends meaning before after out out' s
   dumped : {s : Status} (file : List ℕ) → meaning ≡ Ok (dump file) → EndsDump file before after out out' s → after.content ≡ before.content → Ends meaning before after out out' s
   unwound :

@@ -7,23 +7,26 @@ ghost use Rattle.stack_image.specs.ImageFile.{StackImage};
 ghost use Rattle.read_back.specs.Dump.{HoldsRows, IsAnswered, IsDumped};
 ghost use Rattle.read_back.specs.Unwind.{IsPlaced, IsUnwound};
 ghost use Rattle.objtool_cli.specs.Checked.{Accepts, BreaksRule};
-ghost use Rattle.cli_words.specs.Grammar.{check, command_in, demo, dump, meaning, unwind};
+ghost use Rattle.command_base.specs.Printing.{Prints};
+ghost use Rattle.cli_words.specs.Grammar.{Command as Meant, check, command_in, demo, dump, meaning, unwind};
 ghost use Rattle.ot_base.specs.NameLists.{NameLists};
 ghost use Rattle.ot_base.specs.declared.options.Options.{Options};
 ghost use Rattle.objtool_cli.specs.Lists.{HasNames};
+ghost use Rattle.objtool_cli.specs.Words.{is_told, told_text};
 ghost use Rattle.objtool_cli.specs.Summary.{SumsUp, demo_bytes, demo_title};
 ghost use Rattle.objtool_cli.specs.Promises.{InKeepsPromises};
 ghost use Rattle.objtool_cli.specs.Unwinding.{OutUnwinds};
-ghost use Rattle.objtool_cli.specs.Command.{Ends, EndsCheck, IsFaulty, IsShown, IsUsageAnswer, MayChange, PrintsWarnings};
+ghost use Rattle.objtool_cli.specs.Command.{Ends, EndsCheck, IsFaulty, IsUsageAnswer, MayChange, PrintsWarnings};
 
 use crate::check::check;
 use crate::demo::demo;
 use crate::lists::read_names;
 use crate::words::Check;
-use cli_words::{Command, UsageFault, help_text, read_words, version_text};
+use cli_matches::{help_text, read_words, version_text};
+use cli_words::{Command, UsageFault};
 use command_base::{MAX_IMAGE_BYTES, Status, Stop, Usage, conclude, print_line, read_file};
 use elf_objects::MAX_FILE_BYTES;
-use ot_base::{NoMemory, Options};
+use ot_base::Options;
 use ot_files::{Files, Sink};
 use read_back::{dump, unwind};
 use std::alloc::Global;
@@ -56,16 +59,13 @@ fn read_and_check<F: Files, S: Sink>(
 }
 
 /// Prints a text of the program, and gives the status that the command ends with.
-fn show<S: Sink>(text: Result<String, NoMemory>, out: &mut S) -> Status
-    ensures printed { IsShown
+fn show<S: Sink>(text: &str, out: &mut S) -> Status
+    ensures printed { Prints Status.Done text.now
         (record { written = S.written out.old; faults = S.faults out.old })
         (record { written = S.written out.new; faults = S.faults out.new }) result }
     ensures later { S.faults out.old ≤ S.faults out.new }
 {
-    match text {
-        Ok(text) => print_line(Status::Done, text.as_bytes(), out),
-        Err(NoMemory) => Status::NoMemory,
-    }
+    print_line(Status::Done, text.as_bytes(), out)
 }
 
 /// The text of a name, where there is one.
@@ -112,8 +112,8 @@ fn run_command<F: Files, S: Sink>(
         Command::Dump { file } => dump(alloc, file.as_str(), files, out),
         Command::Unwind { file, image } => unwind(alloc, file.as_str(), image.as_str(), files, out),
         Command::Demo { n } => demo(alloc, *n, out),
-        Command::Help => show(help_text(alloc), out),
-        Command::Version => show(version_text(alloc), out),
+        Command::Help => show(help_text(), out),
+        Command::Version => show(version_text(), out),
     }
 }
 
@@ -149,7 +149,7 @@ fn dispatch<F: Files, S: Sink>(
 /// it prints the line of each warning and writes nothing. `dump FILE` prints the rows of the ORC tables of the object FILE, one line each.
 /// `unwind FILE IMAGE` prints the frames of the walk that the image IMAGE begins over the rows of FILE,
 /// one line each, and why it stopped. `demo N` makes an object of N functions, checks it, and prints one line of what it
-/// has. `--help` and `--version` print a text of the program. The first word
+/// has. `--help` and `--version` print their texts. The first word
 /// at fault is told by one line to the output, and so is every refusal. Where the words, the bytes of the
 /// input and faults of the files and of the output leave no other cause, the answer may still be want of
 /// memory.
@@ -222,6 +222,13 @@ pub fn run<F: Files, S: Sink>(alloc: Global, words: &[String], files: &mut F, ou
     // `demo N` answers and prints what `summary` does of the bytes that are made up, with the title `demo N`.
     ensures sums_up { (n : ℕ) → meaning (map string_bytes words.now) ≡ Ok (demo n)
         → SumsUp (demo_title n) (demo_bytes n)
+        (record { written = S.written out.old; faults = S.faults out.old })
+        (record { written = S.written out.new; faults = S.faults out.new }) result }
+
+    // `--help` and `--version` print exactly their texts, with the status of what is done, unless a line can't be written or
+    // memory runs out.
+    ensures shows { (command : Meant) → meaning (map string_bytes words.now) ≡ Ok command → is_told command ≡ true
+        → Prints Status.Done (told_text command)
         (record { written = S.written out.old; faults = S.faults out.old })
         (record { written = S.written out.new; faults = S.faults out.new }) result }
 

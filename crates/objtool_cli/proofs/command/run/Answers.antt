@@ -1,4 +1,4 @@
-use Rattle.objtool_cli.proofs.EndsLemmas.{changes, demo_sums_up, file_fault, out_unwinds, promises_kept, dump_answered, rows_dumped, sink_fault, tells_nothing, unchanged, unwind_answered, usage_answered, walk_printed, warnings_printed}
+use Rattle.objtool_cli.proofs.EndsLemmas.{changes, demo_sums_up, file_fault, text_shown, out_unwinds, promises_kept, dump_answered, rows_dumped, sink_fault, tells_nothing, unchanged, unwind_answered, usage_answered, walk_printed, warnings_printed}
 use Rattle.objtool_cli.proofs.AcceptsLemmas.{all_warned, left}
 use Rattle.objtool_cli.proofs.UsageLemmas.{only_faulty}
 use Rattle.objtool_cli.proofs.command.run.Goals as goal
@@ -53,3 +53,6 @@ returns-clause-only_faulty g c e = only_faulty _ _ _ _ _ _ c.dispatch.ensures.en
 
 pub returns-clause-sums_up : goal.returns-clause-sums_up
 returns-clause-sums_up g c n asked = demo_sums_up _ _ _ _ _ _ n c.dispatch.ensures.ends asked
+
+pub returns-clause-shows : goal.returns-clause-shows
+returns-clause-shows g c command asked told = text_shown _ _ _ _ _ _ command c.dispatch.ensures.ends asked told

@@ -1,8 +1,8 @@
 use Rattle.std.proofs.Common.{◌≡◌, ℕ, List, refl, sym, ap, ◌∙◌}
 use Rattle.cli_words.specs.Grammar.{command_in, dump, unwind}
 use Rattle.objtool_cli.specs.Command.{checked, demoed, dumped, shown, unwound}
-use Rattle.objtool_cli.specs.Words.{is_told}
-use Rattle.objtool_cli.proofs.EndsLemmas.{check_is, ends_of}
+use Rattle.objtool_cli.specs.Words.{is_told, told_text}
+use Rattle.objtool_cli.proofs.EndsLemmas.{check_is, ends_of, text_is}
 use Rattle.objtool_cli.proofs.command.run_command.Goals as goal
 
 pub returns-in-Check-clause-ends : goal.returns-in-Check-clause-ends
@@ -24,7 +24,7 @@ pub demo-requires : goal.demo-requires
 demo-requires g c = c.requires _ (ap command_in c.in-Demo.is)
 
 pub returns-in-Help-clause-ends : goal.returns-in-Help-clause-ends
-returns-in-Help-clause-ends g c = shown _ refl (ap is_told (ap command_in c.in-Help.is)) refl c.show.ensures.printed
+returns-in-Help-clause-ends g c = shown _ refl (ap is_told (ap command_in c.in-Help.is)) refl (text_is _ _ _ _ _ (c.help_text.ensures ∙ sym (ap told_text (ap command_in c.in-Help.is))) c.show.ensures.printed)
 
 pub returns-in-Version-clause-ends : goal.returns-in-Version-clause-ends
-returns-in-Version-clause-ends g c = shown _ refl (ap is_told (ap command_in c.in-Version.is)) refl c.show-in-Version.ensures.printed
+returns-in-Version-clause-ends g c = shown _ refl (ap is_told (ap command_in c.in-Version.is)) refl (text_is _ _ _ _ _ (c.version_text.ensures ∙ sym (ap told_text (ap command_in c.in-Version.is))) c.show-in-Version.ensures.printed)

@@ -1,0 +1,3 @@
+pub mod Definition
+pub mod Matches
+pub mod Texts

@@ -1,8 +1,0 @@
-use Rattle.std.proofs.Common.{rules, tests, string_bytes}
-use Rattle.std.proofs.lemmas.Iterator.{YieldsList-from_map_by, YieldsList-from_slice}
-use Rattle.std.proofs.lemmas.Iterator.Search.{find_from_yields_List}
-use Rattle.cli_words.specs.Words.{is_names_option}
-use Rattle.cli_words.proofs.read.names_option.Goals as goal
-
-pub returns : goal.returns
-returns c = find_from_yields_List is_names_option _ _ _ c.find.ensures.ran (YieldsList-from_map_by _ (λ word. word.now) string_bytes (YieldsList-from_slice c.args.words.now (cc)) c.map.ensures.closure (λ x r q k. search (rules, tests))) (λ x b q k. search (rules, tests))
