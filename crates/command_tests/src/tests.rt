@@ -4,14 +4,15 @@ ghost use Rattle.std.specs.Prelude.{IfOk, IsTrue};
 ghost use Rattle.ot_files.specs.Memory.{names_of, names_differ};
 
 mod object;
-mod reading;
 mod summing;
 mod walking;
 
+use check_examples::reading::section;
+use check_examples::rows::{BP_SAVED, DEPTH_8, DEPTH_16, FRAME_BASE, ZERO};
+use check_examples::running::run_words;
 use object::{make, make_call};
-use objtool_cli::{Status, run};
+use objtool_cli::Status;
 use ot_files::{FileError, Files, MemFiles, MemSink, SureFiles, SureSink};
-use reading::section;
 use std::alloc::{AllocError, Global};
 use std::process::Abort;
 use std::test::Fail;
@@ -38,18 +39,6 @@ fn only_in(alloc: Global, bytes: &[u8]) -> Result<Vec<(String, Vec<u8>)>, AllocE
 
 /// The offset and the six bytes of a row.
 type RowBytes = (u8, [u8; 6]);
-
-const DEPTH_8: [u8; 6] = [0x08, 0, 0, 0, 0x05, 0x02];
-
-const DEPTH_16: [u8; 6] = [0x10, 0, 0, 0, 0x05, 0x02];
-
-const ZERO: [u8; 6] = [0; 6];
-
-/// rbp was pushed: it is saved right below the return address.
-const BP_SAVED: [u8; 6] = [0x10, 0, 0xF0, 0xFF, 0x15, 0x02];
-
-/// And rbp is the frame's base.
-const FRAME_BASE: [u8; 6] = [0x10, 0, 0xF0, 0xFF, 0x14, 0x02];
 
 /// The bodies of the three ORC sections of OUT are those of these rows, of section 1 by this symbol.
 fn expect_rows(
@@ -99,7 +88,7 @@ fn run_line(alloc: Global, line: &str, entries: Vec<(String, Vec<u8>)>) -> Resul
 {
     let mut files = SureFiles::new(alloc, entries);
     let mut out = SureSink::new(alloc, 100);
-    let status = run(alloc, &words_of(alloc, line)?, &mut files, &mut out);
+    let status = run_words(alloc, &words_of(alloc, line)?, &mut files, &mut out);
     let text = Vec::from_slice(alloc, out.written())?;
     Ok(Ran {
         status,
@@ -547,7 +536,7 @@ impl Files for LongFiles {
 fn a_file_that_is_too_long_is_refused(rt: HostRuntime) -> Result<(), Fail> {
     let mut out = SureSink::new(rt.alloc(), 100);
     let words = words(rt.alloc(), &["check", "IN", "OUT"])?;
-    let status = run(rt.alloc(), &words, &mut LongFiles, &mut out);
+    let status = run_words(rt.alloc(), &words, &mut LongFiles, &mut out);
     assert_eq!(rt; status, Status::Refused);
     assert_eq!(rt;
         out.written(),
@@ -725,7 +714,7 @@ fn help_is_cut_where_the_output_fails(rt: HostRuntime) -> Result<(), Fail> {
     let words = words(alloc, &["--help"])?;
     let mut files = SureFiles::new(alloc, Vec::new(alloc));
     let mut out = MemSink::new(alloc, 10, vec![in alloc; 1]?);
-    let status = run(alloc, &words, &mut files, &mut out);
+    let status = run_words(alloc, &words, &mut files, &mut out);
     assert_eq!(rt; status, Status::SinkFault);
     assert_eq!(rt; out.written(), b"Checks how".as_slice());
     Ok(())
@@ -757,7 +746,7 @@ fn expect_faulty(rt: &impl Abort, alloc: Global, case: Faulty) -> Result<(), Fai
     let mut files = MemFiles::new(alloc, only_in(alloc, &object)?, failing);
     let mut out = MemSink::new(alloc, case.most, vec![in alloc; case.write]?);
     let words = words(alloc, &["check", case.input, "OUT"])?;
-    let status = run(alloc, &words, &mut files, &mut out);
+    let status = run_words(alloc, &words, &mut files, &mut out);
     assert_eq!(rt; status, case.status, "{line:?}");
     assert_eq!(rt; out.written(), line.as_bytes(), "{line:?}");
     assert_eq!(rt; (files.faults(), out.faults()), case.faults, "{line:?}");

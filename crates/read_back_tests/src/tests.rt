@@ -9,7 +9,9 @@ mod object;
 mod tables;
 mod unwinding;
 mod walking;
+mod writing;
 
+use check_examples::running::run_words;
 use objtool_cli::Status;
 use ot_files::{MemFiles, MemSink};
 use std::alloc::{AllocError, Global};
@@ -69,7 +71,7 @@ fn expect(
     let mut files = MemFiles::new(alloc, entries, vec![in alloc; command.file_call]?);
     let mut out = MemSink::new(alloc, command.most, vec![in alloc; command.write]?);
     let words = words(alloc, command.words)?;
-    let ended = objtool_cli::run(alloc, &words, &mut files, &mut out);
+    let ended = run_words(alloc, &words, &mut files, &mut out);
     assert_eq!(rt; ended, status, "{text:?}");
     assert_eq!(rt; out.written(), text);
     assert!(rt; files.content("OBJECT") == Some(command.object), "{text:?}");

@@ -2,7 +2,8 @@
 
 use super::object::{make, make_call};
 use super::words_of;
-use objtool_cli::{Status, run, summary};
+use check_examples::running::run_words;
+use objtool_cli::{Status, summary};
 use ot_files::{MemSink, SureFiles, SureSink};
 use std::alloc::Global;
 use std::process::Abort;
@@ -30,7 +31,7 @@ fn objects_are_made_up_and_checked(rt: HostRuntime) -> Result<(), Fail> {
     for (line, text) in DEMOS {
         let mut files = SureFiles::new(alloc, Vec::new(alloc));
         let mut out = SureSink::new(alloc, 100);
-        let status = run(alloc, &words_of(alloc, line)?, &mut files, &mut out);
+        let status = run_words(alloc, &words_of(alloc, line)?, &mut files, &mut out);
         assert!(rt; status == Status::Done, "{line}: {status:?}");
         assert!(rt; out.written() == text.as_bytes(), "{line}");
     }
@@ -43,7 +44,7 @@ fn expect_cut(rt: &impl Abort, alloc: Global, line: &str, text: &[u8]) -> Result
     for cut in 0..text.len() {
         let mut files = SureFiles::new(alloc, Vec::new(alloc));
         let mut out = MemSink::new(alloc, 1, vec![in alloc; cut as u64]?);
-        let status = run(alloc, &words, &mut files, &mut out);
+        let status = run_words(alloc, &words, &mut files, &mut out);
         assert!(rt; status == Status::SinkFault, "{cut}: {status:?}");
         assert!(rt; out.written() == &text[..cut], "{cut}");
     }

@@ -2,9 +2,10 @@
 //! `struct orc_entry` and `unwind_next_frame` of Linux 6.6.
 
 use super::object::make;
-use super::reading::section;
 use super::{only_in, words};
-use objtool_cli::{Status, run};
+use check_examples::reading::section;
+use check_examples::running::run_words;
+use objtool_cli::Status;
 use ot_files::{SureFiles, SureSink};
 use std::process::Abort;
 use std::test::Fail;
@@ -154,7 +155,7 @@ fn a_walk_from_each_instruction_finds_the_caller(rt: HostRuntime) -> Result<(), 
     let words = words(alloc, &["check", "IN", "OUT"])?;
     for (code, instants) in table {
         let mut files = SureFiles::new(alloc, only_in(alloc, &make(alloc, code)?)?);
-        let status = run(alloc, &words, &mut files, &mut SureSink::new(alloc, 100));
+        let status = run_words(alloc, &words, &mut files, &mut SureSink::new(alloc, 100));
         assert_eq!(rt; status, Status::Done, "{code:?}");
         let out = files.content("OUT").ok_or("OUT is there")?;
         let end = BASE.wrapping_add(code.len() as u64);

@@ -4,6 +4,7 @@ use super::dumping::dump;
 use super::object::{SIZE, changed};
 use super::unwinding::{RETURN, unwind};
 use super::{expect, words};
+use check_examples::running::run_words;
 use objtool_cli::Status;
 use ot_files::{FileError, Files, SureSink};
 use std::alloc::{AllocError, Global};
@@ -117,7 +118,7 @@ fn files_that_are_too_long(rt: HostRuntime) -> Result<(), Fail> {
     for (texts, name, line) in LONG {
         let mut out = SureSink::new(rt.alloc(), 100);
         let words = words(rt.alloc(), texts)?;
-        let status = objtool_cli::run(rt.alloc(), &words, &mut LongFile { name }, &mut out);
+        let status = run_words(rt.alloc(), &words, &mut LongFile { name }, &mut out);
         assert_eq!(rt; status, Status::Refused);
         assert_eq!(rt; out.written(), line);
     }

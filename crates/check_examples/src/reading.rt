@@ -8,7 +8,7 @@ fn bytes_at(bytes: &[u8], at: u64, size: u64) -> Option<&[u8]> {
 }
 
 /// The number in this many bytes from an offset on, the least byte first.
-fn number(bytes: &[u8], at: u64, size: u64) -> Option<u64> {
+pub fn number(bytes: &[u8], at: u64, size: u64) -> Option<u64> {
     let mut value: u64 = 0;
     for byte in bytes_at(bytes, at, size)?.iter().rev() {
         value = value.wrapping_shl(8) | u64::from(*byte);
@@ -17,8 +17,25 @@ fn number(bytes: &[u8], at: u64, size: u64) -> Option<u64> {
 }
 
 /// Where the header of a section stands.
-fn header(bytes: &[u8], section: u64) -> Option<u64> {
+pub fn header(bytes: &[u8], section: u64) -> Option<u64> {
     number(bytes, 40, 8)?.checked_add(section.checked_mul(64)?)
+}
+
+/// How many sections there are: `e_shnum`, or `sh_size` of section 0 where that is 0.
+pub fn sections(bytes: &[u8]) -> Option<u64> {
+    match number(bytes, 60, 2)? {
+        0 => number(bytes, header(bytes, 0)?.checked_add(32)?, 8),
+        count => Some(count),
+    }
+}
+
+/// The number of the table of section names: `e_shstrndx`, or `sh_link` of section 0 where that is
+/// 0xFFFF.
+fn name_table(bytes: &[u8]) -> Option<u64> {
+    match number(bytes, 62, 2)? {
+        0xFFFF => number(bytes, header(bytes, 0)?.checked_add(40)?, 4),
+        index => Some(index),
+    }
 }
 
 /// The body of a section.
@@ -31,17 +48,22 @@ fn body(bytes: &[u8], section: u64) -> Option<&[u8]> {
 
 /// Whether a section has this name, which ends with a zero byte.
 fn has_name(bytes: &[u8], section: u64, name: &[u8]) -> Option<bool> {
-    let names = body(bytes, number(bytes, 62, 2)?)?;
+    let names = body(bytes, name_table(bytes)?)?;
     let at = number(bytes, header(bytes, section)?, 4)?;
     Some(bytes_at(names, at, name.len() as u64)? == name)
 }
 
-/// The body of the first section with this name, which ends with a zero byte.
-pub(super) fn section<'a>(bytes: &'a [u8], name: &[u8]) -> Option<&'a [u8]> {
-    for section in 0..number(bytes, 60, 2)? {
+/// The number of the first section with this name, which ends with a zero byte.
+pub fn section_number(bytes: &[u8], name: &[u8]) -> Option<u64> {
+    for section in 0..sections(bytes)? {
         if has_name(bytes, section, name) == Some(true) {
-            return body(bytes, section);
+            return Some(section);
         }
     }
     None
+}
+
+/// The body of the first section with this name, which ends with a zero byte.
+pub fn section<'a>(bytes: &'a [u8], name: &[u8]) -> Option<&'a [u8]> {
+    body(bytes, section_number(bytes, name)?)
 }
