@@ -74,6 +74,7 @@ leaf jumping 'test %rax, %rax\n\tje 1f\n\tpush %rbp\n\tmov %rsp, %rbp\n\tpop %rb
 leaf vector 'vzeroupper\n\tret'
 leaf broken 'push %rbx\n\tje 1f\n\tcall far\n\tud2\n1:\tret\n\tret'
 leaf unclosed 'ret\n\t.section .orc_unwind,"a"\n\t.text'
+leaf access 'stac\n\tcall near\n\tclac\n\tret'
 head -c 300 straight.o >cut.o
 # Code of two sections, one of them a function's seldom part; a call that doesn't return, and one through a pointer; a jump
 # table. The assembler alone gives no section a symbol here.
@@ -147,6 +148,23 @@ loose:	mov	%rax, %rsp
 	.section .discard.func_stack_frame_non_standard,"",@progbits
 	.quad	loose
 S
+# A function where stacks end, which calls another.
+object ended <<'S'
+	.text
+	.type	first, @function
+first:	call	*%rax
+	ud2
+	.size	first, . - first
+	.type	second, @function
+second:	push	%rbx
+	pop	%rbx
+	ret
+	.size	second, . - second
+	.section .discard.unwind_hints,"",@progbits
+	.long	first
+	.word	0
+	.byte	5, 1, 0, 0, 0, 0
+S
 faulty() { { printf '\t.text\n\t.type leaf, @function\nleaf:\tnop\n\txor %%eax, %%eax\n\tret\n\t.size leaf, 4\n'; cat; } | object "$1"; }
 faulty hinted <<<'	.section .discard.unwind_hints,""
 	.long leaf, 0x09050008, 0'
@@ -193,6 +211,8 @@ mem 8020 7700000000000000000000a000000000
 I
 printf 'regs 1 2 3\nmem ffffffffffffffff 0000\n' >wraps
 printf 'regs 1 2 3\nplace 2 1000\n' >misplaced
+printf 'regs 1005 8000 5\nplace 1 1000\nmem 8008 0210000000000000\n' >in_second
+"$program" check ended.o ended.checked.o || failed "an object isn't accepted"
 cp straight.o itself.o
 
 # Status with ample memory, and the words. OUT is `out`, which isn't there, or IN itself.
@@ -207,6 +227,9 @@ commands=(
     "0 check jumping.o out --no-unreachable --names=names"
     "0 check many.o out"
     "0 check special.o out --fp"
+    "0 check ended.o out"
+    "0 check access.o out --uaccess --names=names"
+    "1 check access.o out --uaccess --rethunk --retpoline"
     "1 check broken.o out --fp"
     "2 check missing.o out"
     "2 check cut.o out"
@@ -220,7 +243,9 @@ commands=(
     "4 check straight.o no/out"
     "0 dump table.o"
     "2 dump straight.o"
+    "0 dump ended.checked.o"
     "0 unwind table.o two_frames"
+    "0 unwind ended.checked.o in_second"
     "2 unwind table.o wraps"
     "2 unwind table.o misplaced"
     "0 demo 3"

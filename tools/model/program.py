@@ -10,8 +10,8 @@ from check import Answer, read_file
 from texts import WARNINGS
 
 SECONDS = 120
-TEXTS = (re.sub(r"\\\{.\w*\\\}", ".+", re.escape(text)) for text in WARNINGS.values())
-LINE = re.compile(r"refused: .+|\S+\+0x[0-9a-f]+: rule \d+: (?:" + "|".join(TEXTS) + ")")
+TEXTS = (re.sub(r"\\\{.\w*\\\}", ".*", re.escape(text)) for text in WARNINGS.values())
+LINE = re.compile(r"refused: .+|\S*\+0x[0-9a-f]+: rule \d+: (?:" + "|".join(TEXTS) + ")")
 
 
 class Run(NamedTuple):

@@ -1,0 +1,20 @@
+#!/usr/bin/env bash
+# Compares the lengths that x86_decode gives with those of `objdump -d`, over the code of programs and libraries.
+#   decoding-lengths.sh FILE..
+# Tells how many instructions objdump knows, how many are decoded with another length, and which are refused, by their names. DECODING names
+# a program that prints what is decoded; where it isn't given, that of tools/decoding is proved and built. Ends with status 1 where a
+# length is different. Skipped where a tool is missing.
+set -eu
+. "$(dirname "$0")/prepare.sh"
+needs "decoding lengths" python3 objdump
+export PYTHONDONTWRITEBYTECODE=1
+
+built() {
+    "$root/tools/with-library.sh" "$scratch" decoding "$root/tools/decoding/main.rt.txt"
+    (cd "$scratch/crates/decoding" && rt run -- /dev/null) >"$scratch/said" 2>&1 || { tail -20 "$scratch/said" >&2; exit 1; }
+    echo "$scratch/crates/decoding/out/decoding"
+}
+decoding=${DECODING:-$(built)}
+status=0
+for file; do python3 "$root/tools/decoding-lengths/lengths.py" "$decoding" "$file" || status=1; done
+exit $status
