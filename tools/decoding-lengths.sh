@@ -1,6 +1,7 @@
 #!/usr/bin/env bash
 # Compares the lengths that x86_decode gives with those of `objdump -d`, over the code of programs and libraries.
-#   decoding-lengths.sh FILE..
+#   decoding-lengths.sh [--all-opcodes] FILE..
+# With --all-opcodes the whole opcode map decodes it, else the base map.
 # Tells how many instructions objdump knows, how many are decoded with another length, and which are refused, by their names. DECODING names
 # a program that prints what is decoded; where it isn't given, that of tools/decoding is proved and built. Ends with status 1 where a
 # length is different. Skipped where a tool is missing.
@@ -15,6 +16,8 @@ built() {
     echo "$scratch/crates/decoding/out/decoding"
 }
 decoding=${DECODING:-$(built)}
+options=()
+[ "${1-}" != --all-opcodes ] || { options=("$1"); shift; }
 status=0
-for file; do python3 "$root/tools/decoding-lengths/lengths.py" "$decoding" "$file" || status=1; done
+for file; do python3 "$root/tools/decoding-lengths/lengths.py" "$decoding" "${options[@]}" "$file" || status=1; done
 exit $status

@@ -1,4 +1,5 @@
-"""Compares lengths with objdump's over the code of one file: lengths.py PROGRAM FILE. PROGRAM prints what it decodes (tools/decoding)."""
+"""Compares lengths with objdump's over the code of one file: lengths.py PROGRAM [--all-opcodes] FILE. PROGRAM prints what it decodes
+(tools/decoding)."""
 
 import collections
 import re
@@ -31,12 +32,13 @@ def instructions(path: str):
         yield len(code), behind[:16], text
 
 
-def main(program: str, path: str) -> int:
+def main(program: str, *words: str) -> int:
+    *options, path = words
     known = list(instructions(path))
     with tempfile.NamedTemporaryFile() as file:
         file.write(b"".join(bytes([len(code)]) + code.ljust(16, b"\0") for _, code, _ in known))
         file.flush()
-        ran = subprocess.run([program, file.name], capture_output=True, text=True, check=True)
+        ran = subprocess.run([program, *options, file.name], capture_output=True, text=True, check=True)
     told = [line for line in ran.stdout.splitlines() if line.startswith("= ")]
     different, refused = 0 if len(told) == len(known) else 1, collections.Counter()
     for (length, code, text), line in zip(known, told):
@@ -48,7 +50,8 @@ def main(program: str, path: str) -> int:
             if different <= 20:
                 print(f"{code.hex()}: {text}: decoded {line}")
     names = ", ".join(f"{name} {count}" for name, count in refused.most_common(20))
-    print(f"{path}: {len(known)} instructions, {different} of another length, {refused.total()} refused: {names or 'none'}")
+    spellings = len({code[:length] for length, code, _ in known})
+    print(f"{path}: {len(known)} instructions, {spellings} different spellings, {different} of another length, {refused.total()} refused: {names or 'none'}")
     return 1 if different else 0
 
 

@@ -1,22 +1,25 @@
--- The opcode map and the spellings say the same.
-use Rattle.std.proofs.Common.{◌≡◌, ℕ, ◌+◌, ◌<◌, ◌≤◌, Bool, true, false, cond, eqb, leb, List, [], ◌∷◌, ◌++◌, length, replicate, Option, Some, None, refl, sym, ap, ◌∙◌, inl, inr, arith}
-use Rattle.std.specs.Prelude.{◌||◌, IsTrue, IfSome, is_some}
+-- The opcode number and the spellings say the same.
+use Rattle.std.proofs.Common.{◌≡◌, ℕ, ◌<◌, ◌≤◌, Bool, true, false, cond, eqb, ltb, leb, List, [], ◌∷◌, ◌++◌, length, replicate, Option, Some, None, refl, sym, ap, ◌∙◌, arith, zero, suc}
+use Rattle.std.specs.Prelude.{◌&&◌, ◌||◌, not, IsTrue, IfSome, is_some}
 use Rattle.std.specs.List.{AllByRecursion}
 use Rattle.std.proofs.lemmas.List.{length-replicate}
 use Rattle.operation_defs.specs.declared.insn.Insn.{Insn}
+use Rattle.x86_map.specs.declared.vector.Vector.{Vector}
+use Rattle.x86_map.specs.declared.vector.Vector.TheVariants.{Vex2, Vex3, Evex}
 use Rattle.x86_map.specs.declared.prefixes.Prefixes.{Prefixes}
 use Rattle.x86_map.specs.declared.shape.Shape.{Shape}
 use Rattle.x86_map.specs.declared.shape.Look.{Look}
 use Rattle.x86_map.specs.declared.shape.Look.TheVariants.{Refused, NeedModrm, Fits}
-use Rattle.x86_map.specs.Prefixes.{is_rex_valid}
+use Rattle.x86_map.specs.Prefixes.{is_rex_valid, is_without, is_bare, leads, leads_to}
+use Rattle.x86_map.specs.Vector.{payload, number_of}
 use Rattle.x86_map.specs.OpcodeMap.{look}
-use Rattle.x86_map.proofs.Accepting.{and_right, one_to_three}
-use Rattle.x86_map.proofs.Modrm.{valid_rex-fits, look-asks, look-some, look-never_asks}
-use Rattle.std.proofs.lemmas.Bool.{leb-true}
+use Rattle.x86_map.proofs.Accepting.{and_left, and_right}
+use Rattle.x86_map.proofs.Modrm.{leads-fits, look-asks, look-some, look-never_asks}
+use Rattle.std.proofs.lemmas.Bool.{leb-true, ltb-true, eqb-true}
 use Rattle.x86_decode.specs.Prefix.{is_legacy, has, prefixes_of}
-use Rattle.x86_decode.specs.Spelling.{Opcode, one_byte, two_byte, three_byte, Operands, Parts, optional, opcode_bytes, operand_bytes, bytes_of, map_of, byte_of, has_sib, displacement_len, fields_of}
+use Rattle.x86_decode.specs.Spelling.{Opcode, one_byte, two_byte, three_byte, three_byte_3A, behind_vector, Operands, Parts, optional, opcode_bytes, operand_bytes, bytes_of, map_of, byte_of, vector_of, has_sib, displacement_len, prefixes_in, fields_in}
 use Rattle.x86_decode.specs.Operation.{operation}
-use Rattle.x86_decode.specs.MapLaw.{SpelledWith, MapIsExact}
+use Rattle.x86_decode.specs.MapLaw.{SpelledWith, VectorIsBytes, MapIsExact}
 use Rattle.x86_decode.proofs.Languages.{IsBytes}
 use Rattle.x86_decode.proofs.Starts.{zeros-bytes}
 use Rattle.x86_decode.proofs.Decided.{bytes_both}
@@ -96,7 +99,7 @@ finds_65 : (p : Prefixes) → has 0x65 (legacy_of p) ≡ false
 finds_65 p = has_put_other p.has_66 0x65 0x66 (part_67 p) refl ∙ has_put_other p.has_67 0x65 0x67 (part_F3 p) refl ∙ has_put_other p.has_f3 0x65 0xF3 (part_F2 p) refl ∙ has_put_other p.has_f2 0x65 0xF2 (part_F0 p) refl ∙ has_put_other p.has_f0 0x65 0xF0 (part_64 p) refl
     ∙ has_put_other p.has_fs_gs 0x65 0x64 [] refl
 
-prefixes-are : (p : Prefixes) → prefixes_of (legacy_of p) p.rex ≡ p
+prefixes-are : (p : Prefixes) → prefixes_of p.map (legacy_of p) p.rex p.vector ≡ p
 prefixes-are p = rw (finds_66 p, finds_67 p, finds_F3 p, finds_F2 p, finds_F0 p, finds_64 p, finds_65 p, or_nothing p.has_fs_gs) refl
 
 abbrev IsLegacy : ℕ → Type 0
@@ -118,29 +121,52 @@ legacy_bytes p = put_all IsByte p.has_66 0x66 _ (omega arith) (put_all IsByte p.
 
 -- ---- the other parts
 
-abbrev opcode_in : ℕ → ℕ → Opcode
-opcode_in map opcode = cond (eqb map 1) (one_byte opcode) (cond (eqb map 2) (two_byte opcode) (three_byte opcode))
+abbrev opcode_in : Option Vector → ℕ → ℕ → Opcode
+opcode_in None number opcode = cond (eqb number 1) (one_byte opcode) (cond (eqb number 2) (two_byte opcode) (cond (eqb number 3) (three_byte opcode) (three_byte_3A opcode)))
+opcode_in (Some v) number opcode = behind_vector v opcode
 
-opcode_in-map : (map opcode : ℕ) → 0 < map → map < 4 → map_of (opcode_in map opcode) ≡ map
-opcode_in-map map opcode low high = elim (one_to_three map low high) [
-  | inl first ↦ rw first refl
-  | inr (inl second) ↦ rw second refl
-  | inr (inr third) ↦ rw third refl
-]
+-- what is asked of the opcode
+record IsOpcode (vector : Option Vector) (number opcode : ℕ) : Type 0 where
+  in_map : map_of (opcode_in vector number opcode) ≡ number
+  at_opcode : byte_of (opcode_in vector number opcode) ≡ opcode
+  behind : vector_of (opcode_in vector number opcode) ≡ vector
+  are_bytes : IsBytes (opcode_bytes (opcode_in vector number opcode))
 
-opcode_in-byte : (map opcode : ℕ) → 0 < map → map < 4 → byte_of (opcode_in map opcode) ≡ opcode
-opcode_in-byte map opcode low high = elim (one_to_three map low high) [
-  | inl first ↦ rw first refl
-  | inr (inl second) ↦ rw second refl
-  | inr (inr third) ↦ rw third refl
-]
+bytes_behind : (v : Vector) (opcode : ℕ) → opcode < 256 → IsBytes (payload v) → IsBytes (opcode_bytes (behind_vector v opcode))
+bytes_behind (Vex2 a) opcode lt h = (omega arith, (h.0, (lt, tt)))
+bytes_behind (Vex3 a b) opcode lt h = (omega arith, (h.0, (h.1.0, (lt, tt))))
+bytes_behind (Evex a b c) opcode lt h = (omega arith, (h.0, (h.1.0, (h.1.1.0, (lt, tt)))))
 
-opcode_in-bytes : (map opcode : ℕ) → 0 < map → map < 4 → opcode < 256 → IsBytes (opcode_bytes (opcode_in map opcode))
-opcode_in-bytes map opcode low high lt = elim (one_to_three map low high) [
-  | inl first ↦ rw first (lt, tt)
-  | inr (inl second) ↦ rw second (omega arith, (lt, tt))
-  | inr (inr third) ↦ rw third (omega arith, (omega arith, (lt, tt)))
-]
+plain_opcode : (number opcode : ℕ) → 0 < number → number < 5 → opcode < 256 → IsOpcode None number opcode
+plain_opcode zero opcode low high lt = absurd (omega arith)
+plain_opcode (suc zero) opcode low high lt = record { in_map = refl; at_opcode = refl; behind = refl; are_bytes = (lt, tt) }
+plain_opcode (suc (suc zero)) opcode low high lt = record { in_map = refl; at_opcode = refl; behind = refl; are_bytes = (omega arith, (lt, tt)) }
+plain_opcode (suc (suc (suc zero))) opcode low high lt = record { in_map = refl; at_opcode = refl; behind = refl; are_bytes = (omega arith, (omega arith, (lt, tt))) }
+plain_opcode (suc (suc (suc (suc zero)))) opcode low high lt = record { in_map = refl; at_opcode = refl; behind = refl; are_bytes = (omega arith, (omega arith, (lt, tt))) }
+plain_opcode (suc (suc (suc (suc (suc n))))) opcode low high lt = absurd (omega arith)
+
+is_opcode : (vector : Option Vector) (p : Prefixes) (number opcode : ℕ) → 0 < number → opcode < 256 → leads vector p number ≡ true → IfSome vector (λ v. IsBytes (payload v)) → IsOpcode vector number opcode
+is_opcode None p number opcode low lt led h = plain_opcode number opcode low (ltb-true number 5 (and_left (ltb number 5) (is_rex_valid p.rex) led)) lt
+is_opcode (Some v) p number opcode low lt led h = record {
+  in_map = eqb-true (number_of v) number (and_right (is_bare p) (eqb (number_of v) number) led);
+  at_opcode = refl;
+  behind = refl;
+  are_bytes = bytes_behind v opcode lt h;
+}
+
+and_other : (a b : Bool) → (a && b) ≡ true → b ≡ true
+and_other true b h = h
+and_other false b h = absurd cc
+
+valid_without : (rex : Option ℕ) → is_without rex ≡ true → is_rex_valid rex ≡ true
+valid_without None h = refl
+valid_without (Some rex) h = absurd cc
+
+-- prefixes that lead somewhere have a REX that is one
+valid_led : (vector : Option Vector) (p : Prefixes) (number : ℕ) → leads vector p number ≡ true → is_rex_valid p.rex ≡ true
+valid_led None p number led = and_right (ltb number 5) (is_rex_valid p.rex) led
+valid_led (Some v) p number led =
+    valid_without p.rex (and_right (not p.has_66 && not p.has_f3 && not p.has_f2 && not p.has_f0) (is_without p.rex) (and_left (is_bare p) (eqb (number_of v) number) led))
 
 abbrev sib_if : Bool → Option ℕ
 sib_if true = Some 0
@@ -164,30 +190,33 @@ rex_bytes (Some b) h = let le : b ≤ 0x4F = leb-true b 0x4F (and_right (leb 0x4
 
 -- ---- what fits is spelled
 
-spelled_with : (p : Prefixes) (map opcode : ℕ) (modrm : Option ℕ) (shape : Shape) → 0 < map → map < 4 → opcode < 256 → IfSome modrm (λ m. m < 256)
-    → look p map opcode modrm ≡ Fits shape → SpelledWith p map opcode modrm
-spelled_with p map opcode modrm shape low high lt byte fits =
+spelled_with : (p : Prefixes) (number opcode : ℕ) (modrm : Option ℕ) (shape : Shape) → 0 < number → opcode < 256 → VectorIsBytes p → IfSome modrm (λ m. m < 256)
+    → look p number opcode modrm ≡ Fits shape → SpelledWith p number opcode modrm
+spelled_with p number opcode modrm shape low lt vector byte fits =
     let sib : Option ℕ = sib_if (has_sib modrm) in
     let d = displacement_len modrm sib in
     let operands : Operands = record { modrm = modrm; sib = sib; displacement = replicate d 0; immediate = replicate shape.imm 0 } in
-    let o : Opcode = opcode_in map opcode in
+    let o : Opcode = opcode_in p.vector number opcode in
+    let led : leads_to p number ≡ true = leads-fits p number opcode modrm shape fits in
+    let is : IsOpcode p.vector number opcode = is_opcode p.vector p number opcode low lt led vector in
     let parts : Parts = record { legacy = legacy_of p; rex = p.rex; opcode = o; operands = operands } in
-    let q : Prefixes = prefixes_of (legacy_of p) p.rex in
-    let valid : is_rex_valid p.rex ≡ true = valid_rex-fits p map opcode modrm shape fits in
+    let q : Prefixes = prefixes_in p.map parts in
+    let prefixes : q ≡ p = ap (λ (v : Option Vector). prefixes_of p.map (legacy_of p) p.rex v) is.behind ∙ prefixes-are p in
+    let valid : is_rex_valid p.rex ≡ true = valid_led p.vector p number led in
     let operand-bytes : IsBytes (operand_bytes operands) =
     bytes_both (optional modrm) (optional sib ++ (replicate d 0 ++ replicate shape.imm 0)) (modrm_bytes modrm byte)
     (bytes_both (optional sib) (replicate d 0 ++ replicate shape.imm 0) (sib_bytes (has_sib modrm)) (bytes_both (replicate d 0) (replicate shape.imm 0) (zeros-bytes d) (zeros-bytes shape.imm))) in
     let all-bytes : IsBytes (bytes_of parts) =
     bytes_both (legacy_of p) (optional p.rex ++ (opcode_bytes o ++ operand_bytes operands)) (legacy_bytes p)
     (bytes_both (optional p.rex) (opcode_bytes o ++ operand_bytes operands) (rex_bytes p.rex valid)
-    (bytes_both (opcode_bytes o) (operand_bytes operands) (opcode_in-bytes map opcode low high lt) operand-bytes)) in
+    (bytes_both (opcode_bytes o) (operand_bytes operands) is.are_bytes operand-bytes)) in
     let in_map : look q (map_of o) (byte_of o) modrm ≡ Fits shape =
-    ap (λ (x : Prefixes). look x (map_of o) (byte_of o) modrm) (prefixes-are p)
-    ∙ ap (λ (n : ℕ). look p n (byte_of o) modrm) (opcode_in-map map opcode low high)
-    ∙ ap (λ (n : ℕ). look p map n modrm) (opcode_in-byte map opcode low high) ∙ fits in
+    ap (λ (x : Prefixes). look x (map_of o) (byte_of o) modrm) prefixes
+    ∙ ap (λ (n : ℕ). look p n (byte_of o) modrm) is.in_map
+    ∙ ap (λ (n : ℕ). look p number n modrm) is.at_opcode ∙ fits in
     let insn : Insn = record {
       len = length (bytes_of parts);
-      op = operation (fields_of q (map_of o) (byte_of o) (length (legacy_of p) + length (optional p.rex) + length (opcode_bytes o)) operands shape);
+      op = operation (fields_in p.map parts shape);
     } in
     record {
       bytes = bytes_of parts;
@@ -203,62 +232,62 @@ spelled_with p map opcode modrm shape low high lt byte fits =
         len = refl;
         op = refl;
       };
-      prefixes = prefixes-are p;
-      in_map = opcode_in-map map opcode low high;
-      at_opcode = opcode_in-byte map opcode low high;
+      prefixes = prefixes;
+      in_map = is.in_map;
+      at_opcode = is.at_opcode;
       with_modrm = refl;
     }
 
 -- ---- what is spelled fits
 
 abbrev SomeShape : Prefixes → ℕ → ℕ → Option ℕ → Type 0
-SomeShape p map opcode modrm = (shape : Shape) × (look p map opcode modrm ≡ Fits shape)
+SomeShape p number opcode modrm = (shape : Shape) × (look p number opcode modrm ≡ Fits shape)
 
-fits_spelled : (p : Prefixes) (map opcode : ℕ) (modrm : Option ℕ) → SpelledWith p map opcode modrm → SomeShape p map opcode modrm
-fits_spelled p map opcode modrm w =
+fits_spelled : (p : Prefixes) (number opcode : ℕ) (modrm : Option ℕ) → SpelledWith p number opcode modrm → SomeShape p number opcode modrm
+fits_spelled p number opcode modrm w =
     let s = w.spells in (
       s.shape,
       sym (ap (λ (x : Prefixes). look x (map_of s.parts.opcode) (byte_of s.parts.opcode) s.parts.operands.modrm) w.prefixes
           ∙ ap (λ (n : ℕ). look p n (byte_of s.parts.opcode) s.parts.operands.modrm) w.in_map
-          ∙ ap (λ (n : ℕ). look p map n s.parts.operands.modrm) w.at_opcode
-          ∙ ap (λ (m : Option ℕ). look p map opcode m) w.with_modrm)
+          ∙ ap (λ (n : ℕ). look p number n s.parts.operands.modrm) w.at_opcode
+          ∙ ap (λ (m : Option ℕ). look p number opcode m) w.with_modrm)
           ∙ s.operands.in_map,
     )
 
 -- ---- the law
 
 abbrev AnyByte : Prefixes → ℕ → ℕ → Type 0
-AnyByte p map opcode = (m : ℕ) × SpelledWith p map opcode (Some m)
+AnyByte p number opcode = (m : ℕ) × SpelledWith p number opcode (Some m)
 
-asked : (p : Prefixes) (map opcode : ℕ) → 0 < map → map < 4 → opcode < 256 → look p map opcode None ≡ NeedModrm → AnyByte p map opcode
-asked p map opcode low high lt h =
-    let some = look-some p map opcode low high lt h in
-    (some.modrm, spelled_with p map opcode (Some some.modrm) some.shape low high lt some.is_byte some.fits)
+asked : (p : Prefixes) (number opcode : ℕ) → 0 < number → number < 13 → opcode < 256 → VectorIsBytes p → look p number opcode None ≡ NeedModrm → AnyByte p number opcode
+asked p number opcode low high lt vector h =
+    let some = look-some p number opcode low high lt h in
+    (some.modrm, spelled_with p number opcode (Some some.modrm) some.shape low lt vector some.is_byte some.fits)
 
-asks_back : (p : Prefixes) (map opcode : ℕ) → 0 < map → map < 4 → opcode < 256 → AnyByte p map opcode → look p map opcode None ≡ NeedModrm
-asks_back p map opcode low high lt w = let f = fits_spelled p map opcode (Some w.0) w.1 in look-asks p map opcode w.0 f.0 low high lt f.1
+asks_back : (p : Prefixes) (number opcode : ℕ) → 0 < number → number < 13 → opcode < 256 → AnyByte p number opcode → look p number opcode None ≡ NeedModrm
+asks_back p number opcode low high lt w = let f = fits_spelled p number opcode (Some w.0) w.1 in look-asks p number opcode w.0 f.0 low high lt f.1
 
-refused_none : (p : Prefixes) (map opcode : ℕ) → 0 < map → map < 4 → opcode < 256 → look p map opcode None ≡ Refused → (modrm : Option ℕ) → SpelledWith p map opcode modrm → ⊥
-refused_none p map opcode low high lt h None w = let f = fits_spelled p map opcode None w in let e = f.1 in cc
-refused_none p map opcode low high lt h (Some m) w = let e = asks_back p map opcode low high lt (m, w) in cc
+refused_none : (p : Prefixes) (number opcode : ℕ) → 0 < number → number < 13 → opcode < 256 → look p number opcode None ≡ Refused → (modrm : Option ℕ) → SpelledWith p number opcode modrm → ⊥
+refused_none p number opcode low high lt h None w = let f = fits_spelled p number opcode None w in let e = f.1 in cc
+refused_none p number opcode low high lt h (Some m) w = let e = asks_back p number opcode low high lt (m, w) in cc
 
-none_refused : (l : Look) (p : Prefixes) (map opcode : ℕ) → 0 < map → map < 4 → opcode < 256 → look p map opcode None ≡ l → ((modrm : Option ℕ) → SpelledWith p map opcode modrm → ⊥) → l ≡ Refused
-none_refused Refused p map opcode low high lt is none = refl
-none_refused NeedModrm p map opcode low high lt is none = let w = asked p map opcode low high lt is in absurd (none (Some w.0) w.1)
-none_refused (Fits shape) p map opcode low high lt is none = absurd (none None (spelled_with p map opcode None shape low high lt tt is))
+none_refused : (l : Look) (p : Prefixes) (number opcode : ℕ) → 0 < number → number < 13 → opcode < 256 → VectorIsBytes p → look p number opcode None ≡ l → ((modrm : Option ℕ) → SpelledWith p number opcode modrm → ⊥) → l ≡ Refused
+none_refused Refused p number opcode low high lt vector is none = refl
+none_refused NeedModrm p number opcode low high lt vector is none = let w = asked p number opcode low high lt vector is in absurd (none (Some w.0) w.1)
+none_refused (Fits shape) p number opcode low high lt vector is none = absurd (none None (spelled_with p number opcode None shape low lt vector tt is))
 
-refused_byte : (p : Prefixes) (map opcode m : ℕ) → look p map opcode (Some m) ≡ Refused → SpelledWith p map opcode (Some m) → ⊥
-refused_byte p map opcode m h w = let f = fits_spelled p map opcode (Some m) w in let e = f.1 in cc
+refused_byte : (p : Prefixes) (number opcode m : ℕ) → look p number opcode (Some m) ≡ Refused → SpelledWith p number opcode (Some m) → ⊥
+refused_byte p number opcode m h w = let f = fits_spelled p number opcode (Some m) w in let e = f.1 in cc
 
-byte_refused : (l : Look) (p : Prefixes) (map opcode m : ℕ) → 0 < map → map < 4 → opcode < 256 → m < 256 → look p map opcode (Some m) ≡ l → (SpelledWith p map opcode (Some m) → ⊥) → l ≡ Refused
-byte_refused Refused p map opcode m low high lt m-lt is none = refl
-byte_refused NeedModrm p map opcode m low high lt m-lt is none = absurd (look-never_asks p map opcode m is)
-byte_refused (Fits shape) p map opcode m low high lt m-lt is none = absurd (none (spelled_with p map opcode (Some m) shape low high lt m-lt is))
+byte_refused : (l : Look) (p : Prefixes) (number opcode m : ℕ) → 0 < number → opcode < 256 → VectorIsBytes p → m < 256 → look p number opcode (Some m) ≡ l → (SpelledWith p number opcode (Some m) → ⊥) → l ≡ Refused
+byte_refused Refused p number opcode m low lt vector m-lt is none = refl
+byte_refused NeedModrm p number opcode m low lt vector m-lt is none = absurd (look-never_asks p number opcode m is)
+byte_refused (Fits shape) p number opcode m low lt vector m-lt is none = absurd (none (spelled_with p number opcode (Some m) shape low lt vector m-lt is))
 
 pub map-exact : MapIsExact
-map-exact p map opcode low high lt = record {
-  fits = λ modrm byte. (λ f. spelled_with p map opcode modrm f.0 low high lt byte f.1, λ w. fits_spelled p map opcode modrm w);
-  asks = (λ h. asked p map opcode low high lt h, λ w. asks_back p map opcode low high lt w);
-  refuses = (λ h. refused_none p map opcode low high lt h, λ none. none_refused (look p map opcode None) p map opcode low high lt refl none);
-  refuses_byte = λ m m-lt. (λ h. refused_byte p map opcode m h, λ none. byte_refused (look p map opcode (Some m)) p map opcode m low high lt m-lt refl none);
+map-exact p number opcode low high lt vector = record {
+  fits = λ modrm byte. (λ f. spelled_with p number opcode modrm f.0 low lt vector byte f.1, λ w. fits_spelled p number opcode modrm w);
+  asks = (λ h. asked p number opcode low high lt vector h, λ w. asks_back p number opcode low high lt w);
+  refuses = (λ h. refused_none p number opcode low high lt h, λ none. none_refused (look p number opcode None) p number opcode low high lt vector refl none);
+  refuses_byte = λ m m-lt. (λ h. refused_byte p number opcode m h, λ none. byte_refused (look p number opcode (Some m)) p number opcode m low lt vector m-lt refl none);
 }

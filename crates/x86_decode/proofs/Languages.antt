@@ -1,18 +1,21 @@
 -- What may follow at each stage of reading, and what reading answers of it.
-use Rattle.std.proofs.Common.{◌≡◌, ℕ, ◌+◌, ◌<◌, Bool, true, false, eqb, List, [], ◌∷◌, ◌++◌, length, take, drop, Option, Some, None, Ok, Err, refl, ap, inl, inr, arith}
+use Rattle.std.proofs.Common.{◌≡◌, ℕ, ◌+◌, ◌<◌, Bool, true, false, eqb, ltb, List, [], ◌∷◌, ◌++◌, length, take, drop, Option, Some, None, Ok, Err, refl, ap, inl, inr, arith}
 use Rattle.std.specs.Prelude.{◌⊎◌, ◌||◌}
 use Rattle.std.specs.List.{AllByRecursion}
 use Rattle.operation_defs.specs.declared.insn.Insn.{Insn}
+use Rattle.x86_map.specs.declared.vector.Vector.{Vector}
+use Rattle.x86_map.specs.declared.vector.Vector.TheVariants.{Vex2, Vex3, Evex}
 use Rattle.x86_map.specs.declared.prefixes.Prefixes.{Prefixes}
 use Rattle.x86_map.specs.declared.shape.Shape.{Shape}
 use Rattle.x86_map.specs.declared.shape.Look.{Look}
 use Rattle.x86_map.specs.declared.shape.Look.TheVariants.{Refused, NeedModrm, Fits}
+use Rattle.x86_map.specs.Vector.{vex_number, evex_number, is_evex_second, number_of}
 use Rattle.x86_map.specs.Prefixes.{is_rex}
 use Rattle.x86_map.specs.OpcodeMap.{look, stands}
 use Rattle.x86_decode.specs.declared.reading.Stop.TheVariants.{Dead, More}
 use Rattle.x86_decode.specs.Prefix.{is_legacy}
 use Rattle.x86_decode.specs.Spelling.{has_sib, displacement_len}
-use Rattle.x86_decode.specs.Reading.{Read, finished, with_rex, noted}
+use Rattle.x86_decode.specs.Reading.{Read, finished, with_vector, opens_vector, with_rex, noted}
 
 abbrev pub IsBytes : List ℕ → Type 0
 IsBytes = AllByRecursion (λ b. b < 256)
@@ -28,49 +31,82 @@ Chosen true P Q = P
 Chosen false P Q = Q
 
 abbrev pub EndsIn : Prefixes → ℕ → ℕ → Option ℕ → Option ℕ → Shape → ℕ → Language
-EndsIn p map opcode modrm sib shape before bytes insn =
+EndsIn p number opcode modrm sib shape before bytes insn =
     (length bytes ≡ displacement_len modrm sib + shape.imm)
-    × (insn ≡ finished p map opcode modrm sib shape before (take (displacement_len modrm sib) bytes) (take shape.imm (drop (displacement_len modrm sib) bytes)))
+    × (insn ≡ finished p number opcode modrm sib shape before (take (displacement_len modrm sib) bytes) (take shape.imm (drop (displacement_len modrm sib) bytes)))
 
 abbrev pub AfterModrm : Prefixes → ℕ → ℕ → ℕ → Shape → ℕ → Bool → Language
-AfterModrm p map opcode modrm shape before false bytes insn = EndsIn p map opcode (Some modrm) None shape before bytes insn
-AfterModrm p map opcode modrm shape before true [] insn = ⊥
-AfterModrm p map opcode modrm shape before true (sib ∷ bytes) insn = EndsIn p map opcode (Some modrm) (Some sib) shape before bytes insn
+AfterModrm p number opcode modrm shape before false bytes insn = EndsIn p number opcode (Some modrm) None shape before bytes insn
+AfterModrm p number opcode modrm shape before true [] insn = ⊥
+AfterModrm p number opcode modrm shape before true (sib ∷ bytes) insn = EndsIn p number opcode (Some modrm) (Some sib) shape before bytes insn
 
 abbrev pub ModrmFits : Look → Prefixes → ℕ → ℕ → ℕ → ℕ → Language
-ModrmFits Refused p map opcode modrm before bytes insn = ⊥
-ModrmFits NeedModrm p map opcode modrm before bytes insn = ⊥
-ModrmFits (Fits shape) p map opcode modrm before bytes insn = AfterModrm p map opcode modrm shape before (has_sib (Some modrm)) bytes insn
+ModrmFits Refused p number opcode modrm before bytes insn = ⊥
+ModrmFits NeedModrm p number opcode modrm before bytes insn = ⊥
+ModrmFits (Fits shape) p number opcode modrm before bytes insn = AfterModrm p number opcode modrm shape before (has_sib (Some modrm)) bytes insn
 
 abbrev pub FromModrm : Prefixes → ℕ → ℕ → ℕ → Language
-FromModrm p map opcode before [] insn = ⊥
-FromModrm p map opcode before (modrm ∷ bytes) insn = ModrmFits (look p map opcode (Some modrm)) p map opcode modrm before bytes insn
+FromModrm p number opcode before [] insn = ⊥
+FromModrm p number opcode before (modrm ∷ bytes) insn = ModrmFits (look p number opcode (Some modrm)) p number opcode modrm before bytes insn
 
 abbrev pub OperandsBy : Look → Prefixes → ℕ → ℕ → ℕ → Language
-OperandsBy Refused p map opcode before bytes insn = ⊥
-OperandsBy NeedModrm p map opcode before bytes insn = FromModrm p map opcode before bytes insn
-OperandsBy (Fits shape) p map opcode before bytes insn = EndsIn p map opcode None None shape before bytes insn
+OperandsBy Refused p number opcode before bytes insn = ⊥
+OperandsBy NeedModrm p number opcode before bytes insn = FromModrm p number opcode before bytes insn
+OperandsBy (Fits shape) p number opcode before bytes insn = EndsIn p number opcode None None shape before bytes insn
 
 abbrev pub AfterOpcode : Prefixes → ℕ → ℕ → ℕ → Language
-AfterOpcode p map opcode before bytes insn = OperandsBy (look p map opcode None) p map opcode before bytes insn
+AfterOpcode p number opcode before bytes insn = OperandsBy (look p number opcode None) p number opcode before bytes insn
 
-abbrev pub ThreeByteIn : Prefixes → ℕ → Language
-ThreeByteIn p seen [] insn = ⊥
-ThreeByteIn p seen (opcode ∷ bytes) insn = AfterOpcode p 3 opcode (seen + 1) bytes insn
+-- an opcode of the map of this number
+abbrev pub MapIn : Prefixes → ℕ → ℕ → Language
+MapIn p number seen [] insn = ⊥
+MapIn p number seen (opcode ∷ bytes) insn = AfterOpcode p number opcode (seen + 1) bytes insn
 
-abbrev pub FromThreeByte : Prefixes → ℕ → Language
-FromThreeByte p seen bytes insn = Chosen (stands p 3) (ThreeByteIn p seen bytes insn) ⊥
+abbrev pub FromMap : Prefixes → ℕ → ℕ → Language
+FromMap p number seen bytes insn = Chosen (stands p number) (MapIn p number seen bytes insn) ⊥
 
 abbrev pub TwoByteIn : Prefixes → ℕ → Language
 TwoByteIn p seen [] insn = ⊥
 TwoByteIn p seen (opcode ∷ bytes) insn =
-    Chosen (eqb opcode 0x38) (FromThreeByte p (seen + 1) bytes insn) (AfterOpcode p 2 opcode (seen + 1) bytes insn)
+    Chosen (eqb opcode 0x38) (FromMap p 3 (seen + 1) bytes insn) (Chosen (eqb opcode 0x3A) (FromMap p 4 (seen + 1) bytes insn) (AfterOpcode p 2 opcode (seen + 1) bytes insn))
 
 abbrev pub FromTwoByte : Prefixes → ℕ → Language
-FromTwoByte p seen bytes insn = Chosen (stands p 2 || stands p 3) (TwoByteIn p seen bytes insn) ⊥
+FromTwoByte p seen bytes insn = Chosen (stands p 2 || (stands p 3 || stands p 4)) (TwoByteIn p seen bytes insn) ⊥
+
+-- behind VEX or EVEX
+abbrev pub BehindVector : Prefixes → Vector → ℕ → Language
+BehindVector p v seen bytes insn = FromMap (with_vector p v) (number_of v) seen bytes insn
+
+abbrev pub Vex2In : Prefixes → ℕ → Language
+Vex2In p seen [] insn = ⊥
+Vex2In p seen (a ∷ bytes) insn = BehindVector p (Vex2 a) (seen + 1) bytes insn
+
+abbrev pub Vex3Second : Prefixes → ℕ → ℕ → Language
+Vex3Second p a seen [] insn = ⊥
+Vex3Second p a seen (b ∷ bytes) insn = BehindVector p (Vex3 a b) (seen + 1) bytes insn
+
+abbrev pub Vex3In : Prefixes → ℕ → Language
+Vex3In p seen [] insn = ⊥
+Vex3In p seen (a ∷ bytes) insn = Chosen (ltb 0 (vex_number a)) (Vex3Second p a (seen + 1) bytes insn) ⊥
+
+abbrev pub EvexThird : Prefixes → ℕ → ℕ → ℕ → Language
+EvexThird p a b seen [] insn = ⊥
+EvexThird p a b seen (c ∷ bytes) insn = BehindVector p (Evex a b c) (seen + 1) bytes insn
+
+abbrev pub EvexSecond : Prefixes → ℕ → ℕ → Language
+EvexSecond p a seen [] insn = ⊥
+EvexSecond p a seen (b ∷ bytes) insn = Chosen (is_evex_second b) (EvexThird p a b (seen + 1) bytes insn) ⊥
+
+abbrev pub EvexIn : Prefixes → ℕ → Language
+EvexIn p seen [] insn = ⊥
+EvexIn p seen (a ∷ bytes) insn = Chosen (ltb 0 (evex_number a)) (EvexSecond p a (seen + 1) bytes insn) ⊥
+
+abbrev pub Escaped : ℕ → Prefixes → ℕ → Language
+Escaped b p seen bytes insn = Chosen (eqb b 0xC5) (Vex2In p seen bytes insn) (Chosen (eqb b 0xC4) (Vex3In p seen bytes insn) (EvexIn p seen bytes insn))
 
 abbrev pub OpcodeBy : ℕ → Prefixes → ℕ → Language
-OpcodeBy opcode p seen bytes insn = Chosen (eqb opcode 0x0F) (FromTwoByte p seen bytes insn) (AfterOpcode p 1 opcode seen bytes insn)
+OpcodeBy opcode p seen bytes insn =
+    Chosen (eqb opcode 0x0F) (FromTwoByte p seen bytes insn) (Chosen (opens_vector p opcode) (Escaped opcode p seen bytes insn) (AfterOpcode p 1 opcode seen bytes insn))
 
 abbrev pub FromOpcode : Prefixes → ℕ → Language
 FromOpcode p seen [] insn = ⊥

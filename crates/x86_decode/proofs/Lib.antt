@@ -1,6 +1,7 @@
 pub mod Front
 pub mod Languages
-pub mod Map
+pub mod Escapes
+pub mod Vectors
 pub mod Starts
 pub mod Verdicts
 pub mod Complete
@@ -10,3 +11,4 @@ pub mod Fronts
 pub mod Decided
 pub mod Exact
 pub mod NoNext
+pub mod Extends

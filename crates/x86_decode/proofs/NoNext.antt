@@ -5,6 +5,7 @@ use Rattle.x86_map.specs.Prefixes.{rex_w, rex_b}
 use Rattle.operation_defs.specs.declared.op.Op.{Op}
 use Rattle.operation_defs.specs.declared.op.Op.TheVariants as ops
 use Rattle.operation_defs.specs.declared.insn.Insn.{Insn}
+use Rattle.x86_map.specs.declared.map.Map.{Map}
 use Rattle.x86_decode.specs.declared.DecodeFault.{DecodeFault}
 use Rattle.x86_decode.specs.declared.fields.Fields.{Fields}
 use Rattle.x86_decode.specs.declared.action.Action.{Action}
@@ -105,12 +106,12 @@ another-by Group7 f = another-group_7 f
 
 another-operation : (f : Fields) → Another (operation f)
 unfolding operation
-another-operation f = another-by (action_of f.map f.opcode) f
+another-operation f = another-by (action_of f.number f.opcode) f
 
 not_next : (op : Op) → Another op → op ≢ ops.IretNext
 not_next op other e = let next : is_next op ≡ true = ap is_next e in absurd cc
 
 -- what stands in front of bytes isn't one
-pub none_goes_on : (bytes : List ℕ) (r : Result Insn DecodeFault) → Outcome bytes r → IfOk r (λ insn. insn.op ≢ ops.IretNext)
-none_goes_on bytes (Ok insn) s = not_next insn.op (subst Another (sym s.1.op) (another-operation (fields_in s.1.parts s.1.shape)))
-none_goes_on bytes (Err fault) s = tt
+pub none_goes_on : (map : Map) (bytes : List ℕ) (r : Result Insn DecodeFault) → Outcome map bytes r → IfOk r (λ insn. insn.op ≢ ops.IretNext)
+none_goes_on map bytes (Ok insn) s = not_next insn.op (subst Another (sym s.1.op) (another-operation (fields_in map s.1.parts s.1.shape)))
+none_goes_on map bytes (Err fault) s = tt

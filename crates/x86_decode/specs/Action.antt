@@ -57,8 +57,8 @@ abbrev pub action_in : List Row → ℕ → Action
 action_in [] opcode = Other
 action_in (row ∷ rows) opcode = if row.opcodes opcode then row.action else action_in rows opcode
 
--- 1 is the one-byte map, 2 the map behind 0F, 3 the map behind 0F 38
+-- by the number of the map: 1 is the one-byte map, 2 the map behind 0F
 unfoldable pub action_of : ℕ → ℕ → Action
-action_of map opcode =
-    if map == 1 then action_in one_byte_actions opcode
-    else (if map == 2 then action_in two_byte_actions opcode else Other)
+action_of number opcode =
+    if number == 1 then action_in one_byte_actions opcode
+    else (if number == 2 then action_in two_byte_actions opcode else Other)

@@ -3,8 +3,8 @@ use Rattle.std.specs.Prelude.{ℕ, ◌+◌, ◌/◌, ◌%◌, Bool, true, false,
 use Rattle.std.specs.Int.{w8, w32, cast_signed}
 use Rattle.byteorder.specs.Endian.{little_number}
 use Rattle.x86_map.specs.declared.shape.Write.{Write}
-use Rattle.x86_map.specs.declared.shape.Write.TheVariants.{Nothing, Rm, Reg, Both, Opcode}
-use Rattle.x86_map.specs.Prefixes.{rex_r, rex_x, rex_b}
+use Rattle.x86_map.specs.declared.shape.Write.TheVariants.{Nothing, Rm, Reg, Both, Opcode, Vvvv, RegAndVvvv}
+use Rattle.x86_map.specs.Prefixes.{rex_r, rex_x, rex_b, vvvv_register}
 use Rattle.x86_map.specs.Form.{modrm_mod, modrm_reg, modrm_rm}
 use Rattle.x86_decode.specs.declared.fields.Fields.{Fields}
 
@@ -40,7 +40,7 @@ is_register f = modrm_mod (modrm f) == 3
 abbrev pub digit : Fields → ℕ
 digit f = modrm_reg (modrm f)
 
--- a register's number: three bits, and a bit of REX above them
+-- a register's number: three bits, and a bit of REX, VEX or EVEX above them
 abbrev pub extended : Bool → ℕ → ℕ
 extended bit field = if bit then field + 8 else field
 
@@ -87,6 +87,8 @@ writes_number Rm f n = is_register f && (rm_register f == n)
 writes_number Reg f n = reg_register f == n
 writes_number Both f n = (reg_register f == n) || (is_register f && (rm_register f == n))
 writes_number Opcode f n = opcode_register f == n
+writes_number Vvvv f n = vvvv_register f.prefixes == n
+writes_number RegAndVvvv f n = (reg_register f == n) || (vvvv_register f.prefixes == n)
 
 abbrev pub is_none : Option ℕ → Bool
 is_none None = true

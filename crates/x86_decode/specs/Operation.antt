@@ -114,4 +114,4 @@ operation_by Group5 f = group_5 f
 operation_by Group7 f = group_7 f
 
 unfoldable pub operation : Fields → Op
-operation f = operation_by (action_of f.map f.opcode) f
+operation f = operation_by (action_of f.number f.opcode) f

@@ -64,11 +64,11 @@ pub enum Action {
     Group7,
 }
 
-/// What an opcode does. `map` is 1 for the one-byte opcodes, 2 for those behind 0F, 3 for those behind 0F 38.
-pub(crate) fn action_at(map: u8, opcode: u8) -> Action
-    ensures { result ≡ action_of map opcode }
+/// What an opcode does. `number` is that of its map, as in `x86_map`: 1 for the one-byte opcodes, 2 for those behind 0F.
+pub(crate) fn action_at(number: u8, opcode: u8) -> Action
+    ensures { result ≡ action_of number opcode }
 {
-    match map {
+    match number {
         1 => one_byte_action(opcode),
         2 => two_byte_action(opcode),
         _ => Action::Other,

@@ -25,8 +25,8 @@ use x86_map::{Prefixes, Shape, Write};
 pub struct Fields {
     /// The prefixes.
     pub prefixes: Prefixes,
-    /// Which map the opcode is of: 1, 2 behind 0F, 3 behind 0F 38.
-    pub map: u8,
+    /// The number of the map that the opcode is of, as in `x86_map`.
+    pub number: u8,
     /// The opcode.
     pub opcode: u8,
     /// The ModRM byte.
@@ -156,11 +156,15 @@ impl Fields {
                 self.reg_register() == number || self.is_register() && self.rm_register() == number
             }
             Write::Opcode => self.opcode_register() == number,
+            Write::Vvvv => self.prefixes.vvvv_register() == number,
+            Write::RegAndVvvv => {
+                self.reg_register() == number || self.prefixes.vvvv_register() == number
+            }
         }
     }
 }
 
-/// A register's number from its three bits and a bit of REX.
+/// A register's number from its three bits and a bit of REX, VEX or EVEX.
 fn extended(bit: bool, field: u8) -> u8
     requires { field < 8 }
     ensures { result ≡ extended bit field }

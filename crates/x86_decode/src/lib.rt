@@ -3,7 +3,7 @@
 #![tactic(auto)]
 
 ghost use Rattle.std.specs.Prelude.{◌≡◌, ◌≢◌, ◌<◌, ◌≤◌, ◌↔◌, ℕ, length, IfOk};
-ghost use Rattle.x86_decode.specs.MapLaw.{MapIsExact};
+ghost use Rattle.x86_decode.specs.MapLaw.{MapIsExact, WholeExtendsBase};
 ghost use Rattle.x86_decode.specs.Decoding.{StandsInFront, EndsOutside, IsCut, IsTooLong, OneOutcome, OneSpelling, decoded};
 
 mod action;
@@ -16,6 +16,7 @@ mod reading;
 use crate::reading::{Stop, read};
 pub use fault_text::DecodeFaultText;
 pub use operation_defs::{Insn, Op};
+pub use x86_map::Map;
 
 /// Why no instruction stands at the front of the bytes.
 #[derive(Clone, Copy, Debug, PartialEq, Eq)]
@@ -28,33 +29,33 @@ pub enum DecodeFault {
     Long,
 }
 
-/// The instruction at the front of the bytes. An instruction has at most 15 bytes.
-pub fn decode(bytes: &[u8]) -> Result<Insn, DecodeFault>
-    ensures ok { (insn : Insn) → (result ≡ Ok insn) ↔ StandsInFront bytes.now insn }
-    ensures outside { (seen : ℕ) → (result ≡ Err (DecodeFault.Outside seen)) ↔ EndsOutside bytes.now seen }
-    ensures cut { (have : ℕ) → (result ≡ Err (DecodeFault.Cut have)) ↔ IsCut bytes.now have }
-    ensures long { (result ≡ Err DecodeFault.Long) ↔ IsTooLong bytes.now }
-    // The answer is a function of the bytes.
-    ensures answer { result ≡ decoded bytes.now }
+/// The instruction of the map at the front of the bytes. An instruction has at most 15 bytes.
+pub fn decode(map: Map, bytes: &[u8]) -> Result<Insn, DecodeFault>
+    ensures ok { (insn : Insn) → (result ≡ Ok insn) ↔ StandsInFront map bytes.now insn }
+    ensures outside { (seen : ℕ) → (result ≡ Err (DecodeFault.Outside seen)) ↔ EndsOutside map bytes.now seen }
+    ensures cut { (have : ℕ) → (result ≡ Err (DecodeFault.Cut have)) ↔ IsCut map bytes.now have }
+    ensures long { (result ≡ Err DecodeFault.Long) ↔ IsTooLong map bytes.now }
+    // The answer is a function of the map and the bytes.
+    ensures answer { result ≡ decoded map bytes.now }
     // An instruction has 1 to 15 bytes, all of them among the bytes given.
     ensures within { IfOk result (λ insn.
         (0 < insn.len) × (insn.len ≤ 15) × (insn.len ≤ length bytes.now)) }
     // An IRET is told as one that returns; whether it goes on behind itself is nothing that its bytes say.
     ensures no_next { IfOk result (λ insn. insn.op ≢ Op.IretNext) }
 {
-    decode_front(bytes)
+    decode_front(map, bytes)
 }
 
 #[tactic(auto, unfolding(crate::specs::Decoding::decoded))]
-fn decode_front(bytes: &[u8]) -> Result<Insn, DecodeFault>
-    ensures { result ≡ decoded bytes.now }
+fn decode_front(map: Map, bytes: &[u8]) -> Result<Insn, DecodeFault>
+    ensures { result ≡ decoded map bytes.now }
 {
     let front = if bytes.len() < MAX_LEN {
         bytes
     } else {
         &bytes[..MAX_LEN]
     };
-    match read(front) {
+    match read(map, front) {
         Ok(insn) => Ok(insn),
         Err(Stop::Dead { seen }) => Err(DecodeFault::Outside { seen }),
         Err(Stop::More) if bytes.len() < MAX_LEN => Err(DecodeFault::Cut {
@@ -76,6 +77,11 @@ pub fn one_spelling()
 /// What decoding may answer excludes each other: bytes have at most one answer.
 pub fn one_outcome()
     ensures { OneOutcome }
+{}
+
+/// What the base map spells, the whole map spells alike: the same bytes, and the same instruction.
+pub fn whole_extends_base()
+    ensures { WholeExtendsBase }
 {}
 
 /// What the opcode map answers, in terms of spellings: it fits exactly what is spelled, asks for a ModRM byte exactly

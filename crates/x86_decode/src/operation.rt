@@ -26,7 +26,7 @@ use operation_defs::Op;
 pub(crate) fn operation_of(f: &Fields) -> Op
     ensures { result ≡ operation f.now }
 {
-    operation_by(action_at(f.map, f.opcode), f)
+    operation_by(action_at(f.number, f.opcode), f)
 }
 
 #[tactic(auto, unfolding(crate::specs::Operation::operation_by))]

@@ -2,18 +2,24 @@ ghost use Rattle.std.specs.Prelude.{◌≡◌, if◌then◌else◌, Some, None};
 ghost use Rattle.x86_decode.specs.Prefix.{is_legacy};
 ghost use Rattle.x86_decode.specs.Reading.{noted, no_prefixes};
 
-use x86_map::Prefixes;
+use x86_map::{Map, Prefixes};
 
 /// No prefix.
-pub(crate) const NO_PREFIXES: Prefixes = Prefixes {
-    has_66: false,
-    has_67: false,
-    has_f3: false,
-    has_f2: false,
-    has_f0: false,
-    has_fs_gs: false,
-    rex: None,
-};
+pub(crate) fn no_prefixes(map: Map) -> Prefixes
+    ensures { result ≡ no_prefixes map }
+{
+    Prefixes {
+        map,
+        has_66: false,
+        has_67: false,
+        has_f3: false,
+        has_f2: false,
+        has_f0: false,
+        has_fs_gs: false,
+        rex: None,
+        vector: None,
+    }
+}
 
 /// The prefixes with one more legacy prefix, if the byte is one.
 pub(crate) fn noted(p: Prefixes, byte: u8) -> Option<Prefixes>

@@ -1,6 +1,7 @@
 //! One instruction is read from the left, part by part.
 
-ghost use Rattle.std.specs.Prelude.{◌≡◌, ◌+◌, ◌≤◌, ◌<◌, ℕ, length, Some, None};
+ghost use Rattle.std.specs.Prelude.{◌≡◌, ◌+◌, ◌≤◌, ◌<◌, ℕ, true, length, Some, None};
+ghost use Rattle.x86_map.specs.Vector.{vex_number, evex_number, is_evex_second, number_of};
 ghost use Rattle.x86_decode.specs.Spelling.{optional, has_sib, has_base_5, displacement_len};
 ghost use Rattle.x86_decode.specs.Reading.{
   finished,
@@ -8,8 +9,17 @@ ghost use Rattle.x86_decode.specs.Reading.{
   sib_at,
   modrm_at,
   operands_at,
-  three_byte_in,
-  three_byte_at,
+  opcode_in,
+  map_at,
+  vector_at,
+  vex2_at,
+  vex3_second,
+  vex3_at,
+  evex_third,
+  evex_second,
+  evex_at,
+  escaped_at,
+  opens_vector,
   two_byte_in,
   two_byte_at,
   opcode_at,
@@ -20,9 +30,12 @@ ghost use Rattle.x86_decode.specs.Reading.{
 
 use crate::fields::{Fields, signed_number};
 use crate::operation::operation_of;
-use crate::prefix::{NO_PREFIXES, noted};
+use crate::prefix::{no_prefixes, noted};
 use operation_defs::Insn;
-use x86_map::{Look, Prefixes, Shape, accepts_some, lookup};
+use x86_map::{
+    Look, Map, Prefixes, Shape, Vector, accepts_some, evex_number, is_evex_second, lookup,
+    vex_number,
+};
 
 /// Why no instruction was read.
 #[derive(Clone, Copy)]
@@ -37,18 +50,18 @@ pub enum Stop {
 #[derive(Clone, Copy)]
 struct Opcode {
     prefixes: Prefixes,
-    map: u8,
+    number: u8,
     byte: u8,
     end: u8,
 }
 
 /// The instruction at the front of at most fifteen bytes.
 #[tactic(auto, unfolding(crate::specs::Reading::reading))]
-pub(crate) fn read(bytes: &[u8]) -> Result<Insn, Stop>
+pub(crate) fn read(map: Map, bytes: &[u8]) -> Result<Insn, Stop>
     requires { length bytes.now ≤ 15 }
-    ensures { result ≡ reading bytes.now }
+    ensures { result ≡ reading map bytes.now }
 {
-    let mut p = NO_PREFIXES;
+    let mut p = no_prefixes(map);
     for (i, byte) in bytes.iter().enumerate() {
         match noted(p, *byte) {
             Some(more) => p = more,
@@ -87,16 +100,129 @@ fn read_opcode(p: Prefixes, seen: u8, bytes: &[u8]) -> Result<Insn, Stop>
     match bytes {
         [] => Err(Stop::More),
         [0x0F, rest @ ..] => read_two_byte(p, seen + 1, rest),
+        [first, rest @ ..] if opens_vector(&p, *first) => read_vector(p, *first, seen + 1, rest),
         [byte, rest @ ..] => read_operands(
             Opcode {
                 prefixes: p,
-                map: 1,
+                number: 1,
                 byte: *byte,
                 end: seen + 1,
             },
             rest,
         ),
     }
+}
+
+/// Whether the byte begins VEX or EVEX.
+fn opens_vector(p: &Prefixes, byte: u8) -> bool
+    ensures { result ≡ opens_vector p.now byte }
+{
+    match p.map {
+        Map::Base => false,
+        Map::Whole => p.is_bare() && (byte == 0xC5 || byte == 0xC4 || byte == 0x62),
+    }
+}
+
+/// Behind C5, C4 or 62.
+fn read_vector(p: Prefixes, first: u8, seen: u8, bytes: &[u8]) -> Result<Insn, Stop>
+    requires { seen + length bytes.now ≤ 15 }
+    ensures { result ≡ escaped_at first p seen bytes.now }
+{
+    match first {
+        0xC5 => read_vex2(p, seen, bytes),
+        0xC4 => read_vex3(p, seen, bytes),
+        _ => read_evex(p, seen, bytes),
+    }
+}
+
+#[tactic(auto, unfolding(crate::specs::Reading::vex2_at))]
+fn read_vex2(p: Prefixes, seen: u8, bytes: &[u8]) -> Result<Insn, Stop>
+    requires { seen + length bytes.now ≤ 15 }
+    ensures { result ≡ vex2_at p seen bytes.now }
+{
+    match bytes {
+        [] => Err(Stop::More),
+        [a, rest @ ..] => read_behind(p, Vector::Vex2(*a), seen + 1, rest),
+    }
+}
+
+#[tactic(auto, unfolding(crate::specs::Reading::vex3_at))]
+fn read_vex3(p: Prefixes, seen: u8, bytes: &[u8]) -> Result<Insn, Stop>
+    requires { seen + length bytes.now ≤ 15 }
+    ensures { result ≡ vex3_at p seen bytes.now }
+{
+    match bytes {
+        [] => Err(Stop::More),
+        [a, rest @ ..] if 0 < vex_number(*a) => read_vex3_second(p, *a, seen + 1, rest),
+        _ => Err(Stop::Dead { seen: seen + 1 }),
+    }
+}
+
+#[tactic(auto, unfolding(crate::specs::Reading::vex3_second))]
+fn read_vex3_second(p: Prefixes, a: u8, seen: u8, bytes: &[u8]) -> Result<Insn, Stop>
+    requires known { 0 < vex_number a }
+    requires room { seen + length bytes.now ≤ 15 }
+    ensures { result ≡ vex3_second p a seen bytes.now }
+{
+    match bytes {
+        [] => Err(Stop::More),
+        [b, rest @ ..] => read_behind(p, Vector::Vex3(a, *b), seen + 1, rest),
+    }
+}
+
+#[tactic(auto, unfolding(crate::specs::Reading::evex_at))]
+fn read_evex(p: Prefixes, seen: u8, bytes: &[u8]) -> Result<Insn, Stop>
+    requires { seen + length bytes.now ≤ 15 }
+    ensures { result ≡ evex_at p seen bytes.now }
+{
+    match bytes {
+        [] => Err(Stop::More),
+        [a, rest @ ..] if 0 < evex_number(*a) => read_evex_second(p, *a, seen + 1, rest),
+        _ => Err(Stop::Dead { seen: seen + 1 }),
+    }
+}
+
+#[tactic(auto, unfolding(crate::specs::Reading::evex_second))]
+fn read_evex_second(p: Prefixes, a: u8, seen: u8, bytes: &[u8]) -> Result<Insn, Stop>
+    requires known { 0 < evex_number a }
+    requires room { seen + length bytes.now ≤ 15 }
+    ensures { result ≡ evex_second p a seen bytes.now }
+{
+    match bytes {
+        [] => Err(Stop::More),
+        [b, rest @ ..] if is_evex_second(*b) => read_evex_third(p, a, *b, seen + 1, rest),
+        _ => Err(Stop::Dead { seen: seen + 1 }),
+    }
+}
+
+#[tactic(auto, unfolding(crate::specs::Reading::evex_third))]
+fn read_evex_third(p: Prefixes, a: u8, b: u8, seen: u8, bytes: &[u8]) -> Result<Insn, Stop>
+    requires known { 0 < evex_number a }
+    requires second { is_evex_second b ≡ true }
+    requires room { seen + length bytes.now ≤ 15 }
+    ensures { result ≡ evex_third p a b seen bytes.now }
+{
+    match bytes {
+        [] => Err(Stop::More),
+        [c, rest @ ..] => read_behind(p, Vector::Evex(a, b, *c), seen + 1, rest),
+    }
+}
+
+/// Behind VEX or EVEX.
+fn read_behind(p: Prefixes, vector: Vector, seen: u8, bytes: &[u8]) -> Result<Insn, Stop>
+    requires known { 0 < number_of vector }
+    requires room { seen + length bytes.now ≤ 15 }
+    ensures { result ≡ vector_at p vector seen bytes.now }
+{
+    read_map(
+        Prefixes {
+            vector: Some(vector),
+            ..p
+        },
+        vector.number(),
+        seen,
+        bytes,
+    )
 }
 
 #[tactic(auto, unfolding(crate::specs::Reading::two_byte_at, crate::specs::Reading::two_byte_in))]
@@ -104,16 +230,17 @@ fn read_two_byte(p: Prefixes, seen: u8, bytes: &[u8]) -> Result<Insn, Stop>
     requires { seen + length bytes.now ≤ 15 }
     ensures { result ≡ two_byte_at p seen bytes.now }
 {
-    if !accepts_some(p, 2) && !accepts_some(p, 3) {
+    if !accepts_some(p, 2) && !accepts_some(p, 3) && !accepts_some(p, 4) {
         return Err(Stop::Dead { seen });
     }
     match bytes {
         [] => Err(Stop::More),
-        [0x38, rest @ ..] => read_three_byte(p, seen + 1, rest),
+        [0x38, rest @ ..] => read_map(p, 3, seen + 1, rest),
+        [0x3A, rest @ ..] => read_map(p, 4, seen + 1, rest),
         [byte, rest @ ..] => read_operands(
             Opcode {
                 prefixes: p,
-                map: 2,
+                number: 2,
                 byte: *byte,
                 end: seen + 1,
             },
@@ -122,12 +249,15 @@ fn read_two_byte(p: Prefixes, seen: u8, bytes: &[u8]) -> Result<Insn, Stop>
     }
 }
 
-#[tactic(auto, unfolding(crate::specs::Reading::three_byte_at, crate::specs::Reading::three_byte_in))]
-fn read_three_byte(p: Prefixes, seen: u8, bytes: &[u8]) -> Result<Insn, Stop>
-    requires { seen + length bytes.now ≤ 15 }
-    ensures { result ≡ three_byte_at p seen bytes.now }
+/// An opcode of the map of this number.
+#[tactic(auto, unfolding(crate::specs::Reading::map_at, crate::specs::Reading::opcode_in))]
+fn read_map(p: Prefixes, number: u8, seen: u8, bytes: &[u8]) -> Result<Insn, Stop>
+    requires first { 0 < number }
+    requires last { number < 13 }
+    requires room { seen + length bytes.now ≤ 15 }
+    ensures { result ≡ map_at p number seen bytes.now }
 {
-    if !accepts_some(p, 3) {
+    if !accepts_some(p, number) {
         return Err(Stop::Dead { seen });
     }
     match bytes {
@@ -135,7 +265,7 @@ fn read_three_byte(p: Prefixes, seen: u8, bytes: &[u8]) -> Result<Insn, Stop>
         [byte, rest @ ..] => read_operands(
             Opcode {
                 prefixes: p,
-                map: 3,
+                number,
                 byte: *byte,
                 end: seen + 1,
             },
@@ -146,11 +276,10 @@ fn read_three_byte(p: Prefixes, seen: u8, bytes: &[u8]) -> Result<Insn, Stop>
 
 #[tactic(auto, unfolding(crate::specs::Reading::operands_at, crate::specs::Reading::operands_by))]
 fn read_operands(opcode: Opcode, bytes: &[u8]) -> Result<Insn, Stop>
-    requires map { (0 < opcode.map) × (opcode.map < 4) }
-    requires room { opcode.end + length bytes.now ≤ 15 }
-    ensures { result ≡ operands_at opcode.prefixes opcode.map opcode.byte opcode.end bytes.now }
+    requires { opcode.end + length bytes.now ≤ 15 }
+    ensures { result ≡ operands_at opcode.prefixes opcode.number opcode.byte opcode.end bytes.now }
 {
-    match lookup(opcode.prefixes, opcode.map, opcode.byte, None) {
+    match lookup(opcode.prefixes, opcode.number, opcode.byte, None) {
         Look::Refused => Err(Stop::Dead { seen: opcode.end }),
         Look::NeedModrm => read_modrm(opcode, bytes),
         Look::Fits(shape) => read_rest(opcode, None, None, shape, bytes),
@@ -159,14 +288,13 @@ fn read_operands(opcode: Opcode, bytes: &[u8]) -> Result<Insn, Stop>
 
 #[tactic(auto, unfolding(crate::specs::Reading::modrm_at, crate::specs::Reading::modrm_fits, crate::specs::Reading::sib_at))]
 fn read_modrm(opcode: Opcode, bytes: &[u8]) -> Result<Insn, Stop>
-    requires map { (0 < opcode.map) × (opcode.map < 4) }
-    requires room { opcode.end + length bytes.now ≤ 15 }
-    ensures { result ≡ modrm_at opcode.prefixes opcode.map opcode.byte opcode.end bytes.now }
+    requires { opcode.end + length bytes.now ≤ 15 }
+    ensures { result ≡ modrm_at opcode.prefixes opcode.number opcode.byte opcode.end bytes.now }
 {
     let [modrm, rest @ ..] = bytes else {
         return Err(Stop::More);
     };
-    match lookup(opcode.prefixes, opcode.map, opcode.byte, Some(*modrm)) {
+    match lookup(opcode.prefixes, opcode.number, opcode.byte, Some(*modrm)) {
         Look::Fits(shape) => read_sib(opcode, *modrm, shape, rest),
         _ => Err(Stop::Dead {
             seen: opcode.end + 1,
@@ -177,7 +305,7 @@ fn read_modrm(opcode: Opcode, bytes: &[u8]) -> Result<Insn, Stop>
 #[tactic(auto, unfolding(crate::specs::Reading::sib_at))]
 fn read_sib(opcode: Opcode, modrm: u8, shape: Shape, bytes: &[u8]) -> Result<Insn, Stop>
     requires { opcode.end + 1 + length bytes.now ≤ 15 }
-    ensures { result ≡ sib_at opcode.prefixes opcode.map opcode.byte modrm shape opcode.end (has_sib (Some modrm)) bytes.now }
+    ensures { result ≡ sib_at opcode.prefixes opcode.number opcode.byte modrm shape opcode.end (has_sib (Some modrm)) bytes.now }
 {
     if !has_sib(modrm) {
         return read_rest(opcode, Some(modrm), None, shape, bytes);
@@ -197,7 +325,7 @@ fn read_rest(
     bytes: &[u8],
 ) -> Result<Insn, Stop>
     requires { opcode.end + length (optional modrm) + length (optional sib) + length bytes.now ≤ 15 }
-    ensures { result ≡ rest_at opcode.prefixes opcode.map opcode.byte modrm sib shape opcode.end bytes.now }
+    ensures { result ≡ rest_at opcode.prefixes opcode.number opcode.byte modrm sib shape opcode.end bytes.now }
 {
     let len = displacement_len(modrm, sib);
     let imm = shape.imm as usize;
@@ -220,12 +348,12 @@ fn finished(
 ) -> Insn
     requires { opcode.end + length (optional modrm) + length (optional sib)
         + length displacement.now + length immediate.now ≤ 15 }
-    ensures { result ≡ finished opcode.prefixes opcode.map opcode.byte modrm sib shape opcode.end displacement.now immediate.now }
+    ensures { result ≡ finished opcode.prefixes opcode.number opcode.byte modrm sib shape opcode.end displacement.now immediate.now }
 {
     let displacement_at = opcode.end + count(modrm) + count(sib);
     let op = operation_of(&Fields {
         prefixes: opcode.prefixes,
-        map: opcode.map,
+        number: opcode.number,
         opcode: opcode.byte,
         modrm,
         sib,

@@ -3,13 +3,14 @@ use std::process::Abort;
 
 mod lengths;
 mod rows;
+mod whole;
 
 fn expect(rt: &impl Abort, bytes: &[u8], len: u8, op: Op) {
-    assert_eq!(rt; decode(bytes), Ok(Insn { len, op }));
+    assert_eq!(rt; decode(Map::Base, bytes), Ok(Insn { len, op }));
 }
 
 fn refuse(rt: &impl Abort, bytes: &[u8], why: DecodeFault) {
-    assert_eq!(rt; decode(bytes), Err(why));
+    assert_eq!(rt; decode(Map::Base, bytes), Err(why));
 }
 
 // The recommended NOP of nine bytes with two prefixes more, and its fronts.

@@ -4,6 +4,7 @@ use Rattle.std.specs.Prelude.{◌&&◌, ◌||◌, not, Option, Some, None, IfSom
 use Rattle.std.specs.List.{list_all, range_with_len, AllByRecursion}
 use Rattle.std.proofs.lemmas.Bool.{not-true}
 use Rattle.std.proofs.lemmas.List.FromFn.{get_or-range_with_len, length-range_with_len}
+use Rattle.x86_map.specs.declared.map.Map.{Map}
 use Rattle.x86_map.specs.declared.prefixes.Prefixes.{Prefixes}
 use Rattle.x86_map.specs.declared.shape.Shape.{Shape}
 use Rattle.x86_map.specs.declared.shape.Look.TheVariants.{Refused, NeedModrm, Fits}
@@ -12,7 +13,7 @@ use Rattle.x86_map.specs.declared.form.PrefixUse.TheVariants.{Allowed, Required,
 use Rattle.x86_map.specs.declared.form.PrefixUses.{PrefixUses}
 use Rattle.x86_map.specs.declared.form.Operand.{Operand}
 use Rattle.x86_map.specs.declared.form.Form.{Form}
-use Rattle.x86_map.specs.Prefixes.{rex_b}
+use Rattle.x86_map.specs.Prefixes.{rex_b, under_66, under_F3, under_F2}
 use Rattle.x86_map.specs.Form.{allows, accepts, takes, has_modrm, shape_of, look_operand, look_form}
 use Rattle.x86_map.specs.OpcodeMap.{forms_at}
 use Rattle.x86_map.specs.Apart.{FitsOnce, FormsAreApart}
@@ -33,17 +34,17 @@ conflict-allows Forbidden Forbidden b h a = absurd cc
 conflict-allows Allowed q b h a = absurd cc
 
 record Accepted (r : PrefixUses) (p : Prefixes) : Type 0 where
-  of_66 : allows r.of_66 p.has_66 ≡ true
-  of_f3 : allows r.of_f3 p.has_f3 ≡ true
-  of_f2 : allows r.of_f2 p.has_f2 ≡ true
+  of_66 : allows r.of_66 (under_66 p) ≡ true
+  of_f3 : allows r.of_f3 (under_F3 p) ≡ true
+  of_f2 : allows r.of_f2 (under_F2 p) ≡ true
   rex : allows r.of_rex_b (rex_b p) ≡ true
 
 accepted : (r : PrefixUses) (p : Prefixes) → accepts r p ≡ true → Accepted r p
 accepted r p h =
-    let o = allows r.of_66 p.has_66 in
+    let o = allows r.of_66 (under_66 p) in
     let a = allows r.of_67 p.has_67 in
-    let f = allows r.of_f3 p.has_f3 in
-    let n = allows r.of_f2 p.has_f2 in
+    let f = allows r.of_f3 (under_F3 p) in
+    let n = allows r.of_f2 (under_F2 p) in
     let x = allows r.of_rex_b (rex_b p) in
     let four = and_left (o && a && f && n) x h in
     let three = and_left (o && a && f) n four in
@@ -59,19 +60,19 @@ refused_by_uses r q p apart h =
       | true ↦ λ e.
           let c = accepted q p e in
           elim (or_true (conflict r.of_66 q.of_66) (conflict r.of_f3 q.of_f3 || (conflict r.of_f2 q.of_f2 || conflict r.of_rex_b q.of_rex_b)) apart) [
-            | inl k ↦ let no_66 = conflict-allows r.of_66 q.of_66 p.has_66 k a.of_66 in absurd cc
+            | inl k ↦ let no_66 = conflict-allows r.of_66 q.of_66 (under_66 p) k a.of_66 in absurd cc
             | inr k ↦ elim (or_true (conflict r.of_f3 q.of_f3) (conflict r.of_f2 q.of_f2 || conflict r.of_rex_b q.of_rex_b) k) [
-              | inl k ↦ let no_f3 = conflict-allows r.of_f3 q.of_f3 p.has_f3 k a.of_f3 in absurd cc
+              | inl k ↦ let no_f3 = conflict-allows r.of_f3 q.of_f3 (under_F3 p) k a.of_f3 in absurd cc
               | inr k ↦ elim (or_true (conflict r.of_f2 q.of_f2) (conflict r.of_rex_b q.of_rex_b) k) [
-                | inl k ↦ let no_f2 = conflict-allows r.of_f2 q.of_f2 p.has_f2 k a.of_f2 in absurd cc
+                | inl k ↦ let no_f2 = conflict-allows r.of_f2 q.of_f2 (under_F2 p) k a.of_f2 in absurd cc
                 | inr k ↦ let no_rex = conflict-allows r.of_rex_b q.of_rex_b (rex_b p) k a.rex in absurd cc
               ]
             ]
           ]
     ] refl
 
-apart_at : (number opcode : ℕ) → 0 < number → number < 4 → opcode < 256 → are_apart (forms_at number opcode) ≡ true
-apart_at number opcode low high lt = and_right (is_uniform (forms_at number opcode)) (are_apart (forms_at number opcode)) (each_opcode number opcode low high lt)
+apart_at : (m : Map) (number opcode : ℕ) → 0 < number → number < 13 → opcode < 256 → are_apart (forms_at m number opcode) ≡ true
+apart_at m number opcode low high lt = and_right (is_uniform (forms_at m number opcode)) (are_apart (forms_at m number opcode)) (each_opcode m number opcode low high lt)
 
 -- ---- from the test to the forms
 
@@ -149,4 +150,4 @@ once modrm (f ∷ []) p byte h = (λ shape e. tt, tt)
 once modrm (f ∷ g ∷ forms) p byte h = several_once modrm (f ∷ g ∷ forms) p byte h
 
 pub forms-apart : FormsAreApart
-forms-apart p number opcode modrm low high lt byte = once modrm (forms_at number opcode) p byte (apart_at number opcode low high lt)
+forms-apart m p number opcode modrm low high lt byte = once modrm (forms_at m number opcode) p byte (apart_at m number opcode low high lt)

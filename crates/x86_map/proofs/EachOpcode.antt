@@ -1,5 +1,5 @@
 -- What is tested of the forms of each opcode of the map: each map is gone through once.
-use Rattle.std.proofs.Common.{◌≡◌, ℕ, ◌+◌, ◌*◌, ◌<◌, Bool, true, false, ltb, List, [], ◌∷◌, get_or, refl, sym, ap, ◌∙◌, arith, inl, inr}
+use Rattle.std.proofs.Common.{◌≡◌, ℕ, ◌+◌, ◌*◌, ◌<◌, Bool, true, false, ltb, List, [], ◌∷◌, get_or, refl, sym, ap, ◌∙◌, arith}
 use Rattle.std.specs.Prelude.{◌&&◌, ◌||◌, not, Option, Some, None, map}
 use Rattle.std.specs.List.{list_all, range_with_len}
 use Rattle.std.proofs.lemmas.List.FromFn.{get_or-map-range_with_len}
@@ -11,8 +11,10 @@ use Rattle.x86_map.specs.declared.form.PrefixUse.TheVariants.{Allowed, Required,
 use Rattle.x86_map.specs.declared.form.PrefixUses.{PrefixUses}
 use Rattle.x86_map.specs.declared.form.Form.{Form}
 use Rattle.x86_map.specs.Form.{takes, has_modrm}
-use Rattle.x86_map.specs.OpcodeMap.{forms_at}
-use Rattle.x86_map.proofs.Accepting.{one_to_three}
+use Rattle.x86_map.specs.declared.map.Map.{Map}
+use Rattle.x86_map.specs.declared.map.Map.TheVariants.{Base, Whole}
+use Rattle.x86_map.specs.OpcodeMap.{base_forms, added_forms, forms_at}
+use Rattle.x86_map.proofs.Accepting.{by_number}
 
 -- ---- all have a ModRM byte, or none has
 
@@ -77,20 +79,71 @@ are_apart (f ∷ g ∷ forms) = all_apart None (f ∷ g ∷ forms) && list_all (
 
 -- ---- each opcode
 
-abbrev is_tested : ℕ → ℕ → Bool
-is_tested number opcode = is_uniform (forms_at number opcode) && are_apart (forms_at number opcode)
+abbrev is_tested : Map → ℕ → ℕ → Bool
+is_tested m number opcode = is_uniform (forms_at m number opcode) && are_apart (forms_at m number opcode)
 
-one_byte_tested : map (is_tested 1) (range_with_len 0 256) ≡ map (λ o. true) (range_with_len 0 256)
-unfolding forms_at
-one_byte_tested = refl
+abbrev AreTested : Map → ℕ → Type 0
+AreTested m number = map (is_tested m number) (range_with_len 0 256) ≡ map (λ o. true) (range_with_len 0 256)
 
-two_byte_tested : map (is_tested 2) (range_with_len 0 256) ≡ map (λ o. true) (range_with_len 0 256)
-unfolding forms_at
-two_byte_tested = refl
+base_1-tested : AreTested Base 1
+unfolding base_forms added_forms
+base_1-tested = refl
 
-three_byte_tested : map (is_tested 3) (range_with_len 0 256) ≡ map (λ o. true) (range_with_len 0 256)
-unfolding forms_at
-three_byte_tested = refl
+base_2-tested : AreTested Base 2
+unfolding base_forms added_forms
+base_2-tested = refl
+
+base_3-tested : AreTested Base 3
+unfolding base_forms added_forms
+base_3-tested = refl
+
+whole_1-tested : AreTested Whole 1
+unfolding base_forms added_forms
+whole_1-tested = refl
+
+whole_2-tested : AreTested Whole 2
+unfolding base_forms added_forms
+whole_2-tested = refl
+
+whole_3-tested : AreTested Whole 3
+unfolding base_forms added_forms
+whole_3-tested = refl
+
+whole_4-tested : AreTested Whole 4
+unfolding base_forms added_forms
+whole_4-tested = refl
+
+whole_5-tested : AreTested Whole 5
+unfolding base_forms added_forms
+whole_5-tested = refl
+
+whole_6-tested : AreTested Whole 6
+unfolding base_forms added_forms
+whole_6-tested = refl
+
+whole_7-tested : AreTested Whole 7
+unfolding base_forms added_forms
+whole_7-tested = refl
+
+whole_8-tested : AreTested Whole 8
+unfolding base_forms added_forms
+whole_8-tested = refl
+
+whole_9-tested : AreTested Whole 9
+unfolding base_forms added_forms
+whole_9-tested = refl
+
+whole_10-tested : AreTested Whole 10
+unfolding base_forms added_forms
+whole_10-tested = refl
+
+whole_11-tested : AreTested Whole 11
+unfolding base_forms added_forms
+whole_11-tested = refl
+
+whole_12-tested : AreTested Whole 12
+unfolding base_forms added_forms
+whole_12-tested = refl
 
 at_each : (test : ℕ → Bool) (opcode : ℕ) → opcode < 256 → map test (range_with_len 0 256) ≡ map (λ o. true) (range_with_len 0 256) → test opcode ≡ true
 at_each test opcode lt same =
@@ -98,9 +151,17 @@ at_each test opcode lt same =
     ∙ ap (λ (bs : List Bool). get_or bs opcode false) same
     ∙ get_or-map-range_with_len (λ o. true) 0 256 opcode opcode false lt (omega arith)
 
-pub each_opcode : (number opcode : ℕ) → 0 < number → number < 4 → opcode < 256 → (is_uniform (forms_at number opcode) && are_apart (forms_at number opcode)) ≡ true
-each_opcode number opcode low high lt = elim (one_to_three number low high) [
-  | inl first ↦ rw first (at_each (is_tested 1) opcode lt one_byte_tested)
-  | inr (inl second) ↦ rw second (at_each (is_tested 2) opcode lt two_byte_tested)
-  | inr (inr third) ↦ rw third (at_each (is_tested 3) opcode lt three_byte_tested)
-]
+abbrev IsTestedAt : Map → ℕ → ℕ → Type 0
+IsTestedAt m opcode number = is_tested m number opcode ≡ true
+
+pub each_opcode : (m : Map) (number opcode : ℕ) → 0 < number → number < 13 → opcode < 256 → (is_uniform (forms_at m number opcode) && are_apart (forms_at m number opcode)) ≡ true
+unfolding base_forms added_forms
+each_opcode Base number opcode low high lt = by_number (IsTestedAt Base opcode)
+    (at_each (is_tested Base 1) opcode lt base_1-tested) (at_each (is_tested Base 2) opcode lt base_2-tested) (at_each (is_tested Base 3) opcode lt base_3-tested)
+    refl refl refl refl refl refl refl refl refl number low high
+each_opcode Whole number opcode low high lt = by_number (IsTestedAt Whole opcode)
+    (at_each (is_tested Whole 1) opcode lt whole_1-tested) (at_each (is_tested Whole 2) opcode lt whole_2-tested) (at_each (is_tested Whole 3) opcode lt whole_3-tested)
+    (at_each (is_tested Whole 4) opcode lt whole_4-tested) (at_each (is_tested Whole 5) opcode lt whole_5-tested) (at_each (is_tested Whole 6) opcode lt whole_6-tested)
+    (at_each (is_tested Whole 7) opcode lt whole_7-tested) (at_each (is_tested Whole 8) opcode lt whole_8-tested) (at_each (is_tested Whole 9) opcode lt whole_9-tested)
+    (at_each (is_tested Whole 10) opcode lt whole_10-tested) (at_each (is_tested Whole 11) opcode lt whole_11-tested) (at_each (is_tested Whole 12) opcode lt whole_12-tested)
+    number low high

@@ -1,3 +1,4 @@
+pub mod Looks
 pub mod Tables
 pub mod Accepting
 pub mod EachOpcode

@@ -3,6 +3,7 @@ use Rattle.std.proofs.Common.{◌≡◌, ℕ, ◌<◌, true, false, cond, ltb, L
 use Rattle.std.specs.Prelude.{◌&&◌, ◌||◌, ◌⊎◌, not, Option, Some, None}
 use Rattle.std.specs.List.{list_all}
 use Rattle.std.proofs.lemmas.Bool.{ltb-true, not-true}
+use Rattle.x86_map.specs.declared.map.Map.{Map}
 use Rattle.x86_map.specs.declared.prefixes.Prefixes.{Prefixes}
 use Rattle.x86_map.specs.declared.shape.Shape.{Shape}
 use Rattle.x86_map.specs.declared.shape.Look.{Look}
@@ -10,14 +11,14 @@ use Rattle.x86_map.specs.declared.shape.Look.TheVariants.{Refused, NeedModrm, Fi
 use Rattle.x86_map.specs.declared.form.Operand.{Operand}
 use Rattle.x86_map.specs.declared.form.Operand.TheVariants.{NoModrm, Digits, Bytes}
 use Rattle.x86_map.specs.declared.form.Form.{Form}
-use Rattle.x86_map.specs.Prefixes.{is_rex_valid}
+use Rattle.x86_map.specs.Prefixes.{leads_to}
 use Rattle.x86_map.specs.Form.{accepts, takes, has_modrm, shape_of, look_operand, look_form}
 use Rattle.x86_map.specs.OpcodeMap.{forms_at, or_else, look_forms, look}
 use Rattle.x86_map.proofs.Accepting.{and_left, and_right, or_true}
 use Rattle.x86_map.proofs.EachOpcode.{example, takes_example, all_with, all_without, is_uniform, are_apart, each_opcode}
 
-uniform : (number opcode : ℕ) → 0 < number → number < 4 → opcode < 256 → is_uniform (forms_at number opcode) ≡ true
-uniform number opcode low high lt = and_left (is_uniform (forms_at number opcode)) (are_apart (forms_at number opcode)) (each_opcode number opcode low high lt)
+uniform : (m : Map) (number opcode : ℕ) → 0 < number → number < 13 → opcode < 256 → is_uniform (forms_at m number opcode) ≡ true
+uniform m number opcode low high lt = and_left (is_uniform (forms_at m number opcode)) (are_apart (forms_at m number opcode)) (each_opcode m number opcode low high lt)
 
 -- ---- one form
 
@@ -104,42 +105,42 @@ without_asks (f ∷ forms) p h asked =
 
 -- ---- the map
 
-pub valid_rex-fits : (p : Prefixes) (number opcode : ℕ) (modrm : Option ℕ) (s : Shape) → look p number opcode modrm ≡ Fits s → is_rex_valid p.rex ≡ true
+pub leads-fits : (p : Prefixes) (number opcode : ℕ) (modrm : Option ℕ) (s : Shape) → look p number opcode modrm ≡ Fits s → leads_to p number ≡ true
 unfolding look
-valid_rex-fits p number opcode modrm s h = elim (is_rex_valid p.rex) as (λ b. cond b (look_forms (forms_at number opcode) p modrm) Refused ≡ Fits s → b ≡ true) [
+leads-fits p number opcode modrm s h = elim (leads_to p number) as (λ b. cond b (look_forms (forms_at p.map number opcode) p modrm) Refused ≡ Fits s → b ≡ true) [
   | true ↦ λ e. refl
   | false ↦ λ e. absurd cc
 ] h
 
-pub look-asks : (p : Prefixes) (number opcode m : ℕ) (s : Shape) → 0 < number → number < 4 → opcode < 256 → look p number opcode (Some m) ≡ Fits s → look p number opcode None ≡ NeedModrm
+pub look-asks : (p : Prefixes) (number opcode m : ℕ) (s : Shape) → 0 < number → number < 13 → opcode < 256 → look p number opcode (Some m) ≡ Fits s → look p number opcode None ≡ NeedModrm
 unfolding look
 look-asks p number opcode m s low high lt fits =
-    let valid : is_rex_valid p.rex ≡ true = valid_rex-fits p number opcode (Some m) s fits in
-    let forms = forms_at number opcode in
-    let inside : look_forms forms p (Some m) ≡ Fits s = rw valid at fits in
-    let test = uniform number opcode low high lt in
-    rw valid (elim (or_true (all_with forms) (all_without forms) (and_left (all_with forms || all_without forms) (list_all takes_example forms) test)) [
+    let led : leads_to p number ≡ true = leads-fits p number opcode (Some m) s fits in
+    let forms = forms_at p.map number opcode in
+    let inside : look_forms forms p (Some m) ≡ Fits s = rw led at fits in
+    let test = uniform p.map number opcode low high lt in
+    rw led (elim (or_true (all_with forms) (all_without forms) (and_left (all_with forms || all_without forms) (list_all takes_example forms) test)) [
       | inl with_modrm ↦ asks forms p m s with_modrm inside
       | inr without ↦ let never : look_forms forms p (Some m) ≡ Refused = none_fits forms p m without in absurd cc
     ])
 
-inside-fits : (p : Prefixes) (number opcode m : ℕ) (s : Shape) → is_rex_valid p.rex ≡ true → look_forms (forms_at number opcode) p (Some m) ≡ Fits s → look p number opcode (Some m) ≡ Fits s
+inside-fits : (p : Prefixes) (number opcode m : ℕ) (s : Shape) → leads_to p number ≡ true → look_forms (forms_at p.map number opcode) p (Some m) ≡ Fits s → look p number opcode (Some m) ≡ Fits s
 unfolding look
-inside-fits p number opcode m s valid inside = rw valid inside
+inside-fits p number opcode m s led inside = rw led inside
 
-pub look-some : (p : Prefixes) (number opcode : ℕ) → 0 < number → number < 4 → opcode < 256 → look p number opcode None ≡ NeedModrm → SomeFits (λ m. look p number opcode (Some m))
+pub look-some : (p : Prefixes) (number opcode : ℕ) → 0 < number → number < 13 → opcode < 256 → look p number opcode None ≡ NeedModrm → SomeFits (λ m. look p number opcode (Some m))
 unfolding look
 look-some p number opcode low high lt asked =
-    let valid : is_rex_valid p.rex ≡ true = elim (is_rex_valid p.rex) as (λ b. cond b (look_forms (forms_at number opcode) p None) Refused ≡ NeedModrm → b ≡ true) [
+    let led : leads_to p number ≡ true = elim (leads_to p number) as (λ b. cond b (look_forms (forms_at p.map number opcode) p None) Refused ≡ NeedModrm → b ≡ true) [
       | true ↦ λ e. refl
       | false ↦ λ e. absurd cc
     ] asked in
-    let forms = forms_at number opcode in
-    let inside : look_forms forms p None ≡ NeedModrm = rw valid at asked in
-    let test = uniform number opcode low high lt in
+    let forms = forms_at p.map number opcode in
+    let inside : look_forms forms p None ≡ NeedModrm = rw led at asked in
+    let test = uniform p.map number opcode low high lt in
     elim (or_true (all_with forms) (all_without forms) (and_left (all_with forms || all_without forms) (list_all takes_example forms) test)) [
       | inl with_modrm ↦ let some = some_fits forms p with_modrm (and_right (all_with forms || all_without forms) (list_all takes_example forms) test) inside in
-          record { modrm = some.modrm; is_byte = some.is_byte; shape = some.shape; fits = inside-fits p number opcode some.modrm some.shape valid some.fits }
+          record { modrm = some.modrm; is_byte = some.is_byte; shape = some.shape; fits = inside-fits p number opcode some.modrm some.shape led some.fits }
       | inr without ↦ absurd (without_asks forms p without inside)
     ]
 
@@ -167,7 +168,7 @@ never_forms (f ∷ forms) p m h = elim (or_else-asks (look_form f p (Some m)) (l
 
 pub look-never_asks : (p : Prefixes) (number opcode m : ℕ) → look p number opcode (Some m) ≡ NeedModrm → ⊥
 unfolding look
-look-never_asks p number opcode m h = elim (is_rex_valid p.rex) as (λ b. cond b (look_forms (forms_at number opcode) p (Some m)) Refused ≡ NeedModrm → ⊥) [
-  | true ↦ λ e. never_forms (forms_at number opcode) p m e
+look-never_asks p number opcode m h = elim (leads_to p number) as (λ b. cond b (look_forms (forms_at p.map number opcode) p (Some m)) Refused ≡ NeedModrm → ⊥) [
+  | true ↦ λ e. never_forms (forms_at p.map number opcode) p m e
   | false ↦ λ e. cc
 ] h

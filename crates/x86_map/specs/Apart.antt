@@ -1,6 +1,7 @@
 -- The rows of the map as a set: their order doesn't matter.
 use Rattle.std.specs.Prelude.{◌≡◌, ℕ, ◌<◌, List, [], ◌∷◌, Option, IfSome}
 use Rattle.std.specs.List.{AllByRecursion}
+use Rattle.x86_map.specs.declared.map.Map.{Map}
 use Rattle.x86_map.specs.declared.prefixes.Prefixes.{Prefixes}
 use Rattle.x86_map.specs.declared.shape.Shape.{Shape}
 use Rattle.x86_map.specs.declared.shape.Look.TheVariants.{Refused, Fits}
@@ -17,5 +18,5 @@ FitsOnce p modrm (form ∷ forms) =
 
 -- no two forms of an opcode fit the same prefixes and the same ModRM byte, or none
 abbrev pub FormsAreApart : Type 0
-FormsAreApart = (p : Prefixes) (map opcode : ℕ) (modrm : Option ℕ) → 0 < map → map < 4 → opcode < 256
-    → IfSome modrm (λ m. m < 256) → FitsOnce p modrm (forms_at map opcode)
+FormsAreApart = (map : Map) (p : Prefixes) (number opcode : ℕ) (modrm : Option ℕ) → 0 < number → number < 13 → opcode < 256
+    → IfSome modrm (λ m. m < 256) → FitsOnce p modrm (forms_at map number opcode)

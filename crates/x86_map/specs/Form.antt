@@ -14,7 +14,7 @@ use Rattle.x86_map.specs.declared.form.PrefixUse.{PrefixUse}
 use Rattle.x86_map.specs.declared.form.PrefixUse.TheVariants.{Allowed, Required, Forbidden}
 use Rattle.x86_map.specs.declared.form.PrefixUses.{PrefixUses}
 use Rattle.x86_map.specs.declared.form.Form.{Form}
-use Rattle.x86_map.specs.Prefixes.{rex_w, rex_b}
+use Rattle.x86_map.specs.Prefixes.{rex_w, rex_b, under_66, under_F3, under_F2}
 
 -- The ModRM byte: mod in the two high bits, then reg, then rm (SDM, volume 2, section 2.1.3).
 abbrev pub modrm_mod : ℕ → ℕ
@@ -34,8 +34,8 @@ allows Forbidden present = not present
 
 abbrev pub accepts : PrefixUses → Prefixes → Bool
 accepts uses p =
-    allows uses.of_66 p.has_66 && allows uses.of_67 p.has_67 && allows uses.of_f3 p.has_f3
-    && allows uses.of_f2 p.has_f2 && allows uses.of_rex_b (rex_b p)
+    allows uses.of_66 (under_66 p) && allows uses.of_67 p.has_67 && allows uses.of_f3 (under_F3 p)
+    && allows uses.of_f2 (under_F2 p) && allows uses.of_rex_b (rex_b p)
 
 -- mod 3 is a register, the others are memory
 abbrev pub is_in_mode : Mode → ℕ → Bool
@@ -63,8 +63,8 @@ imm_len NoImmediate p = 0
 imm_len Ib p = 1
 imm_len Iw p = 2
 imm_len IwIb p = 3
-imm_len Iz p = if p.has_66 && not (rex_w p) then 2 else 4
-imm_len Iv p = if rex_w p then 8 else (if p.has_66 then 2 else 4)
+imm_len Iz p = if under_66 p && not (rex_w p) then 2 else 4
+imm_len Iv p = if rex_w p then 8 else (if under_66 p then 2 else 4)
 imm_len Moffs p = 8
 
 abbrev pub shape_of : Form → Prefixes → Shape

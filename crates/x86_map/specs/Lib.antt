@@ -1,8 +1,14 @@
+pub mod Vector
 pub mod Prefixes
 pub mod Form
 pub mod Row
 pub mod OneByte
 pub mod TwoByte
 pub mod ThreeByte
+pub mod TwoByteExtension
+pub mod ThreeByteExtension
+pub mod VexRows
+pub mod EvexRows
+pub mod Extension
 pub mod OpcodeMap
 pub mod Apart

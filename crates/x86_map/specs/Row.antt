@@ -2,7 +2,7 @@
 use Rattle.std.specs.Prelude.{ℕ, Bool, true, false, ◌&&◌, ◌==◌, nat_le, List}
 use Rattle.std.specs.List.{list_any}
 use Rattle.x86_map.specs.declared.shape.Written.{Written}
-use Rattle.x86_map.specs.declared.shape.Write.TheVariants.{Nothing, Rm, Reg, Both, Opcode}
+use Rattle.x86_map.specs.declared.shape.Write.TheVariants.{Nothing, Rm, Reg, Both, Opcode, Vvvv, RegAndVvvv}
 use Rattle.x86_map.specs.declared.form.Mode.TheVariants.{Either, Memory, Register}
 use Rattle.x86_map.specs.declared.form.Operand.{Operand}
 use Rattle.x86_map.specs.declared.form.Operand.TheVariants.{NoModrm, Digits, Bytes}
@@ -22,6 +22,9 @@ pub record Row : Type 0 where
 infix 20 ◌to◌
 abbrev pub ◌to◌ : ℕ → ℕ → ℕ → Bool
 (first to last) opcode = nat_le first opcode && nat_le opcode last
+
+abbrev pub only : ℕ → ℕ → Bool
+only opcode = opcode to opcode
 
 abbrev pub one_of : List ℕ → ℕ → Bool
 one_of opcodes opcode = list_any (λ o. o == opcode) opcodes
@@ -71,7 +74,8 @@ Jb = Ib
 abbrev pub Jz : Immediate
 Jz = Iz
 
--- ---- written registers, of those that ModRM or the opcode names: of the rm field (E), the reg field (G), both, or the opcode (Z); of a byte (b) or more (v)
+-- ---- written registers, of those that ModRM, the opcode or VEX names: of the rm field (E), the reg field (G), both, the opcode (Z), or vvvv (V); of a byte (b)
+-- or more (v)
 
 abbrev pub nothing : Written
 nothing = record { byte = false; write = Nothing }
@@ -99,6 +103,12 @@ Zb = record { byte = true; write = Opcode }
 
 abbrev pub Zv : Written
 Zv = record { byte = false; write = Opcode }
+
+abbrev pub Vv : Written
+Vv = record { byte = false; write = Vvvv }
+
+abbrev pub GVv : Written
+GVv = record { byte = false; write = RegAndVvvv }
 
 -- ---- prefixes: which may stand, must or must not
 
@@ -137,6 +147,10 @@ with_66 = record { of_66 = Required; of_67 = Allowed; of_f3 = Forbidden; of_f2 =
 -- F2 must, F3 may not
 abbrev pub with_F2 : PrefixUses
 with_F2 = record { of_66 = Allowed; of_67 = Allowed; of_f3 = Forbidden; of_f2 = Required; of_rex_b = Allowed }
+
+-- F2 must, neither F3 nor 66 may
+abbrev pub with_F2_no_66 : PrefixUses
+with_F2_no_66 = record { of_66 = Forbidden; of_67 = Allowed; of_f3 = Forbidden; of_f2 = Required; of_rex_b = Allowed }
 
 -- F3 must, F2 may not
 abbrev pub with_F3 : PrefixUses

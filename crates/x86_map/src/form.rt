@@ -69,7 +69,7 @@ pub enum PrefixUse {
 /// Which prefixes may stand before an opcode. All others may: F0, the segment overrides, REX.W, REX.R and REX.X.
 #[derive(Clone, Copy)]
 pub struct PrefixUses {
-    /// Of 66.
+    /// Of 66, as of F3 and F2 also told by the pp of VEX and EVEX.
     pub of_66: PrefixUse,
     /// Of 67.
     pub of_67: PrefixUse,
@@ -77,7 +77,7 @@ pub struct PrefixUses {
     pub of_f3: PrefixUse,
     /// Of F2.
     pub of_f2: PrefixUse,
-    /// Of REX.B.
+    /// Of REX.B, or the B of VEX and EVEX.
     pub of_rex_b: PrefixUse,
 }
 
@@ -110,10 +110,10 @@ impl PrefixUses {
     fn accept(&self, p: &Prefixes) -> bool
         ensures { result ≡ accepts self.now p.now }
     {
-        self.of_66.allows(p.has_66)
+        self.of_66.allows(p.under_66())
             && self.of_67.allows(p.has_67)
-            && self.of_f3.allows(p.has_f3)
-            && self.of_f2.allows(p.has_f2)
+            && self.of_f3.allows(p.under_f3())
+            && self.of_f2.allows(p.under_f2())
             && self.of_rex_b.allows(p.rex_b())
     }
 }
@@ -163,9 +163,9 @@ impl Immediate {
             Immediate::Ib => 1,
             Immediate::Iw => 2,
             Immediate::IwIb => 3,
-            Immediate::Iz => if p.has_66 && !p.rex_w() { 2 } else { 4 },
+            Immediate::Iz => if p.under_66() && !p.rex_w() { 2 } else { 4 },
             Immediate::Iv if p.rex_w() => 8,
-            Immediate::Iv => if p.has_66 { 2 } else { 4 },
+            Immediate::Iv => if p.under_66() { 2 } else { 4 },
             Immediate::Moffs => 8,
         }
     }

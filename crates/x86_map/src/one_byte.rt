@@ -1,5 +1,5 @@
 ghost use Rattle.std.specs.Prelude.{◌≡◌};
-ghost use Rattle.x86_map.specs.OpcodeMap.{forms_at};
+ghost use Rattle.x86_map.specs.OpcodeMap.{base_forms};
 
 use crate::form::Form;
 use crate::one_byte_groups::{
@@ -269,7 +269,7 @@ static ONE_BYTE: [&[Form]; 256] = [
 
 /// The forms of an opcode.
 pub(crate) fn one_byte(opcode: u8) -> &'static [Form]
-    ensures { result.now ≡ forms_at 1 opcode }
+    ensures { result.now ≡ base_forms 1 opcode }
 {
     ONE_BYTE[opcode as usize]
 }

@@ -1,4 +1,4 @@
-/// Which general register an instruction writes, of those that ModRM or the opcode names. What it does to others, as MUL
+/// Which general register an instruction writes, of those that ModRM, the opcode or VEX names. What it does to others, as MUL
 /// to rDX or PUSH to rSP, isn't said here.
 #[derive(Clone, Copy, Debug, PartialEq, Eq)]
 pub enum Write {
@@ -12,6 +12,10 @@ pub enum Write {
     Both,
     /// The register in the low three bits of the opcode.
     Opcode,
+    /// The register that vvvv names.
+    Vvvv,
+    /// The registers of the reg field and of vvvv.
+    RegAndVvvv,
 }
 
 /// Which registers an instruction writes, and of which size.

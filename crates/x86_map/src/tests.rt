@@ -1,6 +1,7 @@
 use super::*;
 
 const NONE: Prefixes = Prefixes {
+    map: Map::Base,
     has_66: false,
     has_67: false,
     has_f3: false,
@@ -8,6 +9,7 @@ const NONE: Prefixes = Prefixes {
     has_f0: false,
     has_fs_gs: false,
     rex: None,
+    vector: None,
 };
 
 const WITH_66: Prefixes = Prefixes {
@@ -94,4 +96,72 @@ fn maps(rt: HostRuntime) {
     assert!(rt; !accepts_some(WITH_66_F2, 2));
     assert!(rt; accepts_some(WITH_66_F2, 3));
     assert!(rt; !accepts_some(WITH_66_F3, 3));
+}
+
+// VZEROUPPER has no ModRM byte, RORX an immediate, MULX two results; the base map has none of them, and a REX before VEX makes none.
+#[test]
+fn vex_opcodes(rt: HostRuntime) {
+    let cases = [
+        (
+            Vector::Vex2(0xF8),
+            5,
+            0x77,
+            None,
+            fits(false, 0, false, Write::Nothing),
+        ),
+        (
+            Vector::Vex3(0xE3, 0xFB),
+            7,
+            0xF0,
+            Some(0xC4),
+            fits(true, 1, false, Write::Reg),
+        ),
+        (Vector::Vex3(0xE2, 0xF3), 6, 0xF6, None, Look::NeedModrm),
+        (
+            Vector::Vex3(0xE2, 0xF3),
+            6,
+            0xF6,
+            Some(0xE0),
+            fits(true, 0, false, Write::RegAndVvvv),
+        ),
+        (
+            Vector::Evex(0xF1, 0x7C, 0x48),
+            8,
+            0x58,
+            Some(0xD9),
+            fits(true, 0, false, Write::Nothing),
+        ),
+        (
+            Vector::Evex(0xF1, 0x7C, 0x48),
+            9,
+            0x58,
+            Some(0xD9),
+            Look::Refused,
+        ),
+    ];
+    for (vector, number, opcode, modrm, look) in cases {
+        let base = Prefixes {
+            vector: Some(vector),
+            ..NONE
+        };
+        let whole = Prefixes {
+            map: Map::Whole,
+            ..base
+        };
+        let behind_rex = Prefixes {
+            rex: Some(0x48),
+            ..whole
+        };
+        assert_eq!(rt; lookup(whole, number, opcode, modrm), look, "{opcode:x}");
+        assert_eq!(rt;
+            lookup(base, number, opcode, modrm),
+            Look::Refused,
+            "{opcode:x}"
+        );
+        assert_eq!(rt;
+            lookup(behind_rex, number, opcode, modrm),
+            Look::Refused,
+            "{opcode:x}"
+        );
+    }
 }

@@ -1,5 +1,5 @@
 ghost use Rattle.std.specs.Prelude.{◌≡◌};
-ghost use Rattle.x86_map.specs.OpcodeMap.{forms_at};
+ghost use Rattle.x86_map.specs.OpcodeMap.{base_forms};
 
 use crate::form::Form;
 use crate::two_byte_groups::{GROUP_6, GROUP_7, GROUP_8, GROUP_9, GROUP_15, SHADOW_STACK};
@@ -267,7 +267,7 @@ static TWO_BYTE: [&[Form]; 256] = [
 
 /// The forms of an opcode.
 pub(crate) fn two_byte(opcode: u8) -> &'static [Form]
-    ensures { result.now ≡ forms_at 2 opcode }
+    ensures { result.now ≡ base_forms 2 opcode }
 {
     TWO_BYTE[opcode as usize]
 }

@@ -21,8 +21,8 @@ macro_rules! immediate {
     ($immediate:ident) => { $crate::form::Immediate::$immediate };
 }
 
-/// Which register is written: of the rm field (E), the reg field (G), both (EG) or the opcode (Z); a byte register (b) or
-/// another (v).
+/// Which register is written: of the rm field (E), the reg field (G), both (EG), the opcode (Z), vvvv (V), or the reg field and
+/// vvvv (GV); a byte register (b) or another (v).
 macro_rules! written {
     (nothing) => { written!(false, Nothing) };
     (Eb) => { written!(true, Rm) };
@@ -33,6 +33,8 @@ macro_rules! written {
     (EGv) => { written!(false, Both) };
     (Zb) => { written!(true, Opcode) };
     (Zv) => { written!(false, Opcode) };
+    (Vv) => { written!(false, Vvvv) };
+    (GVv) => { written!(false, RegAndVvvv) };
     ($byte:literal, $write:ident) => { $crate::shape::Written { byte: $byte, write: $crate::shape::Write::$write } };
 }
 
@@ -47,6 +49,7 @@ macro_rules! prefixes {
     (no_REX_B) => { prefixes!(Allowed, Allowed, Allowed, Allowed, Forbidden) };
     (with_66) => { prefixes!(Required, Allowed, Forbidden, Forbidden, Allowed) };
     (with_F2) => { prefixes!(Allowed, Allowed, Forbidden, Required, Allowed) };
+    (with_F2_no_66) => { prefixes!(Forbidden, Allowed, Forbidden, Required, Allowed) };
     (with_F3) => { prefixes!(Allowed, Allowed, Required, Forbidden, Allowed) };
     (with_F3_no_66) => { prefixes!(Forbidden, Allowed, Required, Forbidden, Allowed) };
     (with_REX_B) => { prefixes!(Allowed, Allowed, Allowed, Allowed, Required) };
@@ -84,9 +87,18 @@ macro_rules! one {
     ($($form:tt)*) => { &[form!($($form)*)] };
 }
 
+/// The form of a range of opcodes, or of one.
+macro_rules! row {
+    ($first:literal..=$last:literal, $($form:tt)*) => {
+        $crate::extension::OpcodeRange { first: $first, last: $last, form: form!($($form)*) }
+    };
+    ($only:literal, $($form:tt)*) => { row!($only..=$only, $($form)*) };
+}
+
 pub(crate) use form;
 pub(crate) use immediate;
 pub(crate) use one;
 pub(crate) use operand;
 pub(crate) use prefixes;
+pub(crate) use row;
 pub(crate) use written;

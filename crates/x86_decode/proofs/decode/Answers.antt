@@ -7,21 +7,21 @@ use Rattle.x86_decode.proofs.NoNext.{none_goes_on}
 use Rattle.x86_decode.proofs.decode.Goals as goal
 
 pub returns-clause-ok : goal.returns-clause-ok
-returns-clause-ok c = λ insn. decides c.args.bytes.now (bytes_from_each c.args.bytes.now (λ k. omega (arith, c.type_inv.bytes k))) c.decode_front.result (Ok insn) c.decode_front.ensures
+returns-clause-ok c = λ insn. decides c.args.map c.args.bytes.now (bytes_from_each c.args.bytes.now (λ k. omega (arith, c.type_inv.bytes k))) c.decode_front.result (Ok insn) c.decode_front.ensures
 
 pub returns-clause-outside : goal.returns-clause-outside
-returns-clause-outside c = λ seen. decides c.args.bytes.now (bytes_from_each c.args.bytes.now (λ k. omega (arith, c.type_inv.bytes k))) c.decode_front.result (Err (Outside seen)) c.decode_front.ensures
+returns-clause-outside c = λ seen. decides c.args.map c.args.bytes.now (bytes_from_each c.args.bytes.now (λ k. omega (arith, c.type_inv.bytes k))) c.decode_front.result (Err (Outside seen)) c.decode_front.ensures
 
 pub returns-clause-cut : goal.returns-clause-cut
-returns-clause-cut c = λ have. decides c.args.bytes.now (bytes_from_each c.args.bytes.now (λ k. omega (arith, c.type_inv.bytes k))) c.decode_front.result (Err (Cut have)) c.decode_front.ensures
+returns-clause-cut c = λ have. decides c.args.map c.args.bytes.now (bytes_from_each c.args.bytes.now (λ k. omega (arith, c.type_inv.bytes k))) c.decode_front.result (Err (Cut have)) c.decode_front.ensures
 
 pub returns-clause-long : goal.returns-clause-long
-returns-clause-long c = decides c.args.bytes.now (bytes_from_each c.args.bytes.now (λ k. omega (arith, c.type_inv.bytes k))) c.decode_front.result (Err Long) c.decode_front.ensures
+returns-clause-long c = decides c.args.map c.args.bytes.now (bytes_from_each c.args.bytes.now (λ k. omega (arith, c.type_inv.bytes k))) c.decode_front.result (Err Long) c.decode_front.ensures
 
 pub returns-clause-within : goal.returns-clause-within
-returns-clause-within c = lengths c.args.bytes.now c.decode_front.result
-    (subst (Outcome c.args.bytes.now) (sym c.decode_front.ensures) (outcome c.args.bytes.now (bytes_from_each c.args.bytes.now (λ k. omega (arith, c.type_inv.bytes k)))))
+returns-clause-within c = lengths c.args.map c.args.bytes.now c.decode_front.result
+    (subst (Outcome c.args.map c.args.bytes.now) (sym c.decode_front.ensures) (outcome c.args.map c.args.bytes.now (bytes_from_each c.args.bytes.now (λ k. omega (arith, c.type_inv.bytes k)))))
 
 pub returns-clause-no_next : goal.returns-clause-no_next
-returns-clause-no_next c = none_goes_on c.args.bytes.now c.decode_front.result
-    (subst (Outcome c.args.bytes.now) (sym c.decode_front.ensures) (outcome c.args.bytes.now (bytes_from_each c.args.bytes.now (λ k. omega (arith, c.type_inv.bytes k)))))
+returns-clause-no_next c = none_goes_on c.args.map c.args.bytes.now c.decode_front.result
+    (subst (Outcome c.args.map c.args.bytes.now) (sym c.decode_front.ensures) (outcome c.args.map c.args.bytes.now (bytes_from_each c.args.bytes.now (λ k. omega (arith, c.type_inv.bytes k)))))

@@ -2,7 +2,7 @@
 
 ghost use Rattle.std.specs.Prelude.{◌<◌};
 
-use crate::{DecodeFault, decode};
+use crate::{DecodeFault, Map, decode};
 use std::process::Abort;
 
 /// Each instruction of the table, one behind another, has the length.
@@ -10,7 +10,7 @@ fn have_length(rt: &impl Abort, len: usize, table: &[u8])
     requires { 0 < len }
 {
     for (number, bytes) in table.chunks(len).enumerate() {
-        let told = decode(bytes).map(|insn| usize::from(insn.len));
+        let told = decode(Map::Base, bytes).map(|insn| usize::from(insn.len));
         assert_eq!(rt; told, Ok(len), "number {number} of length {len}, {bytes:?}");
     }
 }
@@ -377,7 +377,7 @@ fn refused(rt: HostRuntime) {
         b"\xF3\x0F\xA2",
     ];
     for bytes in all {
-        let told = decode(bytes);
+        let told = decode(Map::Base, bytes);
         assert!(rt;
             matches!(told, Err(DecodeFault::Outside { .. })),
             "{bytes:?}: {told:?}"

@@ -1,7 +1,7 @@
 //! An instruction for each row of the opcode map, with what it does to rsp and rbp and the prefixes that it still stands
 //! with. All are of the Intel SDM, volume 2; the map's cut decides which prefixes are refused that a processor accepts.
 
-use crate::{DecodeFault, Insn, Op, decode};
+use crate::{DecodeFault, Insn, Map, Op, decode};
 use std::process::Abort;
 
 /// Whether the instruction stands with 66, 67, F2 and F3 in front of it.
@@ -231,19 +231,19 @@ fn decode_behind(prefix: u8, bytes: &[u8]) -> Result<Insn, DecodeFault> {
         *to = *from;
     }
     let len = bytes.len().min(15) + 1;
-    decode(&code[..len])
+    decode(Map::Base, &code[..len])
 }
 
 // A byte register that is SPL or BPL under REX 40 is AH or CH without it, so neither rsp nor rbp is written then.
 fn have_rows(rt: &impl Abort, rows: &[(&[u8], Op, Stands)]) {
     for (bytes, op, stands) in rows {
-        let told = decode(bytes);
+        let told = decode(Map::Base, bytes);
         assert!(rt;
             matches!(told, Ok(insn) if insn.op == *op && usize::from(insn.len) == bytes.len()),
             "{bytes:?}: {told:?}"
         );
         if let [0x40, rest @ ..] = *bytes {
-            let told = decode(rest).map(|insn| insn.op);
+            let told = decode(Map::Base, rest).map(|insn| insn.op);
             assert_eq!(rt; told, Ok(Op::Plain), "{rest:?}");
         }
         for (prefix, wanted) in [0x66u8, 0x67, 0xF2, 0xF3].iter().zip(stands) {
