@@ -2,6 +2,7 @@
 //! are written by hand.
 #![tactic(auto)]
 
-pub mod objects;
+#[cfg(test)]
+mod objects;
 #[cfg(test)]
 mod tests;

@@ -3,5 +3,7 @@ mod Merging
 mod Least
 mod Listed
 mod Found
-mod Named
+mod NamePlaces
+mod Stems
+mod Numbers
 mod Counted

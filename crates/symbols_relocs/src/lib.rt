@@ -16,6 +16,7 @@ mod order;
 mod outer;
 mod parents;
 mod part;
+mod strings;
 mod symbols;
 mod target;
 

@@ -1,70 +1,56 @@
 //! The parents of parts.
 
-ghost use Rattle.std.specs.Prelude.{◌≡◌, ◌<◌, ◌≤◌, ℕ, None, false, length, IfOk};
-ghost use Rattle.elf_objects.specs.Contents.{symbol_at};
-ghost use Rattle.symbols_relocs.specs.Lists.{function, AreFunctions, AreSame, HaveParents, HaveSymbols, IsIndexOfSymbol};
-ghost use Rattle.symbols_relocs.specs.Names.{KnowsNames, KnowsName};
-ghost use Rattle.symbols_relocs.specs.Parts.{parent_of as parent_symbol_of, part_name as part_name_of};
+ghost use Rattle.std.specs.Prelude.{◌≡◌, ◌<◌, ◌≤◌, List, Option, ℕ, length, option_and_then, IfOk};
+ghost use Rattle.elf_objects.specs.Elf.{Elf as OneElf};
+ghost use Rattle.symbols_relocs.specs.Functions.{start_of as start_of_symbol, starts_at as starts_symbol_at};
+ghost use Rattle.symbols_relocs.specs.Lists.{AreFunctions, AreSame, HaveParents, IsIndexOfSymbol};
+ghost use Rattle.symbols_relocs.specs.Names.{IsFound};
+ghost use Rattle.symbols_relocs.specs.Parts.{first_named, function_named};
 
 use crate::function::Function;
-use crate::names::FunctionNames;
+use crate::names::{first_symbols, list_stems};
 use crate::order::find_start;
-use crate::part::part_name;
+use crate::strings::strings;
 use crate::symbols::start_of;
 use elf_objects::Object;
 use ot_base::NoMemory;
 use std::alloc::Global;
+use text_numbers::{Ends, Texts};
 
-/// Whether the name of one of these is that of a part.
-fn has_parts(object: &Object<'_>, functions: &[Function]) -> bool
-    requires { HaveSymbols object.now functions.now }
-    ensures { result ≡ false → (i : ℕ) → i < length functions.now → part_name_of (symbol_at object.now (function functions.now i).sym).name ≡ None }
+/// The first symbol with the name that has a number.
+fn first_symbol(first: &[Option<u32>], stem: Option<u32>) -> Option<u32>
+    ensures { (o : OneElf) (part : Option (List ℕ)) → IsFound o first.now stem part → result ≡ option_and_then (first_named o) part }
 {
-    for function in functions {
-        let name = object.name_of_symbol(function.sym);
-        if part_name(name).is_some() {
-            return true;
-        }
-    }
-    false
+    *first.get(stem? as usize)?
 }
 
-/// The names of functions, where one of these is a part.
-fn names_for<'a>(
-    alloc: Global,
-    object: &Object<'a>,
-    functions: &[Function],
-) -> Result<FunctionNames<'a>, NoMemory>
-    requires { HaveSymbols object.now functions.now }
-    ensures { IfOk result (λ names. KnowsNames object.now functions.now names) }
+/// The function that starts where a symbol does, by its place among the functions.
+fn function_of(object: &Object<'_>, functions: &[Function], symbol: u32) -> Option<u32>
+    requires all { AreFunctions object.now functions.now }
+    requires few { length functions.now ≤ 4194304 }
+    requires known { symbol < length object.now.symbols }
+    ensures { IsIndexOfSymbol functions.now result (starts_symbol_at object.now (start_of_symbol object.now symbol)) }
 {
-    if has_parts(object, functions) {
-        FunctionNames::build(alloc, object)
-    } else {
-        Ok(FunctionNames::new(alloc))
-    }
+    let index = find_start(functions, &[], start_of(object, symbol))?;
+    Some(index as u32)
 }
 
-/// The parent of the function with a symbol, by its place among the functions.
+/// The parent of a part whose P has a number, by its place among the functions.
 fn parent_of(
     object: &Object<'_>,
     functions: &[Function],
-    names: &FunctionNames<'_>,
-    sym: u32,
+    first: &[Option<u32>],
+    stem: Option<u32>,
 ) -> Option<u32>
     requires all { AreFunctions object.now functions.now }
     requires few { length functions.now ≤ 4194304 }
-    requires known { sym < length object.now.symbols }
-    requires named { KnowsName object.now names.now sym }
-    ensures { IsIndexOfSymbol functions.now result (parent_symbol_of object.now sym) }
+    ensures { (part : Option (List ℕ)) → IsFound object.now first.now stem part → IsIndexOfSymbol functions.now result (option_and_then (function_named object.now) part) }
 {
-    let name = part_name(object.name_of_symbol(sym))?;
-    let parent = names.get(name)?;
-    if parent >= object.symbols() {
+    let symbol = first_symbol(first, stem)?;
+    if symbol >= object.symbols() {
         return None;
     }
-    let index = find_start(functions, &[], start_of(object, parent))?;
-    Some(index as u32)
+    function_of(object, functions, symbol)
 }
 
 /// The same functions with their parents.
@@ -78,10 +64,14 @@ pub(crate) fn with_parents(
     ensures same { IfOk result (λ list. AreSame functions.now list.items) }
     ensures parents { IfOk result (λ list. HaveParents object.now list.items) }
 {
-    let names = names_for(alloc, object, functions)?;
+    let table = strings(object);
+    let ends = Ends::build(alloc, table)?;
+    let mut texts = Texts::new(alloc, table)?;
+    let stems = list_stems(alloc, object, functions, &ends, &mut texts)?;
+    let first = first_symbols(alloc, object, &ends, &mut texts, &stems)?;
     let mut list = Vec::with_capacity(alloc, functions.len())?;
-    for function in functions {
-        let parent = parent_of(object, functions, &names, function.sym);
+    for (i, function) in functions.iter().enumerate() {
+        let parent = parent_of(object, functions, &first, stems[i]);
         list.push(Function {
             parent,
             ..*function

@@ -94,6 +94,66 @@ fn functions_and_owners(rt: HostRuntime) -> Result<(), Fail> {
     Ok(())
 }
 
+/// Names longer than 64 bytes, and endings with more than 64 digits.
+const LONG: [Row<'static>; 5] = [
+    (
+        b"aaaaaaaaaaaaaaaaaaaaaaaaaaaaaaaaaaaaaaaaaaaaaaaaaaaaaaaaaaaaaaaaaaaaaa",
+        STB_LOCAL,
+        STT_FUNC,
+        Home::Section(1),
+        0,
+        4,
+    ),
+    (
+        b"baaaaaaaaaaaaaaaaaaaaaaaaaaaaaaaaaaaaaaaaaaaaaaaaaaaaaaaaaaaaaaaaaaaaa",
+        STB_LOCAL,
+        STT_FUNC,
+        Home::Section(1),
+        4,
+        4,
+    ),
+    (
+        b"aaaaaaaaaaaaaaaaaaaaaaaaaaaaaaaaaaaaaaaaaaaaaaaaaaaaaaaaaaaaaaaaaaaaaa.cold",
+        STB_LOCAL,
+        STT_FUNC,
+        Home::Section(3),
+        0,
+        4,
+    ),
+    (
+        b"baaaaaaaaaaaaaaaaaaaaaaaaaaaaaaaaaaaaaaaaaaaaaaaaaaaaaaaaaaaaaaaaaaaaa.cold.777777777777777777777777777777777777777777777777777777777777777777",
+        STB_LOCAL,
+        STT_FUNC,
+        Home::Section(3),
+        4,
+        4,
+    ),
+    (
+        b"aaaaaaaaaaaaaaaaaaaaaaaaaaaaaaaaaaaaaaaaaaaaaaaaaaaaaaaaaaaaaaaaaaaaa.cold",
+        STB_LOCAL,
+        STT_FUNC,
+        Home::Section(3),
+        8,
+        4,
+    ),
+];
+
+const LONG_PARENTS: [Option<u32>; 5] = [None, None, Some(0), Some(1), None];
+
+#[test]
+fn parts_with_long_names(rt: HostRuntime) -> Result<(), Fail> {
+    let bytes = object(rt.alloc(), &LONG, &[])?.expect(&rt, "an object");
+    assert!(rt; bytes.len() < 1 << 32);
+    let parsed = Object::parse(rt.alloc(), &bytes).expect(&rt, "an object");
+    let index = Index::build(rt.alloc(), &parsed).expect(&rt, "functions");
+    let functions = index.functions();
+    assert_eq!(rt; functions.len(), 5);
+    for (function, parent) in functions.iter().zip(&LONG_PARENTS) {
+        assert_eq!(rt; function.parent, *parent);
+    }
+    Ok(())
+}
+
 /// The value and the size of two symbols of type STT_FUNC in 32 bytes of code, and the number of the first
 /// that leaves them.
 const LEAVING: [((u64, u64), (u64, u64), Option<u32>); 5] = [

@@ -1,0 +1,2 @@
+mod TextEnds
+mod Joined
