@@ -136,7 +136,7 @@ sorted_points texts entries ps ascend moved sorted =
     (All-from_recursion (IsPoint texts entries) (gathered texts entries) (every-from_in (IsPoint texts entries) (gathered texts entries) (gathered_sound texts entries rise))))) h)
     (λ q point. in_contains ps q (Contains-permutation (gathered texts entries) ps q moved (contains_in (gathered texts entries) q (gathered_complete texts entries rise q point))))
 
-few_of : (t : SectionText) → length (plain_of t) ≤ length t.text
+few_of : (t : SectionText) → length (plain_of t) ≤ length t.text.bytes
 few_of t =
     let same : length (plain_of t) ≡ length (code_of t.text) = length-map (code_of t.text) (plain_at t.sec) in
     omega (arith, code_short t.text)
@@ -145,5 +145,5 @@ few_of t =
 pub few_plain : (texts : List SectionText) → length (flat_map plain_of texts) ≤ text_bytes texts
 few_plain texts =
     let whole : length (flat_map plain_of texts) ≡ sum_by (λ t. length (plain_of t)) texts = length-flat_map plain_of texts in
-    let most : sum_by (λ t. length (plain_of t)) texts ≤ sum_by (λ (t : SectionText). length t.text) texts = sum_by-le-sum_by (λ t. length (plain_of t)) (λ (t : SectionText). length t.text) texts few_of in
+    let most : sum_by (λ t. length (plain_of t)) texts ≤ sum_by (λ (t : SectionText). length t.text.bytes) texts = sum_by-le-sum_by (λ t. length (plain_of t)) (λ (t : SectionText). length t.text.bytes) texts few_of in
     omega arith

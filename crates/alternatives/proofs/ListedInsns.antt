@@ -3,7 +3,7 @@ use Rattle.std.proofs.Common.{◌≡◌, ℕ, zero, suc, ◌<◌, List, [], ◌�
 use Rattle.std.specs.Prelude.{slice_get}
 use Rattle.std.proofs.lemmas.Option.{get_or_from_slice_get, slice_get_within}
 use Rattle.x86_text.specs.declared.placed.PlacedInsn.{PlacedInsn}
-use Rattle.x86_text.specs.Code.{code_of, insn_listed}
+use Rattle.x86_text.specs.Code.{Body, code_of, insn_listed}
 use Rattle.x86_text.proofs.QueryLemmas.{found_here}
 use Rattle.std.specs.List.{AllByRecursion}
 use Rattle.alternatives.proofs.Ascending.{Rising}
@@ -21,7 +21,7 @@ far (x ∷ xs) up zero (suc n) e d less inside = every_at (λ (q : PlacedInsn). 
 far (x ∷ xs) up (suc k) (suc n) e d less inside = far xs up.1 k n e d (omega arith) (omega arith)
 
 -- the one with a number is found at its offset
-pub near_here : (body : List ℕ) (i : ℕ) (p : PlacedInsn) → slice_get (code_of body) i ≡ Some p → insn_listed (code_of body) p.off ≡ Some p.insn
+pub near_here : (body : Body) (i : ℕ) (p : PlacedInsn) → slice_get (code_of body) i ≡ Some p → insn_listed (code_of body) p.off ≡ Some p.insn
 near_here body i p here =
     let code : List PlacedInsn = code_of body in
     let inside : i < length code = slice_get_within code i p here in

@@ -25,21 +25,21 @@ module _ (texts : List SectionText) (entries : List AltEntry) where
       let t : SectionText = has.t in
       let place : Place = record { sec = t.sec; off = q.place.off } in
       let within : q.variant ≤ length entries = variant_inside texts entries q point in
-      let upto : q.place.off ≤ length t.text = has.holds in
+      let upto : q.place.off ≤ length t.text.bytes = has.holds in
       let one : In (at place q.variant) (map (at place) (range_with_len 0 (length entries + 1))) = in-map (at place) (range_with_len 0 (length entries + 1)) q.variant (in-range 0 (length entries + 1) q.variant (omega arith) (omega arith)) in
       let here : In q (map (at place) (range_with_len 0 (length entries + 1))) =
       subst (λ (z : Point). In z (map (at place) (range_with_len 0 (length entries + 1)))) (ap (λ s. at (record { sec = s; off = q.place.off }) q.variant) has.sec) one in
       in-flat_map (points_in texts entries) texts t q has.is_in
-      (in-flat_map (λ off. points_at texts entries (record { sec = t.sec; off = off })) (range_with_len 0 (length t.text + 1)) q.place.off q
-      (in-range 0 (length t.text + 1) q.place.off (omega arith) (omega arith))
+      (in-flat_map (λ off. points_at texts entries (record { sec = t.sec; off = off })) (range_with_len 0 (length t.text.bytes + 1)) q.place.off q
+      (in-range 0 (length t.text.bytes + 1) q.place.off (omega arith) (omega arith))
       (in-filter (is_point texts entries) (map (at place) (range_with_len 0 (length entries + 1))) q here point))
 
   -- and nothing else
   pub points_sound : AllByRecursion (IsPoint texts entries) (points_of texts entries)
   points_sound =
       every-flat_map (IsPoint texts entries) (points_in texts entries) texts (every-each (λ t. AllByRecursion (IsPoint texts entries) (points_in texts entries t)) (λ t.
-      every-flat_map (IsPoint texts entries) (λ off. points_at texts entries (record { sec = t.sec; off = off })) (range_with_len 0 (length t.text + 1)) (every-each (λ off. AllByRecursion (IsPoint texts entries) (points_at texts entries (record { sec = t.sec; off = off }))) (λ off.
-      every-passes (is_point texts entries) (map (at (record { sec = t.sec; off = off })) (range_with_len 0 (length entries + 1)))) (range_with_len 0 (length t.text + 1)))) texts)
+      every-flat_map (IsPoint texts entries) (λ off. points_at texts entries (record { sec = t.sec; off = off })) (range_with_len 0 (length t.text.bytes + 1)) (every-each (λ off. AllByRecursion (IsPoint texts entries) (points_at texts entries (record { sec = t.sec; off = off }))) (λ off.
+      every-passes (is_point texts entries) (map (at (record { sec = t.sec; off = off })) (range_with_len 0 (length entries + 1)))) (range_with_len 0 (length t.text.bytes + 1)))) texts)
 
   at_sorted : (place : Place) → IsStrictlySortedBy point_cmp (points_at texts entries place)
   at_sorted place =
@@ -61,15 +61,15 @@ module _ (texts : List SectionText) (entries : List AltEntry) where
       (λ x y a b less of-x of-y. first_by_off a.place.sec b.place.sec a.place.off b.place.off a.variant b.variant (omega (arith, of-x.0, of-y.0)) (omega (arith, of-x.1, of-y.1)))
       (λ off. points_at texts entries (record { sec = t.sec; off = off }))
       (λ off. at_stands t.sec off) (λ off. at_sorted (record { sec = t.sec; off = off }))
-      (range_with_len 0 (length t.text + 1)) (rising-range 0 (length t.text + 1))
+      (range_with_len 0 (length t.text.bytes + 1)) (rising-range 0 (length t.text.bytes + 1))
 
   in_section : (t : SectionText) → AllByRecursion (λ (p : Point). p.place.sec ≡ t.sec) (points_in texts entries t)
   in_section t =
-      every-flat_map (λ (p : Point). p.place.sec ≡ t.sec) (λ off. points_at texts entries (record { sec = t.sec; off = off })) (range_with_len 0 (length t.text + 1))
+      every-flat_map (λ (p : Point). p.place.sec ≡ t.sec) (λ off. points_at texts entries (record { sec = t.sec; off = off })) (range_with_len 0 (length t.text.bytes + 1))
       (every-each (λ off. AllByRecursion (λ (p : Point). p.place.sec ≡ t.sec) (points_at texts entries (record { sec = t.sec; off = off }))) (λ off.
       every-filter (λ (p : Point). p.place.sec ≡ t.sec) (is_point texts entries) (map (at (record { sec = t.sec; off = off })) (range_with_len 0 (length entries + 1)))
       (every-map (λ (p : Point). p.place.sec ≡ t.sec) (at (record { sec = t.sec; off = off })) (range_with_len 0 (length entries + 1))
-      (every-each (λ v. t.sec ≡ t.sec) (λ v. refl) (range_with_len 0 (length entries + 1))))) (range_with_len 0 (length t.text + 1)))
+      (every-each (λ v. t.sec ≡ t.sec) (λ v. refl) (range_with_len 0 (length entries + 1))))) (range_with_len 0 (length t.text.bytes + 1)))
 
   -- they ascend
   pub points_sorted : RiseBySection texts → IsStrictlySortedBy point_cmp (points_of texts entries)

@@ -130,9 +130,9 @@ replaced_address entries k place =
     ∙ ap (λ j. (entry_at entries j).original.off + (place.off - (entry_at entries j).replacement.off)) {x = k + 1 - 1} {y = k} (omega arith)
 
 module _ (texts : List SectionText) (entries : List AltEntry) (are_short : AreShort texts) (right : AreRight texts entries (length entries)) where
-  low : (place : Place) → HasText texts place (λ t. place.off ≤ length t.text) → place.off ≤ 16777216
+  low : (place : Place) → HasText texts place (λ t. place.off ≤ length t.text.bytes) → place.off ≤ 16777216
   low place has =
-      let most : length has.t.text ≤ 16777216 = every-in (λ (t : SectionText). length t.text ≤ 16777216) texts has.t (recursion_from_All (λ (t : SectionText). length t.text ≤ 16777216) texts are_short) has.is_in in
+      let most : length has.t.text.bytes ≤ 16777216 = every-in (λ (t : SectionText). length t.text.bytes ≤ 16777216) texts has.t (recursion_from_All (λ (t : SectionText). length t.text.bytes ≤ 16777216) texts are_short) has.is_in in
       omega (arith, has.holds)
 
   parts : (k : ℕ) → k < length entries → counts (entry_at entries k) ≡ true → (is_whole texts (entry_at entries k).original (entry_at entries k).original_len ≡ true) × (is_whole texts (entry_at entries k).replacement (entry_at entries k).replacement_len ≡ true)

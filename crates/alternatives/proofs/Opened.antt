@@ -37,7 +37,7 @@ pub record IsPlaceOf (texts : List SectionText) (a : AltEntry) (place : Place) :
   pub sec : a.replacement.sec ≡ place.sec
   pub from : a.replacement.off ≤ place.off
   pub upto : place.off ≤ a.replacement.off + a.replacement_len
-  pub text : HasText texts place (λ t. place.off ≤ length t.text)
+  pub text : HasText texts place (λ t. place.off ≤ length t.text.bytes)
 
 opened : {X : Type 0} (n w pd : Bool) (o : Option X) (x : X) → is_some (cond n None (cond w o (cond pd (Some x) None))) ≡ true → (n ≡ false) × (((w ≡ true) × (is_some o ≡ true)) ⊎ (pd ≡ true))
 opened true w pd o x h = absurd (false≢true h)
@@ -96,7 +96,7 @@ plain_or_replaced texts entries q point =
     ]
 
 -- it stands in a text or at its end
-pub point_has_text : (texts : List SectionText) (entries : List AltEntry) (q : Point) → IsPoint texts entries q → HasText texts q.place (λ t. q.place.off ≤ length t.text)
+pub point_has_text : (texts : List SectionText) (entries : List AltEntry) (q : Point) → IsPoint texts entries q → HasText texts q.place (λ t. q.place.off ≤ length t.text.bytes)
 point_has_text texts entries q point = elim (plain_or_replaced texts entries q point) [
   | inl (zero, some) ↦ insn_within texts q.place some
   | inr replaced ↦ replaced.place.text

@@ -5,9 +5,10 @@ use Rattle.std.proofs.lemmas.Bool.{eq-eqb, ne_eqb, false≢true, or_cases}
 use Rattle.std.proofs.lemmas.Bool.Decides.{eqb_tells, nat_tests}
 use Rattle.ot_base.specs.declared.place.Place.{Place}
 use Rattle.operation_defs.specs.declared.insn.Insn.{Insn}
+use Rattle.x86_map.specs.declared.map.Map.{Map}
 use Rattle.x86_decode.specs.Decoding.{decoded}
 use Rattle.x86_text.specs.declared.placed.PlacedInsn.{PlacedInsn}
-use Rattle.x86_text.specs.Code.{code_of, code_from, with_rest, insn_listed}
+use Rattle.x86_text.specs.Code.{Body, code_of, code_from, with_rest, insn_listed}
 use Rattle.alternatives.specs.declared.texts.SectionText.{SectionText}
 use Rattle.alternatives.specs.Texts.{AscendBySection, insn_at, is_cut, is_cut_of}
 use Rattle.alternatives.proofs.Ascending.{In, Rising, every-weaker, every-in}
@@ -19,45 +20,45 @@ Within off len p = (off ≤ p.off) × (p.off < off + len)
 within_more : (off len : ℕ) (p : PlacedInsn) → Within (off + 1) len p → Within off (suc len) p
 within_more off len p h = (omega (arith, h.0), omega (arith, h.1))
 
-placed : (skip off : ℕ) (bytes : List ℕ) → AllByRecursion (Within off (length bytes)) (code_from skip off bytes)
-placed skip off [] = tt
-placed zero off (b ∷ bytes) =
-    elim (decoded (b ∷ bytes)) as (λ d. AllByRecursion (Within off (suc (length bytes))) (with_rest off d (λ skip. code_from skip (off + 1) bytes))) [
-      | Ok insn ↦ ((omega arith, omega arith), every-weaker (Within (off + 1) (length bytes)) (Within off (suc (length bytes))) (within_more off (length bytes)) (code_from (insn.len - 1) (off + 1) bytes) (placed (insn.len - 1) (off + 1) bytes))
+placed : (map : Map) (skip off : ℕ) (bytes : List ℕ) → AllByRecursion (Within off (length bytes)) (code_from map skip off bytes)
+placed map skip off [] = tt
+placed map zero off (b ∷ bytes) =
+    elim (decoded map (b ∷ bytes)) as (λ d. AllByRecursion (Within off (suc (length bytes))) (with_rest off d (λ skip. code_from map skip (off + 1) bytes))) [
+      | Ok insn ↦ ((omega arith, omega arith), every-weaker (Within (off + 1) (length bytes)) (Within off (suc (length bytes))) (within_more off (length bytes)) (code_from map (insn.len - 1) (off + 1) bytes) (placed map (insn.len - 1) (off + 1) bytes))
       | Err why ↦ tt
     ]
-placed (suc skip) off (b ∷ bytes) = every-weaker (Within (off + 1) (length bytes)) (Within off (suc (length bytes))) (within_more off (length bytes)) (code_from skip (off + 1) bytes) (placed skip (off + 1) bytes)
+placed map (suc skip) off (b ∷ bytes) = every-weaker (Within (off + 1) (length bytes)) (Within off (suc (length bytes))) (within_more off (length bytes)) (code_from map skip (off + 1) bytes) (placed map skip (off + 1) bytes)
 
-rising : (skip off : ℕ) (bytes : List ℕ) → Rising (λ (p q : PlacedInsn). p.off < q.off) (code_from skip off bytes)
-rising skip off [] = tt
-rising zero off (b ∷ bytes) =
-    elim (decoded (b ∷ bytes)) as (λ d. Rising (λ (p q : PlacedInsn). p.off < q.off) (with_rest off d (λ skip. code_from skip (off + 1) bytes))) [
-      | Ok insn ↦ (every-weaker (Within (off + 1) (length bytes)) (λ (q : PlacedInsn). off < q.off) (λ q h. omega (arith, h.0)) (code_from (insn.len - 1) (off + 1) bytes) (placed (insn.len - 1) (off + 1) bytes), rising (insn.len - 1) (off + 1) bytes)
+rising : (map : Map) (skip off : ℕ) (bytes : List ℕ) → Rising (λ (p q : PlacedInsn). p.off < q.off) (code_from map skip off bytes)
+rising map skip off [] = tt
+rising map zero off (b ∷ bytes) =
+    elim (decoded map (b ∷ bytes)) as (λ d. Rising (λ (p q : PlacedInsn). p.off < q.off) (with_rest off d (λ skip. code_from map skip (off + 1) bytes))) [
+      | Ok insn ↦ (every-weaker (Within (off + 1) (length bytes)) (λ (q : PlacedInsn). off < q.off) (λ q h. omega (arith, h.0)) (code_from map (insn.len - 1) (off + 1) bytes) (placed map (insn.len - 1) (off + 1) bytes), rising map (insn.len - 1) (off + 1) bytes)
       | Err why ↦ tt
     ]
-rising (suc skip) off (b ∷ bytes) = rising skip (off + 1) bytes
+rising map (suc skip) off (b ∷ bytes) = rising map skip (off + 1) bytes
 
-short : (skip off : ℕ) (bytes : List ℕ) → length (code_from skip off bytes) ≤ length bytes
-short skip off [] = omega arith
-short zero off (b ∷ bytes) =
-    elim (decoded (b ∷ bytes)) as (λ d. length (with_rest off d (λ skip. code_from skip (off + 1) bytes)) ≤ suc (length bytes)) [
-      | Ok insn ↦ omega (arith, short (insn.len - 1) (off + 1) bytes)
+short : (map : Map) (skip off : ℕ) (bytes : List ℕ) → length (code_from map skip off bytes) ≤ length bytes
+short map skip off [] = omega arith
+short map zero off (b ∷ bytes) =
+    elim (decoded map (b ∷ bytes)) as (λ d. length (with_rest off d (λ skip. code_from map skip (off + 1) bytes)) ≤ suc (length bytes)) [
+      | Ok insn ↦ omega (arith, short map (insn.len - 1) (off + 1) bytes)
       | Err why ↦ omega arith
     ]
-short (suc skip) off (b ∷ bytes) = omega (arith, short skip (off + 1) bytes)
+short map (suc skip) off (b ∷ bytes) = omega (arith, short map skip (off + 1) bytes)
 
 -- the instructions of a body begin in it, one after the other, and are no more than its bytes
-pub code_within : (body : List ℕ) → AllByRecursion (λ (p : PlacedInsn). p.off < length body) (code_of body)
+pub code_within : (body : Body) → AllByRecursion (λ (p : PlacedInsn). p.off < length body.bytes) (code_of body)
 unfolding code_of
-code_within body = every-weaker (Within 0 (length body)) (λ (p : PlacedInsn). p.off < length body) (λ p h. omega (arith, h.1)) (code_from 0 0 body) (placed 0 0 body)
+code_within body = every-weaker (Within 0 (length body.bytes)) (λ (p : PlacedInsn). p.off < length body.bytes) (λ p h. omega (arith, h.1)) (code_from body.map 0 0 body.bytes) (placed body.map 0 0 body.bytes)
 
-pub code_rising : (body : List ℕ) → Rising (λ (p q : PlacedInsn). p.off < q.off) (code_of body)
+pub code_rising : (body : Body) → Rising (λ (p q : PlacedInsn). p.off < q.off) (code_of body)
 unfolding code_of
-code_rising body = rising 0 0 body
+code_rising body = rising body.map 0 0 body.bytes
 
-pub code_short : (body : List ℕ) → length (code_of body) ≤ length body
+pub code_short : (body : Body) → length (code_of body) ≤ length body.bytes
 unfolding code_of
-code_short body = short 0 0 body
+code_short body = short body.map 0 0 body.bytes
 
 -- one among these begins at an offset
 pub record BeginsAt (code : List PlacedInsn) (off : ℕ) : Type 0 where
@@ -119,19 +120,19 @@ pub and_both : (a b : Bool) → (a && b) ≡ true → (a ≡ true) × (b ≡ tru
 and_both true b h = (refl, h)
 and_both false b h = absurd (false≢true h)
 
-cut_within : (body : List ℕ) (off : ℕ) → is_cut_of body off ≡ true → off ≤ length body
-cut_within body off h = elim (or_cases (eqb off (length body)) (is_some (insn_listed (code_of body) off)) h) [
+cut_within : (body : Body) (off : ℕ) → is_cut_of body off ≡ true → off ≤ length body.bytes
+cut_within body off h = elim (or_cases (eqb off (length body.bytes)) (is_some (insn_listed (code_of body) off)) h) [
   | inl same ↦ grind (arith, nat_tests)
   | inr some ↦
       let at : BeginsAt (code_of body) off = listed_begins (code_of body) off some in
-      let inside : at.p.off < length body = every-in (λ (p : PlacedInsn). p.off < length body) (code_of body) at.p (code_within body) at.is_in in
+      let inside : at.p.off < length body.bytes = every-in (λ (p : PlacedInsn). p.off < length body.bytes) (code_of body) at.p (code_within body) at.is_in in
       omega (arith, at.at)
 ]
 
 eqb_same : (a b : ℕ) → eqb a b ≡ true → a ≡ b
 eqb_same a b h = grind (arith, nat_tests)
 
-pub cut_has_text : (texts : List SectionText) (place : Place) → is_cut texts place ≡ true → HasText texts place (λ t. place.off ≤ length t.text)
+pub cut_has_text : (texts : List SectionText) (place : Place) → is_cut texts place ≡ true → HasText texts place (λ t. place.off ≤ length t.text.bytes)
 cut_has_text [] place h = absurd (false≢true h)
 cut_has_text (t ∷ texts) place h = elim (or_cases (eqb t.sec place.sec && is_cut_of t.text place.off) (list_any (λ (u : SectionText). eqb u.sec place.sec && is_cut_of u.text place.off) texts) h) [
   | inl here ↦
@@ -142,11 +143,11 @@ cut_has_text (t ∷ texts) place h = elim (or_cases (eqb t.sec place.sec && is_c
       record { t = rest.t; is_in = inr rest.is_in; sec = rest.sec; holds = rest.holds }
 ]
 
-pub insn_within : (texts : List SectionText) (place : Place) → is_some (insn_at texts place) ≡ true → HasText texts place (λ t. place.off ≤ length t.text)
+pub insn_within : (texts : List SectionText) (place : Place) → is_some (insn_at texts place) ≡ true → HasText texts place (λ t. place.off ≤ length t.text.bytes)
 insn_within texts place h =
     let has = insn_has_text texts place h in
     let at : BeginsAt (code_of has.t.text) place.off = listed_begins (code_of has.t.text) place.off has.holds in
-    let inside : at.p.off < length has.t.text = every-in (λ (p : PlacedInsn). p.off < length has.t.text) (code_of has.t.text) at.p (code_within has.t.text) at.is_in in
+    let inside : at.p.off < length has.t.text.bytes = every-in (λ (p : PlacedInsn). p.off < length has.t.text.bytes) (code_of has.t.text) at.p (code_within has.t.text) at.is_in in
     record { t = has.t; is_in = has.is_in; sec = has.sec; holds = omega (arith, at.at) }
 
 others_later : (t : SectionText) (texts : List SectionText) → ((k : ℕ) (d : SectionText) → k < length texts → t.sec < (get_or texts k d).sec) → AllByRecursion (λ (u : SectionText). t.sec < u.sec) texts

@@ -75,7 +75,7 @@ points_at texts entries place = filter (is_point texts entries) (map (λ variant
 
 -- those of a text section, by place: padding may stand at its end too
 abbrev pub points_in : List SectionText → List AltEntry → SectionText → List Point
-points_in texts entries t = flat_map (λ off. points_at texts entries (record { sec = t.sec; off = off })) (range_with_len 0 (length t.text + 1))
+points_in texts entries t = flat_map (λ off. points_at texts entries (record { sec = t.sec; off = off })) (range_with_len 0 (length t.text.bytes + 1))
 
 -- all points, in their order
 abbrev pub points_of : List SectionText → List AltEntry → List Point

@@ -3,7 +3,7 @@ use Rattle.std.specs.Prelude.{ℕ, ◌+◌, ◌<◌, ◌≤◌, ◌==◌, ◌||�
 use Rattle.std.specs.List.{list_any, sum_by}
 use Rattle.ot_base.specs.declared.place.Place.{Place}
 use Rattle.operation_defs.specs.declared.insn.Insn.{Insn}
-use Rattle.x86_text.specs.Code.{code_of, insn_listed}
+use Rattle.x86_text.specs.Code.{Body, code_of, insn_listed}
 use Rattle.alternatives.specs.declared.texts.SectionText.{SectionText}
 
 -- each section has one text at most, and they ascend by section
@@ -12,19 +12,19 @@ AscendBySection texts = (i j : ℕ) (d : SectionText) → i < j → j < length t
 
 -- no text is longer than one that is read
 abbrev pub AreShort : List SectionText → Type 0
-AreShort texts = All (λ t. length t.text ≤ 16777216) texts
+AreShort texts = All (λ t. length t.text.bytes ≤ 16777216) texts
 
 -- how many bytes they have together
 abbrev pub text_bytes : List SectionText → ℕ
-text_bytes texts = sum_by (λ t. length t.text) texts
+text_bytes texts = sum_by (λ t. length t.text.bytes) texts
 
 -- the instruction that begins at a place of a text section
 abbrev pub insn_at : List SectionText → Place → Option Insn
 insn_at texts place = option_and_then (λ t. insn_listed (code_of t.text) place.off) (find (λ t. t.sec == place.sec) texts)
 
 -- an instruction of a body of code begins at the offset, or the body ends there
-abbrev pub is_cut_of : List ℕ → ℕ → Bool
-is_cut_of body off = off == length body || is_some (insn_listed (code_of body) off)
+abbrev pub is_cut_of : Body → ℕ → Bool
+is_cut_of body off = off == length body.bytes || is_some (insn_listed (code_of body) off)
 
 -- a place is a boundary of a text section, or that section's size
 abbrev pub is_cut : List SectionText → Place → Bool

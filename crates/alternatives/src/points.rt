@@ -95,7 +95,8 @@ pub(crate) fn points_of(
     ensures few { IfOk result (λ points. length points.items ≤ text_bytes texts.now + 256 * length entries.now) }
 {
     let mut points = gather_points(alloc, texts, entries)?;
-    points.sort_unstable_by_key(|point| (point.place, point.variant));
+    // It is sorted but for replacements, whose points come in short runs: runs are merged.
+    points.sort_by_key(|point| (point.place, point.variant))?;
     Ok(points)
 }
 

@@ -20,7 +20,7 @@ pub struct SectionText<'a> {
 
 /// Whether a body ends at an offset.
 fn is_end(text: &Text<'_>, off: u64) -> bool
-    ensures { result ≡ (off == length text.now) }
+    ensures { result ≡ (off == length text.now.bytes) }
 {
     let count = text.count();
     if count == 0 {
@@ -33,7 +33,7 @@ fn is_end(text: &Text<'_>, off: u64) -> bool
 /// Whether an instruction of a body begins at an offset, or the body ends there.
 fn is_cut_of(text: &Text<'_>, off: u64) -> bool
     ensures value { result ≡ is_a_cut_of text.now off }
-    ensures within { result ≡ true → off ≤ length text.now }
+    ensures within { result ≡ true → off ≤ length text.now.bytes }
 {
     is_end(text, off) || text.insn_at(off).is_some()
 }

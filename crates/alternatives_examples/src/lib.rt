@@ -2,6 +2,7 @@
 //! by hand; the boundaries are those that `objdump -d` shows.
 #![tactic(auto)]
 
-pub mod example;
+#[cfg(test)]
+mod example;
 #[cfg(test)]
 mod tests;

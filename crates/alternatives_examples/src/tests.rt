@@ -12,7 +12,7 @@ use special_sections::Special;
 use std::alloc::Global;
 use std::process::Abort;
 use std::test::Fail;
-use x86_text::{Text, TextFault};
+use x86_text::{Map, Text, TextFault};
 
 mod faults;
 mod points;
@@ -34,8 +34,8 @@ fn two_texts<'a>(
     ensures ascending { IfOk result (λ texts. AscendBySection texts.items) }
     ensures bytes { IfOk result (λ texts. text_bytes texts.items ≤ 16777216) }
 {
-    let one = Text::read(alloc, first)?;
-    let two = Text::read(alloc, second)?;
+    let one = Text::read(alloc, Map::Base, first)?;
+    let two = Text::read(alloc, Map::Base, second)?;
     let mut texts = Vec::new(alloc);
     texts.push(SectionText { sec: 1, text: one })?;
     texts.push(SectionText { sec: 2, text: two })?;

@@ -1,6 +1,7 @@
 //! Small objects with jumps by tables, and the entries of these tables, written by hand.
 #![tactic(auto)]
 
-pub mod objects;
+#[cfg(test)]
+mod objects;
 #[cfg(test)]
 mod tests;

@@ -10,7 +10,7 @@ use jump_tables::{JumpTables, SectionText};
 use ot_base::NoMemory;
 use std::alloc::Global;
 use symbols_relocs::Index;
-use x86_text::{Text, TextFault};
+use x86_text::{Map, Text, TextFault};
 
 /// A symbol in section 1 or another: its name, bind, type, section, value and size.
 pub type Row<'n> = (&'n [u8], u8, u8, u32, u64, u64);
@@ -105,8 +105,8 @@ fn texts<'a>(
     requires replacements { length replacements.now ≤ 16777216 }
     ensures { IfOk result (λ texts. AscendBySection texts.items) }
 {
-    let one = Text::read(alloc, code)?;
-    let two = Text::read(alloc, replacements)?;
+    let one = Text::read(alloc, Map::Base, code)?;
+    let two = Text::read(alloc, Map::Base, replacements)?;
     let mut texts = Vec::new(alloc);
     texts.push(SectionText { sec: 1, text: one })?;
     texts.push(SectionText { sec: 3, text: two })?;

@@ -6,7 +6,7 @@ use Rattle.operation_defs.specs.declared.op.Op.TheVariants.{Plain}
 use Rattle.operation_defs.specs.declared.insn.Insn.{Insn}
 use Rattle.x86_decode.specs.Decoding.{StandsInFront}
 use Rattle.x86_text.specs.declared.placed.PlacedInsn.{PlacedInsn}
-use Rattle.x86_text.specs.Code.{IsBoundary, start, behind, IsCode, LeadsTo}
+use Rattle.x86_text.specs.Code.{Body, IsBoundary, start, behind, IsCode, LeadsTo}
 use Rattle.x86_text.specs.Listed.{StandsIn, IsListing}
 
 -- an instruction among these begins at b
@@ -33,23 +33,23 @@ all_at P front back p all =
     subst P (get_or-append_seam front p back p) (all (length front) p within)
 
 -- each boundary is listed
-pub boundary_stands : (body : List ℕ) (code : List PlacedInsn) (b : ℕ) → IsListing body code → IsBoundary body b → StandsAt code b
+pub boundary_stands : (body : Body) (code : List PlacedInsn) (b : ℕ) → IsListing body code → IsBoundary body b → StandsAt code b
 boundary_stands body code b listing (start off at inside) =
-    let leads : LeadsTo off code (length body) = subst (λ o. LeadsTo o code (length body)) (sym at) listing.whole in
-    first_stands off (length body) [] code inside leads
+    let leads : LeadsTo off code (length body.bytes) = subst (λ o. LeadsTo o code (length body.bytes)) (sym at) listing.whole in
+    first_stands off (length body.bytes) [] code inside leads
 boundary_stands body code b listing (behind before off insn bd here is inside) =
     let s = boundary_stands body code before listing bd in
-    let leads = rest_leads 0 (length body) s.front (s.p ∷ s.back) (subst (λ ps. LeadsTo 0 ps (length body)) s.split listing.whole) in
+    let leads = rest_leads 0 (length body.bytes) s.front (s.p ∷ s.back) (subst (λ ps. LeadsTo 0 ps (length body.bytes)) s.split listing.whole) in
     let placed : StandsIn body s.p = all_at (StandsIn body) s.front s.back s.p (subst (All (StandsIn body)) s.split listing.each) in
-    let same : s.p.insn ≡ insn = sym (placed.only insn (subst (λ o. StandsInFront (drop o body) insn) (sym s.at) here)) in
+    let same : s.p.insn ≡ insn = sym (placed.only insn (subst (λ o. StandsInFront body.map (drop o body.bytes) insn) (sym s.at) here)) in
     let to : leads.0 + s.p.insn.len ≡ off = ap (λ (x : Insn). leads.0 + x.len) same ∙ (omega (arith, leads.1.0, s.at, is)) in
-    let behind_it : LeadsTo off s.back (length body) = subst (λ o. LeadsTo o s.back (length body)) to leads.1.1 in
-    let t : StandsAt ((s.front ++ s.p ∷ []) ++ s.back) off = first_stands off (length body) (s.front ++ s.p ∷ []) s.back inside behind_it in
+    let behind_it : LeadsTo off s.back (length body.bytes) = subst (λ o. LeadsTo o s.back (length body.bytes)) to leads.1.1 in
+    let t : StandsAt ((s.front ++ s.p ∷ []) ++ s.back) off = first_stands off (length body.bytes) (s.front ++ s.p ∷ []) s.back inside behind_it in
     let same_code : (s.front ++ s.p ∷ []) ++ s.back ≡ code = append_assoc s.front (s.p ∷ []) s.back ∙ sym s.split in
     subst (λ (c : List PlacedInsn). StandsAt c b) same_code t
 
 -- its number among them
-pub listed_at : (body : List ℕ) (code : List PlacedInsn) (b : ℕ) → IsListing body code → IsBoundary body b → (i : ℕ) × ((i < length code) × ((d : PlacedInsn) → (get_or code i d).off ≡ b))
+pub listed_at : (body : Body) (code : List PlacedInsn) (b : ℕ) → IsListing body code → IsBoundary body b → (i : ℕ) × ((i < length code) × ((d : PlacedInsn) → (get_or code i d).off ≡ b))
 listed_at body code b listing bd =
     let s = boundary_stands body code b listing bd in
     let inside : length s.front < length (s.front ++ s.p ∷ s.back) = simp length-append (omega arith) in
@@ -57,17 +57,17 @@ listed_at body code b listing bd =
     (length s.front, (within, λ d. ap (λ ps. (get_or ps (length s.front) d).off) s.split ∙ ap (λ (p : PlacedInsn). p.off) (get_or-append_seam s.front s.p s.back d) ∙ s.at))
 
 -- an instruction stands at each boundary
-pub listing_is_code : (body : List ℕ) (code : List PlacedInsn) → IsListing body code → IsCode body
+pub listing_is_code : (body : Body) (code : List PlacedInsn) → IsListing body code → IsCode body
 listing_is_code body code listing b bd =
     let s = boundary_stands body code b listing bd in
     let placed : StandsIn body s.p = all_at (StandsIn body) s.front s.back s.p (subst (All (StandsIn body)) s.split listing.each) in
-    (s.p.insn, subst (λ o. StandsInFront (drop o body) s.p.insn) s.at placed.stands)
+    (s.p.insn, subst (λ o. StandsInFront body.map (drop o body.bytes) s.p.insn) s.at placed.stands)
 
 nothing : PlacedInsn
 nothing = record { off = 0; insn = record { len = 0; op = Plain } }
 
 -- the listed offsets are the boundaries
-pub boundaries_listed : (body : List ℕ) (code : List PlacedInsn) → IsListing body code → (off : ℕ) → IsBoundary body off ↔ Contains (map (λ p. p.off) code) off
+pub boundaries_listed : (body : Body) (code : List PlacedInsn) → IsListing body code → (off : ℕ) → IsBoundary body off ↔ Contains (map (λ p. p.off) code) off
 boundaries_listed body code listing off = (to, from)
   where
     to : IsBoundary body off → Contains (map (λ p. p.off) code) off

@@ -3,11 +3,11 @@ use Rattle.std.proofs.Common.{◌≡◌, ◌≢◌, ℕ, zero, suc, ◌-◌, ◌
 use Rattle.std.proofs.lemmas.Bool.{eq-eqb}
 use Rattle.std.proofs.lemmas.Bool.Decides.{eqb_tells}
 use Rattle.x86_text.specs.declared.placed.PlacedInsn.{PlacedInsn}
-use Rattle.x86_text.specs.Code.{IsBoundary, IsNextBoundary, IsPreviousBoundary, insn_listed}
+use Rattle.x86_text.specs.Code.{Body, IsBoundary, IsNextBoundary, IsPreviousBoundary, insn_listed}
 use Rattle.x86_text.specs.Listed.{IsListing}
 use Rattle.x86_text.proofs.ListingLemmas.{listed_at}
 
-module _ (body : List ℕ) (code : List PlacedInsn) (off : ℕ) (listing : IsListing body code) where
+module _ (body : Body) (code : List PlacedInsn) (off : ℕ) (listing : IsListing body code) where
   -- all begin at the offset or below
   pub no_next : (n : ℕ) (d : PlacedInsn) → length code ≤ n → ((k : ℕ) (e : PlacedInsn) → k < n → (get_or code k e).off ≤ off) → (b : ℕ) → IsBoundary body b → b ≤ off
   no_next n d end below b boundary =

@@ -7,15 +7,15 @@ use Rattle.std.proofs.lemmas.List.{drop-drop, drop_all}
 use Rattle.operation_defs.specs.declared.insn.Insn.{Insn}
 use Rattle.x86_decode.specs.Decoding.{StandsInFront, decoded}
 use Rattle.x86_text.specs.declared.placed.PlacedInsn.{PlacedInsn}
-use Rattle.x86_text.specs.Code.{IsBoundary, start, behind, code_from, code_of, LeadsTo}
+use Rattle.x86_text.specs.Code.{Body, IsBoundary, start, behind, code_from, code_of, LeadsTo}
 use Rattle.x86_text.specs.Listed.{StandsIn, IsListing}
 use Rattle.x86_text.proofs.CodeLemmas.{code_from_more}
 
 -- these are the instructions of the body up to an offset
-pub record IsReadTo (body : List ℕ) (code : List PlacedInsn) (off : ℕ) : Type 0 where
-  pub within : off ≤ length body
-  pub boundary : off < length body → IsBoundary body off
-  pub same : code ++ code_from 0 off (drop off body) ≡ code_of body
+pub record IsReadTo (body : Body) (code : List PlacedInsn) (off : ℕ) : Type 0 where
+  pub within : off ≤ length body.bytes
+  pub boundary : off < length body.bytes → IsBoundary body off
+  pub same : code ++ code_from body.map 0 off (drop off body.bytes) ≡ code_of body
   pub each : All (StandsIn body) code
   pub leads : LeadsTo 0 code off
   pub some : All (λ p. 0 < p.insn.len) code
@@ -27,12 +27,12 @@ LeadsTo-push : (from : ℕ) (code : List PlacedInsn) (p : PlacedInsn) → LeadsT
 LeadsTo-push from [] p at = (sym at, ap (λ o. o + p.insn.len) at)
 LeadsTo-push from (q ∷ code) p leads = (leads.0, LeadsTo-push (from + q.insn.len) code p leads.1)
 
-nothing_read : (body : List ℕ) → [] ++ code_from 0 0 (drop 0 body) ≡ code_of body
+nothing_read : (body : Body) → [] ++ code_from body.map 0 0 (drop 0 body.bytes) ≡ code_of body
 unfolding code_of
 nothing_read body = refl
 
 -- nothing is read yet
-pub read_nothing : (body : List ℕ) → IsReadTo body [] 0
+pub read_nothing : (body : Body) → IsReadTo body [] 0
 read_nothing body = record {
   within = omega arith;
   boundary = λ some. start 0 refl some;
@@ -46,19 +46,19 @@ read_nothing body = record {
 }
 
 -- one more instruction is read
-pub read_more : (body : List ℕ) (code : List PlacedInsn) (off : ℕ) (insn : Insn) → IsReadTo body code off → off < length body → decoded (drop off body) ≡ Ok insn → StandsInFront (drop off body) insn → ((other : Insn) → StandsInFront (drop off body) other → other ≡ insn) → 0 < insn.len → insn.len ≤ length (drop off body) → IsReadTo body (code ++ record { off = off; insn = insn } ∷ []) (off + insn.len)
+pub read_more : (body : Body) (code : List PlacedInsn) (off : ℕ) (insn : Insn) → IsReadTo body code off → off < length body.bytes → decoded body.map (drop off body.bytes) ≡ Ok insn → StandsInFront body.map (drop off body.bytes) insn → ((other : Insn) → StandsInFront body.map (drop off body.bytes) other → other ≡ insn) → 0 < insn.len → insn.len ≤ length (drop off body.bytes) → IsReadTo body (code ++ record { off = off; insn = insn } ∷ []) (off + insn.len)
 read_more body code off insn read inside here stands only long fits =
     let p : PlacedInsn = record { off = off; insn = insn } in
-    let left : 0 < length (drop off body) = simp length-drop (omega arith) in
-    let room : off + insn.len ≤ length body = omega (arith, simp length-drop at fits) in
-    let rest : drop insn.len (drop off body) ≡ drop (off + insn.len) body = drop-drop insn.len off body in
+    let left : 0 < length (drop off body.bytes) = simp length-drop (omega arith) in
+    let room : off + insn.len ≤ length body.bytes = omega (arith, simp length-drop at fits) in
+    let rest : drop insn.len (drop off body.bytes) ≡ drop (off + insn.len) body.bytes = drop-drop insn.len off body.bytes in
     record {
       within = room;
       boundary = λ inside'. behind off (off + insn.len) insn (read.boundary inside) stands refl inside';
       same =
-          append_assoc code (p ∷ []) (code_from 0 (off + insn.len) (drop (off + insn.len) body))
-          ∙ ap (λ bytes. code ++ p ∷ code_from 0 (off + insn.len) bytes) (sym rest)
-          ∙ ap (λ ps. code ++ ps) (sym (code_from_more off (drop off body) insn left here long))
+          append_assoc code (p ∷ []) (code_from body.map 0 (off + insn.len) (drop (off + insn.len) body.bytes))
+          ∙ ap (λ bytes. code ++ p ∷ code_from body.map 0 (off + insn.len) bytes) (sym rest)
+          ∙ ap (λ ps. code ++ ps) (sym (code_from_more body.map off (drop off body.bytes) insn left here long))
           ∙ read.same;
       each = All-push (StandsIn body) code p read.each (record { boundary = read.boundary inside; stands = stands; only = only; within = room });
       leads = LeadsTo-push 0 code p read.leads;
@@ -69,13 +69,13 @@ read_more body code off insn read inside here stands only long fits =
     }
 
 -- all is read
-pub read_all : (body : List ℕ) (code : List PlacedInsn) (off : ℕ) → IsReadTo body code off → length body ≤ off → length body < 2 ^ 32 → IsListing body code
+pub read_all : (body : Body) (code : List PlacedInsn) (off : ℕ) → IsReadTo body code off → length body.bytes ≤ off → length body.bytes < 2 ^ 32 → IsListing body code
 read_all body code off read end small =
     let n : length code ≤ off = read.few in
-    let m : off ≤ length body = read.within in
-    let whole : off ≡ length body = omega arith in
+    let m : off ≤ length body.bytes = read.within in
+    let whole : off ≡ length body.bytes = omega arith in
     record {
-      same = sym (append-nil code) ∙ ap (λ bytes. code ++ code_from 0 off bytes) (sym (drop_all off body end)) ∙ read.same;
+      same = sym (append-nil code) ∙ ap (λ bytes. code ++ code_from body.map 0 off bytes) (sym (drop_all off body.bytes end)) ∙ read.same;
       each = read.each;
       whole = subst (LeadsTo 0 code) whole read.leads;
       some = read.some;

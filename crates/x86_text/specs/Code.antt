@@ -1,19 +1,28 @@
 -- The instructions of a body of code, without gaps from its first byte on.
 use Rattle.std.specs.Prelude.{◌≡◌, ℕ, zero, suc, ◌+◌, ◌-◌, ◌<◌, ◌≤◌, ◌==◌, List, [], ◌∷◌, length, map, drop, Option, Some, None, Result, Ok, Err, if◌then◌else◌}
 use Rattle.operation_defs.specs.declared.insn.Insn.{Insn}
+use Rattle.x86_map.specs.declared.map.Map.{Map}
 use Rattle.x86_decode.specs.declared.DecodeFault.{DecodeFault}
 use Rattle.x86_decode.specs.Decoding.{StandsInFront, decoded}
 use Rattle.x86_text.specs.declared.placed.PlacedInsn.{PlacedInsn}
 
+-- a body of code, and the opcode map by which it is read
+pub record Body : Type 0 where
+  pub map : Map
+  pub bytes : List ℕ
+
+abbrev pub read_by : Map → List ℕ → Body
+read_by map bytes = record { map = map; bytes = bytes }
+
 -- an offset at which an instruction begins, or ought to: the body's start, and the offset right behind an instruction
 -- that begins at a boundary
-pub data IsBoundary (body : List ℕ) : ℕ → Type 0 where
-  start : (off : ℕ) → off ≡ 0 → off < length body → IsBoundary body off
-  behind : (before off : ℕ) (insn : Insn) → IsBoundary body before → StandsInFront (drop before body) insn → off ≡ before + insn.len → off < length body → IsBoundary body off
+pub data IsBoundary (body : Body) : ℕ → Type 0 where
+  start : (off : ℕ) → off ≡ 0 → off < length body.bytes → IsBoundary body off
+  behind : (before off : ℕ) (insn : Insn) → IsBoundary body before → StandsInFront body.map (drop before body.bytes) insn → off ≡ before + insn.len → off < length body.bytes → IsBoundary body off
 
 -- an instruction stands at each boundary
-abbrev pub IsCode : List ℕ → Type 0
-IsCode body = (off : ℕ) → IsBoundary body off → (insn : Insn) × StandsInFront (drop off body) insn
+abbrev pub IsCode : Body → Type 0
+IsCode body = (off : ℕ) → IsBoundary body off → (insn : Insn) × StandsInFront body.map (drop off body.bytes) insn
 
 -- where decoding at this offset gives an instruction: it, and then the rest, which is told how many of the next bytes
 -- still belong to it
@@ -21,18 +30,18 @@ abbrev pub with_rest : ℕ → Result Insn DecodeFault → (ℕ → List PlacedI
 with_rest off (Ok insn) rest = record { off = off; insn = insn } ∷ rest (insn.len - 1)
 with_rest off (Err why) rest = []
 
--- the instructions of bytes that begin at this offset, where the first few belong to the instruction before
-abbrev pub code_from : ℕ → ℕ → List ℕ → List PlacedInsn
-code_from skip off [] = []
-code_from zero off (b ∷ bytes) = with_rest off (decoded (b ∷ bytes)) (λ skip. code_from skip (off + 1) bytes)
-code_from (suc skip) off (b ∷ bytes) = code_from skip (off + 1) bytes
+-- the instructions by a map of bytes that begin at this offset, where the first few belong to the instruction before
+abbrev pub code_from : Map → ℕ → ℕ → List ℕ → List PlacedInsn
+code_from map skip off [] = []
+code_from map zero off (b ∷ bytes) = with_rest off (decoded map (b ∷ bytes)) (λ skip. code_from map skip (off + 1) bytes)
+code_from map (suc skip) off (b ∷ bytes) = code_from map skip (off + 1) bytes
 
 -- the instructions of a body of code, in their order, up to the first boundary without one
-unfoldable pub code_of : List ℕ → List PlacedInsn
-code_of body = code_from 0 0 body
+unfoldable pub code_of : Body → List PlacedInsn
+code_of body = code_from body.map 0 0 body.bytes
 
 -- their offsets
-abbrev pub offsets_of : List ℕ → List ℕ
+abbrev pub offsets_of : Body → List ℕ
 offsets_of body = map (λ p. p.off) (code_of body)
 
 -- the instruction at an offset among these
@@ -41,13 +50,13 @@ insn_listed [] off = None
 insn_listed (p ∷ ps) off = if p.off == off then Some p.insn else insn_listed ps off
 
 -- the least boundary above an offset
-pub record IsNextBoundary (body : List ℕ) (off next : ℕ) : Type 0 where
+pub record IsNextBoundary (body : Body) (off next : ℕ) : Type 0 where
   pub boundary : IsBoundary body next
   pub above : off < next
   pub least : (b : ℕ) → IsBoundary body b → off < b → next ≤ b
 
 -- the greatest boundary below an offset
-pub record IsPreviousBoundary (body : List ℕ) (off previous : ℕ) : Type 0 where
+pub record IsPreviousBoundary (body : Body) (off previous : ℕ) : Type 0 where
   pub boundary : IsBoundary body previous
   pub below : previous < off
   pub greatest : (b : ℕ) → IsBoundary body b → b < off → b ≤ previous

@@ -4,20 +4,20 @@ use Rattle.std.specs.List.Sorted.{IsNonDecreasingBy}
 use Rattle.operation_defs.specs.declared.insn.Insn.{Insn}
 use Rattle.x86_decode.specs.Decoding.{StandsInFront}
 use Rattle.x86_text.specs.declared.placed.PlacedInsn.{PlacedInsn}
-use Rattle.x86_text.specs.Code.{IsBoundary, LeadsTo, code_of}
+use Rattle.x86_text.specs.Code.{Body, IsBoundary, LeadsTo, code_of}
 
 -- the instruction stands there, and no other one does
-pub record StandsIn (body : List ℕ) (p : PlacedInsn) : Type 0 where
+pub record StandsIn (body : Body) (p : PlacedInsn) : Type 0 where
   pub boundary : IsBoundary body p.off
-  pub stands : StandsInFront (drop p.off body) p.insn
-  pub only : (insn : Insn) → StandsInFront (drop p.off body) insn → insn ≡ p.insn
-  pub within : p.off + p.insn.len ≤ length body
+  pub stands : StandsInFront body.map (drop p.off body.bytes) p.insn
+  pub only : (insn : Insn) → StandsInFront body.map (drop p.off body.bytes) insn → insn ≡ p.insn
+  pub within : p.off + p.insn.len ≤ length body.bytes
 
 -- the instructions of the whole body
-pub record IsListing (body : List ℕ) (code : List PlacedInsn) : Type 0 where
+pub record IsListing (body : Body) (code : List PlacedInsn) : Type 0 where
   pub same : code ≡ code_of body
   pub each : All (StandsIn body) code
-  pub whole : LeadsTo 0 code (length body)
+  pub whole : LeadsTo 0 code (length body.bytes)
   pub some : All (λ p. 0 < p.insn.len) code
   pub ascending : IsNonDecreasingBy (λ p. p.off) code
   pub few : length code < 2 ^ 32

@@ -11,7 +11,7 @@ pub use fault_text::TextFaultText;
 pub use operation_defs::{Insn, Op};
 pub use placed::PlacedInsn;
 pub use text::Text;
-pub use x86_decode::DecodeFault;
+pub use x86_decode::{DecodeFault, Map};
 
 #[cfg(test)]
 mod tests;

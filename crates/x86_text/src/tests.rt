@@ -6,7 +6,7 @@ use crate::fault_text::TextFaultText;
 use crate::text::Text;
 use std::alloc::Global;
 use std::test::Fail;
-use x86_decode::DecodeFault;
+use x86_decode::{DecodeFault, Map};
 
 /// Three functions: a frame by rbp, a call, and a branch.
 const CODE: [u8; 29] = [
@@ -20,7 +20,7 @@ const OFFSETS: [u64; 15] = [0, 1, 4, 5, 6, 7, 11, 16, 20, 21, 22, 24, 26, 27, 28
 
 #[test]
 fn boundaries_of_a_body(rt: HostRuntime) -> Result<(), Fail> {
-    let text = Text::read(rt.alloc(), &CODE)?;
+    let text = Text::read(rt.alloc(), Map::Base, &CODE)?;
     assert_eq!(rt; text.count(), 15);
     for off in 0u64..32 {
         let next = OFFSETS.iter().copied().find(|o| *o > off);
@@ -37,7 +37,7 @@ fn boundaries_of_a_body(rt: HostRuntime) -> Result<(), Fail> {
 
 #[test]
 fn instructions_of_a_body(rt: HostRuntime) -> Result<(), Fail> {
-    let text = Text::read(rt.alloc(), &CODE)?;
+    let text = Text::read(rt.alloc(), Map::Base, &CODE)?;
     let mut end = 0;
     for i in 0..15u32 {
         assert!(rt; i < text.count());
@@ -57,7 +57,7 @@ fn instructions_of_a_body(rt: HostRuntime) -> Result<(), Fail> {
 fn first_bytes<'a>(alloc: Global, body: &'a [u8]) -> Result<Option<&'a [u8]>, TextFault>
     requires { length body.now ≤ 16_777_216 }
 {
-    let text = Text::read(alloc, body)?;
+    let text = Text::read(alloc, Map::Base, body)?;
     Ok(if text.count() == 0 {
         None
     } else {
@@ -92,7 +92,7 @@ fn faults_of_a_body(rt: HostRuntime) -> Result<(), Fail> {
         ([0x66, 0x66, 0x66, 0x66], 0, DecodeFault::Cut { have: 4 }),
     ];
     for (body, at, fault) in bodies {
-        match Text::read(rt.alloc(), &body) {
+        match Text::read(rt.alloc(), Map::Base, &body) {
             Err(TextFault::At { off, why }) => {
                 assert_eq!(rt; off, at);
                 assert_eq!(rt; why, fault);
@@ -102,7 +102,7 @@ fn faults_of_a_body(rt: HostRuntime) -> Result<(), Fail> {
         }
     }
     let long = [0x66u8; 16];
-    match Text::read(rt.alloc(), &long) {
+    match Text::read(rt.alloc(), Map::Base, &long) {
         Err(TextFault::At { off, why }) => {
             assert_eq!(rt; off, 0);
             assert_eq!(rt; why, DecodeFault::Long);

@@ -1,7 +1,7 @@
 ghost use Rattle.std.specs.Prelude.{◌≡◌, ◌+◌, ◌<◌, ◌≤◌, ◌↔◌, ℕ, ⊤, All, length, drop, slice_get, slice_index_or, slice_range, Contains, IfOk, IfErr, OnOk, IfSome, IfNone, MatchOption};
 ghost use Rattle.std.specs.List.Sorted.{IsNonDecreasingBy};
 ghost use Rattle.x86_decode.specs.Decoding.{StandsInFront};
-ghost use Rattle.x86_text.specs.Code.{code_of, insn_listed, offsets_of, IsBoundary, IsCode, IsNextBoundary, IsPreviousBoundary, LeadsTo};
+ghost use Rattle.x86_text.specs.Code.{read_by, code_of, insn_listed, offsets_of, IsBoundary, IsCode, IsNextBoundary, IsPreviousBoundary, LeadsTo};
 ghost use Rattle.x86_text.specs.declared.placed.PlacedInsn.{PlacedInsn};
 ghost use Rattle.x86_text.specs.Refused.{IsTextFault};
 
@@ -10,39 +10,39 @@ use crate::placed::PlacedInsn;
 use operation_defs::Insn;
 use std::alloc::Global;
 use std::marker::Model;
-use x86_decode::decode;
+use x86_decode::{Map, decode};
 
-/// A body of code, with its instructions. Contracts see it as the body.
+/// A body of code, with its instructions by an opcode map. Contracts see it as the body and the map.
 #[derive(Drop)]
 pub struct Text<'a> {
+    map: Map,
     body: &'a [u8],
     code: Vec<PlacedInsn>,
 }
 
 impl<'a> Model for Text<'a> {
-    ghost use Rattle.std.specs.Prelude.{ℕ, List};
-
-    ghost Value = { List ℕ };
-
+    ghost use Rattle.x86_text.specs.Code.{Body, read_by};
     ghost use Rattle.x86_text.specs.Listed.{IsListing};
 
-    ghost view = { λ t. t.body.now };
+    ghost Value = { Body };
 
-    ghost invariant = { λ t. IsListing t.body.now t.code.items };
+    ghost view = { λ t. read_by t.map t.body.now };
+
+    ghost invariant = { λ t. IsListing (read_by t.map t.body.now) t.code.items };
 }
 
 impl<'a> Text<'a> {
-    /// Reads a body of at most 16,777,216 bytes, from its first byte on without gaps.
-    pub fn read(alloc: Global, body: &'a [u8]) -> Result<Text<'a>, TextFault>
+    /// Reads a body of at most 16,777,216 bytes by an opcode map, from its first byte on without gaps.
+    pub fn read(alloc: Global, map: Map, body: &'a [u8]) -> Result<Text<'a>, TextFault>
         requires { length body.now ≤ 16_777_216 }
-        ensures ok { IfOk result (λ text. text ≡ body.now) }
-        ensures code { OnOk result (IsCode body.now) }
-        ensures fault { IfErr result (IsTextFault body.now) }
+        ensures ok { IfOk result (λ text. text ≡ read_by map body.now) }
+        ensures code { OnOk result (IsCode (read_by map body.now)) }
+        ensures fault { IfErr result (IsTextFault (read_by map body.now)) }
     {
         let mut code = Vec::new(alloc);
         let mut off = 0usize;
         while off < body.len() {
-            match decode(&body[off..]) {
+            match decode(map, &body[off..]) {
                 Ok(insn) => {
                     let placed = PlacedInsn {
                         off: off as u64,
@@ -57,7 +57,7 @@ impl<'a> Text<'a> {
                 }
             }
         }
-        Ok(Text { body, code })
+        Ok(Text { map, body, code })
     }
 
     /// How many instructions it has.
@@ -68,7 +68,7 @@ impl<'a> Text<'a> {
         ensures boundaries { (off : ℕ) → IsBoundary self.now off ↔ Contains (offsets_of self.now) off }
         // They have a byte each at least, and fill the body from its first byte to its last.
         ensures some { All (λ p. 0 < p.insn.len) (code_of self.now) }
-        ensures whole { LeadsTo 0 (code_of self.now) (length self.now) }
+        ensures whole { LeadsTo 0 (code_of self.now) (length self.now.bytes) }
     {
         self.code.len() as u32
     }
@@ -77,7 +77,7 @@ impl<'a> Text<'a> {
     pub fn insn(&self, i: u32) -> (u64, Insn)
         requires { i < length (code_of self.now) }
         ensures listed { slice_get (code_of self.now) i ≡ Some (record { off = result.0; insn = result.1 }) }
-        ensures stands { StandsInFront (drop result.0 self.now) result.1 }
+        ensures stands { StandsInFront self.now.map (drop result.0 self.now.bytes) result.1 }
     {
         let PlacedInsn { off, insn } = self.code[i as usize];
         (off, insn)
@@ -86,7 +86,7 @@ impl<'a> Text<'a> {
     /// The instruction that begins at this offset.
     pub fn insn_at(&self, off: u64) -> Option<Insn>
         ensures listed { result ≡ insn_listed (code_of self.now) off }
-        ensures found { IfSome result (λ insn. IsBoundary self.now off × StandsInFront (drop off self.now) insn) }
+        ensures found { IfSome result (λ insn. IsBoundary self.now off × StandsInFront self.now.map (drop off self.now.bytes) insn) }
         ensures absent { IfNone result (IsBoundary self.now off → ⊥) }
     {
         let code = self.code.as_slice();
@@ -101,7 +101,7 @@ impl<'a> Text<'a> {
     /// The bytes of the instruction with this number.
     pub fn bytes_of(&self, i: u32) -> &'a [u8]
         requires { i < length (code_of self.now) }
-        ensures { IfSome (slice_get (code_of self.now) i) (λ p. result.now ≡ slice_range self.now p.off (p.off + p.insn.len)) }
+        ensures { IfSome (slice_get (code_of self.now) i) (λ p. result.now ≡ slice_range self.now.bytes p.off (p.off + p.insn.len)) }
     {
         let PlacedInsn { off, insn } = self.code[i as usize];
         let start = off as usize;

@@ -7,7 +7,7 @@ use Rattle.alternatives.proofs.points.points_of.Goals as goal
 
 pub returns-clause-all : goal.returns-clause-all
 returns-clause-all c =
-    let ps : List Point = c.sort_unstable_by_key.new.self.items in
+    let ps : List Point = c.sort_by_key.new.self.items in
     sorted_points c.args.texts.now c.args.entries.now ps c.requires.ascending
-    (subst (λ (gs : List Point). IsPermutation gs ps) c.in_ok-points.ensures.all c.sort_unstable_by_key.ensures.permutation)
-    (c.sort_unstable_by_key.ensures.sorted (λ (p : Point). (p.place, p.variant)) (answers_always _ _ _ (λ f a r g h. search rules)))
+    (subst (λ (gs : List Point). IsPermutation gs ps) c.in_ok-points.ensures.all c.in_ok-sort_by_key.ensures.permutation)
+    (c.in_ok-sort_by_key.ensures.sorted (λ (p : Point). (p.place, p.variant)) (answers_always _ _ _ (λ f a r g h. search rules)))

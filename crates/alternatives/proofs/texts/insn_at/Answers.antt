@@ -2,7 +2,8 @@ use Rattle.std.proofs.Common.{◌≡◌, ◌≢◌, ℕ, ◌<◌, ◌≤◌, Boo
 use Rattle.std.proofs.lemmas.Bool.{cases_lt, eq-eqb, ne_eqb}
 use Rattle.operation_defs.specs.declared.insn.Insn.{Insn}
 use Rattle.ot_base.specs.declared.place.Place.{Place}
-use Rattle.x86_text.specs.Code.{code_of, insn_listed}
+use Rattle.x86_map.specs.declared.map.Map.TheVariants.{Base}
+use Rattle.x86_text.specs.Code.{code_of, insn_listed, read_by}
 use Rattle.alternatives.specs.declared.texts.SectionText.{SectionText}
 use Rattle.alternatives.specs.Texts.{AscendBySection}
 use Rattle.alternatives.proofs.Finding.{none_passes, only_one}
@@ -53,7 +54,7 @@ returns-then-text-place c =
     sym (ap (option_and_then (its place)) found)
 
 none : SectionText
-none = record { sec = 0; text = [] }
+none = record { sec = 0; text = read_by Base [] }
 
 pub returns-then-at-texts : goal.returns-then-at-texts
 returns-then-at-texts c =

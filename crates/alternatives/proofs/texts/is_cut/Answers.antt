@@ -1,6 +1,8 @@
 use Rattle.std.proofs.Common.{◌≡◌, ◌≢◌, ℕ, ◌<◌, ◌≤◌, Bool, true, false, eqb, ◌&&◌, List, [], length, get_or, inl, inr, arith, sym, ap, ◌∙◌}
 use Rattle.std.proofs.lemmas.Bool.{cases_lt, eq-eqb}
 use Rattle.ot_base.specs.declared.place.Place.{Place}
+use Rattle.x86_map.specs.declared.map.Map.TheVariants.{Base}
+use Rattle.x86_text.specs.Code.{read_by}
 use Rattle.alternatives.specs.declared.texts.SectionText.{SectionText}
 use Rattle.alternatives.specs.Texts.{AscendBySection, is_cut_of}
 use Rattle.alternatives.proofs.Any.{only_one, none_passes}
@@ -51,7 +53,7 @@ returns-then-text-place-clause-value c =
     ∙ other_fails d.sec place.sec (is_cut_of d.text place.off) c.if-text-place.true)
 
 none : SectionText
-none = record { sec = 0; text = [] }
+none = record { sec = 0; text = read_by Base [] }
 
 pub returns-then-at-texts-clause-value : goal.returns-then-at-texts-clause-value
 returns-then-at-texts-clause-value c =

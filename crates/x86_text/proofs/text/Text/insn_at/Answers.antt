@@ -3,7 +3,7 @@ use Rattle.std.specs.List.Sorted.{IsNonDecreasingBy}
 use Rattle.std.proofs.lemmas.List.{get_or_default}
 use Rattle.operation_defs.specs.declared.op.Op.TheVariants.{Plain}
 use Rattle.x86_text.specs.declared.placed.PlacedInsn.{PlacedInsn}
-use Rattle.x86_text.specs.Code.{code_of, insn_listed}
+use Rattle.x86_text.specs.Code.{Body, read_by, code_of, insn_listed}
 use Rattle.x86_text.specs.Listed.{IsListing}
 use Rattle.x86_text.proofs.ListingLemmas.{listed_at}
 use Rattle.x86_text.proofs.QueryLemmas.{found_here, found_nowhere}
@@ -47,8 +47,8 @@ returns-else-place-code-clause-listed c =
 
 pub returns-else-place-code-clause-absent : goal.returns-else-place-code-clause-absent
 returns-else-place-code-clause-absent c = λ boundary.
-    let kept : IsListing c.self.inside.body.now c.as_slice-code.result.now = subst (IsListing c.self.inside.body.now) (sym c.as_slice-code.ensures.value) c.self.invariant in
-    let listing : IsListing c.args.self.now c.as_slice-code.result.now = subst (λ (body : List ℕ). IsListing body c.as_slice-code.result.now) c.self.view_is kept in
+    let kept : IsListing (read_by c.self.inside.map c.self.inside.body.now) c.as_slice-code.result.now = subst (IsListing (read_by c.self.inside.map c.self.inside.body.now)) (sym c.as_slice-code.ensures.value) c.self.invariant in
+    let listing : IsListing c.args.self.now c.as_slice-code.result.now = subst (λ (body : Body). IsListing body c.as_slice-code.result.now) c.self.view_is kept in
     let at = listed_at c.args.self.now c.as_slice-code.result.now c.args.off listing boundary in
     let nothing : PlacedInsn = record { off = 0; insn = record { len = 0; op = Plain } } in
     none_there c at.0 nothing at.1.0 (at.1.1 nothing)
