@@ -3,7 +3,7 @@
 use crate::objects::{Example, object};
 use alternatives::{SiteFault, SiteWhy};
 use elf_objects::{Object, R_X86_64_PC32, Reloc};
-use object_code::{LinkFault, LinkFaultText, Linked};
+use object_code::{LinkFault, LinkFaultText, Linked, Map};
 use special_sections::{SpecialFault, Why};
 use std::test::Fail;
 use symbols_relocs::IndexFault;
@@ -144,7 +144,7 @@ fn first_fault_is_told(rt: HostRuntime) -> Result<(), Fail> {
         let bytes = object(rt.alloc(), example)?.expect(&rt, "an object");
         assert!(rt; bytes.len() <= 67_108_864);
         let parsed = Object::parse(rt.alloc(), &bytes).expect(&rt, "an object");
-        let told = match Linked::link(rt.alloc(), &parsed) {
+        let told = match Linked::link(rt.alloc(), Map::Base, &parsed) {
             Ok(_) => LinkFault::NoMemory,
             Err(fault) => fault,
         };
@@ -165,7 +165,7 @@ fn points_of_a_site(rt: HostRuntime) -> Result<(), Fail> {
     let bytes = object(rt.alloc(), &READ)?.expect(&rt, "an object");
     assert!(rt; bytes.len() <= 67_108_864);
     let parsed = Object::parse(rt.alloc(), &bytes).expect(&rt, "an object");
-    let linked = Linked::link(rt.alloc(), &parsed).expect(&rt, "code");
+    let linked = Linked::link(rt.alloc(), Map::Base, &parsed).expect(&rt, "code");
     assert_eq!(rt; linked.texts().len(), 1);
     assert_eq!(rt; linked.sites().points().len(), 7);
     assert_eq!(rt; linked.index().functions().len(), 1);

@@ -5,7 +5,7 @@ use Rattle.ot_base.specs.declared.place.Place.{Place}
 use Rattle.operation_defs.specs.declared.insn.Insn.{Insn}
 use Rattle.operation_defs.specs.declared.op.Op.{Op}
 use Rattle.operation_defs.specs.declared.op.Op.TheVariants.{Plain, Iret, IretNext, Ud2}
-use Rattle.elf_objects.specs.Elf.{Elf}
+use Rattle.flow_defs.specs.Coded.{Coded}
 use Rattle.symbols_relocs.specs.Places.{same_place}
 use Rattle.special_sections.specs.Special.{special_of}
 use Rattle.alternatives.specs.declared.point.Point.{Point}
@@ -21,47 +21,47 @@ abbrev pub no_insn : Insn
 no_insn = record { len = 0; op = Plain }
 
 -- the instruction of a point as it is decoded; of a padding point, the padding
-unfoldable pub decoded_insn : Elf → Point → Insn
+unfoldable pub decoded_insn : Coded → Point → Insn
 decoded_insn o point = unwrap_or (insn_of_point (texts_of o) (alternatives_of o) point) no_insn
 
 -- What the object says of a place is said of no padding point there.
-abbrev pub is_padding : Elf → Point → Bool
+abbrev pub is_padding : Coded → Point → Bool
 is_padding o point = is_padding_point (texts_of o) (alternatives_of o) point
 
 -- where control that comes to a place may stand: at the plain point there, and where a site starts there also at the
 -- first point of each of its replacements
-unfoldable pub arrive : Elf → Place → List ℕ
+unfoldable pub arrive : Coded → Place → List ℕ
 arrive o place = numbers_of o (first_points (texts_of o) (alternatives_of o) place)
 
 -- the end of the replacement that a point belongs to, and that of its site
-abbrev pub replacement_end : Elf → Point → Place
+abbrev pub replacement_end : Coded → Point → Place
 replacement_end o point = let a = entry_of (alternatives_of o) point.variant in behind a.replacement a.replacement_len
 
-abbrev pub site_end : Elf → Point → Place
+abbrev pub site_end : Coded → Point → Place
 site_end o point = end_of_site (alternatives_of o) point
 
 -- the point of its replacement that follows a point, if one does; a plain point is of none
-abbrev pub next_of_replacement : Elf → Point → Option Point
+abbrev pub next_of_replacement : Coded → Point → Option Point
 next_of_replacement o point = if is_plain point then None else next_point (texts_of o) (alternatives_of o) point
 
 -- where control comes behind a plain point, and behind the last point of a replacement
-abbrev pub place_behind : Elf → Point → Place
+abbrev pub place_behind : Coded → Point → Place
 place_behind o point = if is_plain point then behind point.place (decoded_insn o point).len else site_end o point
 
-abbrev pub after_by : Elf → Point → Option Point → List ℕ
+abbrev pub after_by : Coded → Point → Option Point → List ℕ
 after_by o point (Some next) = numbers_of o (next ∷ [])
 after_by o point None = arrive o (place_behind o point)
 
 -- the points that follow a point, whatever it does
-unfoldable pub after : Elf → Point → List ℕ
+unfoldable pub after : Coded → Point → List ℕ
 after o point = after_by o point (next_of_replacement o point)
 
 -- nothing follows it: behind it its section ends
-unfoldable pub is_at_end : Elf → Point → Bool
+unfoldable pub is_at_end : Coded → Point → Bool
 is_at_end o point = is_none (next_of_replacement o point) && not (is_boundary (texts_of o) (place_behind o point))
 
 -- the instruction ends at a place of a list
-abbrev pub ends_at : Elf → Point → List Place → Bool
+abbrev pub ends_at : Coded → Point → List Place → Bool
 ends_at o point places = list_any (same_place (behind point.place (decoded_insn o point).len)) places
 
 abbrev pub is_ud2 : Op → Bool
@@ -70,23 +70,23 @@ is_ud2 _ = false
 
 -- execution never passes it: a Ud2, or an instruction that ends at a place of `.discard.unreachable`, where no place
 -- of `.discard.reachable` is that end
-unfoldable pub is_dead_end : Elf → Point → Bool
+unfoldable pub is_dead_end : Coded → Point → Bool
 is_dead_end o point =
     not (is_padding o point)
-    && (not (ends_at o point (special_of o).after_reachable)
-    && (is_ud2 (decoded_insn o point).op || ends_at o point (special_of o).after_unreachable))
+    && (not (ends_at o point (special_of o.elf).after_reachable)
+    && (is_ud2 (decoded_insn o point).op || ends_at o point (special_of o.elf).after_unreachable))
 
 -- An IRET of a function that goes on right behind itself in that function: there are points after it, and all of them
 -- have its owner.
-abbrev pub goes_on_behind : Elf → Point → Option ℕ → List ℕ → Bool
+abbrev pub goes_on_behind : Coded → Point → Option ℕ → List ℕ → Bool
 goes_on_behind o point None next = false
 goes_on_behind o point (Some owner) [] = false
 goes_on_behind o point (Some owner) (q ∷ next) = list_all (λ r. same_owner (owner_of_point o (point_at o r)) (Some owner)) (q ∷ next)
 
-abbrev pub op_of : Elf → Point → Op → Op
+abbrev pub op_of : Coded → Point → Op → Op
 op_of o point Iret = if goes_on_behind o point (owner_of_point o point) (after o point) then IretNext else Iret
 op_of o point op = op
 
 -- the instruction of a point: as it is decoded, but for an IRET that goes on behind itself
-unfoldable pub insn_of_object : Elf → Point → Insn
+unfoldable pub insn_of_object : Coded → Point → Insn
 insn_of_object o point = let insn = decoded_insn o point in record { len = insn.len; op = op_of o point insn.op }

@@ -5,7 +5,7 @@ use Rattle.ot_base.specs.declared.place.Place.{Place}
 use Rattle.operation_defs.specs.declared.insn.Insn.{Insn}
 use Rattle.operation_defs.specs.declared.op.Op.{Op}
 use Rattle.operation_defs.specs.declared.op.Op.TheVariants.{Jmp, Jcc, JmpInd, Ret, RetImm, Iret, Switch}
-use Rattle.elf_objects.specs.Elf.{Elf}
+use Rattle.flow_defs.specs.Coded.{Coded}
 use Rattle.program_defs.specs.declared.flow.Edge.{Edge}
 use Rattle.program_defs.specs.declared.flow.EdgeKind.{EdgeKind}
 use Rattle.program_defs.specs.declared.flow.EdgeKind.TheVariants.{Next, Taken, Fixup, Table}
@@ -36,20 +36,20 @@ edges_to kind points = map (λ q. edge q kind) points
 
 -- The edges along a way to a place: one to each point where control may stand that comes there, and none where it would
 -- come into a site past its start.
-abbrev pub way_edges : Elf → Point → Place → Way → List Edge
+abbrev pub way_edges : Coded → Point → Place → Way → List Edge
 way_edges o point place (Along kind) = if is_into_site o point place then [] else edges_to kind (arrive o place)
 way_edges o point place _ = []
 
 -- where the static branches at a point lead, and the exception entries at it
-abbrev pub static_targets : Elf → Point → List Place
+abbrev pub static_targets : Coded → Point → List Place
 static_targets o point =
     if is_padding o point then []
-    else map (λ b. b.target) (filter (λ b. same_place b.code point.place) (special_of o).branches)
+    else map (λ b. b.target) (filter (λ b. same_place b.code point.place) (special_of o.elf).branches)
 
-abbrev pub fixups : Elf → Point → List Place
+abbrev pub fixups : Coded → Point → List Place
 fixups o point =
     if is_padding o point then []
-    else map (λ f. f.fixup) (filter (λ f. same_place f.insn point.place) (special_of o).fixes)
+    else map (λ f. f.fixup) (filter (λ f. same_place f.insn point.place) (special_of o.elf).fixes)
 
 abbrev pub is_some_place : List Place → Bool
 is_some_place [] = false
@@ -67,50 +67,50 @@ ends_flow _ = false
 
 -- Execution goes on behind the point: always behind the code of a static branch, which may be a jump or none, and else
 -- where the operation lets it and the point is no dead end.
-unfoldable pub goes_on : Elf → Point → Bool
+unfoldable pub goes_on : Coded → Point → Bool
 goes_on o point = is_some_place (static_targets o point) || (not (ends_flow (insn_of_object o point).op) && not (is_dead_end o point))
 
-abbrev pub next_edges : Elf → Point → List Edge
+abbrev pub next_edges : Coded → Point → List Edge
 next_edges o point = if goes_on o point then edges_to Next (after o point) else []
 
 -- the edges of a direct jump to a place
-abbrev pub jump_edges : Elf → Bool → Point → Place → List Edge
+abbrev pub jump_edges : Coded → Bool → Point → Place → List Edge
 jump_edges o crosses point place = way_edges o point place (branch_way o crosses Taken (owner_of_point o point) place)
 
-abbrev pub target_edges : Elf → Point → Target → List Edge
+abbrev pub target_edges : Coded → Point → Target → List Edge
 target_edges o point (Inside place) = jump_edges o true point place
 target_edges o point (Either place sym) = jump_edges o true point place
 target_edges o point _ = []
 
 -- the edges of a direct jump by where it goes; inside a replacement it stays with its owner
-abbrev pub aim_edges : Elf → Point → Aim → List Edge
+abbrev pub aim_edges : Coded → Point → Aim → List Edge
 aim_edges o point (At target) = target_edges o point target
 aim_edges o point (Within other) =
     if same_owner (owner_of_point o point) (owner_of_point o other) then edges_to Taken (numbers_of o (other ∷ [])) else []
 aim_edges o point (Behind place) = jump_edges o false point place
 
-abbrev pub branch_edges_by : Elf → Point → Insn → Op → List Edge
+abbrev pub branch_edges_by : Coded → Point → Insn → Op → List Edge
 branch_edges_by o point insn (Jmp rel wide) = aim_edges o point (aim o point insn)
 branch_edges_by o point insn (Jcc rel wide) = aim_edges o point (aim o point insn)
 branch_edges_by o point insn _ = []
 
-abbrev pub branch_edges : Elf → Point → List Edge
+abbrev pub branch_edges : Coded → Point → List Edge
 branch_edges o point = let insn = insn_of_object o point in branch_edges_by o point insn insn.op
 
 -- the edges of the static branches at a point, and of its exception entries
-abbrev pub listed_edges : Elf → EdgeKind → Point → List Place → List Edge
+abbrev pub listed_edges : Coded → EdgeKind → Point → List Place → List Edge
 listed_edges o kind point places = flat_map (λ place. way_edges o point place (listed_way o kind (owner_of_point o point) place)) places
 
 -- those of the jump table of an indirect jump, whose entries have the point's owner
-abbrev pub table_edges_by : Elf → Point → Op → List Edge
+abbrev pub table_edges_by : Coded → Point → Op → List Edge
 table_edges_by o point (JmpInd table) = flat_map (λ place. way_edges o point place (Along Table)) (table_of_point o point)
 table_edges_by o point _ = []
 
-abbrev pub table_edges : Elf → Point → List Edge
+abbrev pub table_edges : Coded → Point → List Edge
 table_edges o point = table_edges_by o point (insn_of_object o point).op
 
 -- all edges of a point; one of an unchecked function has none
-unfoldable pub goes : Elf → Point → List Edge
+unfoldable pub goes : Coded → Point → List Edge
 goes o point =
     if is_unchecked_point o point then []
     else next_edges o point

@@ -1,3 +1,4 @@
+pub mod Coded
 pub mod Code
 pub mod Owners
 pub mod Sites

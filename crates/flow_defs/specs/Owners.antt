@@ -4,6 +4,7 @@ use Rattle.std.specs.Prelude.{ℕ, ◌&&◌, not, Bool, false, Option, Some, Non
 use Rattle.std.specs.List.{list_any}
 use Rattle.ot_base.specs.declared.place.Place.{Place}
 use Rattle.elf_objects.specs.Elf.{Elf}
+use Rattle.flow_defs.specs.Coded.{Coded}
 use Rattle.symbols_relocs.specs.Functions.{starts_at, function_at}
 use Rattle.symbols_relocs.specs.Parts.{owner_at, owner_of, parent_of}
 use Rattle.special_sections.specs.Special.{special_of}
@@ -13,11 +14,11 @@ use Rattle.jump_tables.specs.Tables.{same_owner}
 use Rattle.flow_defs.specs.Code.{alternatives_of}
 
 -- the function of a point, and its owner: those of the place where it runs
-abbrev pub function_of_point : Elf → Point → Option ℕ
-function_of_point o point = function_at o (address_of_point (alternatives_of o) point)
+abbrev pub function_of_point : Coded → Point → Option ℕ
+function_of_point o point = function_at o.elf (address_of_point (alternatives_of o) point)
 
-abbrev pub owner_of_point : Elf → Point → Option ℕ
-owner_of_point o point = owner_at o (address_of_point (alternatives_of o) point)
+abbrev pub owner_of_point : Coded → Point → Option ℕ
+owner_of_point o point = owner_at o.elf (address_of_point (alternatives_of o) point)
 
 -- the owner of the function that starts at a place
 abbrev pub owner_of_start : Elf → Place → Option ℕ
@@ -32,8 +33,8 @@ abbrev pub is_unchecked : Elf → Option ℕ → Bool
 is_unchecked o None = false
 is_unchecked o (Some owner) = is_unchecked_owner o owner
 
-abbrev pub is_unchecked_point : Elf → Point → Bool
-is_unchecked_point o point = is_unchecked o (owner_of_point o point)
+abbrev pub is_unchecked_point : Coded → Point → Bool
+is_unchecked_point o point = is_unchecked o.elf (owner_of_point o point)
 
 -- an unchecked function starts at a place: this one
 unfoldable pub unchecked_start : Elf → Place → Option ℕ

@@ -6,6 +6,7 @@ use Rattle.ot_base.specs.declared.place.Place.{Place}
 use Rattle.ot_base.specs.Section.{TextSection}
 use Rattle.ot_base.specs.NameLists.{NameLists}
 use Rattle.elf_objects.specs.Elf.{Elf}
+use Rattle.flow_defs.specs.Coded.{Coded}
 use Rattle.elf_objects.specs.Contents.{section_at, symbol_at}
 use Rattle.program_defs.specs.declared.flow.Marks.{Marks}
 use Rattle.program_defs.specs.declared.flow.Role.{Role}
@@ -28,17 +29,17 @@ use Rattle.flow_defs.specs.Hints.{hint_of, save_of}
 use Rattle.flow_defs.specs.Returning.{returns_at_last}
 
 -- the plain points at the starts of functions that are neither parts nor unchecked
-abbrev pub is_entry_point : Elf → Point → Bool
-is_entry_point o point = is_plain point && is_entry o point.place
+abbrev pub is_entry_point : Coded → Point → Bool
+is_entry_point o point = is_plain point && is_entry o.elf point.place
 
-unfoldable pub entries_of : Elf → List ℕ
+unfoldable pub entries_of : Coded → List ℕ
 entries_of o = numbers_of o (filter (is_entry_point o) (points_of_object o))
 
 -- the plain point whose instruction ends where a plain point begins
-abbrev pub is_right_before : Elf → Point → Point → Bool
+abbrev pub is_right_before : Coded → Point → Point → Bool
 is_right_before o point other = is_plain other && same_place (behind other.place (decoded_insn o other).len) point.place
 
-unfoldable pub previous_of : Elf → Point → Option ℕ
+unfoldable pub previous_of : Coded → Point → Option ℕ
 previous_of o point =
     if is_plain point then option_and_then (number_of o) (find (is_right_before o point) (points_of_object o)) else None
 
@@ -49,15 +50,15 @@ never_returns_by o lists sym = set.contains lists.never_returning (symbol_at o s
 abbrev pub is_fentry : Elf → ℕ → Bool
 is_fentry o sym = bytes_eq (symbol_at o sym).name (codes "__fentry__")
 
-abbrev pub is_fentry_function : Elf → Option ℕ → Bool
-is_fentry_function o (Some f) = is_fentry o f
+abbrev pub is_fentry_function : Coded → Option ℕ → Bool
+is_fentry_function o (Some f) = is_fentry o.elf f
 is_fentry_function o None = false
 
 -- it calls `__fentry__`, be it outside or a function of the object
-abbrev pub calls_fentry_by : Elf → Role → Bool
-calls_fentry_by o (CallOut sym) = is_fentry o sym
-calls_fentry_by o (CallEither entry sym) = is_fentry o sym
-calls_fentry_by o (CallIn entry) = is_fentry_function o (starts_at o (point_at o entry).place)
+abbrev pub calls_fentry_by : Coded → Role → Bool
+calls_fentry_by o (CallOut sym) = is_fentry o.elf sym
+calls_fentry_by o (CallEither entry sym) = is_fentry o.elf sym
+calls_fentry_by o (CallIn entry) = is_fentry_function o (starts_at o.elf (point_at o entry).place)
 calls_fentry_by o _ = false
 
 -- the text sections with their sizes
@@ -75,7 +76,7 @@ abbrev pub no_marks : Marks
 no_marks = record { bad = false; past_end = false; into_site = false; into_function = false }
 
 -- the points of an object and how control goes between them, before it is asked from where a return may come
-unfoldable pub graph_of : Elf → NameLists → Program
+unfoldable pub graph_of : Coded → NameLists → Program
 graph_of o lists = record {
   count = length (points_of_object o);
   insn = λ q. insn_of_object o (point_at o q);
@@ -95,22 +96,22 @@ graph_of o lists = record {
   after = λ q. after o (point_at o q);
   arrive = arrive o;
   entries = entries_of o;
-  never_returns = never_returns_by o lists;
+  never_returns = never_returns_by o.elf lists;
   calls_fentry = λ q. calls_fentry_by o (role_of o (point_at o q));
   may_return = λ q. false;
   sites = sites_of o;
-  texts = text_sections_of o;
-  unsized = unsized_of o;
+  texts = text_sections_of o.elf;
+  unsized = unsized_of o.elf;
 }
 
 -- the same, with the points from which a return may come
-unfoldable pub returning_graph : Elf → NameLists → Program
+unfoldable pub returning_graph : Coded → NameLists → Program
 returning_graph o lists = let g = graph_of o lists in record g { may_return = returns_at_last g }
 
 -- whether a call of a point can come back; what isn't a call passes
-abbrev pub comes_back : Elf → NameLists → Point → Bool
+abbrev pub comes_back : Coded → NameLists → Point → Bool
 comes_back o lists point = target_may_return (returning_graph o lists) (role_of o point)
 
 -- the program of an object, under lists of names
-unfoldable pub program_of : Elf → NameLists → Program
+unfoldable pub program_of : Coded → NameLists → Program
 program_of o lists = record (returning_graph o lists) { marks = λ q. marks_of o (point_at o q) (comes_back o lists (point_at o q)) }

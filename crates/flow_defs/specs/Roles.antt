@@ -4,7 +4,7 @@ use Rattle.ot_base.specs.declared.place.Place.{Place}
 use Rattle.operation_defs.specs.declared.insn.Insn.{Insn}
 use Rattle.operation_defs.specs.declared.op.Op.{Op}
 use Rattle.operation_defs.specs.declared.op.Op.TheVariants as ops
-use Rattle.elf_objects.specs.Elf.{Elf}
+use Rattle.flow_defs.specs.Coded.{Coded}
 use Rattle.program_defs.specs.declared.flow.EdgeKind.TheVariants.{Taken}
 use Rattle.program_defs.specs.declared.flow.Role.{Role}
 use Rattle.program_defs.specs.declared.flow.Role.TheVariants.{Plain, CallIn, CallEither, CallOut, CallAny, Return, JumpOut, JumpAny, Switch}
@@ -24,7 +24,7 @@ use Rattle.flow_defs.specs.Targets.{aim}
 use Rattle.flow_defs.specs.Ways.{branch_way}
 
 -- the number of the plain point at a place
-abbrev pub plain_number : Elf → Place → ℕ
+abbrev pub plain_number : Coded → Place → ℕ
 plain_number o place = unwrap_or (number_of o (plain_point place)) 0
 
 -- a call of an entry, by a WEAK symbol or not
@@ -32,16 +32,16 @@ abbrev pub entry_call : ℕ → Option ℕ → Role
 entry_call entry None = CallIn entry
 entry_call entry (Some sym) = CallEither entry sym
 
-abbrev pub call_by : Elf → Place → Option ℕ → Option ℕ → Role
+abbrev pub call_by : Coded → Place → Option ℕ → Option ℕ → Role
 call_by o place weak (Some f) = CallOut f
-call_by o place weak None = if is_entry o place then entry_call (plain_number o place) weak else Plain
+call_by o place weak None = if is_entry o.elf place then entry_call (plain_number o place) weak else Plain
 
 -- a call of a place, by a WEAK symbol or not: of code outside where an unchecked function starts there
-abbrev pub place_call : Elf → Place → Option ℕ → Role
-place_call o place weak = if is_boundary (texts_of o) place then call_by o place weak (unchecked_start o place) else Plain
+abbrev pub place_call : Coded → Place → Option ℕ → Role
+place_call o place weak = if is_boundary (texts_of o) place then call_by o place weak (unchecked_start o.elf place) else Plain
 
 -- what a direct call is by the target of its place
-abbrev pub call_of_target : Elf → Target → Role
+abbrev pub call_of_target : Coded → Target → Role
 call_of_target o (Inside place) = place_call o place None
 call_of_target o (Either place sym) = place_call o place (Some sym)
 call_of_target o (Outside sym) = CallOut sym
@@ -50,7 +50,7 @@ call_of_target o ThunkReturn = Plain
 call_of_target o Bad = Plain
 
 -- what a direct call is by where it goes; padding is no place to call
-abbrev pub call_role : Elf → Aim → Role
+abbrev pub call_role : Coded → Aim → Role
 call_role o (At target) = call_of_target o target
 call_role o (Within point) = if is_padding o point then Plain else place_call o point.place None
 call_role o (Behind place) = place_call o place None
@@ -63,11 +63,11 @@ jump_by_way (ways.Outside f) weak = JumpOut f
 jump_by_way (ways.Along kind) None = Plain
 jump_by_way (ways.Along kind) (Some sym) = JumpOut sym
 
-abbrev pub place_jump : Elf → Bool → Point → Place → Option ℕ → Role
+abbrev pub place_jump : Coded → Bool → Point → Place → Option ℕ → Role
 place_jump o crosses point place weak = jump_by_way (branch_way o crosses Taken (owner_of_point o point) place) weak
 
 -- what a direct jump is by the target of its place
-abbrev pub jump_of_target : Elf → Point → Target → Role
+abbrev pub jump_of_target : Coded → Point → Target → Role
 jump_of_target o point (Inside place) = place_jump o true point place None
 jump_of_target o point (Either place sym) = place_jump o true point place (Some sym)
 jump_of_target o point (Outside sym) = JumpOut sym
@@ -76,21 +76,21 @@ jump_of_target o point ThunkReturn = Return
 jump_of_target o point Bad = Plain
 
 -- what a direct jump is by where it goes
-abbrev pub jump_role : Elf → Point → Aim → Role
+abbrev pub jump_role : Coded → Point → Aim → Role
 jump_role o point (At target) = jump_of_target o point target
 jump_role o point (Within other) = Plain
 jump_role o point (Behind place) = place_jump o false point place None
 
 -- the entries of the jump table of a point
-unfoldable pub table_of_point : Elf → Point → List Place
-table_of_point o point = table_of o (texts_of o) point.place (owner_of_point o point)
+unfoldable pub table_of_point : Coded → Point → List Place
+table_of_point o point = table_of o.elf (texts_of o) point.place (owner_of_point o point)
 
 -- an indirect jump through no recognised table may go anywhere
 abbrev pub jump_by_table : List Place → Role
 jump_by_table [] = JumpAny
 jump_by_table (place ∷ places) = Plain
 
-abbrev pub role_by : Elf → Point → Insn → Op → Role
+abbrev pub role_by : Coded → Point → Insn → Op → Role
 role_by o point insn (ops.Call rel) = call_role o (aim o point insn)
 role_by o point insn ops.CallInd = CallAny
 role_by o point insn (ops.Jmp rel wide) = jump_role o point (aim o point insn)
@@ -103,5 +103,5 @@ role_by o point insn ops.Switch = Switch
 role_by o point insn _ = Plain
 
 -- what a point is to its function
-unfoldable pub role_of : Elf → Point → Role
+unfoldable pub role_of : Coded → Point → Role
 role_of o point = let insn = insn_of_object o point in role_by o point insn insn.op

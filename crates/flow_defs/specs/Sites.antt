@@ -1,7 +1,7 @@
 -- The alternatives sites of an object, as a program has them.
 use Rattle.std.specs.Prelude.{ℕ, ◌==◌, ◌&&◌, not, Bool, false, List, find, filter_map, flat_map, map, length, Option, Some, None, option_map}
 use Rattle.ot_base.specs.declared.place.Place.{Place}
-use Rattle.elf_objects.specs.Elf.{Elf}
+use Rattle.flow_defs.specs.Coded.{Coded}
 use Rattle.symbols_relocs.specs.Places.{same_place}
 use Rattle.special_sections.specs.declared.entries.AltEntry.{AltEntry}
 use Rattle.alternatives.specs.declared.texts.SectionText.{SectionText}
@@ -12,9 +12,9 @@ use Rattle.flow_defs.specs.Code.{alternatives_of, texts_of, is_plain}
 
 -- the places of a text, and of all
 abbrev pub places_of_text : SectionText → List Place
-places_of_text t = map (λ off. record { sec = t.sec; off = off }) (below (length t.text))
+places_of_text t = map (λ off. record { sec = t.sec; off = off }) (below (length t.text.bytes))
 
-abbrev pub places_of : Elf → List Place
+abbrev pub places_of : Coded → List Place
 places_of o = flat_map places_of_text (texts_of o)
 
 abbrev pub site_of_entry : AltEntry → Site
@@ -25,15 +25,15 @@ abbrev pub begins_at : Place → AltEntry → Bool
 begins_at place a = counts a && same_place a.original place
 
 -- the site that starts at a place
-abbrev pub site_starting_at : Elf → Place → Option Site
+abbrev pub site_starting_at : Coded → Place → Option Site
 site_starting_at o place = option_map site_of_entry (find (begins_at place) (alternatives_of o))
 
 -- the sites, by their starts
-unfoldable pub sites_of : Elf → List Site
+unfoldable pub sites_of : Coded → List Site
 sites_of o = filter_map (site_starting_at o) (places_of o)
 
 -- the site that holds a place
-unfoldable pub site_at : Elf → Place → Option Site
+unfoldable pub site_at : Coded → Place → Option Site
 site_at o place = find (λ site. in_site site place) (sites_of o)
 
 -- a point is one of the original code of a site
@@ -46,5 +46,5 @@ enters_site None point place = false
 enters_site (Some site) point place = not (same_place site.start place) && not (is_original_of site point)
 
 -- control would come from a point into a site, past its start
-abbrev pub is_into_site : Elf → Point → Place → Bool
+abbrev pub is_into_site : Coded → Point → Place → Bool
 is_into_site o point place = enters_site (site_at o place) point place

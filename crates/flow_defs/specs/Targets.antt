@@ -5,6 +5,7 @@ use Rattle.operation_defs.specs.declared.insn.Insn.{Insn}
 use Rattle.operation_defs.specs.declared.op.Op.{Op}
 use Rattle.operation_defs.specs.declared.op.Op.TheVariants.{Call, Jmp, Jcc}
 use Rattle.elf_objects.specs.Elf.{Elf}
+use Rattle.flow_defs.specs.Coded.{Coded}
 use Rattle.object_places.specs.Places.{offset_of, reloc_at}
 use Rattle.symbols_relocs.specs.declared.target.Target.TheVariants.{Bad}
 use Rattle.symbols_relocs.specs.Places.{same_place}
@@ -41,7 +42,7 @@ relative_place place len d = option_map (λ off. record { sec = place.sec; off =
 
 -- Without a relocation a replacement's code can only mean itself, since it runs elsewhere than it stands: a point of
 -- the same replacement, or its end, which is its padding, or without padding the end of its site.
-abbrev pub own_aim : Elf → Point → Option Place → Aim
+abbrev pub own_aim : Coded → Point → Option Place → Aim
 own_aim o point None = At Bad
 own_aim o point (Some place) =
     let other : Point = record { place = place; variant = point.variant } in
@@ -49,12 +50,12 @@ own_aim o point (Some place) =
     else if same_place place (replacement_end o point) then Behind (site_end o point)
     else At Bad
 
-abbrev pub aim_by : Elf → Point → Insn → Option Displacement → Aim
+abbrev pub aim_by : Coded → Point → Insn → Option Displacement → Aim
 aim_by o point insn None = At Bad
 aim_by o point insn (Some d) =
-    if not (is_plain point) && lacks_reloc o point.place insn.len d then own_aim o point (relative_place point.place insn.len d)
-    else At (branch_target o point.place insn)
+    if not (is_plain point) && lacks_reloc o.elf point.place insn.len d then own_aim o point (relative_place point.place insn.len d)
+    else At (branch_target o.elf point.place insn)
 
 -- where a direct call or branch at a point goes
-unfoldable pub aim : Elf → Point → Insn → Aim
+unfoldable pub aim : Coded → Point → Insn → Aim
 aim o point insn = aim_by o point insn (displacement_of insn.op)

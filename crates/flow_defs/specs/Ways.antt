@@ -2,6 +2,7 @@
 use Rattle.std.specs.Prelude.{ℕ, ◌&&◌, not, Bool, true, false, Option, Some, None, if◌then◌else◌}
 use Rattle.ot_base.specs.declared.place.Place.{Place}
 use Rattle.elf_objects.specs.Elf.{Elf}
+use Rattle.flow_defs.specs.Coded.{Coded}
 use Rattle.program_defs.specs.declared.flow.EdgeKind.{EdgeKind}
 use Rattle.program_defs.specs.declared.flow.EdgeKind.TheVariants.{Sibling}
 use Rattle.symbols_relocs.specs.Parts.{owner_at}
@@ -22,21 +23,21 @@ is_crossing o (Some one) (Some other) = false
 -- The way from code of an owner to a boundary at which no unchecked function starts: along an edge of the kind to code of the
 -- same owner, and by a tail call to an entry of another; where crossing is allowed, along an edge of the kind also
 -- between a checked function and code of no function.
-abbrev pub checked_way : Elf → Bool → EdgeKind → Option ℕ → Place → Way
+abbrev pub checked_way : Coded → Bool → EdgeKind → Option ℕ → Place → Way
 checked_way o crosses kind from place =
-    if same_owner from (owner_at o place) then Along kind
-    else if is_entry o place then Along Sibling
-    else if crosses && is_crossing o from (owner_at o place) then Along kind
+    if same_owner from (owner_at o.elf place) then Along kind
+    else if is_entry o.elf place then Along Sibling
+    else if crosses && is_crossing o.elf from (owner_at o.elf place) then Along kind
     else Bad
 
-abbrev pub way_by : Elf → Bool → EdgeKind → Option ℕ → Place → Option ℕ → Way
+abbrev pub way_by : Coded → Bool → EdgeKind → Option ℕ → Place → Option ℕ → Way
 way_by o crosses kind from place (Some f) = Outside f
 way_by o crosses kind from place None = checked_way o crosses kind from place
 
 -- the way of a branch from code of an owner to a place; the start of an unchecked function is like code outside
-unfoldable pub branch_way : Elf → Bool → EdgeKind → Option ℕ → Place → Way
+unfoldable pub branch_way : Coded → Bool → EdgeKind → Option ℕ → Place → Way
 branch_way o crosses kind from place =
-    if is_boundary (texts_of o) place then way_by o crosses kind from place (unchecked_start o place) else Bad
+    if is_boundary (texts_of o) place then way_by o crosses kind from place (unchecked_start o.elf place) else Bad
 
 -- a static branch or an exception entry doesn't go outside
 abbrev pub inside_only : Way → Way
@@ -45,7 +46,7 @@ inside_only (Outside f) = Bad
 inside_only (Along kind) = Along kind
 
 -- the way of a static branch or an exception entry
-abbrev pub listed_way : Elf → EdgeKind → Option ℕ → Place → Way
+abbrev pub listed_way : Coded → EdgeKind → Option ℕ → Place → Way
 listed_way o kind from place = inside_only (branch_way o true kind from place)
 
 abbrev pub is_bad : Way → Bool

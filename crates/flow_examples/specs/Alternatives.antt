@@ -1,7 +1,7 @@
 -- A site over a call, with a shorter replacement.
 use Rattle.std.specs.Prelude.{◌≡◌, ℕ, map, true, false, List, [], ◌∷◌, ◌++◌, Option, Some, None, codes}
 use Rattle.ot_base.specs.NameLists.{NameLists}
-use Rattle.elf_objects.specs.Elf.{Elf}
+use Rattle.flow_defs.specs.Coded.{Coded}
 use Rattle.operation_defs.specs.declared.insn.Insn.{Insn}
 use Rattle.operation_defs.specs.declared.op.Op.TheVariants.{Nop}
 use Rattle.state_defs.specs.declared.state.HintState.TheVariants.{Restore, Save}
@@ -12,7 +12,7 @@ use Rattle.flow_defs.specs.Program.{program_of}
 use Rattle.flow_examples.specs.Objects.{code_section, data_section, edges_of_points, fine, for_section, function_symbol, marks_of_points, object, outside, pair_at, reloc, returning_points, roles_of_points, zeros}
 
 -- f calls through a pointer and returns; a site over the call has a shorter replacement, pushf and a pop
-abbrev pub patched_call : Elf
+abbrev pub patched_call : Coded
 patched_call = object
     (code_section (codes ".text") 7 (0xFF ∷ 0x15 ∷ 0 ∷ 0 ∷ 0 ∷ 0 ∷ 0xC3 ∷ [])
     ∷ code_section (codes ".altinstr_replacement") 2 (0x9C ∷ 0x58 ∷ [])
@@ -33,7 +33,7 @@ pub record HasPatchedCall (lists : NameLists) : Type 0 where
 
 -- f is a no-op of 5 bytes and a return; over the no-op three replacements: a branch over a no-op and another no-op, with
 -- padding; a jump to the replacement's end, and three no-ops; a jump to the end, which is padding
-abbrev pub patched_jumps : Elf
+abbrev pub patched_jumps : Coded
 patched_jumps = object
     (code_section (codes ".text") 6 (0x0F ∷ 0x1F ∷ 0x44 ∷ 0 ∷ 0 ∷ 0xC3 ∷ [])
     ∷ code_section (codes ".altinstr_replacement") 11 (0x74 ∷ 1 ∷ 0x90 ∷ 0x90 ∷ 0xEB ∷ 3 ∷ 0x90 ∷ 0x90 ∷ 0x90 ∷ 0xEB ∷ 0 ∷ [])
@@ -57,7 +57,7 @@ pub record HasPatchedJumps (lists : NameLists) : Type 0 where
 
 -- f keeps a frame of 16 bytes over 9 bytes that a replacement of no-ops may stand for; both have a SAVE at the address 8, and a
 -- RESTORE stands at 14
-abbrev pub saves : Elf
+abbrev pub saves : Coded
 saves = object
     (code_section (codes ".text") 21
     (0x55 ∷ 0x48 ∷ 0x89 ∷ 0xE5 ∷ 0x48 ∷ 0x83 ∷ 0xEC ∷ 0x10 ∷ 0x90 ∷ 0x48 ∷ 0x83 ∷ 0xC4 ∷ 0x10 ∷ 0x90 ∷ 0x90 ∷ 0x48 ∷ 0x83 ∷ 0xC4 ∷ 0x10 ∷ 0x5D ∷ 0xC3 ∷ [])

@@ -2,7 +2,7 @@
 use Rattle.std.specs.Prelude.{◌≡◌, ℕ, negsuc, true, false, List, [], ◌∷◌, ◌++◌, Option, Some, None, codes}
 use Rattle.ot_base.specs.NameLists.{NameLists}
 use Rattle.elf_objects.specs.declared.symbol.Reloc.{Reloc}
-use Rattle.elf_objects.specs.Elf.{Elf}
+use Rattle.flow_defs.specs.Coded.{Coded}
 use Rattle.program_defs.specs.declared.flow.EdgeKind.TheVariants.{Next, Taken, Fixup, Table, Sibling}
 use Rattle.program_defs.specs.declared.flow.Role.TheVariants.{Plain, CallIn, CallEither, CallOut, CallAny, Return, JumpOut, JumpAny, Switch}
 use Rattle.program_defs.specs.Program.{edge}
@@ -16,7 +16,7 @@ before offset sym = record { offset = offset; kind = 4; sym = sym; addend = negs
 -- f calls and jumps by relocations: at 0 a call of w, a WEAK function at 48, at 5 of the part f.cold at 49, at 10 of the
 -- return thunk, at 15 of an indirect thunk, at 20 of g outside, at 25 a conditional jump to the return thunk, at 31 one to g,
 -- at 37 a jump to w, at 42 a call of panic, and at 47 a return
-abbrev pub by_relocation : Elf
+abbrev pub by_relocation : Coded
 by_relocation = object
     (code_section (codes ".text") 50
     (0xE8 ∷ zeros 4 ++ 0xE8 ∷ zeros 4 ++ 0xE8 ∷ zeros 4 ++ 0xE8 ∷ zeros 4 ++ 0xE8 ∷ zeros 4

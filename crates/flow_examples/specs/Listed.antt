@@ -1,7 +1,7 @@
 -- A static branch into a cold part, an exception entry, and a jump table.
 use Rattle.std.specs.Prelude.{◌≡◌, ℕ, true, false, List, [], ◌∷◌, ◌++◌, Option, Some, None, codes}
 use Rattle.ot_base.specs.NameLists.{NameLists}
-use Rattle.elf_objects.specs.Elf.{Elf}
+use Rattle.flow_defs.specs.Coded.{Coded}
 use Rattle.program_defs.specs.declared.flow.EdgeKind.TheVariants.{Next, Taken, Fixup, Table, Sibling}
 use Rattle.program_defs.specs.declared.flow.Role.TheVariants.{Plain, CallIn, CallEither, CallOut, CallAny, Return, JumpOut, JumpAny, Switch}
 use Rattle.program_defs.specs.Program.{edge}
@@ -9,7 +9,7 @@ use Rattle.flow_defs.specs.Program.{program_of}
 use Rattle.flow_examples.specs.Objects.{code_section, data_section, edges_of_points, fine, for_section, function_symbol, marks_of_points, object, outside, pair_at, reloc, returning_points, roles_of_points, zeros}
 
 -- f is push, a no-op of 5 bytes, pop, ret; its cold part is a no-op and a jump back behind the static branch at the no-op
-abbrev pub static_branch : Elf
+abbrev pub static_branch : Coded
 static_branch = object
     (code_section (codes ".text") 8 (0x53 ∷ 0x0F ∷ 0x1F ∷ 0x44 ∷ 0 ∷ 0 ∷ 0x5B ∷ 0xC3 ∷ [])
     ∷ code_section (codes ".text.unlikely") 6 (0x90 ∷ 0xE9 ∷ zeros 4)
@@ -26,7 +26,7 @@ pub record HasStaticBranch (lists : NameLists) : Type 0 where
   pub entries : (program_of static_branch lists).entries ≡ 0 ∷ []
 
 -- f is push, a load that may fault, pop, ret; the fault goes on at the ret
-abbrev pub exception_entry : Elf
+abbrev pub exception_entry : Coded
 exception_entry = object
     (code_section (codes ".text") 6 (0x53 ∷ 0x48 ∷ 0x8B ∷ 7 ∷ 0x5B ∷ 0xC3 ∷ []) ∷ data_section (codes "__ex_table") 12 (zeros 12) ∷ [])
     (for_section 1 ∷ function_symbol (codes "f") 1 0 6 ∷ [])
@@ -37,7 +37,7 @@ pub record HasExceptionEntry (lists : NameLists) : Type 0 where
   pub marks : marks_of_points (program_of exception_entry lists) ≡ (fine ∷ fine ∷ fine ∷ fine ∷ [])
 
 -- f jumps by a table of three returns; g's table would begin right behind, so the fourth address is none of f's
-abbrev pub jump_table : Elf
+abbrev pub jump_table : Coded
 jump_table = object
     (code_section (codes ".text") 18 (0xFF ∷ 0x24 ∷ 0xC5 ∷ 0 ∷ 0 ∷ 0 ∷ 0 ∷ 0xC3 ∷ 0xC3 ∷ 0xC3 ∷ 0xFF ∷ 0x24 ∷ 0xC5 ∷ 0 ∷ 0 ∷ 0 ∷ 0 ∷ 0xC3 ∷ [])
     ∷ data_section (codes ".rodata") 32 (zeros 32)

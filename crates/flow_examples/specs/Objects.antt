@@ -2,7 +2,9 @@
 use Rattle.std.specs.Prelude.{ℕ, ◌+◌, Bool, false, List, [], ◌∷◌, None, map, pos, replicate}
 use Rattle.elf_objects.specs.declared.symbol.Home.TheVariants as homes
 use Rattle.elf_objects.specs.declared.symbol.Reloc.{Reloc}
-use Rattle.elf_objects.specs.Elf.{Elf, SectionEntry, SymbolEntry}
+use Rattle.elf_objects.specs.Elf.{SectionEntry, SymbolEntry}
+use Rattle.flow_defs.specs.Coded.{Coded, coded_by}
+use Rattle.x86_map.specs.declared.map.Map.TheVariants.{Base}
 use Rattle.elf_objects.specs.Contents.{no_section, no_symbol}
 use Rattle.program_defs.specs.declared.flow.Edge.{Edge}
 use Rattle.program_defs.specs.declared.flow.Role.{Role}
@@ -29,8 +31,9 @@ outside name = record no_symbol { name = name; bind = 1 }
 abbrev pub reloc : ℕ → ℕ → ℕ → ℕ → Reloc
 reloc offset kind sym addend = record { offset = offset; kind = kind; sym = sym; addend = pos addend }
 
-abbrev pub object : List SectionEntry → List SymbolEntry → List (List Reloc) → Elf
-object sections symbols relocs = record { bytes = []; headers_at = 0; name_table = 0; sections = no_section ∷ sections; symbol_table = None; symbols = no_symbol ∷ symbols; relocs = [] ∷ relocs }
+-- read by the base map
+abbrev pub object : List SectionEntry → List SymbolEntry → List (List Reloc) → Coded
+object sections symbols relocs = coded_by Base (record { bytes = []; headers_at = 0; name_table = 0; sections = no_section ∷ sections; symbol_table = None; symbols = no_symbol ∷ symbols; relocs = [] ∷ relocs })
 
 -- what the points of a program have, by number
 abbrev pub edges_of_points : Program → List (List Edge)

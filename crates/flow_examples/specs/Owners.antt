@@ -1,7 +1,7 @@
 -- Whose code is whose: unchecked functions, code without owner, dead ends, and IRETs.
 use Rattle.std.specs.Prelude.{◌≡◌, ℕ, map, negsuc, true, false, List, [], ◌∷◌, ◌++◌, Option, Some, None, codes}
 use Rattle.ot_base.specs.NameLists.{NameLists}
-use Rattle.elf_objects.specs.Elf.{Elf}
+use Rattle.flow_defs.specs.Coded.{Coded}
 use Rattle.operation_defs.specs.declared.insn.Insn.{Insn}
 use Rattle.operation_defs.specs.declared.op.Op.TheVariants.{Iret, IretNext, Ret}
 use Rattle.program_defs.specs.declared.flow.EdgeKind.TheVariants.{Next, Taken, Fixup, Table, Sibling}
@@ -12,7 +12,7 @@ use Rattle.flow_examples.specs.Objects.{code_section, data_section, edges_of_poi
 
 -- f is listed as one without a standard frame, so neither it nor its part f.cold is checked. g jumps to f, calls it, and
 -- jumps to its part, which is no start of an entry but one of an unchecked function.
-abbrev pub unchecked : Elf
+abbrev pub unchecked : Coded
 unchecked = object
     (code_section (codes ".text") 16 (0x74 ∷ 12 ∷ 0xE8 ∷ 7 ∷ 0 ∷ 0 ∷ 0 ∷ 0x74 ∷ 6 ∷ 0x90 ∷ 0xC3 ∷ 0x90 ∷ 0x90 ∷ 0xC3 ∷ 0x90 ∷ 0xC3 ∷ [])
     ∷ data_section (codes ".discard.func_stack_frame_non_standard") 8 (zeros 8)
@@ -29,7 +29,7 @@ pub record HasUnchecked (lists : NameLists) : Type 0 where
   pub entries : (program_of unchecked lists).entries ≡ 0 ∷ []
 
 -- f branches into code of no function, which comes back into its middle
-abbrev pub without_owner : Elf
+abbrev pub without_owner : Coded
 without_owner = object
     (code_section (codes ".text") 8 (0x0F ∷ 0x84 ∷ zeros 4 ++ 0x90 ∷ 0xC3 ∷ []) ∷ code_section (codes ".altinstr_aux") 5 (0xE9 ∷ zeros 4) ∷ [])
     (for_section 1 ∷ for_section 2 ∷ function_symbol (codes "f") 1 0 8 ∷ [])
@@ -42,7 +42,7 @@ pub record HasCodeWithoutOwner (lists : NameLists) : Type 0 where
 
 -- f is two undefined instructions, the second of which is listed as one behind which code goes on, a no-op that is listed as
 -- one behind which it doesn't, and a return
-abbrev pub dead_ends : Elf
+abbrev pub dead_ends : Coded
 dead_ends = object
     (code_section (codes ".text") 6 (0x0F ∷ 0x0B ∷ 0x0F ∷ 0x0B ∷ 0x90 ∷ 0xC3 ∷ [])
     ∷ data_section (codes ".discard.reachable") 4 (zeros 4)
@@ -56,7 +56,7 @@ pub record HasDeadEnds (lists : NameLists) : Type 0 where
   pub edges : edges_of_points (program_of dead_ends lists) ≡ ([] ∷ (edge 2 Next ∷ []) ∷ [] ∷ [] ∷ [])
 
 -- f executes an IRET and goes on; g ends with one
-abbrev pub irets : Elf
+abbrev pub irets : Coded
 irets = object (code_section (codes ".text") 5 (0x48 ∷ 0xCF ∷ 0xC3 ∷ 0x48 ∷ 0xCF ∷ []) ∷ [])
     (function_symbol (codes "f") 1 0 3 ∷ function_symbol (codes "g") 1 3 2 ∷ []) ([] ∷ [])
 

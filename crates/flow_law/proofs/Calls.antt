@@ -7,7 +7,7 @@ use Rattle.ot_base.specs.NameLists.{NameLists}
 use Rattle.operation_defs.specs.declared.insn.Insn.{Insn}
 use Rattle.operation_defs.specs.declared.op.Op.{Op}
 use Rattle.operation_defs.specs.declared.op.Op.TheVariants as ops
-use Rattle.elf_objects.specs.Elf.{Elf}
+use Rattle.flow_defs.specs.Coded.{Coded}
 use Rattle.program_defs.specs.declared.flow.EdgeKind.TheVariants.{Fixup, Next, Taken}
 use Rattle.program_defs.specs.Program.{IsPoint, edge, entry_points, is_call, is_call_op}
 use Rattle.symbols_relocs.specs.declared.target.Target.{Target}
@@ -37,7 +37,7 @@ jump_is_none (ways.Outside f) weak = refl
 jump_is_none (ways.Along kind) None = refl
 jump_is_none (ways.Along kind) (Some sym) = refl
 
-target_is_none : (o : Elf) (point : Point) (t : Target) → is_call (jump_of_target o point t) ≡ false
+target_is_none : (o : Coded) (point : Point) (t : Target) → is_call (jump_of_target o point t) ≡ false
 target_is_none o point (targets.Inside place) = jump_is_none (branch_way o true Taken (owner_of_point o point) place) None
 target_is_none o point (targets.Either place sym) = jump_is_none (branch_way o true Taken (owner_of_point o point) place) (Some sym)
 target_is_none o point (targets.Outside sym) = refl
@@ -45,7 +45,7 @@ target_is_none o point targets.ThunkIndirect = refl
 target_is_none o point targets.ThunkReturn = refl
 target_is_none o point targets.Bad = refl
 
-aim_is_none : (o : Elf) (point : Point) (a : Aim) → is_call (jump_role o point a) ≡ false
+aim_is_none : (o : Coded) (point : Point) (a : Aim) → is_call (jump_role o point a) ≡ false
 aim_is_none o point (aims.At t) = target_is_none o point t
 aim_is_none o point (aims.Within other) = refl
 aim_is_none o point (aims.Behind place) = jump_is_none (branch_way o false Taken (owner_of_point o point) place) None
@@ -55,7 +55,7 @@ table_is_none [] = refl
 table_is_none (place ∷ places) = refl
 
 -- so the role of a call is that of a call
-call_by_op : (o : Elf) (point : Point) (insn : Insn) (op : Op) → is_call (role_by o point insn op) ≡ true → is_call_op op ≡ true
+call_by_op : (o : Coded) (point : Point) (insn : Insn) (op : Op) → is_call (role_by o point insn op) ≡ true → is_call_op op ≡ true
 call_by_op o point insn (ops.Call rel) e = refl
 call_by_op o point insn ops.CallInd e = refl
 call_by_op o point insn (ops.Jmp rel wide) e = absurd (false≢true (sym (aim_is_none o point (aim o point insn)) ∙ e))
@@ -122,20 +122,20 @@ call_goes_on ops.Int3 e = refl
 call_goes_on ops.Stac e = refl
 call_goes_on ops.Clac e = refl
 
-passes_on : (o : Elf) (point : Point) → ends_flow (insn_of_object o point).op ≡ false → is_dead_end o point ≡ false → goes_on o point ≡ true
+passes_on : (o : Coded) (point : Point) → ends_flow (insn_of_object o point).op ≡ false → is_dead_end o point ≡ false → goes_on o point ≡ true
 unfolding goes_on
 passes_on o point flows alive =
     or_right (is_some_place (static_targets o point)) (not (ends_flow (insn_of_object o point).op) && not (is_dead_end o point))
     (and_from _ _ (not_from_false _ flows) (not_from_false _ alive))
 
-next_goes : (o : Elf) (point : Point) (r : ℕ) → is_unchecked_point o point ≡ false → goes_on o point ≡ true → Contains (after o point) r → Contains (goes o point) (edge r Next)
+next_goes : (o : Coded) (point : Point) (r : ℕ) → is_unchecked_point o point ≡ false → goes_on o point ≡ true → Contains (after o point) r → Contains (goes o point) (edge r Next)
 unfolding goes
 next_goes o point r checked on c =
     let first : Contains (next_edges o point) (edge r Next) = subst (λ b. Contains (cond b (edges_to Next (after o point)) []) (edge r Next)) (sym on) (in_map (λ q. edge q Next) (after o point) r c) in
     let rest = branch_edges o point ++ (listed_edges o Taken point (static_targets o point) ++ (listed_edges o Fixup point (fixups o point) ++ table_edges o point)) in
     subst (λ b. Contains (cond b [] (next_edges o point ++ rest)) (edge r Next)) (sym checked) (Contains-append_left (next_edges o point) rest (edge r Next) first)
 
-module _ (o : Elf) (lists : NameLists) where
+module _ (o : Coded) (lists : NameLists) where
   -- the role of a call is that of a call instruction
   pub calls : (q : ℕ) → IsPoint (program_of o lists) q → is_call ((program_of o lists).role q) ≡ true → is_call_op ((program_of o lists).insn q).op ≡ true
   unfolding program_of returning_graph graph_of role_of
@@ -155,4 +155,4 @@ module _ (o : Elf) (lists : NameLists) where
   entries_checked entry q listed arrives =
       let point = point_at o entry in
       let own = from_filter (is_entry_point o) (points_of_object o) point (numbers_are o _ entry listed).1 in
-      ap (is_unchecked o) (arriving_owner o point.place q arrives) ∙ (entry_is o point.place (and_true (is_plain point) (is_entry o point.place) own.1).1).checked
+      ap (is_unchecked o.elf) (arriving_owner o point.place q arrives) ∙ (entry_is o.elf point.place (and_true (is_plain point) (is_entry o.elf point.place) own.1).1).checked

@@ -6,7 +6,7 @@ use Rattle.ot_base.specs.declared.place.Place.{Place}
 use Rattle.operation_defs.specs.declared.insn.Insn.{Insn}
 use Rattle.operation_defs.specs.declared.op.Op.{Op}
 use Rattle.operation_defs.specs.declared.op.Op.TheVariants as ops
-use Rattle.elf_objects.specs.Elf.{Elf}
+use Rattle.flow_defs.specs.Coded.{Coded}
 use Rattle.program_defs.specs.declared.flow.Edge.{Edge}
 use Rattle.program_defs.specs.declared.flow.EdgeKind.{EdgeKind}
 use Rattle.program_defs.specs.declared.flow.EdgeKind.TheVariants.{Next, Taken, Fixup, Table, Sibling}
@@ -31,20 +31,20 @@ use Rattle.flow_defs.specs.Edges.{aim_edges, branch_edges, branch_edges_by, edge
 use Rattle.flow_law.proofs.Numbers.{edges_lead, numbers_are, point_count}
 
 -- how an edge comes about that leads to a place, and what the way to that place is
-pub record ComesTo (o : Elf) (point : Point) (e : Edge) (place : Place) (kind : EdgeKind) : Type 0 where
+pub record ComesTo (o : Coded) (point : Point) (e : Edge) (place : Place) (kind : EdgeKind) : Type 0 where
   pub outside_sites : is_into_site o point place ≡ false
   pub arrives : Contains (arrive o place) e.to
   pub is_kind : e.kind ≡ kind
 
 -- where an edge of a point comes from
-pub data Comes (o : Elf) (point : Point) (e : Edge) : Type 0 where
+pub data Comes (o : Coded) (point : Point) (e : Edge) : Type 0 where
   next : goes_on o point ≡ true → Contains (after o point) e.to → e.kind ≡ Next → Comes o point e
   branch : (crosses : Bool) (place : Place) (kind : EdgeKind) → branch_way o crosses Taken (owner_of_point o point) place ≡ ways.Along kind → ComesTo o point e place kind → Comes o point e
   within : (other : Point) → same_owner (owner_of_point o point) (owner_of_point o other) ≡ true → Contains (numbers_of o (other ∷ [])) e.to → e.kind ≡ Taken → Comes o point e
   listed : (of_kind : EdgeKind) → of_kind ≢ Sibling → (place : Place) (kind : EdgeKind) → listed_way o of_kind (owner_of_point o point) place ≡ ways.Along kind → ComesTo o point e place kind → Comes o point e
   table : (place : Place) → Contains (table_of_point o point) place → ComesTo o point e place Table → Comes o point e
 
-way_comes : (o : Elf) (point : Point) (place : Place) (way : Way) (e : Edge) → Contains (way_edges o point place way) e → (kind : EdgeKind) × (way ≡ ways.Along kind) × ComesTo o point e place kind
+way_comes : (o : Coded) (point : Point) (place : Place) (way : Way) (e : Edge) → Contains (way_edges o point place way) e → (kind : EdgeKind) × (way ≡ ways.Along kind) × ComesTo o point e place kind
 way_comes o point place ways.Bad e c = nowhere e c
 way_comes o point place (ways.Outside f) e c = nowhere e c
 way_comes o point place (ways.Along kind) e c = go (is_into_site o point place) refl c
@@ -53,12 +53,12 @@ way_comes o point place (ways.Along kind) e c = go (is_into_site o point place) 
     go true is c = nowhere e c
     go false is c = let lead = edges_lead kind (arrive o place) e c in (kind, refl, record { outside_sites = is; arrives = lead.0; is_kind = lead.1 })
 
-jump_comes : (o : Elf) (crosses : Bool) (point : Point) (place : Place) (e : Edge) → Contains (jump_edges o crosses point place) e → Comes o point e
+jump_comes : (o : Coded) (crosses : Bool) (point : Point) (place : Place) (e : Edge) → Contains (jump_edges o crosses point place) e → Comes o point e
 jump_comes o crosses point place e c =
     let w = way_comes o point place (branch_way o crosses Taken (owner_of_point o point) place) e c in
     Comes.branch crosses place w.0 w.1 w.2
 
-target_comes : (o : Elf) (point : Point) (t : Target) (e : Edge) → Contains (target_edges o point t) e → Comes o point e
+target_comes : (o : Coded) (point : Point) (t : Target) (e : Edge) → Contains (target_edges o point t) e → Comes o point e
 target_comes o point (targets.Inside place) e c = jump_comes o true point place e c
 target_comes o point (targets.Either place sym) e c = jump_comes o true point place e c
 target_comes o point (targets.Outside sym) e c = nowhere e c
@@ -66,7 +66,7 @@ target_comes o point targets.ThunkIndirect e c = nowhere e c
 target_comes o point targets.ThunkReturn e c = nowhere e c
 target_comes o point targets.Bad e c = nowhere e c
 
-aim_comes : (o : Elf) (point : Point) (a : Aim) (e : Edge) → Contains (aim_edges o point a) e → Comes o point e
+aim_comes : (o : Coded) (point : Point) (a : Aim) (e : Edge) → Contains (aim_edges o point a) e → Comes o point e
 aim_comes o point (aims.At t) e c = target_comes o point t e c
 aim_comes o point (aims.Behind place) e c = jump_comes o false point place e c
 aim_comes o point (aims.Within other) e c = go (same_owner (owner_of_point o point) (owner_of_point o other)) refl c
@@ -75,7 +75,7 @@ aim_comes o point (aims.Within other) e c = go (same_owner (owner_of_point o poi
     go true is c = let lead = edges_lead Taken (numbers_of o (other ∷ [])) e c in Comes.within other is lead.0 lead.1
     go false is c = nowhere e c
 
-branch_comes : (o : Elf) (point : Point) (insn : Insn) (op : Op) (e : Edge) → Contains (branch_edges_by o point insn op) e → Comes o point e
+branch_comes : (o : Coded) (point : Point) (insn : Insn) (op : Op) (e : Edge) → Contains (branch_edges_by o point insn op) e → Comes o point e
 branch_comes o point insn (ops.Jmp rel wide) e c = aim_comes o point (aim o point insn) e c
 branch_comes o point insn (ops.Jcc rel wide) e c = aim_comes o point (aim o point insn) e c
 branch_comes o point insn ops.Plain e c = nowhere e c
@@ -108,13 +108,13 @@ branch_comes o point insn ops.Int3 e c = nowhere e c
 branch_comes o point insn ops.Stac e c = nowhere e c
 branch_comes o point insn ops.Clac e c = nowhere e c
 
-listed_comes : (o : Elf) (kind : EdgeKind) → kind ≢ Sibling → (point : Point) (places : List Place) (e : Edge) → Contains (listed_edges o kind point places) e → Comes o point e
+listed_comes : (o : Coded) (kind : EdgeKind) → kind ≢ Sibling → (point : Point) (places : List Place) (e : Edge) → Contains (listed_edges o kind point places) e → Comes o point e
 listed_comes o kind other point places e c =
     let one = from_flat_map (λ place. way_edges o point place (listed_way o kind (owner_of_point o point) place)) places e c in
     let w = way_comes o point one.0 (listed_way o kind (owner_of_point o point) one.0) e one.2 in
     Comes.listed kind other one.0 w.0 w.1 w.2
 
-table_comes : (o : Elf) (point : Point) (op : Op) (e : Edge) → Contains (table_edges_by o point op) e → Comes o point e
+table_comes : (o : Coded) (point : Point) (op : Op) (e : Edge) → Contains (table_edges_by o point op) e → Comes o point e
 table_comes o point (ops.JmpInd field) e c =
     let one = from_flat_map (λ place. way_edges o point place (ways.Along Table)) (table_of_point o point) e c in
     let w = way_comes o point one.0 (ways.Along Table) e one.2 in
@@ -153,7 +153,7 @@ table_comes o point ops.Int3 e c = nowhere e c
 table_comes o point ops.Stac e c = nowhere e c
 table_comes o point ops.Clac e c = nowhere e c
 
-next_comes : (o : Elf) (point : Point) (e : Edge) → Contains (next_edges o point) e → Comes o point e
+next_comes : (o : Coded) (point : Point) (e : Edge) → Contains (next_edges o point) e → Comes o point e
 next_comes o point e c = go (goes_on o point) refl c
   where
     go : (b : Bool) → goes_on o point ≡ b → Contains (cond b (edges_to Next (after o point)) []) e → Comes o point e
@@ -161,10 +161,10 @@ next_comes o point e c = go (goes_on o point) refl c
     go false is c = nowhere e c
 
 -- the edges of a checked point
-abbrev pub checked_edges : Elf → Point → List Edge
+abbrev pub checked_edges : Coded → Point → List Edge
 checked_edges o point = next_edges o point ++ (branch_edges o point ++ (listed_edges o Taken point (static_targets o point) ++ (listed_edges o Fixup point (fixups o point) ++ table_edges o point)))
 
-part_comes : (o : Elf) (point : Point) (e : Edge) → Contains (checked_edges o point) e → Comes o point e
+part_comes : (o : Coded) (point : Point) (e : Edge) → Contains (checked_edges o point) e → Comes o point e
 part_comes o point e c = elim (Contains-append_cases (next_edges o point) _ e c) [
   | inl d ↦ next_comes o point e d
   | inr c2 ↦ elim (Contains-append_cases (branch_edges o point) _ e c2) [
@@ -180,7 +180,7 @@ part_comes o point e c = elim (Contains-append_cases (next_edges o point) _ e c)
 ]
 
 -- each edge of a point comes about so, and the point is checked
-pub edge_comes : (o : Elf) (point : Point) (e : Edge) → Contains (goes o point) e → (is_unchecked_point o point ≡ false) × Comes o point e
+pub edge_comes : (o : Coded) (point : Point) (e : Edge) → Contains (goes o point) e → (is_unchecked_point o point ≡ false) × Comes o point e
 unfolding goes
 edge_comes o point e c = go (is_unchecked_point o point) refl c
   where
@@ -189,11 +189,11 @@ edge_comes o point e c = go (is_unchecked_point o point) refl c
     go false is c = (refl, part_comes o point e c)
 
 -- the points at which control arrives, and those after a point, are points
-pub arrive_points : (o : Elf) (place : Place) (q : ℕ) → Contains (arrive o place) q → (q < point_count o) × Contains (first_points (texts_of o) (alternatives_of o) place) (point_at o q)
+pub arrive_points : (o : Coded) (place : Place) (q : ℕ) → Contains (arrive o place) q → (q < point_count o) × Contains (first_points (texts_of o) (alternatives_of o) place) (point_at o q)
 unfolding arrive
 arrive_points o place q c = numbers_are o (first_points (texts_of o) (alternatives_of o) place) q c
 
-pub after_points : (o : Elf) (point : Point) (q : ℕ) → Contains (after o point) q → q < point_count o
+pub after_points : (o : Coded) (point : Point) (q : ℕ) → Contains (after o point) q → q < point_count o
 unfolding after
 after_points o point q c = go (next_of_replacement o point) c
   where
@@ -201,12 +201,12 @@ after_points o point q c = go (next_of_replacement o point) c
     go (Some behind) c = (numbers_are o (behind ∷ []) q c).0
     go None c = (arrive_points o (place_behind o point) q c).0
 
-comes_inside : (o : Elf) (point : Point) (e : Edge) → Comes o point e → e.to < point_count o
+comes_inside : (o : Coded) (point : Point) (e : Edge) → Comes o point e → e.to < point_count o
 comes_inside o point e (Comes.next on c kind) = after_points o point e.to c
 comes_inside o point e (Comes.branch crosses place kind way to) = (arrive_points o place e.to to.arrives).0
 comes_inside o point e (Comes.within other same c kind) = (numbers_are o (other ∷ []) e.to c).0
 comes_inside o point e (Comes.listed of_kind other place kind way to) = (arrive_points o place e.to to.arrives).0
 comes_inside o point e (Comes.table place c to) = (arrive_points o place e.to to.arrives).0
 
-pub edges_inside : (o : Elf) (point : Point) (e : Edge) → Contains (goes o point) e → e.to < point_count o
+pub edges_inside : (o : Coded) (point : Point) (e : Edge) → Contains (goes o point) e → e.to < point_count o
 edges_inside o point e c = comes_inside o point e (edge_comes o point e c).1

@@ -10,6 +10,7 @@ use Rattle.operation_defs.specs.declared.insn.Insn.{Insn}
 use Rattle.operation_defs.specs.declared.op.Op.{Op}
 use Rattle.operation_defs.specs.declared.op.Op.TheVariants as ops
 use Rattle.elf_objects.specs.Elf.{Elf}
+use Rattle.flow_defs.specs.Coded.{Coded}
 use Rattle.program_defs.specs.declared.flow.EdgeKind.{EdgeKind}
 use Rattle.program_defs.specs.declared.flow.EdgeKind.TheVariants.{Taken, Sibling}
 use Rattle.program_defs.specs.declared.flow.Role.{Role}
@@ -43,7 +44,7 @@ use Rattle.flow_law.proofs.Checked.{Leads, Ways, listed_leads, way_leads}
 one_point : (p : Point) → same_point p p ≡ true
 one_point p = and_from (same_place p.place p.place) _ (and_from _ _ (eq-eqb p.place.sec p.place.sec refl) (eq-eqb p.place.off p.place.off refl)) (eq-eqb p.variant p.variant refl)
 
-pub has_number : (o : Elf) (point : Point) → Contains (points_of_object o) point → (n : ℕ) × (number_of o point ≡ Some n)
+pub has_number : (o : Coded) (point : Point) → Contains (points_of_object o) point → (n : ℕ) × (number_of o point ≡ Some n)
 has_number o point (k, inside, here) = (first, ap (λ b. cond b (Some first) None) (lt-ltb first (length points) below))
   where
     points : List Point
@@ -62,16 +63,16 @@ has_number o point (k, inside, here) = (first, ap (λ b. cond b (Some first) Non
     ]
 
 -- the plain point at a boundary is a point
-pub plain_listed : (o : Elf) (place : Place) → is_boundary (texts_of o) place ≡ true → Contains (points_of_object o) (plain_point place)
+pub plain_listed : (o : Coded) (place : Place) → is_boundary (texts_of o) place ≡ true → Contains (points_of_object o) (plain_point place)
 unfolding points_of_object
 plain_listed o place boundary = contains_in (points_of (texts_of o) (alternatives_of o)) (plain_point place) (points_complete (texts_of o) (alternatives_of o) (plain_point place) boundary)
 
 -- an entry at a boundary is one of the program, by its number
-pub record IsListedEntry (o : Elf) (place : Place) (entry : ℕ) : Type 0 where
+pub record IsListedEntry (o : Coded) (place : Place) (entry : ℕ) : Type 0 where
   pub listed : Contains (entries_of o) entry
   pub point : point_at o entry ≡ plain_point place
 
-pub listed_entry : (o : Elf) (place : Place) → is_boundary (texts_of o) place ≡ true → is_entry o place ≡ true → IsListedEntry o place (plain_number o place)
+pub listed_entry : (o : Coded) (place : Place) → is_boundary (texts_of o) place ≡ true → is_entry o.elf place ≡ true → IsListedEntry o place (plain_number o place)
 unfolding entries_of
 listed_entry o place boundary entered =
     let listed = plain_listed o place boundary in
@@ -94,22 +95,22 @@ entry_called entry (Some sym) = refl
 same_some : {X : Type 0} {x y : X} → Some x ≡ Some y → x ≡ y
 same_some e = cc
 
-place_called : (o : Elf) (place : Place) (weak : Option ℕ) (entry : ℕ) → called (place_call o place weak) ≡ Some entry → Contains (entries_of o) entry
+place_called : (o : Coded) (place : Place) (weak : Option ℕ) (entry : ℕ) → called (place_call o place weak) ≡ Some entry → Contains (entries_of o) entry
 place_called o place weak entry is = by_boundary (is_boundary (texts_of o) place) refl is
   where
-    by_entry : (b : Bool) → is_boundary (texts_of o) place ≡ true → is_entry o place ≡ b → called (cond b (entry_call (plain_number o place) weak) roles.Plain) ≡ Some entry → Contains (entries_of o) entry
+    by_entry : (b : Bool) → is_boundary (texts_of o) place ≡ true → is_entry o.elf place ≡ b → called (cond b (entry_call (plain_number o place) weak) roles.Plain) ≡ Some entry → Contains (entries_of o) entry
     by_entry true boundary e is = subst (Contains (entries_of o)) (same_some (sym (entry_called (plain_number o place) weak) ∙ is)) (listed_entry o place boundary e).listed
     by_entry false boundary e is = absurd (let k : ⊥ = cc in k)
 
     by_start : (start : Option ℕ) → is_boundary (texts_of o) place ≡ true → called (call_by o place weak start) ≡ Some entry → Contains (entries_of o) entry
     by_start (Some f) boundary is = absurd (let k : ⊥ = cc in k)
-    by_start None boundary is = by_entry (is_entry o place) boundary refl is
+    by_start None boundary is = by_entry (is_entry o.elf place) boundary refl is
 
-    by_boundary : (b : Bool) → is_boundary (texts_of o) place ≡ b → called (cond b (call_by o place weak (unchecked_start o place)) roles.Plain) ≡ Some entry → Contains (entries_of o) entry
-    by_boundary true e is = by_start (unchecked_start o place) e is
+    by_boundary : (b : Bool) → is_boundary (texts_of o) place ≡ b → called (cond b (call_by o place weak (unchecked_start o.elf place)) roles.Plain) ≡ Some entry → Contains (entries_of o) entry
+    by_boundary true e is = by_start (unchecked_start o.elf place) e is
     by_boundary false e is = absurd (let k : ⊥ = cc in k)
 
-aim_called : (o : Elf) (a : Aim) (entry : ℕ) → called (call_role o a) ≡ Some entry → Contains (entries_of o) entry
+aim_called : (o : Coded) (a : Aim) (entry : ℕ) → called (call_role o a) ≡ Some entry → Contains (entries_of o) entry
 aim_called o (aims.At (targets.Inside place)) entry is = place_called o place None entry is
 aim_called o (aims.At (targets.Either place sym)) entry is = place_called o place (Some sym) entry is
 aim_called o (aims.At (targets.Outside sym)) entry is = absurd (let k : ⊥ = cc in k)
@@ -129,7 +130,7 @@ way_calls_none (ways.Outside f) weak = refl
 way_calls_none (ways.Along kind) None = refl
 way_calls_none (ways.Along kind) (Some sym) = refl
 
-jump_calls_none : (o : Elf) (point : Point) (a : Aim) → called (jump_role o point a) ≡ None
+jump_calls_none : (o : Coded) (point : Point) (a : Aim) → called (jump_role o point a) ≡ None
 jump_calls_none o point (aims.At (targets.Inside place)) = way_calls_none (branch_way o true Taken (owner_of_point o point) place) None
 jump_calls_none o point (aims.At (targets.Either place sym)) = way_calls_none (branch_way o true Taken (owner_of_point o point) place) (Some sym)
 jump_calls_none o point (aims.At (targets.Outside sym)) = refl
@@ -146,7 +147,7 @@ table_calls_none (place ∷ places) = refl
 nothing : {P : Type 0} {entry : ℕ} (r : Option ℕ) → r ≡ None → r ≡ Some entry → P
 nothing r none some = absurd (let k : ⊥ = cc in k)
 
-role_called : (o : Elf) (point : Point) (insn : Insn) (op : Op) (entry : ℕ) → called (role_by o point insn op) ≡ Some entry → Contains (entries_of o) entry
+role_called : (o : Coded) (point : Point) (insn : Insn) (op : Op) (entry : ℕ) → called (role_by o point insn op) ≡ Some entry → Contains (entries_of o) entry
 role_called o point insn (ops.Call rel) entry is = aim_called o (aim o point insn) entry is
 role_called o point insn (ops.Jmp rel wide) entry is = nothing (called (jump_role o point (aim o point insn))) (jump_calls_none o point (aim o point insn)) is
 role_called o point insn (ops.Jcc rel wide) entry is = nothing (called (jump_role o point (aim o point insn))) (jump_calls_none o point (aim o point insn)) is
@@ -185,28 +186,28 @@ sibling_entry o crosses asked from place other (Leads.own same is) = absurd (oth
 sibling_entry o crosses asked from place other (Leads.entry e is) = e
 sibling_entry o crosses asked from place other (Leads.crossing e is) = absurd (other (sym is))
 
-record IsTailCall (o : Elf) (q : ℕ) : Type 0 where
+record IsTailCall (o : Coded) (q : ℕ) : Type 0 where
   place : Place
   boundary : is_boundary (texts_of o) place ≡ true
-  entry : is_entry o place ≡ true
+  entry : is_entry o.elf place ≡ true
   arrives : Contains (arrive o place) q
 
-by_way : (o : Elf) (crosses : Bool) (asked : EdgeKind) (from : Option ℕ) (place : Place) (kind : EdgeKind) (q : ℕ) → asked ≢ Sibling → kind ≡ Sibling → Ways o crosses asked from place kind → Contains (arrive o place) q → IsTailCall o q
+by_way : (o : Coded) (crosses : Bool) (asked : EdgeKind) (from : Option ℕ) (place : Place) (kind : EdgeKind) (q : ℕ) → asked ≢ Sibling → kind ≡ Sibling → Ways o crosses asked from place kind → Contains (arrive o place) q → IsTailCall o q
 by_way o crosses asked from place kind q other is ways arrives = record {
   place = place;
   boundary = ways.boundary;
-  entry = sibling_entry o crosses asked from place other (subst (Leads o crosses asked from place) is ways.leads);
+  entry = sibling_entry o.elf crosses asked from place other (subst (Leads o.elf crosses asked from place) is ways.leads);
   arrives = arrives;
 }
 
-tail_call : (o : Elf) (point : Point) (q : ℕ) → Comes o point (edge q Sibling) → IsTailCall o q
+tail_call : (o : Coded) (point : Point) (q : ℕ) → Comes o point (edge q Sibling) → IsTailCall o q
 tail_call o point q (Comes.next on c kind) = absurd (let k : ⊥ = cc in k)
 tail_call o point q (Comes.branch crosses place kind way to) = by_way o crosses Taken (owner_of_point o point) place kind q (λ is. let k : ⊥ = cc in k) (sym to.is_kind) (way_leads o crosses Taken (owner_of_point o point) place kind way) to.arrives
 tail_call o point q (Comes.within other same c kind) = absurd (let k : ⊥ = cc in k)
 tail_call o point q (Comes.listed asked other place kind way to) = by_way o true asked (owner_of_point o point) place kind q other (sym to.is_kind) (listed_leads o asked (owner_of_point o point) place kind way) to.arrives
 tail_call o point q (Comes.table place c to) = absurd (let is = to.is_kind in let k : ⊥ = cc in k)
 
-module _ (o : Elf) (lists : NameLists) where
+module _ (o : Coded) (lists : NameLists) where
   -- calls inside the program go to entries
   pub calls_entry : (q entry : ℕ) → IsPoint (program_of o lists) q → (program_of o lists).role q ≡ roles.CallIn entry → Contains (program_of o lists).entries entry
   unfolding program_of returning_graph graph_of role_of

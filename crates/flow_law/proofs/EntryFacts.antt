@@ -6,6 +6,7 @@ use Rattle.std.proofs.lemmas.Bool.{cases_lt, false≢true, ltb-false, or_parts}
 use Rattle.std.proofs.lemmas.List.{get_or_past}
 use Rattle.std.proofs.lemmas.List.Elements.{Contains-get_or}
 use Rattle.elf_objects.specs.Elf.{Elf}
+use Rattle.flow_defs.specs.Coded.{Coded}
 use Rattle.special_sections.specs.declared.entries.AltEntry.{AltEntry}
 use Rattle.special_sections.specs.declared.fault.Why.TheVariants.{Length, NoReloc, NotText}
 use Rattle.special_sections.specs.Fields.{field_at, holds_text_place, lacks_reloc, leaves_section, table_why}
@@ -39,14 +40,14 @@ record IsRight (o : Elf) (a : AltEntry) : Type 0 where
   is : tables.alternative_from o sec (14 * entry) ≡ a
   right : tables.alternative_why_from o sec (14 * entry) ≡ None
 
-right_entry : (o : Elf) (a : AltEntry) → special_faults o ≡ [] → Contains (alternatives_of o) a → IsRight o a
+right_entry : (o : Coded) (a : AltEntry) → special_faults o.elf ≡ [] → Contains (alternatives_of o) a → IsRight o.elf a
 right_entry o a none c =
-    let of_alternatives : faults tables.alternatives o ≡ [] = (parts_none (faults tables.alternatives o) _ none).0 in
-    let sec = from_flat_map (section_entries tables.alternatives o) (sections_named o tables.alternatives.name) a c in
-    let of_section = each_none (section_faults tables.alternatives o) (sections_named o tables.alternatives.name) sec.0 of_alternatives sec.1 in
-    let of_entries = entries_none sec.0 (table_why 14 o sec.0) (entry_faults tables.alternatives o sec.0) of_section in
-    let one = from_map (λ e. tables.alternative_from o sec.0 (14 * e)) (range_with_len 0 (tables.table_count 14 o sec.0)) a sec.2 in
-    let why = each_none (λ e. fault_at sec.0 e (tables.alternative_why_from o sec.0 (14 * e))) (range_with_len 0 (tables.table_count 14 o sec.0)) one.0 of_entries one.1 in
+    let of_alternatives : faults tables.alternatives o.elf ≡ [] = (parts_none (faults tables.alternatives o.elf) _ none).0 in
+    let sec = from_flat_map (section_entries tables.alternatives o.elf) (sections_named o.elf tables.alternatives.name) a c in
+    let of_section = each_none (section_faults tables.alternatives o.elf) (sections_named o.elf tables.alternatives.name) sec.0 of_alternatives sec.1 in
+    let of_entries = entries_none sec.0 (table_why 14 o.elf sec.0) (entry_faults tables.alternatives o.elf sec.0) of_section in
+    let one = from_map (λ e. tables.alternative_from o.elf sec.0 (14 * e)) (range_with_len 0 (tables.table_count 14 o.elf sec.0)) a sec.2 in
+    let why = each_none (λ e. fault_at sec.0 e (tables.alternative_why_from o.elf sec.0 (14 * e))) (range_with_len 0 (tables.table_count 14 o.elf sec.0)) one.0 of_entries one.1 in
     record { sec = sec.0; entry = one.0; is = one.2; right = fault_none sec.0 one.0 _ why }
 
 third : (a b c : Bool) → first_reason ((a, NoReloc) ∷ (b, NotText) ∷ (c, Length) ∷ []) ≡ None → c ≡ false
@@ -71,7 +72,7 @@ short_enough o a counting right =
     ltb-false a.original_len a.replacement_len less
 
 -- an alternative that counts: its original and its replacement begin and end at cuts
-pub record IsEntryOf (o : Elf) (a : AltEntry) : Type 0 where
+pub record IsEntryOf (o : Coded) (a : AltEntry) : Type 0 where
   pub original : IsCutIn o a.original
   pub original_end : IsCutIn o (behind a.original a.original_len)
   pub replacement : IsCutIn o a.replacement
@@ -79,12 +80,12 @@ pub record IsEntryOf (o : Elf) (a : AltEntry) : Type 0 where
   pub short : a.replacement_len ≤ a.original_len
 
 -- what an entry that isn't refused has
-pub record IsUnrefused (o : Elf) (entries : List AltEntry) (k : ℕ) : Type 0 where
+pub record IsUnrefused (o : Coded) (entries : List AltEntry) (k : ℕ) : Type 0 where
   pub original : is_whole (texts_of o) (entry_at entries k).original (entry_at entries k).original_len ≡ true
   pub apart : overlaps_earlier entries k ≡ false
   pub replacement : is_whole (texts_of o) (entry_at entries k).replacement (entry_at entries k).replacement_len ≡ true
 
-pub unrefused : (o : Elf) (entries : List AltEntry) (k : ℕ) → counts (entry_at entries k) ≡ true → why_of (texts_of o) entries k ≡ None → IsUnrefused o entries k
+pub unrefused : (o : Coded) (entries : List AltEntry) (k : ℕ) → counts (entry_at entries k) ≡ true → why_of (texts_of o) entries k ≡ None → IsUnrefused o entries k
 unrefused o entries k counting why = by_count (counts (entry_at entries k)) counting why
   where
     by_replacement : (b : Bool) → is_whole (texts_of o) (entry_at entries k).original (entry_at entries k).original_len ≡ true → overlaps_earlier entries k ≡ false
@@ -108,7 +109,7 @@ unrefused o entries k counting why = by_count (counts (entry_at entries k)) coun
     by_count true e h = by_original (is_whole (texts_of o) (entry_at entries k).original (entry_at entries k).original_len) refl h
     by_count false e h = absurd (false≢true e)
 
-pub entry_is : (o : Elf) (k : ℕ) → ObjectIsInOrder o → counts (entry_at (alternatives_of o) k) ≡ true → IsEntryOf o (entry_at (alternatives_of o) k)
+pub entry_is : (o : Coded) (k : ℕ) → ObjectIsInOrder o → counts (entry_at (alternatives_of o) k) ≡ true → IsEntryOf o (entry_at (alternatives_of o) k)
 entry_is o k order counting =
     let entries = alternatives_of o in
     let a = entry_at entries k in
@@ -121,5 +122,5 @@ entry_is o k order counting =
       original_end = cut_in o (behind a.original a.original_len) order.bytes original.1;
       replacement = cut_in o a.replacement order.bytes replacement.0;
       replacement_end = cut_in o (behind a.replacement a.replacement_len) order.bytes replacement.1;
-      short = short_enough o a counting (length_right o a (right_entry o a order.special (Contains-get_or entries k no_entry inside)));
+      short = short_enough o.elf a counting (length_right o.elf a (right_entry o a order.special (Contains-get_or entries k no_entry inside)));
     }

@@ -4,7 +4,7 @@ use Rattle.std.specs.Prelude.{◌↔◌, option_and_then}
 use Rattle.ot_base.specs.NameLists.{NameLists}
 use Rattle.ot_base.specs.declared.place.Place.{Place}
 use Rattle.operation_defs.specs.declared.op.Op.TheVariants as ops
-use Rattle.elf_objects.specs.Elf.{Elf}
+use Rattle.flow_defs.specs.Coded.{Coded}
 use Rattle.program_defs.specs.declared.flow.Edge.{Edge}
 use Rattle.program_defs.specs.declared.flow.Role.TheVariants as roles
 use Rattle.program_defs.specs.Program.{IsPoint}
@@ -21,7 +21,7 @@ use Rattle.flow_law.proofs.Numbers.{numbered, point_count}
 use Rattle.flow_law.proofs.Edges.{after_points, arrive_points, edges_inside}
 use Rattle.flow_law.proofs.Levels.{levels_are_enough}
 
-module _ (o : Elf) (lists : NameLists) where
+module _ (o : Coded) (lists : NameLists) where
   -- edges lead to points
   pub edges : (q : ℕ) (e : Edge) → IsPoint (program_of o lists) q → Contains ((program_of o lists).goes q) e → IsPoint (program_of o lists) e.to
   unfolding program_of returning_graph graph_of
@@ -53,7 +53,7 @@ module _ (o : Elf) (lists : NameLists) where
   -- points without owner are checked
   pub unowned : (q : ℕ) → IsPoint (program_of o lists) q → (program_of o lists).owner q ≡ None → (program_of o lists).unchecked q ≡ false
   unfolding program_of returning_graph graph_of
-  unowned q here none = ap (is_unchecked o) none
+  unowned q here none = ap (is_unchecked o.elf) none
 
   -- a return that drops bytes is a return
   pub returns : (q : ℕ) → IsPoint (program_of o lists) q → ((program_of o lists).insn q).op ≡ ops.RetImm → (program_of o lists).role q ≡ roles.Return

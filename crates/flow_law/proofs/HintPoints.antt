@@ -6,6 +6,7 @@ use Rattle.std.proofs.lemmas.List.{get_or_past}
 use Rattle.ot_base.specs.NameLists.{NameLists}
 use Rattle.ot_base.specs.declared.place.Place.{Place}
 use Rattle.elf_objects.specs.Elf.{Elf, SectionEntry}
+use Rattle.flow_defs.specs.Coded.{Coded}
 use Rattle.elf_objects.specs.Contents.{is_text, no_section, section_at, section_entry}
 use Rattle.elf_objects.specs.Object.{IsObject}
 use Rattle.elf_objects.specs.declared.TheConstants.{SHF_EXECINSTR, SHT_NULL, SHT_PROGBITS}
@@ -66,23 +67,23 @@ in_a_text o h entry =
     let holds : holds_text_place o false field ≡ true = not-false (holds_text_place o false field) (second (lacks_reloc o field) (not (holds_text_place o false field)) rest entry.right) in
     ap (λ (h : HintEntry). is_text (section_at o h.place.sec)) (sym entry.is) ∙ names_one o (points_at o field) holds
 
-hint_in_text : (o : Elf) (place : Place) (found : HintState) → ObjectIsInOrder o → hint_at (special_of o).hints place ≡ Some found → is_text (section_at o place.sec) ≡ true
-hint_in_text o place found order is = elim (finds (λ h. is_place h.place place) (special_of o).hints) [
+hint_in_text : (o : Coded) (place : Place) (found : HintState) → ObjectIsInOrder o → hint_at (special_of o.elf).hints place ≡ Some found → is_text (section_at o.elf place.sec) ≡ true
+hint_in_text o place found order is = elim (finds (λ h. is_place h.place place) (special_of o.elf).hints) [
   | inl missing ↦ absurd (let e = ap (option_and_then hint_state) missing.0 in let k : ⊥ = cc in k)
   | inr one ↦
       let sec : one.0.place.sec ≡ place.sec = eqb-true one.0.place.sec place.sec (and_true (one.0.place.sec == place.sec) _ one.3).0 in
-      ap (λ s. is_text (section_at o s)) (sym sec) ∙ in_a_text o one.0 (hint_entry_of o one.0 order.special one.2)
+      ap (λ s. is_text (section_at o.elf s)) (sym sec) ∙ in_a_text o.elf one.0 (hint_entry_of o.elf one.0 order.special one.2)
 ]
 
-none_nowhere : (o : Elf) (found : HintState) → ObjectIsInOrder o → hint_of o no_point ≡ Some found → ⊥
+none_nowhere : (o : Coded) (found : HintState) → ObjectIsInOrder o → hint_of o no_point ≡ Some found → ⊥
 unfolding hint_of
 none_nowhere o found order is = go (is_padding o no_point) is
   where
-    go : (b : Bool) → cond b None (hint_at (special_of o).hints no_point.place) ≡ Some found → ⊥
+    go : (b : Bool) → cond b None (hint_at (special_of o.elf).hints no_point.place) ≡ Some found → ⊥
     go true e = let k : ⊥ = cc in k
-    go false e = false≢true (sym (first_not_text o order.object) ∙ hint_in_text o no_point.place found order e)
+    go false e = false≢true (sym (first_not_text o.elf order.object) ∙ hint_in_text o no_point.place found order e)
 
-pub hint_points : (o : Elf) (lists : NameLists) → ObjectIsInOrder o → HintsStandAtPoints (program_of o lists)
+pub hint_points : (o : Coded) (lists : NameLists) → ObjectIsInOrder o → HintsStandAtPoints (program_of o lists)
 unfolding program_of returning_graph graph_of
 hint_points o lists order q found is = elim (cases_lt q (length (points_of_object o))) [
   | inl here ↦ here

@@ -7,6 +7,7 @@ use Rattle.std.proofs.lemmas.Int.{ints}
 use Rattle.ot_base.specs.NameLists.{NameLists}
 use Rattle.ot_base.specs.declared.place.Place.{Place}
 use Rattle.elf_objects.specs.Elf.{Elf}
+use Rattle.flow_defs.specs.Coded.{Coded}
 use Rattle.elf_objects.specs.Contents.{section_at}
 use Rattle.program_defs.specs.Program.{IsPoint}
 use Rattle.special_sections.specs.declared.entries.HintEntry.{HintEntry}
@@ -172,10 +173,10 @@ hint_right o place s none is = elim (finds (λ h. is_place h.place place) (speci
 ]
 
 -- states that hints set are consistent
-pub hints : (o : Elf) (lists : NameLists) → special_faults o ≡ [] → (q : ℕ) (s : State) → IsPoint (program_of o lists) q → (program_of o lists).hint q ≡ Some (Set s) → IsConsistent s
+pub hints : (o : Coded) (lists : NameLists) → special_faults o.elf ≡ [] → (q : ℕ) (s : State) → IsPoint (program_of o lists) q → (program_of o lists).hint q ≡ Some (Set s) → IsConsistent s
 unfolding program_of returning_graph graph_of hint_of
 hints o lists none q s here is = go (is_padding o (point_at o q)) is
   where
-    go : (b : Bool) → cond b None (hint_at (special_of o).hints (point_at o q).place) ≡ Some (Set s) → IsConsistent s
+    go : (b : Bool) → cond b None (hint_at (special_of o.elf).hints (point_at o q).place) ≡ Some (Set s) → IsConsistent s
     go true e = absurd (let k : ⊥ = cc in k)
-    go false e = hint_right o (point_at o q).place s none e
+    go false e = hint_right o.elf (point_at o q).place s none e

@@ -8,6 +8,7 @@ use Rattle.ot_base.specs.NameLists.{NameLists}
 use Rattle.ot_base.specs.declared.place.Place.{Place}
 use Rattle.operation_defs.specs.declared.insn.Insn.{Insn}
 use Rattle.elf_objects.specs.Elf.{Elf, SectionEntry}
+use Rattle.flow_defs.specs.Coded.{Coded}
 use Rattle.elf_objects.specs.Contents.{is_text, section_at, section_entry}
 use Rattle.elf_objects.specs.Header.{has_body}
 use Rattle.elf_objects.specs.File.{section_count, section_header}
@@ -20,11 +21,11 @@ use Rattle.alternatives.specs.declared.point.Point.{Point}
 use Rattle.alternatives.specs.Points.{address_of_point, padding_of}
 use Rattle.alternatives.specs.Texts.{behind}
 use Rattle.unwinding_law.proofs.Lists.{from_filter, in_map}
-use Rattle.flow_defs.specs.Code.{alternatives_of, point_at, points_of_object, text_numbers}
+use Rattle.flow_defs.specs.Code.{alternatives_of, body_of, point_at, points_of_object, text_numbers}
 use Rattle.flow_defs.specs.Arrival.{decoded_insn, insn_of_object}
 use Rattle.flow_defs.specs.Program.{graph_of, program_of, returning_graph, text_sections_of}
 use Rattle.flow_law.specs.Flows.{ObjectIsInOrder}
-use Rattle.flow_law.proofs.Bodies.{at_lies, body_at, cut_within}
+use Rattle.flow_law.proofs.Bodies.{at_lies, cut_within}
 use Rattle.flow_law.proofs.EntryFacts.{entry_is}
 use Rattle.flow_law.proofs.Levels.{and_true}
 use Rattle.flow_law.proofs.Overlays.{Overlays, address_plain, overlays, own_entry}
@@ -45,26 +46,26 @@ text_has_body o i h kind text =
     rw k refl
 
 -- whose length is the section's size
-pub text_size : (o : Elf) (i : ℕ) → IsObject o.bytes o → Contains (text_numbers o) i → length (body_at o i) ≡ (section_at o i).size
+pub text_size : (o : Coded) (i : ℕ) → IsObject o.elf.bytes o.elf → Contains (text_numbers o.elf) i → length (body_of o i).bytes ≡ (section_at o.elf i).size
 unfolding section_entry
 text_size o i is listed =
     let e = sym is.says in
-    let own = from_filter (λ i. is_text (section_at o i)) (range_with_len 0 (length o.sections)) i listed in
-    let known : i < section_count o.bytes = subst (λ n. i < n) (length-sections o.bytes o e) (in_range (length o.sections) i own.0) in
-    let entry = section_at-entry o.bytes o i e known in
-    let header = section_header o.bytes i in
-    let has = text_has_body o i header (ap (λ (s : SectionEntry). s.kind) entry) own.1 in
-    let size = length-body_of o.bytes header has (is.well_formed.bodies i known).placed in
+    let own = from_filter (λ i. is_text (section_at o.elf i)) (range_with_len 0 (length o.elf.sections)) i listed in
+    let known : i < section_count o.elf.bytes = subst (λ n. i < n) (length-sections o.elf.bytes o.elf e) (in_range (length o.elf.sections) i own.0) in
+    let entry = section_at-entry o.elf.bytes o.elf i e known in
+    let header = section_header o.elf.bytes i in
+    let has = text_has_body o.elf i header (ap (λ (s : SectionEntry). s.kind) entry) own.1 in
+    let size = length-body_of o.elf.bytes header has (is.well_formed.bodies i known).placed in
     ap (λ (s : SectionEntry). length s.body) entry ∙ size ∙ sym (ap (λ (s : SectionEntry). s.size) entry)
 
 -- how an instruction that runs at an address lies: it has a byte, and ends in the body of its text section
-record RunsIn (o : Elf) (address : Place) (insn : Insn) : Type 0 where
-  listed : Contains (text_numbers o) address.sec
+record RunsIn (o : Coded) (address : Place) (insn : Insn) : Type 0 where
+  listed : Contains (text_numbers o.elf) address.sec
   some : 1 ≤ insn.len
-  within : address.off + insn.len ≤ length (body_at o address.sec)
+  within : address.off + insn.len ≤ length (body_of o address.sec).bytes
 
 -- what overlays an original runs in it
-overlay_runs : (o : Elf) (point : Point) (insn : Insn) → ObjectIsInOrder o → Overlays o point insn → RunsIn o (address_of_point (alternatives_of o) point) insn
+overlay_runs : (o : Coded) (point : Point) (insn : Insn) → ObjectIsInOrder o → Overlays o point insn → RunsIn o (address_of_point (alternatives_of o) point) insn
 overlay_runs o point insn order over =
     let a = own_entry o point in
     let entry = entry_is o (point.variant - 1) order over.counting in
@@ -72,7 +73,7 @@ overlay_runs o point insn order over =
     let own : RunsIn o (behind a.original (point.place.off - a.replacement.off)) insn = record { listed = entry.original.listed; some = over.some; within = omega (arith, over.ends, original) } in
     subst (λ (p : Place). RunsIn o p insn) (sym over.address) own
 
-runs_in : (o : Elf) (point : Point) (insn : Insn) → ObjectIsInOrder o → PointIs o point insn → RunsIn o (address_of_point (alternatives_of o) point) insn
+runs_in : (o : Coded) (point : Point) (insn : Insn) → ObjectIsInOrder o → PointIs o point insn → RunsIn o (address_of_point (alternatives_of o) point) insn
 runs_in o point _ order (PointIs.plain insn plain at) =
     let lies = at_lies o point.place insn at in
     let own : RunsIn o point.place insn = record { listed = at.listed; some = lies.some; within = omega (arith, lies.within) } in
@@ -80,19 +81,19 @@ runs_in o point _ order (PointIs.plain insn plain at) =
 runs_in o point _ order (PointIs.replaced insn other counting inside at) = overlay_runs o point insn order (overlays o point insn order other (PointIs.replaced insn other counting inside at))
 runs_in o point _ order (PointIs.padding other counting padded) = overlay_runs o point (padding_of (own_entry o point)) order (overlays o point (padding_of (own_entry o point)) order other (PointIs.padding other counting padded))
 
-runs : (o : Elf) (q : ℕ) → ObjectIsInOrder o → q < length (points_of_object o) → RunsIn o (address_of_point (alternatives_of o) (point_at o q)) (decoded_insn o (point_at o q))
+runs : (o : Coded) (q : ℕ) → ObjectIsInOrder o → q < length (points_of_object o) → RunsIn o (address_of_point (alternatives_of o) (point_at o q)) (decoded_insn o (point_at o q))
 runs o q order here = runs_in o (point_at o q) (decoded_insn o (point_at o q)) order (point_is o q order.bytes here)
 
-pub in_text : (o : Elf) (lists : NameLists) → ObjectIsInOrder o → IsInText (program_of o lists)
+pub in_text : (o : Coded) (lists : NameLists) → ObjectIsInOrder o → IsInText (program_of o lists)
 unfolding program_of returning_graph graph_of insn_of_object text_sections_of
 in_text o lists order = record {
   lengths = λ q here. (runs o q order here).some;
   within = λ q here. (
       let own = runs o q order here in
       let sec = (address_of_point (alternatives_of o) (point_at o q)).sec in
-      let text : TextSection = record { sec = sec; size = (section_at o sec).size } in (
+      let text : TextSection = record { sec = sec; size = (section_at o.elf sec).size } in (
         text,
-        in_map (λ i. let t : TextSection = record { sec = i; size = (section_at o i).size } in t) (text_numbers o) sec own.listed,
+        in_map (λ i. let t : TextSection = record { sec = i; size = (section_at o.elf i).size } in t) (text_numbers o.elf) sec own.listed,
         refl,
         subst (λ n. (address_of_point (alternatives_of o) (point_at o q)).off + (decoded_insn o (point_at o q)).len ≤ n) (text_size o sec order.object own.listed) own.within,
       ));

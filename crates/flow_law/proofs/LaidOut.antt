@@ -16,6 +16,7 @@ use Rattle.ot_base.specs.NameLists.{NameLists}
 use Rattle.ot_base.specs.declared.place.Place.{Place}
 use Rattle.operation_defs.specs.declared.insn.Insn.{Insn}
 use Rattle.elf_objects.specs.Elf.{Elf}
+use Rattle.flow_defs.specs.Coded.{Coded}
 use Rattle.elf_objects.specs.Contents.{is_text, section_at}
 use Rattle.program_defs.specs.IsProgram.{IsLaidOut}
 use Rattle.program_defs.specs.Program.{Site, same_place}
@@ -32,12 +33,12 @@ use Rattle.jump_tables.specs.Texts.{is_boundary}
 use Rattle.unwinding_law.proofs.Lists.{in_map}
 use Rattle.rows_law.proofs.Equal.{equal_places}
 use Rattle.rows_law.proofs.Lists.{finds_one}
-use Rattle.flow_defs.specs.Code.{alternatives_of, no_point, plain_point, point_at, points_of_object, text_numbers, texts_of}
+use Rattle.flow_defs.specs.Code.{alternatives_of, body_of, no_point, plain_point, point_at, points_of_object, text_numbers, texts_of}
 use Rattle.flow_defs.specs.Arrival.{decoded_insn, insn_of_object}
 use Rattle.flow_defs.specs.Program.{graph_of, program_of, returning_graph, text_sections_of}
 use Rattle.flow_defs.specs.Sites.{site_of_entry}
 use Rattle.flow_law.specs.Flows.{ObjectIsInOrder}
-use Rattle.flow_law.proofs.Bodies.{IsCutIn, before_cut, before_other, body_at, text_of}
+use Rattle.flow_law.proofs.Bodies.{IsCutIn, before_cut, before_other, text_of}
 use Rattle.flow_law.proofs.Entries.{has_number, plain_listed}
 use Rattle.flow_law.proofs.EntryFacts.{entry_is}
 use Rattle.flow_law.proofs.HintPoints.{hint_points}
@@ -71,9 +72,9 @@ made_rise f sec xs own rise i j d less inside =
     let then = ap sec (get_or-map f xs j 0 d below) ∙ own (get_or xs j 0) in
     omega (arith, first, then, rise i j 0 less below)
 
-texts_ascend : (o : Elf) → AscendBySection (texts_of o)
+texts_ascend : (o : Coded) → AscendBySection (texts_of o)
 unfolding texts_of
-texts_ascend o = made_rise (λ i. let t : SectionText = record { sec = i; text = body_at o i } in t) (λ (t : SectionText). t.sec) (text_numbers o) (λ i. refl) (numbers_rise o)
+texts_ascend o = made_rise (λ i. let t : SectionText = record { sec = i; text = body_of o i } in t) (λ (t : SectionText). t.sec) (text_numbers o.elf) (λ i. refl) (numbers_rise o.elf)
 
 -- points are told apart by their numbers
 sorted_at : (ps : List Point) → IsStrictlySortedBy point_cmp ps → (i j : ℕ) (d : Point) → i < j → j < length ps → point_cmp (get_or ps i d) (get_or ps j d) ≡ Less
@@ -87,13 +88,13 @@ sorted_at (p ∷ ps) sorted (suc i) (suc j) d less inside = sorted_at ps sorted.
 less_itself : (o : Ordering) → o ≡ Less → o ≡ ordering_reverse o → ⊥
 less_itself o is back = let turned : ordering_reverse o ≡ ordering_reverse Less = ap ordering_reverse is in let k : ⊥ = cc in k
 
-below_differs : (o : Elf) (i j : ℕ) → i < j → j < point_count o → point_at o i ≡ point_at o j → ⊥
+below_differs : (o : Coded) (i j : ℕ) → i < j → j < point_count o → point_at o i ≡ point_at o j → ⊥
 unfolding points_of_object
 below_differs o i j less inside same =
     let order = sorted_at (points_of (texts_of o) (alternatives_of o)) (points_sorted (texts_of o) (alternatives_of o) (rise_by_section (texts_of o) (texts_ascend o))) i j no_point less inside in
     less_itself (point_cmp (point_at o j) (point_at o j)) (ap (λ p. point_cmp p (point_at o j)) (sym same) ∙ order) (point_total.antisymm (point_at o j) (point_at o j))
 
-one_number : (o : Elf) (q r : ℕ) → q < point_count o → r < point_count o → point_at o q ≡ point_at o r → q ≡ r
+one_number : (o : Coded) (q r : ℕ) → q < point_count o → r < point_count o → point_at o q ≡ point_at o r → q ≡ r
 one_number o q r of-q of-r same = elim (cases_lt q r) [
   | inl less ↦ absurd (below_differs o q r less of-r same)
   | inr late ↦ elim (cases_lt r q) [
@@ -102,26 +103,26 @@ one_number o q r of-q of-r same = elim (cases_lt q r) [
   ]
 ]
 
-text_listed : (o : Elf) (sec : ℕ) → Contains (text_numbers o) sec → Contains (texts_of o) (record { sec = sec; text = body_at o sec })
+text_listed : (o : Coded) (sec : ℕ) → Contains (text_numbers o.elf) sec → Contains (texts_of o) (record { sec = sec; text = body_of o sec })
 unfolding texts_of
-text_listed o sec listed = in_map (λ (i : ℕ). let t : SectionText = record { sec = i; text = body_at o i } in t) (text_numbers o) sec listed
+text_listed o sec listed = in_map (λ (i : ℕ). let t : SectionText = record { sec = i; text = body_of o i } in t) (text_numbers o.elf) sec listed
 
 -- an instruction begins at a cut that isn't the end of its body
-insn_at_body : (o : Elf) (place : Place) → Contains (text_numbers o) place.sec → insn_at (texts_of o) place ≡ insn_listed (code_of (body_at o place.sec)) place.off
+insn_at_body : (o : Coded) (place : Place) → Contains (text_numbers o.elf) place.sec → insn_at (texts_of o) place ≡ insn_listed (code_of (body_of o place.sec)) place.off
 insn_at_body o place listed =
-    let one = finds_one (λ t. t.sec == place.sec) (texts_of o) (record { sec = place.sec; text = body_at o place.sec }) (text_listed o place.sec listed) (eq-eqb place.sec place.sec refl) in
+    let one = finds_one (λ t. t.sec == place.sec) (texts_of o) (record { sec = place.sec; text = body_of o place.sec }) (text_listed o place.sec listed) (eq-eqb place.sec place.sec refl) in
     let sec = eqb-true one.0.sec place.sec one.3 in
-    let body : one.0.text ≡ body_at o place.sec = (text_of o one.0 one.2).body ∙ ap (body_at o) sec in
+    let body : one.0.text ≡ body_of o place.sec = (text_of o one.0 one.2).body ∙ ap (body_of o) sec in
     ap (option_and_then (λ (t : SectionText). insn_listed (code_of t.text) place.off)) one.1 ∙ ap (λ b. insn_listed (code_of b) place.off) body
 
-cut_boundary : (o : Elf) (place : Place) → IsCutIn o place → place.off < length (body_at o place.sec) → is_boundary (texts_of o) place ≡ true
-cut_boundary o place cut below = elim (or_cases (place.off == length (body_at o place.sec)) (is_some (insn_listed (code_of (body_at o place.sec)) place.off)) cut.cut) [
-  | inl end ↦ absurd (omega (arith, below, eqb-true place.off (length (body_at o place.sec)) end))
+cut_boundary : (o : Coded) (place : Place) → IsCutIn o place → place.off < length (body_of o place.sec).bytes → is_boundary (texts_of o) place ≡ true
+cut_boundary o place cut below = elim (or_cases (place.off == length (body_of o place.sec).bytes) (is_some (insn_listed (code_of (body_of o place.sec)) place.off)) cut.cut) [
+  | inl end ↦ absurd (omega (arith, below, eqb-true place.off (length (body_of o place.sec).bytes) end))
   | inr some ↦ ap is_some (insn_at_body o place cut.listed) ∙ some
 ]
 
 -- points of one variant that run at one address are one
-same_point_at : (o : Elf) (p r : Point) (insn other : Insn) → ObjectIsInOrder o → PointIs o p insn → PointIs o r other → p.variant ≡ r.variant
+same_point_at : (o : Coded) (p r : Point) (insn other : Insn) → ObjectIsInOrder o → PointIs o p insn → PointIs o r other → p.variant ≡ r.variant
     → address_of_point (alternatives_of o) p ≡ address_of_point (alternatives_of o) r → p ≡ r
 same_point_at o p r insn other order of-p of-r variant address = elim (variant_is p) [
   | inl plain ↦ points_equal p r (same_fields (sym (address_plain o p plain) ∙ (address ∙ address_plain o r (sym variant ∙ plain))))
@@ -141,7 +142,7 @@ same_point_at o p r insn other order of-p of-r variant address = elim (variant_i
         (eq-eqb p.variant r.variant variant)
 
 -- and those that run at different ones share no byte
-lie_in_order : (o : Elf) (p r : Point) (insn other : Insn) → ObjectIsInOrder o → PointIs o p insn → PointIs o r other → p.variant ≡ r.variant
+lie_in_order : (o : Coded) (p r : Point) (insn other : Insn) → ObjectIsInOrder o → PointIs o p insn → PointIs o r other → p.variant ≡ r.variant
     → (address_of_point (alternatives_of o) p).sec ≡ (address_of_point (alternatives_of o) r).sec
     → (address_of_point (alternatives_of o) p).off < (address_of_point (alternatives_of o) r).off
     → (address_of_point (alternatives_of o) p).off + insn.len ≤ (address_of_point (alternatives_of o) r).off
@@ -167,13 +168,13 @@ lie_in_order o p r insn other order of-p of-r variant sec before = elim (variant
 ]
 
 -- a point of a replacement runs in the site of its original
-in_own_site : (o : Elf) (point : Point) (insn : Insn) → Overlays o point insn → InSite (site_of_entry (own_entry o point)) (address_of_point (alternatives_of o) point)
+in_own_site : (o : Coded) (point : Point) (insn : Insn) → Overlays o point insn → InSite (site_of_entry (own_entry o point)) (address_of_point (alternatives_of o) point)
 in_own_site o point insn over =
     let a = own_entry o point in
     let here : InSite (site_of_entry a) (behind a.original (point.place.off - a.replacement.off)) = record { sec = refl; from = omega arith; before = omega (arith, over.ends, over.some) } in
     subst (λ (p : Place). InSite (site_of_entry a) p) (sym over.address) here
 
-ends_in_site : (o : Elf) (point : Point) (insn : Insn) (site : Site) → ObjectIsInOrder o → PointIs o point insn → IsSiteOf o site → InSite site (address_of_point (alternatives_of o) point)
+ends_in_site : (o : Coded) (point : Point) (insn : Insn) (site : Site) → ObjectIsInOrder o → PointIs o point insn → IsSiteOf o site → InSite site (address_of_point (alternatives_of o) point)
     → (address_of_point (alternatives_of o) point).off + insn.len ≤ site.start.off + site.len
 ends_in_site o point insn site order is own inside = elim (variant_is point) [
   | inl plain ↦
@@ -190,7 +191,7 @@ ends_in_site o point insn site order is own inside = elim (variant_is point) [
       omega (arith, over.ends, ap (λ (p : Place). p.off) over.address, ap (λ (s : Site). s.start.off) same, ap (λ (s : Site). s.len) same)
 ]
 
-pub laid_out : (o : Elf) (lists : NameLists) → ObjectIsInOrder o → IsLaidOut (program_of o lists)
+pub laid_out : (o : Coded) (lists : NameLists) → ObjectIsInOrder o → IsLaidOut (program_of o lists)
 unfolding program_of returning_graph graph_of insn_of_object text_sections_of
 laid_out o lists order = record {
   in_text = in_text o lists order;
@@ -215,6 +216,6 @@ laid_out o lists order = record {
       sym a.is ∙ (one_site o a.k b.k place order a.counting b.counting first second ∙ b.is));
   apart = λ q r of-q of-r variant address. one_number o q r of-q of-r (same_point_at o (point_at o q) (point_at o r) (decoded_insn o (point_at o q)) (decoded_insn o (point_at o r)) order (point_is o q order.bytes of-q) (point_is o r order.bytes of-r) variant address);
   in_order = λ q r of-q of-r variant sec before. lie_in_order o (point_at o q) (point_at o r) (decoded_insn o (point_at o q)) (decoded_insn o (point_at o r)) order (point_is o q order.bytes of-q) (point_is o r order.bytes of-r) variant sec before;
-  sections = made_rise (λ i. let t : TextSection = record { sec = i; size = (section_at o i).size } in t) (λ (t : TextSection). t.sec) (text_numbers o) (λ i. refl) (numbers_rise o);
+  sections = made_rise (λ i. let t : TextSection = record { sec = i; size = (section_at o.elf i).size } in t) (λ (t : TextSection). t.sec) (text_numbers o.elf) (λ i. refl) (numbers_rise o.elf);
   hint_points = hint_points o lists order;
 }

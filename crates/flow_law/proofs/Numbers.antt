@@ -3,7 +3,7 @@ use Rattle.std.proofs.Common.{◌≡◌, ℕ, ◌<◌, true, List, [], ◌∷◌
 use Rattle.std.proofs.lemmas.Bool.{eqb-true}
 use Rattle.std.proofs.lemmas.List.Quantifiers.{position-Some}
 use Rattle.ot_base.specs.declared.place.Place.{Place}
-use Rattle.elf_objects.specs.Elf.{Elf}
+use Rattle.flow_defs.specs.Coded.{Coded}
 use Rattle.alternatives.specs.declared.point.Point.{Point}
 use Rattle.program_defs.specs.declared.flow.Edge.{Edge}
 use Rattle.program_defs.specs.declared.flow.EdgeKind.{EdgeKind}
@@ -24,17 +24,17 @@ points_equal a b same =
     one ∙ ap (λ (p : Place). let x : Point = record { place = p; variant = b.variant } in x) place
 
 -- how many points an object has
-abbrev pub point_count : Elf → ℕ
+abbrev pub point_count : Coded → ℕ
 point_count o = length (points_of_object o)
 
 -- a number is that of its point
-pub numbered : (o : Elf) (point : Point) (n : ℕ) → number_of o point ≡ Some n → (n < point_count o) × (point_at o n ≡ point)
+pub numbered : (o : Coded) (point : Point) (n : ℕ) → number_of o point ≡ Some n → (n < point_count o) × (point_at o n ≡ point)
 numbered o point n is =
     let at = position-Some (same_point point) (points_of_object o) n no_point is in
     (at.0, sym (points_equal point (point_at o n) at.1))
 
 -- the numbers of points are below their count, and are the points' own
-pub numbers_are : (o : Elf) (points : List Point) (n : ℕ) → Contains (numbers_of o points) n → (n < point_count o) × Contains points (point_at o n)
+pub numbers_are : (o : Coded) (points : List Point) (n : ℕ) → Contains (numbers_of o points) n → (n < point_count o) × Contains points (point_at o n)
 numbers_are o points n listed =
     let one = from_filter_map (number_of o) points n listed in
     let own = numbered o one.0 n one.2 in

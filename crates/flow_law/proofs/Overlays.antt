@@ -3,7 +3,7 @@ use Rattle.std.proofs.Common.{◌≡◌, ◌+◌, ◌-◌, ◌<◌, ◌≤◌, t
 use Rattle.std.specs.Prelude.{nat_le, nat_lt, ◌==◌, ◌&&◌}
 use Rattle.std.proofs.lemmas.Bool.{eqb-true, false≢true, leb-true, ltb-true}
 use Rattle.operation_defs.specs.declared.insn.Insn.{Insn}
-use Rattle.elf_objects.specs.Elf.{Elf}
+use Rattle.flow_defs.specs.Coded.{Coded}
 use Rattle.special_sections.specs.declared.entries.AltEntry.{AltEntry}
 use Rattle.special_sections.specs.Hints.{is_place}
 use Rattle.alternatives.specs.declared.point.Point.{Point}
@@ -18,15 +18,15 @@ use Rattle.flow_law.proofs.Levels.{and_true}
 use Rattle.flow_law.proofs.PointKinds.{PointIs}
 
 -- the entry whose replacement a point belongs to
-abbrev pub own_entry : Elf → Point → AltEntry
+abbrev pub own_entry : Coded → Point → AltEntry
 own_entry o point = entry_of (alternatives_of o) point.variant
 
 -- a point of the code as it is assembled runs at its place
-pub address_plain : (o : Elf) (point : Point) → point.variant ≡ 0 → address_of_point (alternatives_of o) point ≡ point.place
+pub address_plain : (o : Coded) (point : Point) → point.variant ≡ 0 → address_of_point (alternatives_of o) point ≡ point.place
 address_plain o point plain = ap (λ v. cond (v == 0) point.place (behind (entry_of (alternatives_of o) v).original (point.place.off - (entry_of (alternatives_of o) v).replacement.off))) plain
 
 -- any other lies in its replacement or right behind it, has a byte, and ends in the original
-pub record Overlays (o : Elf) (point : Point) (insn : Insn) : Type 0 where
+pub record Overlays (o : Coded) (point : Point) (insn : Insn) : Type 0 where
   pub counting : counts (own_entry o point) ≡ true
   pub address : address_of_point (alternatives_of o) point ≡ behind (own_entry o point).original (point.place.off - (own_entry o point).replacement.off)
   pub sec : (own_entry o point).replacement.sec ≡ point.place.sec
@@ -35,17 +35,17 @@ pub record Overlays (o : Elf) (point : Point) (insn : Insn) : Type 0 where
   pub some : 1 ≤ insn.len
   pub ends : point.place.off - (own_entry o point).replacement.off + insn.len ≤ (own_entry o point).original_len
 
-other_address : (o : Elf) (point : Point) → (point.variant == 0) ≡ false → address_of_point (alternatives_of o) point ≡ behind (own_entry o point).original (point.place.off - (own_entry o point).replacement.off)
+other_address : (o : Coded) (point : Point) → (point.variant == 0) ≡ false → address_of_point (alternatives_of o) point ≡ behind (own_entry o point).original (point.place.off - (own_entry o point).replacement.off)
 other_address o point other = ap (λ b. cond b point.place (behind (own_entry o point).original (point.place.off - (own_entry o point).replacement.off))) other
 
 -- an instruction of a replacement ends in it
-record EndsInside (o : Elf) (point : Point) (insn : Insn) : Type 0 where
+record EndsInside (o : Coded) (point : Point) (insn : Insn) : Type 0 where
   sec : (own_entry o point).replacement.sec ≡ point.place.sec
   from : (own_entry o point).replacement.off ≤ point.place.off
   some : 1 ≤ insn.len
   within : point.place.off + insn.len ≤ (own_entry o point).replacement.off + (own_entry o point).replacement_len
 
-ends_inside : (o : Elf) (point : Point) (insn : Insn) → IsEntryOf o (own_entry o point)
+ends_inside : (o : Coded) (point : Point) (insn : Insn) → IsEntryOf o (own_entry o point)
     → ((own_entry o point).replacement.sec == point.place.sec && (nat_le (own_entry o point).replacement.off point.place.off && nat_lt point.place.off ((own_entry o point).replacement.off + (own_entry o point).replacement_len))) ≡ true
     → IsAt o point.place insn → EndsInside o point insn
 ends_inside o point insn entry inside at =
@@ -62,12 +62,12 @@ ends_inside o point insn entry inside at =
     }
 
 -- padding stands right behind a replacement that is shorter than its original
-record StandsBehind (o : Elf) (point : Point) : Type 0 where
+record StandsBehind (o : Coded) (point : Point) : Type 0 where
   short : (own_entry o point).replacement_len < (own_entry o point).original_len
   sec : point.place.sec ≡ (own_entry o point).replacement.sec
   off : point.place.off ≡ (own_entry o point).replacement.off + (own_entry o point).replacement_len
 
-stands_behind : (o : Elf) (point : Point)
+stands_behind : (o : Coded) (point : Point)
     → (nat_lt (own_entry o point).replacement_len (own_entry o point).original_len && (is_place point.place (behind (own_entry o point).replacement (own_entry o point).replacement_len) && is_cut (texts_of o) point.place)) ≡ true
     → StandsBehind o point
 stands_behind o point padded =
@@ -80,7 +80,7 @@ stands_behind o point padded =
 not_plain : {P : Type 0} (point : Point) → (point.variant == 0) ≡ false → point.variant ≡ 0 → P
 not_plain point other plain = absurd (false≢true (sym other ∙ ap (λ v. v == 0) plain))
 
-pub overlays : (o : Elf) (point : Point) (insn : Insn) → ObjectIsInOrder o → (point.variant == 0) ≡ false → PointIs o point insn → Overlays o point insn
+pub overlays : (o : Coded) (point : Point) (insn : Insn) → ObjectIsInOrder o → (point.variant == 0) ≡ false → PointIs o point insn → Overlays o point insn
 overlays o point _ order other (PointIs.plain insn plain at) = not_plain point other plain
 overlays o point _ order other (PointIs.replaced insn _ counting inside at) =
     let entry = entry_is o (point.variant - 1) order counting in
@@ -91,13 +91,13 @@ overlays o point _ order other (PointIs.padding _ counting padded) =
     record { counting = counting; address = other_address o point other; sec = sym own.sec; from = omega (arith, own.off); upto = omega (arith, own.off); some = omega (arith, own.short); ends = omega (arith, own.off, own.short) }
 
 -- the point of the code as it is assembled is an instruction of it
-pub plain_at : (o : Elf) (point : Point) (insn : Insn) → point.variant ≡ 0 → PointIs o point insn → IsAt o point.place insn
+pub plain_at : (o : Coded) (point : Point) (insn : Insn) → point.variant ≡ 0 → PointIs o point insn → IsAt o point.place insn
 plain_at o point _ plain (PointIs.plain insn _ at) = at
 plain_at o point _ plain (PointIs.replaced insn other counting inside at) = not_plain point other plain
 plain_at o point _ plain (PointIs.padding other counting padded) = not_plain point other plain
 
 -- of two points of one replacement the one that stands first ends where the other begins, or before
-pub one_behind_other : (o : Elf) (point next : Point) (insn insn' : Insn) → ObjectIsInOrder o → (point.variant == 0) ≡ false → point.variant ≡ next.variant
+pub one_behind_other : (o : Coded) (point next : Point) (insn insn' : Insn) → ObjectIsInOrder o → (point.variant == 0) ≡ false → point.variant ≡ next.variant
     → PointIs o point insn → PointIs o next insn' → point.place.off < next.place.off → point.place.off + insn.len ≤ next.place.off
 one_behind_other o point next _ insn' order other same (PointIs.plain insn plain at) also before = not_plain point other plain
 one_behind_other o point next _ insn' order other same (PointIs.padding _ counting padded) also before =

@@ -4,6 +4,7 @@ use Rattle.std.specs.Prelude.{is_some, is_none, option_map, option_and_then, unw
 use Rattle.std.proofs.lemmas.Bool.{and_from, false≢true, eqb-true, lt-ltb, ne_eqb}
 use Rattle.ot_base.specs.declared.place.Place.{Place}
 use Rattle.elf_objects.specs.Elf.{Elf}
+use Rattle.flow_defs.specs.Coded.{Coded}
 use Rattle.elf_objects.specs.Below.{least_below}
 use Rattle.elf_objects.specs.Contents.{symbol_at}
 use Rattle.elf_objects.proofs.LeastBelow.{IsLeast, least_below-none, least_below-some}
@@ -108,7 +109,7 @@ first_address entries k place is =
     ∙ same_place_is a.original place is
 
 -- where control that comes to a place stands, it runs at that place
-pub arrives_at : (o : Elf) (place : Place) (q : ℕ) → Contains (arrive o place) q → address_of_point (alternatives_of o) (point_at o q) ≡ place
+pub arrives_at : (o : Coded) (place : Place) (q : ℕ) → Contains (arrive o place) q → address_of_point (alternatives_of o) (point_at o q) ≡ place
 arrives_at o place q c =
     let entries = alternatives_of o in
     let plain_one : Point = record { place = place; variant = 0 } in
@@ -123,8 +124,8 @@ arrives_at o place q c =
     ]
 
 -- so its owner is that of the place
-pub arriving_owner : (o : Elf) (place : Place) (q : ℕ) → Contains (arrive o place) q → owner_of_point o (point_at o q) ≡ owner_at o place
-arriving_owner o place q c = ap (owner_at o) (arrives_at o place q c)
+pub arriving_owner : (o : Coded) (place : Place) (q : ℕ) → Contains (arrive o place) q → owner_of_point o (point_at o q) ≡ owner_at o.elf place
+arriving_owner o place q c = ap (owner_at o.elf) (arrives_at o place q c)
 
 pub owners_equal : (a b : Option ℕ) → same_owner a b ≡ true → a ≡ b
 owners_equal None None e = refl

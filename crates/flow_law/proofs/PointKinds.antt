@@ -4,7 +4,7 @@ use Rattle.std.specs.Prelude.{is_some, unwrap_or, ◌==◌}
 use Rattle.std.proofs.lemmas.Bool.{eqb-true, false≢true}
 use Rattle.std.proofs.lemmas.List.Elements.{Contains-get_or}
 use Rattle.operation_defs.specs.declared.insn.Insn.{Insn}
-use Rattle.elf_objects.specs.Elf.{Elf}
+use Rattle.flow_defs.specs.Coded.{Coded}
 use Rattle.alternatives.specs.declared.point.Point.{Point}
 use Rattle.alternatives.specs.Originals.{counts}
 use Rattle.alternatives.specs.Points.{IsPoint, entry_of, insn_of_point, is_padded, is_within, padding_of, points_of, replacement_insn}
@@ -19,7 +19,7 @@ use Rattle.flow_law.proofs.Numbers.{point_count}
 use Rattle.rows_law.proofs.Lists.{some_is}
 
 -- what a point is, with its instruction as it is decoded
-pub data PointIs (o : Elf) (point : Point) : Insn → Type 0 where
+pub data PointIs (o : Coded) (point : Point) : Insn → Type 0 where
   plain : (insn : Insn) → point.variant ≡ 0 → IsAt o point.place insn → PointIs o point insn
   replaced : (insn : Insn) → (point.variant == 0) ≡ false → counts (entry_of (alternatives_of o) point.variant) ≡ true
       → is_within (entry_of (alternatives_of o) point.variant).replacement (entry_of (alternatives_of o) point.variant).replacement_len point.place ≡ true
@@ -28,7 +28,7 @@ pub data PointIs (o : Elf) (point : Point) : Insn → Type 0 where
       → is_padded (texts_of o) (entry_of (alternatives_of o) point.variant) point.place ≡ true
       → PointIs o point (padding_of (entry_of (alternatives_of o) point.variant))
 
-insn_is : (o : Elf) (point : Point) (insn : Insn) → HasBytes o → insn_of_point (texts_of o) (alternatives_of o) point ≡ Some insn → PointIs o point insn
+insn_is : (o : Coded) (point : Point) (insn : Insn) → HasBytes o → insn_of_point (texts_of o) (alternatives_of o) point ≡ Some insn → PointIs o point insn
 insn_is o point insn are is = by_variant (point.variant == 0) refl is
   where
     padded : (b : Bool) → (point.variant == 0) ≡ false → counts (entry_of (alternatives_of o) point.variant) ≡ true → is_padded (texts_of o) (entry_of (alternatives_of o) point.variant) point.place ≡ b
@@ -54,13 +54,13 @@ insn_is o point insn are is = by_variant (point.variant == 0) refl is
     by_variant false v e = counted (counts (entry_of (alternatives_of o) point.variant)) v refl e
 
 -- the points by number are points
-pub point_listed : (o : Elf) (q : ℕ) → q < point_count o → IsPoint (texts_of o) (alternatives_of o) (point_at o q)
+pub point_listed : (o : Coded) (q : ℕ) → q < point_count o → IsPoint (texts_of o) (alternatives_of o) (point_at o q)
 unfolding points_of_object
 point_listed o q here =
     every-in (IsPoint (texts_of o) (alternatives_of o)) (points_of (texts_of o) (alternatives_of o)) (point_at o q) (points_sound (texts_of o) (alternatives_of o))
     (in_contains (points_of (texts_of o) (alternatives_of o)) (point_at o q) (Contains-get_or (points_of (texts_of o) (alternatives_of o)) q no_point here))
 
-pub point_is : (o : Elf) (q : ℕ) → HasBytes o → q < point_count o → PointIs o (point_at o q) (decoded_insn o (point_at o q))
+pub point_is : (o : Coded) (q : ℕ) → HasBytes o → q < point_count o → PointIs o (point_at o q) (decoded_insn o (point_at o q))
 unfolding decoded_insn
 point_is o q are here = go (insn_of_point (texts_of o) (alternatives_of o) (point_at o q)) refl (point_listed o q here)
   where

@@ -17,6 +17,7 @@ use Rattle.x86_decode.specs.Fields.{digit, is_at_rbp, is_at_rsp, is_register, mo
 use Rattle.x86_decode.specs.Operation.{address_loaded, arithmetic, copied, group_5, group_7, jump_table, loaded, operation, operation_by, pop_operand, popped, push_operand, pushed, stored, written}
 use Rattle.x86_decode.specs.Spelling.{Spells, fields_in, opcode_bytes, optional}
 use Rattle.x86_decode.proofs.Decided.{outcome}
+use Rattle.x86_map.specs.declared.map.Map.{Map}
 use Rattle.x86_map.specs.Prefixes.{rex_b, rex_w}
 use Rattle.x86_decode.proofs.Languages.{IsBytes}
 
@@ -171,8 +172,8 @@ bytes_parts : (xs ys : List ℕ) → IsBytes (xs ++ ys) → IsBytes xs × IsByte
 bytes_parts [] ys bytes = (tt, bytes)
 bytes_parts (x ∷ xs) ys bytes = let rest = bytes_parts xs ys bytes.1 in ((bytes.0, rest.0), rest.1)
 
-operands_fit : (bytes : List ℕ) (insn : Insn) (s : Spells bytes insn) → FieldsFit (fields_in s.parts s.shape)
-operands_fit bytes insn s =
+operands_fit : (map : Map) (bytes : List ℕ) (insn : Insn) (s : Spells map bytes insn) → FieldsFit (fields_in map s.parts s.shape)
+operands_fit map bytes insn s =
     let all = subst IsBytes s.in_order s.are_bytes in
     let operands = s.parts.operands in
     let behind_legacy = (bytes_parts s.parts.legacy _ all).1 in
@@ -184,9 +185,9 @@ operands_fit bytes insn s =
     record { displacement = signed_fits operands.displacement numbers.0; immediate = signed_fits operands.immediate numbers.1 }
 
 -- a decoded instruction's number fits
-pub decoded_fits : (bytes : List ℕ) (insn : Insn) → IsBytes bytes → decoded bytes ≡ Ok insn → HasSignedNumber insn.op
+pub decoded_fits : (map : Map) (bytes : List ℕ) (insn : Insn) → IsBytes bytes → decoded map bytes ≡ Ok insn → HasSignedNumber insn.op
 unfolding operation
-decoded_fits bytes insn are is =
-    let stands : StandsInFront bytes insn = subst (Outcome bytes) is (outcome bytes are) in
+decoded_fits map bytes insn are is =
+    let stands : StandsInFront map bytes insn = subst (Outcome map bytes) is (outcome map bytes are) in
     let s = stands.1 in
-    subst HasSignedNumber (sym s.op) (action_fits (action_of (fields_in s.parts s.shape).map (fields_in s.parts s.shape).opcode) (fields_in s.parts s.shape) (operands_fit (take insn.len bytes) insn s))
+    subst HasSignedNumber (sym s.op) (action_fits (action_of (fields_in map s.parts s.shape).number (fields_in map s.parts s.shape).opcode) (fields_in map s.parts s.shape) (operands_fit map (take insn.len bytes) insn s))

@@ -6,7 +6,7 @@ use Rattle.std.proofs.lemmas.Bool.{and_from, cases_lt, eq-eqb, eqb-true, false�
 use Rattle.std.proofs.lemmas.List.{get_or-take, get_or_default}
 use Rattle.std.proofs.lemmas.List.Elements.{Contains-get_or}
 use Rattle.ot_base.specs.declared.place.Place.{Place}
-use Rattle.elf_objects.specs.Elf.{Elf}
+use Rattle.flow_defs.specs.Coded.{Coded}
 use Rattle.program_defs.specs.Program.{Site, in_site, same_place}
 use Rattle.special_sections.specs.declared.entries.AltEntry.{AltEntry}
 use Rattle.alternatives.specs.declared.texts.SectionText.{SectionText}
@@ -15,10 +15,10 @@ use Rattle.alternatives.specs.Texts.{behind}
 use Rattle.unwinding_law.proofs.Lists.{found, in_below, in_flat_map, in_map}
 use Rattle.rows_law.proofs.Equal.{equal_places, same_place_is}
 use Rattle.rows_law.proofs.Lists.{finds, finds_one, from_filter_map, in_filter_map, some_is}
-use Rattle.flow_defs.specs.Code.{alternatives_of, text_numbers, texts_of}
+use Rattle.flow_defs.specs.Code.{alternatives_of, body_of, text_numbers, texts_of}
 use Rattle.flow_defs.specs.Sites.{begins_at, places_of, places_of_text, site_of_entry, site_starting_at, sites_of}
 use Rattle.flow_law.specs.Flows.{ObjectIsInOrder}
-use Rattle.flow_law.proofs.Bodies.{body_at, cut_within}
+use Rattle.flow_law.proofs.Bodies.{cut_within}
 use Rattle.flow_law.proofs.EntryFacts.{counted_inside, entry_is, unrefused}
 use Rattle.flow_law.proofs.Levels.{and_false, and_true}
 
@@ -58,7 +58,7 @@ shares a b of-a of-b s =
     (and_from (a.original.sec == b.original.sec) _ (eq-eqb a.original.sec b.original.sec s.sec)
     (and_from (nat_lt a.original.off (b.original.off + b.original_len)) _ (lt-ltb a.original.off (b.original.off + b.original_len) s.one) (lt-ltb b.original.off (a.original.off + a.original_len) s.other)))
 
-same_as_earlier : (o : Elf) (j k : ℕ) → ObjectIsInOrder o → j < k → counts (entry_at (alternatives_of o) j) ≡ true → counts (entry_at (alternatives_of o) k) ≡ true
+same_as_earlier : (o : Coded) (j k : ℕ) → ObjectIsInOrder o → j < k → counts (entry_at (alternatives_of o) j) ≡ true → counts (entry_at (alternatives_of o) k) ≡ true
     → SharesByte (entry_at (alternatives_of o) k) (entry_at (alternatives_of o) j) → SameOriginal (entry_at (alternatives_of o) k) (entry_at (alternatives_of o) j)
 same_as_earlier o j k order less of-j of-k s =
     let entries = alternatives_of o in
@@ -73,7 +73,7 @@ same_as_earlier o j k order less of-j of-k s =
     let parts = and_true (a.original.off == b.original.off) (a.original_len == b.original_len) same in
     record { off = eqb-true a.original.off b.original.off parts.0; len = eqb-true a.original_len b.original_len parts.1 }
 
-same_original : (o : Elf) (j k : ℕ) → ObjectIsInOrder o → counts (entry_at (alternatives_of o) j) ≡ true → counts (entry_at (alternatives_of o) k) ≡ true
+same_original : (o : Coded) (j k : ℕ) → ObjectIsInOrder o → counts (entry_at (alternatives_of o) j) ≡ true → counts (entry_at (alternatives_of o) k) ≡ true
     → SharesByte (entry_at (alternatives_of o) j) (entry_at (alternatives_of o) k) → SameOriginal (entry_at (alternatives_of o) j) (entry_at (alternatives_of o) k)
 same_original o j k order of-j of-k s = elim (cases_lt j k) [
   | inl less ↦ let same = same_as_earlier o j k order less of-j of-k (record { sec = sym s.sec; one = s.other; other = s.one }) in record { off = sym same.off; len = sym same.len }
@@ -103,12 +103,12 @@ is_in_site site place is =
     (and_from (nat_le site.start.off place.off) _ (le-leb site.start.off place.off is.from) (lt-ltb place.off (site.start.off + site.len) is.before))
 
 -- a site is the original of an alternative that counts
-pub record IsSiteOf (o : Elf) (site : Site) : Type 0 where
+pub record IsSiteOf (o : Coded) (site : Site) : Type 0 where
   pub k : ℕ
   pub counting : counts (entry_at (alternatives_of o) k) ≡ true
   pub is : site_of_entry (entry_at (alternatives_of o) k) ≡ site
 
-site_found : (o : Elf) (place : Place) (site : Site) → site_starting_at o place ≡ Some site → IsSiteOf o site
+site_found : (o : Coded) (place : Place) (site : Site) → site_starting_at o place ≡ Some site → IsSiteOf o site
 site_found o place site e = elim (finds (begins_at place) (alternatives_of o)) [
   | inl none ↦ absurd (let missing = ap (option_map site_of_entry) none.0 in let z : ⊥ = cc in z)
   | inr one ↦
@@ -116,7 +116,7 @@ site_found o place site e = elim (finds (begins_at place) (alternatives_of o)) [
       record { k = own.k; counting = ap counts own.is ∙ (and_true (counts one.0) (same_place one.0.original place) one.3).0; is = ap site_of_entry own.is ∙ some_is (sym (ap (option_map site_of_entry) one.1) ∙ e) }
 ]
 
-pub site_is : (o : Elf) (site : Site) → Contains (sites_of o) site → IsSiteOf o site
+pub site_is : (o : Coded) (site : Site) → Contains (sites_of o) site → IsSiteOf o site
 unfolding sites_of
 site_is o site c = let one = from_filter_map (site_starting_at o) (places_of o) site c in site_found o one.0 site one.2
 
@@ -127,7 +127,7 @@ equal_sites a b sec same =
     one ∙ ap (λ (n : ℕ). let s : Site = record { start = b.original; len = n } in s) same.len
 
 -- sites that hold one place are one
-pub one_site : (o : Elf) (j k : ℕ) (place : Place) → ObjectIsInOrder o → counts (entry_at (alternatives_of o) j) ≡ true → counts (entry_at (alternatives_of o) k) ≡ true
+pub one_site : (o : Coded) (j k : ℕ) (place : Place) → ObjectIsInOrder o → counts (entry_at (alternatives_of o) j) ≡ true → counts (entry_at (alternatives_of o) k) ≡ true
     → InSite (site_of_entry (entry_at (alternatives_of o) j)) place → InSite (site_of_entry (entry_at (alternatives_of o) k)) place
     → site_of_entry (entry_at (alternatives_of o) j) ≡ site_of_entry (entry_at (alternatives_of o) k)
 one_site o j k place order of-j of-k one other =
@@ -138,21 +138,21 @@ one_site o j k place order of-j of-k one other =
     equal_sites a b sec (same_original o j k order of-j of-k s)
 
 -- the original of an alternative that counts begins below the end of its text
-pub starts_below : (o : Elf) (k : ℕ) → ObjectIsInOrder o → counts (entry_at (alternatives_of o) k) ≡ true → (entry_at (alternatives_of o) k).original.off < length (body_at o (entry_at (alternatives_of o) k).original.sec)
+pub starts_below : (o : Coded) (k : ℕ) → ObjectIsInOrder o → counts (entry_at (alternatives_of o) k) ≡ true → (entry_at (alternatives_of o) k).original.off < length (body_of o (entry_at (alternatives_of o) k).original.sec).bytes
 starts_below o k order counting =
     let a = entry_at (alternatives_of o) k in
     omega (arith, some_len a.original_len counting, cut_within o (behind a.original a.original_len) (entry_is o k order counting).original_end)
 
-listed_place : (o : Elf) (place : Place) → Contains (text_numbers o) place.sec → place.off < length (body_at o place.sec) → Contains (places_of o) place
+listed_place : (o : Coded) (place : Place) → Contains (text_numbers o.elf) place.sec → place.off < length (body_of o place.sec).bytes → Contains (places_of o) place
 unfolding texts_of
 listed_place o place listed below =
-    let made = λ (i : ℕ). let x : SectionText = record { sec = i; text = body_at o i } in x in
+    let made = λ (i : ℕ). let x : SectionText = record { sec = i; text = body_of o i } in x in
     let t : SectionText = made place.sec in
-    in_flat_map places_of_text (texts_of o) t place (in_map made (text_numbers o) place.sec listed)
-    (in_map (λ off. let p : Place = record { sec = place.sec; off = off } in p) _ place.off (in_below (length (body_at o place.sec)) place.off below))
+    in_flat_map places_of_text (texts_of o) t place (in_map made (text_numbers o.elf) place.sec listed)
+    (in_map (λ off. let p : Place = record { sec = place.sec; off = off } in p) _ place.off (in_below (length (body_of o place.sec).bytes) place.off below))
 
 -- and is a site
-pub has_site : (o : Elf) (k : ℕ) → ObjectIsInOrder o → counts (entry_at (alternatives_of o) k) ≡ true → Contains (sites_of o) (site_of_entry (entry_at (alternatives_of o) k))
+pub has_site : (o : Coded) (k : ℕ) → ObjectIsInOrder o → counts (entry_at (alternatives_of o) k) ≡ true → Contains (sites_of o) (site_of_entry (entry_at (alternatives_of o) k))
 unfolding sites_of
 has_site o k order counting =
     let entries = alternatives_of o in

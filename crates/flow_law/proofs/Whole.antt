@@ -1,7 +1,7 @@
 -- The program of an object in order is one, as the laws ask.
 use Rattle.std.proofs.Common.{◌≡◌, []}
 use Rattle.ot_base.specs.NameLists.{NameLists}
-use Rattle.elf_objects.specs.Elf.{Elf}
+use Rattle.flow_defs.specs.Coded.{Coded}
 use Rattle.program_defs.specs.IsProgram.{IsProgram}
 use Rattle.special_sections.specs.Special.{special_faults}
 use Rattle.flow_defs.specs.Program.{program_of}
@@ -13,7 +13,7 @@ use Rattle.flow_law.proofs.Entries as of_entries
 use Rattle.flow_law.proofs.Fields as of_fields
 use Rattle.flow_law.proofs.HintStates as of_hints
 
-pub program_is_one : (o : Elf) (lists : NameLists) → HasBytes o → special_faults o ≡ [] → IsProgram (program_of o lists)
+pub program_is_one : (o : Coded) (lists : NameLists) → HasBytes o → special_faults o.elf ≡ [] → IsProgram (program_of o lists)
 program_is_one o lists are right = record {
   edges = of_fields.edges o lists;
   arrivals = of_fields.arrivals o lists;

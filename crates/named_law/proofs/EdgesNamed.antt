@@ -11,7 +11,7 @@ use Rattle.operation_defs.specs.declared.op.Op.{Op}
 use Rattle.operation_defs.specs.declared.op.Op.TheVariants as ops
 use Rattle.elf_objects.specs.declared.TheConstants.{R_X86_64_64}
 use Rattle.elf_objects.specs.declared.symbol.Reloc.{Reloc}
-use Rattle.elf_objects.specs.Elf.{Elf}
+use Rattle.flow_defs.specs.Coded.{Coded}
 use Rattle.elf_objects.specs.Contents.{relocs_at}
 use Rattle.program_defs.specs.declared.flow.Edge.{Edge}
 use Rattle.program_defs.specs.declared.flow.EdgeKind.{EdgeKind}
@@ -74,49 +74,49 @@ up_to_listed (Some first ∷ xs) place c = elim (cases first (up_to_none xs) pla
   | inr d ↦ there (Some first) xs (Some place) (up_to_listed xs place d)
 ]
 
-module _ (o : Elf) where
-  boundary_is_named : (field place : Place) → boundary_named o (texts_of o) field ≡ Some place → IsNamed o place.sec
-  boundary_is_named field place is = by_reloc (reloc_of_kind o R_X86_64_64 field) is
+module _ (o : Coded) where
+  boundary_is_named : (field place : Place) → boundary_named o.elf (texts_of o) field ≡ Some place → IsNamed o place.sec
+  boundary_is_named field place is = by_reloc (reloc_of_kind o.elf R_X86_64_64 field) is
     where
       by_boundary : (found : Place) (b : Bool) → cond b (Some found) None ≡ Some place → found ≡ place
       by_boundary found true e = some_is e
       by_boundary found false e = absurd (let z : ⊥ = cc in z)
 
-      by_place : (r : Reloc) (found : Option Place) → place_named o r ≡ found → option_and_then (λ place. cond (is_boundary (texts_of o) place) (Some place) None) found ≡ Some place → IsNamed o place.sec
+      by_place : (r : Reloc) (found : Option Place) → place_named o.elf r ≡ found → option_and_then (λ place. cond (is_boundary (texts_of o) place) (Some place) None) found ≡ Some place → IsNamed o place.sec
       by_place r None named e = absurd (let z : ⊥ = cc in z)
       by_place r (Some found) named e = subst (λ (p : Place). IsNamed o p.sec) (by_boundary found (is_boundary (texts_of o) found) e) (place_is_named o r found named)
 
-      by_reloc : (r : Option Reloc) → option_and_then (λ place. cond (is_boundary (texts_of o) place) (Some place) None) (option_and_then (place_named o) r) ≡ Some place → IsNamed o place.sec
+      by_reloc : (r : Option Reloc) → option_and_then (λ place. cond (is_boundary (texts_of o) place) (Some place) None) (option_and_then (place_named o.elf) r) ≡ Some place → IsNamed o place.sec
       by_reloc None e = absurd (let z : ⊥ = cc in z)
-      by_reloc (Some r) e = by_place r (place_named o r) refl e
+      by_reloc (Some r) e = by_place r (place_named o.elf r) refl e
 
-  entry_is_named : (table : Place) (i : ℕ) (place : Place) → entry_at o (texts_of o) table i ≡ Some place → IsNamed o place.sec
+  entry_is_named : (table : Place) (i : ℕ) (place : Place) → entry_at o.elf (texts_of o) table i ≡ Some place → IsNamed o place.sec
   entry_is_named table i place is = by_field (table_behind table (8 * i)) is
     where
-      by_table : (field : Place) (b : Bool) → cond b None (boundary_named o (texts_of o) field) ≡ Some place → IsNamed o place.sec
+      by_table : (field : Place) (b : Bool) → cond b None (boundary_named o.elf (texts_of o) field) ≡ Some place → IsNamed o place.sec
       by_table field true e = absurd (let z : ⊥ = cc in z)
       by_table field false e = boundary_is_named field place e
 
-      by_field : (field : Option Place) → option_and_then (λ field. cond (nat_lt 0 i && is_table o (texts_of o) field) None (boundary_named o (texts_of o) field)) field ≡ Some place → IsNamed o place.sec
+      by_field : (field : Option Place) → option_and_then (λ field. cond (nat_lt 0 i && is_table o.elf (texts_of o) field) None (boundary_named o.elf (texts_of o) field)) field ≡ Some place → IsNamed o place.sec
       by_field None e = absurd (let z : ⊥ = cc in z)
-      by_field (Some field) e = by_table field (nat_lt 0 i && is_table o (texts_of o) field) e
+      by_field (Some field) e = by_table field (nat_lt 0 i && is_table o.elf (texts_of o) field) e
 
   table_is_named : (point : Point) (place : Place) → Contains (table_of_point o point) place → IsNamed o place.sec
   unfolding table_of_point
-  table_is_named point place c = go (jump_table o (texts_of o) point.place) c
+  table_is_named point place c = go (jump_table o.elf (texts_of o) point.place) c
     where
-      go : (table : Option Place) → Contains (entries_by o (texts_of o) (owner_of_point o point) table) place → IsNamed o place.sec
+      go : (table : Option Place) → Contains (entries_by o.elf (texts_of o) (owner_of_point o point) table) place → IsNamed o place.sec
       go None c = nowhere place c
       go (Some table) c =
-          let listed = taken_listed (λ p. same_owner (owner_at o p) (owner_of_point o point)) (entries_of o (texts_of o) table) place c in
-          let one = from_map (entry_at o (texts_of o) table) (range_with_len 0 (length (relocs_at o table.sec))) (Some place) (up_to_listed _ place listed) in
+          let listed = taken_listed (λ p. same_owner (owner_at o.elf p) (owner_of_point o point)) (entries_of o.elf (texts_of o) table) place c in
+          let one = from_map (entry_at o.elf (texts_of o) table) (range_with_len 0 (length (relocs_at o.elf table.sec))) (Some place) (up_to_listed _ place listed) in
           entry_is_named table one.0 place one.2
 
 -- each of some edges leads to a point that runs in such a section
-abbrev LeadToNamed : Elf → List Edge → Type 0
+abbrev LeadToNamed : Coded → List Edge → Type 0
 LeadToNamed o edges = (e : Edge) → Contains edges e → IsNamed o (address_at o e.to).sec
 
-module _ (o : Elf) where
+module _ (o : Coded) where
   none_lead : LeadToNamed o []
   none_lead e c = nowhere e c
 
@@ -159,24 +159,24 @@ module _ (o : Elf) where
     target_leads targets.ThunkReturn named = none_lead
     target_leads targets.Bad named = none_lead
 
-    module _ (none : special_faults o ≡ []) where
+    module _ (none : special_faults o.elf ≡ []) where
       static_named : (place : Place) → Contains (static_targets o point) place → IsNamed o place.sec
       static_named place c = go (is_padding o point) c
         where
-          go : (b : Bool) → Contains (cond b [] (map (λ (x : BranchEntry). x.target) (filter (λ (x : BranchEntry). same_place x.code point.place) (special_of o).branches))) place → IsNamed o place.sec
+          go : (b : Bool) → Contains (cond b [] (map (λ (x : BranchEntry). x.target) (filter (λ (x : BranchEntry). same_place x.code point.place) (special_of o.elf).branches))) place → IsNamed o place.sec
           go true c = nowhere place c
           go false c =
-              let one = from_map (λ (x : BranchEntry). x.target) (filter (λ (x : BranchEntry). same_place x.code point.place) (special_of o).branches) place c in
-              subst (λ (p : Place). IsNamed o p.sec) one.2 (target_is_named o none one.0 (from_filter (λ (x : BranchEntry). same_place x.code point.place) (special_of o).branches one.0 one.1).0)
+              let one = from_map (λ (x : BranchEntry). x.target) (filter (λ (x : BranchEntry). same_place x.code point.place) (special_of o.elf).branches) place c in
+              subst (λ (p : Place). IsNamed o p.sec) one.2 (target_is_named o none one.0 (from_filter (λ (x : BranchEntry). same_place x.code point.place) (special_of o.elf).branches one.0 one.1).0)
 
       fixups_named : (place : Place) → Contains (fixups o point) place → IsNamed o place.sec
       fixups_named place c = go (is_padding o point) c
         where
-          go : (b : Bool) → Contains (cond b [] (map (λ (x : FixEntry). x.fixup) (filter (λ (x : FixEntry). same_place x.insn point.place) (special_of o).fixes))) place → IsNamed o place.sec
+          go : (b : Bool) → Contains (cond b [] (map (λ (x : FixEntry). x.fixup) (filter (λ (x : FixEntry). same_place x.insn point.place) (special_of o.elf).fixes))) place → IsNamed o place.sec
           go true c = nowhere place c
           go false c =
-              let one = from_map (λ (x : FixEntry). x.fixup) (filter (λ (x : FixEntry). same_place x.insn point.place) (special_of o).fixes) place c in
-              subst (λ (p : Place). IsNamed o p.sec) one.2 (fixup_is_named o none one.0 (from_filter (λ (x : FixEntry). same_place x.insn point.place) (special_of o).fixes one.0 one.1).0)
+              let one = from_map (λ (x : FixEntry). x.fixup) (filter (λ (x : FixEntry). same_place x.insn point.place) (special_of o.elf).fixes) place c in
+              subst (λ (p : Place). IsNamed o p.sec) one.2 (fixup_is_named o none one.0 (from_filter (λ (x : FixEntry). same_place x.insn point.place) (special_of o.elf).fixes one.0 one.1).0)
 
     module _ (named : IsNamed o (address_of o point).sec) where
       -- edges to a point of the same replacement
@@ -225,7 +225,7 @@ module _ (o : Elf) where
           go true = after_leads
           go false = none_lead
 
-      checked_lead : special_faults o ≡ [] → LeadToNamed o (checked_edges o point)
+      checked_lead : special_faults o.elf ≡ [] → LeadToNamed o (checked_edges o point)
       checked_lead none =
           let insn = insn_of_object o point in
           both_lead (next_edges o point) _ next_leads
@@ -233,7 +233,7 @@ module _ (o : Elf) where
           (both_lead (listed_edges o Taken point (static_targets o point)) _ (listed_lead Taken (static_targets o point) (static_named none))
           (both_lead (listed_edges o Fixup point (fixups o point)) (table_edges o point) (listed_lead Fixup (fixups o point) (fixups_named none)) (table_leads insn.op))))
 
-      pub edges_lead_to_named : special_faults o ≡ [] → LeadToNamed o (goes o point)
+      pub edges_lead_to_named : special_faults o.elf ≡ [] → LeadToNamed o (goes o point)
       unfolding goes
       edges_lead_to_named none = go (is_unchecked_point o point)
         where

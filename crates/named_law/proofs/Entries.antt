@@ -4,6 +4,7 @@ use Rattle.std.specs.Prelude.{nat_lt, slice_index, ◌==◌}
 use Rattle.std.specs.List.{range_with_len}
 use Rattle.std.proofs.lemmas.Bool.{not-false}
 use Rattle.elf_objects.specs.Elf.{Elf}
+use Rattle.flow_defs.specs.Coded.{Coded}
 use Rattle.elf_objects.specs.Contents.{section_at}
 use Rattle.special_sections.specs.declared.entries.AltEntry.{AltEntry}
 use Rattle.special_sections.specs.declared.entries.BranchEntry.{BranchEntry}
@@ -44,69 +45,69 @@ entry_of kind o x none c =
 holds : (lacking holding : Bool) (rest : List Reason) → first_reason ((lacking, NoReloc) ∷ (not holding, NotText) ∷ rest) ≡ None → holding ≡ true
 holds lacking holding rest h = not-false holding (reason_none (not holding) NotText rest (reason_none lacking NoReloc ((not holding, NotText) ∷ rest) h).1).0
 
-module _ (o : Elf) (none : special_faults o ≡ []) where
-  of_alternatives : faults tables.alternatives o ≡ []
-  of_alternatives = (parts_none (faults tables.alternatives o) _ none).0
+module _ (o : Coded) (none : special_faults o.elf ≡ []) where
+  of_alternatives : faults tables.alternatives o.elf ≡ []
+  of_alternatives = (parts_none (faults tables.alternatives o.elf) _ none).0
 
-  of_branches : faults tables.branches o ≡ []
-  of_branches = let behind = (parts_none (faults tables.alternatives o) _ none).1 in (parts_none (faults tables.branches o) _ behind).0
+  of_branches : faults tables.branches o.elf ≡ []
+  of_branches = let behind = (parts_none (faults tables.alternatives o.elf) _ none).1 in (parts_none (faults tables.branches o.elf) _ behind).0
 
-  of_fixes : faults tables.fixes o ≡ []
+  of_fixes : faults tables.fixes o.elf ≡ []
   of_fixes =
-      let behind_alternatives = (parts_none (faults tables.alternatives o) _ none).1 in
-      let behind_branches = (parts_none (faults tables.branches o) _ behind_alternatives).1 in
-      (parts_none (faults tables.fixes o) _ behind_branches).0
+      let behind_alternatives = (parts_none (faults tables.alternatives o.elf) _ none).1 in
+      let behind_branches = (parts_none (faults tables.branches o.elf) _ behind_alternatives).1 in
+      (parts_none (faults tables.fixes o.elf) _ behind_branches).0
 
-  of_hints : faults hint.hints o ≡ []
+  of_hints : faults hint.hints o.elf ≡ []
   of_hints =
-      let behind_alternatives = (parts_none (faults tables.alternatives o) _ none).1 in
-      let behind_branches = (parts_none (faults tables.branches o) _ behind_alternatives).1 in
-      let behind_fixes = (parts_none (faults tables.fixes o) _ behind_branches).1 in
-      (parts_none (faults hint.hints o) _ behind_fixes).0
+      let behind_alternatives = (parts_none (faults tables.alternatives o.elf) _ none).1 in
+      let behind_branches = (parts_none (faults tables.branches o.elf) _ behind_alternatives).1 in
+      let behind_fixes = (parts_none (faults tables.fixes o.elf) _ behind_branches).1 in
+      (parts_none (faults hint.hints o.elf) _ behind_fixes).0
 
   -- the original of an alternative
-  pub original_is_named : (a : AltEntry) → Contains (special_of o).alternatives a → IsNamed o a.original.sec
+  pub original_is_named : (a : AltEntry) → Contains (special_of o.elf).alternatives a → IsNamed o a.original.sec
   original_is_named a c =
-      let entry = entry_of tables.alternatives o a of_alternatives c in
+      let entry = entry_of tables.alternatives o.elf a of_alternatives c in
       let original = field_at entry.sec (14 * entry.entry) in
       let replacement = field_at entry.sec (14 * entry.entry + 4) in
-      let own = tables.alternative_from o entry.sec (14 * entry.entry) in
-      let both = holds (lacks_reloc o original || lacks_reloc o replacement) (holds_text_place o false original && holds_text_place o (own.replacement_len == 0) replacement) ((tables.is_too_long o own, Length) ∷ []) entry.right in
-      subst (λ (x : AltEntry). IsNamed o x.original.sec) entry.is (held_is_named o false original (and_true (holds_text_place o false original) _ both).0)
+      let own = tables.alternative_from o.elf entry.sec (14 * entry.entry) in
+      let both = holds (lacks_reloc o.elf original || lacks_reloc o.elf replacement) (holds_text_place o.elf false original && holds_text_place o.elf (own.replacement_len == 0) replacement) ((tables.is_too_long o.elf own, Length) ∷ []) entry.right in
+      subst (λ (x : AltEntry). IsNamed o x.original.sec) entry.is (held_is_named o false original (and_true (holds_text_place o.elf false original) _ both).0)
 
   -- both places of an entry of two
   abbrev HoldsBoth : ℕ → ℕ → Type 0
-  HoldsBoth sec at = (holds_text_place o false (field_at sec at) ≡ true) × (holds_text_place o false (field_at sec (at + 4)) ≡ true)
+  HoldsBoth sec at = (holds_text_place o.elf false (field_at sec at) ≡ true) × (holds_text_place o.elf false (field_at sec (at + 4)) ≡ true)
 
-  pair_holds : (sec at : ℕ) → tables.pair_why_from o sec at ≡ None → HoldsBoth sec at
+  pair_holds : (sec at : ℕ) → tables.pair_why_from o.elf sec at ≡ None → HoldsBoth sec at
   pair_holds sec at right =
       let first = field_at sec at in
       let second = field_at sec (at + 4) in
-      and_true (holds_text_place o false first) (holds_text_place o false second) (holds (lacks_reloc o first || lacks_reloc o second) (holds_text_place o false first && holds_text_place o false second) [] right)
+      and_true (holds_text_place o.elf false first) (holds_text_place o.elf false second) (holds (lacks_reloc o.elf first || lacks_reloc o.elf second) (holds_text_place o.elf false first && holds_text_place o.elf false second) [] right)
 
   -- where a static branch leads
-  pub target_is_named : (b : BranchEntry) → Contains (special_of o).branches b → IsNamed o b.target.sec
+  pub target_is_named : (b : BranchEntry) → Contains (special_of o.elf).branches b → IsNamed o b.target.sec
   target_is_named b c =
-      let entry = entry_of tables.branches o b of_branches c in
+      let entry = entry_of tables.branches o.elf b of_branches c in
       subst (λ (x : BranchEntry). IsNamed o x.target.sec) entry.is (held_is_named o false (field_at entry.sec (16 * entry.entry + 4)) (pair_holds entry.sec (16 * entry.entry) entry.right).1)
 
   -- where an exception entry leads
-  pub fixup_is_named : (f : FixEntry) → Contains (special_of o).fixes f → IsNamed o f.fixup.sec
+  pub fixup_is_named : (f : FixEntry) → Contains (special_of o.elf).fixes f → IsNamed o f.fixup.sec
   fixup_is_named f c =
-      let entry = entry_of tables.fixes o f of_fixes c in
+      let entry = entry_of tables.fixes o.elf f of_fixes c in
       subst (λ (x : FixEntry). IsNamed o x.fixup.sec) entry.is (held_is_named o false (field_at entry.sec (12 * entry.entry + 4)) (pair_holds entry.sec (12 * entry.entry) entry.right).1)
 
   -- the place of a hint
-  pub hint_is_named : (h : HintEntry) → Contains (special_of o).hints h → IsNamed o h.place.sec
+  pub hint_is_named : (h : HintEntry) → Contains (special_of o.elf).hints h → IsNamed o h.place.sec
   hint_is_named h c =
-      let entry = entry_of hint.hints o h of_hints c in
+      let entry = entry_of hint.hints o.elf h of_hints c in
       let field = field_at entry.sec (12 * entry.entry) in
-      let own = hint.hint_entry o entry.sec entry.entry in
+      let own = hint.hint_entry o.elf entry.sec entry.entry in
       let rest : List Reason =
       (nat_lt 7 own.kind, HintType)
       ∷ (hint.has_other_base own, HintBase)
       ∷ (hint.has_bad_offset own, HintOffset)
-      ∷ (hint.has_bad_signal own.kind (slice_index (section_at o entry.sec).body (12 * entry.entry + 8)), HintSignal)
-      ∷ (hint.is_repeated o entry.sec entry.entry, Repeated)
+      ∷ (hint.has_bad_signal own.kind (slice_index (section_at o.elf entry.sec).body (12 * entry.entry + 8)), HintSignal)
+      ∷ (hint.is_repeated o.elf entry.sec entry.entry, Repeated)
       ∷ [] in
-      subst (λ (x : HintEntry). IsNamed o x.place.sec) entry.is (held_is_named o false field (holds (lacks_reloc o field) (holds_text_place o false field) rest entry.right))
+      subst (λ (x : HintEntry). IsNamed o x.place.sec) entry.is (held_is_named o false field (holds (lacks_reloc o.elf field) (holds_text_place o.elf false field) rest entry.right))

@@ -6,7 +6,7 @@ use Rattle.std.proofs.lemmas.Bool.{eqb-true}
 use Rattle.std.proofs.lemmas.List.Elements.{Contains-get_or}
 use Rattle.ot_base.specs.NameLists.{NameLists}
 use Rattle.ot_base.specs.declared.place.Place.{Place}
-use Rattle.elf_objects.specs.Elf.{Elf}
+use Rattle.flow_defs.specs.Coded.{Coded}
 use Rattle.program_defs.specs.Program.{entry_points}
 use Rattle.state_defs.specs.declared.state.HintState.{HintState}
 use Rattle.state_defs.specs.declared.state.HintState.TheVariants.{Set}
@@ -42,19 +42,19 @@ use Rattle.named_law.proofs.Aims.{replaced_sec}
 use Rattle.named_law.proofs.EdgesNamed.{edges_lead_to_named}
 use Rattle.named_law.proofs.KeptHave.{IsHandedOn, kept_has}
 
-module _ (o : Elf) where
+module _ (o : Coded) where
   -- the plain points of entries stand where functions start
   entry_is_named : (entry : ℕ) → Contains (entries_of o) entry → IsNamed o (point_at o entry).place.sec
   unfolding entries_of
   entry_is_named entry c =
       let point = point_at o entry in
       let own = from_filter (is_entry_of o) (points_of_object o) point (numbers_are o (filter (is_entry_of o) (points_of_object o)) entry c).1 in
-      let start = entry_is o point.place (and_true (is_plain point) (is_entry o point.place) own.1).1 in
+      let start = entry_is o.elf point.place (and_true (is_plain point) (is_entry o.elf point.place) own.1).1 in
       start_is_named o point.place start.function start.starts
 
   -- a hint stands at the place of one that a symbol names
-  hinted_is_named : (order : ObjectIsInOrder o) (place : Place) (found : HintState) → hint_at (special_of o).hints place ≡ Some found → IsNamed o place.sec
-  hinted_is_named order place found is = elim (finds (λ h. is_place h.place place) (special_of o).hints) [
+  hinted_is_named : (order : ObjectIsInOrder o) (place : Place) (found : HintState) → hint_at (special_of o.elf).hints place ≡ Some found → IsNamed o place.sec
+  hinted_is_named order place found is = elim (finds (λ h. is_place h.place place) (special_of o.elf).hints) [
     | inl missing ↦ absurd (let e = ap (option_and_then hint_state) missing.0 in let z : ⊥ = cc in z)
     | inr one ↦ subst (λ (p : Place). IsNamed o p.sec) (same_place_is one.0.place place one.3) (hint_is_named o order.special one.0 one.2)
   ]
@@ -77,7 +77,7 @@ module _ (o : Elf) where
   unfolding hint_of
   set_is_named order q found here is = go (is_padding o (point_at o q)) is
     where
-      go : (b : Bool) → cond b None (hint_at (special_of o).hints (point_at o q).place) ≡ Some found → IsNamed o (address_at o q).sec
+      go : (b : Bool) → cond b None (hint_at (special_of o.elf).hints (point_at o q).place) ≡ Some found → IsNamed o (address_at o q).sec
       go true e = absurd (let z : ⊥ = cc in z)
       go false e = point_is_named order q here (hinted_is_named order (point_at o q).place found e)
 
@@ -106,7 +106,7 @@ module _ (o : Elf) where
       by_hint false number = absurd (let z : ⊥ = cc in z)
 
 -- so a state begins in such a section, and stays in such
-named_on : (o : Elf) (lists : NameLists) → ObjectIsInOrder o → IsHandedOn (program_of o lists) (λ q. IsNamed o ((program_of o lists).address q).sec)
+named_on : (o : Coded) (lists : NameLists) → ObjectIsInOrder o → IsHandedOn (program_of o lists) (λ q. IsNamed o ((program_of o lists).address q).sec)
 unfolding program_of returning_graph graph_of
 named_on o lists order = record {
   entry = λ q is. (
@@ -121,5 +121,5 @@ named_on o lists order = record {
   saved = λ q save is named. subst (λ sec. IsNamed o sec) (save_sec o (point_at o q) save is) named;
 }
 
-pub kept_named : (o : Elf) (lists : NameLists) (q : ℕ) (s : State) → ObjectIsInOrder o → Kept (program_of o lists) q s → IsNamed o ((program_of o lists).address q).sec
+pub kept_named : (o : Coded) (lists : NameLists) (q : ℕ) (s : State) → ObjectIsInOrder o → Kept (program_of o lists) q s → IsNamed o ((program_of o lists).address q).sec
 kept_named o lists q s order kept = kept_has (program_of o lists) (λ q. IsNamed o ((program_of o lists).address q).sec) (named_on o lists order) q s kept

@@ -8,7 +8,7 @@ use Rattle.ot_base.specs.Section.{TextSection}
 use Rattle.ot_base.specs.declared.place.Place.{Place}
 use Rattle.ot_base.specs.declared.row.PlacedRow.{PlacedRow}
 use Rattle.ot_base.specs.declared.row.Row.{Row}
-use Rattle.elf_objects.specs.Elf.{Elf}
+use Rattle.flow_defs.specs.Coded.{Coded}
 use Rattle.state_defs.specs.declared.state.State.{State}
 use Rattle.state_defs.specs.Row.{zero_row}
 use Rattle.program_defs.specs.IsProgram.{IsLaidOut}
@@ -117,7 +117,7 @@ module _ (p : Program) (laid : IsLaidOut p) (states : ℕ → Option State) (kep
       ] in
       subst (HasKept p) (sym sec) (section_kept text some.0 some.1)
 
-pub rows_named : (o : Elf) (lists : NameLists) (states : ℕ → Option State) → ObjectIsInOrder o → AreKeptStates (program_of o lists) states → All (λ placed. IsNamed o placed.place.sec) (rows_of (program_of o lists) states)
+pub rows_named : (o : Coded) (lists : NameLists) (states : ℕ → Option State) → ObjectIsInOrder o → AreKeptStates (program_of o lists) states → All (λ placed. IsNamed o placed.place.sec) (rows_of (program_of o lists) states)
 rows_named o lists states order kept = all_of (λ (x : PlacedRow). IsNamed o x.place.sec) (rows_of (program_of o lists) states) each
   where
     each : (x : PlacedRow) → Contains (rows_of (program_of o lists) states) x → IsNamed o x.place.sec

@@ -2,7 +2,7 @@
 use Rattle.std.specs.Prelude.{ℕ, Option, All}
 use Rattle.ot_base.specs.NameLists.{NameLists}
 use Rattle.state_defs.specs.declared.state.State.{State}
-use Rattle.elf_objects.specs.Elf.{Elf}
+use Rattle.flow_defs.specs.Coded.{Coded}
 use Rattle.checker_defs.specs.Kept.{AreKeptStates, Kept}
 use Rattle.checker_defs.specs.Rows.{rows_of}
 use Rattle.flow_defs.specs.Program.{program_of}
@@ -12,12 +12,12 @@ use Rattle.named_law.specs.Named.{IsNamed}
 -- A kept point of an object in order runs in a section in which a symbol is defined.
 abbrev pub KeptIsNamed : Type 0
 KeptIsNamed =
-    (o : Elf) (lists : NameLists) (q : ℕ) (s : State)
+    (o : Coded) (lists : NameLists) (q : ℕ) (s : State)
     → ObjectIsInOrder o → Kept (program_of o lists) q s → IsNamed o ((program_of o lists).address q).sec
 
 -- The rows of its kept states lie in such sections.
 abbrev pub RowsAreNamed : Type 0
 RowsAreNamed =
-    (o : Elf) (lists : NameLists) (states : ℕ → Option State)
+    (o : Coded) (lists : NameLists) (states : ℕ → Option State)
     → ObjectIsInOrder o → AreKeptStates (program_of o lists) states
     → All (λ placed. IsNamed o placed.place.sec) (rows_of (program_of o lists) states)

@@ -10,3 +10,4 @@ mod texts;
 pub use fault::LinkFault;
 pub use fault_text::LinkFaultText;
 pub use linked::Linked;
+pub use x86_text::Map;

@@ -6,6 +6,7 @@ ghost use Rattle.alternatives.specs.Sites.{AreSitesOf};
 ghost use Rattle.alternatives.specs.Texts.{AscendBySection, text_bytes};
 ghost use Rattle.special_sections.specs.Special.{special_of};
 ghost use Rattle.flow_defs.specs.Code.{alternatives_of, points_of_object, texts_of};
+ghost use Rattle.flow_defs.specs.Coded.{coded_by};
 ghost use Rattle.object_code.specs.Linked.{IsLinked, IsLinkFault};
 
 use crate::fault::LinkFault;
@@ -17,11 +18,13 @@ use special_sections::Special;
 use std::alloc::Global;
 use std::marker::Model;
 use symbols_relocs::Index;
+use x86_text::Map;
 
 /// An object with its code read: the instructions of its text sections, what its special sections say,
-/// its functions, and its alternatives sites. Contracts see it as the object.
+/// its functions, and its alternatives sites. Contracts see it as the object with the opcode map.
 #[derive(Drop)]
 pub struct Linked<'o, 'a> {
+    map: Map,
     texts: Vec<SectionText<'a>>,
     special: Special,
     index: Index<'o, 'a>,
@@ -29,35 +32,40 @@ pub struct Linked<'o, 'a> {
 }
 
 impl<'o, 'a> Model for Linked<'o, 'a> {
-    ghost use Rattle.elf_objects.specs.Elf.{Elf};
+    ghost use Rattle.flow_defs.specs.Coded.{Coded, coded_by};
     ghost use Rattle.object_code.specs.Kept.{IsKept};
 
-    ghost Value = { Elf };
+    ghost Value = { Coded };
 
-    ghost view = { λ l. l.index.elf };
+    ghost view = { λ l. coded_by l.map l.index.elf };
 
-    ghost invariant = { λ l. IsKept l.index.elf l.texts.items l.special l.sites };
+    ghost invariant = { λ l. IsKept (coded_by l.map l.index.elf) l.texts.items l.special l.sites };
 }
 
 impl<'o, 'a> Linked<'o, 'a> {
-    /// Reads the code of an object: its texts, its special sections, its functions, and its alternatives,
+    /// Reads the code of an object by an opcode map: its texts, its special sections, its functions, and its alternatives,
     /// in this order. The object has at most 67,108,864 bytes (64 MiB), so that its points have numbers.
     ///
     /// # Errors
     ///
     /// What the first of these that refuses the object says. [`LinkFault::NoMemory`] may come at any object.
-    pub fn link(alloc: Global, object: &'o Object<'a>) -> Result<Linked<'o, 'a>, LinkFault>
+    pub fn link(
+        alloc: Global,
+        map: Map,
+        object: &'o Object<'a>,
+    ) -> Result<Linked<'o, 'a>, LinkFault>
         requires { length object.now.bytes ≤ 67108864 }
-        ensures ok { IfOk result (λ linked. linked ≡ object.now) }
-        ensures right { OnOk result (IsLinked object.now) }
-        ensures err { IfErr result (IsLinkFault object.now) }
+        ensures ok { IfOk result (λ linked. linked ≡ coded_by map object.now) }
+        ensures right { OnOk result (IsLinked (coded_by map object.now)) }
+        ensures err { IfErr result (IsLinkFault (coded_by map object.now)) }
     {
         alternatives_are_few();
-        let texts = read_texts(alloc, object)?;
+        let texts = read_texts(alloc, map, object)?;
         let special = Special::read(alloc, object)?;
         let index = Index::build(alloc, object)?;
         let sites = Sites::build(alloc, &special, &texts)?;
         Ok(Linked {
+            map,
             texts,
             special,
             index,
@@ -67,7 +75,7 @@ impl<'o, 'a> Linked<'o, 'a> {
 
     /// The object.
     pub fn object(&self) -> &'o Object<'a>
-        ensures { result.now ≡ self.now }
+        ensures { result.now ≡ self.now.elf }
     {
         self.index.object()
     }
@@ -84,14 +92,14 @@ impl<'o, 'a> Linked<'o, 'a> {
 
     /// What the special sections say.
     pub fn special(&self) -> &Special
-        ensures { result.now ≡ special_of self.now }
+        ensures { result.now ≡ special_of self.now.elf }
     {
         &self.special
     }
 
     /// The functions, and the relocations by their places.
     pub fn index(&self) -> &Index<'o, 'a>
-        ensures { result.now.elf ≡ self.now }
+        ensures { result.now.elf ≡ self.now.elf }
     {
         &self.index
     }

@@ -4,25 +4,31 @@ ghost use Rattle.std.specs.Prelude.{◌≡◌, ◌<◌, true, length, IfOk, IfEr
 ghost use Rattle.elf_objects.specs.Contents.{is_text, section_at};
 ghost use Rattle.elf_objects.specs.Object.{IsObject};
 ghost use Rattle.x86_text.specs.Code.{IsCode};
-ghost use Rattle.flow_defs.specs.Code.{texts_of};
+ghost use Rattle.flow_defs.specs.Code.{body_of, texts_of};
+ghost use Rattle.flow_defs.specs.Coded.{coded_by};
 ghost use Rattle.object_code.specs.Linked.{AllCode, AreCode, IsLinkFault};
 
 use crate::fault::LinkFault;
 use alternatives::SectionText;
 use elf_objects::Object;
 use std::alloc::Global;
-use x86_text::{Text, TextFault};
+use x86_text::{Map, Text, TextFault};
 
-/// Decodes a text section.
-fn read_text<'a>(alloc: Global, object: &Object<'a>, sec: u32) -> Result<Text<'a>, LinkFault>
+/// Decodes a text section by an opcode map.
+fn read_text<'a>(
+    alloc: Global,
+    map: Map,
+    object: &Object<'a>,
+    sec: u32,
+) -> Result<Text<'a>, LinkFault>
     requires object { IsObject object.now.bytes object.now }
     requires inside { sec < length object.now.sections }
     requires text { is_text (section_at object.now sec) ≡ true }
-    ensures read { IfOk result (λ text. text ≡ (section_at object.now sec).body) }
-    ensures code { OnOk result (IsCode (section_at object.now sec).body) }
-    ensures fault { AreCode object.now sec → IfErr result (IsLinkFault object.now) }
+    ensures read { IfOk result (λ text. text ≡ body_of (coded_by map object.now) sec) }
+    ensures code { OnOk result (IsCode (body_of (coded_by map object.now) sec)) }
+    ensures fault { AreCode (coded_by map object.now) sec → IfErr result (IsLinkFault (coded_by map object.now)) }
 {
-    match Text::read(alloc, object.section(sec).body) {
+    match Text::read(alloc, map, object.section(sec).body) {
         Ok(text) => Ok(text),
         Err(TextFault::NoMemory) => Err(LinkFault::NoMemory),
         Err(TextFault::At { off, why }) => Err(LinkFault::Text {
@@ -32,21 +38,22 @@ fn read_text<'a>(alloc: Global, object: &Object<'a>, sec: u32) -> Result<Text<'a
     }
 }
 
-/// Decodes each text section of an object, in the order of their numbers, or tells the first place
+/// Decodes each text section of an object by an opcode map, in the order of their numbers, or tells the first place
 /// where an instruction ought to stand and none does.
 pub(crate) fn read_texts<'a>(
     alloc: Global,
+    map: Map,
     object: &Object<'a>,
 ) -> Result<Vec<SectionText<'a>>, LinkFault>
-    ensures read { IfOk result (λ texts. texts.items ≡ texts_of object.now) }
-    ensures code { OnOk result (AllCode object.now) }
+    ensures read { IfOk result (λ texts. texts.items ≡ texts_of (coded_by map object.now)) }
+    ensures code { OnOk result (AllCode (coded_by map object.now)) }
     ensures object { OnOk result (IsObject object.now.bytes object.now) }
-    ensures fault { IfErr result (IsLinkFault object.now) }
+    ensures fault { IfErr result (IsLinkFault (coded_by map object.now)) }
 {
     let mut texts = Vec::new(alloc);
     for sec in 0..object.sections() {
         if object.is_text(sec) {
-            let text = read_text(alloc, object, sec)?;
+            let text = read_text(alloc, map, object, sec)?;
             texts.push(SectionText { sec, text })?;
         }
     }

@@ -7,7 +7,7 @@ use Rattle.std.proofs.lemmas.Bool.{cases_lt}
 use Rattle.std.proofs.lemmas.Bool.Decides.{nat_tests}
 use Rattle.std.proofs.lemmas.Map.Keys.{Less-from_sorted}
 use Rattle.ot_base.specs.NameLists.{NameLists}
-use Rattle.elf_objects.specs.Elf.{Elf}
+use Rattle.flow_defs.specs.Coded.{Coded}
 use Rattle.elf_objects.specs.Contents.{is_text, section_at}
 use Rattle.table_defs.specs.Order.{PlainPointsAscend}
 use Rattle.alternatives.specs.declared.texts.SectionText.{SectionText}
@@ -15,7 +15,7 @@ use Rattle.alternatives.specs.Points.{point_cmp, points_of}
 use Rattle.alternatives.proofs.Ascending.{Rising, every-map, every-weaker, rising-filter, rising-range}
 use Rattle.alternatives.proofs.Listing.{points_sorted}
 use Rattle.alternatives.proofs.Placed.{RiseBySection}
-use Rattle.flow_defs.specs.Code.{alternatives_of, no_point, point_at, points_of_object, text_numbers, texts_of}
+use Rattle.flow_defs.specs.Code.{alternatives_of, body_of, no_point, point_at, points_of_object, text_numbers, texts_of}
 use Rattle.flow_defs.specs.Program.{graph_of, program_of, returning_graph}
 
 -- what is made of elements that rise rises
@@ -24,11 +24,11 @@ rising_map R S f keeps [] r = tt
 rising_map R S f keeps (x ∷ xs) r = (every-map (S (f x)) f xs (every-weaker (R x) (λ y. S (f x) (f y)) (keeps x) xs r.0), rising_map R S f keeps xs r.1)
 
 -- the texts of an object ascend by section
-texts_rise : (o : Elf) → RiseBySection (texts_of o)
+texts_rise : (o : Coded) → RiseBySection (texts_of o)
 unfolding texts_of
 texts_rise o =
-    rising_map (λ i j. i < j) (λ (t u : SectionText). t.sec < u.sec) (λ i. let t : SectionText = record { sec = i; text = (section_at o i).body } in t) (λ i j less. less) (text_numbers o)
-    (rising-filter (λ i j. i < j) (λ i. is_text (section_at o i)) (range_with_len 0 (length o.sections)) (rising-range 0 (length o.sections)))
+    rising_map (λ i j. i < j) (λ (t u : SectionText). t.sec < u.sec) (λ i. let t : SectionText = record { sec = i; text = body_of o i } in t) (λ i j less. less) (text_numbers o.elf)
+    (rising-filter (λ i j. i < j) (λ i. is_text (section_at o.elf i)) (range_with_len 0 (length o.elf.sections)) (rising-range 0 (length o.elf.sections)))
 
 -- when the numbers of one place don't come before those of another
 behind_by_sec : (a b c d e f : ℕ) → b < a → ordering_then (ordering_then (nat_cmp a b) (nat_cmp c d)) (nat_cmp e f) ≡ Greater
@@ -60,7 +60,7 @@ before_by_place a b c d e f variant less = by_sec (cases_lt a b) (cases_lt b a)
     by_sec (inr late) (inl behind) = not_greater (sym (behind_by_sec a b c d e f behind) ∙ less)
     by_sec (inr late) (inr early) = let same : a ≡ b = omega arith in inr (same, by_off same (cases_lt c d) (cases_lt d c))
 
-pub points_ascend : (o : Elf) (lists : NameLists) → PlainPointsAscend (program_of o lists)
+pub points_ascend : (o : Coded) (lists : NameLists) → PlainPointsAscend (program_of o lists)
 unfolding program_of returning_graph graph_of points_of_object
 points_ascend o lists q r of-q of-r one other less =
     let a = point_at o q in

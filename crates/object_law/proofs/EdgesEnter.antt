@@ -6,7 +6,7 @@ use Rattle.ot_base.specs.declared.place.Place.{Place}
 use Rattle.operation_defs.specs.declared.insn.Insn.{Insn}
 use Rattle.operation_defs.specs.declared.op.Op.{Op}
 use Rattle.operation_defs.specs.declared.op.Op.TheVariants as ops
-use Rattle.elf_objects.specs.Elf.{Elf}
+use Rattle.flow_defs.specs.Coded.{Coded}
 use Rattle.program_defs.specs.declared.flow.Edge.{Edge}
 use Rattle.program_defs.specs.declared.flow.EdgeKind.{EdgeKind}
 use Rattle.program_defs.specs.declared.flow.EdgeKind.TheVariants.{Next, Taken, Fixup, Table}
@@ -37,18 +37,18 @@ use Rattle.object_law.proofs.Replaced.{IsOfSame, aims_within, comes_behind, next
 use Rattle.object_law.proofs.Starts.{address_at, address_of, arrives_at_start, comes_in}
 
 -- one of some edges comes into a site from within it, or another of its kind among them leads to the site's start
-abbrev pub ComesRight : Elf → NameLists → Point → List Edge → EdgeKind → Site → Type 0
+abbrev pub ComesRight : Coded → NameLists → Point → List Edge → EdgeKind → Site → Type 0
 ComesRight o lists point edges kind site = (in_site site (address_of o point) ≡ true) ⊎ ((start : ℕ) × IsSiteStart (program_of o lists) site start × Contains edges (edge start kind))
 
 -- so do all of them
-abbrev pub Enters : Elf → NameLists → Point → List Edge → Type 0
+abbrev pub Enters : Coded → NameLists → Point → List Edge → Type 0
 Enters o lists point edges = (e : Edge) (site : Site) → Contains edges e → Contains (sites_of o) site → in_site site (address_at o e.to) ≡ true → ComesRight o lists point edges e.kind site
 
 -- an edge of the kind of another leads to a point
 leads_to : (kind : EdgeKind) (points : List ℕ) (other : EdgeKind) (q : ℕ) → other ≡ kind → Contains points q → Contains (edges_to kind points) (edge q other)
 leads_to kind points other q is c = subst (λ (k : EdgeKind). Contains (edges_to kind points) (edge q k)) (sym is) (in_map (λ x. edge x kind) points q c)
 
-module _ (o : Elf) (lists : NameLists) (point : Point) where
+module _ (o : Coded) (lists : NameLists) (point : Point) where
   none_enter : Enters o lists point []
   none_enter e site c listed inside = nowhere e c
 
@@ -107,7 +107,7 @@ module _ (o : Elf) (lists : NameLists) (point : Point) where
     table_enters (ops.JmpInd field) = all_enter (λ place. way_edges o point place (ways.Along Table)) (λ place. way_enters place (ways.Along Table)) (table_of_point o point)
     table_enters _ = none_enter
 
-module _ (o : Elf) (lists : NameLists) (order : ObjectIsInOrder o) (q : ℕ) (of-q : q < point_count o) where
+module _ (o : Coded) (lists : NameLists) (order : ObjectIsInOrder o) (q : ℕ) (of-q : q < point_count o) where
   -- an edge to a point of the same replacement
   same_enters : (kind : EdgeKind) (other : Point) → IsOfSame (point_at o q) other → Enters o lists (point_at o q) (edges_to kind (numbers_of o (other ∷ [])))
   same_enters kind other are e site c listed inside =

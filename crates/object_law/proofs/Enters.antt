@@ -4,7 +4,7 @@ use Rattle.std.specs.Prelude.{filter, option_map}
 use Rattle.std.proofs.lemmas.Bool.{eqb-true, not-false, or_parts}
 use Rattle.ot_base.specs.NameLists.{NameLists}
 use Rattle.ot_base.specs.declared.place.Place.{Place}
-use Rattle.elf_objects.specs.Elf.{Elf}
+use Rattle.flow_defs.specs.Coded.{Coded}
 use Rattle.program_defs.specs.Program.{Site, edge, in_site}
 use Rattle.table_defs.specs.Enters.{EntersSites, IsSiteStart}
 use Rattle.symbols_relocs.specs.Functions.{starts_at}
@@ -15,14 +15,14 @@ use Rattle.unwinding_law.proofs.Lists.{from_filter, in_below, in_flat_map, in_ma
 use Rattle.rows_law.proofs.Equal.{same_place_is}
 use Rattle.rows_law.proofs.Lists.{in_filter_map}
 use Rattle.flow_defs.specs.declared.fault.FlowFault.TheVariants.{FuncStart}
-use Rattle.flow_defs.specs.Code.{is_plain, point_at, points_of_object, text_numbers, texts_of}
+use Rattle.flow_defs.specs.Code.{body_of, is_plain, point_at, points_of_object, text_numbers, texts_of}
 use Rattle.flow_defs.specs.Owners.{is_entry}
 use Rattle.flow_defs.specs.Arrival.{arrive, decoded_insn}
 use Rattle.flow_defs.specs.Faults.{flow_faults, is_no_start, is_past_start, start_faults}
 use Rattle.flow_defs.specs.Program.{entries_of, graph_of, is_entry_point, program_of, returning_graph}
 use Rattle.flow_defs.specs.Sites.{places_of, places_of_text, site_at, sites_of}
 use Rattle.flow_law.specs.Flows.{ObjectIsInOrder}
-use Rattle.flow_law.proofs.Bodies.{at_lies, body_at}
+use Rattle.flow_law.proofs.Bodies.{at_lies}
 use Rattle.flow_law.proofs.HintStates.{parts_none}
 use Rattle.flow_law.proofs.Levels.{and_true}
 use Rattle.flow_law.proofs.Numbers.{numbers_are, point_count}
@@ -33,43 +33,43 @@ use Rattle.object_law.proofs.EdgesEnter.{edges_enter}
 use Rattle.object_law.proofs.Starts.{address_at, arrives_at_start, site_found}
 
 -- an instruction of a text stands at one of its places
-place_listed : (o : Elf) (place : Place) → Contains (text_numbers o) place.sec → place.off < length (body_at o place.sec) → Contains (places_of o) place
+place_listed : (o : Coded) (place : Place) → Contains (text_numbers o.elf) place.sec → place.off < length (body_of o place.sec).bytes → Contains (places_of o) place
 unfolding texts_of
 place_listed o place listed below =
-    let made = λ (i : ℕ). let x : SectionText = record { sec = i; text = body_at o i } in x in
+    let made = λ (i : ℕ). let x : SectionText = record { sec = i; text = body_of o i } in x in
     let t : SectionText = made place.sec in
-    in_flat_map places_of_text (texts_of o) t place (in_map made (text_numbers o) place.sec listed)
-    (in_map (λ off. let p : Place = record { sec = place.sec; off = off } in p) _ place.off (in_below (length (body_at o place.sec)) place.off below))
+    in_flat_map places_of_text (texts_of o) t place (in_map made (text_numbers o.elf) place.sec listed)
+    (in_map (λ off. let p : Place = record { sec = place.sec; off = off } in p) _ place.off (in_below (length (body_of o place.sec).bytes) place.off below))
 
 -- where no function starts that is refused, one that starts in a site starts with it
-starts_first : (o : Elf) (place : Place) (f : ℕ) → flow_faults o ≡ [] → Contains (places_of o) place → starts_at o place ≡ Some f → is_past_start place (site_at o place) ≡ false
+starts_first : (o : Coded) (place : Place) (f : ℕ) → flow_faults o ≡ [] → Contains (places_of o) place → starts_at o.elf place ≡ Some f → is_past_start place (site_at o place) ≡ false
 unfolding flow_faults
 starts_first o place f none listed starts = (or_parts (not (is_boundary (texts_of o) place)) (is_past_start place (site_at o place)) (by_test (is_no_start o place) refl)).1
   where
     by_test : (b : Bool) → is_no_start o place ≡ b → b ≡ false
     by_test false e = refl
     by_test true e =
-        let fault : cond (is_no_start o place) (option_map FuncStart (starts_at o place)) None ≡ Some (FuncStart f) = ap (λ b. cond b (option_map FuncStart (starts_at o place)) None) e ∙ ap (option_map FuncStart) starts in
-        let told : Contains (start_faults o) (FuncStart f) = in_filter_map (λ p. cond (is_no_start o p) (option_map FuncStart (starts_at o p)) None) (places_of o) place (FuncStart f) listed fault in
+        let fault : cond (is_no_start o place) (option_map FuncStart (starts_at o.elf place)) None ≡ Some (FuncStart f) = ap (λ b. cond b (option_map FuncStart (starts_at o.elf place)) None) e ∙ ap (option_map FuncStart) starts in
+        let told : Contains (start_faults o) (FuncStart f) = in_filter_map (λ p. cond (is_no_start o p) (option_map FuncStart (starts_at o.elf p)) None) (places_of o) place (FuncStart f) listed fault in
         nowhere (FuncStart f) (subst (λ faults. Contains faults (FuncStart f)) (parts_none (start_faults o) _ none).0 told)
 
 -- an entry is a plain point at which a function starts
-record StandsAtStart (o : Elf) (entry : ℕ) : Type 0 where
+record StandsAtStart (o : Coded) (entry : ℕ) : Type 0 where
   inside : entry < point_count o
   plain : (point_at o entry).variant ≡ 0
   function : ℕ
-  starts : starts_at o (point_at o entry).place ≡ Some function
+  starts : starts_at o.elf (point_at o entry).place ≡ Some function
 
-entry_stands : (o : Elf) (entry : ℕ) → Contains (entries_of o) entry → StandsAtStart o entry
+entry_stands : (o : Coded) (entry : ℕ) → Contains (entries_of o) entry → StandsAtStart o entry
 unfolding entries_of
 entry_stands o entry c =
     let own = numbers_are o (filter (is_entry_point o) (points_of_object o)) entry c in
     let passes = from_filter (is_entry_point o) (points_of_object o) (point_at o entry) own.1 in
-    let parts = and_true (is_plain (point_at o entry)) (is_entry o (point_at o entry).place) passes.1 in
-    let start = entry_is o (point_at o entry).place parts.1 in
+    let parts = and_true (is_plain (point_at o entry)) (is_entry o.elf (point_at o entry).place) passes.1 in
+    let start = entry_is o.elf (point_at o entry).place parts.1 in
     record { inside = own.0; plain = eqb-true (point_at o entry).variant 0 parts.0; function = start.function; starts = start.starts }
 
-module _ (o : Elf) (lists : NameLists) (order : ObjectIsInOrder o) (right : flow_faults o ≡ []) where
+module _ (o : Coded) (lists : NameLists) (order : ObjectIsInOrder o) (right : flow_faults o ≡ []) where
   -- an entry in a site is the site's start
   entry_first : (entry : ℕ) (site : Site) → Contains (entries_of o) entry → Contains (sites_of o) site → in_site site (point_at o entry).place ≡ true → site.start ≡ (point_at o entry).place
   entry_first entry site c listed inside =

@@ -16,6 +16,7 @@ use Rattle.state_defs.specs.declared.state.State.{State}
 use Rattle.state_defs.specs.Row.{zero_row}
 use Rattle.elf_objects.specs.declared.TheConstants.{MAX_SECTIONS, MAX_TEXT_BYTES}
 use Rattle.elf_objects.specs.Elf.{Elf, SectionEntry}
+use Rattle.flow_defs.specs.Coded.{Coded}
 use Rattle.elf_objects.specs.Contents.{is_text, no_section, section_at, section_entry}
 use Rattle.elf_objects.specs.File.{section_count, section_header}
 use Rattle.elf_objects.specs.Header.{is_text_header}
@@ -72,25 +73,25 @@ section_is o text c =
     let range = every-in (λ k. (0 ≤ k) × (k < 0 + length o.sections)) numbers one.0 (every-range 0 (length o.sections)) (in_contains numbers one.0 own.0) in
     subst (IsSectionOf o) one.2 (record { inside = omega (arith, range.1); code = own.1; size = refl })
 
-texts_are : (o : Elf) (lists : NameLists) (text : TextSection) → Contains (program_of o lists).texts text → IsSectionOf o text
+texts_are : (o : Coded) (lists : NameLists) (text : TextSection) → Contains (program_of o lists).texts text → IsSectionOf o.elf text
 unfolding program_of returning_graph graph_of
-texts_are o lists text c = section_is o text c
+texts_are o lists text c = section_is o.elf text c
 
 -- a row that fits, in such a section
-placed_row : (o : Elf) (text : TextSection) (x : PlacedRow) → IsObject o.bytes o → IsSectionOf o text → x.place.sec ≡ text.sec → x.place.off ≤ text.size → IsRow x.row → IsPlacedRow o x
+placed_row : (o : Coded) (text : TextSection) (x : PlacedRow) → IsObject o.elf.bytes o.elf → IsSectionOf o.elf text → x.place.sec ≡ text.sec → x.place.off ≤ text.size → IsRow x.row → IsPlacedRow o x
 placed_row o text x is own sec off fits =
-    let known : text.sec < section_count o.bytes = subst (λ n. text.sec < n) (length-sections o.bytes o (sym is.says)) own.inside in
-    let small = text_small o text.sec is known own.code in
+    let known : text.sec < section_count o.elf.bytes = subst (λ n. text.sec < n) (length-sections o.elf.bytes o.elf (sym is.says)) own.inside in
+    let small = text_small o.elf text.sec is known own.code in
     record {
-      section = section_at o text.sec;
-      at = ap (slice_get o.sections) sec ∙ slice_get-get_or o.sections text.sec no_section own.inside;
+      section = section_at o.elf text.sec;
+      at = ap (slice_get o.elf.sections) sec ∙ slice_get-get_or o.elf.sections text.sec no_section own.inside;
       text = own.code;
       inside = omega (arith, off, own.size);
       addend = omega (arith, off, own.size, small);
       row = fits;
     }
 
-pub rows_placed : (o : Elf) (lists : NameLists) (states : ℕ → Option State) → IsObject o.bytes o → IsAccepted (program_of o lists) → AreKeptStates (program_of o lists) states → All (IsPlacedRow o) (rows_of (program_of o lists) states)
+pub rows_placed : (o : Coded) (lists : NameLists) (states : ℕ → Option State) → IsObject o.elf.bytes o.elf → IsAccepted (program_of o lists) → AreKeptStates (program_of o lists) states → All (IsPlacedRow o) (rows_of (program_of o lists) states)
 rows_placed o lists states is accepted kept = all_of (IsPlacedRow o) (rows_of (program_of o lists) states) each
   where
     each : (x : PlacedRow) → Contains (rows_of (program_of o lists) states) x → IsPlacedRow o x
@@ -132,7 +133,7 @@ count_below : (n : ℕ) → length (below n) ≡ n
 count_below zero = refl
 count_below (suc n) = omega (arith, count_below n, length-append (below n) (n ∷ []))
 
-module _ (o : Elf) (p : Program) (states : ℕ → Option State) where
+module _ (o : Coded) (p : Program) (states : ℕ → Option State) where
   -- a section has a row for each of its bytes at most, and one at its end
   few_of_section : (text : TextSection) → length (section_rows p states text) ≤ text.size + 1
   few_of_section text =
@@ -140,25 +141,25 @@ module _ (o : Elf) (p : Program) (states : ℕ → Option State) where
       let given = few_given (λ off. option_map (placed (place_in text off)) (row_at p states (place_in text off))) (below text.size) in
       omega (arith, one_at_end text (without_repeats zero_row all), few_left zero_row all, given, count_below text.size)
 
-  few_of_sections : (xs : List ℕ) → ((i : ℕ) → In i xs → is_text (section_at o i) ≡ true → (section_at o i).size ≡ text_size (section_header o.bytes i))
-      → length (flat_map (section_rows p states) (map (section_of o) (filter (λ i. is_text (section_at o i)) xs))) ≤ sum_by text_size (map (section_header o.bytes) xs) + length xs
+  few_of_sections : (xs : List ℕ) → ((i : ℕ) → In i xs → is_text (section_at o.elf i) ≡ true → (section_at o.elf i).size ≡ text_size (section_header o.elf.bytes i))
+      → length (flat_map (section_rows p states) (map (section_of o.elf) (filter (λ i. is_text (section_at o.elf i)) xs))) ≤ sum_by text_size (map (section_header o.elf.bytes) xs) + length xs
   few_of_sections [] each = omega arith
-  few_of_sections (i ∷ xs) each = go (is_text (section_at o i)) refl (few_of_sections xs (λ j c. each j (inr c)))
+  few_of_sections (i ∷ xs) each = go (is_text (section_at o.elf i)) refl (few_of_sections xs (λ j c. each j (inr c)))
     where
-      go : (b : Bool) → is_text (section_at o i) ≡ b
-          → length (flat_map (section_rows p states) (map (section_of o) (filter (λ j. is_text (section_at o j)) xs))) ≤ sum_by text_size (map (section_header o.bytes) xs) + length xs
-          → length (flat_map (section_rows p states) (map (section_of o) (cond b (i ∷ filter (λ j. is_text (section_at o j)) xs) (filter (λ j. is_text (section_at o j)) xs)))) ≤ sum_by text_size (section_header o.bytes i ∷ map (section_header o.bytes) xs) + suc (length xs)
+      go : (b : Bool) → is_text (section_at o.elf i) ≡ b
+          → length (flat_map (section_rows p states) (map (section_of o.elf) (filter (λ j. is_text (section_at o.elf j)) xs))) ≤ sum_by text_size (map (section_header o.elf.bytes) xs) + length xs
+          → length (flat_map (section_rows p states) (map (section_of o.elf) (cond b (i ∷ filter (λ j. is_text (section_at o.elf j)) xs) (filter (λ j. is_text (section_at o.elf j)) xs)))) ≤ sum_by text_size (section_header o.elf.bytes i ∷ map (section_header o.elf.bytes) xs) + suc (length xs)
       go true text h =
-          let behind = flat_map (section_rows p states) (map (section_of o) (filter (λ j. is_text (section_at o j)) xs)) in
-          omega (arith, h, length-append (section_rows p states (section_of o i)) behind, few_of_section (section_of o i), each i (inl refl) text, sum_by-cons text_size (section_header o.bytes i) (map (section_header o.bytes) xs))
-      go false text h = omega (arith, h, sum_by-cons text_size (section_header o.bytes i) (map (section_header o.bytes) xs))
+          let behind = flat_map (section_rows p states) (map (section_of o.elf) (filter (λ j. is_text (section_at o.elf j)) xs)) in
+          omega (arith, h, length-append (section_rows p states (section_of o.elf i)) behind, few_of_section (section_of o.elf i), each i (inl refl) text, sum_by-cons text_size (section_header o.elf.bytes i) (map (section_header o.elf.bytes) xs))
+      go false text h = omega (arith, h, sum_by-cons text_size (section_header o.elf.bytes i) (map (section_header o.elf.bytes) xs))
 
-pub rows_few : (o : Elf) (lists : NameLists) (states : ℕ → Option State) → IsObject o.bytes o → length (rows_of (program_of o lists) states) ≤ MAX_TEXT_BYTES + MAX_SECTIONS
+pub rows_few : (o : Coded) (lists : NameLists) (states : ℕ → Option State) → IsObject o.elf.bytes o.elf → length (rows_of (program_of o lists) states) ≤ MAX_TEXT_BYTES + MAX_SECTIONS
 unfolding program_of returning_graph graph_of text_sections_of text_bytes
 rows_few o lists states is =
-    let n = length o.sections in
-    let known : n ≡ section_count o.bytes = length-sections o.bytes o (sym is.says) in
+    let n = length o.elf.sections in
+    let known : n ≡ section_count o.elf.bytes = length-sections o.elf.bytes o.elf (sym is.says) in
     let numbers = range_with_len 0 n in
-    let all = few_of_sections o (program_of o lists) states numbers (λ i c. text_of_header o i is (subst (λ m. i < m) known (let range = every-in (λ k. (0 ≤ k) × (k < 0 + n)) numbers i (every-range 0 n) c in omega (arith, range.1)))) in
-    let texts : sum_by text_size (map (section_header o.bytes) (range_with_len 0 n)) ≡ sum_by text_size (map (section_header o.bytes) (range_with_len 0 (section_count o.bytes))) = ap (λ m. sum_by text_size (map (section_header o.bytes) (range_with_len 0 m))) known in
+    let all = few_of_sections o (program_of o lists) states numbers (λ i c. text_of_header o.elf i is (subst (λ m. i < m) known (let range = every-in (λ k. (0 ≤ k) × (k < 0 + n)) numbers i (every-range 0 n) c in omega (arith, range.1)))) in
+    let texts : sum_by text_size (map (section_header o.elf.bytes) (range_with_len 0 n)) ≡ sum_by text_size (map (section_header o.elf.bytes) (range_with_len 0 (section_count o.elf.bytes))) = ap (λ m. sum_by text_size (map (section_header o.elf.bytes) (range_with_len 0 m))) known in
     omega (arith, all, texts, length-range_with_len 0 n, known, is.well_formed.little_text, is.well_formed.table.few)

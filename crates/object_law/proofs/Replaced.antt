@@ -5,7 +5,7 @@ use Rattle.std.proofs.lemmas.Bool.{cases_lt, eqb-true}
 use Rattle.ot_base.specs.NameLists.{NameLists}
 use Rattle.ot_base.specs.declared.place.Place.{Place}
 use Rattle.operation_defs.specs.declared.insn.Insn.{Insn}
-use Rattle.elf_objects.specs.Elf.{Elf}
+use Rattle.flow_defs.specs.Coded.{Coded}
 use Rattle.program_defs.specs.Program.{Site, in_site}
 use Rattle.symbols_relocs.specs.Places.{same_place}
 use Rattle.symbols_relocs.specs.Targets.{branch_target}
@@ -41,7 +41,7 @@ pub record IsOfSame (point other : Point) : Type 0 where
   pub same : other.variant ≡ point.variant
 
 -- a jump inside a replacement stays in it
-pub aims_within : (o : Elf) (point : Point) (insn : Insn) (other : Point) → aim o point insn ≡ aims.Within other → IsOfSame point other
+pub aims_within : (o : Coded) (point : Point) (insn : Insn) (other : Point) → aim o point insn ≡ aims.Within other → IsOfSame point other
 unfolding aim
 aims_within o point insn other is = by_displacement (displacement_of insn.op) is
   where
@@ -54,17 +54,17 @@ aims_within o point insn other is = by_displacement (displacement_of insn.op) is
     by_place None is = absurd (let k : ⊥ = cc in k)
     by_place (Some place) is = by_point (is_point (texts_of o) (alternatives_of o) (record { place = place; variant = point.variant })) (same_place place (replacement_end o point)) place is
 
-    by_reloc : (b : Bool) (d : Displacement) → (not (is_plain point) && lacks_reloc o point.place insn.len d) ≡ b
-        → cond b (own_aim o point (relative_place point.place insn.len d)) (aims.At (branch_target o point.place insn)) ≡ aims.Within other → IsOfSame point other
-    by_reloc true d e is = record { replaced = not_true (is_plain point) (and_true (not (is_plain point)) (lacks_reloc o point.place insn.len d) e).0; same = by_place (relative_place point.place insn.len d) is }
+    by_reloc : (b : Bool) (d : Displacement) → (not (is_plain point) && lacks_reloc o.elf point.place insn.len d) ≡ b
+        → cond b (own_aim o point (relative_place point.place insn.len d)) (aims.At (branch_target o.elf point.place insn)) ≡ aims.Within other → IsOfSame point other
+    by_reloc true d e is = record { replaced = not_true (is_plain point) (and_true (not (is_plain point)) (lacks_reloc o.elf point.place insn.len d) e).0; same = by_place (relative_place point.place insn.len d) is }
     by_reloc false d e is = absurd (let k : ⊥ = cc in k)
 
     by_displacement : (d : Option Displacement) → aim_by o point insn d ≡ aims.Within other → IsOfSame point other
     by_displacement None is = absurd (let k : ⊥ = cc in k)
-    by_displacement (Some d) is = by_reloc (not (is_plain point) && lacks_reloc o point.place insn.len d) d refl is
+    by_displacement (Some d) is = by_reloc (not (is_plain point) && lacks_reloc o.elf point.place insn.len d) d refl is
 
 -- so does control that goes on in it
-pub next_within : (o : Elf) (point next : Point) → next_of_replacement o point ≡ Some next → IsOfSame point next
+pub next_within : (o : Coded) (point next : Point) → next_of_replacement o point ≡ Some next → IsOfSame point next
 next_within o point next is = by_plain (is_plain point) refl is
   where
     by_point : (insn : Insn) (b : Bool) → cond b (Some (point_after point insn)) None ≡ Some next → next.variant ≡ point.variant
@@ -79,7 +79,7 @@ next_within o point next is = by_plain (is_plain point) refl is
     by_plain true e is = absurd (let k : ⊥ = cc in k)
     by_plain false e is = record { replaced = e; same = by_insn (insn_of_point (texts_of o) (alternatives_of o) point) is }
 
-module _ (o : Elf) (lists : NameLists) (order : ObjectIsInOrder o) where
+module _ (o : Coded) (lists : NameLists) (order : ObjectIsInOrder o) where
   -- a point of a replacement runs in the site of its original
   record OverSite (q : ℕ) : Type 0 where
     over : Overlays o (point_at o q) (decoded_insn o (point_at o q))

@@ -3,7 +3,7 @@ use Rattle.std.proofs.Common.{◌≡◌, ℕ, ◌<◌, ◌⊎◌, Bool, true, fa
 use Rattle.std.proofs.lemmas.Bool.{not-false}
 use Rattle.ot_base.specs.NameLists.{NameLists}
 use Rattle.ot_base.specs.declared.place.Place.{Place}
-use Rattle.elf_objects.specs.Elf.{Elf}
+use Rattle.flow_defs.specs.Coded.{Coded}
 use Rattle.program_defs.specs.Program.{Site, in_site}
 use Rattle.table_defs.specs.Enters.{IsSiteStart}
 use Rattle.symbols_relocs.specs.Places.{same_place}
@@ -29,20 +29,20 @@ use Rattle.flow_law.proofs.Owners.{arrives_at}
 use Rattle.flow_law.proofs.PointKinds.{point_listed}
 
 -- where a point runs, and one by its number
-abbrev pub address_of : Elf → Point → Place
+abbrev pub address_of : Coded → Point → Place
 address_of o point = address_of_point (alternatives_of o) point
 
-abbrev pub address_at : Elf → ℕ → Place
+abbrev pub address_at : Coded → ℕ → Place
 address_at o q = address_of o (point_at o q)
 
 -- control that comes to a boundary may stand at the plain point there
-pub record ArrivesPlain (o : Elf) (place : Place) : Type 0 where
+pub record ArrivesPlain (o : Coded) (place : Place) : Type 0 where
   pub number : ℕ
   pub inside : number < point_count o
   pub is : point_at o number ≡ plain_point place
   pub arrives : Contains (arrive o place) number
 
-pub arrives_plain : (o : Elf) (place : Place) → is_boundary (texts_of o) place ≡ true → ArrivesPlain o place
+pub arrives_plain : (o : Coded) (place : Place) → is_boundary (texts_of o) place ≡ true → ArrivesPlain o place
 unfolding arrive
 arrives_plain o place boundary =
     let entries = alternatives_of o in
@@ -56,7 +56,7 @@ arrives_plain o place boundary =
       arrives = in_filter_map (number_of o) (first_points (texts_of o) entries place) (plain_point place) has.0 (in_filter (is_point (texts_of o) entries) (plain_point place ∷ firsts) (plain_point place) (here (plain_point place) firsts) boundary) has.1;
     }
 
-module _ (o : Elf) (lists : NameLists) (order : ObjectIsInOrder o) where
+module _ (o : Coded) (lists : NameLists) (order : ObjectIsInOrder o) where
   pub sites_apart : (one other : Site) (place : Place) → Contains (sites_of o) one → Contains (sites_of o) other → in_site one place ≡ true → in_site other place ≡ true → one ≡ other
   unfolding program_of returning_graph graph_of
   sites_apart one other place of-one of-other in-one in-other = (laid_out o lists order).sites_apart one other place of-one of-other in-one in-other

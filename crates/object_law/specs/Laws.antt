@@ -2,7 +2,7 @@
 use Rattle.std.specs.Prelude.{◌≡◌, ℕ, List, [], Option}
 use Rattle.ot_base.specs.NameLists.{NameLists}
 use Rattle.state_defs.specs.declared.state.State.{State}
-use Rattle.elf_objects.specs.Elf.{Elf}
+use Rattle.flow_defs.specs.Coded.{Coded}
 use Rattle.machine_defs.specs.Machine.{Bases, Machine}
 use Rattle.machine_defs.specs.Run.{Run}
 use Rattle.checker_defs.specs.Broken.{IsAccepted}
@@ -19,17 +19,17 @@ use Rattle.flow_law.specs.Flows.{ObjectIsInOrder}
 
 -- Control comes into the sites of every object in order at their starts, or from within.
 abbrev pub ProgramEntersSites : Type 0
-ProgramEntersSites = (o : Elf) (lists : NameLists) → ObjectIsInOrder o → flow_faults o ≡ [] → EntersSites (program_of o lists)
+ProgramEntersSites = (o : Coded) (lists : NameLists) → ObjectIsInOrder o → flow_faults o ≡ [] → EntersSites (program_of o lists)
 
 -- The plain points of every object are numbered in the order of their places.
 abbrev pub PointsAscend : Type 0
-PointsAscend = (o : Elf) (lists : NameLists) → PlainPointsAscend (program_of o lists)
+PointsAscend = (o : Coded) (lists : NameLists) → PlainPointsAscend (program_of o lists)
 
 -- Wherever an object in order is placed whose program breaks no rule, the walk over the rows of its kept states gives
 -- exactly the frames, in every state of every run.
 abbrev pub ObjectUnwinds : Type 0
 ObjectUnwinds =
-    (o : Elf) (lists : NameLists) (states : ℕ → Option State) (bases : Bases) (ranges : List Range)
+    (o : Coded) (lists : NameLists) (states : ℕ → Option State) (bases : Bases) (ranges : List Range)
     → ObjectIsInOrder o → flow_faults o ≡ [] → IsAccepted (program_of o lists) → AreKeptStates (program_of o lists) states
     → IsPlacedBy (program_of o lists) bases ranges → (m : Machine) → Run (program_of o lists) bases m
     → WalksToFrames (program_of o lists) (rows_of (program_of o lists) states) bases ranges m

@@ -1,8 +1,10 @@
 use Rattle.std.proofs.Common.{◌≡◌, ◌+◌, ℕ, true, length, sym, ap, refl, ◌∙◌, arith, subst, ◌++◌, ◌∷◌, [], List}
 use Rattle.std.proofs.lemmas.Bool.{false≢true}
 use Rattle.std.proofs.lemmas.Result.{err_from_is_err_and}
-use Rattle.elf_objects.specs.Elf.{Elf}
+use Rattle.flow_defs.specs.Coded.{Coded, coded_by}
 use Rattle.elf_objects.specs.Contents.{is_text, section_at}
+use Rattle.x86_text.specs.Code.{Body}
+use Rattle.flow_defs.specs.Code.{body_of}
 use Rattle.alternatives.specs.declared.texts.SectionText.{SectionText}
 use Rattle.object_code.proofs.TextsLemmas.{all_texts, code_more, other_below, text_below, texts_below}
 use Rattle.object_code.specs.Linked.{AreCode, IsLinkFault}
@@ -10,23 +12,23 @@ use Rattle.object_code.proofs.texts.read_texts.Goals as goal
 use Rattle.object_code.proofs.texts.read_texts.Goals.{then-is_text+in_ok-text+in_ok-push, else-is_text}
 
 -- the texts with one more
-more : (o : Elf) (n : ℕ) (t : SectionText) (before after : List SectionText) → is_text (section_at o n) ≡ true → t.sec ≡ n → t.text ≡ (section_at o n).body → before ≡ texts_below o n → after ≡ before ++ t ∷ [] → after ≡ texts_below o (n + 1)
+more : (o : Coded) (n : ℕ) (t : SectionText) (before after : List SectionText) → is_text (section_at o.elf n) ≡ true → t.sec ≡ n → t.text ≡ body_of o n → before ≡ texts_below o n → after ≡ before ++ t ∷ [] → after ≡ texts_below o (n + 1)
 more o n t before after text sec body read pushed =
     pushed
     ∙ ap (λ ts. ts ++ t ∷ []) read
     ∙ ap (λ (k : ℕ). texts_below o n ++ record { sec = k; text = t.text } ∷ []) sec
-    ∙ ap (λ (b : List ℕ). texts_below o n ++ record { sec = n; text = b } ∷ []) body
+    ∙ ap (λ (b : Body). texts_below o n ++ record { sec = n; text = b } ∷ []) body
     ∙ sym (text_below o n text)
 
 pub returns-in_err-text-clause-fault : goal.returns-in_err-text-clause-fault
 returns-in_err-text-clause-fault c =
-    let here : IsLinkFault c.args.object.now c.in_err-text.field-0.0 = c.in_err-text.ensures.fault c.loop-sec.invariant.code in
+    let here : IsLinkFault (coded_by c.args.map c.args.object.now) c.in_err-text.field-0.0 = c.in_err-text.ensures.fault c.loop-sec.invariant.code in
     let p = err_from_is_err_and c.from_residual.result c.from_residual.ensures.1 in
     rw (p.1, p.2) here
 
 pub loop-sec-preserved : goal.loop-sec-preserved
 loop-sec-preserved c =
-    let o = c.args.object.now in
+    let o : Coded = coded_by c.args.map c.args.object.now in
     let n = c.loop-sec.sec in
     elim c.if-is_text.branch [
       | then-is_text+in_ok-text+in_ok-push w ↦
@@ -46,12 +48,12 @@ loop-sec-preserved c =
 
 pub returns-clause-read : goal.returns-clause-read
 returns-clause-read c =
-    let o = c.args.object.now in
-    let whole : c.loop-sec.sec ≡ length o.sections = omega (arith, c.loop-sec-test.false, c.loop-sec.auto.sec-end, c.sections-sec-end.ensures.value) in
+    let o : Coded = coded_by c.args.map c.args.object.now in
+    let whole : c.loop-sec.sec ≡ length o.elf.sections = omega (arith, c.loop-sec-test.false, c.loop-sec.auto.sec-end, c.sections-sec-end.ensures.value) in
     c.loop-sec.invariant.read ∙ ap (texts_below o) whole ∙ all_texts o
 
 pub returns-clause-code : goal.returns-clause-code
 returns-clause-code c =
-    let o = c.args.object.now in
-    let whole : c.loop-sec.sec ≡ length o.sections = omega (arith, c.loop-sec-test.false, c.loop-sec.auto.sec-end, c.sections-sec-end.ensures.value) in
+    let o : Coded = coded_by c.args.map c.args.object.now in
+    let whole : c.loop-sec.sec ≡ length o.elf.sections = omega (arith, c.loop-sec-test.false, c.loop-sec.auto.sec-end, c.sections-sec-end.ensures.value) in
     subst (AreCode o) whole c.loop-sec.invariant.code

@@ -1,5 +1,6 @@
 use Rattle.std.proofs.Common.{◌≡◌, ◌≤◌, List, length, map, sym, ap, ◌∙◌, subst, Some}
 use Rattle.elf_objects.specs.Elf.{Elf}
+use Rattle.flow_defs.specs.Coded.{Coded, coded_by}
 use Rattle.elf_objects.specs.Object.{IsObject}
 use Rattle.special_sections.specs.declared.entries.AltEntry.{AltEntry}
 use Rattle.special_sections.specs.Special.{special_of, SpecialEntries}
@@ -15,7 +16,7 @@ use Rattle.object_code.specs.Linked.{IsLinked}
 use Rattle.object_code.proofs.linked.Linked.link.Goals as goal
 
 -- what is built of an object that is linked is kept
-kept : (o : Elf) (texts lent : List SectionText) (special : SpecialEntries) (sites : SiteList) → texts ≡ texts_of o → lent ≡ texts_of o → special ≡ special_of o → IsLinked o → IsObject o.bytes o
+kept : (o : Coded) (texts lent : List SectionText) (special : SpecialEntries) (sites : SiteList) → texts ≡ texts_of o → lent ≡ texts_of o → special ≡ special_of o.elf → IsLinked o → IsObject o.elf.bytes o.elf
     → AreSitesOf special.alternatives sites.sites sites.entry_numbers
     → sites.points ≡ points_of lent special.alternatives
     → map (λ insn. Some insn) sites.insns ≡ map (insn_of_point lent special.alternatives) sites.points
@@ -39,25 +40,25 @@ kept o texts lent special sites are lent_are says linked object all points insns
     }
 
 pub build-requires-2-clause-ascending : goal.build-requires-2-clause-ascending
-build-requires-2-clause-ascending c = subst AscendBySection (sym (c.deref.ensures.value ∙ c.in_ok-texts.ensures.read)) (texts_ascend c.args.object.now)
+build-requires-2-clause-ascending c = subst AscendBySection (sym (c.deref.ensures.value ∙ c.in_ok-texts.ensures.read)) (texts_ascend (coded_by c.args.map c.args.object.now))
 
 pub build-requires-2-clause-bytes : goal.build-requires-2-clause-bytes
-build-requires-2-clause-bytes c = subst (λ (ts : List SectionText). text_bytes ts ≤ 16777216) (sym (c.deref.ensures.value ∙ c.in_ok-texts.ensures.read)) (little_text c.args.object.now c.in_ok-texts.ensures.object)
+build-requires-2-clause-bytes c = subst (λ (ts : List SectionText). text_bytes ts ≤ 16777216) (sym (c.deref.ensures.value ∙ c.in_ok-texts.ensures.read)) (little_text (coded_by c.args.map c.args.object.now) c.in_ok-texts.ensures.object)
 
 pub build-requires-2-clause-few : goal.build-requires-2-clause-few
 build-requires-2-clause-few c =
-    let o : Elf = c.args.object.now in
+    let o : Coded = coded_by c.args.map c.args.object.now in
     subst (λ (n : List AltEntry). length n ≤ 8388608) (ap (λ s. s.alternatives) (sym c.in_ok-special.ensures.ok))
     (few_alternatives o c.alternatives_are_few.ensures c.in_ok-texts.ensures.object c.in_ok-special.ensures.right c.requires)
 
 pub invariant_of-result : goal.invariant_of-result
 invariant_of-result c =
-    let o : Elf = c.args.object.now in
+    let o : Coded = coded_by c.args.map c.args.object.now in
     let texts : c.in_ok-texts.texts.items ≡ texts_of o = c.in_ok-texts.ensures.read in
     let lent : c.deref.result.now ≡ texts_of o = c.deref.ensures.value ∙ texts in
-    let special : c.in_ok-special.special ≡ special_of o = c.in_ok-special.ensures.ok in
+    let special : c.in_ok-special.special ≡ special_of o.elf = c.in_ok-special.ensures.ok in
     let alternatives : c.in_ok-special.special.alternatives ≡ alternatives_of o = ap (λ s. s.alternatives) special in
-    subst (λ (e : Elf). IsKept e c.in_ok-texts.texts.items c.in_ok-special.special c.in_ok-sites.sites) (sym c.in_ok-index.ensures.ok)
+    subst (λ (e : Elf). IsKept (coded_by c.args.map e) c.in_ok-texts.texts.items c.in_ok-special.special c.in_ok-sites.sites) (sym c.in_ok-index.ensures.ok)
     (kept o c.in_ok-texts.texts.items c.deref.result.now c.in_ok-special.special c.in_ok-sites.sites texts lent special
     (record { before = record { before = record { code = c.in_ok-texts.ensures.code; special = c.in_ok-special.ensures.right }; functions = c.in_ok-index.ensures.right }; sites = subst (λ (ts : List SectionText). AreRight ts (alternatives_of o) (length (alternatives_of o))) lent (subst (λ (list : List AltEntry). AreRight c.deref.result.now list (length list)) alternatives c.in_ok-sites.ensures.right) })
     c.in_ok-texts.ensures.object
