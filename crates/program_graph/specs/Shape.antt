@@ -1,6 +1,7 @@
 -- How the parts of a graph belong together.
 use Rattle.std.specs.Prelude.{◌≡◌, ℕ, ◌+◌, ◌<◌, ◌≤◌, ◌^◌, Some, All, length, slice_get, slice_index}
 use Rattle.program_graph.specs.declared.parts.GraphParts.{GraphParts}
+use Rattle.program_graph.specs.declared.parts.Hinted.{Hinted}
 use Rattle.program_graph.specs.declared.parts.Point.{Point}
 use Rattle.program_graph.specs.declared.parts.Rare.{Rare}
 
@@ -12,15 +13,18 @@ start_of parts q = slice_index parts.starts.items q
 pub record HaveShape (parts : GraphParts) : Type 0 where
   -- points have numbers of 32 bits
   pub few : length parts.points.items < 2 ^ 32
-  -- each point has an owner, and where it names something rare that is there
+  -- each point has an owner, a transfer, and what may be rare
   pub owners : (q : ℕ) (x : Point) → slice_get parts.points.items q ≡ Some x → x.owner < length parts.owners.items
-  pub rares : (q k : ℕ) (x : Point) → slice_get parts.points.items q ≡ Some x → x.rare ≡ Some k → k < length parts.rares.items
+  pub transfers : (q : ℕ) (x : Point) → slice_get parts.points.items q ≡ Some x → x.transfer < length parts.transfers.items
+  pub rares : (q : ℕ) (x : Point) → slice_get parts.points.items q ≡ Some x → x.rare < length parts.rares.items
+  -- where that names something of hints, it is there
+  pub hinted : (q h : ℕ) (x : Point) (r : Rare) → slice_get parts.points.items q ≡ Some x → slice_get parts.rares.items x.rare ≡ Some r → r.hinted ≡ Some h → h < length parts.hinted.items
   -- the edges of a point begin and end in the list of edges
   pub starts : length parts.starts.items ≡ length parts.points.items + 1
   pub ascending : (q : ℕ) → q < length parts.points.items → start_of parts q ≤ start_of parts (q + 1)
   pub within : (q : ℕ) → q < length parts.points.items → start_of parts (q + 1) ≤ length parts.edges.items
-  -- so do the RESTOREs of something rare
-  pub restored : (k : ℕ) (x : Rare) → slice_get parts.rares.items k ≡ Some x → (x.restores_from ≤ x.restores_to) × (x.restores_to ≤ length parts.restores.items)
+  -- so do the RESTOREs of what a point has of hints
+  pub restored : (k : ℕ) (x : Hinted) → slice_get parts.hinted.items k ≡ Some x → (x.restores_from ≤ x.restores_to) × (x.restores_to ≤ length parts.restores.items)
   -- edges lead to points, and RESTOREs are points
   pub targets : All (λ e. e.to < length parts.points.items) parts.edges.items
   pub restores : All (λ r. r < length parts.points.items) parts.restores.items

@@ -1,12 +1,19 @@
 -- When the parts of a graph tell a program.
-use Rattle.std.specs.Prelude.{◌≡◌, ℕ, ◌+◌, ◌↔◌, Some, None, Contains, map, length, slice_get, slice_range}
+use Rattle.std.specs.Prelude.{◌≡◌, ℕ, ◌+◌, ◌-◌, ◌==◌, ◌↔◌, Option, Some, None, Contains, map, length, slice_get, slice_range, if◌then◌else◌}
+use Rattle.ot_base.specs.declared.place.Place.{Place}
+use Rattle.operation_defs.specs.declared.insn.Insn.{Insn}
 use Rattle.state_defs.specs.declared.state.HintState.TheVariants.{Restore}
 use Rattle.program_defs.specs.Program.{Program, TextSection, Site, IsPoint}
 use Rattle.checker_defs.specs.Kept.{edges_of, is_entry_point}
 use Rattle.program_graph.specs.declared.parts.GraphParts.{GraphParts}
+use Rattle.program_graph.specs.declared.parts.Hinted.{Hinted}
 use Rattle.program_graph.specs.declared.parts.Point.{Point}
 use Rattle.program_graph.specs.declared.parts.Owner.{Owner}
+use Rattle.program_graph.specs.declared.parts.Previous.{Previous}
+use Rattle.program_graph.specs.declared.parts.Previous.TheVariants.{Below, Number, Nowhere}
 use Rattle.program_graph.specs.declared.parts.Rare.{Rare}
+use Rattle.program_graph.specs.declared.parts.Replaced.{Replaced}
+use Rattle.program_graph.specs.declared.parts.Transfer.{Transfer}
 use Rattle.program_graph.specs.declared.parts.Site.{Site as OwnSite}
 use Rattle.program_graph.specs.declared.parts.TextSection.{TextSection as OwnTextSection}
 use Rattle.program_graph.specs.Shape.{start_of}
@@ -23,21 +30,46 @@ pub record Means (p : Program) (q r : ℕ) : Type 0 where
   pub hint : p.hint r ≡ Some Restore
   pub save : p.save_of r ≡ Some q
 
--- what point q has in the program, where it has something rare
-pub record TellsRare (p : Program) (parts : GraphParts) (q : ℕ) (x : Rare) : Type 0 where
+-- what point q has of hints in the program
+pub record TellsHinted (p : Program) (parts : GraphParts) (q : ℕ) (x : Hinted) : Type 0 where
   pub hint : p.hint q ≡ x.hint
   pub save_of : p.save_of q ≡ x.save_of
-  pub variant : p.variant q ≡ x.variant
-  pub address : p.address q ≡ x.address
   pub restores : (r : ℕ) → Contains (slice_range parts.restores.items x.restores_from x.restores_to) r ↔ Means p q r
 
--- and where it has nothing rare
-pub record TellsUsual (p : Program) (q : ℕ) : Type 0 where
+-- and where it has nothing of them
+pub record TellsUnhinted (p : Program) (q : ℕ) : Type 0 where
   pub hint : p.hint q ≡ None
   pub save_of : p.save_of q ≡ None
-  pub variant : p.variant q ≡ 0
-  pub address : p.address q ≡ p.place q
   pub restores : (r : ℕ) → Means p q r → ⊥
+
+-- where a point runs that stands at a place
+abbrev pub address_by : Option Replaced → Place → Place
+address_by None place = place
+address_by (Some x) place = record { sec = x.section; off = x.offset }
+
+abbrev pub variant_by : Option Replaced → ℕ
+variant_by None = 0
+variant_by (Some x) = x.variant
+
+-- the number of the point right before point q
+abbrev pub previous_by : ℕ → Previous → Option ℕ
+previous_by q Below = if q == 0 then None else Some (q - 1)
+previous_by q (Number before) = Some before
+previous_by q Nowhere = None
+
+-- what point q has in the program of what few points have otherwise than most
+pub record TellsRare (p : Program) (parts : GraphParts) (q : ℕ) (x : Rare) : Type 0 where
+  pub variant : p.variant q ≡ variant_by x.replaced
+  pub address : p.address q ≡ address_by x.replaced (p.place q)
+  pub previous : p.previous q ≡ previous_by q x.previous
+  pub hinted : (k : ℕ) (h : Hinted) → x.hinted ≡ Some k → slice_get parts.hinted.items k ≡ Some h → TellsHinted p parts q h
+  pub unhinted : x.hinted ≡ None → TellsUnhinted p q
+
+-- where control may go from point q in the program, beside its edges
+pub record TellsTransfer (p : Program) (q : ℕ) (x : Transfer) : Type 0 where
+  pub role : p.role q ≡ x.role
+  pub marks : p.marks q ≡ x.marks
+  pub calls_fentry : p.calls_fentry q ≡ x.calls_fentry
 
 -- whose code point q is in the program
 pub record TellsOwner (p : Program) (q : ℕ) (x : Owner) : Type 0 where
@@ -45,20 +77,22 @@ pub record TellsOwner (p : Program) (q : ℕ) (x : Owner) : Type 0 where
   pub owner : p.owner q ≡ x.owner
   pub unchecked : p.unchecked q ≡ x.is_unchecked
 
+abbrev pub insn_of : Point → Insn
+insn_of x = record { len = x.len; op = x.op }
+
+abbrev pub place_of : Point → Place
+place_of x = record { sec = x.section; off = x.offset }
+
 -- what point q is in the program
 pub record TellsPoint (p : Program) (parts : GraphParts) (q : ℕ) (x : Point) : Type 0 where
-  pub insn : p.insn q ≡ x.insn
-  pub place : p.place q ≡ x.place
-  pub previous : p.previous q ≡ x.previous
-  pub role : p.role q ≡ x.role
-  pub marks : p.marks q ≡ x.marks
+  pub insn : p.insn q ≡ insn_of x
+  pub place : p.place q ≡ place_of x
   pub dead_end : p.dead_end q ≡ x.is_dead_end
   pub may_return : p.may_return q ≡ x.may_return
   pub entered : is_entry_point p q ≡ x.is_entered
-  pub calls_fentry : p.calls_fentry q ≡ x.calls_fentry
   pub owner : (o : Owner) → slice_get parts.owners.items x.owner ≡ Some o → TellsOwner p q o
-  pub rare : (k : ℕ) (r : Rare) → x.rare ≡ Some k → slice_get parts.rares.items k ≡ Some r → TellsRare p parts q r
-  pub usual : x.rare ≡ None → TellsUsual p q
+  pub transfer : (t : Transfer) → slice_get parts.transfers.items x.transfer ≡ Some t → TellsTransfer p q t
+  pub rare : (r : Rare) → slice_get parts.rares.items x.rare ≡ Some r → TellsRare p parts q r
 
 -- The parts tell the program, as far as a checker looks at it.
 pub record Tells (p : Program) (parts : GraphParts) : Type 0 where

@@ -4,9 +4,9 @@ ghost use Rattle.std.specs.Prelude.{◌≡◌, ◌+◌, ◌<◌, ◌≤◌, ◌�
 ghost use Rattle.program_defs.specs.Program.{Program};
 ghost use Rattle.checker_defs.specs.Kept.{edges_of, is_entry_point};
 ghost use Rattle.program_graph.specs.Shape.{HaveShape, start_of};
-ghost use Rattle.program_graph.specs.Tells.{Means, Tells, TellsOwner, TellsRare, TellsUsual, site_of, text_of};
+ghost use Rattle.program_graph.specs.Tells.{Means, Tells, TellsHinted, TellsOwner, TellsRare, TellsTransfer, TellsUnhinted, site_of, text_of};
 
-use crate::parts::{GraphParts, Owner, Point, Rare, Site, TextSection};
+use crate::parts::{GraphParts, Hinted, Owner, Point, Previous, Rare, Site, TextSection, Transfer};
 use operation_defs::Insn;
 use ot_base::Place;
 use program_defs::{Edge, Marks, Role};
@@ -55,22 +55,39 @@ impl Graph {
         &self.parts.owners[self.point(n).owner as usize]
     }
 
-    /// What few points have, by its place in their list.
-    fn rare_at(&self, k: u32) -> &Rare
-        requires { k < length self.now.parts.rares.items }
-        ensures { slice_get self.now.parts.rares.items k ≡ Some result.now }
+    /// Where control may go from a point, beside its edges.
+    fn transfer(&self, n: u32) -> &Transfer
+        requires { n < length self.now.parts.points.items }
+        ensures { (p : Program) → Tells p self.now.parts → TellsTransfer p n result.now }
     {
-        &self.parts.rares[k as usize]
+        &self.parts.transfers[self.point(n).transfer as usize]
     }
 
-    /// The RESTORE points that something rare names.
-    fn restores_of(&self, rare: &Rare) -> &[u32]
-        requires from { rare.now.restores_from ≤ rare.now.restores_to }
-        requires to { rare.now.restores_to ≤ length self.now.parts.restores.items }
-        ensures restores { result.now ≡ slice_range self.now.parts.restores.items rare.now.restores_from rare.now.restores_to }
+    /// What few points have otherwise than most, and what a point has of it.
+    fn rare(&self, n: u32) -> &Rare
+        requires { n < length self.now.parts.points.items }
+        ensures told { (p : Program) → Tells p self.now.parts → TellsRare p self.now.parts n result.now }
+        ensures known { IfSome result.now.hinted (λ k. k < length self.now.parts.hinted.items) }
+    {
+        &self.parts.rares[self.point(n).rare as usize]
+    }
+
+    /// What a point has of hints, by its place in their list.
+    fn hinted_at(&self, k: u32) -> &Hinted
+        requires { k < length self.now.parts.hinted.items }
+        ensures { slice_get self.now.parts.hinted.items k ≡ Some result.now }
+    {
+        &self.parts.hinted[k as usize]
+    }
+
+    /// The RESTORE points that what a point has of hints names.
+    fn restores_of(&self, hinted: &Hinted) -> &[u32]
+        requires from { hinted.now.restores_from ≤ hinted.now.restores_to }
+        requires to { hinted.now.restores_to ≤ length self.now.parts.restores.items }
+        ensures restores { result.now ≡ slice_range self.now.parts.restores.items hinted.now.restores_from hinted.now.restores_to }
         ensures within { All (λ r. r < length self.now.parts.points.items) result.now }
     {
-        &self.parts.restores[rare.restores_from as usize..rare.restores_to as usize]
+        &self.parts.restores[hinted.restores_from as usize..hinted.restores_to as usize]
     }
 
     /// Where in the list of edges those of a point begin.
@@ -81,14 +98,14 @@ impl Graph {
         self.parts.starts[n] as usize
     }
 
-    /// What few points have, where a point has it.
-    fn rare(&self, n: u32) -> Option<&Rare>
+    /// What a point has of hints, where it has something.
+    fn hinted(&self, n: u32) -> Option<&Hinted>
         requires { n < length self.now.parts.points.items }
-        ensures told { (p : Program) → Tells p self.now.parts → MatchOption result (TellsUsual p n) (λ rare. TellsRare p self.now.parts n rare.now) }
-        ensures range { IfSome result (λ rare. (rare.now.restores_from ≤ rare.now.restores_to) × (rare.now.restores_to ≤ length self.now.parts.restores.items)) }
+        ensures told { (p : Program) → Tells p self.now.parts → MatchOption result (TellsUnhinted p n) (λ hinted. TellsHinted p self.now.parts n hinted.now) }
+        ensures range { IfSome result (λ hinted. (hinted.now.restores_from ≤ hinted.now.restores_to) × (hinted.now.restores_to ≤ length self.now.parts.restores.items)) }
     {
-        match self.point(n).rare {
-            Some(k) => Some(self.rare_at(k)),
+        match self.rare(n).hinted {
+            Some(k) => Some(self.hinted_at(k)),
             None => None,
         }
     }
@@ -98,7 +115,11 @@ impl Graph {
         requires { n < length self.now.parts.points.items }
         ensures { (p : Program) → Tells p self.now.parts → result ≡ p.insn n }
     {
-        self.point(n).insn
+        let point = self.point(n);
+        Insn {
+            len: point.len,
+            op: point.op,
+        }
     }
 
     /// Where a point's bytes stand.
@@ -106,7 +127,11 @@ impl Graph {
         requires { n < length self.now.parts.points.items }
         ensures { (p : Program) → Tells p self.now.parts → result ≡ p.place n }
     {
-        self.point(n).place
+        let point = self.point(n);
+        Place {
+            sec: point.section,
+            off: u64::from(point.offset),
+        }
     }
 
     /// Where a point runs.
@@ -114,8 +139,11 @@ impl Graph {
         requires { n < length self.now.parts.points.items }
         ensures { (p : Program) → Tells p self.now.parts → result ≡ p.address n }
     {
-        match self.rare(n) {
-            Some(rare) => rare.address,
+        match self.rare(n).replaced {
+            Some(replaced) => Place {
+                sec: replaced.section,
+                off: u64::from(replaced.offset),
+            },
             None => self.place(n),
         }
     }
@@ -125,8 +153,8 @@ impl Graph {
         requires { n < length self.now.parts.points.items }
         ensures { (p : Program) → Tells p self.now.parts → result ≡ p.variant n }
     {
-        match self.rare(n) {
-            Some(rare) => rare.variant,
+        match self.rare(n).replaced {
+            Some(replaced) => replaced.variant,
             None => 0,
         }
     }
@@ -160,7 +188,12 @@ impl Graph {
         requires { n < length self.now.parts.points.items }
         ensures { (p : Program) → Tells p self.now.parts → result ≡ p.previous n }
     {
-        self.point(n).previous
+        match self.rare(n).previous {
+            Previous::Below if n == 0 => None,
+            Previous::Below => Some(n - 1),
+            Previous::Number(before) => Some(before),
+            Previous::Nowhere => None,
+        }
     }
 
     /// The unwind hint at a point.
@@ -168,8 +201,8 @@ impl Graph {
         requires { n < length self.now.parts.points.items }
         ensures { (p : Program) → Tells p self.now.parts → result ≡ p.hint n }
     {
-        match self.rare(n) {
-            Some(rare) => rare.hint,
+        match self.hinted(n) {
+            Some(hinted) => hinted.hint,
             None => None,
         }
     }
@@ -179,8 +212,8 @@ impl Graph {
         requires { n < length self.now.parts.points.items }
         ensures { (p : Program) → Tells p self.now.parts → result ≡ p.save_of n }
     {
-        match self.rare(n) {
-            Some(rare) => rare.save_of,
+        match self.hinted(n) {
+            Some(hinted) => hinted.save_of,
             None => None,
         }
     }
@@ -191,8 +224,8 @@ impl Graph {
         ensures restores { (p : Program) → Tells p self.now.parts → (r : ℕ) → Contains result.now r ↔ Means p n r }
         ensures within { All (λ r. r < length self.now.parts.points.items) result.now }
     {
-        match self.rare(n) {
-            Some(rare) => self.restores_of(rare),
+        match self.hinted(n) {
+            Some(hinted) => self.restores_of(hinted),
             None => &[],
         }
     }
@@ -213,7 +246,7 @@ impl Graph {
         requires { n < length self.now.parts.points.items }
         ensures { (p : Program) → Tells p self.now.parts → result ≡ p.role n }
     {
-        self.point(n).role
+        self.transfer(n).role
     }
 
     /// What is wrong with where a point goes.
@@ -221,7 +254,7 @@ impl Graph {
         requires { n < length self.now.parts.points.items }
         ensures { (p : Program) → Tells p self.now.parts → result ≡ p.marks n }
     {
-        self.point(n).marks
+        self.transfer(n).marks
     }
 
     /// Whether execution never passes a point.
@@ -253,7 +286,7 @@ impl Graph {
         requires { n < length self.now.parts.points.items }
         ensures { (p : Program) → Tells p self.now.parts → result ≡ p.calls_fentry n }
     {
-        self.point(n).calls_fentry
+        self.transfer(n).calls_fentry
     }
 
     /// The alternatives sites.

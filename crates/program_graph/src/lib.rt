@@ -5,4 +5,6 @@ mod graph;
 mod parts;
 
 pub use graph::Graph;
-pub use parts::{GraphParts, Owner, Point, Rare, Site, TextSection};
+pub use parts::{
+    GraphParts, Hinted, Owner, Point, Previous, Rare, Replaced, Site, TextSection, Transfer,
+};

@@ -1,6 +1,6 @@
 //! What a graph is made of.
 
-use operation_defs::Insn;
+use operation_defs::Op;
 use ot_base::Place;
 use program_defs::{Edge, Marks, Role};
 use state_defs::HintState;
@@ -34,11 +34,10 @@ pub struct Owner {
     pub is_unchecked: bool,
 }
 
-/// What few points have. A point without it has no hint, and is an instruction of the object's code, which runs
-/// where it stands.
+/// What a point has of unwind hints, which has one or is meant by one.
 #[derive(Clone, Copy, Debug, PartialEq, Eq)]
-pub struct Rare {
-    /// The unwind hint at its place.
+pub struct Hinted {
+    /// The hint at its place.
     pub hint: Option<HintState>,
     /// The SAVE point that a RESTORE means.
     pub save_of: Option<u32>,
@@ -46,42 +45,92 @@ pub struct Rare {
     pub restores_from: u32,
     /// Where they end.
     pub restores_to: u32,
-    /// 0 in the object's code, k in the k-th replacement.
-    pub variant: u32,
-    /// Where it runs.
-    pub address: Place,
 }
 
-/// An instruction of the object's code, or one of a replacement.
+/// What a point of a replacement has. It runs where its bytes don't stand.
 #[derive(Clone, Copy, Debug, PartialEq, Eq)]
-pub struct Point {
-    /// The instruction.
-    pub insn: Insn,
-    /// Where its bytes stand.
-    pub place: Place,
-    /// The plain point right before a plain point, in its section.
-    pub previous: Option<u32>,
-    /// Where in the list of what few points have its own stands.
-    pub rare: Option<u32>,
-    /// Where in the list of owners its own stands.
-    pub owner: u32,
-    /// What it is to its function.
+pub struct Replaced {
+    /// Whose it is: k in the k-th replacement.
+    pub variant: u32,
+    /// The section that it runs in, by its number in the section header table.
+    pub section: u32,
+    /// Bytes from that section's start to where it runs.
+    pub offset: u32,
+}
+
+/// Where among the points the plain point stands that is right before a plain point, in its section.
+#[derive(Clone, Copy, Debug, PartialEq, Eq)]
+pub enum Previous {
+    /// Right before it: its number is one less.
+    Below,
+    /// At this number.
+    Number(u32),
+    /// Nowhere: there is none.
+    Nowhere,
+}
+
+/// What few points have otherwise than most. A usual point has no hint, and is an instruction of the object's code,
+/// which runs where it stands; the one right before it has the number below.
+#[derive(Clone, Copy, Debug, PartialEq, Eq)]
+pub struct Rare {
+    /// What a point of a replacement has.
+    pub replaced: Option<Replaced>,
+    /// Where the plain point stands that is right before it.
+    pub previous: Previous,
+    /// Where in the list of what points have of hints its own stands.
+    pub hinted: Option<u32>,
+}
+
+/// Where control may go from a point, beside its edges. Of a usual point it goes nowhere else, and nothing is wrong with
+/// where it goes.
+#[derive(Clone, Copy, Debug, PartialEq, Eq)]
+pub struct Transfer {
+    /// What the point is to its function.
     pub role: Role,
     /// What is wrong with where it goes.
     pub marks: Marks,
+    /// Whether it calls `__fentry__`.
+    pub calls_fentry: bool,
+}
+
+/// An instruction of the object's code, or one of a replacement. What many points have in common stands in lists of its
+/// own, and a point has the number.
+#[derive(Clone, Copy, Debug, PartialEq, Eq)]
+pub struct Point {
+    /// What its instruction does.
+    pub op: Op,
+    /// The section of its bytes, by its number in the section header table.
+    pub section: u32,
+    /// Bytes from that section's start to its own.
+    pub offset: u32,
+    /// Where in the list of what few points have its own stands.
+    pub rare: u32,
+    /// Where in the list of owners its own stands.
+    pub owner: u32,
+    /// Where in the list of transfers its own stands.
+    pub transfer: u32,
+    /// How many bytes its instruction has.
+    pub len: u8,
     /// Whether execution never passes it.
     pub is_dead_end: bool,
     /// Whether a return may come from it on.
     pub may_return: bool,
     /// Whether control that comes to some entry may stand at it.
     pub is_entered: bool,
-    /// Whether it calls `__fentry__`.
-    pub calls_fentry: bool,
 }
+
+const _: () = prove!(size_of::<Point>() == 40);
+
+const _: () = prove!(size_of::<Transfer>() == 20);
+
+const _: () = prove!(size_of::<Rare>() == 32);
+
+const _: () = prove!(size_of::<Hinted>() == 88);
 
 /// What a graph is made of.
 ///
-/// A point takes 56 bytes beside its instruction, 4 for where its edges begin, and 8 for each edge.
+/// A point takes 40 bytes, 4 for where its edges begin, and 8 for each edge. A transfer takes 20 bytes, what is rare 32, and
+/// a hint 88 more.
 #[derive(Drop)]
 pub struct GraphParts {
     /// The points by number.
@@ -93,8 +142,12 @@ pub struct GraphParts {
     pub edges: Vec<Edge>,
     /// Whose code the points are.
     pub owners: Vec<Owner>,
-    /// What few points have.
+    /// Where control may go from the points.
+    pub transfers: Vec<Transfer>,
+    /// What few points have, and what usual ones have.
     pub rares: Vec<Rare>,
+    /// What points have of hints.
+    pub hinted: Vec<Hinted>,
     /// The RESTORE points, those of one SAVE one after another.
     pub restores: Vec<u32>,
     /// The alternatives sites.

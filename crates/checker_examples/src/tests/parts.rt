@@ -1,9 +1,11 @@
 //! The parts of a graph, of a program of the plain reading.
 
 use checker_model::may_return;
-use ot_base::NoMemory;
+use ot_base::{NoMemory, Place};
 use program_defs::{EdgeKind, Role};
-use program_graph::{GraphParts, Owner, Point, Rare, Site, TextSection};
+use program_graph::{
+    GraphParts, Hinted, Owner, Point, Previous, Rare, Replaced, Site, TextSection, Transfer,
+};
 use program_model::{Point as ModelPoint, Program};
 use state_defs::HintState;
 use std::alloc::{AllocError, Global};
@@ -11,6 +13,11 @@ use std::alloc::{AllocError, Global};
 /// A place in a list, which has fewer than 2^32 elements.
 fn number(n: usize) -> u32 {
     u32::try_from(n).unwrap_or(u32::MAX)
+}
+
+/// The offset of a place, which is below 2^32.
+fn offset(place: Place) -> u32 {
+    u32::try_from(place.off).unwrap_or(u32::MAX)
 }
 
 /// Whether what is called or jumped to by this role may return.
@@ -35,32 +42,46 @@ fn add_restores(parts: &mut GraphParts, p: &Program, q: u32) -> Result<(u32, u32
     Ok((from, number(parts.restores.len())))
 }
 
-/// Adds what few points have, where a point has it, and gives its number.
-fn add_rare(
+/// Adds what a point has of hints, where it has something, and gives its number.
+fn add_hinted(
     parts: &mut GraphParts,
     p: &Program,
     q: u32,
     point: &ModelPoint,
 ) -> Result<Option<u32>, AllocError> {
     let (restores_from, restores_to) = add_restores(parts, p, q)?;
-    let is_usual = point.hint.is_none()
-        && point.save_of.is_none()
-        && restores_from == restores_to
-        && point.variant == 0
-        && point.address == point.place;
-    if is_usual {
+    if point.hint.is_none() && point.save_of.is_none() && restores_from == restores_to {
         return Ok(None);
     }
-    let number = number(parts.rares.len());
-    parts.rares.push(Rare {
+    let number = number(parts.hinted.len());
+    parts.hinted.push(Hinted {
         hint: point.hint,
         save_of: point.save_of,
         restores_from,
         restores_to,
-        variant: point.variant,
-        address: point.address,
     })?;
     Ok(Some(number))
+}
+
+/// What a point has that is one of a replacement.
+fn replaced(point: &ModelPoint) -> Option<Replaced> {
+    if point.variant == 0 {
+        return None;
+    }
+    Some(Replaced {
+        variant: point.variant,
+        section: point.address.sec,
+        offset: offset(point.address),
+    })
+}
+
+/// Where the point stands that is right before a point.
+fn previous(q: u32, point: &ModelPoint) -> Previous {
+    match point.previous {
+        Some(before) if q.checked_sub(1) == Some(before) => Previous::Below,
+        Some(before) => Previous::Number(before),
+        None => Previous::Nowhere,
+    }
 }
 
 /// Adds the edges of a point, without the Next of a call that can't come back.
@@ -80,7 +101,7 @@ fn add_edges(
     Ok(())
 }
 
-/// Adds a point, with an owner of its own.
+/// Adds a point, with an owner, a transfer and what may be rare of its own.
 fn add_point(
     parts: &mut GraphParts,
     p: &Program,
@@ -88,25 +109,34 @@ fn add_point(
     q: u32,
     point: &ModelPoint,
 ) -> Result<(), AllocError> {
-    let rare = add_rare(parts, p, q, point)?;
+    let hinted = add_hinted(parts, p, q, point)?;
     add_edges(parts, p, returning, point)?;
     parts.owners.push(Owner {
         function: point.function,
         owner: point.owner,
         is_unchecked: point.is_unchecked,
     })?;
-    parts.points.push(Point {
-        insn: point.insn,
-        place: point.place,
-        previous: point.previous,
-        rare,
-        owner: q,
+    parts.transfers.push(Transfer {
         role: point.role,
         marks: point.marks,
+        calls_fentry: point.calls_fentry,
+    })?;
+    parts.rares.push(Rare {
+        replaced: replaced(point),
+        previous: previous(q, point),
+        hinted,
+    })?;
+    parts.points.push(Point {
+        op: point.insn.op,
+        section: point.place.sec,
+        offset: offset(point.place),
+        rare: q,
+        owner: q,
+        transfer: q,
+        len: point.insn.len,
         is_dead_end: point.is_dead_end,
         may_return: returning.get(q as usize).copied().unwrap_or(false),
         is_entered: p.is_entry_point(q),
-        calls_fentry: point.calls_fentry,
     })?;
     Ok(())
 }
@@ -126,7 +156,9 @@ fn without_points(alloc: Global, p: &Program) -> Result<GraphParts, AllocError> 
         starts: Vec::new(alloc),
         edges: Vec::new(alloc),
         owners: Vec::new(alloc),
+        transfers: Vec::new(alloc),
         rares: Vec::new(alloc),
+        hinted: Vec::new(alloc),
         restores: Vec::new(alloc),
         sites: p.sites.iter().map(site).collect(alloc)?,
         texts: p.texts.iter().map(text).collect(alloc)?,

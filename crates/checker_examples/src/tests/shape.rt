@@ -4,7 +4,7 @@ ghost use Rattle.std.specs.Prelude.{◌≡◌, ◌+◌, ◌<◌, ◌≤◌, ◌^
 ghost use Rattle.program_graph.specs.Shape.{HaveShape, start_of};
 
 use program_defs::Edge;
-use program_graph::{Graph, GraphParts, Point, Rare, Site};
+use program_graph::{Graph, GraphParts, Hinted, Point, Rare, Site};
 
 /// Whether the owner of each point is one of so many.
 fn owners_are_there(points: &[Point], owners: usize) -> bool
@@ -13,21 +13,37 @@ fn owners_are_there(points: &[Point], owners: usize) -> bool
     points.iter().all(|point| (point.owner as usize) < owners)
 }
 
-/// Whether what each point names rare is one of so many.
-fn rares_are_there(points: &[Point], rares: usize) -> bool
-    ensures { IsTrue result → All (λ x. IfSome x.rare (λ k. k < rares)) points.now }
+/// Whether the transfer of each point is one of so many.
+fn transfers_are_there(points: &[Point], transfers: usize) -> bool
+    ensures { IsTrue result → All (λ x. x.transfer < transfers) points.now }
 {
     points
         .iter()
-        .all(|point| point.rare.is_none_or(|k| (k as usize) < rares))
+        .all(|point| (point.transfer as usize) < transfers)
 }
 
-/// Whether the RESTOREs of each rare one are a range among so many.
-fn restores_are_ranges(rares: &[Rare], restores: usize) -> bool
-    ensures { IsTrue result → All (λ x. (x.restores_from ≤ x.restores_to) × (x.restores_to ≤ restores)) rares.now }
+/// Whether what each point names rare is one of so many.
+fn rares_are_there(points: &[Point], rares: usize) -> bool
+    ensures { IsTrue result → All (λ x. x.rare < rares) points.now }
 {
-    rares.iter().all(|rare| {
-        rare.restores_from <= rare.restores_to && rare.restores_to as usize <= restores
+    points.iter().all(|point| (point.rare as usize) < rares)
+}
+
+/// Whether what each rare one names of hints is one of so many.
+fn hinted_are_there(rares: &[Rare], hinted: usize) -> bool
+    ensures { IsTrue result → All (λ x. IfSome x.hinted (λ k. k < hinted)) rares.now }
+{
+    rares
+        .iter()
+        .all(|rare| rare.hinted.is_none_or(|k| (k as usize) < hinted))
+}
+
+/// Whether the RESTOREs of what each point has of hints are a range among so many.
+fn restores_are_ranges(hinted: &[Hinted], restores: usize) -> bool
+    ensures { IsTrue result → All (λ x. (x.restores_from ≤ x.restores_to) × (x.restores_to ≤ restores)) hinted.now }
+{
+    hinted.iter().all(|hinted| {
+        hinted.restores_from <= hinted.restores_to && hinted.restores_to as usize <= restores
     })
 }
 
@@ -70,8 +86,10 @@ fn have_shape(parts: &GraphParts) -> bool
         return false;
     }
     owners_are_there(parts.points.as_slice(), parts.owners.len())
+        && transfers_are_there(parts.points.as_slice(), parts.transfers.len())
         && rares_are_there(parts.points.as_slice(), parts.rares.len())
-        && restores_are_ranges(parts.rares.as_slice(), parts.restores.len())
+        && hinted_are_there(parts.rares.as_slice(), parts.hinted.len())
+        && restores_are_ranges(parts.hinted.as_slice(), parts.restores.len())
         && starts_ascend(parts)
         && edges_lead_to_points(parts.edges.as_slice(), points)
         && restores_are_points(parts.restores.as_slice(), points)
