@@ -74,7 +74,13 @@ fn push_all(rows: &mut Vec<PlacedRow>, more: &[PlacedRow]) -> Result<(), NoMemor
 
 /// The row of a point of the object's code that begins one: outside sites each does, and the first of a site does
 /// where it isn't kept.
-fn plain_row(graph: &Graph, kept: &Kept, sites: &SiteIndex, n: u32) -> Option<PlacedRow>
+fn plain_row(
+    graph: &Graph,
+    kept: &Kept,
+    sites: &SiteIndex,
+    near: &mut usize,
+    n: u32,
+) -> Option<PlacedRow>
     requires points { length kept.now ≡ length graph.now.parts.points.items }
     requires inside { n < length graph.now.parts.points.items }
     requires fit { Fit (at kept.now) }
@@ -85,7 +91,7 @@ fn plain_row(graph: &Graph, kept: &Kept, sites: &SiteIndex, n: u32) -> Option<Pl
     }
     let place = graph.place(n);
     let state = kept.state(n);
-    if let Some(site) = sites.find(place) {
+    if let Some(site) = sites.find(place, near) {
         if state.is_some() || site.start != place {
             return None;
         }
@@ -111,8 +117,9 @@ pub(crate) fn list_changes(
 {
     let mut rows = Vec::new(alloc);
     let mut next = 0usize;
+    let mut near = 0usize;
     for n in 0..graph.points() {
-        if let Some(row) = plain_row(graph, kept, sites, n) {
+        if let Some(row) = plain_row(graph, kept, sites, &mut near, n) {
             next = push_before(&mut rows, in_sites, next, row.place)?;
             push_change(&mut rows, row)?;
         }

@@ -21,6 +21,20 @@ parted sites place indexed i j d order inside h =
       | inr clear ↦ ap not clear
     ]
 
+-- a place that isn't before another isn't before what that isn't before
+after_both : (a b c d e f : ℕ) → (ltb a c || (eqb a c && ltb b d)) ≡ false → (ltb c e || (eqb c e && ltb d f)) ≡ false → (ltb a e || (eqb a e && ltb b f)) ≡ false
+after_both a b c d e f h k = grind (arith, nat_tests)
+
+-- where the last of so many begins at the place or before it, all of them do
+pub begun : (sites : List OwnSite) (place : Place) → AreIndexed sites → (n k : ℕ) (d : OwnSite) → k ≤ n → n < length sites → is_before place (get_or sites n d).start ≡ false → is_before place (get_or sites k d).start ≡ false
+begun sites place indexed n k d order inside h =
+    after_both place.sec place.off (get_or sites n d).start.sec (get_or sites n d).start.off (get_or sites k d).start.sec (get_or sites k d).start.off h (indexed.ascend k n d order inside)
+
+-- where one begins behind the place, all from there on do
+pub unbegun : (sites : List OwnSite) (place : Place) → AreIndexed sites → (n k : ℕ) (d : OwnSite) → n ≤ k → k < length sites → is_before place (get_or sites n d).start ≡ true → is_before place (get_or sites k d).start ≡ true
+unbegun sites place indexed n k d order inside h =
+    behind_both place.sec place.off (get_or sites n d).start.sec (get_or sites n d).start.off (get_or sites k d).start.sec (get_or sites k d).start.off h (indexed.ascend n k d order inside)
+
 before_start : (a b c d n : ℕ) → (ltb a c || (eqb a c && ltb b d)) ≡ true → (eqb c a && (leb d b && ltb b (d + n))) ≡ false
 before_start a b c d n h = grind (arith, nat_tests)
 

@@ -16,7 +16,7 @@ use Rattle.program_graph.specs.Tells.{site_of}
 use Rattle.branch_check.specs.LevelStates.{at}
 use Rattle.branch_check.proofs.Rounds.{at_some}
 use Rattle.site_points.specs.Sites.{holds, AreApart, IsIndexOf}
-use Rattle.site_points.specs.Points.{IsPointIn, ArePointsIn, IsAtStart, AreKeptIn, ComesBefore, AreInOrder, IsSitePoint, AreSitePoints}
+use Rattle.site_points.specs.Points.{IsPointIn, ArePointsIn, IsMoved, AreAmong, IsAtStart, AreKeptIn, ComesBefore, AreInOrder, IsSitePoint, AreSitePoints}
 use Rattle.site_points.specs.declared.points.SitePoint.{SitePoint}
 use Rattle.site_points.proofs.Order.{first_of_points}
 use Rattle.site_points.proofs.Finding.{held_some, start_held}
@@ -64,6 +64,35 @@ index_of p sites index t listed all = record {
 pub index_apart : (p : Program) (index : List OwnSite) → IsLaidOut p → IsIndexOf p index → AreApart index
 index_apart p index laid is one other place c d h k = same_own one other (laid.sites_apart (site_of one) (site_of other) place (is.listed one c) (is.listed other d) h k)
 
+-- points that run in some of the sites, of those that run in all
+pub among_told : (p : Program) (states : ℕ → Option State) (index starts : List OwnSite) (all points : List SitePoint) → ArePointsIn p states index all → ((site : OwnSite) → Contains starts site → Contains index site) → AreApart starts → AreAmong all starts points → ArePointsIn p states starts points
+among_told p states index starts all points are listed apart among = record {
+  each = λ x c.
+      let r = among.each x c in
+      let moved : IsMoved starts r.0 x = r.2 in
+      let told : IsPointIn p index r.0 = are.each r.0 r.1 in
+      record {
+        address = ap p.address moved.point ∙ (told.address ∙ sym moved.address);
+        variant = ap p.variant moved.point ∙ (told.variant ∙ sym moved.variant);
+        site = moved.site;
+        inside = moved.inside;
+      };
+  all = λ q site point some own held.
+      let y = are.all q site point some (listed site own) held in
+      let told : IsPointIn p index y.0 = are.each y.0 y.1 in
+      let there : p.address q ≡ (y.0).address = ap p.address (sym y.2) ∙ told.address in
+      let x = among.all apart y.0 site y.1 own (subst (λ (z : Place). holds site z ≡ true) there held) in
+      let moved : IsMoved starts y.0 x.0 = x.2 in
+      (x.0, x.1, moved.point ∙ y.2);
+}
+
+-- what is among kept points is kept
+pub among_kept : (kept : List (Option State)) (sites : List OwnSite) (all points : List SitePoint) → All (λ x. IsSome (at kept x.point)) all → AreAmong all sites points → All (λ x. IsSome (at kept x.point)) points
+among_kept kept sites all points some among = λ k d l.
+    let r = among.each (get_or points k d) (Contains-get_or points k d l) in
+    let moved : IsMoved sites r.0 (get_or points k d) = r.2 in
+    subst (λ (q : ℕ). IsSome (at kept q)) (sym moved.point) (All-contains (λ (z : SitePoint). IsSome (at kept z.point)) all r.0 some r.1)
+
 module _ (p : Program) (laid : IsLaidOut p) (kept : List (Option State)) (states : AreKeptStates p (at kept)) (count : p.count ≡ length kept) where
   -- what has a state is a kept point
   point_of : (q : ℕ) → IsSome (at kept q) → IsPoint p q × ((s : State) × Kept p q s)
@@ -84,7 +113,7 @@ module _ (p : Program) (laid : IsLaidOut p) (kept : List (Option State)) (states
     apart = index_apart p index laid is
 
     -- the kept sites are some of the sites
-    starts_listed : (site : OwnSite) → Contains starts site → Contains index site
+    pub starts_listed : (site : OwnSite) → Contains starts site → Contains index site
     starts_listed site c = let r = kept_in.each site c in subst (λ (s : OwnSite). Contains index s) r.2 (are.each r.0 r.1).site
 
     pub starts_apart : AreApart starts

@@ -5,7 +5,7 @@ use Rattle.program_defs.specs.Program.{Program, Site, IsPoint}
 use Rattle.checker_defs.specs.Broken.{KeptInSite}
 use Rattle.program_graph.specs.declared.parts.Site.{Site as OwnSite}
 use Rattle.program_graph.specs.Tells.{site_of}
-use Rattle.site_points.specs.Sites.{holds, is_before}
+use Rattle.site_points.specs.Sites.{holds, is_before, AreApart}
 use Rattle.site_points.specs.declared.points.SitePoint.{SitePoint}
 
 -- what an element tells of its point, which runs in one of these sites
@@ -19,6 +19,20 @@ pub record IsPointIn (p : Program) (sites : List OwnSite) (x : SitePoint) : Type
 pub record ArePointsIn (p : Program) (states : ℕ → Option State) (sites : List OwnSite) (points : List SitePoint) : Type 0 where
   pub each : (x : SitePoint) → Contains points x → IsPointIn p sites x
   pub all : (q : ℕ) (site : OwnSite) → IsPoint p q → IsSome (states q) → Contains sites site → holds site (p.address q) ≡ true → (x : SitePoint) × Contains points x × (x.point ≡ q)
+
+-- an element is another one, but for the site, and runs in its site, which is one of these
+pub record IsMoved (sites : List OwnSite) (old new : SitePoint) : Type 0 where
+  pub point : new.point ≡ old.point
+  pub address : new.address ≡ old.address
+  pub variant : new.variant ≡ old.variant
+  pub site : Contains sites new.site
+  pub inside : holds new.site new.address ≡ true
+
+-- the list has those elements of another one that run in these sites, in their order, each with such a site
+pub record AreAmong (points : List SitePoint) (sites : List OwnSite) (among : List SitePoint) : Type 0 where
+  pub each : (x : SitePoint) → Contains among x → (y : SitePoint) × Contains points y × IsMoved sites y x
+  pub all : AreApart sites → (y : SitePoint) (site : OwnSite) → Contains points y → Contains sites site → holds site y.address ≡ true → (x : SitePoint) × Contains among x × IsMoved sites y x
+  pub ascend : AllPairs (λ x y. x.point < y.point) points → AllPairs (λ x y. x.point < y.point) among
 
 -- an element of variant 0 that runs at the start of its site
 pub record IsAtStart (x : SitePoint) : Type 0 where

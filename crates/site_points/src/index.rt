@@ -1,6 +1,6 @@
 //! Sites by place.
 
-ghost use Rattle.std.specs.Prelude.{◌≡◌, ◌≤◌, ◌<◌, ◌↔◌, ℕ, true, false, All, Contains, IfOk, IfSome, IfNone, length, slice_index_or};
+ghost use Rattle.std.specs.Prelude.{◌≡◌, ◌≤◌, ◌<◌, ◌↔◌, ℕ, true, false, All, Contains, IfOk, IfSome, IfNone, IsTrue, length, slice_index_or};
 ghost use Rattle.program_defs.specs.Program.{Program};
 ghost use Rattle.program_graph.specs.declared.parts.Site.{Site};
 ghost use Rattle.program_graph.specs.Tells.{Tells};
@@ -38,13 +38,47 @@ fn count_to(sites: &[Site], place: Place) -> usize
     sites.partition_point(|site| !is_before(place, site.start))
 }
 
-/// The site that holds a place.
-fn find_site(sites: &[Site], place: Place) -> Option<Site>
+/// Whether the first so many of these begin at a place or before it.
+fn begin_before(sites: &[Site], place: Place, count: usize) -> bool
+    requires indexed { AreIndexed sites.now }
+    requires within { count ≤ length sites.now }
+    ensures { IsTrue result → (k : ℕ) (d : Site) → k < count → is_lower place (slice_index_or sites.now k d).start ≡ false }
+{
+    count == 0 || !is_before(place, sites[count - 1].start)
+}
+
+/// Whether all but the first so many of these begin behind a place.
+fn begin_behind(sites: &[Site], place: Place, count: usize) -> bool
+    requires indexed { AreIndexed sites.now }
+    requires within { count ≤ length sites.now }
+    ensures { IsTrue result → (k : ℕ) (d : Site) → count ≤ k → k < length sites.now → is_lower place (slice_index_or sites.now k d).start ≡ true }
+{
+    count == sites.len() || is_before(place, sites[count].start)
+}
+
+/// How many of these begin at a place or before it, where one number is tried before they are searched.
+fn count_near(sites: &[Site], place: Place, near: usize) -> usize
     requires { AreIndexed sites.now }
+    ensures within { result ≤ length sites.now }
+    ensures from { (k : ℕ) (d : Site) → k < result → is_lower place (slice_index_or sites.now k d).start ≡ false }
+    ensures behind { (k : ℕ) (d : Site) → result ≤ k → k < length sites.now → is_lower place (slice_index_or sites.now k d).start ≡ true }
+{
+    if near <= sites.len() && begin_before(sites, place, near) && begin_behind(sites, place, near) {
+        near
+    } else {
+        count_to(sites, place)
+    }
+}
+
+/// The site that holds a place, where so many begin there or before it.
+fn site_before(sites: &[Site], place: Place, count: usize) -> Option<Site>
+    requires indexed { AreIndexed sites.now }
+    requires within { count ≤ length sites.now }
+    requires from { (k : ℕ) (d : Site) → k < count → is_lower place (slice_index_or sites.now k d).start ≡ false }
+    requires behind { (k : ℕ) (d : Site) → count ≤ k → k < length sites.now → is_lower place (slice_index_or sites.now k d).start ≡ true }
     ensures held { IfSome result (λ site. Contains sites.now site × (is_held site place ≡ true)) }
     ensures none { AreApart sites.now → IfNone result ((site : Site) → Contains sites.now site → is_held site place ≡ false) }
 {
-    let count = count_to(sites, place);
     if count == 0 {
         return None;
     }
@@ -103,10 +137,15 @@ impl SiteIndex {
     }
 
     /// The site that holds a place, where one does. Of sites that share no byte that is the only one.
-    pub fn find(&self, place: Place) -> Option<Site>
+    ///
+    /// `near` is any number. Where it is the one that the last look-up left there, and no site begins between that one's place and
+    /// this one, nothing is searched.
+    pub fn find(&self, place: Place, near: &mut usize) -> Option<Site>
         ensures held { IfSome result (λ site. Contains self.now site × (is_held site place ≡ true)) }
         ensures none { AreApart self.now → IfNone result ((site : Site) → Contains self.now site → is_held site place ≡ false) }
     {
-        find_site(self.sites.as_slice(), place)
+        let sites = self.sites.as_slice();
+        *near = count_near(sites, place, *near);
+        site_before(sites, place, *near)
     }
 }

@@ -8,7 +8,7 @@ ghost use Rattle.program_graph.specs.declared.parts.Site.{Site};
 ghost use Rattle.program_graph.specs.Tells.{Tells};
 ghost use Rattle.branch_check.specs.LevelStates.{at};
 ghost use Rattle.site_points.specs.Sites.{AreApart, holds};
-ghost use Rattle.site_points.specs.Points.{AreInOrder, AreKeptIn, ArePointsIn, AreSitePoints, IsAtStart, IsPointIn};
+ghost use Rattle.site_points.specs.Points.{AreAmong, AreInOrder, AreKeptIn, ArePointsIn, AreSitePoints, IsAtStart, IsPointIn};
 ghost use Rattle.site_points.specs.declared.points.SitePoint.{SitePoint};
 
 use crate::index::SiteIndex;
@@ -31,7 +31,13 @@ pub struct SitePoint {
 }
 
 /// A point as one of a site, where it is kept and runs in one of these.
-fn point_in(graph: &Graph, kept: &Kept, sites: &SiteIndex, n: u32) -> Option<SitePoint>
+fn point_in(
+    graph: &Graph,
+    kept: &Kept,
+    sites: &SiteIndex,
+    near: &mut usize,
+    n: u32,
+) -> Option<SitePoint>
     requires points { length kept.now ≡ length graph.now.parts.points.items }
     requires inside { n < length graph.now.parts.points.items }
     ensures point { IfSome result (λ x. x.point ≡ n) }
@@ -40,9 +46,9 @@ fn point_in(graph: &Graph, kept: &Kept, sites: &SiteIndex, n: u32) -> Option<Sit
     ensures told { (p : Program) → Tells p graph.now.parts → IfSome result (IsPointIn p sites.now) }
     ensures none { (p : Program) → Tells p graph.now.parts → AreApart sites.now → IsSome (at kept.now n) → IfNone result ((site : Site) → Contains sites.now site → holds site (p.address n) ≡ true → ⊥) }
 {
-    kept.state(n)?;
     let address = graph.address(n);
-    let site = sites.find(address)?;
+    let site = sites.find(address, near)?;
+    kept.state(n)?;
     Some(SitePoint {
         address,
         variant: graph.variant(n),
@@ -65,8 +71,9 @@ fn points_in(
     ensures told { IfOk result (λ points. (p : Program) → Tells p graph.now.parts → AreApart sites.now → ArePointsIn p (at kept.now) sites.now points.items) }
 {
     let mut points = Vec::new(alloc);
+    let mut near = 0usize;
     for n in 0..graph.points() {
-        if let Some(point) = point_in(graph, kept, sites, n) {
+        if let Some(point) = point_in(graph, kept, sites, &mut near, n) {
             points.push(point)?;
         }
     }
@@ -94,6 +101,24 @@ fn kept_sites(alloc: Global, points: &[SitePoint]) -> Result<SiteIndex, NoMemory
     Ok(SiteIndex::sorted(sites))
 }
 
+/// Those of some points that run in these sites.
+fn points_among(
+    alloc: Global,
+    points: &[SitePoint],
+    sites: &SiteIndex,
+) -> Result<Vec<SitePoint>, NoMemory>
+    ensures { IfOk result (λ among. AreAmong points.now sites.now among.items) }
+{
+    let mut among = Vec::new(alloc);
+    let mut near = 0usize;
+    for point in points {
+        if let Some(site) = sites.find(point.address, &mut near) {
+            among.push(SitePoint { site, ..*point })?;
+        }
+    }
+    Ok(among)
+}
+
 /// Puts points in the order of their addresses, and at one address in that of their variants.
 fn sort(points: &mut Vec<SitePoint>)
     ensures ordered { AreInOrder points.new.items }
@@ -104,7 +129,8 @@ fn sort(points: &mut Vec<SitePoint>)
 
 /// The kept points that run in sites whose original code is kept at its start, by address and then by variant.
 ///
-/// Each point is looked at twice, with a search among the sites for each that is kept.
+/// Each point is looked at once, with a look-up among the sites that mostly goes on where the last one ended; then those that run
+/// in sites are.
 ///
 /// # Errors
 ///
@@ -121,8 +147,9 @@ pub fn list_site_points(
 {
     let sites = SiteIndex::build(alloc, graph)?;
     let all = points_in(alloc, graph, kept, &sites)?;
-    let kept_sites = kept_sites(alloc, all.as_slice())?;
-    let mut points = points_in(alloc, graph, kept, &kept_sites)?;
+    let found = all.as_slice();
+    let kept_sites = kept_sites(alloc, found)?;
+    let mut points = points_among(alloc, found, &kept_sites)?;
     sort(&mut points);
     Ok(points)
 }

@@ -115,8 +115,8 @@ fn push_points(
 /// have an instruction, or the row in force at the last byte of a call in a site isn't the call's. A warning may be
 /// added more than once.
 ///
-/// Every site has fewer than 2^63 bytes. Each point is looked at twice; for each kept one there is a search among the
-/// sites, and for each that runs in a site a few among those.
+/// Every site has fewer than 2^63 bytes. Each point is looked at once, with a look-up among the sites, and for each kept one that
+/// runs in a site there are a few searches among those.
 ///
 /// # Errors
 ///

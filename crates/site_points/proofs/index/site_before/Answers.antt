@@ -3,7 +3,7 @@ use Rattle.std.proofs.Common.{ℕ, ◌-◌, ◌<◌, List, length, get_or, arith
 use Rattle.std.proofs.lemmas.List.{get_or_default}
 use Rattle.program_graph.specs.declared.parts.Site.{Site}
 use Rattle.site_points.proofs.Finding.{none_holds}
-use Rattle.site_points.proofs.index.find_site.Goals as goal
+use Rattle.site_points.proofs.index.site_before.Goals as goal
 
 none : Site
 none = record { start = record { sec = 0; off = 0 }; len = 0 }
@@ -12,10 +12,10 @@ pub returns-else-holds-clause-none : goal.returns-else-holds-clause-none
 unfolding none
 returns-else-holds-clause-none c apart =
     let sites : List Site = c.args.sites.now in
-    let n : ℕ = c.count_to-count.result - 1 in
-    let inside : n < length sites = omega (arith, c.if-count-eq0.false, c.count_to-count.ensures.within) in
+    let n : ℕ = c.args.count - 1 in
+    let inside : n < length sites = omega (arith, c.if-count-eq0.false, c.requires.within) in
     let last : Site = get_or sites n none in
-    none_holds sites c.args.place n last c.requires apart inside (get_or_default sites n none last inside)
-    (c.count_to-count.ensures.from n none (omega (arith, c.if-count-eq0.false)))
-    (λ k d above l. c.count_to-count.ensures.behind k d (omega arith) l)
+    none_holds sites c.args.place n last c.requires.indexed apart inside (get_or_default sites n none last inside)
+    (c.requires.from n none (omega (arith, c.if-count-eq0.false)))
+    (λ k d above l. c.requires.behind k d (omega arith) l)
     (sym c.holds.ensures ∙ c.if-holds.false)
