@@ -5,7 +5,7 @@ use Rattle.std.specs.List.Sorted.{IsStrictlySortedBy}
 use Rattle.std.proofs.lemmas.Bool.{cases_Bool, false≢true}
 use Rattle.std.proofs.lemmas.Option.{slice_get-get_or}
 use Rattle.ot_base.specs.declared.place.Place.{Place}
-use Rattle.elf_objects.specs.Elf.{Elf}
+use Rattle.flow_defs.specs.Coded.{Coded}
 use Rattle.symbols_relocs.specs.declared.target.Target.TheVariants.{Bad}
 use Rattle.symbols_relocs.specs.Places.{same_place}
 use Rattle.alternatives.specs.declared.point.Point.{Point}
@@ -22,7 +22,7 @@ use Rattle.point_places.proofs.Numbers.{all_sorted, numbered}
 use Rattle.point_places.proofs.Points.{listed_point}
 
 -- a point has a number
-pub has_number : (o : Elf) (q : Point) → is_some (number_of o q) ≡ is_point (texts_of o) (alternatives_of o) q
+pub has_number : (o : Coded) (q : Point) → is_some (number_of o q) ≡ is_point (texts_of o) (alternatives_of o) q
 unfolding points_of_object
 has_number o q =
     let points : List Point = points_of (texts_of o) (alternatives_of o) in
@@ -42,11 +42,11 @@ other_point point place = record { place = place; variant = point.variant }
 abbrev chosen : Point → Place → Bool → Bool → Aim
 chosen other end known ends = if known then Within other else if ends then Behind end else At Bad
 
-pub within_own : (o : Elf) (point : Point) (place : Place) → is_some (number_of o (other_point point place)) ≡ true → Within (other_point point place) ≡ own_aim o point (Some place)
+pub within_own : (o : Coded) (point : Point) (place : Place) → is_some (number_of o (other_point point place)) ≡ true → Within (other_point point place) ≡ own_aim o point (Some place)
 within_own o point place known =
     ap (λ b. chosen (other_point point place) (site_end o point) b (same_place place (replacement_end o point))) (sym known ∙ has_number o (other_point point place))
 
-pub behind_own : (o : Elf) (point : Point) (place : Place) (b : Bool) → is_some (number_of o (other_point point place)) ≡ false → same_place place (replacement_end o point) ≡ b → (if b then Behind (site_end o point) else At Bad) ≡ own_aim o point (Some place)
+pub behind_own : (o : Coded) (point : Point) (place : Place) (b : Bool) → is_some (number_of o (other_point point place)) ≡ false → same_place place (replacement_end o point) ≡ b → (if b then Behind (site_end o point) else At Bad) ≡ own_aim o point (Some place)
 behind_own o point place b unknown ends =
     ap (λ k. chosen (other_point point place) (site_end o point) k b) (sym unknown ∙ has_number o (other_point point place))
     ∙ ap (chosen (other_point point place) (site_end o point) (is_point (texts_of o) (alternatives_of o) (other_point point place))) (sym ends)

@@ -2,7 +2,7 @@
 use Rattle.std.proofs.Common.{◌≡◌, ℕ, ◌+◌, ◌-◌, ◌^◌, ◌<◌, ◌≤◌, false, List, length, ap, arith, if◌then◌else◌}
 use Rattle.std.proofs.lemmas.List.Elements.{All-from_recursion}
 use Rattle.std.proofs.lemmas.List.Sums.{get_or-le-sum_by}
-use Rattle.elf_objects.specs.Elf.{Elf}
+use Rattle.flow_defs.specs.Coded.{Coded}
 use Rattle.special_sections.specs.declared.entries.AltEntry.{AltEntry}
 use Rattle.alternatives.specs.declared.texts.SectionText.{SectionText}
 use Rattle.alternatives.specs.declared.point.Point.{Point}
@@ -16,9 +16,9 @@ use Rattle.object_code.specs.Linked.{IsLinked}
 
 -- no text has more bytes than all together
 short_texts : (texts : List SectionText) → text_bytes texts ≤ 16777216 → AreShort texts
-short_texts texts little i d inside = omega (arith, little, get_or-le-sum_by (λ (t : SectionText). length t.text) texts i d inside)
+short_texts texts little i d inside = omega (arith, little, get_or-le-sum_by (λ (t : SectionText). length t.text.bytes) texts i d inside)
 
-pub low_point : (o : Elf) (n : ℕ) → IsLinked o → text_bytes (texts_of o) ≤ 16777216 → n < length (points_of_object o) → IsKept (alternatives_of o) (point_at o n)
+pub low_point : (o : Coded) (n : ℕ) → IsLinked o → text_bytes (texts_of o) ≤ 16777216 → n < length (points_of_object o) → IsKept (alternatives_of o) (point_at o n)
 unfolding points_of_object
 low_point o n linked little inside =
     points_kept (texts_of o) (alternatives_of o) (short_texts (texts_of o) little) linked.sites (points_of (texts_of o) (alternatives_of o))

@@ -19,7 +19,7 @@ fn indexed_owner(index: &Index<'_, '_>, place: Place) -> Option<u32>
 /// The owner of a place, by its symbol: the function that holds the place, or that function's parent where it is a
 /// part. No function may hold it.
 pub fn owner_at(places: &PointPlaces<'_, '_, '_>, place: Place) -> Option<u32>
-    ensures { result ≡ owner_of_place places.now place }
+    ensures { result ≡ owner_of_place places.now.elf place }
 {
     indexed_owner(places.linked().index(), place)
 }

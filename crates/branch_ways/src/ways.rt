@@ -12,7 +12,7 @@ use program_defs::EdgeKind;
 /// Whether control passes between a checked function and code of no function: one of two owners is there, and is
 /// checked.
 fn is_crossing(places: &PointPlaces<'_, '_, '_>, from: Option<u32>, to: Option<u32>) -> bool
-    ensures { result ≡ is_crossing_of places.now from to }
+    ensures { result ≡ is_crossing_of places.now.elf from to }
 {
     match (from, to) {
         (Some(_), None) => !places.is_unchecked(from),

@@ -4,7 +4,7 @@ use Rattle.std.specs.Prelude.{◌↔◌, IfSome, slice_index, slice_range}
 use Rattle.std.proofs.lemmas.Bool.{cases_lt}
 use Rattle.std.proofs.lemmas.List.{get_or_append_left, get_or_push, length_push}
 use Rattle.std.proofs.lemmas.List.Elements.{All-append, All-nil, All-push}
-use Rattle.elf_objects.specs.Elf.{Elf}
+use Rattle.flow_defs.specs.Coded.{Coded}
 use Rattle.program_defs.specs.declared.flow.Edge.{Edge}
 use Rattle.program_defs.specs.declared.flow.Role.{Role}
 use Rattle.flow_defs.specs.Arrival.{is_dead_end}
@@ -16,34 +16,34 @@ use Rattle.point_entries.specs.Entered.{IsEnteredAt}
 use Rattle.control_flow.specs.Listed.{AreDeadEnds, AreEdges, AreEntered, AreRoles, CallsPoint, IsPointIfAny, count_of}
 use Rattle.control_flow.proofs.Steps.{each_more}
 
-pub no_roles : (o : Elf) → AreRoles o [] 0
+pub no_roles : (o : Coded) → AreRoles o [] 0
 no_roles o = record { long = refl; each = λ q d l. absurd (omega arith); known = All-nil (CallsPoint o) }
 
-pub roles_more : (o : Elf) (roles : List Role) (n : ℕ) (role : Role) → AreRoles o roles n → role ≡ role_of o (point_at o n) → CallsPoint o role → AreRoles o (roles ++ role ∷ []) (n + 1)
+pub roles_more : (o : Coded) (roles : List Role) (n : ℕ) (role : Role) → AreRoles o roles n → role ≡ role_of o (point_at o n) → CallsPoint o role → AreRoles o (roles ++ role ∷ []) (n + 1)
 roles_more o roles n role are here known = record {
   long = omega (arith, length_push roles role, are.long);
   each = each_more (λ q. role_of o (point_at o q)) roles role n are.long are.each here;
   known = All-push (CallsPoint o) roles role are.known known;
 }
 
-pub no_dead_ends : (o : Elf) → AreDeadEnds o [] 0
+pub no_dead_ends : (o : Coded) → AreDeadEnds o [] 0
 no_dead_ends o = record { long = refl; each = λ q d l. absurd (omega arith) }
 
-pub dead_ends_more : (o : Elf) (dead_ends : List Bool) (n : ℕ) (is : Bool) → AreDeadEnds o dead_ends n → is ≡ is_dead_end o (point_at o n) → AreDeadEnds o (dead_ends ++ is ∷ []) (n + 1)
+pub dead_ends_more : (o : Coded) (dead_ends : List Bool) (n : ℕ) (is : Bool) → AreDeadEnds o dead_ends n → is ≡ is_dead_end o (point_at o n) → AreDeadEnds o (dead_ends ++ is ∷ []) (n + 1)
 dead_ends_more o dead_ends n is are here = record {
   long = omega (arith, length_push dead_ends is, are.long);
   each = each_more (λ q. is_dead_end o (point_at o q)) dead_ends is n are.long are.each here;
 }
 
-pub no_entered : (o : Elf) → AreEntered o [] 0
+pub no_entered : (o : Coded) → AreEntered o [] 0
 no_entered o = record { long = refl; each = λ q entry l. absurd (omega arith); known = All-nil (IsPointIfAny o) }
 
 -- an entry that is told is a point
-pub known_entry : (o : Elf) (found : Option ℕ) → IfSome found (λ entry. entry < count_of o) → IsPointIfAny o found
+pub known_entry : (o : Coded) (found : Option ℕ) → IfSome found (λ entry. entry < count_of o) → IsPointIfAny o found
 known_entry o None known entry e = absurd (let z : ⊥ = cc in z)
 known_entry o (Some k) known entry e = let same : k ≡ entry = cc in subst (λ (n : ℕ). n < count_of o) same known
 
-pub entered_more : (o : Elf) (entered : List (Option ℕ)) (n : ℕ) (found : Option ℕ) → AreEntered o entered n → ((entry : ℕ) → IsEnteredAt o entry n ↔ (found ≡ Some entry)) → IsPointIfAny o found → AreEntered o (entered ++ found ∷ []) (n + 1)
+pub entered_more : (o : Coded) (entered : List (Option ℕ)) (n : ℕ) (found : Option ℕ) → AreEntered o entered n → ((entry : ℕ) → IsEnteredAt o entry n ↔ (found ≡ Some entry)) → IsPointIfAny o found → AreEntered o (entered ++ found ∷ []) (n + 1)
 entered_more o entered n found are here known = record {
   long = omega (arith, length_push entered found, are.long);
   each = each;
@@ -61,7 +61,7 @@ entered_more o entered n found are here known = record {
           subst (λ (x : Option ℕ). IsEnteredAt o entry q ↔ (x ≡ Some entry)) (sym at) (subst (λ (k : ℕ). IsEnteredAt o entry k ↔ (found ≡ Some entry)) (sym same) (here entry))
     ]
 
-pub no_edges : (o : Elf) → AreEdges o (0 ∷ []) [] 0
+pub no_edges : (o : Coded) → AreEdges o (0 ∷ []) [] 0
 no_edges o = record {
   long = omega arith;
   first = refl;
@@ -73,7 +73,7 @@ no_edges o = record {
   targets = All-nil (λ (e : Edge). e.to < count_of o);
 }
 
-module _ (o : Elf) (starts : List ℕ) (edges : List Edge) (n : ℕ) (are : AreEdges o starts edges n) where
+module _ (o : Coded) (starts : List ℕ) (edges : List Edge) (n : ℕ) (are : AreEdges o starts edges n) where
   abbrev new : List Edge
   new = goes o (point_at o n)
 

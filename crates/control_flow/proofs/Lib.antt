@@ -3,7 +3,9 @@ pub mod Gathered
 pub mod Bytes
 pub mod Fields
 pub mod Told
-pub mod RareSteps
+pub mod HintedSteps
+pub mod Numbering
+pub mod Equal
 pub mod Meant
 pub mod Making
 pub mod Whole

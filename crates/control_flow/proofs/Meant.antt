@@ -3,7 +3,7 @@ use Rattle.std.proofs.Common.{◌≡◌, ℕ, Bool, true, false, cond, not, Opti
 use Rattle.std.specs.Prelude.{option_and_then}
 use Rattle.std.specs.List.{list_any}
 use Rattle.std.proofs.lemmas.Bool.{false≢true}
-use Rattle.elf_objects.specs.Elf.{Elf}
+use Rattle.flow_defs.specs.Coded.{Coded}
 use Rattle.alternatives.specs.declared.point.Point.{Point}
 use Rattle.flow_defs.specs.Code.{number_of, point_at, points_of_object}
 use Rattle.flow_defs.specs.Hints.{hint_of, is_nearer, is_restore, is_save, is_save_before, nearest, save_of, saves_before}
@@ -13,7 +13,7 @@ use Rattle.rows_law.proofs.Lists.{finds}
 use Rattle.unwinding_law.proofs.Lists.{from_filter}
 
 -- the nearest SAVE is one
-nearest_is_save : (o : Elf) (point s : Point) → nearest o (saves_before o point) ≡ Some s → is_save (hint_of o s) ≡ true
+nearest_is_save : (o : Coded) (point s : Point) → nearest o (saves_before o point) ≡ Some s → is_save (hint_of o s) ≡ true
 nearest_is_save o point s is = elim (finds (λ one. not (list_any (λ other. is_nearer o other one) (saves_before o point))) (saves_before o point)) [
   | inl none ↦ absurd (let h : None ≡ Some s = sym none.0 ∙ is in let k : ⊥ = cc in k)
   | inr one ↦
@@ -22,7 +22,7 @@ nearest_is_save o point s is = elim (finds (λ one. not (list_any (λ other. is_
       subst (λ (p : Point). is_save (hint_of o p) ≡ true) same (and_true (is_save (hint_of o one.0)) _ own.1).0
 ]
 
-pub meant_has_hint : (o : Elf) (point : Point) (q : ℕ) → save_of o point ≡ Some q → hint_of o (point_at o q) ≡ None → ⊥
+pub meant_has_hint : (o : Coded) (point : Point) (q : ℕ) → save_of o point ≡ Some q → hint_of o (point_at o q) ≡ None → ⊥
 unfolding save_of
 meant_has_hint o point q is none = by_hint (is_restore (hint_of o point)) is
   where

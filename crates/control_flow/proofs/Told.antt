@@ -4,7 +4,7 @@ use Rattle.std.specs.Prelude.{◌↔◌, slice_index}
 use Rattle.std.proofs.lemmas.List.{get_or-map, length-map}
 use Rattle.std.proofs.lemmas.List.Elements.{All-map, All-weaker}
 use Rattle.ot_base.specs.NameLists.{NameLists}
-use Rattle.elf_objects.specs.Elf.{Elf}
+use Rattle.flow_defs.specs.Coded.{Coded}
 use Rattle.program_defs.specs.declared.flow.Edge.{Edge}
 use Rattle.program_defs.specs.declared.flow.Role.{Role}
 use Rattle.program_defs.specs.declared.flow.Role.TheVariants as roles
@@ -38,10 +38,10 @@ exit_calls p roles.JumpAny entry e = absurd (let k : ⊥ = cc in k)
 exit_calls p roles.Switch entry e = absurd (let k : ⊥ = cc in k)
 
 -- an exit calls a point, if it calls any entry
-abbrev ExitCallsPoint : Elf → Exit → Type 0
+abbrev ExitCallsPoint : Coded → Exit → Type 0
 ExitCallsPoint o x = (entry : ℕ) → x ≡ exits.Calls entry → entry < count_of o
 
-module _ (o : Elf) (lists : NameLists) (flow : Flow) (all_roles : List Role)
+module _ (o : Coded) (lists : NameLists) (flow : Flow) (all_roles : List Role)
     (are : AreRoles o all_roles (count_of o))
     (edges : AreEdges o flow.starts.items flow.edges.items (count_of o))
     (leave : flow.exits.items ≡ map (exit_of (program_of o lists)) all_roles)

@@ -1,6 +1,6 @@
 -- What is listed of the points of an object, by their numbers.
 use Rattle.std.specs.Prelude.{◌≡◌, ◌↔◌, ◌+◌, ◌^◌, ◌<◌, ◌≤◌, ℕ, Bool, List, Option, Some, None, All, length, slice_index, slice_index_or, slice_range}
-use Rattle.elf_objects.specs.Elf.{Elf}
+use Rattle.flow_defs.specs.Coded.{Coded}
 use Rattle.program_defs.specs.declared.flow.Edge.{Edge}
 use Rattle.program_defs.specs.declared.flow.Role.{Role}
 use Rattle.program_defs.specs.declared.flow.Role.TheVariants.{CallIn}
@@ -11,36 +11,36 @@ use Rattle.flow_defs.specs.Roles.{role_of}
 use Rattle.point_entries.specs.Entered.{IsEnteredAt}
 
 -- how many points an object has
-abbrev pub count_of : Elf → ℕ
+abbrev pub count_of : Coded → ℕ
 count_of o = length (points_of_object o)
 
 -- the entry that a role calls is a point
-abbrev pub CallsPoint : Elf → Role → Type 0
+abbrev pub CallsPoint : Coded → Role → Type 0
 CallsPoint o role = (entry : ℕ) → role ≡ CallIn entry → entry < count_of o
 
 -- the roles of the first n points
-pub record AreRoles (o : Elf) (roles : List Role) (n : ℕ) : Type 0 where
+pub record AreRoles (o : Coded) (roles : List Role) (n : ℕ) : Type 0 where
   pub long : length roles ≡ n
   pub each : (q : ℕ) (d : Role) → q < n → slice_index_or roles q d ≡ role_of o (point_at o q)
   pub known : All (CallsPoint o) roles
 
 -- whether execution never passes the first n points
-pub record AreDeadEnds (o : Elf) (dead_ends : List Bool) (n : ℕ) : Type 0 where
+pub record AreDeadEnds (o : Coded) (dead_ends : List Bool) (n : ℕ) : Type 0 where
   pub long : length dead_ends ≡ n
   pub each : (q : ℕ) (d : Bool) → q < n → slice_index_or dead_ends q d ≡ is_dead_end o (point_at o q)
 
 -- an entry, if there is one, is a point
-abbrev pub IsPointIfAny : Elf → Option ℕ → Type 0
+abbrev pub IsPointIfAny : Coded → Option ℕ → Type 0
 IsPointIfAny o found = (entry : ℕ) → found ≡ Some entry → entry < count_of o
 
 -- the entries at which control comes to stand at the first n points
-pub record AreEntered (o : Elf) (entered : List (Option ℕ)) (n : ℕ) : Type 0 where
+pub record AreEntered (o : Coded) (entered : List (Option ℕ)) (n : ℕ) : Type 0 where
   pub long : length entered ≡ n
   pub each : (q entry : ℕ) → q < n → IsEnteredAt o entry q ↔ (slice_index_or entered q None ≡ Some entry)
   pub known : All (IsPointIfAny o) entered
 
 -- the edges of the first n points, one point's behind another's, and where those of each begin and end
-pub record AreEdges (o : Elf) (starts : List ℕ) (edges : List Edge) (n : ℕ) : Type 0 where
+pub record AreEdges (o : Coded) (starts : List ℕ) (edges : List Edge) (n : ℕ) : Type 0 where
   pub long : length starts ≡ n + 1
   pub first : slice_index starts 0 ≡ 0
   pub end : slice_index starts n ≡ length edges

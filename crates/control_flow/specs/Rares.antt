@@ -1,37 +1,19 @@
--- What few points of an object have, listed.
-use Rattle.std.specs.Prelude.{◌≡◌, ◌↔◌, ◌<◌, ◌≤◌, ℕ, List, Option, Some, None, Contains, length, slice_get, slice_index_or, slice_range}
-use Rattle.elf_objects.specs.Elf.{Elf}
-use Rattle.state_defs.specs.declared.state.HintState.TheVariants.{Restore}
+-- What few points of an object have otherwise than most.
+use Rattle.std.specs.Prelude.{◌≡◌, ℕ, List, Option, None, slice_index_or}
+use Rattle.flow_defs.specs.Coded.{Coded}
 use Rattle.alternatives.specs.Points.{address_of_point}
 use Rattle.flow_defs.specs.Code.{alternatives_of, point_at}
-use Rattle.flow_defs.specs.Hints.{hint_of, save_of}
+use Rattle.flow_defs.specs.Program.{previous_of}
+use Rattle.program_graph.specs.Tells.{address_by, previous_by, variant_by}
 use Rattle.program_graph.specs.declared.parts.Rare.{Rare}
-use Rattle.control_flow.specs.Listed.{count_of}
 
--- r is a RESTORE that means the SAVE q
-abbrev pub IsMeant : Elf → ℕ → ℕ → Type 0
-IsMeant o q r = (r < count_of o) × (hint_of o (point_at o r) ≡ Some Restore) × (save_of o (point_at o r) ≡ Some q)
+-- what point q has, where it is told where what points with a hint have stands for it
+pub record IsRare (o : Coded) (q : ℕ) (known : Option ℕ) (x : Rare) : Type 0 where
+  pub variant : (point_at o q).variant ≡ variant_by x.replaced
+  pub address : address_of_point (alternatives_of o) (point_at o q) ≡ address_by x.replaced (point_at o q).place
+  pub previous : previous_of o (point_at o q) ≡ previous_by q x.previous
+  pub hinted : known ≡ x.hinted
 
--- what point q has, where its RESTOREs stand in this list
-pub record IsRare (o : Elf) (listed : List ℕ) (q : ℕ) (x : Rare) : Type 0 where
-  pub hint : hint_of o (point_at o q) ≡ x.hint
-  pub save_of : save_of o (point_at o q) ≡ x.save_of
-  pub variant : (point_at o q).variant ≡ x.variant
-  pub address : address_of_point (alternatives_of o) (point_at o q) ≡ x.address
-  pub order : x.restores_from ≤ x.restores_to
-  pub within : x.restores_to ≤ length listed
-  pub restores : (r : ℕ) → Contains (slice_range listed x.restores_from x.restores_to) r ↔ IsMeant o q r
-
--- point q has nothing rare: no hint, and it is of the object's code
-pub record IsUsual (o : Elf) (q : ℕ) : Type 0 where
-  pub hint : hint_of o (point_at o q) ≡ None
-  pub variant : (point_at o q).variant ≡ 0
-
--- what the first n points have, and the numbers by which it is found
-pub record AreRares (o : Elf) (restores : List ℕ) (rares : List Rare) (numbers : List (Option ℕ)) (n : ℕ) : Type 0 where
-  pub long : length numbers ≡ n
-  pub short : length rares ≤ n
-  pub inside : (q k : ℕ) → q < n → slice_index_or numbers q None ≡ Some k → k < length rares
-  pub rare : (q k : ℕ) (x : Rare) → q < n → slice_index_or numbers q None ≡ Some k → slice_get rares k ≡ Some x → IsRare o restores q x
-  pub usual : (q : ℕ) → q < n → slice_index_or numbers q None ≡ None → IsUsual o q
-  pub ranges : (k : ℕ) (x : Rare) → slice_get rares k ≡ Some x → (x.restores_from ≤ x.restores_to) × (x.restores_to ≤ length restores)
+-- and where that is told of all points
+abbrev pub IsRareOf : Coded → List (Option ℕ) → ℕ → Rare → Type 0
+IsRareOf o hinted q x = IsRare o q (slice_index_or hinted q None) x

@@ -6,10 +6,12 @@ ghost use Rattle.flow_defs.specs.Program.{program_of};
 ghost use Rattle.program_graph.specs.Shape.{HaveShape};
 ghost use Rattle.program_graph.specs.Tells.{Tells};
 
+use crate::hinted::{HintedList, list_hinted, restores_are_points};
 use crate::listed::list_roles;
 use crate::points::list_points;
-use crate::rares::{RareList, list_rares, restores_are_points};
+use crate::rares::list_rares;
 use crate::returning::returns_of;
+use crate::transfers::list_transfers;
 use flow_defs::FlowFault;
 use flow_faults::check_flow;
 use flow_points::FlowPoints;
@@ -20,7 +22,6 @@ use point_arrivals::PointArrivals;
 use point_fields::{OwnerTable, list_texts, list_without_size};
 use point_places::PointPlaces;
 use program_graph::{Graph, GraphParts};
-use return_search::Returns;
 use site_places::list_sites;
 use std::alloc::Global;
 
@@ -37,21 +38,31 @@ fn parts_of(
     let object = places.linked().object();
     let roles = list_roles(alloc, points)?;
     let returns = returns_of(alloc, points, lists, &roles)?;
+    let transfer_list = list_transfers(alloc, points, roles, &returns)?;
     let hints = HintPoints::build(alloc, places)?;
+    let HintedList { hinted, numbers } = list_hinted(alloc, places, &hints)?;
+    let rare_list = list_rares(alloc, places, numbers)?;
     let owners = OwnerTable::build(alloc, places)?;
-    let RareList { rares, numbers } = list_rares(alloc, places, &hints)?;
-    let made = list_points(alloc, points, &owners, &roles, &returns, &numbers)?;
+    let made = list_points(
+        alloc,
+        points,
+        &owners,
+        &returns,
+        &rare_list.numbers,
+        &transfer_list.numbers,
+    )?;
     let sites = list_sites(alloc, places)?;
     let texts = list_texts(alloc, object)?;
     let without_size = list_without_size(alloc, object)?;
     restores_are_points(&hints);
-    let Returns { starts, edges, .. } = returns;
     Ok(GraphParts {
         points: made,
-        starts,
-        edges,
+        starts: returns.starts,
+        edges: returns.edges,
         owners: owners.into_owners(),
-        rares,
+        transfers: transfer_list.transfers,
+        rares: rare_list.rares,
+        hinted,
         restores: hints.into_restores(),
         sites,
         texts,

@@ -3,11 +3,15 @@
 
 mod edges;
 mod graph;
+mod hinted;
 mod listed;
+mod low;
+mod numbers;
 mod order;
 mod points;
 mod rares;
 mod returning;
+mod transfers;
 
 pub use graph::flow;
 pub use order::object_is_in_order;

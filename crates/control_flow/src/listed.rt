@@ -5,8 +5,8 @@ ghost use Rattle.flow_defs.specs.Program.{program_of};
 ghost use Rattle.return_search.specs.Told.{exit_of};
 ghost use Rattle.control_flow.specs.Listed.{AreDeadEnds, AreEntered, AreRoles, count_of};
 
-use elf_objects::Object;
 use flow_points::FlowPoints;
+use object_code::Linked;
 use ot_base::{Lists, NoMemory};
 use point_entries::entry_at;
 use point_fields::never_returns;
@@ -40,9 +40,10 @@ pub(crate) fn list_roles(
 }
 
 /// What a point with this role is to a return.
-fn exit(object: &Object<'_>, lists: &Lists, role: Role) -> Exit
-    ensures { result ≡ exit_of (program_of object.now lists.now) role }
+fn exit(linked: &Linked<'_, '_>, lists: &Lists, role: Role) -> Exit
+    ensures { result ≡ exit_of (program_of linked.now lists.now) role }
 {
+    let object = linked.object();
     match role {
         Role::Return | Role::JumpAny => Exit::Leaves,
         Role::JumpOut { sym } => {
@@ -68,16 +69,16 @@ fn exit(object: &Object<'_>, lists: &Lists, role: Role) -> Exit
 /// What points with these roles are to a return.
 pub(crate) fn list_exits(
     alloc: Global,
-    object: &Object<'_>,
+    linked: &Linked<'_, '_>,
     lists: &Lists,
     roles: &[Role],
 ) -> Result<Vec<Exit>, NoMemory>
-    ensures { IfOk result (λ exits. exits.items ≡ map (exit_of (program_of object.now lists.now)) roles.now) }
+    ensures { IfOk result (λ exits. exits.items ≡ map (exit_of (program_of linked.now lists.now)) roles.now) }
 {
     Ok(
         roles
             .iter()
-            .map(|role| exit(object, lists, *role))
+            .map(|role| exit(linked, lists, *role))
             .collect(alloc)?,
     )
 }

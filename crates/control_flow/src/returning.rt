@@ -30,7 +30,7 @@ fn flow_of(
 {
     let places = points.places();
     let EdgeList { starts, edges } = list_edges(alloc, points)?;
-    let exits = list_exits(alloc, places.linked().object(), lists, roles)?;
+    let exits = list_exits(alloc, places.linked(), lists, roles)?;
     let dead_ends = list_dead_ends(alloc, points)?;
     let entered = list_entered(alloc, places)?;
     Ok(Flow {

@@ -7,7 +7,7 @@ use Rattle.std.proofs.lemmas.List.Quantifiers.{position-Some}
 use Rattle.std.proofs.lemmas.List.Sums.{fails_before_first}
 use Rattle.ot_base.specs.declared.place.Place.{Place}
 use Rattle.operation_defs.specs.declared.insn.Insn.{Insn}
-use Rattle.elf_objects.specs.Elf.{Elf}
+use Rattle.flow_defs.specs.Coded.{Coded}
 use Rattle.alternatives.specs.declared.point.Point.{Point}
 use Rattle.alternatives.specs.Points.{points_of}
 use Rattle.alternatives.proofs.Ascending.{In, contains_in}
@@ -40,21 +40,21 @@ by_insn : (found : Option Insn) → is_branch_op (unwrap_or found no_insn).op �
 by_insn None = refl
 by_insn (Some insn) = refl
 
-plain_insn : (o : Elf) (place : Place) → decoded_insn o (plain_point place) ≡ unwrap_or (insn_at (texts_of o) place) no_insn
+plain_insn : (o : Coded) (place : Place) → decoded_insn o (plain_point place) ≡ unwrap_or (insn_at (texts_of o) place) no_insn
 unfolding decoded_insn
 plain_insn o place = refl
 
-pub numbered_branch : (o : Elf) (place : Place) (n : ℕ) → number_of o (plain_point place) ≡ Some n → not (is_branch_op (decoded_insn o (point_at o n)).op) ≡ is_no_branch o place
+pub numbered_branch : (o : Coded) (place : Place) (n : ℕ) → number_of o (plain_point place) ≡ Some n → not (is_branch_op (decoded_insn o (point_at o n)).op) ≡ is_no_branch o place
 numbered_branch o place n found =
     let there = position-Some (same_point (plain_point place)) (points_of_object o) n no_point found in
     ap (λ (q : Point). not (is_branch_op (decoded_insn o q).op)) (sym (plain_is place (point_at o n) there.1))
     ∙ ap (λ (insn : Insn). not (is_branch_op insn.op)) (plain_insn o place)
     ∙ ap not (by_insn (insn_at (texts_of o) place))
 
-pub number_inside : (o : Elf) (place : Place) (n : ℕ) → number_of o (plain_point place) ≡ Some n → n < length (points_of_object o)
+pub number_inside : (o : Coded) (place : Place) (n : ℕ) → number_of o (plain_point place) ≡ Some n → n < length (points_of_object o)
 number_inside o place n found = (position-Some (same_point (plain_point place)) (points_of_object o) n no_point found).0
 
-no_insn_there : (o : Elf) (place : Place) (found : Option Insn) → insn_at (texts_of o) place ≡ found → number_of o (plain_point place) ≡ None → true ≡ not (is_branch_site found)
+no_insn_there : (o : Coded) (place : Place) (found : Option Insn) → insn_at (texts_of o) place ≡ found → number_of o (plain_point place) ≡ None → true ≡ not (is_branch_site found)
 unfolding points_of_object
 no_insn_there o place None is none = refl
 no_insn_there o place (Some insn) is none =
@@ -62,5 +62,5 @@ no_insn_there o place (Some insn) is none =
     let itself : same_point (plain_point place) (plain_point place) ≡ true = and_from (same_place place place) true (is_place_refl place place refl) refl in
     absurd (false≢true (sym (absent (same_point (plain_point place)) (points_of (texts_of o) (alternatives_of o)) (plain_point place) none listed) ∙ itself))
 
-pub unnumbered_branch : (o : Elf) (place : Place) → number_of o (plain_point place) ≡ None → true ≡ is_no_branch o place
+pub unnumbered_branch : (o : Coded) (place : Place) → number_of o (plain_point place) ≡ None → true ≡ is_no_branch o place
 unnumbered_branch o place none = no_insn_there o place (insn_at (texts_of o) place) refl none

@@ -3,7 +3,7 @@ use Rattle.std.proofs.Common.{◌≡◌, ℕ, List, [], ◌++◌, Option, Some, 
 use Rattle.std.specs.Prelude.{option_map, slice_get}
 use Rattle.std.specs.List.{position_from}
 use Rattle.ot_base.specs.declared.place.Place.{Place}
-use Rattle.elf_objects.specs.Elf.{Elf}
+use Rattle.flow_defs.specs.Coded.{Coded}
 use Rattle.special_sections.specs.declared.entries.BranchEntry.{BranchEntry}
 use Rattle.special_sections.specs.declared.entries.FixEntry.{FixEntry}
 use Rattle.special_sections.specs.declared.entries.HintEntry.{HintEntry}
@@ -14,42 +14,42 @@ use Rattle.flow_defs.specs.Faults.{boundary_faults, faults_of_list, flow_faults,
 use Rattle.flow_faults.proofs.FirstFaults.{first_here, first_later, no_first}
 use Rattle.flow_faults.proofs.Told.{told}
 
-module _ (o : Elf) where
+module _ (o : Coded) where
   abbrev pub of_branches : List FlowFault
-  of_branches = faults_of_list (λ (b : BranchEntry). is_no_boundary o b.code) (NotBoundary 1) (special_of o).branches
+  of_branches = faults_of_list (λ (b : BranchEntry). is_no_boundary o b.code) (NotBoundary 1) (special_of o.elf).branches
 
   abbrev pub of_fixes : List FlowFault
-  of_fixes = faults_of_list (λ (f : FixEntry). is_no_boundary o f.insn) (NotBoundary 2) (special_of o).fixes
+  of_fixes = faults_of_list (λ (f : FixEntry). is_no_boundary o f.insn) (NotBoundary 2) (special_of o.elf).fixes
 
   abbrev pub of_hints : List FlowFault
-  of_hints = faults_of_list (λ (h : HintEntry). is_no_boundary o h.place) (NotBoundary 3) (special_of o).hints
+  of_hints = faults_of_list (λ (h : HintEntry). is_no_boundary o h.place) (NotBoundary 3) (special_of o.elf).hints
 
   abbrev pub of_reachable : List FlowFault
-  of_reachable = faults_of_list (is_no_end o) (NotBoundary 4) (special_of o).after_reachable
+  of_reachable = faults_of_list (is_no_end o) (NotBoundary 4) (special_of o.elf).after_reachable
 
   abbrev pub of_unreachable : List FlowFault
-  of_unreachable = faults_of_list (is_no_end o) (NotBoundary 5) (special_of o).after_unreachable
+  of_unreachable = faults_of_list (is_no_end o) (NotBoundary 5) (special_of o.elf).after_unreachable
 
   abbrev pub of_safe : List FlowFault
-  of_safe = faults_of_list (is_no_boundary o) (NotBoundary 6) (special_of o).safe_branches
+  of_safe = faults_of_list (is_no_boundary o) (NotBoundary 6) (special_of o.elf).safe_branches
 
-  pub first_of_branches : (list : List BranchEntry) (found known : Option ℕ) → found ≡ position_from (λ (b : BranchEntry). is_no_boundary o b.code) 0 list → found ≡ known → list ≡ (special_of o).branches → slice_get of_branches 0 ≡ option_map (NotBoundary 1) known
-  first_of_branches list found known is here same = told (λ (b : BranchEntry). is_no_boundary o b.code) (NotBoundary 1) (special_of o).branches list found known is here same
+  pub first_of_branches : (list : List BranchEntry) (found known : Option ℕ) → found ≡ position_from (λ (b : BranchEntry). is_no_boundary o b.code) 0 list → found ≡ known → list ≡ (special_of o.elf).branches → slice_get of_branches 0 ≡ option_map (NotBoundary 1) known
+  first_of_branches list found known is here same = told (λ (b : BranchEntry). is_no_boundary o b.code) (NotBoundary 1) (special_of o.elf).branches list found known is here same
 
-  pub first_of_fixes : (list : List FixEntry) (found known : Option ℕ) → found ≡ position_from (λ (f : FixEntry). is_no_boundary o f.insn) 0 list → found ≡ known → list ≡ (special_of o).fixes → slice_get of_fixes 0 ≡ option_map (NotBoundary 2) known
-  first_of_fixes list found known is here same = told (λ (f : FixEntry). is_no_boundary o f.insn) (NotBoundary 2) (special_of o).fixes list found known is here same
+  pub first_of_fixes : (list : List FixEntry) (found known : Option ℕ) → found ≡ position_from (λ (f : FixEntry). is_no_boundary o f.insn) 0 list → found ≡ known → list ≡ (special_of o.elf).fixes → slice_get of_fixes 0 ≡ option_map (NotBoundary 2) known
+  first_of_fixes list found known is here same = told (λ (f : FixEntry). is_no_boundary o f.insn) (NotBoundary 2) (special_of o.elf).fixes list found known is here same
 
-  pub first_of_hints : (list : List HintEntry) (found known : Option ℕ) → found ≡ position_from (λ (h : HintEntry). is_no_boundary o h.place) 0 list → found ≡ known → list ≡ (special_of o).hints → slice_get of_hints 0 ≡ option_map (NotBoundary 3) known
-  first_of_hints list found known is here same = told (λ (h : HintEntry). is_no_boundary o h.place) (NotBoundary 3) (special_of o).hints list found known is here same
+  pub first_of_hints : (list : List HintEntry) (found known : Option ℕ) → found ≡ position_from (λ (h : HintEntry). is_no_boundary o h.place) 0 list → found ≡ known → list ≡ (special_of o.elf).hints → slice_get of_hints 0 ≡ option_map (NotBoundary 3) known
+  first_of_hints list found known is here same = told (λ (h : HintEntry). is_no_boundary o h.place) (NotBoundary 3) (special_of o.elf).hints list found known is here same
 
-  pub first_of_reachable : (list : List Place) (found known : Option ℕ) → found ≡ position_from (is_no_end o) 0 list → found ≡ known → list ≡ (special_of o).after_reachable → slice_get of_reachable 0 ≡ option_map (NotBoundary 4) known
-  first_of_reachable list found known is here same = told (is_no_end o) (NotBoundary 4) (special_of o).after_reachable list found known is here same
+  pub first_of_reachable : (list : List Place) (found known : Option ℕ) → found ≡ position_from (is_no_end o) 0 list → found ≡ known → list ≡ (special_of o.elf).after_reachable → slice_get of_reachable 0 ≡ option_map (NotBoundary 4) known
+  first_of_reachable list found known is here same = told (is_no_end o) (NotBoundary 4) (special_of o.elf).after_reachable list found known is here same
 
-  pub first_of_unreachable : (list : List Place) (found known : Option ℕ) → found ≡ position_from (is_no_end o) 0 list → found ≡ known → list ≡ (special_of o).after_unreachable → slice_get of_unreachable 0 ≡ option_map (NotBoundary 5) known
-  first_of_unreachable list found known is here same = told (is_no_end o) (NotBoundary 5) (special_of o).after_unreachable list found known is here same
+  pub first_of_unreachable : (list : List Place) (found known : Option ℕ) → found ≡ position_from (is_no_end o) 0 list → found ≡ known → list ≡ (special_of o.elf).after_unreachable → slice_get of_unreachable 0 ≡ option_map (NotBoundary 5) known
+  first_of_unreachable list found known is here same = told (is_no_end o) (NotBoundary 5) (special_of o.elf).after_unreachable list found known is here same
 
-  pub first_of_safe : (list : List Place) (found known : Option ℕ) → found ≡ position_from (is_no_boundary o) 0 list → found ≡ known → list ≡ (special_of o).safe_branches → slice_get of_safe 0 ≡ option_map (NotBoundary 6) known
-  first_of_safe list found known is here same = told (is_no_boundary o) (NotBoundary 6) (special_of o).safe_branches list found known is here same
+  pub first_of_safe : (list : List Place) (found known : Option ℕ) → found ≡ position_from (is_no_boundary o) 0 list → found ≡ known → list ≡ (special_of o.elf).safe_branches → slice_get of_safe 0 ≡ option_map (NotBoundary 6) known
+  first_of_safe list found known is here same = told (is_no_boundary o) (NotBoundary 6) (special_of o.elf).safe_branches list found known is here same
 
   pub in_branches : (x : FlowFault) → slice_get of_branches 0 ≡ Some x → Some x ≡ slice_get (boundary_faults o) 0
   in_branches x here = sym (first_here of_branches (of_fixes ++ (of_hints ++ (of_reachable ++ (of_unreachable ++ of_safe)))) x here)
@@ -73,7 +73,7 @@ module _ (o : Elf) where
   in_none none_branches none_fixes none_hints none_reachable none_unreachable none_safe = sym (first_later of_branches (of_fixes ++ (of_hints ++ (of_reachable ++ (of_unreachable ++ of_safe)))) none_branches ∙ first_later of_fixes (of_hints ++ (of_reachable ++ (of_unreachable ++ of_safe))) none_fixes ∙ first_later of_hints (of_reachable ++ (of_unreachable ++ of_safe)) none_hints ∙ first_later of_reachable (of_unreachable ++ of_safe) none_reachable ∙ first_later of_unreachable of_safe none_unreachable ∙ none_safe)
 
 -- ---- all of them
-module _ (o : Elf) where
+module _ (o : Coded) where
   pub of_starts : (x : FlowFault) → slice_get (start_faults o) 0 ≡ Some x → slice_get (flow_faults o) 0 ≡ Some x
   unfolding flow_faults
   of_starts x here = first_here (start_faults o) (boundary_faults o ++ (static_faults o ++ function_faults o)) x here

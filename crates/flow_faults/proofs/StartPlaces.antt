@@ -14,6 +14,7 @@ use Rattle.ot_base.specs.declared.place.Place.{Place}
 use Rattle.elf_objects.specs.declared.symbol.Home.{Home}
 use Rattle.elf_objects.specs.declared.symbol.Home.TheVariants as homes
 use Rattle.elf_objects.specs.Elf.{Elf}
+use Rattle.flow_defs.specs.Coded.{Coded}
 use Rattle.elf_objects.specs.Contents.{is_text, no_section, section_at, symbol_at}
 use Rattle.elf_objects.specs.File.{section_count}
 use Rattle.elf_objects.specs.Object.{IsObject}
@@ -53,11 +54,11 @@ text_known o i text = elim (cases_lt i (length o.sections)) [
   | inr past ↦ absurd (false≢true (sym no_text ∙ sym (ap is_text (get_or_past o.sections i no_section past)) ∙ text))
 ]
 
-pub text_listed : (o : Elf) (i : ℕ) → is_text (section_at o i) ≡ true → In (text_in o i) (texts_of o)
+pub text_listed : (o : Coded) (i : ℕ) → is_text (section_at o.elf i) ≡ true → In (text_in o i) (texts_of o)
 unfolding texts_of
 text_listed o i text =
-    in-map (text_in o) (text_numbers o) i
-    (in-filter (λ k. is_text (section_at o k)) (range_with_len 0 (length o.sections)) i (in-range 0 (length o.sections) i (omega arith) (omega (arith, text_known o i text))) text)
+    in-map (text_in o) (text_numbers o.elf) i
+    (in-filter (λ k. is_text (section_at o.elf k)) (range_with_len 0 (length o.elf.sections)) i (in-range 0 (length o.elf.sections) i (omega arith) (omega (arith, text_known o.elf i text))) text)
 
 own_size : (o : Elf) (i : ℕ) → IsObject o.bytes o → is_text (section_at o i) ≡ true → length (section_at o i).body ≡ (section_at o i).size
 own_size o i is text =
@@ -90,16 +91,16 @@ abbrev place_of : Function → Place
 place_of f = f.start
 
 -- the fault of a place, and that of a function
-abbrev fault_at : Elf → Place → Option FlowFault
-fault_at o place = if is_no_start o place then option_map FuncStart (starts_at o place) else None
+abbrev fault_at : Coded → Place → Option FlowFault
+fault_at o place = if is_no_start o place then option_map FuncStart (starts_at o.elf place) else None
 
 abbrev pub fault_of : Function → FlowFault
 fault_of f = FuncStart f.sym
 
-abbrev pub is_misplaced : Elf → Function → Bool
+abbrev pub is_misplaced : Coded → Function → Bool
 is_misplaced o f = is_no_start o f.start
 
-module _ (o : Elf) (fs : List Function) (all : AreFunctions o fs) (is : IsObject o.bytes o) (right : first_bad o ≡ None) where
+module _ (o : Coded) (fs : List Function) (all : AreFunctions o.elf fs) (is : IsObject o.elf.bytes o.elf) (right : first_bad o.elf ≡ None) where
   abbrev nth : ℕ → Function
   nth i = get_or fs i no_function
 
@@ -111,22 +112,22 @@ module _ (o : Elf) (fs : List Function) (all : AreFunctions o fs) (is : IsObject
       ∙ lt_is (place_cmp (nth k).start (nth (k + 1)).start) (all.rising k (k + 1) (omega arith) next))
 
   -- a symbol of a function stands in a text
-  symbol_in_text : (k : ℕ) → k < length o.symbols → is_function o k ≡ true → In (start_of o k) (places_of o)
+  symbol_in_text : (k : ℕ) → k < length o.elf.symbols → is_function o.elf k ≡ true → In (start_of o.elf k) (places_of o)
   symbol_in_text k known function =
-      let code = (and_both (is_code o k) (not (eqb (symbol_at o k).size 0)) function).0 in
-      let sec : ℕ = home_section (symbol_at o k).home in
-      let text = text_home o (symbol_at o k).home (and_both _ (is_text_home o (symbol_at o k).home) code).1 in
-      let stays = least_below-none (leaves_section o) (length o.symbols) right k known in
-      let below : (symbol_at o k).value < (section_at o sec).size = inside_section (is_code o k) (symbol_at o k).value (section_at o sec).size (symbol_at o k).size code stays in
-      let size = own_size o sec is text in
-      listed_place o (text_in o sec) (start_of o k) (text_listed o sec text) refl (omega arith)
+      let code = (and_both (is_code o.elf k) (not (eqb (symbol_at o.elf k).size 0)) function).0 in
+      let sec : ℕ = home_section (symbol_at o.elf k).home in
+      let text = text_home o.elf (symbol_at o.elf k).home (and_both _ (is_text_home o.elf (symbol_at o.elf k).home) code).1 in
+      let stays = least_below-none (leaves_section o.elf) (length o.elf.symbols) right k known in
+      let below : (symbol_at o.elf k).value < (section_at o.elf sec).size = inside_section (is_code o.elf k) (symbol_at o.elf k).value (section_at o.elf sec).size (symbol_at o.elf k).size code stays in
+      let size = own_size o.elf sec is text in
+      listed_place o (text_in o sec) (start_of o.elf k) (text_listed o sec text) refl (omega arith)
 
   function_in_text : (i : ℕ) → i < length fs → In (nth i).start (places_of o)
   function_in_text i inside =
       let own = all.each i inside in
-      let found = least_below-some (is_symbol_at o (nth i).start) (length o.symbols) (nth i).sym own.sym in
-      let parts = and_both (is_function o (nth i).sym) (same_place (start_of o (nth i).sym) (nth i).start) found.passes in
-      subst (λ p. In p (places_of o)) (place_is (start_of o (nth i).sym) (nth i).start parts.1) (symbol_in_text (nth i).sym found.below parts.0)
+      let found = least_below-some (is_symbol_at o.elf (nth i).start) (length o.elf.symbols) (nth i).sym own.sym in
+      let parts = and_both (is_function o.elf (nth i).sym) (same_place (start_of o.elf (nth i).sym) (nth i).start) found.passes in
+      subst (λ p. In p (places_of o)) (place_is (start_of o.elf (nth i).sym) (nth i).start parts.1) (symbol_in_text (nth i).sym found.below parts.0)
 
   starts_listed : (q : Place) → In q (map place_of fs) → In q (places_of o)
   starts_listed q h =
@@ -134,17 +135,17 @@ module _ (o : Elf) (fs : List Function) (all : AreFunctions o fs) (is : IsObject
       let inside : at.0 < length fs = omega (arith, at.1, length-map fs place_of) in
       subst (λ p. In p (places_of o)) (sym (get_or-map place_of fs at.0 no_function q inside) ∙ at.2) (function_in_text at.0 inside)
 
-  start_found : (q : Place) (found : Option ℕ) → starts_at o q ≡ found → is_some found ≡ true → In q (map place_of fs)
+  start_found : (q : Place) (found : Option ℕ) → starts_at o.elf q ≡ found → is_some found ≡ true → In q (map place_of fs)
   start_found q None found some = absurd (false≢true some)
   start_found q (Some k) found some =
-      let least = least_below-some (is_symbol_at o q) (length o.symbols) k found in
-      let parts = and_both (is_function o k) (same_place (start_of o k) q) least.passes in
+      let least = least_below-some (is_symbol_at o.elf q) (length o.elf.symbols) k found in
+      let parts = and_both (is_function o.elf k) (same_place (start_of o.elf k) q) least.passes in
       let own = all.all k least.below parts.0 in
-      let there : (nth own.0).start ≡ q = own.2 ∙ place_is (start_of o k) q parts.1 in
+      let there : (nth own.0).start ≡ q = own.2 ∙ place_is (start_of o.elf k) q parts.1 in
       let listed : In (nth own.0) fs = in_contains fs (nth own.0) (own.0, own.1, get_or_default fs own.0 (nth own.0) no_function own.1) in
       subst (λ p. In p (map place_of fs)) there (in-map place_of fs (nth own.0) listed)
 
-  of_function : (b : Bool) (f : Function) → starts_at o f.start ≡ Some f.sym → cond b (option_map FuncStart (starts_at o f.start)) None ≡ cond b (Some (fault_of f)) None
+  of_function : (b : Bool) (f : Function) → starts_at o.elf f.start ≡ Some f.sym → cond b (option_map FuncStart (starts_at o.elf f.start)) None ≡ cond b (Some (fault_of f)) None
   of_function b f starts = ap (λ found. cond b (option_map FuncStart found) None) starts
 
   each_function : (f : Function) → In f fs → fault_at o (place_of f) ≡ (if is_misplaced o f then Some (fault_of f) else None)
@@ -152,15 +153,15 @@ module _ (o : Elf) (fs : List Function) (all : AreFunctions o fs) (is : IsObject
       let at : Contains fs f = contains_in fs f h in
       let same : nth at.0 ≡ f = get_or_default fs at.0 no_function f at.1 ∙ at.2 in
       let own = all.each at.0 at.1 in
-      of_function (is_misplaced o f) f (subst (λ (g : Function). starts_at o g.start ≡ Some g.sym) same own.sym)
+      of_function (is_misplaced o f) f (subst (λ (g : Function). starts_at o.elf g.start ≡ Some g.sym) same own.sym)
 
   -- the first fault is that of the first function that can't start where it does
   pub first_start : slice_get (start_faults o) 0 ≡ option_map fault_of (find (is_misplaced o) fs)
   first_start =
-      ap (λ faults. slice_get faults 0) (made_of_fewer place_cmp place_total place_equal (fault_at o) (places_of o) (map place_of fs) (places_sorted o) starts_sorted starts_listed (λ q h some. start_found q (starts_at o q) refl (is_made (is_no_start o q) (starts_at o q) some))
+      ap (λ faults. slice_get faults 0) (made_of_fewer place_cmp place_total place_equal (fault_at o) (places_of o) (map place_of fs) (places_sorted o) starts_sorted starts_listed (λ q h some. start_found q (starts_at o.elf q) refl (is_made (is_no_start o q) (starts_at o.elf q) some))
       ∙ made_alike (fault_at o) place_of (λ f. if is_misplaced o f then Some (fault_of f) else None) fs each_function)
       ∙ first_made (is_misplaced o) fault_of fs
 
 -- without text none starts
-pub no_start : (o : Elf) → texts_of o ≡ [] → slice_get (start_faults o) 0 ≡ None
+pub no_start : (o : Coded) → texts_of o ≡ [] → slice_get (start_faults o) 0 ≡ None
 no_start o none = ap (λ texts. slice_get (filter_map (fault_at o) (flat_map places_of_text texts)) 0) none

@@ -2,6 +2,7 @@
 use Rattle.std.specs.Prelude.{ℕ, ◌==◌, ◌&&◌, not, nat_lt, Bool, length, is_none}
 use Rattle.ot_base.specs.declared.place.Place.{Place}
 use Rattle.elf_objects.specs.Elf.{Elf}
+use Rattle.flow_defs.specs.Coded.{Coded}
 use Rattle.elf_objects.specs.Contents.{is_text, section_at}
 use Rattle.symbols_relocs.specs.Functions.{starts_at}
 use Rattle.jump_tables.specs.Texts.{insn_at}
@@ -17,12 +18,12 @@ ends_text o place =
     && (is_text (section_at o place.sec) && place.off == length (section_at o place.sec).body)
 
 -- neither a Nop nor a Jmp begins at a place
-abbrev pub is_no_branch : Elf → Place → Bool
+abbrev pub is_no_branch : Coded → Place → Bool
 is_no_branch o place = not (is_branch_site (insn_at (texts_of o) place))
 
 -- no function starts at a place
-abbrev pub is_no_function : Elf → Place → Bool
-is_no_function o place = is_none (starts_at o place)
+abbrev pub is_no_function : Coded → Place → Bool
+is_no_function o place = is_none (starts_at o.elf place)
 
 -- an entry of a list has no boundary, by their numbers
 abbrev pub fault_in : ℕ × ℕ → FlowFault

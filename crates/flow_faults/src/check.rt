@@ -17,7 +17,7 @@ use point_places::PointPlaces;
 /// The first place of a list that is no boundary, or where the list has ends of instructions, no end: by the
 /// list's number and the entry's.
 fn find_bad_place(places: &PointPlaces<'_, '_, '_>) -> Option<(u8, u32)>
-    requires { AreFew (special_of places.now) }
+    requires { AreFew (special_of places.now.elf) }
     ensures { option_map fault_in result ≡ slice_get (boundary_faults places.now) 0 }
 {
     let special = places.linked().special();

@@ -23,7 +23,7 @@ fn find_misplaced(places: &PointPlaces<'_, '_, '_>, functions: &[Function]) -> O
 /// The first function that can't start where it does, by its symbol. An object without text sections has no
 /// functions.
 pub(crate) fn find_bad_start(places: &PointPlaces<'_, '_, '_>) -> Option<u32>
-    requires { IsObject places.now.bytes places.now }
+    requires { IsObject places.now.elf.bytes places.now.elf }
     ensures first { option_map FuncStart result ≡ slice_get (start_faults places.now) 0 }
     ensures linked { IsLinked places.now }
 {

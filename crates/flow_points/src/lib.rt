@@ -21,10 +21,10 @@ pub struct FlowPoints<'l, 'o, 'a> {
 }
 
 impl<'l, 'o, 'a> Model for FlowPoints<'l, 'o, 'a> {
-    ghost use Rattle.elf_objects.specs.Elf.{Elf};
+    ghost use Rattle.flow_defs.specs.Coded.{Coded};
     ghost use Rattle.flow_points.specs.Tables.{AreTablesOf};
 
-    ghost Value = { Elf };
+    ghost Value = { Coded };
 
     ghost view = { λ p. p.arrivals };
 

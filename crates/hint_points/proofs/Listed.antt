@@ -5,7 +5,7 @@ use Rattle.std.specs.List.{cons_option, AllByRecursion}
 use Rattle.std.specs.List.Sorted.{IsPermutation}
 use Rattle.std.proofs.lemmas.List.Elements.{All-from_get_or, Contains-get_or}
 use Rattle.std.proofs.lemmas.List.Sorted.{Contains-permutation, IsPermutation-sym}
-use Rattle.elf_objects.specs.Elf.{Elf}
+use Rattle.flow_defs.specs.Coded.{Coded}
 use Rattle.alternatives.proofs.Ascending.{contains_in, every-filter, every-from_in, every-in, every-map, every-passes, every-range, in-filter, in-map, in-range, in_contains, In}
 use Rattle.flow_defs.specs.Code.{point_at, points_of_object}
 use Rattle.hint_points.specs.Hinted.{is_restore_at, is_save_at, numbers_of_points, restores_of, save_at, saves_of, AreSaves}
@@ -14,7 +14,7 @@ use Rattle.hint_points.specs.declared.meanings.Meaning.{Meaning}
 use Rattle.hint_points.specs.declared.saves.SavePoint.{SavePoint}
 
 -- the numbers of points that pass a test
-module _ (o : Elf) (p : ℕ → Bool) where
+module _ (o : Coded) (p : ℕ → Bool) where
   abbrev numbers : List ℕ
   numbers = filter p (numbers_of_points o)
 
@@ -31,24 +31,24 @@ module _ (o : Elf) (p : ℕ → Bool) where
       omega (arith, one.1)
 
 -- all RESTOREs are points
-pub restores_inside : (o : Elf) → All (λ r. r < length (points_of_object o)) (restores_of o)
+pub restores_inside : (o : Coded) → All (λ r. r < length (points_of_object o)) (restores_of o)
 restores_inside o =
     All-from_get_or (λ r. r < length (points_of_object o)) (restores_of o) 0
     (λ k inside. in_below o (is_restore_at o) (get_or (restores_of o) k 0) (in_contains (restores_of o) (get_or (restores_of o) k 0) (Contains-get_or (restores_of o) k 0 inside)))
 
 -- each SAVE of the object is listed
-pub save_listed : (o : Elf) (saves : List SavePoint) (n : ℕ) → AreSaves o saves → n < length (points_of_object o) → is_save_at o n ≡ true → Contains saves (save_at o n)
+pub save_listed : (o : Coded) (saves : List SavePoint) (n : ℕ) → AreSaves o saves → n < length (points_of_object o) → is_save_at o n ≡ true → Contains saves (save_at o n)
 save_listed o saves n are inside is =
     Contains-permutation (saves_of o) saves (save_at o n) are.all
     (contains_in (saves_of o) (save_at o n) (in-map (save_at o) (filter (is_save_at o) (numbers_of_points o)) n (passing_in o (is_save_at o) n inside is)))
 
 -- and each that is listed is one
-pub record IsSaveOf (o : Elf) (s : SavePoint) : Type 0 where
+pub record IsSaveOf (o : Coded) (s : SavePoint) : Type 0 where
   pub inside : s.number < length (points_of_object o)
   pub saves : is_save_at o s.number ≡ true
   pub is : s ≡ save_at o s.number
 
-pub listed_save : (o : Elf) (saves : List SavePoint) (s : SavePoint) → AreSaves o saves → Contains saves s → IsSaveOf o s
+pub listed_save : (o : Coded) (saves : List SavePoint) (s : SavePoint) → AreSaves o saves → Contains saves s → IsSaveOf o s
 listed_save o saves s are listed =
     every-in (IsSaveOf o) (saves_of o) s
     (every-map (IsSaveOf o) (save_at o) (filter (is_save_at o) (numbers_of_points o))
@@ -78,7 +78,7 @@ every-made P f [] all = tt
 every-made P f (x ∷ xs) all = every-front P (f x) (filter_map f xs) all.0 (every-made P f xs all.1)
 
 -- a meaning of the object
-pub record IsMeaningOf (o : Elf) (m : Meaning) : Type 0 where
+pub record IsMeaningOf (o : Coded) (m : Meaning) : Type 0 where
   pub inside : m.restore < length (points_of_object o)
   pub restores : is_restore_at o m.restore ≡ true
   pub means : nearest_save o (point_at o m.restore) ≡ Some m.save
@@ -86,18 +86,18 @@ pub record IsMeaningOf (o : Elf) (m : Meaning) : Type 0 where
 abbrev meaning : ℕ → ℕ → Meaning
 meaning r s = record { save = s; restore = r }
 
-made_by : (o : Elf) (r : ℕ) (found : Option ℕ) (m : Meaning) → r < length (points_of_object o) → is_restore_at o r ≡ true → nearest_save o (point_at o r) ≡ found → option_map (meaning r) found ≡ Some m → IsMeaningOf o m
+made_by : (o : Coded) (r : ℕ) (found : Option ℕ) (m : Meaning) → r < length (points_of_object o) → is_restore_at o r ≡ true → nearest_save o (point_at o r) ≡ found → option_map (meaning r) found ≡ Some m → IsMeaningOf o m
 made_by o r None m inside is found made = absurd (let k : ⊥ = cc in k)
 made_by o r (Some s) m inside is found made =
     let same : meaning r s ≡ m = cc in
     subst (IsMeaningOf o) same (record { inside = inside; restores = is; means = found })
 
-pub meaning_listed : (o : Elf) (meanings : List Meaning) (r s : ℕ) → IsPermutation (meanings_of o) meanings → r < length (points_of_object o) → is_restore_at o r ≡ true → nearest_save o (point_at o r) ≡ Some s → Contains meanings (meaning r s)
+pub meaning_listed : (o : Coded) (meanings : List Meaning) (r s : ℕ) → IsPermutation (meanings_of o) meanings → r < length (points_of_object o) → is_restore_at o r ≡ true → nearest_save o (point_at o r) ≡ Some s → Contains meanings (meaning r s)
 meaning_listed o meanings r s same inside is found =
     Contains-permutation (meanings_of o) meanings (meaning r s) same
     (contains_in (meanings_of o) (meaning r s) (in-made (meaning_of o) (restores_of o) r (meaning r s) (passing_in o (is_restore_at o) r inside is) (ap (option_map (meaning r)) found)))
 
-pub listed_meaning : (o : Elf) (meanings : List Meaning) (m : Meaning) → IsPermutation (meanings_of o) meanings → Contains meanings m → IsMeaningOf o m
+pub listed_meaning : (o : Coded) (meanings : List Meaning) (m : Meaning) → IsPermutation (meanings_of o) meanings → Contains meanings m → IsMeaningOf o m
 listed_meaning o meanings m same listed =
     every-in (IsMeaningOf o) (meanings_of o) m
     (every-made (IsMeaningOf o) (meaning_of o) (restores_of o)

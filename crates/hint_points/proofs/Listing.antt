@@ -2,7 +2,7 @@
 use Rattle.std.proofs.Common.{◌≡◌, ℕ, ◌+◌, ◌≤◌, Bool, true, false, cond, List, [], ◌∷◌, ◌++◌, filter, map, length, sym, ap, ◌∙◌, append-nil}
 use Rattle.std.specs.List.{range_with_len}
 use Rattle.std.proofs.lemmas.List.Elements.{filter-append}
-use Rattle.elf_objects.specs.Elf.{Elf}
+use Rattle.flow_defs.specs.Coded.{Coded}
 use Rattle.alternatives.proofs.Ranges.{mapped_more, mapped_same, range_more}
 use Rattle.hint_points.specs.Hinted.{is_restore_at, is_save_at, save_at}
 use Rattle.hint_points.specs.declared.saves.SavePoint.{SavePoint}
@@ -14,13 +14,13 @@ kept_more p n b is =
     ∙ ap (λ c. filter p (range_with_len 0 n) ++ cond c (n ∷ []) []) is
 
 -- those below a number
-pub record AreListed (o : Elf) (n : ℕ) (saves : List SavePoint) (restores : List ℕ) : Type 0 where
+pub record AreListed (o : Coded) (n : ℕ) (saves : List SavePoint) (restores : List ℕ) : Type 0 where
   pub all_saves : saves ≡ map (save_at o) (filter (is_save_at o) (range_with_len 0 n))
   pub all_restores : restores ≡ filter (is_restore_at o) (range_with_len 0 n)
   pub few : length restores ≤ n
 
 -- one more
-module _ (o : Elf) (n : ℕ) where
+module _ (o : Coded) (n : ℕ) where
   pub save_more : (saves : List SavePoint) → saves ≡ map (save_at o) (filter (is_save_at o) (range_with_len 0 n)) → is_save_at o n ≡ true → saves ++ save_at o n ∷ [] ≡ map (save_at o) (filter (is_save_at o) (range_with_len 0 (n + 1)))
   save_more saves listed is = ap (λ list. list ++ save_at o n ∷ []) listed ∙ sym (mapped_more (save_at o) (is_save_at o) n is)
 

@@ -6,7 +6,7 @@ use Rattle.std.specs.List.Sorted.{IsPermutation}
 use Rattle.std.proofs.lemmas.List.{get_or-map, length-map}
 use Rattle.std.proofs.lemmas.List.Elements.{All-from_get_or, Contains-get_or}
 use Rattle.std.proofs.lemmas.List.Sorted.{IsPermutation-map}
-use Rattle.elf_objects.specs.Elf.{Elf}
+use Rattle.flow_defs.specs.Coded.{Coded}
 use Rattle.alternatives.specs.declared.point.Point.{Point}
 use Rattle.state_defs.specs.declared.state.HintState.{HintState}
 use Rattle.state_defs.specs.declared.state.HintState.TheVariants.{Restore, Save, Set}
@@ -19,11 +19,11 @@ use Rattle.hint_points.proofs.Listed.{listed_meaning, meaning_listed, IsMeaningO
 use Rattle.hint_points.proofs.Run.{meant_restore, restore_meant}
 
 -- a RESTORE means the nearest SAVE, and no other point means one
-pub restore_means : (o : Elf) (point : Point) → is_restore (hint_of o point) ≡ true → save_of o point ≡ nearest_save o point
+pub restore_means : (o : Coded) (point : Point) → is_restore (hint_of o point) ≡ true → save_of o point ≡ nearest_save o point
 unfolding save_of nearest_save
 restore_means o point is = ap (λ b. cond b (nearest_save o point) None) is
 
-pub other_means : (o : Elf) (point : Point) → is_restore (hint_of o point) ≡ false → save_of o point ≡ None
+pub other_means : (o : Coded) (point : Point) → is_restore (hint_of o point) ≡ false → save_of o point ≡ None
 unfolding save_of nearest_save
 other_means o point is = ap (λ b. cond b (nearest_save o point) None) is
 
@@ -43,12 +43,12 @@ meant_more make r true None rest meant made same = ap (λ o. map (λ (m : Meanin
 meant_more make r false found rest meant made same = same
 
 -- the RESTOREs among some points that mean a SAVE
-with_save : (o : Elf) (rs : List ℕ) → map (λ (m : Meaning). m.restore) (filter_map (meaning_of o) (filter (is_restore_at o) rs)) ≡ filter (λ r. is_some (save_of o (point_at o r))) rs
+with_save : (o : Coded) (rs : List ℕ) → map (λ (m : Meaning). m.restore) (filter_map (meaning_of o) (filter (is_restore_at o) rs)) ≡ filter (λ r. is_some (save_of o (point_at o r))) rs
 unfolding save_of nearest_save
 with_save o [] = refl
 with_save o (r ∷ rs) = meant_more (meaning_of o) r (is_restore_at o r) (nearest_save o (point_at o r)) (filter (is_restore_at o) rs) (filter (λ r. is_some (save_of o (point_at o r))) rs) refl (with_save o rs)
 
-module _ (o : Elf) (meanings : List Meaning) (restores : List ℕ) (are : AreMeanings o meanings restores) where
+module _ (o : Coded) (meanings : List Meaning) (restores : List ℕ) (are : AreMeanings o meanings restores) where
   restore_of : Meaning → ℕ
   restore_of m = m.restore
 

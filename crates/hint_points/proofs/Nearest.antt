@@ -7,7 +7,7 @@ use Rattle.std.proofs.lemmas.List.{get_or_default}
 use Rattle.std.proofs.lemmas.List.Elements.{Contains-get_or}
 use Rattle.std.proofs.lemmas.Option.{slice_get-get_or}
 use Rattle.ot_base.specs.declared.place.Place.{Place}
-use Rattle.elf_objects.specs.Elf.{Elf}
+use Rattle.flow_defs.specs.Coded.{Coded}
 use Rattle.alternatives.specs.declared.point.Point.{Point}
 use Rattle.alternatives.specs.Points.{address_of_point, point_cmp}
 use Rattle.object_code.proofs.TextsLemmas.{texts_ascend}
@@ -22,15 +22,15 @@ use Rattle.hint_points.specs.SaveOrder.{is_below, is_nearer_save, IsNearest, IsN
 use Rattle.hint_points.proofs.Finding.{nearest_at, nearest_nowhere}
 use Rattle.hint_points.proofs.Listed.{listed_save, save_listed, IsSaveOf}
 
-sorted_object : (o : Elf) → IsStrictlySortedBy point_cmp (points_of_object o)
+sorted_object : (o : Coded) → IsStrictlySortedBy point_cmp (points_of_object o)
 unfolding points_of_object
 sorted_object o = all_sorted (texts_of o) (alternatives_of o) (texts_ascend o)
 
 -- a point's number is its index
-number_is : (o : Elf) (n : ℕ) → n < length (points_of_object o) → number_of o (point_at o n) ≡ Some n
+number_is : (o : Coded) (n : ℕ) → n < length (points_of_object o) → number_of o (point_at o n) ≡ Some n
 number_is o n inside = sym (numbered (points_of_object o) (point_at o n) (Some n) (sorted_object o) (slice_get-get_or (points_of_object o) n no_point inside))
 
-module _ (o : Elf) (saves : List SavePoint) (point : Point) (are : AreSaves o saves) where
+module _ (o : Coded) (saves : List SavePoint) (point : Point) (are : AreSaves o saves) where
   abbrev owner : Option ℕ
   owner = owner_of_point o point
 

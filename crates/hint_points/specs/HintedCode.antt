@@ -1,6 +1,6 @@
 -- An object with its RESTOREs.
 use Rattle.std.specs.Prelude.{ℕ, List}
-use Rattle.elf_objects.specs.Elf.{Elf}
+use Rattle.flow_defs.specs.Coded.{Coded}
 use Rattle.special_sections.specs.declared.entries.HintEntry.{HintEntry}
 use Rattle.special_sections.specs.Special.{special_of}
 use Rattle.unwind_hints.specs.Places.{HaveSameFirst}
@@ -11,11 +11,11 @@ use Rattle.hint_points.specs.declared.saves.SavePoint.{SavePoint}
 
 -- an object, and the numbers of its RESTOREs that mean a SAVE, those of one SAVE one after another
 pub record HintedCode : Type 0 where
-  pub object : Elf
+  pub object : Coded
   pub restores : List ℕ
 
 -- what is kept of an object: its hints by their places, its SAVEs, and what its RESTOREs mean
-pub record AreKept (o : Elf) (hints : List HintEntry) (saves : List SavePoint) (meanings : List Meaning) (restores : List ℕ) : Type 0 where
-  pub same_hints : HaveSameFirst (special_of o).hints hints
+pub record AreKept (o : Coded) (hints : List HintEntry) (saves : List SavePoint) (meanings : List Meaning) (restores : List ℕ) : Type 0 where
+  pub same_hints : HaveSameFirst (special_of o.elf).hints hints
   pub all_saves : AreSaves o saves
   pub all_meanings : AreMeanings o meanings restores

@@ -2,7 +2,7 @@
 use Rattle.std.specs.Prelude.{◌≡◌, ℕ, ◌<◌, ◌≤◌, ◌^◌, List, filter, is_some, length, map, slice_index_or, Option, option_and_then, option_map}
 use Rattle.std.specs.List.{filter_map}
 use Rattle.std.specs.List.Sorted.{IsNonDecreasingBy, IsPermutation}
-use Rattle.elf_objects.specs.Elf.{Elf}
+use Rattle.flow_defs.specs.Coded.{Coded}
 use Rattle.alternatives.specs.declared.point.Point.{Point}
 use Rattle.flow_defs.specs.Code.{number_of, point_at}
 use Rattle.flow_defs.specs.Hints.{nearest, save_of, saves_before}
@@ -10,23 +10,23 @@ use Rattle.hint_points.specs.Hinted.{numbers_of_points, restores_of}
 use Rattle.hint_points.specs.declared.meanings.Meaning.{Meaning}
 
 -- the number of the nearest SAVE before a point
-unfoldable pub nearest_save : Elf → Point → Option ℕ
+unfoldable pub nearest_save : Coded → Point → Option ℕ
 nearest_save o point = option_and_then (number_of o) (nearest o (saves_before o point))
 
 -- what a RESTORE means, by its number
-abbrev pub meaning_of : Elf → ℕ → Option Meaning
+abbrev pub meaning_of : Coded → ℕ → Option Meaning
 meaning_of o r = option_map (λ s. record { save = s; restore = r }) (nearest_save o (point_at o r))
 
 -- what all of them mean, by their numbers
-abbrev pub meanings_of : Elf → List Meaning
+abbrev pub meanings_of : Coded → List Meaning
 meanings_of o = filter_map (meaning_of o) (restores_of o)
 
 -- the RESTOREs that mean a SAVE, by their numbers
-abbrev pub restores_with_save : Elf → List ℕ
+abbrev pub restores_with_save : Coded → List ℕ
 restores_with_save o = filter (λ r. is_some (save_of o (point_at o r))) (numbers_of_points o)
 
 -- the meanings in the order of the SAVEs that are meant, and the RESTOREs in that order
-pub record AreMeanings (o : Elf) (meanings : List Meaning) (restores : List ℕ) : Type 0 where
+pub record AreMeanings (o : Coded) (meanings : List Meaning) (restores : List ℕ) : Type 0 where
   pub all : IsPermutation (meanings_of o) meanings
   pub ordered : IsNonDecreasingBy (λ (m : Meaning). m.save) meanings
   pub few : length meanings < 2 ^ 32

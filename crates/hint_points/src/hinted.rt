@@ -17,7 +17,7 @@ use unwind_hints::Hints;
 /// The hint of a point: the one at its place. Padding has none.
 pub(crate) fn hint_of(places: &PointPlaces<'_, '_, '_>, hints: &Hints, n: u32) -> Option<HintState>
     requires inside { n < length (points_of_object places.now) }
-    requires hints { HaveSameFirst (special_of places.now).hints hints.now }
+    requires hints { HaveSameFirst (special_of places.now.elf).hints hints.now }
     ensures { result ≡ hint_of_point places.now (point_at places.now n) }
 {
     if places.is_padding(n) {
@@ -60,7 +60,7 @@ pub(crate) fn list_hinted(
     places: &PointPlaces<'_, '_, '_>,
     hints: &Hints,
 ) -> Result<Hinted, NoMemory>
-    requires { HaveSameFirst (special_of places.now).hints hints.now }
+    requires { HaveSameFirst (special_of places.now.elf).hints hints.now }
     ensures saves { IfOk result (λ hinted. hinted.saves.items ≡ saves_of places.now) }
     ensures restores { IfOk result (λ hinted. hinted.restores.items ≡ restores_of places.now) }
     ensures few { IfOk result (λ hinted. length hinted.restores.items < 2 ^ 32) }

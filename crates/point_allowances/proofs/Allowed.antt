@@ -5,6 +5,7 @@ use Rattle.std.proofs.lemmas.Bool.{cases_lt}
 use Rattle.std.proofs.lemmas.List.{get_or_default, get_or_past}
 use Rattle.ot_base.specs.NameLists.{NameLists}
 use Rattle.elf_objects.specs.Elf.{Elf, SymbolEntry}
+use Rattle.flow_defs.specs.Coded.{Coded}
 use Rattle.elf_objects.specs.Contents.{no_symbol}
 use Rattle.allowances.specs.Allows.{Allows}
 use Rattle.allowances.specs.declared.table.AllowanceTable.{AllowanceTable}
@@ -23,10 +24,10 @@ names_told o lists flags empty are is k = elim (cases_lt k (length o.symbols)) [
   | inr past ↦ get_or_past flags k empty (omega (arith, are.long, past)) ∙ is ∙ none_named o lists k past
 ]
 
-pub allows : (o : Elf) (lists : NameLists) (table : AllowanceTable)
+pub allows : (o : Coded) (lists : NameLists) (table : AllowanceTable)
     → AreFlags (λ q. is_safe_branch o (point_at o q)) (length (points_of_object o)) table.safe_branches.items
     → AreFlags (λ q. lacks_smap o (point_at o q)) (length (points_of_object o)) table.lacking_smap.items
-    → AreFlags (is_safe_name o lists) (length o.symbols) table.safe_names.items
+    → AreFlags (is_safe_name o.elf lists) (length o.elf.symbols) table.safe_names.items
     → table.empty_is_safe ≡ set.contains lists.access_safe []
     → Allows (allowances_of o lists) table (length (points_of_object o))
 unfolding allowances_of
@@ -35,5 +36,5 @@ allows o lists table branches smap names empty = record {
   branches = branches.each;
   smap_long = smap.long;
   smap = smap.each;
-  names = names_told o lists table.safe_names.items table.empty_is_safe names empty;
+  names = names_told o.elf lists table.safe_names.items table.empty_is_safe names empty;
 }

@@ -5,6 +5,7 @@ use Rattle.std.specs.FinSet as set
 use Rattle.ot_base.specs.NameLists.{NameLists}
 use Rattle.ot_base.specs.declared.place.Place.{Place}
 use Rattle.elf_objects.specs.Elf.{Elf}
+use Rattle.flow_defs.specs.Coded.{Coded}
 use Rattle.elf_objects.specs.Contents.{symbol_at}
 use Rattle.symbols_relocs.specs.Places.{same_place}
 use Rattle.special_sections.specs.declared.entries.AltEntry.{AltEntry}
@@ -18,8 +19,8 @@ use Rattle.flow_defs.specs.Sites.{site_of_entry}
 use Rattle.option_defs.specs.Allowances.{Allowances}
 
 -- its place is listed in `.discard.retpoline_safe`
-unfoldable pub is_safe_branch : Elf → Point → Bool
-is_safe_branch o point = list_any (same_place point.place) (special_of o).safe_branches
+unfoldable pub is_safe_branch : Coded → Point → Bool
+is_safe_branch o point = list_any (same_place point.place) (special_of o.elf).safe_branches
 
 -- the name of a symbol is listed as that of a function that may be called with user access on
 unfoldable pub is_safe_name : Elf → NameLists → ℕ → Bool
@@ -38,20 +39,20 @@ abbrev pub makes_smap_site : AltEntry → Bool
 makes_smap_site a = counts a && is_for_smap a
 
 -- a place lies in such a site
-abbrev pub is_in_smap_site : Elf → Place → Bool
+abbrev pub is_in_smap_site : Coded → Place → Bool
 is_in_smap_site o place = list_any (λ a. makes_smap_site a && in_site (site_of_entry a) place) (alternatives_of o)
 
 -- a point is one of such a replacement
-abbrev pub is_smap_point : Elf → Point → Bool
+abbrev pub is_smap_point : Coded → Point → Bool
 is_smap_point o point = not (is_plain point) && is_for_smap (entry_of (alternatives_of o) point.variant)
 
 -- a point runs in such a site, and is of none of these replacements
-unfoldable pub lacks_smap : Elf → Point → Bool
+unfoldable pub lacks_smap : Coded → Point → Bool
 lacks_smap o point = is_in_smap_site o (address_of_point (alternatives_of o) point) && not (is_smap_point o point)
 
-unfoldable pub allowances_of : Elf → NameLists → Allowances
+unfoldable pub allowances_of : Coded → NameLists → Allowances
 allowances_of o lists = record {
   safe_branch = λ q. is_safe_branch o (point_at o q);
-  safe_name = is_safe_name o lists;
+  safe_name = is_safe_name o.elf lists;
   lacks_smap = λ q. lacks_smap o (point_at o q);
 }

@@ -16,7 +16,7 @@ use std::alloc::Global;
 /// Whether the place of a point is one of those in `.discard.retpoline_safe`.
 fn is_safe_branch(places: &PointPlaces<'_, '_, '_>, safe: &PlaceSet, n: u32) -> bool
     requires point { n < length (points_of_object places.now) }
-    requires safe { HaveSamePlaces (special_of places.now).safe_branches safe.now }
+    requires safe { HaveSamePlaces (special_of places.now.elf).safe_branches safe.now }
     ensures { result ≡ is_safe_branch_at places.now (point_at places.now n) }
 {
     safe.contains(places.point(n).place)

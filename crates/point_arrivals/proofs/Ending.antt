@@ -6,7 +6,7 @@ use Rattle.ot_base.specs.declared.place.Place.{Place}
 use Rattle.operation_defs.specs.declared.insn.Insn.{Insn}
 use Rattle.operation_defs.specs.declared.op.Op.{Op}
 use Rattle.operation_defs.specs.declared.op.Op.TheVariants.{Iret, IretNext}
-use Rattle.elf_objects.specs.Elf.{Elf}
+use Rattle.flow_defs.specs.Coded.{Coded}
 use Rattle.symbols_relocs.specs.Places.{same_place}
 use Rattle.special_sections.specs.declared.entries.BranchEntry.{BranchEntry}
 use Rattle.special_sections.specs.declared.entries.FixEntry.{FixEntry}
@@ -22,34 +22,46 @@ use Rattle.point_arrivals.specs.Lists.{branch_pairs_of, fix_pairs_of}
 use Rattle.point_arrivals.specs.Next.{is_iret}
 
 -- ---- dead ends
-pub dead_end_is : (o : Elf) (p : Point) (padding reached ud2 unreached : Bool) → padding ≡ is_padding o p → reached ≡ ends_at o p (special_of o).after_reachable → ud2 ≡ is_ud2 (decoded_insn o p).op → unreached ≡ ends_at o p (special_of o).after_unreachable → (not padding && (not reached && (ud2 || unreached))) ≡ is_dead_end o p
+pub dead_end_is : (o : Coded) (p : Point) (padding reached ud2 unreached : Bool) → padding ≡ is_padding o p → reached ≡ ends_at o p (special_of o.elf).after_reachable → ud2 ≡ is_ud2 (decoded_insn o p).op → unreached ≡ ends_at o p (special_of o.elf).after_unreachable → (not padding && (not reached && (ud2 || unreached))) ≡ is_dead_end o p
 unfolding is_dead_end
 dead_end_is o p padding reached ud2 unreached is_pad is_reached is_ud is_unreached =
     ap (λ b. not b && (not reached && (ud2 || unreached))) is_pad
     ∙ ap (λ b. not (is_padding o p) && (not b && (ud2 || unreached))) is_reached
-    ∙ ap (λ b. not (is_padding o p) && (not (ends_at o p (special_of o).after_reachable) && (b || unreached))) is_ud
-    ∙ ap (λ b. not (is_padding o p) && (not (ends_at o p (special_of o).after_reachable) && (is_ud2 (decoded_insn o p).op || b))) is_unreached
+    ∙ ap (λ b. not (is_padding o p) && (not (ends_at o p (special_of o.elf).after_reachable) && (b || unreached))) is_ud
+    ∙ ap (λ b. not (is_padding o p) && (not (ends_at o p (special_of o.elf).after_reachable) && (is_ud2 (decoded_insn o p).op || b))) is_unreached
 
 -- padding is passed
-pub padding_passes : (o : Elf) (p : Point) (padding : Bool) → padding ≡ is_padding o p → padding ≡ true → false ≡ is_dead_end o p
+pub padding_passes : (o : Coded) (p : Point) (padding : Bool) → padding ≡ is_padding o p → padding ≡ true → false ≡ is_dead_end o p
 padding_passes o p padding is passes =
-    dead_end_is o p true (ends_at o p (special_of o).after_reachable) (is_ud2 (decoded_insn o p).op) (ends_at o p (special_of o).after_unreachable) (sym passes ∙ is) refl refl refl
+    dead_end_is o p true (ends_at o p (special_of o.elf).after_reachable) (is_ud2 (decoded_insn o p).op) (ends_at o p (special_of o.elf).after_unreachable) (sym passes ∙ is) refl refl refl
 
--- so is what ends at a reachable place
-pub reached_passes : (o : Elf) (p : Point) (padding reached : Bool) → padding ≡ is_padding o p → padding ≡ false → reached ≡ ends_at o p (special_of o).after_reachable → reached ≡ true → false ≡ is_dead_end o p
-reached_passes o p padding reached is other reach passes =
-    dead_end_is o p false true (is_ud2 (decoded_insn o p).op) (ends_at o p (special_of o).after_unreachable) (sym other ∙ is) (sym passes ∙ reach) refl refl
+-- so is what neither is a Ud2 nor ends where code doesn't go on
+never : (padding reached : Bool) → (not padding && (not reached && false)) ≡ false
+never true reached = refl
+never false true = refl
+never false false = refl
 
-pub ud2_ends : (o : Elf) (p : Point) (padding reached ud2 : Bool) → padding ≡ is_padding o p → padding ≡ false → reached ≡ ends_at o p (special_of o).after_reachable → reached ≡ false → ud2 ≡ is_ud2 (decoded_insn o p).op → ud2 ≡ true → ud2 ≡ is_dead_end o p
-ud2_ends o p padding reached ud2 is other reach not_reached ud passes =
-    passes ∙ dead_end_is o p false false true (ends_at o p (special_of o).after_unreachable) (sym other ∙ is) (sym not_reached ∙ reach) (sym passes ∙ ud) refl
+pub other_passes : (o : Coded) (p : Point) (may : Bool) → may ≡ (is_ud2 (decoded_insn o p).op || ends_at o p (special_of o.elf).after_unreachable) → may ≡ false → false ≡ is_dead_end o p
+unfolding is_dead_end
+other_passes o p may is passes =
+    sym (never (is_padding o p) (ends_at o p (special_of o.elf).after_reachable))
+    ∙ ap (λ b. not (is_padding o p) && (not (ends_at o p (special_of o.elf).after_reachable) && b)) (sym passes ∙ is)
 
-pub unreached_ends : (o : Elf) (p : Point) (padding reached ud2 unreached : Bool) → padding ≡ is_padding o p → padding ≡ false → reached ≡ ends_at o p (special_of o).after_reachable → reached ≡ false → ud2 ≡ is_ud2 (decoded_insn o p).op → ud2 ≡ false → unreached ≡ ends_at o p (special_of o).after_unreachable → unreached ≡ is_dead_end o p
-unreached_ends o p padding reached ud2 unreached is other reach not_reached ud no_ud unreach =
-    dead_end_is o p false false false unreached (sym other ∙ is) (sym not_reached ∙ reach) (sym no_ud ∙ ud) unreach
+-- anything else ends unless it ends at a reachable place
+alone : (b : Bool) → b ≡ (true && (b && true))
+alone true = refl
+alone false = refl
+
+pub unless_reached : (o : Coded) (p : Point) (may padding reached : Bool) → may ≡ (is_ud2 (decoded_insn o p).op || ends_at o p (special_of o.elf).after_unreachable) → may ≡ true → padding ≡ is_padding o p → padding ≡ false → reached ≡ ends_at o p (special_of o.elf).after_reachable → not reached ≡ is_dead_end o p
+unfolding is_dead_end
+unless_reached o p may padding reached may_is may_end is other reach =
+    alone (not reached)
+    ∙ ap (λ b. not b && (not reached && true)) (sym other ∙ is)
+    ∙ ap (λ b. not (is_padding o p) && (not b && true)) reach
+    ∙ ap (λ b. not (is_padding o p) && (not (ends_at o p (special_of o.elf).after_reachable) && b)) (sym may_end ∙ may_is)
 
 -- ---- instructions
-other_op : (o : Elf) (p : Point) (op : Op) → is_iret op ≡ false → op_of o p op ≡ op
+other_op : (o : Coded) (p : Point) (op : Op) → is_iret op ≡ false → op_of o p op ≡ op
 other_op o p Iret is = absurd (false≢true (sym is))
 other_op o p op is = refl
 
@@ -57,42 +69,42 @@ iret_is : (op : Op) → is_iret op ≡ true → op ≡ Iret
 iret_is Iret is = refl
 iret_is op is = absurd (false≢true is)
 
-abbrev pub goes_on : Elf → Point → Bool
+abbrev pub goes_on : Coded → Point → Bool
 goes_on o p = goes_on_behind o p (owner_of_point o p) (after o p)
 
-iret_by : (o : Elf) (p : Point) (op : Op) (b : Bool) → is_iret op ≡ true → goes_on o p ≡ b → op_of o p op ≡ (if b then IretNext else Iret)
+iret_by : (o : Coded) (p : Point) (op : Op) (b : Bool) → is_iret op ≡ true → goes_on o p ≡ b → op_of o p op ≡ (if b then IretNext else Iret)
 iret_by o p op b iret is = ap (op_of o p) (iret_is op iret) ∙ ap (λ c. if c then IretNext else Iret) is
 
-insn_by : (o : Elf) (p : Point) (insn : Insn) (op : Op) → insn ≡ decoded_insn o p → op_of o p insn.op ≡ op → (let it : Insn = record { len = insn.len; op = op } in it) ≡ insn_of_object o p
+insn_by : (o : Coded) (p : Point) (insn : Insn) (op : Op) → insn ≡ decoded_insn o p → op_of o p insn.op ≡ op → (let it : Insn = record { len = insn.len; op = op } in it) ≡ insn_of_object o p
 unfolding insn_of_object
 insn_by o p insn op decoded is =
     ap (λ (x : Op). let it : Insn = record { len = insn.len; op = x } in it) (sym is)
     ∙ ap (λ (i : Insn). let it : Insn = record { len = i.len; op = op_of o p i.op } in it) decoded
 
 -- one that is no IRET stays
-pub other_insn : (o : Elf) (p : Point) (insn : Insn) → insn ≡ decoded_insn o p → is_iret insn.op ≡ false → insn ≡ insn_of_object o p
+pub other_insn : (o : Coded) (p : Point) (insn : Insn) → insn ≡ decoded_insn o p → is_iret insn.op ≡ false → insn ≡ insn_of_object o p
 other_insn o p insn decoded other = insn_by o p insn insn.op decoded (other_op o p insn.op other)
 
 -- so does an IRET that doesn't go on
-pub iret_stays : (o : Elf) (p : Point) (insn : Insn) → insn ≡ decoded_insn o p → is_iret insn.op ≡ true → goes_on o p ≡ false → insn ≡ insn_of_object o p
+pub iret_stays : (o : Coded) (p : Point) (insn : Insn) → insn ≡ decoded_insn o p → is_iret insn.op ≡ true → goes_on o p ≡ false → insn ≡ insn_of_object o p
 iret_stays o p insn decoded iret ends = insn_by o p insn insn.op decoded (iret_by o p insn.op false iret ends ∙ sym (iret_is insn.op iret))
 
-pub iret_goes_on : (o : Elf) (p : Point) (insn : Insn) → insn ≡ decoded_insn o p → is_iret insn.op ≡ true → goes_on o p ≡ true → (let it : Insn = record { len = insn.len; op = IretNext } in it) ≡ insn_of_object o p
+pub iret_goes_on : (o : Coded) (p : Point) (insn : Insn) → insn ≡ decoded_insn o p → is_iret insn.op ≡ true → goes_on o p ≡ true → (let it : Insn = record { len = insn.len; op = IretNext } in it) ≡ insn_of_object o p
 iret_goes_on o p insn decoded iret goes = insn_by o p insn IretNext decoded (iret_by o p insn.op true iret goes)
 
 -- ---- what owns the points that follow
-abbrev pub has_owner : Elf → ℕ → ℕ → Bool
+abbrev pub has_owner : Coded → ℕ → ℕ → Bool
 has_owner o owner q = same_owner (owner_of_point o (point_at o q)) (Some owner)
 
-pub one_other : (o : Elf) (p : Point) (owner : ℕ) (next : List ℕ) → list_all (has_owner o owner) next ≡ false → false ≡ goes_on_behind o p (Some owner) next
+pub one_other : (o : Coded) (p : Point) (owner : ℕ) (next : List ℕ) → list_all (has_owner o owner) next ≡ false → false ≡ goes_on_behind o p (Some owner) next
 one_other o p owner [] other = refl
 one_other o p owner (q ∷ next) other = sym other
 
-pub none_follow : (o : Elf) (p : Point) (owner : ℕ) (next : List ℕ) → length next ≡ 0 → false ≡ goes_on_behind o p (Some owner) next
+pub none_follow : (o : Coded) (p : Point) (owner : ℕ) (next : List ℕ) → length next ≡ 0 → false ≡ goes_on_behind o p (Some owner) next
 none_follow o p owner [] none = refl
 none_follow o p owner (q ∷ next) none = absurd (omega arith)
 
-pub all_own : (o : Elf) (p : Point) (owner : ℕ) (next : List ℕ) → 0 < length next → list_all (has_owner o owner) next ≡ true → true ≡ goes_on_behind o p (Some owner) next
+pub all_own : (o : Coded) (p : Point) (owner : ℕ) (next : List ℕ) → 0 < length next → list_all (has_owner o owner) next ≡ true → true ≡ goes_on_behind o p (Some owner) next
 all_own o p owner [] some own = absurd (omega arith)
 all_own o p owner (q ∷ next) some own = sym own
 
@@ -117,18 +129,18 @@ fixes_map (f ∷ fixes) place = by (same_place f.insn place) (fixes_map fixes pl
     by true rest = ap (λ ts. f.fixup ∷ ts) rest
     by false rest = rest
 
-pub no_targets : (o : Elf) (p : Point) → is_padding o p ≡ true → [] ≡ static_targets o p
-no_targets o p padding = sym (ap (λ b. if b then [] else map (λ (b : BranchEntry). b.target) (filter (λ (b : BranchEntry). same_place b.code p.place) (special_of o).branches)) padding)
+pub no_targets : (o : Coded) (p : Point) → is_padding o p ≡ true → [] ≡ static_targets o p
+no_targets o p padding = sym (ap (λ b. if b then [] else map (λ (b : BranchEntry). b.target) (filter (λ (b : BranchEntry). same_place b.code p.place) (special_of o.elf).branches)) padding)
 
-pub targets_are : (o : Elf) (p : Point) → is_padding o p ≡ false → targets_of (branch_pairs_of (special_of o).branches) p.place ≡ static_targets o p
+pub targets_are : (o : Coded) (p : Point) → is_padding o p ≡ false → targets_of (branch_pairs_of (special_of o.elf).branches) p.place ≡ static_targets o p
 targets_are o p other =
-    branches_map (special_of o).branches p.place
-    ∙ sym (ap (λ b. if b then [] else map (λ (b : BranchEntry). b.target) (filter (λ (b : BranchEntry). same_place b.code p.place) (special_of o).branches)) other)
+    branches_map (special_of o.elf).branches p.place
+    ∙ sym (ap (λ b. if b then [] else map (λ (b : BranchEntry). b.target) (filter (λ (b : BranchEntry). same_place b.code p.place) (special_of o.elf).branches)) other)
 
-pub no_fixups : (o : Elf) (p : Point) → is_padding o p ≡ true → [] ≡ fixups o p
-no_fixups o p padding = sym (ap (λ b. if b then [] else map (λ (f : FixEntry). f.fixup) (filter (λ (f : FixEntry). same_place f.insn p.place) (special_of o).fixes)) padding)
+pub no_fixups : (o : Coded) (p : Point) → is_padding o p ≡ true → [] ≡ fixups o p
+no_fixups o p padding = sym (ap (λ b. if b then [] else map (λ (f : FixEntry). f.fixup) (filter (λ (f : FixEntry). same_place f.insn p.place) (special_of o.elf).fixes)) padding)
 
-pub fixups_are : (o : Elf) (p : Point) → is_padding o p ≡ false → targets_of (fix_pairs_of (special_of o).fixes) p.place ≡ fixups o p
+pub fixups_are : (o : Coded) (p : Point) → is_padding o p ≡ false → targets_of (fix_pairs_of (special_of o.elf).fixes) p.place ≡ fixups o p
 fixups_are o p other =
-    fixes_map (special_of o).fixes p.place
-    ∙ sym (ap (λ b. if b then [] else map (λ (f : FixEntry). f.fixup) (filter (λ (f : FixEntry). same_place f.insn p.place) (special_of o).fixes)) other)
+    fixes_map (special_of o.elf).fixes p.place
+    ∙ sym (ap (λ b. if b then [] else map (λ (f : FixEntry). f.fixup) (filter (λ (f : FixEntry). same_place f.insn p.place) (special_of o.elf).fixes)) other)

@@ -3,10 +3,10 @@ use Rattle.std.proofs.Common.{◌≡◌, ℕ, ◌<◌, Bool, true, false, not, �
 use Rattle.std.specs.Prelude.{is_none, is_some, option_and_then, slice_get, IfSome}
 use Rattle.std.specs.List.{cons_option}
 use Rattle.std.proofs.lemmas.Bool.{cases_Bool, false≢true}
-use Rattle.std.proofs.lemmas.Option.{slice_get-get_or}
+use Rattle.std.proofs.lemmas.Option.{none-some, slice_get-get_or}
 use Rattle.std.proofs.lemmas.List.{length-map}
 use Rattle.operation_defs.specs.declared.insn.Insn.{Insn}
-use Rattle.elf_objects.specs.Elf.{Elf}
+use Rattle.flow_defs.specs.Coded.{Coded}
 use Rattle.alternatives.specs.declared.point.Point.{Point}
 use Rattle.alternatives.specs.Numbers.{IsNumberOf}
 use Rattle.alternatives.specs.Points.{insn_of_point, next_point, point_after, point_behind}
@@ -19,15 +19,15 @@ use Rattle.point_arrivals.proofs.Arriving.{arrive_inside}
 use Rattle.point_arrivals.proofs.Numbers.{has_number, is_point_of, no_number, number_is, numbers_inside, IsNumber}
 
 -- no point of a replacement follows a plain point
-pub plain_none : (o : Elf) (p : Point) → is_plain p ≡ true → None ≡ number_of_next o p
+pub plain_none : (o : Coded) (p : Point) → is_plain p ≡ true → None ≡ number_of_next o p
 plain_none o p plain = sym (ap (λ b. option_and_then (number_of o) (if b then None else next_point (texts_of o) (alternatives_of o) p)) plain)
 
-behind_by : (o : Elf) (p : Point) (b : Bool) → is_point_of o p ≡ b → option_and_then (number_of o) (if b then Some p else None) ≡ number_of o p
+behind_by : (o : Coded) (p : Point) (b : Bool) → is_point_of o p ≡ b → option_and_then (number_of o) (if b then Some p else None) ≡ number_of o p
 behind_by o p true is = refl
 behind_by o p false is = sym (no_number o p is)
 
 -- behind a point of a replacement
-next_is : (o : Elf) (p : Point) (insn : Insn) → is_plain p ≡ false → insn_of_point (texts_of o) (alternatives_of o) p ≡ Some insn → number_of_next o p ≡ number_of o (point_after p insn)
+next_is : (o : Coded) (p : Point) (insn : Insn) → is_plain p ≡ false → insn_of_point (texts_of o) (alternatives_of o) p ≡ Some insn → number_of_next o p ≡ number_of o (point_after p insn)
 next_is o p insn replaced is =
     ap (λ b. option_and_then (number_of o) (if b then None else next_point (texts_of o) (alternatives_of o) p)) replaced
     ∙ ap (λ i. option_and_then (number_of o) (option_and_then (point_behind (texts_of o) (alternatives_of o) p) i)) is
@@ -37,7 +37,7 @@ abbrev some_insn : Insn → Option Insn
 some_insn insn = Some insn
 
 -- the number that is looked up behind a point of a replacement
-pub next_found : (o : Elf) (points : List Point) (insns : List Insn) (n : ℕ) (d : Insn) (found : Option ℕ) → points ≡ points_of_object o → map (λ insn. Some insn) insns ≡ map (insn_of_point (texts_of o) (alternatives_of o)) points → n < length points → IfSome (slice_get points n) (λ p. IfSome (slice_get insns n) (λ insn. IsNumberOf points (point_after p insn) found)) → is_plain (point_at o n) ≡ false → found ≡ number_of_next o (point_at o n)
+pub next_found : (o : Coded) (points : List Point) (insns : List Insn) (n : ℕ) (d : Insn) (found : Option ℕ) → points ≡ points_of_object o → map (λ insn. Some insn) insns ≡ map (insn_of_point (texts_of o) (alternatives_of o)) points → n < length points → IfSome (slice_get points n) (λ p. IfSome (slice_get insns n) (λ insn. IsNumberOf points (point_after p insn) found)) → is_plain (point_at o n) ≡ false → found ≡ number_of_next o (point_at o n)
 next_found o points insns n d found all made inside here replaced =
     let even : length insns ≡ length points = sym (length-map insns some_insn) ∙ ap length made ∙ length-map points (insn_of_point (texts_of o) (alternatives_of o)) in
     let p : Point = get_or points n no_point in
@@ -54,48 +54,42 @@ next_found o points insns n d found all made inside here replaced =
     ∙ ap (number_of_next o) same
 
 -- the point that follows in a replacement is one
-next_is_point : (o : Elf) (p : Point) (q : Point) → next_of_replacement o p ≡ Some q → is_some (number_of o q) ≡ true
+next_is_point : (o : Coded) (p : Point) (q : Point) → next_of_replacement o p ≡ Some q → is_some (number_of o q) ≡ true
 next_is_point o p q is = elim (cases_Bool (is_plain p)) [
-  | inl plain ↦ absurd (none_some q (sym (ap (λ b. if b then None else next_point (texts_of o) (alternatives_of o) p) plain) ∙ is))
+  | inl plain ↦ absurd (none-some q (sym (ap (λ b. if b then None else next_point (texts_of o) (alternatives_of o) p) plain) ∙ is))
   | inr replaced ↦ by_insn (insn_of_point (texts_of o) (alternatives_of o) p) (sym (ap (λ b. if b then None else next_point (texts_of o) (alternatives_of o) p) replaced) ∙ is)
 ]
   where
-    none_some : (q : Point) → None ≡ Some q → ⊥
-    none_some q h = cc
-
     by_point : (r : Point) (b : Bool) → is_point_of o r ≡ b → (if b then Some r else None) ≡ Some q → is_some (number_of o q) ≡ true
     by_point r true point h = let same : r ≡ q = cc in ap (λ (x : Point). is_some (number_of o x)) (sym same) ∙ has_number o r point
-    by_point r false point h = absurd (none_some q h)
+    by_point r false point h = absurd (none-some q h)
 
     by_insn : (found : Option Insn) → option_and_then (point_behind (texts_of o) (alternatives_of o) p) found ≡ Some q → is_some (number_of o q) ≡ true
-    by_insn None h = absurd (none_some q h)
+    by_insn None h = absurd (none-some q h)
     by_insn (Some insn) h = by_point (point_after p insn) (is_point_of o (point_after p insn)) refl h
 
 -- a number is that of the point that follows in the replacement
-some_by : (o : Elf) (p : Point) (next : Option Point) (n : ℕ) → option_and_then (number_of o) next ≡ Some n → after_by o p next ≡ n ∷ []
-some_by o p None n is = absurd (none_some n is)
-  where
-    none_some : (n : ℕ) → None ≡ Some n → ⊥
-    none_some n h = cc
+some_by : (o : Coded) (p : Point) (next : Option Point) (n : ℕ) → option_and_then (number_of o) next ≡ Some n → after_by o p next ≡ n ∷ []
+some_by o p None n is = absurd (none-some n is)
 some_by o p (Some q) n is = ap (λ x. cons_option x []) is
 
-pub after_some : (o : Elf) (p : Point) (n : ℕ) → number_of_next o p ≡ Some n → n ∷ [] ≡ after o p
+pub after_some : (o : Coded) (p : Point) (n : ℕ) → number_of_next o p ≡ Some n → n ∷ [] ≡ after o p
 unfolding after
 after_some o p n is = sym (some_by o p (next_of_replacement o p) n is)
 
 -- with no number there is no such point
-none_by : (o : Elf) (p : Point) (next : Option Point) → ((q : Point) → next ≡ Some q → is_some (number_of o q) ≡ true) → option_and_then (number_of o) next ≡ None → next ≡ None
+none_by : (o : Coded) (p : Point) (next : Option Point) → ((q : Point) → next ≡ Some q → is_some (number_of o q) ≡ true) → option_and_then (number_of o) next ≡ None → next ≡ None
 none_by o p None known is = refl
 none_by o p (Some q) known is = absurd (false≢true (sym (ap (λ (x : Option ℕ). is_some x) is) ∙ known q refl))
 
-none_next : (o : Elf) (p : Point) → number_of_next o p ≡ None → next_of_replacement o p ≡ None
+none_next : (o : Coded) (p : Point) → number_of_next o p ≡ None → next_of_replacement o p ≡ None
 none_next o p is = none_by o p (next_of_replacement o p) (next_is_point o p) is
 
-pub after_none : (o : Elf) (p : Point) → number_of_next o p ≡ None → arrive o (place_behind o p) ≡ after o p
+pub after_none : (o : Coded) (p : Point) → number_of_next o p ≡ None → arrive o (place_behind o p) ≡ after o p
 unfolding after
 after_none o p is = sym (ap (after_by o p) (none_next o p is))
 
-pub after_inside : (o : Elf) (p : Point) → All (IsNumber o) (after o p)
+pub after_inside : (o : Coded) (p : Point) → All (IsNumber o) (after o p)
 unfolding after
 after_inside o p = by (next_of_replacement o p)
   where
@@ -103,7 +97,7 @@ after_inside o p = by (next_of_replacement o p)
     by None = arrive_inside o (place_behind o p)
     by (Some q) = numbers_inside o (q ∷ [])
 
-same_none : (o : Elf) (p : Point) → is_none (number_of_next o p) ≡ is_none (next_of_replacement o p)
+same_none : (o : Coded) (p : Point) → is_none (number_of_next o p) ≡ is_none (next_of_replacement o p)
 same_none o p = by (next_of_replacement o p) (next_is_point o p)
   where
     some_none : (x : Option ℕ) → is_some x ≡ true → is_none x ≡ false
@@ -120,6 +114,6 @@ none_is None false is = absurd (false≢true is)
 none_is (Some n) true is = absurd (false≢true (sym is))
 none_is (Some n) false is = refl
 
-pub at_end_is : (o : Elf) (p : Point) → (is_none (number_of_next o p) && not (is_boundary (texts_of o) (place_behind o p))) ≡ is_at_end o p
+pub at_end_is : (o : Coded) (p : Point) → (is_none (number_of_next o p) && not (is_boundary (texts_of o) (place_behind o p))) ≡ is_at_end o p
 unfolding is_at_end
 at_end_is o p = ap (λ b. b && not (is_boundary (texts_of o) (place_behind o p))) (same_none o p)

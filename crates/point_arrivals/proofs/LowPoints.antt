@@ -4,7 +4,7 @@ use Rattle.std.proofs.lemmas.Bool.{false≢true}
 use Rattle.std.proofs.lemmas.Bool.Decides.{nat_tests}
 use Rattle.std.proofs.lemmas.List.Sums.{get_or-le-sum_by}
 use Rattle.ot_base.specs.declared.place.Place.{Place}
-use Rattle.elf_objects.specs.Elf.{Elf}
+use Rattle.flow_defs.specs.Coded.{Coded}
 use Rattle.special_sections.specs.declared.entries.AltEntry.{AltEntry}
 use Rattle.alternatives.specs.declared.fault.SiteWhy.{SiteWhy}
 use Rattle.alternatives.specs.declared.fault.SiteWhy.TheVariants.{NotBoundary, Overlap, Replacement}
@@ -34,11 +34,11 @@ same_variant : (v : ℕ) → v ≡ 0 → eqb v 0 ≡ true
 same_variant v zero = grind (arith, nat_tests)
 
 module _ (texts : List SectionText) (entries : List AltEntry) (little : text_bytes texts ≤ 16777216) (right : AreRight texts entries (length entries)) where
-  low : (place : Place) → HasText texts place (λ t. place.off ≤ length t.text) → place.off ≤ 16777216
+  low : (place : Place) → HasText texts place (λ t. place.off ≤ length t.text.bytes) → place.off ≤ 16777216
   low place has =
       let at = contains_in texts has.t has.is_in in
-      let most = get_or-le-sum_by (λ (t : SectionText). length t.text) texts at.0 has.t at.1 in
-      let same : length (get_or texts at.0 has.t).text ≡ length has.t.text = ap (λ (t : SectionText). length t.text) at.2 in
+      let most = get_or-le-sum_by (λ (t : SectionText). length t.text.bytes) texts at.0 has.t at.1 in
+      let same : length (get_or texts at.0 has.t).text.bytes ≡ length has.t.text.bytes = ap (λ (t : SectionText). length t.text.bytes) at.2 in
       omega (arith, has.holds, most, same)
 
   end_low : (k : ℕ) → counts (entry_at entries k) ≡ true → (entry_at entries k).original.off + (entry_at entries k).original_len ≤ 16777216
@@ -62,7 +62,7 @@ module _ (texts : List SectionText) (entries : List AltEntry) (little : text_byt
         omega (arith, known, same)
   ]
 
-pub all_low : (o : Elf) → text_bytes (texts_of o) ≤ 16777216 → AreRight (texts_of o) (alternatives_of o) (length (alternatives_of o)) → AreLow o
+pub all_low : (o : Coded) → text_bytes (texts_of o) ≤ 16777216 → AreRight (texts_of o) (alternatives_of o) (length (alternatives_of o)) → AreLow o
 all_low o little right n inside = record {
   place = place_low (texts_of o) (alternatives_of o) little right (point_at o n) (numbered_point o n inside);
   site = site_low (texts_of o) (alternatives_of o) little right (point_at o n) (numbered_point o n inside);

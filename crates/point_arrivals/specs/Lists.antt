@@ -1,7 +1,7 @@
 -- What is kept of an object's lists of places.
 use Rattle.std.specs.Prelude.{List, map}
 use Rattle.ot_base.specs.declared.place.Place.{Place}
-use Rattle.elf_objects.specs.Elf.{Elf}
+use Rattle.flow_defs.specs.Coded.{Coded}
 use Rattle.special_sections.specs.declared.entries.BranchEntry.{BranchEntry}
 use Rattle.special_sections.specs.declared.entries.FixEntry.{FixEntry}
 use Rattle.special_sections.specs.Special.{special_of}
@@ -15,8 +15,8 @@ abbrev pub fix_pairs_of : List FixEntry → List (Place × Place)
 fix_pairs_of fixes = map (λ f. (f.insn, f.fixup)) fixes
 
 -- the places behind which code is reachable, and isn't; where static branches lead, and exception entries
-pub record AreListsOf (o : Elf) (reachable unreachable : List Place) (branches fixes : List (Place × Place)) : Type 0 where
-  pub reachable_places : HaveSamePlaces (special_of o).after_reachable reachable
-  pub unreachable_places : HaveSamePlaces (special_of o).after_unreachable unreachable
-  pub branch_targets : HaveSameTargets (branch_pairs_of (special_of o).branches) branches
-  pub fix_targets : HaveSameTargets (fix_pairs_of (special_of o).fixes) fixes
+pub record AreListsOf (o : Coded) (reachable unreachable : List Place) (branches fixes : List (Place × Place)) : Type 0 where
+  pub reachable_places : HaveSamePlaces (special_of o.elf).after_reachable reachable
+  pub unreachable_places : HaveSamePlaces (special_of o.elf).after_unreachable unreachable
+  pub branch_targets : HaveSameTargets (branch_pairs_of (special_of o.elf).branches) branches
+  pub fix_targets : HaveSameTargets (fix_pairs_of (special_of o.elf).fixes) fixes

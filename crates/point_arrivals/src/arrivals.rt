@@ -1,7 +1,8 @@
 //! Points with where control comes to them.
 
-ghost use Rattle.std.specs.Prelude.{◌≡◌, ◌<◌, length, All, IfOk};
-ghost use Rattle.flow_defs.specs.Arrival.{after as points_following, arrive as points_coming_to, insn_of_object, is_at_end as is_at_an_end, is_dead_end as is_a_dead_end, is_ud2 as is_an_ud2};
+ghost use Rattle.std.specs.Prelude.{◌≡◌, ◌<◌, ◌||◌, length, All, IfOk};
+ghost use Rattle.flow_defs.specs.Arrival.{after as points_following, arrive as points_coming_to, decoded_insn, ends_at, insn_of_object, is_at_end as is_at_an_end, is_dead_end as is_a_dead_end, is_ud2 as is_an_ud2};
+ghost use Rattle.special_sections.specs.Special.{special_of};
 ghost use Rattle.flow_defs.specs.Code.{point_at, points_of_object};
 ghost use Rattle.flow_defs.specs.Edges.{fixups as fixups_of, static_targets as static_targets_of};
 
@@ -32,11 +33,11 @@ pub struct PointArrivals<'l, 'o, 'a> {
 }
 
 impl<'l, 'o, 'a> Model for PointArrivals<'l, 'o, 'a> {
-    ghost use Rattle.elf_objects.specs.Elf.{Elf};
+    ghost use Rattle.flow_defs.specs.Coded.{Coded};
     ghost use Rattle.point_arrivals.specs.Low.{AreLow};
     ghost use Rattle.point_arrivals.specs.Lists.{AreListsOf};
 
-    ghost Value = { Elf };
+    ghost Value = { Coded };
 
     ghost view = { λ a. a.places };
 
@@ -118,14 +119,26 @@ impl<'l, 'o, 'a> PointArrivals<'l, 'o, 'a> {
         requires { n < length (points_of_object self.now) }
         ensures { result ≡ is_a_dead_end self.now (point_at self.now n) }
     {
+        if !self.may_end(n) {
+            return false;
+        }
         if self.places.is_padding(n) {
             return false;
         }
         let end = end_of(&self.places, n);
-        if self.reachable.contains(end) {
-            return false;
+        !self.reachable.contains(end)
+    }
+
+    /// Whether a point is a Ud2, or its instruction ends at a place of `.discard.unreachable`.
+    fn may_end(&self, n: u32) -> bool
+        requires { n < length (points_of_object self.now) }
+        ensures { result ≡ (is_an_ud2 (decoded_insn self.now (point_at self.now n)).op || ends_at self.now (point_at self.now n) (special_of self.now.elf).after_unreachable) }
+    {
+        if is_ud2(self.places.decoded_insn(n).op) {
+            return true;
         }
-        is_ud2(self.places.decoded_insn(n).op) || self.unreachable.contains(end)
+        let end = end_of(&self.places, n);
+        self.unreachable.contains(end)
     }
 
     /// The instruction of a point: as it is decoded, but for an IRET of a function that goes on right behind itself in

@@ -6,7 +6,7 @@ use Rattle.ot_base.specs.declared.place.Place.{Place}
 use Rattle.operation_defs.specs.declared.insn.Insn.{Insn}
 use Rattle.operation_defs.specs.declared.op.Op.{Op}
 use Rattle.operation_defs.specs.declared.op.Op.TheVariants.{Jcc, Jmp, JmpInd}
-use Rattle.elf_objects.specs.Elf.{Elf}
+use Rattle.flow_defs.specs.Coded.{Coded}
 use Rattle.program_defs.specs.declared.flow.Edge.{Edge}
 use Rattle.program_defs.specs.declared.flow.EdgeKind.{EdgeKind}
 use Rattle.program_defs.specs.declared.flow.EdgeKind.TheVariants.{Fixup, Next, Table, Taken}
@@ -32,19 +32,19 @@ use Rattle.point_arrivals.proofs.Following.{after_inside}
 use Rattle.point_arrivals.proofs.Numbers.{numbers_inside, IsNumber}
 
 -- edges lead to points
-abbrev pub LeadInside : Elf → List Edge → Type 0
+abbrev pub LeadInside : Coded → List Edge → Type 0
 LeadInside o edges = All (λ e. e.to < length (points_of_object o)) edges
 
-none : (o : Elf) → LeadInside o []
+none : (o : Coded) → LeadInside o []
 none o = All-nil (λ (e : Edge). e.to < length (points_of_object o))
 
-both : (o : Elf) (edges others : List Edge) → LeadInside o edges → LeadInside o others → LeadInside o (edges ++ others)
+both : (o : Coded) (edges others : List Edge) → LeadInside o edges → LeadInside o others → LeadInside o (edges ++ others)
 both o edges others here there = All-append (λ (e : Edge). e.to < length (points_of_object o)) edges others here there
 
-to_points : (o : Elf) (kind : EdgeKind) (numbers : List ℕ) → All (IsNumber o) numbers → LeadInside o (edges_to kind numbers)
+to_points : (o : Coded) (kind : EdgeKind) (numbers : List ℕ) → All (IsNumber o) numbers → LeadInside o (edges_to kind numbers)
 to_points o kind numbers points = All-map (λ (e : Edge). e.to < length (points_of_object o)) (λ q. edge q kind) numbers points
 
-way_inside : (o : Elf) (point : Point) (place : Place) (way : Way) → LeadInside o (way_edges o point place way)
+way_inside : (o : Coded) (point : Point) (place : Place) (way : Way) → LeadInside o (way_edges o point place way)
 way_inside o point place (Along kind) = by (is_into_site o point place)
   where
     by : (b : Bool) → LeadInside o (if b then [] else edges_to kind (arrive o place))
@@ -52,15 +52,15 @@ way_inside o point place (Along kind) = by (is_into_site o point place)
     by false = to_points o kind (arrive o place) (arrive_inside o place)
 way_inside o point place _ = none o
 
-jump_inside : (o : Elf) (crosses : Bool) (point : Point) (place : Place) → LeadInside o (jump_edges o crosses point place)
+jump_inside : (o : Coded) (crosses : Bool) (point : Point) (place : Place) → LeadInside o (jump_edges o crosses point place)
 jump_inside o crosses point place = way_inside o point place (branch_way o crosses Taken (owner_of_point o point) place)
 
-target_inside : (o : Elf) (point : Point) (target : Target) → LeadInside o (target_edges o point target)
+target_inside : (o : Coded) (point : Point) (target : Target) → LeadInside o (target_edges o point target)
 target_inside o point (Inside place) = jump_inside o true point place
 target_inside o point (Either place sym) = jump_inside o true point place
 target_inside o point _ = none o
 
-aim_inside : (o : Elf) (point : Point) (to : Aim) → LeadInside o (aim_edges o point to)
+aim_inside : (o : Coded) (point : Point) (to : Aim) → LeadInside o (aim_edges o point to)
 aim_inside o point (At target) = target_inside o point target
 aim_inside o point (Behind place) = jump_inside o false point place
 aim_inside o point (Within other) = by (same_owner (owner_of_point o point) (owner_of_point o other))
@@ -69,31 +69,31 @@ aim_inside o point (Within other) = by (same_owner (owner_of_point o point) (own
     by true = to_points o Taken (numbers_of o (other ∷ [])) (numbers_inside o (other ∷ []))
     by false = none o
 
-branch_inside : (o : Elf) (point : Point) (insn : Insn) (op : Op) → LeadInside o (branch_edges_by o point insn op)
+branch_inside : (o : Coded) (point : Point) (insn : Insn) (op : Op) → LeadInside o (branch_edges_by o point insn op)
 branch_inside o point insn (Jmp rel wide) = aim_inside o point (aim o point insn)
 branch_inside o point insn (Jcc rel wide) = aim_inside o point (aim o point insn)
 branch_inside o point insn _ = none o
 
-places_inside : (o : Elf) (edges_of : Place → List Edge) → ((place : Place) → LeadInside o (edges_of place)) → (places : List Place) → LeadInside o (flat_map edges_of places)
+places_inside : (o : Coded) (edges_of : Place → List Edge) → ((place : Place) → LeadInside o (edges_of place)) → (places : List Place) → LeadInside o (flat_map edges_of places)
 places_inside o edges_of each [] = none o
 places_inside o edges_of each (place ∷ places) = both o (edges_of place) (flat_map edges_of places) (each place) (places_inside o edges_of each places)
 
-listed_inside : (o : Elf) (kind : EdgeKind) (point : Point) (places : List Place) → LeadInside o (listed_edges o kind point places)
+listed_inside : (o : Coded) (kind : EdgeKind) (point : Point) (places : List Place) → LeadInside o (listed_edges o kind point places)
 listed_inside o kind point places =
     places_inside o (λ place. way_edges o point place (listed_way o kind (owner_of_point o point) place)) (λ place. way_inside o point place (listed_way o kind (owner_of_point o point) place)) places
 
-table_inside : (o : Elf) (point : Point) (op : Op) → LeadInside o (table_edges_by o point op)
+table_inside : (o : Coded) (point : Point) (op : Op) → LeadInside o (table_edges_by o point op)
 table_inside o point (JmpInd table) = places_inside o (λ place. way_edges o point place (Along Table)) (λ place. way_inside o point place (Along Table)) (table_of_point o point)
 table_inside o point _ = none o
 
-next_inside : (o : Elf) (point : Point) → LeadInside o (next_edges o point)
+next_inside : (o : Coded) (point : Point) → LeadInside o (next_edges o point)
 next_inside o point = by (goes_on o point)
   where
     by : (b : Bool) → LeadInside o (if b then edges_to Next (after o point) else [])
     by true = to_points o Next (after o point) (after_inside o point)
     by false = none o
 
-pub goes_inside : (o : Elf) (point : Point) → LeadInside o (goes o point)
+pub goes_inside : (o : Coded) (point : Point) → LeadInside o (goes o point)
 unfolding goes
 goes_inside o point = by (is_unchecked_point o point)
   where

@@ -2,7 +2,7 @@
 use Rattle.std.proofs.Common.{◌≡◌, true, false, List, [], ◌++◌, if◌then◌else◌, sym, ap, ◌∙◌, append_assoc}
 use Rattle.ot_base.specs.declared.place.Place.{Place}
 use Rattle.operation_defs.specs.declared.insn.Insn.{Insn}
-use Rattle.elf_objects.specs.Elf.{Elf}
+use Rattle.flow_defs.specs.Coded.{Coded}
 use Rattle.program_defs.specs.declared.flow.Edge.{Edge}
 use Rattle.program_defs.specs.declared.flow.EdgeKind.TheVariants.{Taken, Fixup}
 use Rattle.alternatives.specs.declared.point.Point.{Point}
@@ -11,15 +11,15 @@ use Rattle.flow_defs.specs.Edges.{branch_edges, branch_edges_by, fixups, goes, l
 use Rattle.flow_defs.specs.Owners.{is_unchecked_point}
 
 -- the edges of a checked point
-abbrev checked_edges : Elf → Point → List Edge
+abbrev checked_edges : Coded → Point → List Edge
 checked_edges o point = next_edges o point ++ (branch_edges o point ++ (listed_edges o Taken point (static_targets o point) ++ (listed_edges o Fixup point (fixups o point) ++ table_edges o point)))
 
-pub no_edges : (o : Elf) (point : Point) → is_unchecked_point o point ≡ true → goes o point ≡ []
+pub no_edges : (o : Coded) (point : Point) → is_unchecked_point o point ≡ true → goes o point ≡ []
 unfolding goes
 no_edges o point unchecked = ap (λ b. if b then [] else checked_edges o point) unchecked
 
 -- behind some edges, the parts for this instruction and these lists of places
-abbrev parts : Elf → Point → List Edge → Insn → List Place → List Place → List Edge
+abbrev parts : Coded → Point → List Edge → Insn → List Place → List Place → List Edge
 parts o point old insn targets fixes =
     ((((old ++ next_edges o point) ++ branch_edges_by o point insn insn.op) ++ listed_edges o Taken point targets) ++ listed_edges o Fixup point fixes) ++ table_edges_by o point insn.op
 
@@ -27,7 +27,7 @@ joined : (a b c d e f : List Edge) → ((((a ++ b) ++ c) ++ d) ++ e) ++ f ≡ a 
 joined a b c d e f = simp append_assoc
 
 -- the parts with what the object has are all edges
-pub all_parts : (o : Elf) (point : Point) (old : List Edge) (insn : Insn) (targets fixes : List Place) → is_unchecked_point o point ≡ false → insn ≡ insn_of_object o point → targets ≡ static_targets o point → fixes ≡ fixups o point → parts o point old insn targets fixes ≡ old ++ goes o point
+pub all_parts : (o : Coded) (point : Point) (old : List Edge) (insn : Insn) (targets fixes : List Place) → is_unchecked_point o point ≡ false → insn ≡ insn_of_object o point → targets ≡ static_targets o point → fixes ≡ fixups o point → parts o point old insn targets fixes ≡ old ++ goes o point
 unfolding goes
 all_parts o point old insn targets fixes checked own leads repairs =
     ap (λ i. parts o point old i targets fixes) own

@@ -3,7 +3,7 @@ use Rattle.std.proofs.Common.{◌≡◌, ℕ, ◌<◌, Bool, true, List, [], ◌
 use Rattle.std.specs.List.{cons_option}
 use Rattle.std.proofs.lemmas.Bool.{eqb-true}
 use Rattle.std.proofs.lemmas.List.Quantifiers.{position-Some}
-use Rattle.elf_objects.specs.Elf.{Elf}
+use Rattle.flow_defs.specs.Coded.{Coded}
 use Rattle.program_defs.specs.declared.flow.Edge.{Edge}
 use Rattle.program_defs.specs.declared.flow.EdgeKind.TheVariants.{Taken}
 use Rattle.program_defs.specs.Program.{edge}
@@ -24,7 +24,7 @@ one_point p q same =
     order.same_point p.place.sec p.place.off p.variant q (eqb-true p.place.sec q.place.sec places.0) (eqb-true p.place.off q.place.off places.1) (eqb-true p.variant q.variant parts.1)
 
 -- the number of a point is one, and its own
-numbered : (o : Elf) (p : Point) (n : ℕ) → number_of o p ≡ Some n → (n < length (points_of_object o)) × (p ≡ point_at o n)
+numbered : (o : Coded) (p : Point) (n : ℕ) → number_of o p ≡ Some n → (n < length (points_of_object o)) × (p ≡ point_at o n)
 numbered o p n is =
     let at = position-Some (same_point p) (points_of_object o) n no_point is in
     (at.0, one_point p (point_at o n) at.1)
@@ -34,7 +34,7 @@ abbrev by_number : Bool → Option ℕ → List Edge
 by_number same number = if same then edges_to Taken (cons_option number []) else []
 
 -- those to a point with this number
-pub with_number : (o : Elf) (point other : Point) (n : ℕ) (same : Bool) → number_of o other ≡ Some n → same_owner (owner_of_point o point) (owner_of_point o (point_at o n)) ≡ same → aim_edges o point (Within other) ≡ (if same then edge n Taken ∷ [] else [])
+pub with_number : (o : Coded) (point other : Point) (n : ℕ) (same : Bool) → number_of o other ≡ Some n → same_owner (owner_of_point o point) (owner_of_point o (point_at o n)) ≡ same → aim_edges o point (Within other) ≡ (if same then edge n Taken ∷ [] else [])
 with_number o point other n same is owners =
     ap (by_number (same_owner (owner_of_point o point) (owner_of_point o other))) is
     ∙ ap (λ b. by_number b (Some n)) (ap (λ (p : Point). same_owner (owner_of_point o point) (owner_of_point o p)) (numbered o other n is).1 ∙ owners)

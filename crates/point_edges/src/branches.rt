@@ -2,7 +2,7 @@
 
 ghost use Rattle.std.specs.Prelude.{◌≡◌, ◌<◌, ◌++◌, length, OnOk};
 ghost use Rattle.flow_defs.specs.Code.{point_at, points_of_object};
-ghost use Rattle.flow_defs.specs.Edges.{aim_edges, branch_edges_by, table_edges_by, target_edges};
+ghost use Rattle.flow_defs.specs.Edges.{aim_edges, branch_edges_by, table_edges_by};
 
 use crate::owners::is_same_owner;
 use crate::ways::{push_entries, push_jump};
@@ -37,24 +37,6 @@ fn push_within(
     Ok(())
 }
 
-/// Pushes the edges of a direct jump to a target.
-fn push_target(
-    alloc: Global,
-    points: &FlowPoints<'_, '_, '_>,
-    n: u32,
-    target: Target,
-    into: &mut Vec<Edge>,
-) -> Result<(), NoMemory>
-    requires { n < length (points_of_object points.now) }
-    ensures { OnOk result (into.new.items ≡ into.old.items ++ target_edges points.now (point_at points.now n) target) }
-{
-    match target {
-        Target::Inside(place) => push_jump(alloc, points, true, n, place, into),
-        Target::Either(place, _) => push_jump(alloc, points, true, n, place, into),
-        _ => Ok(()),
-    }
-}
-
 /// Pushes the edges of a direct jump by where it goes.
 fn push_aim(
     alloc: Global,
@@ -67,7 +49,10 @@ fn push_aim(
     ensures { OnOk result (into.new.items ≡ into.old.items ++ aim_edges points.now (point_at points.now n) to) }
 {
     match to {
-        Aim::At(target) => push_target(alloc, points, n, target, into),
+        Aim::At(Target::Inside(place) | Target::Either(place, _)) => {
+            push_jump(alloc, points, true, n, place, into)
+        }
+        Aim::At(_) => Ok(()),
         Aim::Within(other) => push_within(points, n, other, into),
         Aim::Behind(place) => push_jump(alloc, points, false, n, place, into),
     }

@@ -5,10 +5,10 @@ use Rattle.std.proofs.lemmas.Bool.{cases_lt, eq-eqb, eqb-true, false≢true}
 use Rattle.std.proofs.lemmas.List.Elements.{All-head, All-tail}
 use Rattle.operation_defs.specs.declared.insn.Insn.{Insn}
 use Rattle.x86_text.specs.declared.placed.PlacedInsn.{PlacedInsn}
-use Rattle.x86_text.specs.Code.{code_of, insn_listed, IsBoundary, IsPreviousBoundary, LeadsTo}
+use Rattle.x86_text.specs.Code.{Body, code_of, insn_listed, IsBoundary, IsPreviousBoundary, LeadsTo}
 use Rattle.unwinding_law.proofs.Lists as lists
 use Rattle.rows_law.proofs.Lists.{some_is}
-use Rattle.point_entries.specs.Gapless.{IsGapless}
+use Rattle.point_entries.specs.Gapless.{EndsAt, IsGapless}
 
 abbrev offset : PlacedInsn → ℕ
 offset p = p.off
@@ -70,12 +70,6 @@ apart from to (p ∷ code) a b one other leads is also before =
     go false true e f is also rest low high = absurd (omega (arith, eqb-true p.off b f, leads.0, low is, before))
     go false false e f is also rest low high = rest is also
 
--- one that ends at an offset
-pub record EndsAt (code : List PlacedInsn) (off a : ℕ) : Type 0 where
-  pub insn : Insn
-  pub listed : insn_listed code a ≡ Some insn
-  pub ends : a + insn.len ≡ off
-
 -- where one begins behind the first, one ends
 ends_there : (from to : ℕ) (code : List PlacedInsn) (off : ℕ) (insn : Insn) → LeadsTo from code to → All IsSome code → insn_listed code off ≡ Some insn → from < off → (a : ℕ) × EndsAt code off a
 ends_there from to [] off insn leads some is later = absurd (let k : ⊥ = cc in k)
@@ -101,7 +95,7 @@ ends_there from to (p ∷ code) off insn leads some is later =
     ]
 
 -- ---- in a body without gaps
-module _ (body : List ℕ) (off : ℕ) (gapless : IsGapless body) where
+module _ (body : Body) (off : ℕ) (gapless : IsGapless body) where
   -- one that ends at an offset begins at a boundary below it
   begins : (a : ℕ) → EndsAt (code_of body) off a → IsBoundary body a × (a < off)
   begins a at = ((gapless.boundaries a).1 (from_listed (code_of body) a at.insn at.listed), omega (arith, some_len (code_of body) a at.insn gapless.some at.listed, at.ends))
@@ -116,12 +110,27 @@ module _ (body : List ℕ) (off : ℕ) (gapless : IsGapless body) where
       let own = begins a at in
       let found = listed_from (code_of body) last ((gapless.boundaries last).0 is.boundary) in
       elim (cases_lt a last) [
-        | inl less ↦ absurd (omega (arith, apart 0 (length body) (code_of body) a last at.insn found.0 gapless.whole at.listed found.1 less, at.ends, is.below))
+        | inl less ↦ absurd (omega (arith, apart 0 (length body.bytes) (code_of body) a last at.insn found.0 gapless.whole at.listed found.1 less, at.ends, is.below))
         | inr not_less ↦ omega (arith, not_less, is.greatest a own.0 own.1)
       ]
 
   -- and where one begins, it does
   pub last_ends : (last : ℕ) (insn : Insn) → IsPreviousBoundary body off last → insn_listed (code_of body) off ≡ Some insn → EndsAt (code_of body) off last
   last_ends last insn is here =
-      let one = ends_there 0 (length body) (code_of body) off insn gapless.whole gapless.some here (omega (arith, is.below)) in
+      let one = ends_there 0 (length body.bytes) (code_of body) off insn gapless.whole gapless.some here (omega (arith, is.below)) in
       subst (λ (a : ℕ). EndsAt (code_of body) off a) (only_last last is one.0 one.1) one.1
+
+  -- one that ends at an offset begins at the last boundary below it
+  pub ends_last : (a : ℕ) → EndsAt (code_of body) off a → IsPreviousBoundary body off a
+  ends_last a at =
+      let own = begins a at in
+      record {
+        boundary = own.0;
+        below = own.1;
+        greatest = λ b is before. elim (cases_lt a b) [
+          | inl less ↦
+              let found = listed_from (code_of body) b ((gapless.boundaries b).0 is) in
+              absurd (omega (arith, apart 0 (length body.bytes) (code_of body) a b at.insn found.0 gapless.whole at.listed found.1 less, at.ends, before))
+          | inr not_less ↦ omega (arith, not_less)
+        ];
+      }

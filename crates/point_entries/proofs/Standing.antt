@@ -7,7 +7,7 @@ use Rattle.std.proofs.lemmas.List.Elements.{Contains-get_or}
 use Rattle.std.proofs.lemmas.Option.{slice_get-get_or}
 use Rattle.ot_base.specs.NameLists.{NameLists}
 use Rattle.ot_base.specs.declared.place.Place.{Place}
-use Rattle.elf_objects.specs.Elf.{Elf}
+use Rattle.flow_defs.specs.Coded.{Coded}
 use Rattle.special_sections.specs.Hints.{is_place}
 use Rattle.alternatives.specs.declared.point.Point.{Point}
 use Rattle.alternatives.specs.Originals.{counted, counts, entry_at}
@@ -31,7 +31,7 @@ use Rattle.point_arrivals.proofs.Numbers.{number_is}
 use Rattle.point_entries.specs.Entered.{IsEnteredAt}
 
 -- the number of the point with a number
-pub own_number : (o : Elf) (n : ℕ) → n < length (points_of_object o) → number_of o (point_at o n) ≡ Some n
+pub own_number : (o : Coded) (n : ℕ) → n < length (points_of_object o) → number_of o (point_at o n) ≡ Some n
 own_number o n inside = sym (number_is o (point_at o n) (Some n) (slice_get-get_or (points_of_object o) n no_point inside))
 
 -- a plain point is that of its place
@@ -40,12 +40,12 @@ plain_is p plain = ap (λ (v : ℕ). let x : Point = record { place = p.place; v
 
 -- ---- where control that comes to a place stands
 -- a point is the plain one of a place, or the first of the replacement of an entry
-abbrev IsFirstOf : Elf → Place → Point → ℕ → Type 0
+abbrev IsFirstOf : Coded → Place → Point → ℕ → Type 0
 IsFirstOf o place p k =
     let a = entry_at (alternatives_of o) k in
     (p.variant ≡ k + 1) × (a.replacement ≡ p.place) × (a.original ≡ place)
 
-pub came : (o : Elf) (place : Place) (n : ℕ) → Contains (arrive o place) n → ((point_at o n).variant ≡ 0 × ((point_at o n).place ≡ place)) ⊎ ((k : ℕ) × IsFirstOf o place (point_at o n) k)
+pub came : (o : Coded) (place : Place) (n : ℕ) → Contains (arrive o place) n → ((point_at o n).variant ≡ 0 × ((point_at o n).place ≡ place)) ⊎ ((k : ℕ) × IsFirstOf o place (point_at o n) k)
 came o place n c =
     let entries = alternatives_of o in
     let firsts = map (first_of entries) (entries_from entries place) in
@@ -59,26 +59,26 @@ came o place n c =
     ]
 
 -- such a point stands there
-stands : (o : Elf) (place : Place) (n : ℕ) → n < length (points_of_object o) → Contains (plain_point place ∷ map (first_of (alternatives_of o)) (entries_from (alternatives_of o) place)) (point_at o n) → Contains (arrive o place) n
+stands : (o : Coded) (place : Place) (n : ℕ) → n < length (points_of_object o) → Contains (plain_point place ∷ map (first_of (alternatives_of o)) (entries_from (alternatives_of o) place)) (point_at o n) → Contains (arrive o place) n
 unfolding arrive
 stands o place n inside first =
     in_filter_map (number_of o) (first_points (texts_of o) (alternatives_of o) place) (point_at o n) n
     (lists.in_filter (is_point (texts_of o) (alternatives_of o)) (plain_point place ∷ map (first_of (alternatives_of o)) (entries_from (alternatives_of o) place)) (point_at o n) first (numbered_point o n inside))
     (own_number o n inside)
 
-pub plain_stands : (o : Elf) (n : ℕ) → n < length (points_of_object o) → (point_at o n).variant ≡ 0 → Contains (arrive o (point_at o n).place) n
+pub plain_stands : (o : Coded) (n : ℕ) → n < length (points_of_object o) → (point_at o n).variant ≡ 0 → Contains (arrive o (point_at o n).place) n
 plain_stands o n inside plain =
     let place = (point_at o n).place in
     let rest = map (first_of (alternatives_of o)) (entries_from (alternatives_of o) place) in
     stands o place n inside (subst (λ (p : Point). Contains (plain_point place ∷ rest) p) (sym (plain_is (point_at o n) plain)) (lists.here (plain_point place) rest))
 
 -- the first point of a replacement is where its entry says
-first_is : (o : Elf) (p : Point) (k : ℕ) → k + 1 ≡ p.variant → (entry_at (alternatives_of o) k).replacement ≡ p.place → first_of (alternatives_of o) k ≡ p
+first_is : (o : Coded) (p : Point) (k : ℕ) → k + 1 ≡ p.variant → (entry_at (alternatives_of o) k).replacement ≡ p.place → first_of (alternatives_of o) k ≡ p
 first_is o p k variant start =
     let one : ◌≡◌ {A = Point} (first_of (alternatives_of o) k) (record { place = p.place; variant = k + 1 }) = ap (λ (at : Place). let x : Point = record { place = at; variant = k + 1 } in x) start in
     one ∙ ap (λ (v : ℕ). let x : Point = record { place = p.place; variant = v } in x) variant
 
-entry_listed : (o : Elf) (k : ℕ) → counts (entry_at (alternatives_of o) k) ≡ true → Contains (entries_from (alternatives_of o) (entry_at (alternatives_of o) k).original) k
+entry_listed : (o : Coded) (k : ℕ) → counts (entry_at (alternatives_of o) k) ≡ true → Contains (entries_from (alternatives_of o) (entry_at (alternatives_of o) k).original) k
 entry_listed o k counting =
     let entries = alternatives_of o in
     let inside = counts_inside entries k counting in
@@ -86,7 +86,7 @@ entry_listed o k counting =
     (lists.in_filter (λ j. counts (entry_at entries j)) (range_with_len 0 (length entries)) k (contains_in (range_with_len 0 (length entries)) k (in-range 0 (length entries) k (omega arith) (omega (arith, inside)))) counting)
     (is_same_place (entry_at entries k).original (entry_at entries k).original refl)
 
-pub first_stands : (o : Elf) (n : ℕ) → n < length (points_of_object o) → (point_at o n).variant ≢ 0 → (entry_of (alternatives_of o) (point_at o n).variant).replacement ≡ (point_at o n).place
+pub first_stands : (o : Coded) (n : ℕ) → n < length (points_of_object o) → (point_at o n).variant ≢ 0 → (entry_of (alternatives_of o) (point_at o n).variant).replacement ≡ (point_at o n).place
     → Contains (arrive o (entry_of (alternatives_of o) (point_at o n).variant).original) n
 first_stands o n inside replaced start = elim (plain_or_replaced (texts_of o) (alternatives_of o) (point_at o n) (numbered_point o n inside)) [
   | inl (plain, some) ↦ absurd (replaced plain)
@@ -102,14 +102,14 @@ first_stands o n inside replaced start = elim (plain_or_replaced (texts_of o) (a
 ]
 
 -- of a plain point that place is its own
-pub plain_place : (o : Elf) (place : Place) (n : ℕ) → (point_at o n).variant ≡ 0 → Contains (arrive o place) n → (point_at o n).place ≡ place
+pub plain_place : (o : Coded) (place : Place) (n : ℕ) → (point_at o n).variant ≡ 0 → Contains (arrive o place) n → (point_at o n).place ≡ place
 plain_place o place n plain c = elim (came o place n c) [
   | inl own ↦ own.1
   | inr k ↦ absurd (omega (arith, plain, k.1.0))
 ]
 
 -- of a point of a replacement, the start of its site
-pub first_place : (o : Elf) (place : Place) (n : ℕ) → (point_at o n).variant ≢ 0 → Contains (arrive o place) n
+pub first_place : (o : Coded) (place : Place) (n : ℕ) → (point_at o n).variant ≢ 0 → Contains (arrive o place) n
     → ((entry_of (alternatives_of o) (point_at o n).variant).replacement ≡ (point_at o n).place) × ((entry_of (alternatives_of o) (point_at o n).variant).original ≡ place)
 first_place o place n replaced c = elim (came o place n c) [
   | inl own ↦ absurd (replaced own.0)
@@ -120,11 +120,11 @@ first_place o place n replaced c = elim (came o place n c) [
 
 -- ---- entries
 -- where control that comes to an entry stands at a point, that entry is listed with the plain point there
-pub record IsEntryHere (o : Elf) (place : Place) (entry : ℕ) : Type 0 where
-  pub entered : is_entry o place ≡ true
+pub record IsEntryHere (o : Coded) (place : Place) (entry : ℕ) : Type 0 where
+  pub entered : is_entry o.elf place ≡ true
   pub number : number_of o (plain_point place) ≡ Some entry
 
-pub entry_listed_at : (o : Elf) (entry : ℕ) → Contains (entries_of o) entry → IsEntryHere o (point_at o entry).place entry
+pub entry_listed_at : (o : Coded) (entry : ℕ) → Contains (entries_of o) entry → IsEntryHere o (point_at o entry).place entry
 unfolding entries_of
 entry_listed_at o entry c =
     let one = from_filter_map (number_of o) (filter (is_entry_point o) (points_of_object o)) entry c in
@@ -135,33 +135,33 @@ entry_listed_at o entry c =
     subst (λ (p : Point). IsEntryHere o p.place entry) (sym known.1) (record { entered = parts.1; number = ap (number_of o) (sym plain) ∙ one.2 })
 
 -- and such an entry is listed
-pub entry_is_listed : (o : Elf) (place : Place) (entry : ℕ) → is_entry o place ≡ true → number_of o (plain_point place) ≡ Some entry → Contains (entries_of o) entry × (point_at o entry ≡ plain_point place)
+pub entry_is_listed : (o : Coded) (place : Place) (entry : ℕ) → is_entry o.elf place ≡ true → number_of o (plain_point place) ≡ Some entry → Contains (entries_of o) entry × (point_at o entry ≡ plain_point place)
 unfolding entries_of
 entry_is_listed o place entry entered number =
     let known = numbered o (plain_point place) entry number in
     let listed : Contains (points_of_object o) (plain_point place) = subst (λ (p : Point). Contains (points_of_object o) p) known.1 (Contains-get_or (points_of_object o) entry no_point known.0) in
     (in_filter_map (number_of o) (filter (is_entry_point o) (points_of_object o)) (plain_point place) entry (lists.in_filter (is_entry_point o) (points_of_object o) (plain_point place) listed entered) number, known.1)
 
-pub is_entered : (o : Elf) (place : Place) (n entry : ℕ) → Contains (arrive o place) n → is_entry o place ≡ true → number_of o (plain_point place) ≡ Some entry → IsEnteredAt o entry n
+pub is_entered : (o : Coded) (place : Place) (n entry : ℕ) → Contains (arrive o place) n → is_entry o.elf place ≡ true → number_of o (plain_point place) ≡ Some entry → IsEnteredAt o entry n
 is_entered o place n entry here entered number =
     let own = entry_is_listed o place entry entered number in
     record { listed = own.0; stands = subst (λ (p : Point). Contains (arrive o p.place) n) (sym own.1) here }
 
 -- what is asked of a program
-one_enters : (o : Elf) (names : NameLists) (n entry : ℕ) → IsEnteredAt o entry n → kept.is_entry_point (program_of o names) n ≡ true
+one_enters : (o : Coded) (names : NameLists) (n entry : ℕ) → IsEnteredAt o entry n → kept.is_entry_point (program_of o names) n ≡ true
 unfolding program_of returning_graph graph_of
 one_enters o names n entry at =
     lists.found (λ e. list_any (λ x. x == n) (arrive o (point_at o e).place)) (entries_of o) entry at.listed
     (lists.found (λ x. x == n) (arrive o (point_at o entry).place) n at.stands (eq-eqb n n refl))
 
-enters_one : (o : Elf) (names : NameLists) (n : ℕ) → kept.is_entry_point (program_of o names) n ≡ true → (entry : ℕ) × IsEnteredAt o entry n
+enters_one : (o : Coded) (names : NameLists) (n : ℕ) → kept.is_entry_point (program_of o names) n ≡ true → (entry : ℕ) × IsEnteredAt o entry n
 unfolding program_of returning_graph graph_of
 enters_one o names n enters =
     let entry = lists.find_one (λ e. list_any (λ x. x == n) (arrive o (point_at o e).place)) (entries_of o) enters in
     let one = lists.find_one (λ x. x == n) (arrive o (point_at o entry.0).place) entry.2 in
     (entry.0, record { listed = entry.1; stands = subst (Contains (arrive o (point_at o entry.0).place)) (eqb-true one.0 n one.2) one.1 })
 
-pub program_enters : (o : Elf) (names : NameLists) (n : ℕ) (found : Option ℕ) → ((entry : ℕ) → IsEnteredAt o entry n ↔ (found ≡ Some entry)) → kept.is_entry_point (program_of o names) n ≡ is_some found
+pub program_enters : (o : Coded) (names : NameLists) (n : ℕ) (found : Option ℕ) → ((entry : ℕ) → IsEnteredAt o entry n ↔ (found ≡ Some entry)) → kept.is_entry_point (program_of o names) n ≡ is_some found
 program_enters o names n (Some entry) known = one_enters o names n entry ((known entry).1 refl)
 program_enters o names n None known = elim (cases_Bool (kept.is_entry_point (program_of o names) n)) [
   | inl enters ↦ let one = enters_one o names n enters in absurd (let e = (known one.0).0 one.1 in let k : ⊥ = cc in k)
@@ -169,7 +169,7 @@ program_enters o names n None known = elim (cases_Bool (kept.is_entry_point (pro
 ]
 
 -- ---- at which entry control comes to stand, by the place where that stands which comes to a point
-module _ (o : Elf) (n : ℕ) (came_to : Option Place) (known : (place : Place) → Contains (arrive o place) n ↔ (came_to ≡ Some place)) where
+module _ (o : Coded) (n : ℕ) (came_to : Option Place) (known : (place : Place) → Contains (arrive o place) n ↔ (came_to ≡ Some place)) where
   -- it comes nowhere
   pub enters_nowhere : (found : Option ℕ) → came_to ≡ None → found ≡ None → (entry : ℕ) → IsEnteredAt o entry n ↔ (found ≡ Some entry)
   enters_nowhere found none is entry = (λ at. absurd (let e = (known (point_at o entry).place).0 at.stands in let k : ⊥ = cc in k), λ some. absurd (let k : ⊥ = cc in k))
@@ -178,14 +178,14 @@ module _ (o : Elf) (n : ℕ) (came_to : Option Place) (known : (place : Place) �
   at_place place entry is at = some_is (sym ((known (point_at o entry).place).0 at.stands) ∙ is)
 
   -- it comes to a place that is no entry
-  pub enters_place : (place : Place) → came_to ≡ Some place → is_entry o place ≡ false → (entry : ℕ) → IsEnteredAt o entry n ↔ (None ≡ Some entry)
+  pub enters_place : (place : Place) → came_to ≡ Some place → is_entry o.elf place ≡ false → (entry : ℕ) → IsEnteredAt o entry n ↔ (None ≡ Some entry)
   enters_place place is other entry = (
-    λ at. absurd (false≢true (sym other ∙ sym (ap (is_entry o) (at_place place entry is at)) ∙ (entry_listed_at o entry at.listed).entered)),
+    λ at. absurd (false≢true (sym other ∙ sym (ap (is_entry o.elf) (at_place place entry is at)) ∙ (entry_listed_at o entry at.listed).entered)),
     λ e. absurd (let k : ⊥ = cc in k),
   )
 
   -- it comes to one that is
-  pub enters_there : (place : Place) (number : Option ℕ) → came_to ≡ Some place → is_entry o place ≡ true → number ≡ number_of o (plain_point place) → (entry : ℕ) → IsEnteredAt o entry n ↔ (number ≡ Some entry)
+  pub enters_there : (place : Place) (number : Option ℕ) → came_to ≡ Some place → is_entry o.elf place ≡ true → number ≡ number_of o (plain_point place) → (entry : ℕ) → IsEnteredAt o entry n ↔ (number ≡ Some entry)
   enters_there place number is entered own entry = (
     λ at. own ∙ ap (λ (p : Place). number_of o (plain_point p)) (sym (at_place place entry is at)) ∙ (entry_listed_at o entry at.listed).number,
     λ e. is_entered o place n entry ((known place).1 is) entered (sym own ∙ e),

@@ -27,7 +27,7 @@ fn is_fentry(object: &Object<'_>, sym: u32) -> bool
 
 /// Whether the name of the function that starts at a place is `__fentry__`.
 fn starts_fentry(places: &PointPlaces<'_, '_, '_>, place: Place) -> bool
-    ensures { result ≡ is_fentry_function_of places.now (starts_at places.now place) }
+    ensures { result ≡ is_fentry_function_of places.now (starts_at places.now.elf place) }
 {
     let index = places.linked().index();
     match index.starts_at(place) {

@@ -47,9 +47,9 @@ fn owner_of(index: &Index<'_, '_>, function: u32) -> u32
 
 /// Whose code a function's is.
 fn owner_item(places: &PointPlaces<'_, '_, '_>, index: &Index<'_, '_>, function: u32) -> Owner
-    requires object { index.now.elf ≡ places.now }
+    requires object { index.now.elf ≡ places.now.elf }
     requires inside { function < length index.now.functions }
-    ensures { IsOwnerBy places.now (Some (symbol_of index.now.functions function)) (Some (owner_of_function places.now (symbol_of index.now.functions function))) result }
+    ensures { IsOwnerBy places.now.elf (Some (symbol_of index.now.functions function)) (Some (owner_of_function places.now.elf (symbol_of index.now.functions function))) result }
 {
     let owner = Some(owner_of(index, function));
     Owner {
@@ -76,9 +76,9 @@ fn function_items(
     places: &PointPlaces<'_, '_, '_>,
     index: &Index<'_, '_>,
 ) -> Result<Vec<Owner>, NoMemory>
-    requires object { index.now.elf ≡ places.now }
+    requires object { index.now.elf ≡ places.now.elf }
     ensures long { IfOk result (λ owners. length owners.items ≡ length index.now.functions) }
-    ensures each { IfOk result (λ owners. AreOwnersTo places.now index.now.functions owners.items (length index.now.functions)) }
+    ensures each { IfOk result (λ owners. AreOwnersTo places.now.elf index.now.functions owners.items (length index.now.functions)) }
 {
     let count = index.functions().len();
     let mut owners = Vec::with_capacity(alloc, count + 1)?;
@@ -98,7 +98,7 @@ impl<'l, 'o, 'a> OwnerTable<'l, 'o, 'a> {
         alloc: Global,
         places: &PointPlaces<'l, 'o, 'a>,
     ) -> Result<OwnerTable<'l, 'o, 'a>, NoMemory>
-        ensures { IfOk result (λ table. table.elf ≡ places.now) }
+        ensures { IfOk result (λ table. table.elf ≡ places.now.elf) }
     {
         let index = places.linked().index();
         let mut owners = function_items(alloc, places, index)?;

@@ -4,7 +4,7 @@ use Rattle.std.specs.List.{list_any}
 use Rattle.std.proofs.lemmas.List.Folds.{list_any-append}
 use Rattle.ot_base.specs.declared.place.Place.{Place}
 use Rattle.operation_defs.specs.declared.insn.Insn.{Insn}
-use Rattle.elf_objects.specs.Elf.{Elf}
+use Rattle.flow_defs.specs.Coded.{Coded}
 use Rattle.program_defs.specs.declared.flow.EdgeKind.TheVariants.{Taken, Fixup}
 use Rattle.alternatives.specs.declared.point.Point.{Point}
 use Rattle.flow_defs.specs.Arrival.{insn_of_object}
@@ -24,12 +24,12 @@ any_of_three : (test : Place → Bool) (a b c : List Place) → (list_any test a
 any_of_three test a b c =
     ap (λ rest. list_any test a || rest) (sym (list_any-append test b c)) ∙ sym (list_any-append test a (b ++ c))
 
-pub bad_parts : (o : Elf) (point : Point) (insn : Insn) → insn ≡ insn_of_object o point → (is_bad_by o point insn insn.op || (is_bad_listed o Taken point (static_targets o point) || is_bad_listed o Fixup point (fixups o point))) ≡ has_bad_target o point
+pub bad_parts : (o : Coded) (point : Point) (insn : Insn) → insn ≡ insn_of_object o point → (is_bad_by o point insn insn.op || (is_bad_listed o Taken point (static_targets o point) || is_bad_listed o Fixup point (fixups o point))) ≡ has_bad_target o point
 unfolding has_bad_target
 bad_parts o point insn is =
     ap (λ (i : Insn). is_bad_by o point i i.op || (is_bad_listed o Taken point (static_targets o point) || is_bad_listed o Fixup point (fixups o point))) is
 
-pub parts_in_site : (o : Elf) (point : Point) (insn : Insn) → insn ≡ insn_of_object o point → (list_any (is_into_site o point) (places_by o point insn insn.op) || (list_any (is_into_site o point) (listed_places o Taken point (static_targets o point)) || list_any (is_into_site o point) (listed_places o Fixup point (fixups o point)))) ≡ has_target_in_site o point
+pub parts_in_site : (o : Coded) (point : Point) (insn : Insn) → insn ≡ insn_of_object o point → (list_any (is_into_site o point) (places_by o point insn insn.op) || (list_any (is_into_site o point) (listed_places o Taken point (static_targets o point)) || list_any (is_into_site o point) (listed_places o Fixup point (fixups o point)))) ≡ has_target_in_site o point
 unfolding has_target_in_site
 parts_in_site o point insn is =
     any_of_three (is_into_site o point) (places_by o point insn insn.op) (listed_places o Taken point (static_targets o point)) (listed_places o Fixup point (fixups o point))

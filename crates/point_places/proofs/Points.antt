@@ -15,7 +15,7 @@ use Rattle.alternatives.specs.Originals.{counts}
 use Rattle.alternatives.specs.Texts.{insn_at, is_cut}
 use Rattle.alternatives.specs.Points.{entry_of, is_padded, is_padding_point, is_point, is_within, padding_of, points_of, replacement_insn, IsPoint}
 use Rattle.alternatives.proofs.Ascending.{contains_in, every-in, in_contains}
-use Rattle.elf_objects.specs.Elf.{Elf}
+use Rattle.flow_defs.specs.Coded.{Coded}
 use Rattle.flow_defs.specs.Code.{alternatives_of, no_point, point_at, points_of_object, texts_of}
 use Rattle.alternatives.proofs.Listing.{points_complete, points_sound}
 
@@ -76,7 +76,7 @@ pub plain_padding : (texts : List SectionText) (entries : List AltEntry) (p : Po
 plain_padding texts entries p plain = sym (ap (λ b. not b && is_padded texts (entry_of entries p.variant) p.place) plain)
 
 -- so is the point with a number
-pub numbered_point : (o : Elf) (n : ℕ) → n < length (points_of_object o) → is_point (texts_of o) (alternatives_of o) (point_at o n) ≡ true
+pub numbered_point : (o : Coded) (n : ℕ) → n < length (points_of_object o) → is_point (texts_of o) (alternatives_of o) (point_at o n) ≡ true
 unfolding points_of_object
 numbered_point o n inside =
     listed_point (texts_of o) (alternatives_of o) (point_at o n) (Contains-get_or (points_of (texts_of o) (alternatives_of o)) n no_point inside)

@@ -26,14 +26,14 @@ pub struct PointPlaces<'l, 'o, 'a> {
 }
 
 impl<'l, 'o, 'a> Model for PointPlaces<'l, 'o, 'a> {
-    ghost use Rattle.elf_objects.specs.Elf.{Elf};
+    ghost use Rattle.flow_defs.specs.Coded.{Coded};
     ghost use Rattle.point_places.specs.Unchecked.{AreUnchecked};
 
-    ghost Value = { Elf };
+    ghost Value = { Coded };
 
     ghost view = { λ p. p.linked.now };
 
-    ghost invariant = { λ p. AreUnchecked p.linked.now p.unchecked.items };
+    ghost invariant = { λ p. AreUnchecked p.linked.now.elf p.unchecked.items };
 }
 
 impl<'l, 'o, 'a> PointPlaces<'l, 'o, 'a> {
@@ -142,7 +142,7 @@ impl<'l, 'o, 'a> PointPlaces<'l, 'o, 'a> {
     /// Whether what an owner owns isn't checked: one of its functions is listed as one without a standard frame
     /// (`STACK_FRAME_NON_STANDARD`). Code without owner is checked.
     pub fn is_unchecked(&self, owner: Option<u32>) -> bool
-        ensures { result ≡ is_unchecked_by self.now owner }
+        ensures { result ≡ is_unchecked_by self.now.elf owner }
     {
         match owner {
             Some(owner) => is_among(&self.unchecked, owner),
@@ -160,7 +160,7 @@ impl<'l, 'o, 'a> PointPlaces<'l, 'o, 'a> {
 
     /// The function that starts at a place and isn't checked.
     pub fn unchecked_start(&self, place: Place) -> Option<u32>
-        ensures { result ≡ unchecked_starting_at self.now place }
+        ensures { result ≡ unchecked_starting_at self.now.elf place }
     {
         let index = self.linked.index();
         let Some(function) = index.starts_at(place) else {
@@ -175,7 +175,7 @@ impl<'l, 'o, 'a> PointPlaces<'l, 'o, 'a> {
 
     /// Whether a place is an entry: the start of a function that is no part and is checked.
     pub fn is_entry(&self, place: Place) -> bool
-        ensures { result ≡ is_an_entry self.now place }
+        ensures { result ≡ is_an_entry self.now.elf place }
     {
         let index = self.linked.index();
         let Some(function) = index.starts_at(place) else {

@@ -25,7 +25,7 @@ fn list_owners(alloc: Global, index: &Index<'_, '_>, places: &[Place]) -> Result
 
 /// The owners that aren't checked, ascending.
 pub(crate) fn list_unchecked(alloc: Global, linked: &Linked<'_, '_>) -> Result<Vec<u32>, NoMemory>
-    ensures { IfOk result (λ owners. AreUnchecked linked.now owners.items) }
+    ensures { IfOk result (λ owners. AreUnchecked linked.now.elf owners.items) }
 {
     let mut owners = list_owners(alloc, linked.index(), linked.special().unchecked())?;
     owners.sort()?;

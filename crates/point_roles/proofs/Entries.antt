@@ -7,7 +7,7 @@ use Rattle.ot_base.specs.declared.place.Place.{Place}
 use Rattle.operation_defs.specs.declared.insn.Insn.{Insn}
 use Rattle.operation_defs.specs.declared.op.Op.{Op}
 use Rattle.operation_defs.specs.declared.op.Op.TheVariants as ops
-use Rattle.elf_objects.specs.Elf.{Elf}
+use Rattle.flow_defs.specs.Coded.{Coded}
 use Rattle.program_defs.specs.declared.flow.EdgeKind.TheVariants.{Taken}
 use Rattle.program_defs.specs.declared.flow.Role.{Role}
 use Rattle.program_defs.specs.declared.flow.Role.TheVariants.{Plain, CallIn, CallEither}
@@ -34,13 +34,13 @@ entry_called (CallEither entry sym) = Some entry
 entry_called _ = None
 
 -- it is a point
-abbrev IsKnown : Elf → Role → Type 0
+abbrev IsKnown : Coded → Role → Type 0
 IsKnown o role = (entry : ℕ) → entry_called role ≡ Some entry → entry < length (points_of_object o)
 
-none_called : (o : Elf) (role : Role) → entry_called role ≡ None → IsKnown o role
+none_called : (o : Coded) (role : Role) → entry_called role ≡ None → IsKnown o role
 none_called o role none entry is = absurd (cc)
 
-module _ (o : Elf) where
+module _ (o : Coded) where
   number_inside : (p : Point) (found : Option ℕ) → number_of o p ≡ found → is_some found ≡ true → unwrap_or found 0 < length (points_of_object o)
   number_inside p None is some = absurd (false≢true some)
   number_inside p (Some n) is some = (position-Some (same_point p) (points_of_object o) n no_point is).0
@@ -58,10 +58,10 @@ module _ (o : Elf) where
 
   started : (place : Place) (weak start : Option ℕ) → is_boundary (texts_of o) place ≡ true → IsKnown o (call_by o place weak start)
   started place weak (Some f) boundary = none_called o (call_by o place weak (Some f)) refl
-  started place weak None boundary = entered place weak (is_entry o place) boundary
+  started place weak None boundary = entered place weak (is_entry o.elf place) boundary
 
-  bounded : (place : Place) (weak : Option ℕ) (b : Bool) → is_boundary (texts_of o) place ≡ b → IsKnown o (if b then call_by o place weak (unchecked_start o place) else Plain)
-  bounded place weak true boundary = started place weak (unchecked_start o place) boundary
+  bounded : (place : Place) (weak : Option ℕ) (b : Bool) → is_boundary (texts_of o) place ≡ b → IsKnown o (if b then call_by o place weak (unchecked_start o.elf place) else Plain)
+  bounded place weak true boundary = started place weak (unchecked_start o.elf place) boundary
   bounded place weak false boundary = none_called o Plain refl
 
   place_known : (place : Place) (weak : Option ℕ) → IsKnown o (place_call o place weak)

@@ -5,7 +5,7 @@ use Rattle.std.proofs.lemmas.Bool.{eqb-true}
 use Rattle.std.proofs.lemmas.List.Quantifiers.{position-Some}
 use Rattle.ot_base.specs.declared.place.Place.{Place}
 use Rattle.operation_defs.specs.declared.insn.Insn.{Insn}
-use Rattle.elf_objects.specs.Elf.{Elf}
+use Rattle.flow_defs.specs.Coded.{Coded}
 use Rattle.program_defs.specs.declared.flow.Role.TheVariants.{Plain}
 use Rattle.symbols_relocs.specs.declared.target.Target.TheVariants.{Bad}
 use Rattle.symbols_relocs.specs.declared.target.Target.{Target}
@@ -28,24 +28,24 @@ chosen other q end true ends is = (refl, cc)
 chosen other q end false true is = absurd (cc)
 chosen other q end false false is = absurd (cc)
 
-own_point : (o : Elf) (from q : Point) (place : Option Place) → own_aim o from place ≡ Within q → is_point (texts_of o) (alternatives_of o) q ≡ true
+own_point : (o : Coded) (from q : Point) (place : Option Place) → own_aim o from place ≡ Within q → is_point (texts_of o) (alternatives_of o) q ≡ true
 own_point o from q None is = absurd (cc)
 own_point o from q (Some place) is =
     let other : Point = record { place = place; variant = from.variant } in
     let known = chosen other q (site_end o from) (is_point (texts_of o) (alternatives_of o) other) (same_place place (replacement_end o from)) is in
     subst (λ (p : Point). is_point (texts_of o) (alternatives_of o) p ≡ true) known.1 known.0
 
-either_point : (o : Elf) (q : Point) (own : Aim) (target : Target) (b : Bool) → (own ≡ Within q → is_point (texts_of o) (alternatives_of o) q ≡ true) → (if b then own else At target) ≡ Within q → is_point (texts_of o) (alternatives_of o) q ≡ true
+either_point : (o : Coded) (q : Point) (own : Aim) (target : Target) (b : Bool) → (own ≡ Within q → is_point (texts_of o) (alternatives_of o) q ≡ true) → (if b then own else At target) ≡ Within q → is_point (texts_of o) (alternatives_of o) q ≡ true
 either_point o q own target true of_own is = of_own is
 either_point o q own target false of_own is = absurd (cc)
 
-displaced_point : (o : Elf) (from q : Point) (insn : Insn) (d : Option Displacement) → aim_by o from insn d ≡ Within q → is_point (texts_of o) (alternatives_of o) q ≡ true
+displaced_point : (o : Coded) (from q : Point) (insn : Insn) (d : Option Displacement) → aim_by o from insn d ≡ Within q → is_point (texts_of o) (alternatives_of o) q ≡ true
 displaced_point o from q insn None is = absurd (cc)
 displaced_point o from q insn (Some d) is =
-    either_point o q (own_aim o from (relative_place from.place insn.len d)) (branch_target o from.place insn) (not (is_plain from) && lacks_reloc o from.place insn.len d)
+    either_point o q (own_aim o from (relative_place from.place insn.len d)) (branch_target o.elf from.place insn) (not (is_plain from) && lacks_reloc o.elf from.place insn.len d)
     (own_point o from q (relative_place from.place insn.len d)) is
 
-pub within_point : (o : Elf) (from q : Point) (insn : Insn) → aim o from insn ≡ Within q → is_point (texts_of o) (alternatives_of o) q ≡ true
+pub within_point : (o : Coded) (from q : Point) (insn : Insn) → aim o from insn ≡ Within q → is_point (texts_of o) (alternatives_of o) q ≡ true
 unfolding aim
 within_point o from q insn is = displaced_point o from q insn (displacement_of insn.op) is
 
@@ -56,10 +56,10 @@ one_point p q same =
     order.same_point p.place.sec p.place.off p.variant q (eqb-true p.place.sec q.place.sec places.0) (eqb-true p.place.off q.place.off places.1) (eqb-true p.variant q.variant parts.1)
 
 -- a point is padding where the point with its number is
-pub padding_of_number : (o : Elf) (p : Point) (n : ℕ) → number_of o p ≡ Some n → is_padding o (point_at o n) ≡ is_padding o p
+pub padding_of_number : (o : Coded) (p : Point) (n : ℕ) → number_of o p ≡ Some n → is_padding o (point_at o n) ≡ is_padding o p
 padding_of_number o p n is =
     let at = position-Some (same_point p) (points_of_object o) n no_point is in
     ap (is_padding o) (sym (one_point p (point_at o n) at.1))
 
-pub role_within : (o : Elf) (p : Point) (b : Bool) → b ≡ is_padding o p → (if b then Plain else place_call o p.place None) ≡ call_role o (Within p)
+pub role_within : (o : Coded) (p : Point) (b : Bool) → b ≡ is_padding o p → (if b then Plain else place_call o p.place None) ≡ call_role o (Within p)
 role_within o p b is = ap (λ padding. if padding then Plain else place_call o p.place None) is

@@ -9,7 +9,7 @@ use Rattle.std.proofs.lemmas.Bool.Decides.{nat_tests}
 use Rattle.std.proofs.lemmas.List.{get_or-map, get_or_default, length-map}
 use Rattle.std.proofs.lemmas.Map.Keys.{sorted_from_all_adjacent}
 use Rattle.ot_base.specs.declared.place.Place.{Place}
-use Rattle.elf_objects.specs.Elf.{Elf}
+use Rattle.flow_defs.specs.Coded.{Coded}
 use Rattle.special_sections.specs.declared.entries.AltEntry.{AltEntry}
 use Rattle.special_sections.specs.HintPlaces.{place_cmp}
 use Rattle.symbols_relocs.specs.Places.{same_place}
@@ -52,7 +52,7 @@ equal_sites a s start len =
 begins_itself : (place : Place) (a : AltEntry) → counts a ≡ true → a.original ≡ place → begins_at place a ≡ true
 begins_itself place a counting is = and_from (counts a) (same_place a.original place) counting (is_place_refl a.original place is)
 
-module _ (o : Elf) (sites : List Site) (numbers : List ℕ) (are : AreSitesOf (alternatives_of o) sites numbers) (right : AreRight (texts_of o) (alternatives_of o) (length (alternatives_of o))) where
+module _ (o : Coded) (sites : List Site) (numbers : List ℕ) (are : AreSitesOf (alternatives_of o) sites numbers) (right : AreRight (texts_of o) (alternatives_of o) (length (alternatives_of o))) where
   abbrev entries : List AltEntry
   entries = alternatives_of o
 
@@ -138,12 +138,12 @@ module _ (o : Elf) (sites : List Site) (numbers : List ℕ) (are : AreSitesOf (a
       ∙ made_of_each (site_starting_at o) start_of program_site sites each_there)
 
 -- ---- without text
-pub no_sites : (o : Elf) → texts_of o ≡ [] → sites_of o ≡ []
+pub no_sites : (o : Coded) → texts_of o ≡ [] → sites_of o ≡ []
 unfolding sites_of
 no_sites o none = ap (λ texts. filter_map (site_starting_at o) (flat_map places_of_text texts)) none
 
 -- ---- the site that holds a place
-module _ (o : Elf) (sites : List Site) (place : Place) (all : AreAllSites o sites) where
+module _ (o : Coded) (sites : List Site) (place : Place) (all : AreAllSites o sites) where
   abbrev is_held : ProgramSite → Bool
   is_held s = in_site s place
 
@@ -170,6 +170,6 @@ module _ (o : Elf) (sites : List Site) (place : Place) (all : AreAllSites o site
       ∙ ap (λ s. cond (is_held s) (Some s) None) (own i inside)
       ∙ ap (λ b. cond b (Some (program_site (site_with sites i))) None) (here no_site)
 
-pub held_by_none : (o : Elf) (place : Place) → sites_of o ≡ [] → site_at o place ≡ None
+pub held_by_none : (o : Coded) (place : Place) → sites_of o ≡ [] → site_at o place ≡ None
 unfolding site_at
 held_by_none o place none = ap (find (λ s. in_site s place)) none

@@ -6,7 +6,7 @@ use Rattle.std.proofs.lemmas.Bool.{cases_lt}
 use Rattle.std.proofs.lemmas.Bool.Decides.{nat_tests}
 use Rattle.std.proofs.lemmas.List.{get_or_default}
 use Rattle.std.proofs.lemmas.List.Sorted.{Contains-permutation, IsPermutation-sym}
-use Rattle.elf_objects.specs.Elf.{Elf}
+use Rattle.flow_defs.specs.Coded.{Coded}
 use Rattle.special_sections.specs.declared.entries.AltEntry.{AltEntry}
 use Rattle.alternatives.specs.declared.fault.SiteWhy.TheVariants.{NotBoundary, Overlap, Replacement}
 use Rattle.alternatives.specs.declared.site.Site.{Site}
@@ -64,7 +64,7 @@ whole_original true true o r p h = refl
 whole_original true false o r p h = cc
 
 -- the original of one that counts begins in a text
-pub begins_in_text : (o : Elf) (k : ℕ) → AreRight (texts_of o) (alternatives_of o) (length (alternatives_of o)) → counts (entry_at (alternatives_of o) k) ≡ true → In (entry_at (alternatives_of o) k).original (places_of o)
+pub begins_in_text : (o : Coded) (k : ℕ) → AreRight (texts_of o) (alternatives_of o) (length (alternatives_of o)) → counts (entry_at (alternatives_of o) k) ≡ true → In (entry_at (alternatives_of o) k).original (places_of o)
 begins_in_text o k right counting =
     let entries : List AltEntry = alternatives_of o in
     let texts : List SectionText = texts_of o in
@@ -73,7 +73,7 @@ begins_in_text o k right counting =
     let ends = (and_both (is_cut texts a.original) (is_cut texts (behind a.original a.original_len)) whole).1 in
     let text = cut_has_text texts (behind a.original a.original_len) ends in
     let some : 0 < a.original_len = some_len a.original_len counting in
-    let end : a.original.off + a.original_len ≤ length text.t.text = text.holds in
+    let end : a.original.off + a.original_len ≤ length text.t.text.bytes = text.holds in
     listed_place o text.t a.original text.is_in text.sec (omega arith)
 
 -- ---- the site of an entry

@@ -6,7 +6,7 @@ use Rattle.std.specs.Ordering.{nat_cmp, ordering_then}
 use Rattle.std.specs.declared.cmp.Ordering.TheVariants.{Less}
 use Rattle.std.proofs.lemmas.Bool.Decides.{nat_tests}
 use Rattle.ot_base.specs.declared.place.Place.{Place}
-use Rattle.elf_objects.specs.Elf.{Elf}
+use Rattle.flow_defs.specs.Coded.{Coded}
 use Rattle.special_sections.specs.HintPlaces.{place_cmp}
 use Rattle.alternatives.specs.declared.texts.SectionText.{SectionText}
 use Rattle.alternatives.proofs.Ascending.{In, Rising, every-each, every-map, in-flat_map, in-map, in-range, rising-range, sorted-flat_map, sorted-map}
@@ -32,11 +32,11 @@ at sec off = record { sec = sec; off = off }
 
 text_sorted : (t : SectionText) → IsStrictlySortedBy place_cmp (places_of_text t)
 text_sorted t =
-    sorted-map place_cmp (λ i j. i < j) (at t.sec) (λ i j less. off_less t.sec t.sec i j refl less) (below (length t.text))
-    (subst (Rising (λ i j. i < j)) (sym (below_is (length t.text))) (rising-range 0 (length t.text)))
+    sorted-map place_cmp (λ i j. i < j) (at t.sec) (λ i j less. off_less t.sec t.sec i j refl less) (below (length t.text.bytes))
+    (subst (Rising (λ i j. i < j)) (sym (below_is (length t.text.bytes))) (rising-range 0 (length t.text.bytes)))
 
 in_section : (t : SectionText) → AllByRecursion (λ (p : Place). p.sec ≡ t.sec) (places_of_text t)
-in_section t = every-map (λ (p : Place). p.sec ≡ t.sec) (at t.sec) (below (length t.text)) (every-each (λ off. t.sec ≡ t.sec) (λ off. refl) (below (length t.text)))
+in_section t = every-map (λ (p : Place). p.sec ≡ t.sec) (at t.sec) (below (length t.text.bytes)) (every-each (λ off. t.sec ≡ t.sec) (λ off. refl) (below (length t.text.bytes)))
 
 texts_sorted : (texts : List SectionText) → RiseBySection texts → IsStrictlySortedBy place_cmp (flat_map places_of_text texts)
 texts_sorted texts rise =
@@ -45,11 +45,11 @@ texts_sorted texts rise =
     places_of_text in_section text_sorted texts rise
 
 -- they ascend
-pub places_sorted : (o : Elf) → IsStrictlySortedBy place_cmp (places_of o)
+pub places_sorted : (o : Coded) → IsStrictlySortedBy place_cmp (places_of o)
 places_sorted o = texts_sorted (texts_of o) (rise_by_section (texts_of o) (texts_ascend o))
 
 -- each place of a text is one of them
-pub listed_place : (o : Elf) (t : SectionText) (place : Place) → In t (texts_of o) → t.sec ≡ place.sec → place.off < length t.text → In place (places_of o)
+pub listed_place : (o : Coded) (t : SectionText) (place : Place) → In t (texts_of o) → t.sec ≡ place.sec → place.off < length t.text.bytes → In place (places_of o)
 listed_place o t place of-o sec inside =
-    let off : In place.off (below (length t.text)) = subst (In place.off) (sym (below_is (length t.text))) (in-range 0 (length t.text) place.off (omega arith) (omega arith)) in
-    in-flat_map places_of_text (texts_of o) t place of-o (subst (λ s. In (at s place.off) (places_of_text t)) sec (in-map (at t.sec) (below (length t.text)) place.off off))
+    let off : In place.off (below (length t.text.bytes)) = subst (In place.off) (sym (below_is (length t.text.bytes))) (in-range 0 (length t.text.bytes) place.off (omega arith) (omega arith)) in
+    in-flat_map places_of_text (texts_of o) t place of-o (subst (λ s. In (at s place.off) (places_of_text t)) sec (in-map (at t.sec) (below (length t.text.bytes)) place.off off))

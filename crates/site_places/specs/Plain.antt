@@ -1,6 +1,6 @@
 -- Sites without their entries.
 use Rattle.std.specs.Prelude.{◌≡◌, List, map}
-use Rattle.elf_objects.specs.Elf.{Elf}
+use Rattle.flow_defs.specs.Coded.{Coded}
 use Rattle.program_defs.specs.Program.{Site}
 use Rattle.program_graph.specs.declared.parts.Site.{Site as GraphSite}
 use Rattle.program_graph.specs.Tells.{site_of}
@@ -17,6 +17,6 @@ abbrev pub program_site : OwnSite → Site
 program_site s = site_of (plain_site s)
 
 -- the sites of an object, apart from each other
-pub record AreAllSites (o : Elf) (sites : List OwnSite) : Type 0 where
+pub record AreAllSites (o : Coded) (sites : List OwnSite) : Type 0 where
   pub all : map program_site sites ≡ sites_of o
   pub apart : AscendApart sites

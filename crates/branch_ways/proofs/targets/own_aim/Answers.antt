@@ -1,7 +1,7 @@
 use Rattle.std.proofs.Common.{◌≡◌, ◌<◌, ◌^◌, true, false, List, Some, sym, ap, ◌∙◌, arith}
 use Rattle.std.specs.Prelude.{is_some}
 use Rattle.ot_base.specs.declared.place.Place.{Place}
-use Rattle.elf_objects.specs.Elf.{Elf}
+use Rattle.flow_defs.specs.Coded.{Coded}
 use Rattle.symbols_relocs.specs.Places.{same_place}
 use Rattle.special_sections.specs.declared.entries.AltEntry.{AltEntry}
 use Rattle.special_sections.specs.Special.{special_of}
@@ -18,7 +18,7 @@ use Rattle.branch_ways.proofs.targets.own_aim.Goals as goal
 
 pub returns-then-is_some : goal.returns-then-is_some
 returns-then-is_some c =
-    let o : Elf = c.args.places.now in
+    let o : Coded = c.args.places.now in
     let from : Point = c.point-from.result in
     let place : Place = c.in-Some.place in
     let known : is_some (number_of o (other_point from place)) ≡ true = ap is_some (sym c.number_of.ensures) ∙ sym c.is_some.ensures ∙ c.if-is_some.true in
@@ -28,19 +28,19 @@ returns-then-is_some c =
 
 pub behind-requires : goal.behind-requires
 behind-requires c =
-    let o : Elf = c.args.places.now in
+    let o : Coded = c.args.places.now in
     let from : Point = c.point-from.result in
-    let all : c.alternatives.result.now ≡ alternatives_of o = c.alternatives.ensures ∙ ap (λ s. s.alternatives) (c.special.ensures ∙ ap special_of c.linked.ensures) in
+    let all : c.alternatives.result.now ≡ alternatives_of o = c.alternatives.ensures ∙ ap (λ s. s.alternatives) (c.special.ensures ∙ ap (λ (e : Coded). special_of e.elf) c.linked.ensures) in
     let replaced : is_plain from ≡ false = ap is_plain c.point-from.ensures.value ∙ c.requires.replaced in
     let low : (entry_of (alternatives_of o) from.variant).original.off < 2 ^ 32 = low_original (alternatives_of o) from c.point-from.ensures.low replaced in
     omega (arith, low, ap (λ (list : List AltEntry). (entry_of list from.variant).original.off) all)
 
 pub returns-then-is_behind : goal.returns-then-is_behind
 returns-then-is_behind c =
-    let o : Elf = c.args.places.now in
+    let o : Coded = c.args.places.now in
     let from : Point = c.point-from.result in
     let place : Place = c.in-Some.place in
-    let all : c.alternatives.result.now ≡ alternatives_of o = c.alternatives.ensures ∙ ap (λ s. s.alternatives) (c.special.ensures ∙ ap special_of c.linked.ensures) in
+    let all : c.alternatives.result.now ≡ alternatives_of o = c.alternatives.ensures ∙ ap (λ s. s.alternatives) (c.special.ensures ∙ ap (λ (e : Coded). special_of e.elf) c.linked.ensures) in
     let unknown : is_some (number_of o (other_point from place)) ≡ false = ap is_some (sym c.number_of.ensures) ∙ sym c.is_some.ensures ∙ c.if-is_some.false in
     let ends : same_place place (replacement_end o from) ≡ true =
     ap (λ (list : List AltEntry). same_place place (behind (entry_of list from.variant).replacement (entry_of list from.variant).replacement_len)) (sym all) ∙ sym c.is_behind.ensures ∙ c.if-is_behind.true in
@@ -51,10 +51,10 @@ returns-then-is_behind c =
 
 pub returns-else-is_behind : goal.returns-else-is_behind
 returns-else-is_behind c =
-    let o : Elf = c.args.places.now in
+    let o : Coded = c.args.places.now in
     let from : Point = c.point-from.result in
     let place : Place = c.in-Some.place in
-    let all : c.alternatives.result.now ≡ alternatives_of o = c.alternatives.ensures ∙ ap (λ s. s.alternatives) (c.special.ensures ∙ ap special_of c.linked.ensures) in
+    let all : c.alternatives.result.now ≡ alternatives_of o = c.alternatives.ensures ∙ ap (λ s. s.alternatives) (c.special.ensures ∙ ap (λ (e : Coded). special_of e.elf) c.linked.ensures) in
     let unknown : is_some (number_of o (other_point from place)) ≡ false = ap is_some (sym c.number_of.ensures) ∙ sym c.is_some.ensures ∙ c.if-is_some.false in
     let ends : same_place place (replacement_end o from) ≡ false =
     ap (λ (list : List AltEntry). same_place place (behind (entry_of list from.variant).replacement (entry_of list from.variant).replacement_len)) (sym all) ∙ sym c.is_behind.ensures ∙ c.if-is_behind.false in

@@ -1,7 +1,7 @@
 use Rattle.std.proofs.Common.{◌≡◌, ℕ, Bool, true, false, Option, Some, None, refl, ap, ◌∙◌, if◌then◌else◌}
 use Rattle.ot_base.specs.declared.place.Place.{Place}
 use Rattle.program_defs.specs.declared.flow.EdgeKind.{EdgeKind}
-use Rattle.elf_objects.specs.Elf.{Elf}
+use Rattle.flow_defs.specs.Coded.{Coded}
 use Rattle.jump_tables.specs.Texts.{is_boundary}
 use Rattle.flow_defs.specs.declared.aim.Way.TheVariants.{Bad}
 use Rattle.flow_defs.specs.Code.{texts_of}
@@ -10,7 +10,7 @@ use Rattle.flow_defs.specs.Ways.{branch_way, way_by}
 use Rattle.branch_ways.proofs.ways.branch_way.Goals as goal
 
 -- the way by whether the place is a boundary, and by the unchecked function that starts there
-way_is : (o : Elf) (crosses : Bool) (kind : EdgeKind) (from : Option ℕ) (place : Place) (boundary : Bool) (start : Option ℕ) → boundary ≡ is_boundary (texts_of o) place → start ≡ unchecked_start o place → (if boundary then way_by o crosses kind from place start else Bad) ≡ branch_way o crosses kind from place
+way_is : (o : Coded) (crosses : Bool) (kind : EdgeKind) (from : Option ℕ) (place : Place) (boundary : Bool) (start : Option ℕ) → boundary ≡ is_boundary (texts_of o) place → start ≡ unchecked_start o.elf place → (if boundary then way_by o crosses kind from place start else Bad) ≡ branch_way o crosses kind from place
 unfolding branch_way
 way_is o crosses kind from place boundary start is_one starts =
     ap (λ b. if b then way_by o crosses kind from place start else Bad) is_one
@@ -18,7 +18,7 @@ way_is o crosses kind from place boundary start is_one starts =
 
 pub returns-then-not-is_boundary : goal.returns-then-not-is_boundary
 returns-then-not-is_boundary c =
-    way_is c.args.places.now c.args.crosses c.args.kind c.args.from c.args.place false (unchecked_start c.args.places.now c.args.place) c.if-not-is_boundary.ensures refl
+    way_is c.args.places.now c.args.crosses c.args.kind c.args.from c.args.place false (unchecked_start c.args.places.now.elf c.args.place) c.if-not-is_boundary.ensures refl
 
 pub returns-in-Some : goal.returns-in-Some
 returns-in-Some c =

@@ -1,5 +1,5 @@
 use Rattle.std.proofs.Common.{◌≡◌, map, ap, ◌∙◌, subst}
-use Rattle.elf_objects.specs.Elf.{Elf}
+use Rattle.flow_defs.specs.Coded.{Coded}
 use Rattle.flow_defs.specs.Program.{program_of}
 use Rattle.return_search.specs.declared.flow.Flow.{Flow}
 use Rattle.return_search.specs.Told.{exit_of}
@@ -9,7 +9,7 @@ use Rattle.control_flow.proofs.returning.flow_of.Goals as goal
 
 pub returns : goal.returns
 returns c =
-    let o : Elf = c.args.points.now in
+    let o : Coded = c.args.points.now in
     let lists = c.args.lists.now in
     let roles = c.args.roles.now in
     let flow : Flow = record {
@@ -19,9 +19,9 @@ returns c =
       dead_ends = c.in_ok-dead_ends.dead_ends;
       entered = c.in_ok-entered.entered;
     } in
-    let object : c.object.result.now ≡ o = c.object.ensures ∙ (c.linked.ensures ∙ c.places-places.ensures) in
-    let leave : c.in_ok-exits.exits.items ≡ map (exit_of (program_of o lists)) roles = c.in_ok-exits.ensures ∙ ap (λ (e : Elf). map (exit_of (program_of e lists)) roles) object in
-    let entered : AreEntered o c.in_ok-entered.entered.items (count_of o) = subst (λ (e : Elf). AreEntered e c.in_ok-entered.entered.items (count_of e)) c.places-places.ensures c.in_ok-entered.ensures in
+    let linked : c.linked.result.now ≡ o = c.linked.ensures ∙ c.places-places.ensures in
+    let leave : c.in_ok-exits.exits.items ≡ map (exit_of (program_of o lists)) roles = c.in_ok-exits.ensures ∙ ap (λ (e : Coded). map (exit_of (program_of e lists)) roles) linked in
+    let entered : AreEntered o c.in_ok-entered.entered.items (count_of o) = subst (λ (e : Coded). AreEntered e c.in_ok-entered.entered.items (count_of e)) c.places-places.ensures c.in_ok-entered.ensures in
     record {
       told = tells_flow o lists flow roles c.requires c.in_ok-starts.ensures.edges leave c.in_ok-dead_ends.ensures entered;
       shape = has_shape o lists flow roles c.requires c.in_ok-starts.ensures.edges leave c.in_ok-dead_ends.ensures entered c.in_ok-starts.ensures.few;

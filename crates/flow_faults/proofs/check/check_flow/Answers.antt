@@ -1,6 +1,7 @@
 use Rattle.std.proofs.Common.{◌≡◌, Some, None, length, sym, ap, ◌∙◌, subst, arith, List, ℕ}
 use Rattle.std.specs.Prelude.{option_map}
 use Rattle.elf_objects.specs.Elf.{Elf}
+use Rattle.flow_defs.specs.Coded.{Coded}
 use Rattle.elf_objects.specs.Object.{IsObject}
 use Rattle.special_sections.specs.declared.entries.BranchEntry.{BranchEntry}
 use Rattle.special_sections.specs.Special.{SpecialEntries, special_of}
@@ -17,19 +18,19 @@ returns-in-Some-clause-err c = of_starts c.args.places.now (FuncStart c.in-Some.
 
 pub prove-unreachable-requires : goal.prove-unreachable-requires
 prove-unreachable-requires c =
-    let o : Elf = c.args.places.now in
-    let own : c.object.result.now ≡ o = c.object.ensures ∙ c.linked-linked.ensures in
-    let is : IsObject o.bytes o = subst (λ (e : Elf). IsObject e.bytes e) own (subst (λ (b : List ℕ). IsObject b c.object.result.now) c.bytes-bytes.ensures.value c.bytes-bytes.ensures.object) in
-    let size : length c.bytes-bytes.result.now ≡ length o.bytes = ap length (c.bytes-bytes.ensures.value ∙ ap (λ (e : Elf). e.bytes) own) in
-    omega (arith, c.if-prove.true, size, branches_fit o is c.find_bad_start.ensures.linked.before.before.special, ap length (c.branches.ensures ∙ ap (λ (s : SpecialEntries). s.branches) (c.special-special.ensures ∙ ap special_of c.linked-linked.ensures)))
+    let o : Coded = c.args.places.now in
+    let own : c.object.result.now ≡ o.elf = c.object.ensures ∙ ap (λ (e : Coded). e.elf) c.linked-linked.ensures in
+    let is : IsObject o.elf.bytes o.elf = subst (λ (e : Elf). IsObject e.bytes e) own (subst (λ (b : List ℕ). IsObject b c.object.result.now) c.bytes-bytes.ensures.value c.bytes-bytes.ensures.object) in
+    let size : length c.bytes-bytes.result.now ≡ length o.elf.bytes = ap length (c.bytes-bytes.ensures.value ∙ ap (λ (e : Elf). e.bytes) own) in
+    omega (arith, c.if-prove.true, size, branches_fit o.elf is c.find_bad_start.ensures.linked.before.before.special, ap length (c.branches.ensures ∙ ap (λ (s : SpecialEntries). s.branches) (c.special-special.ensures ∙ ap (λ (e : Coded). special_of e.elf) c.linked-linked.ensures)))
 
 pub find_bad_place-requires : goal.find_bad_place-requires
 find_bad_place-requires c =
-    let o : Elf = c.args.places.now in
-    let own : c.object.result.now ≡ o = c.object.ensures ∙ c.linked-linked.ensures in
-    let is : IsObject o.bytes o = subst (λ (e : Elf). IsObject e.bytes e) own (subst (λ (b : List ℕ). IsObject b c.object.result.now) c.bytes-bytes.ensures.value c.bytes-bytes.ensures.object) in
-    let size : length c.bytes-bytes.result.now ≡ length o.bytes = ap length (c.bytes-bytes.ensures.value ∙ ap (λ (e : Elf). e.bytes) own) in
-    let few : AreFew (special_of o) = numbers_fit o is c.find_bad_start.ensures.linked.before.before.special (omega (arith, c.bytes-bytes.ensures.short, size)) in
+    let o : Coded = c.args.places.now in
+    let own : c.object.result.now ≡ o.elf = c.object.ensures ∙ ap (λ (e : Coded). e.elf) c.linked-linked.ensures in
+    let is : IsObject o.elf.bytes o.elf = subst (λ (e : Elf). IsObject e.bytes e) own (subst (λ (b : List ℕ). IsObject b c.object.result.now) c.bytes-bytes.ensures.value c.bytes-bytes.ensures.object) in
+    let size : length c.bytes-bytes.result.now ≡ length o.elf.bytes = ap length (c.bytes-bytes.ensures.value ∙ ap (λ (e : Elf). e.bytes) own) in
+    let few : AreFew (special_of o.elf) = numbers_fit o.elf is c.find_bad_start.ensures.linked.before.before.special (omega (arith, c.bytes-bytes.ensures.short, size)) in
     few
 
 pub returns-in-Some-find_bad_place-clause-err : goal.returns-in-Some-find_bad_place-clause-err
@@ -38,38 +39,38 @@ returns-in-Some-find_bad_place-clause-err c =
 
 pub overflow_cast-result : goal.overflow_cast-result
 overflow_cast-result c =
-    let o : Elf = c.args.places.now in
-    let own : c.object.result.now ≡ o = c.object.ensures ∙ c.linked-linked.ensures in
-    let is : IsObject o.bytes o = subst (λ (e : Elf). IsObject e.bytes e) own (subst (λ (b : List ℕ). IsObject b c.object.result.now) c.bytes-bytes.ensures.value c.bytes-bytes.ensures.object) in
-    let size : length c.bytes-bytes.result.now ≡ length o.bytes = ap length (c.bytes-bytes.ensures.value ∙ ap (λ (e : Elf). e.bytes) own) in
-    let few : AreFew (special_of o) = numbers_fit o is c.find_bad_start.ensures.linked.before.before.special (omega (arith, c.bytes-bytes.ensures.short, size)) in
-    omega (arith, number_fits (λ (b : BranchEntry). is_no_branch o b.code) (special_of o).branches c.branches-2.result.now c.branch_off_site.result c.in-Some-branch_off_site.entry c.branch_off_site.ensures c.in-Some-branch_off_site.is (c.branches-2.ensures ∙ ap (λ (s : SpecialEntries). s.branches) (c.special-special.ensures ∙ ap special_of c.linked-linked.ensures)) few.branches)
+    let o : Coded = c.args.places.now in
+    let own : c.object.result.now ≡ o.elf = c.object.ensures ∙ ap (λ (e : Coded). e.elf) c.linked-linked.ensures in
+    let is : IsObject o.elf.bytes o.elf = subst (λ (e : Elf). IsObject e.bytes e) own (subst (λ (b : List ℕ). IsObject b c.object.result.now) c.bytes-bytes.ensures.value c.bytes-bytes.ensures.object) in
+    let size : length c.bytes-bytes.result.now ≡ length o.elf.bytes = ap length (c.bytes-bytes.ensures.value ∙ ap (λ (e : Elf). e.bytes) own) in
+    let few : AreFew (special_of o.elf) = numbers_fit o.elf is c.find_bad_start.ensures.linked.before.before.special (omega (arith, c.bytes-bytes.ensures.short, size)) in
+    omega (arith, number_fits (λ (b : BranchEntry). is_no_branch o b.code) (special_of o.elf).branches c.branches-2.result.now c.branch_off_site.result c.in-Some-branch_off_site.entry c.branch_off_site.ensures c.in-Some-branch_off_site.is (c.branches-2.ensures ∙ ap (λ (s : SpecialEntries). s.branches) (c.special-special.ensures ∙ ap (λ (e : Coded). special_of e.elf) c.linked-linked.ensures)) few.branches)
 
 pub returns-in-Some-branch_off_site-clause-err : goal.returns-in-Some-branch_off_site-clause-err
 returns-in-Some-branch_off_site-clause-err c =
     of_statics c.args.places.now (StaticSite c.in-Some-branch_off_site.entry) (sym c.find_bad_start.ensures.first ∙ ap (option_map FuncStart) c.in_default.is)
     (sym c.find_bad_place.ensures ∙ ap (option_map fault_in) c.in_default-find_bad_place.is)
-    (told (λ (b : BranchEntry). is_no_branch c.args.places.now b.code) StaticSite (special_of c.args.places.now).branches c.branches-2.result.now c.branch_off_site.result (Some c.in-Some-branch_off_site.entry) c.branch_off_site.ensures c.in-Some-branch_off_site.is (c.branches-2.ensures ∙ ap (λ (s : SpecialEntries). s.branches) (c.special-special.ensures ∙ ap special_of c.linked-linked.ensures)))
+    (told (λ (b : BranchEntry). is_no_branch c.args.places.now b.code) StaticSite (special_of c.args.places.now.elf).branches c.branches-2.result.now c.branch_off_site.result (Some c.in-Some-branch_off_site.entry) c.branch_off_site.ensures c.in-Some-branch_off_site.is (c.branches-2.ensures ∙ ap (λ (s : SpecialEntries). s.branches) (c.special-special.ensures ∙ ap (λ (e : Coded). special_of e.elf) c.linked-linked.ensures)))
 
 pub overflow_cast-result-in-Some-place_off_function : goal.overflow_cast-result-in-Some-place_off_function
 overflow_cast-result-in-Some-place_off_function c =
-    let o : Elf = c.args.places.now in
-    let own : c.object.result.now ≡ o = c.object.ensures ∙ c.linked-linked.ensures in
-    let is : IsObject o.bytes o = subst (λ (e : Elf). IsObject e.bytes e) own (subst (λ (b : List ℕ). IsObject b c.object.result.now) c.bytes-bytes.ensures.value c.bytes-bytes.ensures.object) in
-    let size : length c.bytes-bytes.result.now ≡ length o.bytes = ap length (c.bytes-bytes.ensures.value ∙ ap (λ (e : Elf). e.bytes) own) in
-    let few : AreFew (special_of o) = numbers_fit o is c.find_bad_start.ensures.linked.before.before.special (omega (arith, c.bytes-bytes.ensures.short, size)) in
-    omega (arith, number_fits (is_no_function o) (special_of o).unchecked c.unchecked.result.now c.place_off_function.result c.in-Some-place_off_function.entry c.place_off_function.ensures c.in-Some-place_off_function.is (c.unchecked.ensures ∙ ap (λ (s : SpecialEntries). s.unchecked) (c.special-special.ensures ∙ ap special_of c.linked-linked.ensures)) few.unchecked)
+    let o : Coded = c.args.places.now in
+    let own : c.object.result.now ≡ o.elf = c.object.ensures ∙ ap (λ (e : Coded). e.elf) c.linked-linked.ensures in
+    let is : IsObject o.elf.bytes o.elf = subst (λ (e : Elf). IsObject e.bytes e) own (subst (λ (b : List ℕ). IsObject b c.object.result.now) c.bytes-bytes.ensures.value c.bytes-bytes.ensures.object) in
+    let size : length c.bytes-bytes.result.now ≡ length o.elf.bytes = ap length (c.bytes-bytes.ensures.value ∙ ap (λ (e : Elf). e.bytes) own) in
+    let few : AreFew (special_of o.elf) = numbers_fit o.elf is c.find_bad_start.ensures.linked.before.before.special (omega (arith, c.bytes-bytes.ensures.short, size)) in
+    omega (arith, number_fits (is_no_function o) (special_of o.elf).unchecked c.unchecked.result.now c.place_off_function.result c.in-Some-place_off_function.entry c.place_off_function.ensures c.in-Some-place_off_function.is (c.unchecked.ensures ∙ ap (λ (s : SpecialEntries). s.unchecked) (c.special-special.ensures ∙ ap (λ (e : Coded). special_of e.elf) c.linked-linked.ensures)) few.unchecked)
 
 pub returns-in-Some-place_off_function-clause-err : goal.returns-in-Some-place_off_function-clause-err
 returns-in-Some-place_off_function-clause-err c =
     of_functions c.args.places.now (NotFunction c.in-Some-place_off_function.entry) (sym c.find_bad_start.ensures.first ∙ ap (option_map FuncStart) c.in_default.is)
     (sym c.find_bad_place.ensures ∙ ap (option_map fault_in) c.in_default-find_bad_place.is)
-    (told (λ (b : BranchEntry). is_no_branch c.args.places.now b.code) StaticSite (special_of c.args.places.now).branches c.branches-2.result.now c.branch_off_site.result None c.branch_off_site.ensures c.in_default-branch_off_site.is (c.branches-2.ensures ∙ ap (λ (s : SpecialEntries). s.branches) (c.special-special.ensures ∙ ap special_of c.linked-linked.ensures)))
-    (told (is_no_function c.args.places.now) NotFunction (special_of c.args.places.now).unchecked c.unchecked.result.now c.place_off_function.result (Some c.in-Some-place_off_function.entry) c.place_off_function.ensures c.in-Some-place_off_function.is (c.unchecked.ensures ∙ ap (λ (s : SpecialEntries). s.unchecked) (c.special-special.ensures ∙ ap special_of c.linked-linked.ensures)))
+    (told (λ (b : BranchEntry). is_no_branch c.args.places.now b.code) StaticSite (special_of c.args.places.now.elf).branches c.branches-2.result.now c.branch_off_site.result None c.branch_off_site.ensures c.in_default-branch_off_site.is (c.branches-2.ensures ∙ ap (λ (s : SpecialEntries). s.branches) (c.special-special.ensures ∙ ap (λ (e : Coded). special_of e.elf) c.linked-linked.ensures)))
+    (told (is_no_function c.args.places.now) NotFunction (special_of c.args.places.now.elf).unchecked c.unchecked.result.now c.place_off_function.result (Some c.in-Some-place_off_function.entry) c.place_off_function.ensures c.in-Some-place_off_function.is (c.unchecked.ensures ∙ ap (λ (s : SpecialEntries). s.unchecked) (c.special-special.ensures ∙ ap (λ (e : Coded). special_of e.elf) c.linked-linked.ensures)))
 
 pub returns-clause-ok : goal.returns-clause-ok
 returns-clause-ok c =
     of_none c.args.places.now (sym c.find_bad_start.ensures.first ∙ ap (option_map FuncStart) c.in_default.is)
     (sym c.find_bad_place.ensures ∙ ap (option_map fault_in) c.in_default-find_bad_place.is)
-    (told (λ (b : BranchEntry). is_no_branch c.args.places.now b.code) StaticSite (special_of c.args.places.now).branches c.branches-2.result.now c.branch_off_site.result None c.branch_off_site.ensures c.in_default-branch_off_site.is (c.branches-2.ensures ∙ ap (λ (s : SpecialEntries). s.branches) (c.special-special.ensures ∙ ap special_of c.linked-linked.ensures)))
-    (told (is_no_function c.args.places.now) NotFunction (special_of c.args.places.now).unchecked c.unchecked.result.now c.place_off_function.result None c.place_off_function.ensures c.in_default-place_off_function.is (c.unchecked.ensures ∙ ap (λ (s : SpecialEntries). s.unchecked) (c.special-special.ensures ∙ ap special_of c.linked-linked.ensures)))
+    (told (λ (b : BranchEntry). is_no_branch c.args.places.now b.code) StaticSite (special_of c.args.places.now.elf).branches c.branches-2.result.now c.branch_off_site.result None c.branch_off_site.ensures c.in_default-branch_off_site.is (c.branches-2.ensures ∙ ap (λ (s : SpecialEntries). s.branches) (c.special-special.ensures ∙ ap (λ (e : Coded). special_of e.elf) c.linked-linked.ensures)))
+    (told (is_no_function c.args.places.now) NotFunction (special_of c.args.places.now.elf).unchecked c.unchecked.result.now c.place_off_function.result None c.place_off_function.ensures c.in_default-place_off_function.is (c.unchecked.ensures ∙ ap (λ (s : SpecialEntries). s.unchecked) (c.special-special.ensures ∙ ap (λ (e : Coded). special_of e.elf) c.linked-linked.ensures)))

@@ -1,5 +1,6 @@
 use Rattle.std.proofs.Common.{not, sym, ap, ◌∙◌, arith}
 use Rattle.elf_objects.specs.Elf.{Elf}
+use Rattle.flow_defs.specs.Coded.{Coded}
 use Rattle.flow_faults.specs.Judged.{ends_text}
 use Rattle.flow_faults.proofs.Ends.{at_beginning, at_boundary, off_boundary}
 use Rattle.flow_faults.proofs.places.is_no_end.Goals as goal
@@ -12,5 +13,5 @@ returns-then-is_boundary c = at_boundary c.args.places.now c.args.place (λ none
 
 pub returns : goal.returns
 returns c =
-    ap not (c.ends_text.ensures ∙ ap (λ (o : Elf). ends_text o c.args.place) (c.object.ensures ∙ c.linked.ensures))
+    ap not (c.ends_text.ensures ∙ ap (λ (o : Elf). ends_text o c.args.place) (c.object.ensures ∙ ap (λ (e : Coded). e.elf) c.linked.ensures))
     ∙ off_boundary c.args.places.now c.args.place (λ none. omega (arith, none, c.if-place-eq0.false)) (sym c.is_boundary.ensures ∙ c.if-is_boundary.false)

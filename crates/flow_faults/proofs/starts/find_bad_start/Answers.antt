@@ -2,6 +2,7 @@ use Rattle.std.proofs.Common.{◌≡◌, [], ◌∷◌, List, length, None, refl
 use Rattle.std.specs.Prelude.{option_map}
 use Rattle.std.proofs.lemmas.Bool.{eqb-true}
 use Rattle.elf_objects.specs.Elf.{Elf}
+use Rattle.flow_defs.specs.Coded.{Coded}
 use Rattle.symbols_relocs.specs.declared.function.Function.{Function}
 use Rattle.symbols_relocs.specs.Functions.{first_bad}
 use Rattle.symbols_relocs.specs.Lists.{AreFunctions}
@@ -22,17 +23,17 @@ returns-then-is_empty-clause-first c =
 
 pub returns-in_err-function-clause-first : goal.returns-in_err-function-clause-first
 returns-in_err-function-clause-first c =
-    let o : Elf = c.args.places.now in
+    let o : Coded = c.args.places.now in
     let fs : List Function = c.functions.result.now in
-    let all : AreFunctions o fs = subst (λ (e : Elf). AreFunctions e fs) (c.index.ensures ∙ c.linked-linked.ensures) c.functions.ensures.all in
-    let right : first_bad o ≡ None = subst (λ (e : Elf). first_bad e ≡ None) c.linked-linked.ensures c.texts.ensures.linked.before.functions in
+    let all : AreFunctions o.elf fs = subst (λ (e : Elf). AreFunctions e fs) (c.index.ensures ∙ ap (λ (e : Coded). e.elf) c.linked-linked.ensures) c.functions.ensures.all in
+    let right : first_bad o.elf ≡ None = subst (λ (e : Coded). first_bad e.elf ≡ None) c.linked-linked.ensures c.texts.ensures.linked.before.functions in
     ap (option_map FuncStart) c.from_residual.ensures
     ∙ sym (first_start o fs all c.requires right ∙ ap (option_map fault_of) (sym c.find_misplaced.ensures ∙ c.in_err-function.was))
 
 pub returns-clause-first : goal.returns-clause-first
 returns-clause-first c =
-    let o : Elf = c.args.places.now in
+    let o : Coded = c.args.places.now in
     let fs : List Function = c.functions.result.now in
-    let all : AreFunctions o fs = subst (λ (e : Elf). AreFunctions e fs) (c.index.ensures ∙ c.linked-linked.ensures) c.functions.ensures.all in
-    let right : first_bad o ≡ None = subst (λ (e : Elf). first_bad e ≡ None) c.linked-linked.ensures c.texts.ensures.linked.before.functions in
+    let all : AreFunctions o.elf fs = subst (λ (e : Elf). AreFunctions e fs) (c.index.ensures ∙ ap (λ (e : Coded). e.elf) c.linked-linked.ensures) c.functions.ensures.all in
+    let right : first_bad o.elf ≡ None = subst (λ (e : Coded). first_bad e.elf ≡ None) c.linked-linked.ensures c.texts.ensures.linked.before.functions in
     sym (first_start o fs all c.requires right ∙ ap (option_map fault_of) (sym c.find_misplaced.ensures ∙ c.in_ok-function.was))

@@ -1,6 +1,6 @@
 use Rattle.std.proofs.Common.{Bool, cond, Option, None, sym, ap, ◌∙◌}
 use Rattle.std.specs.Prelude.{option_and_then}
-use Rattle.elf_objects.specs.Elf.{Elf}
+use Rattle.flow_defs.specs.Coded.{Coded}
 use Rattle.special_sections.specs.Special.{special_of}
 use Rattle.alternatives.specs.declared.point.Point.{Point}
 use Rattle.state_defs.specs.declared.state.HintState.{HintState}
@@ -15,14 +15,14 @@ unless padding hint = cond padding None hint
 pub returns-then-is_padding : goal.returns-then-is_padding
 unfolding hint_of
 returns-then-is_padding c =
-    let o : Elf = c.args.places.now in
-    sym (ap (λ b. unless b (hint_at (special_of o).hints (point_at o c.args.n).place)) (sym c.is_padding.ensures ∙ c.if-is_padding.true))
+    let o : Coded = c.args.places.now in
+    sym (ap (λ b. unless b (hint_at (special_of o.elf).hints (point_at o c.args.n).place)) (sym c.is_padding.ensures ∙ c.if-is_padding.true))
 
 pub returns : goal.returns
 unfolding hint_of
 returns c =
-    let o : Elf = c.args.places.now in
+    let o : Coded = c.args.places.now in
     c.hint_at.ensures
     ∙ ap (option_and_then hint_state) (c.requires.hints.same c.point.result.place)
-    ∙ ap (λ (q : Point). hint_at (special_of o).hints q.place) c.point.ensures
-    ∙ sym (ap (λ b. unless b (hint_at (special_of o).hints (point_at o c.args.n).place)) (sym c.is_padding.ensures ∙ c.if-is_padding.false))
+    ∙ ap (λ (q : Point). hint_at (special_of o.elf).hints q.place) c.point.ensures
+    ∙ sym (ap (λ b. unless b (hint_at (special_of o.elf).hints (point_at o c.args.n).place)) (sym c.is_padding.ensures ∙ c.if-is_padding.false))

@@ -1,5 +1,5 @@
 use Rattle.std.proofs.Common.{◌≡◌, ℕ, [], ◌∷◌, ◌++◌, length, Global, Vec, arith, sym, ap, ◌∙◌}
-use Rattle.elf_objects.specs.Elf.{Elf}
+use Rattle.flow_defs.specs.Coded.{Coded}
 use Rattle.flow_defs.specs.Hints.{is_restore, is_save}
 use Rattle.hint_points.specs.Hinted.{is_restore_at, is_save_at}
 use Rattle.hint_points.specs.declared.saves.SavePoint.{SavePoint}
@@ -9,7 +9,7 @@ use Rattle.hint_points.proofs.hinted.list_hinted.Goals.{then-is_save+in_ok-push,
 
 pub loop-n-preserved : goal.loop-n-preserved
 loop-n-preserved c =
-    let o : Elf = c.args.places.now in
+    let o : Coded = c.args.places.now in
     let n : ℕ = c.loop-n.n in
     let saves : c.is_save.result ≡ is_save_at o n = c.is_save.ensures ∙ ap is_save c.hint_of-hint.ensures in
     let restores : c.is_restore.result ≡ is_restore_at o n = c.is_restore.ensures ∙ ap is_restore c.hint_of-hint.ensures in

@@ -1,7 +1,7 @@
 use Rattle.std.proofs.Common.{◌<◌, ℕ, List, [], ◌∷◌, ◌++◌, length, get_or, take, Option, Some, None, All, Global, Vec, arith, append-nil, sym, ap, ◌∙◌, subst}
 use Rattle.std.specs.Prelude.{filter_map, option_map}
 use Rattle.std.proofs.lemmas.List.Elements.{All-contains, Contains-get_or}
-use Rattle.elf_objects.specs.Elf.{Elf}
+use Rattle.flow_defs.specs.Coded.{Coded}
 use Rattle.flow_defs.specs.Code.{points_of_object}
 use Rattle.point_places.proofs.Found.{made_more}
 use Rattle.hint_points.specs.Meanings.{meaning_of}
@@ -12,13 +12,13 @@ use Rattle.hint_points.proofs.meanings.list_meanings.Goals.{in-Some+in_ok-push, 
 
 pub nearest_save-requires-clause-inside : goal.nearest_save-requires-clause-inside
 nearest_save-requires-clause-inside c =
-    let o : Elf = c.args.places.now in
+    let o : Coded = c.args.places.now in
     let all : All (λ r. r < length (points_of_object o)) c.args.restores.now = subst (λ (list : List ℕ). All (λ r. r < length (points_of_object o)) list) (sym c.requires.restores) (restores_inside o) in
     All-contains (λ r. r < length (points_of_object o)) c.args.restores.now (get_or c.args.restores.now c.loop-restore.restore-index 0) all (Contains-get_or c.args.restores.now c.loop-restore.restore-index 0 c.loop-restore-test.true)
 
 pub loop-restore-preserved : goal.loop-restore-preserved
 loop-restore-preserved c =
-    let o : Elf = c.args.places.now in
+    let o : Coded = c.args.places.now in
     let i : ℕ = c.loop-restore.restore-index in
     let restore : ℕ = get_or c.args.restores.now i 0 in
     let made : Option ℕ → Option Meaning = option_map (λ s. record { save = s; restore = restore }) in

@@ -1,5 +1,5 @@
 use Rattle.std.proofs.Common.{ap, ◌∙◌}
-use Rattle.elf_objects.specs.Elf.{Elf}
+use Rattle.flow_defs.specs.Coded.{Coded}
 use Rattle.alternatives.specs.declared.point.Point.{Point}
 use Rattle.flow_defs.specs.Code.{point_at}
 use Rattle.place_lists.specs.Places.{is_among}
@@ -9,7 +9,7 @@ use Rattle.point_allowances.proofs.branches.is_safe_branch.Goals as goal
 pub returns : goal.returns
 unfolding is_safe_branch
 returns c =
-    let o : Elf = c.args.places.now in
+    let o : Coded = c.args.places.now in
     c.contains.ensures
     ∙ ap (λ (p : Point). is_among c.args.safe.now p.place) c.point.ensures
     ∙ c.requires.safe.same (point_at o c.args.n).place

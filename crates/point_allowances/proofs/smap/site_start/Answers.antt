@@ -1,6 +1,6 @@
 use Rattle.std.proofs.Common.{◌≡◌, ℕ, List, get_or, Option, Some, None, sym, ap, subst}
 use Rattle.ot_base.specs.declared.place.Place.{Place}
-use Rattle.elf_objects.specs.Elf.{Elf}
+use Rattle.flow_defs.specs.Coded.{Coded}
 use Rattle.special_sections.specs.declared.entries.AltEntry.{AltEntry}
 use Rattle.alternatives.specs.declared.site.Site.{Site}
 use Rattle.alternatives.specs.Sites.{AreSitesOf}
@@ -11,8 +11,8 @@ use Rattle.point_allowances.proofs.SmapSites.{starts_nowhere, starts_there}
 use Rattle.point_allowances.proofs.smap.site_start.Goals as goal
 
 -- the sites are those of the object
-sites_are : (o own : Elf) (sites : List Site) (numbers : List ℕ) → own ≡ o → AreSitesOf (alternatives_of own) sites numbers → AreSitesOf (alternatives_of o) sites numbers
-sites_are o own sites numbers same are = subst (λ (e : Elf). AreSitesOf (alternatives_of e) sites numbers) same are
+sites_are : (o own : Coded) (sites : List Site) (numbers : List ℕ) → own ≡ o → AreSitesOf (alternatives_of own) sites numbers → AreSitesOf (alternatives_of o) sites numbers
+sites_are o own sites numbers same are = subst (λ (e : Coded). AreSitesOf (alternatives_of e) sites numbers) same are
 
 -- the place is the point's address
 there : (entries : List AltEntry) (at address : Place) (start found : Option Place) → at ≡ address → found ≡ start → IsSiteStart entries at start → IsSiteStart entries address found
@@ -20,7 +20,7 @@ there entries at address start found same is known = subst (λ (place : Place). 
 
 pub returns-in_err-site : goal.returns-in_err-site
 returns-in_err-site c =
-    let o : Elf = c.args.places.now in
+    let o : Coded = c.args.places.now in
     let entries : List AltEntry = alternatives_of o in
     let sites : List Site = c.sites-sites.result.now.sites in
     let numbers : List ℕ = c.sites-sites.result.now.entry_numbers in
@@ -29,7 +29,7 @@ returns-in_err-site c =
 
 pub returns : goal.returns
 returns c =
-    let o : Elf = c.args.places.now in
+    let o : Coded = c.args.places.now in
     let entries : List AltEntry = alternatives_of o in
     let sites : List Site = c.sites-sites.result.now.sites in
     let numbers : List ℕ = c.sites-sites.result.now.entry_numbers in

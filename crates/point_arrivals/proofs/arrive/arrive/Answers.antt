@@ -1,7 +1,7 @@
 use Rattle.std.proofs.Common.{◌≡◌, ℕ, ◌<◌, ◌++◌, [], List, All, length, get_or, Option, sym, ap, ◌∙◌, subst, arith}
 use Rattle.std.specs.List.{cons_option}
 use Rattle.std.proofs.lemmas.List.{take_all}
-use Rattle.elf_objects.specs.Elf.{Elf}
+use Rattle.flow_defs.specs.Coded.{Coded}
 use Rattle.special_sections.specs.declared.entries.AltEntry.{AltEntry}
 use Rattle.alternatives.specs.declared.point.Point.{Point}
 use Rattle.alternatives.specs.Numbers.{IsNumberOf}
@@ -19,7 +19,7 @@ number_of_first-requires c =
 
 pub loop-entry-preserved : goal.loop-entry-preserved
 loop-entry-preserved c =
-    let o : Elf = c.args.places.now in
+    let o : Coded = c.args.places.now in
     let i : ℕ = c.loop-entry.entry-index in
     let ks : List ℕ = c.entries_at-entry-items.result.now in
     let found : Option ℕ = c.number_of_first.result in
@@ -34,7 +34,7 @@ loop-entry-preserved c =
 
 pub returns : goal.returns
 returns c =
-    let o : Elf = c.args.places.now in
+    let o : Coded = c.args.places.now in
     let ks : List ℕ = c.entries_at-entry-items.result.now in
     let entries : c.sites-sites.result.now.entries ≡ alternatives_of o = c.sites-sites.ensures.entries ∙ ap alternatives_of c.linked.ensures in
     let all : ks ≡ entries_from (alternatives_of o) c.args.place = c.entries_at-entry-items.ensures ∙ ap (λ (es : List AltEntry). entries_from es c.args.place) entries in

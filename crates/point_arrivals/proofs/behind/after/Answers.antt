@@ -1,5 +1,5 @@
 use Rattle.std.proofs.Common.{sym, ap, ◌∙◌}
-use Rattle.elf_objects.specs.Elf.{Elf}
+use Rattle.flow_defs.specs.Coded.{Coded}
 use Rattle.flow_defs.specs.Arrival.{arrive}
 use Rattle.flow_defs.specs.Code.{point_at}
 use Rattle.std.proofs.lemmas.Result.{IfOk-weaker}
@@ -12,6 +12,6 @@ returns-in_ok-from_slice-in-Some c =
 
 pub returns-in-None : goal.returns-in-None
 returns-in-None c =
-    let o : Elf = c.args.places.now in
+    let o : Coded = c.args.places.now in
     IfOk-weaker c.arrive.result _ _ (λ v is.
     is ∙ ap (arrive o) c.place_behind.ensures ∙ after_none o (point_at o c.args.n) (sym c.number_of_next.ensures ∙ c.in-None.is)) c.arrive.ensures

@@ -1,6 +1,6 @@
 use Rattle.std.proofs.Common.{◌≡◌, not, ◌&&◌, sym, ap, ◌∙◌}
 use Rattle.std.specs.Prelude.{is_none}
-use Rattle.elf_objects.specs.Elf.{Elf}
+use Rattle.flow_defs.specs.Coded.{Coded}
 use Rattle.alternatives.specs.declared.point.Point.{Point}
 use Rattle.jump_tables.specs.Texts.{is_boundary}
 use Rattle.flow_defs.specs.Arrival.{place_behind}
@@ -11,7 +11,7 @@ use Rattle.point_arrivals.proofs.behind.is_at_end.Goals as goal
 
 pub returns-then-is_none : goal.returns-then-is_none
 returns-then-is_none c =
-    let o : Elf = c.args.places.now in
+    let o : Coded = c.args.places.now in
     let p : Point = point_at o c.args.n in
     let none : c.is_none.result ≡ is_none (number_of_next o p) = none_is c.number_of_next.result c.is_none.result c.is_none.ensures ∙ ap (λ x. is_none x) c.number_of_next.ensures in
     ap not (c.is_boundary.ensures ∙ ap (is_boundary (texts_of o)) c.place_behind.ensures)
@@ -20,7 +20,7 @@ returns-then-is_none c =
 
 pub returns-else-is_none : goal.returns-else-is_none
 returns-else-is_none c =
-    let o : Elf = c.args.places.now in
+    let o : Coded = c.args.places.now in
     let p : Point = point_at o c.args.n in
     let none : c.is_none.result ≡ is_none (number_of_next o p) = none_is c.number_of_next.result c.is_none.result c.is_none.ensures ∙ ap (λ x. is_none x) c.number_of_next.ensures in
     c.if-is_none.false

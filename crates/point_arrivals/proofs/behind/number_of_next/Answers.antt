@@ -1,5 +1,5 @@
 use Rattle.std.proofs.Common.{◌≡◌, ℕ, ◌<◌, false, List, length, sym, ap, ◌∙◌, subst, arith}
-use Rattle.elf_objects.specs.Elf.{Elf}
+use Rattle.flow_defs.specs.Coded.{Coded}
 use Rattle.alternatives.specs.declared.point.Point.{Point}
 use Rattle.flow_defs.specs.Arrival.{no_insn}
 use Rattle.flow_defs.specs.Code.{is_plain, point_at, points_of_object}
@@ -10,12 +10,12 @@ use Rattle.point_arrivals.proofs.behind.number_of_next.Goals as goal
 
 pub returns : goal.returns
 returns c =
-    let o : Elf = c.linked.result.now in
+    let o : Coded = c.linked.result.now in
     let n : ℕ = c.args.n in
     let points : List Point = c.sites.result.now.points in
-    let inside : n < length points = subst (λ (ps : List Point). n < length ps) (sym c.sites.ensures.points) (subst (λ (e : Elf). n < length (points_of_object e)) (sym c.linked.ensures) c.requires) in
-    let same : c.point.result ≡ point_at o n = c.point.ensures ∙ ap (λ (e : Elf). point_at e n) (sym c.linked.ensures) in
+    let inside : n < length points = subst (λ (ps : List Point). n < length ps) (sym c.sites.ensures.points) (subst (λ (e : Coded). n < length (points_of_object e)) (sym c.linked.ensures) c.requires) in
+    let same : c.point.result ≡ point_at o n = c.point.ensures ∙ ap (λ (e : Coded). point_at e n) (sym c.linked.ensures) in
     let some : 0 < c.point.result.variant = omega (arith, c.if-point-eq0.false) in
     let replaced : is_plain (point_at o n) ≡ false = is_replaced c.point.result.variant (point_at o n).variant (ap (λ (q : Point). q.variant) same) some in
     next_found o points c.sites.result.now.insns n no_insn c.number_behind.result c.sites.ensures.points c.sites.ensures.insns inside c.number_behind.ensures replaced
-    ∙ ap (λ (e : Elf). number_of_next e (point_at e n)) c.linked.ensures
+    ∙ ap (λ (e : Coded). number_of_next e (point_at e n)) c.linked.ensures

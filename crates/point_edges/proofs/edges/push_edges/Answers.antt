@@ -1,7 +1,7 @@
 use Rattle.std.proofs.Common.{◌≡◌, true, false, ◌++◌, List, sym, ap, ◌∙◌}
 use Rattle.std.proofs.lemmas.List.{append-nil}
 use Rattle.std.proofs.lemmas.Result.{on_ok_weaker}
-use Rattle.elf_objects.specs.Elf.{Elf}
+use Rattle.flow_defs.specs.Coded.{Coded}
 use Rattle.alternatives.specs.declared.point.Point.{Point}
 use Rattle.program_defs.specs.declared.flow.Edge.{Edge}
 use Rattle.program_defs.specs.declared.flow.EdgeKind.TheVariants.{Fixup, Taken}
@@ -14,9 +14,9 @@ use Rattle.point_edges.proofs.edges.push_edges.Goals as goal
 
 pub returns-then-is_unchecked_point-clause-pushed : goal.returns-then-is_unchecked_point-clause-pushed
 returns-then-is_unchecked_point-clause-pushed c =
-    let o : Elf = c.args.points.now in
+    let o : Coded = c.args.points.now in
     let unchecked : is_unchecked_point o (point_at o c.args.n) ≡ true =
-    sym (c.is_unchecked_point.ensures ∙ ap (λ (e : Elf). is_unchecked_point e (point_at e c.args.n)) c.places.ensures) ∙ c.if-is_unchecked_point.true in
+    sym (c.is_unchecked_point.ensures ∙ ap (λ (e : Coded). is_unchecked_point e (point_at e c.args.n)) c.places.ensures) ∙ c.if-is_unchecked_point.true in
     sym (append-nil c.args.into.now.items) ∙ ap (λ (edges : List Edge). c.args.into.now.items ++ edges) (sym (no_edges o (point_at o c.args.n) unchecked))
 
 pub returns-then-is_unchecked_point-clause-known : goal.returns-then-is_unchecked_point-clause-known
@@ -24,12 +24,12 @@ returns-then-is_unchecked_point-clause-known c = goes_inside c.args.points.now (
 
 pub returns-clause-pushed : goal.returns-clause-pushed
 returns-clause-pushed c =
-    let o : Elf = c.args.points.now in
+    let o : Coded = c.args.points.now in
     let p : Point = point_at o c.args.n in
     let checked : is_unchecked_point o p ≡ false =
-    sym (c.is_unchecked_point.ensures ∙ ap (λ (e : Elf). is_unchecked_point e (point_at e c.args.n)) c.places.ensures) ∙ c.if-is_unchecked_point.false in
-    let targets : c.static_targets.result.now ≡ static_targets o p = c.static_targets.ensures ∙ ap (λ (e : Elf). static_targets e (point_at e c.args.n)) c.arrivals-arrivals.ensures in
-    let fixes : c.fixups.result.now ≡ fixups o p = c.fixups.ensures ∙ ap (λ (e : Elf). fixups e (point_at e c.args.n)) c.arrivals-arrivals.ensures in
+    sym (c.is_unchecked_point.ensures ∙ ap (λ (e : Coded). is_unchecked_point e (point_at e c.args.n)) c.places.ensures) ∙ c.if-is_unchecked_point.false in
+    let targets : c.static_targets.result.now ≡ static_targets o p = c.static_targets.ensures ∙ ap (λ (e : Coded). static_targets e (point_at e c.args.n)) c.arrivals-arrivals.ensures in
+    let fixes : c.fixups.result.now ≡ fixups o p = c.fixups.ensures ∙ ap (λ (e : Coded). fixups e (point_at e c.args.n)) c.arrivals-arrivals.ensures in
     let before : c.push_listed-2.new.into.items ≡ (((c.args.into.now.items ++ next_edges o p) ++ branch_edges_by o p c.args.insn c.args.insn.op) ++ listed_edges o Taken p c.static_targets.result.now) ++ listed_edges o Fixup p c.fixups.result.now =
     c.in_ok-push_listed-2.ensures
     ∙ ap (λ (edges : List Edge). edges ++ listed_edges o Fixup p c.fixups.result.now)

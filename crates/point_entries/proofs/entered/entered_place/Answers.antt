@@ -1,7 +1,7 @@
 use Rattle.std.proofs.Common.{◌≡◌, ◌≢◌, ℕ, false, true, length, Some, Contains, List, sym, ap, ◌∙◌, subst, arith}
 use Rattle.std.proofs.lemmas.Bool.{false≢true}
 use Rattle.ot_base.specs.declared.place.Place.{Place}
-use Rattle.elf_objects.specs.Elf.{Elf}
+use Rattle.flow_defs.specs.Coded.{Coded}
 use Rattle.special_sections.specs.Special.{special_of}
 use Rattle.special_sections.specs.declared.entries.AltEntry.{AltEntry}
 use Rattle.alternatives.specs.declared.point.Point.{Point}
@@ -18,7 +18,7 @@ use Rattle.point_entries.proofs.entered.entered_place.Goals as goal
 
 pub returns-then-point-eq0 : goal.returns-then-point-eq0
 returns-then-point-eq0 c = λ place.
-    let o : Elf = c.args.places.now in
+    let o : Coded = c.args.places.now in
     let n : ℕ = c.args.n in
     let own : c.point-point.result.place ≡ (point_at o n).place = ap (λ (q : Point). q.place) c.point-point.ensures in
     let plain : (point_at o n).variant ≡ 0 = ap (λ (q : Point). q.variant) (sym c.point-point.ensures) ∙ c.if-point-eq0.true in
@@ -26,18 +26,18 @@ returns-then-point-eq0 c = λ place.
 
 pub bounds-alternatives-point : goal.bounds-alternatives-point
 bounds-alternatives-point c =
-    let o : Elf = c.args.places.now in
-    let all : c.alternatives.result.now ≡ alternatives_of o = c.alternatives.ensures ∙ ap (λ s. s.alternatives) (c.special.ensures ∙ ap special_of c.linked.ensures) in
+    let o : Coded = c.args.places.now in
+    let all : c.alternatives.result.now ≡ alternatives_of o = c.alternatives.ensures ∙ ap (λ s. s.alternatives) (c.special.ensures ∙ ap (λ (e : Coded). special_of e.elf) c.linked.ensures) in
     let known = variant_inside (texts_of o) (alternatives_of o) (point_at o c.args.n) (numbered_point o c.args.n c.requires) in
     omega (arith, known, ap (λ (q : Point). q.variant) c.point-point.ensures, ap length all, c.if-point-eq0.false)
 
 pub returns-then-eq : goal.returns-then-eq
 returns-then-eq c = λ place.
-    let o : Elf = c.args.places.now in
+    let o : Coded = c.args.places.now in
     let n : ℕ = c.args.n in
     let p : Point = point_at o n in
     let entries : List AltEntry = c.alternatives.result.now in
-    let all : entries ≡ alternatives_of o = c.alternatives.ensures ∙ ap (λ s. s.alternatives) (c.special.ensures ∙ ap special_of c.linked.ensures) in
+    let all : entries ≡ alternatives_of o = c.alternatives.ensures ∙ ap (λ s. s.alternatives) (c.special.ensures ∙ ap (λ (e : Coded). special_of e.elf) c.linked.ensures) in
     let own : entry_of entries c.point-point.result.variant ≡ entry_of (alternatives_of o) p.variant =
     ap (λ (list : List AltEntry). entry_of list c.point-point.result.variant) all ∙ ap (λ (q : Point). entry_of (alternatives_of o) q.variant) c.point-point.ensures in
     let replaced : p.variant ≢ 0 = λ plain. c.if-point-eq0.false (ap (λ (q : Point). q.variant) c.point-point.ensures ∙ plain) in
@@ -49,11 +49,11 @@ returns-then-eq c = λ place.
 
 pub returns-else-eq : goal.returns-else-eq
 returns-else-eq c = λ place.
-    let o : Elf = c.args.places.now in
+    let o : Coded = c.args.places.now in
     let n : ℕ = c.args.n in
     let p : Point = point_at o n in
     let entries : List AltEntry = c.alternatives.result.now in
-    let all : entries ≡ alternatives_of o = c.alternatives.ensures ∙ ap (λ s. s.alternatives) (c.special.ensures ∙ ap special_of c.linked.ensures) in
+    let all : entries ≡ alternatives_of o = c.alternatives.ensures ∙ ap (λ s. s.alternatives) (c.special.ensures ∙ ap (λ (e : Coded). special_of e.elf) c.linked.ensures) in
     let own : entry_of entries c.point-point.result.variant ≡ entry_of (alternatives_of o) p.variant =
     ap (λ (list : List AltEntry). entry_of list c.point-point.result.variant) all ∙ ap (λ (q : Point). entry_of (alternatives_of o) q.variant) c.point-point.ensures in
     let replaced : p.variant ≢ 0 = λ plain. c.if-point-eq0.false (ap (λ (q : Point). q.variant) c.point-point.ensures ∙ plain) in

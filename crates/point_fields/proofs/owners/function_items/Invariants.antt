@@ -5,5 +5,5 @@ use Rattle.point_fields.proofs.owners.function_items.Given as goal
 abbrev pub invariant-loop-function : goal.invariant-loop-function
 invariant-loop-function l = record {
   long : length l.owners.items ≡ l.function;
-  each : AreOwnersTo l.places l.index.functions l.owners.items l.function;
+  each : AreOwnersTo l.places.elf l.index.functions l.owners.items l.function;
 }

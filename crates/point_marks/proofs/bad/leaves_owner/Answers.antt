@@ -1,7 +1,7 @@
 use Rattle.std.proofs.Common.{ℕ, Option, not, sym, ap, ◌∙◌}
 use Rattle.std.specs.Prelude.{is_some}
 use Rattle.std.proofs.lemmas.Bool.{false≢true}
-use Rattle.elf_objects.specs.Elf.{Elf}
+use Rattle.flow_defs.specs.Coded.{Coded}
 use Rattle.jump_tables.specs.Tables.{same_owner}
 use Rattle.flow_defs.specs.Code.{point_at}
 use Rattle.flow_defs.specs.Owners.{owner_of_point}
@@ -11,7 +11,7 @@ use Rattle.point_marks.proofs.bad.leaves_owner.Goals as goal
 
 pub returns-in-Some : goal.returns-in-Some
 returns-in-Some c =
-    let o : Elf = c.args.places.now in
+    let o : Coded = c.args.places.now in
     ap not (c.is_same_owner.ensures
     ∙ ap (λ (owner : Option ℕ). same_owner owner c.owner-in-Some.result) c.owner.ensures
     ∙ ap (same_owner (owner_of_point o (point_at o c.args.n))) c.owner-in-Some.ensures)

@@ -1,7 +1,7 @@
 use Rattle.std.proofs.Common.{◌≡◌, ℕ, ◌<◌, List, length, Some, Contains, subst}
 use Rattle.std.specs.Prelude.{◌↔◌, slice_range}
 use Rattle.state_defs.specs.declared.state.HintState.TheVariants.{Restore}
-use Rattle.elf_objects.specs.Elf.{Elf}
+use Rattle.flow_defs.specs.Coded.{Coded}
 use Rattle.flow_defs.specs.Code.{point_at, points_of_object}
 use Rattle.flow_defs.specs.Hints.{hint_of, save_of}
 use Rattle.hint_points.specs.HintedCode.{HintedCode}
@@ -12,7 +12,7 @@ use Rattle.hint_points.proofs.points.HintPoints.restores_of.Goals as goal
 
 pub returns-clause-members : goal.returns-clause-members
 returns-clause-members c =
-    let own : Elf = c.self.inside.places.now in
+    let own : Coded = c.self.inside.places.now in
     let from : ℕ = c.find_run.result.0 in
     let to : ℕ = c.find_run.result.1 in
     let run : IsRunOf c.self.inside.meanings.items c.args.n from to = subst (λ (list : List Meaning). IsRunOf list c.args.n from to) c.deref.ensures.value c.find_run.ensures in

@@ -1,5 +1,5 @@
 use Rattle.std.proofs.Common.{◌≡◌, sym, ap, ◌∙◌}
-use Rattle.elf_objects.specs.Elf.{Elf}
+use Rattle.flow_defs.specs.Coded.{Coded}
 use Rattle.flow_defs.specs.Code.{point_at}
 use Rattle.flow_defs.specs.Hints.{is_restore}
 use Rattle.hint_points.specs.HintedCode.{HintedCode}
@@ -9,13 +9,13 @@ use Rattle.hint_points.proofs.points.HintPoints.save_of.Goals as goal
 
 pub returns-then-is_restore : goal.returns-then-is_restore
 returns-then-is_restore c =
-    let o : Elf = c.args.self.now.object in
+    let o : Coded = c.args.self.now.object in
     let object : c.self.inside.places.now ≡ o = ap (λ (h : HintedCode). h.object) c.self.view_is in
     c.nearest_save.ensures
-    ∙ ap (λ (e : Elf). nearest_save e (point_at e c.args.n)) object
+    ∙ ap (λ (e : Coded). nearest_save e (point_at e c.args.n)) object
     ∙ sym (restore_means o (point_at o c.args.n) (sym (c.is_restore.ensures ∙ ap is_restore c.hint.ensures) ∙ c.if-is_restore.true))
 
 pub returns-else-is_restore : goal.returns-else-is_restore
 returns-else-is_restore c =
-    let o : Elf = c.args.self.now.object in
+    let o : Coded = c.args.self.now.object in
     sym (other_means o (point_at o c.args.n) (sym (c.is_restore.ensures ∙ ap is_restore c.hint.ensures) ∙ c.if-is_restore.false))

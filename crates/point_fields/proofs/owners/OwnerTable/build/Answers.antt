@@ -1,6 +1,7 @@
-use Rattle.std.proofs.Common.{◌≡◌, ◌++◌, ◌∷◌, [], List, Some, None, length, sym, ◌∙◌, subst, arith}
+use Rattle.std.proofs.Common.{◌≡◌, ◌++◌, ◌∷◌, [], List, Some, None, length, sym, ap, ◌∙◌, subst, arith}
 use Rattle.std.specs.Prelude.{slice_get}
 use Rattle.elf_objects.specs.Elf.{Elf}
+use Rattle.flow_defs.specs.Coded.{Coded}
 use Rattle.symbols_relocs.specs.declared.function.Function.{Function}
 use Rattle.program_graph.specs.declared.parts.Owner.{Owner}
 use Rattle.point_fields.specs.Functions.{AreOwnersTo}
@@ -12,7 +13,7 @@ pub invariant_of-result : goal.invariant_of-result
 invariant_of-result c =
     let o : Elf = c.index-index.result.now.elf in
     let fs : List Function = c.index-index.result.now.functions in
-    let same : o ≡ c.args.places.now = c.index-index.ensures ∙ c.linked.ensures in
+    let same : o ≡ c.args.places.now.elf = c.index-index.ensures ∙ ap (λ (e : Coded). e.elf) c.linked.ensures in
     let items : List Owner = c.in_ok-owners.owners.items in
     let long : length items ≡ length fs = c.in_ok-owners.ensures.long in
     let each : AreOwnersTo o fs items (length fs) = subst (λ (e : Elf). AreOwnersTo e fs items (length fs)) (sym same) c.in_ok-owners.ensures.each in

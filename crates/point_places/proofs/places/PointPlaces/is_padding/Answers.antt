@@ -1,6 +1,6 @@
 use Rattle.std.proofs.Common.{◌≡◌, ◌+◌, ◌<◌, List, length, sym, ap, ◌∙◌, arith}
 use Rattle.std.specs.Prelude.{nat_le}
-use Rattle.elf_objects.specs.Elf.{Elf}
+use Rattle.flow_defs.specs.Coded.{Coded}
 use Rattle.special_sections.specs.declared.entries.AltEntry.{AltEntry}
 use Rattle.special_sections.specs.Special.{special_of}
 use Rattle.alternatives.specs.declared.point.Point.{Point}
@@ -12,16 +12,16 @@ use Rattle.point_places.proofs.places.PointPlaces.is_padding.Goals as goal
 
 pub bounds-alternatives-point : goal.bounds-alternatives-point
 bounds-alternatives-point c =
-    let o : Elf = c.args.self.now in
-    let all : c.alternatives.result.now ≡ alternatives_of o = c.alternatives.ensures ∙ ap (λ s. s.alternatives) (c.special.ensures ∙ ap special_of c.self.view_is) in
+    let o : Coded = c.args.self.now in
+    let all : c.alternatives.result.now ≡ alternatives_of o = c.alternatives.ensures ∙ ap (λ s. s.alternatives) (c.special.ensures ∙ ap (λ (e : Coded). special_of e.elf) c.self.view_is) in
     let known = variant_inside (texts_of o) (alternatives_of o) (point_at o c.args.n) (numbered_point o c.args.n c.requires) in
     omega (arith, known, ap (λ (q : Point). q.variant) c.point-point.ensures, ap length all, c.if-point-eq0.false)
 
 pub returns : goal.returns
 returns c =
-    let o : Elf = c.args.self.now in
+    let o : Coded = c.args.self.now in
     let p : Point = c.point-point.result in
-    let all : c.alternatives.result.now ≡ alternatives_of o = c.alternatives.ensures ∙ ap (λ s. s.alternatives) (c.special.ensures ∙ ap special_of c.self.view_is) in
+    let all : c.alternatives.result.now ≡ alternatives_of o = c.alternatives.ensures ∙ ap (λ s. s.alternatives) (c.special.ensures ∙ ap (λ (e : Coded). special_of e.elf) c.self.view_is) in
     let some : 0 < p.variant = omega (arith, c.if-point-eq0.false) in
     c.is_behind.ensures
     ∙ ap (λ (list : List AltEntry). nat_le ((entry_of list p.variant).replacement.off + (entry_of list p.variant).replacement_len) p.place.off) all
