@@ -1,13 +1,14 @@
 -- What clap reads behind `check`.
-use Rattle.std.proofs.Common.{◌≡◌, ℕ, Bool, true, false, not, ◌&&◌, List, [], ◌∷◌, Option, Some, None, codes, option_map, refl, ap, ap₂, subst, ◌∙◌, option_and_then, slice_get}
+use Rattle.std.proofs.Common.{◌≡◌, ℕ, Bool, true, false, cond, not, ◌&&◌, List, [], ◌∷◌, Option, Some, None, codes, option_map, refl, ap, ap₂, subst, ◌∙◌, option_and_then, slice_get}
 use Rattle.std.specs.Option.{option_map_or}
 use Rattle.clap.specs.Facts.{explicit_source}
 use Rattle.clap.specs.Takes.{is_valid, level_passes}
 use Rattle.clap.specs.Walk.{Held, Row, finished, first_of, nothing_held, row_text, rows_after, settled, walk}
+use Rattle.x86_map.specs.declared.map.Map.TheVariants.{Base, Whole}
 use Rattle.cli_words.specs.declared.word.CommandWord.TheVariants.{Check}
 use Rattle.cli_words.specs.Grammar.{first_fault, options_in}
 use Rattle.cli_words.specs.Words.{Word, gives, names_file, names_in}
-use Rattle.cli_matches.specs.Matches.{SaysCheck, SaysSwitch, switch_text}
+use Rattle.cli_matches.specs.Matches.{SaysCheck, SaysSwitch, is_asked, switch_text}
 use Rattle.cli_matches.proofs.CheckWalk.{C, Gives, Walks, check_leaf, ready_at_start, switched, text_row, words_walk}
 use Rattle.cli_matches.proofs.Leaves.{at_idle}
 use Rattle.cli_matches.proofs.Rows.{look, look_finished, with_defaults}
@@ -57,12 +58,17 @@ module _ (words : List Word) (right : first_fault Check [] words ≡ None) (inpu
     rethunk = switch_says (codes "rethunk") _ given.rethunk (elim [ true ↦ refl | false ↦ refl ]);
     uaccess = switch_says (codes "uaccess") _ given.uaccess (elim [ true ↦ refl | false ↦ refl ]);
     unreachable = subst (SaysSwitch rows (codes "no-unreachable")) (not_not (gives (codes "--no-unreachable") words)) (switch_says (codes "no-unreachable") _ given.unreachable (elim [ true ↦ refl | false ↦ refl ]));
+    all_opcodes = subst (SaysSwitch rows (codes "all-opcodes")) (asked (gives (codes "--all-opcodes") words)) (switch_says (codes "all-opcodes") _ given.all_opcodes (elim [ true ↦ refl | false ↦ refl ]));
     names_are = names_found;
   }
     where
       not_not : (b : Bool) → b ≡ not (not b)
       not_not true = refl
       not_not false = refl
+
+      asked : (b : Bool) → b ≡ is_asked (cond b Whole Base)
+      asked true = refl
+      asked false = refl
 
   pub check_passes : level_passes check_leaf [] nothing_held words false ≡ true
   check_passes =

@@ -48,6 +48,7 @@ pub record Gives (words : List Word) (rows : List Row) : Type 0 where
   pub rethunk : look (codes "rethunk") rows ≡ switched (codes "rethunk") (gives (codes "--rethunk") words)
   pub uaccess : look (codes "uaccess") rows ≡ switched (codes "uaccess") (gives (codes "--uaccess") words)
   pub unreachable : look (codes "no-unreachable") rows ≡ switched (codes "no-unreachable") (gives (codes "--no-unreachable") words)
+  pub all_opcodes : look (codes "all-opcodes") rows ≡ switched (codes "all-opcodes") (gives (codes "--all-opcodes") words)
   pub names : look (codes "names") rows ≡ option_map (text_row (codes "names")) (names_file words)
 
 -- one more word and its row
@@ -80,6 +81,7 @@ pub record IsRowOf (word : Word) (r : Row) : Type 0 where
   pub rethunk : look (codes "rethunk") (r ∷ []) ≡ switched (codes "rethunk") (bytes_eq word (codes "--rethunk"))
   pub uaccess : look (codes "uaccess") (r ∷ []) ≡ switched (codes "uaccess") (bytes_eq word (codes "--uaccess"))
   pub unreachable : look (codes "no-unreachable") (r ∷ []) ≡ switched (codes "no-unreachable") (bytes_eq word (codes "--no-unreachable"))
+  pub all_opcodes : look (codes "all-opcodes") (r ∷ []) ≡ switched (codes "all-opcodes") (bytes_eq word (codes "--all-opcodes"))
 
 gives_next : (words : List Word) (rows : List Row) (word : Word) (r : Row) → Gives words rows → IsRowOf word r
     → look (codes "IN") (rows ++ r ∷ []) ≡ option_map (text_row (codes "IN")) (slice_get (names_in (words ++ word ∷ [])) 0)
@@ -94,6 +96,7 @@ gives_next words rows word r before is input output names = record {
   rethunk = switch_next (codes "rethunk") (codes "--rethunk") words rows word r before.rethunk is.rethunk;
   uaccess = switch_next (codes "uaccess") (codes "--uaccess") words rows word r before.uaccess is.uaccess;
   unreachable = switch_next (codes "no-unreachable") (codes "--no-unreachable") words rows word r before.unreachable is.unreachable;
+  all_opcodes = switch_next (codes "all-opcodes") (codes "--all-opcodes") words rows word r before.all_opcodes is.all_opcodes;
   names = names;
 }
 
@@ -201,27 +204,32 @@ module _ (words : List Word) (h : Held) (ready : Ready words h) where
   fp_steps : list_any (is_same_option (codes "--fp")) words ≡ false → Steps words h (codes "--fp")
   unfolding clap_on_literals
   fp_steps none =
-      switch_steps (codes "fp") (rule_named (codes "fp")) refl refl ready.given.fp refl refl (λ absent. set_appends (rule_named (codes "fp")) (codes "true" ∷ []) R absent) (record { fp = refl; retpoline = refl; rethunk = refl; uaccess = refl; unreachable = refl }) refl refl refl (not_given (codes "--fp") refl none)
+      switch_steps (codes "fp") (rule_named (codes "fp")) refl refl ready.given.fp refl refl (λ absent. set_appends (rule_named (codes "fp")) (codes "true" ∷ []) R absent) (record { fp = refl; retpoline = refl; rethunk = refl; uaccess = refl; unreachable = refl; all_opcodes = refl }) refl refl refl (not_given (codes "--fp") refl none)
 
   retpoline_steps : list_any (is_same_option (codes "--retpoline")) words ≡ false → Steps words h (codes "--retpoline")
   unfolding clap_on_literals
   retpoline_steps none =
-      switch_steps (codes "retpoline") (rule_named (codes "retpoline")) refl refl ready.given.retpoline refl refl (λ absent. set_appends (rule_named (codes "retpoline")) (codes "true" ∷ []) R absent) (record { fp = refl; retpoline = refl; rethunk = refl; uaccess = refl; unreachable = refl }) refl refl refl (not_given (codes "--retpoline") refl none)
+      switch_steps (codes "retpoline") (rule_named (codes "retpoline")) refl refl ready.given.retpoline refl refl (λ absent. set_appends (rule_named (codes "retpoline")) (codes "true" ∷ []) R absent) (record { fp = refl; retpoline = refl; rethunk = refl; uaccess = refl; unreachable = refl; all_opcodes = refl }) refl refl refl (not_given (codes "--retpoline") refl none)
 
   rethunk_steps : list_any (is_same_option (codes "--rethunk")) words ≡ false → Steps words h (codes "--rethunk")
   unfolding clap_on_literals
   rethunk_steps none =
-      switch_steps (codes "rethunk") (rule_named (codes "rethunk")) refl refl ready.given.rethunk refl refl (λ absent. set_appends (rule_named (codes "rethunk")) (codes "true" ∷ []) R absent) (record { fp = refl; retpoline = refl; rethunk = refl; uaccess = refl; unreachable = refl }) refl refl refl (not_given (codes "--rethunk") refl none)
+      switch_steps (codes "rethunk") (rule_named (codes "rethunk")) refl refl ready.given.rethunk refl refl (λ absent. set_appends (rule_named (codes "rethunk")) (codes "true" ∷ []) R absent) (record { fp = refl; retpoline = refl; rethunk = refl; uaccess = refl; unreachable = refl; all_opcodes = refl }) refl refl refl (not_given (codes "--rethunk") refl none)
 
   uaccess_steps : list_any (is_same_option (codes "--uaccess")) words ≡ false → Steps words h (codes "--uaccess")
   unfolding clap_on_literals
   uaccess_steps none =
-      switch_steps (codes "uaccess") (rule_named (codes "uaccess")) refl refl ready.given.uaccess refl refl (λ absent. set_appends (rule_named (codes "uaccess")) (codes "true" ∷ []) R absent) (record { fp = refl; retpoline = refl; rethunk = refl; uaccess = refl; unreachable = refl }) refl refl refl (not_given (codes "--uaccess") refl none)
+      switch_steps (codes "uaccess") (rule_named (codes "uaccess")) refl refl ready.given.uaccess refl refl (λ absent. set_appends (rule_named (codes "uaccess")) (codes "true" ∷ []) R absent) (record { fp = refl; retpoline = refl; rethunk = refl; uaccess = refl; unreachable = refl; all_opcodes = refl }) refl refl refl (not_given (codes "--uaccess") refl none)
 
   unreachable_steps : list_any (is_same_option (codes "--no-unreachable")) words ≡ false → Steps words h (codes "--no-unreachable")
   unfolding clap_on_literals
   unreachable_steps none =
-      switch_steps (codes "no-unreachable") (rule_named (codes "no-unreachable")) refl refl ready.given.unreachable refl refl (λ absent. set_appends (rule_named (codes "no-unreachable")) (codes "true" ∷ []) R absent) (record { fp = refl; retpoline = refl; rethunk = refl; uaccess = refl; unreachable = refl }) refl refl refl (not_given (codes "--no-unreachable") refl none)
+      switch_steps (codes "no-unreachable") (rule_named (codes "no-unreachable")) refl refl ready.given.unreachable refl refl (λ absent. set_appends (rule_named (codes "no-unreachable")) (codes "true" ∷ []) R absent) (record { fp = refl; retpoline = refl; rethunk = refl; uaccess = refl; unreachable = refl; all_opcodes = refl }) refl refl refl (not_given (codes "--no-unreachable") refl none)
+
+  opcodes_steps : list_any (is_same_option (codes "--all-opcodes")) words ≡ false → Steps words h (codes "--all-opcodes")
+  unfolding clap_on_literals
+  opcodes_steps none =
+      switch_steps (codes "all-opcodes") (rule_named (codes "all-opcodes")) refl refl ready.given.all_opcodes refl refl (λ absent. set_appends (rule_named (codes "all-opcodes")) (codes "true" ∷ []) R absent) (record { fp = refl; retpoline = refl; rethunk = refl; uaccess = refl; unreachable = refl; all_opcodes = refl }) refl refl refl (not_given (codes "--all-opcodes") refl none)
 
   -- the option with one
   names_walked : (file : Word) (position : ℕ) → walked C [] (at_idle h position) (codes "--names=" ++ file) ≡ at_idle (reacted C (rule_named (codes "names")) (file ∷ []) h) position
@@ -241,7 +249,7 @@ module _ (words : List Word) (h : Held) (ready : Ready words h) where
       has_row_look (codes "names") R ∙ ap is_some (ready.given.names ∙ ap (λ o. option_map (text_row (codes "names")) (option_and_then file_after o)) fresh) in
       let stay = names_stay words word refl in
       let g = ready.given in
-      let given : Gives (words ++ word ∷ []) (R ++ r ∷ []) = gives_next words R word r g (record { fp = refl; retpoline = refl; rethunk = refl; uaccess = refl; unreachable = refl })
+      let given : Gives (words ++ word ∷ []) (R ++ r ∷ []) = gives_next words R word r g (record { fp = refl; retpoline = refl; rethunk = refl; uaccess = refl; unreachable = refl; all_opcodes = refl })
       (same_row (codes "IN") R r refl ∙ g.input ∙ ap (λ ns. option_map (text_row (codes "IN")) (slice_get ns 0)) (sym stay))
       (same_row (codes "OUT") R r refl ∙ g.output ∙ ap (λ ns. option_map (text_row (codes "OUT")) (slice_get ns 1)) (sym stay))
       (one_more (codes "names") R r ∙ ap (λ o. option_or o (Some r)) (g.names ∙ ap (λ o. option_map (text_row (codes "names")) (option_and_then file_after o)) fresh)
@@ -293,6 +301,7 @@ module _ (words : List Word) (h : Held) (ready : Ready words h) (word : Word) (i
         rethunk = no_switch (45 ∷ codes "rethunk") (codes "rethunk");
         uaccess = no_switch (45 ∷ codes "uaccess") (codes "uaccess");
         unreachable = no_switch (45 ∷ codes "no-unreachable") (codes "no-unreachable");
+        all_opcodes = no_switch (45 ∷ codes "all-opcodes") (codes "all-opcodes");
       } in
       let given : Gives (words ++ word ∷ []) (R' ++ r ∷ []) = gives_next words R' word r g row
       (one_more (codes "IN") R' r ∙ ap (λ o. option_or o (Some r)) (g.input ∙ ap (λ ns. option_map (text_row (codes "IN")) (slice_get ns 0)) none)
@@ -327,6 +336,7 @@ module _ (words : List Word) (h : Held) (ready : Ready words h) (word : Word) (i
         rethunk = no_switch (45 ∷ codes "rethunk") (codes "rethunk");
         uaccess = no_switch (45 ∷ codes "uaccess") (codes "uaccess");
         unreachable = no_switch (45 ∷ codes "no-unreachable") (codes "no-unreachable");
+        all_opcodes = no_switch (45 ∷ codes "all-opcodes") (codes "all-opcodes");
       } in
       let given : Gives (words ++ word ∷ []) (R' ++ r ∷ []) = gives_next words R' word r g row
       (same_row (codes "IN") R' r refl ∙ g.input ∙ ap (λ ns. option_map (text_row (codes "IN")) (slice_get ns 0)) one
@@ -395,7 +405,10 @@ option_steps words h word ready known new =
             | inl e ↦ by (codes "--uaccess") (is_literal word _ e) (uaccess_steps words h ready)
             | inr rest ↦ elim (or_case (bytes_eq word (codes "--no-unreachable")) _ rest) [
               | inl e ↦ by (codes "--no-unreachable") (is_literal word _ e) (unreachable_steps words h ready)
-              | inr e ↦ by (codes "--names=" ++ drop 8 word) (is_file word e) (names_steps words h ready (drop 8 word))
+              | inr rest ↦ elim (or_case (bytes_eq word (codes "--all-opcodes")) _ rest) [
+                | inl e ↦ by (codes "--all-opcodes") (is_literal word _ e) (opcodes_steps words h ready)
+                | inr e ↦ by (codes "--names=" ++ drop 8 word) (is_file word e) (names_steps words h ready (drop 8 word))
+              ]
             ]
           ]
         ]
@@ -443,5 +456,5 @@ words_walk (word ∷ words) seen h ready right =
 pub ready_at_start : Ready [] nothing_held
 ready_at_start = record {
   settles = refl;
-  given = record { input = refl; output = refl; fp = refl; retpoline = refl; rethunk = refl; uaccess = refl; unreachable = refl; names = refl };
+  given = record { input = refl; output = refl; fp = refl; retpoline = refl; rethunk = refl; uaccess = refl; unreachable = refl; all_opcodes = refl; names = refl };
 }

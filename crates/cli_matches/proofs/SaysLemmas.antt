@@ -2,7 +2,7 @@
 use Rattle.std.proofs.Common.{◌≡◌, true, false, List, Option, Some, bytes_eq, codes, refl, sym, ap, ◌∙◌, option_and_then, option_map, true≢false}
 use Rattle.std.specs.Option.{unwrap_or}
 use Rattle.clap.specs.Words.{Row, Text, first_of}
-use Rattle.ot_base.specs.declared.options.Options.{Options}
+use Rattle.cli_words.specs.declared.options.CheckOptions.{CheckOptions}
 use Rattle.cli_words.specs.Grammar.{Command, check, demo, dump, help, unwind, version}
 use Rattle.cli_words.specs.Numbers.{number_of}
 use Rattle.cli_words.specs.Words.{Word}
@@ -11,7 +11,7 @@ use Rattle.cli_matches.specs.Matches.{Says, SaysCheck}
 pub some_of : {X : Type 0} (x y : X) → Some x ≡ Some y → x ≡ y
 some_of x y e = ap (λ o. unwrap_or o x) e
 
-pub check_same : (i j o p : Word) (options others : Options) (names files : Option Word) → i ≡ j → o ≡ p → options ≡ others → names ≡ files
+pub check_same : (i j o p : Word) (options others : CheckOptions) (names files : Option Word) → i ≡ j → o ≡ p → options ≡ others → names ≡ files
     → Some (check i o options names) ≡ Some (check j p others files)
 check_same i j o p options others names files a b c d = cc
 
@@ -19,7 +19,7 @@ differ : (a b : Text) → bytes_eq a a ≡ true → bytes_eq a b ≡ false → a
 differ a b same other e = true≢false (sym same ∙ ap (bytes_eq a) e ∙ other)
 
 module _ (name : Text) (rows : List Row) (read : Option Command) where
-  pub check_said : (asked : Command) → name ≡ codes "check" → ((i o : Word) (options : Options) (names : Option Word) → SaysCheck rows i o options names → read ≡ Some (check i o options names))
+  pub check_said : (asked : Command) → name ≡ codes "check" → ((i o : Word) (options : CheckOptions) (names : Option Word) → SaysCheck rows i o options names → read ≡ Some (check i o options names))
       → Says (Some (name, rows)) asked → read ≡ Some asked
   check_said (check i o options names) is known says = known i o options names says.1
   check_said (dump file) is known says = absurd (differ (codes "check") (codes "dump") refl refl (sym is ∙ says.0))

@@ -29,6 +29,7 @@ check_app =
     let app = with_rule app (switch_rule (codes "rethunk")) in
     let app = with_rule app (switch_rule (codes "uaccess")) in
     let app = with_rule app (switch_rule (codes "no-unreachable")) in
+    let app = with_rule app (switch_rule (codes "all-opcodes")) in
     with_rule app names_rule
 
 abbrev pub dump_app : App

@@ -4,7 +4,9 @@ use Rattle.clap.specs.Words.{Row, Text, first_of, found_of, one_of, rows_of}
 use Rattle.clap.specs.declared.error.ErrorKind.{ErrorKind}
 use Rattle.clap.specs.declared.error.ErrorKind.TheVariants.{DisplayHelp, DisplayVersion}
 use Rattle.clap.specs.declared.ArgMatches.{ArgMatches}
-use Rattle.ot_base.specs.declared.options.Options.{Options}
+use Rattle.cli_words.specs.declared.options.CheckOptions.{CheckOptions}
+use Rattle.x86_map.specs.declared.map.Map.{Map}
+use Rattle.x86_map.specs.declared.map.Map.TheVariants.{Base, Whole}
 use Rattle.cli_words.specs.Words.{Word}
 use Rattle.cli_words.specs.Numbers.{number_of}
 use Rattle.cli_words.specs.Grammar.{Command, check, demo, dump, help, unwind, version}
@@ -17,15 +19,21 @@ switch_text false = codes "false"
 abbrev pub SaysSwitch : List Row → Text → Bool → Type 0
 SaysSwitch rows name given = one_of name rows ≡ Some (switch_text given)
 
+-- an option asks for the map
+abbrev pub is_asked : Map → Bool
+is_asked Base = false
+is_asked Whole = true
+
 -- the matches of `check` say this
-pub record SaysCheck (rows : List Row) (input output : Word) (options : Options) (names : Option Word) : Type 0 where
+pub record SaysCheck (rows : List Row) (input output : Word) (options : CheckOptions) (names : Option Word) : Type 0 where
   pub input_is : first_of (codes "IN") rows ≡ Some input
   pub output_is : first_of (codes "OUT") rows ≡ Some output
-  pub fp : SaysSwitch rows (codes "fp") options.fp
-  pub retpoline : SaysSwitch rows (codes "retpoline") options.retpoline
-  pub rethunk : SaysSwitch rows (codes "rethunk") options.rethunk
-  pub uaccess : SaysSwitch rows (codes "uaccess") options.uaccess
-  pub unreachable : SaysSwitch rows (codes "no-unreachable") (not options.unreachable)
+  pub fp : SaysSwitch rows (codes "fp") options.rules.fp
+  pub retpoline : SaysSwitch rows (codes "retpoline") options.rules.retpoline
+  pub rethunk : SaysSwitch rows (codes "rethunk") options.rules.rethunk
+  pub uaccess : SaysSwitch rows (codes "uaccess") options.rules.uaccess
+  pub unreachable : SaysSwitch rows (codes "no-unreachable") (not options.rules.unreachable)
+  pub all_opcodes : SaysSwitch rows (codes "all-opcodes") (is_asked options.map)
   pub names_are : first_of (codes "names") rows ≡ names
 
 -- a subcommand with its matches says this command

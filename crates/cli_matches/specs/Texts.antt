@@ -32,6 +32,7 @@ help_text =
     ++ codes "      --rethunk         Check that no return instruction is left outside listed places\n"
     ++ codes "      --uaccess         Check that user access is off outside of listed functions\n"
     ++ codes "      --no-unreachable  Don't check that each instruction is reached\n"
+    ++ codes "      --all-opcodes     Read vector, virtualization and newer system instructions too\n"
     ++ codes "      --names=<FILE>    Add the function names of FILE to the lists that are built in\n"
     ++ codes "\n"
     ++ codes "Print the rows of an object's ORC tables\n"

@@ -104,6 +104,11 @@ pub(crate) fn check<'a>(alloc: Global) -> Result<Command<'a>, AllocError>
             "no-unreachable",
             "Don't check that each instruction is reached",
         ))?
+        .arg(switch(
+            alloc,
+            "all-opcodes",
+            "Read vector, virtualization and newer system instructions too",
+        ))?
         .arg(names_option(alloc))
 }
 

@@ -2,7 +2,7 @@
 
 ghost use Rattle.std.specs.Prelude.{◌≡◌, Ok, Option, Some, codes, map, string_bytes, option_and_then, option_map, IfOk, IfErr, ℕ, Bool};
 ghost use Rattle.clap.specs.Words.{first_of, subcommand_rows_of};
-ghost use Rattle.ot_base.specs.declared.options.Options.{Options};
+ghost use Rattle.cli_words.specs.declared.options.CheckOptions.{CheckOptions};
 ghost use Rattle.cli_words.specs.Grammar.{Command as Meant, check, command_in, demo, dump, IsFaultOf, meaning, unwind};
 ghost use Rattle.cli_words.specs.Numbers.{number_of};
 ghost use Rattle.cli_words.specs.Words.{Word};
@@ -11,7 +11,7 @@ ghost use Rattle.cli_matches.specs.Matches.{Says, SaysCheck, SaysSwitch, request
 use crate::definition::command_line;
 use clap::ArgMatches;
 use clap::error::ErrorKind;
-use cli_words::{Command, UsageFault, judge_words, number_of};
+use cli_words::{CheckOptions, Command, Map, UsageFault, judge_words, number_of};
 use ot_base::Options;
 use std::alloc::{AllocError, Global};
 
@@ -32,10 +32,22 @@ fn is_given(found: &ArgMatches<'_>, name: &str) -> bool
     found.get_flag(name)
 }
 
-/// The rules that the options of `check` ask for.
-fn options_of(found: &ArgMatches<'_>) -> Options
-    ensures { (input output : Word) (options : Options) (names : Option Word)
-        → SaysCheck (rows_in found.now) input output options names → result ≡ options }
+/// The opcode map that the options of `check` ask for.
+fn map_of(found: &ArgMatches<'_>) -> Map
+    ensures { (input output : Word) (options : CheckOptions) (names : Option Word)
+        → SaysCheck (rows_in found.now) input output options names → result ≡ options.map }
+{
+    if is_given(found, "all-opcodes") {
+        Map::Whole
+    } else {
+        Map::Base
+    }
+}
+
+/// The rules that they ask for.
+fn rules_of(found: &ArgMatches<'_>) -> Options
+    ensures { (input output : Word) (options : CheckOptions) (names : Option Word)
+        → SaysCheck (rows_in found.now) input output options names → result ≡ options.rules }
 {
     Options {
         fp: is_given(found, "fp"),
@@ -46,9 +58,20 @@ fn options_of(found: &ArgMatches<'_>) -> Options
     }
 }
 
+/// What they ask for.
+fn options_of(found: &ArgMatches<'_>) -> CheckOptions
+    ensures { (input output : Word) (options : CheckOptions) (names : Option Word)
+        → SaysCheck (rows_in found.now) input output options names → result ≡ options }
+{
+    CheckOptions {
+        map: map_of(found),
+        rules: rules_of(found),
+    }
+}
+
 /// The command of `check`.
 fn check_of(alloc: Global, found: &ArgMatches<'_>) -> Result<Option<Command>, AllocError>
-    ensures { IfOk result (λ read. (input output : Word) (options : Options) (names : Option Word)
+    ensures { IfOk result (λ read. (input output : Word) (options : CheckOptions) (names : Option Word)
         → SaysCheck (rows_in found.now) input output options names
         → option_map command_in read ≡ Some (check input output options names)) }
 {

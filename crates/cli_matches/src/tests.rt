@@ -3,8 +3,7 @@
 use crate::definition::{check, command_line, demo, dump, unwind};
 use crate::reading::read_words;
 use crate::texts::{help_text, version_text};
-use cli_words::{Command, UsageFault};
-use ot_base::Options;
+use cli_words::{CheckOptions, Command, Map, UsageFault};
 use std::alloc::{AllocError, Global};
 use std::process::Abort;
 use std::test::Fail;
@@ -19,13 +18,15 @@ fn words(alloc: Global, line: &str) -> Result<Vec<String>, AllocError> {
 }
 
 /// One letter for each option that is asked for.
-fn letters(alloc: Global, options: Options) -> Result<String, AllocError> {
+fn letters(alloc: Global, options: CheckOptions) -> Result<String, AllocError> {
+    let CheckOptions { map, rules } = options;
     let mut text = String::new(alloc);
-    text.push_str(if options.fp { "f" } else { "-" })?;
-    text.push_str(if options.retpoline { "p" } else { "-" })?;
-    text.push_str(if options.rethunk { "t" } else { "-" })?;
-    text.push_str(if options.uaccess { "a" } else { "-" })?;
-    text.push_str(if options.unreachable { "u" } else { "-" })?;
+    text.push_str(if rules.fp { "f" } else { "-" })?;
+    text.push_str(if rules.retpoline { "p" } else { "-" })?;
+    text.push_str(if rules.rethunk { "t" } else { "-" })?;
+    text.push_str(if rules.uaccess { "a" } else { "-" })?;
+    text.push_str(if rules.unreachable { "u" } else { "-" })?;
+    text.push_str(if map == Map::Whole { "o" } else { "-" })?;
     Ok(text)
 }
 
@@ -70,21 +71,23 @@ fn expect_rows(rt: &impl Abort, alloc: Global, rows: &[&str]) -> Result<(), Allo
     Ok(())
 }
 
-const COMMANDS: [&str; 24] = [
-    "check a b = check a b ----u none",
-    "check a a = check a a ----u none",
-    "check a b --fp = check a b f---u none",
-    "check --retpoline a b = check a b -p--u none",
-    "check a --rethunk b = check a b --t-u none",
-    "check a b --uaccess = check a b ---au none",
-    "check a b --no-unreachable = check a b ----- none",
-    "check a b --names=n = check a b ----u n",
-    "check --names=--fp a b = check a b ----u --fp",
-    "check --names== a b = check a b ----u =",
-    "check a b --names=c=d = check a b ----u c=d",
-    "check --fp --retpoline --rethunk --uaccess --no-unreachable --names=n a b = check a b fpta- n",
-    "check --names=n a --no-unreachable --uaccess b --rethunk --retpoline --fp = check a b fpta- n",
-    "check check dump = check check dump ----u none",
+const COMMANDS: [&str; 26] = [
+    "check a b = check a b ----u- none",
+    "check a a = check a a ----u- none",
+    "check a b --fp = check a b f---u- none",
+    "check --retpoline a b = check a b -p--u- none",
+    "check a --rethunk b = check a b --t-u- none",
+    "check a b --uaccess = check a b ---au- none",
+    "check a b --no-unreachable = check a b ------ none",
+    "check a b --all-opcodes = check a b ----uo none",
+    "check a b --names=n = check a b ----u- n",
+    "check --all-opcodes --fp a --names=n b = check a b f---uo n",
+    "check --names=--fp a b = check a b ----u- --fp",
+    "check --names== a b = check a b ----u- =",
+    "check a b --names=c=d = check a b ----u- c=d",
+    "check --fp --retpoline --rethunk --uaccess --no-unreachable --names=n a b = check a b fpta-- n",
+    "check --names=n a --no-unreachable --uaccess b --rethunk --retpoline --fp = check a b fpta-- n",
+    "check check dump = check check dump ----u- none",
     "dump a = dump a",
     "dump help = dump help",
     "dump é = dump é",
@@ -113,7 +116,7 @@ const FIRST_WORDS: [&str; 13] = [
     "summary a = unknown command at word 0",
 ];
 
-const FAULTS: [&str; 40] = [
+const FAULTS: [&str; 43] = [
     "check = missing at word 1",
     "check a = missing at word 2",
     "check --fp = missing at word 2",
@@ -132,7 +135,9 @@ const FAULTS: [&str; 40] = [
     "check a b --Fp = unknown option at word 3",
     "check a b --fpx = unknown option at word 3",
     "check a b --fp= = unknown option at word 3",
-    "check a b --all-opcodes = unknown option at word 3",
+    "check a b --all-opcode = unknown option at word 3",
+    "check a b --all-opcodes= = unknown option at word 3",
+    "check --all-opcodes a b --all-opcodes = repeated at word 4",
     "check --names n a b = unknown option at word 1",
     "check a b --name=n = unknown option at word 3",
     "check a b --unreachable = unknown option at word 3",
@@ -146,6 +151,7 @@ const FAULTS: [&str; 40] = [
     "dump = missing at word 1",
     "dump a b = extra at word 2",
     "dump --fp = unknown option at word 1",
+    "dump a --all-opcodes = unknown option at word 2",
     "dump a --names=n = unknown option at word 2",
     "unwind a = missing at word 2",
     "unwind a b c = extra at word 3",
@@ -235,6 +241,6 @@ fn help_names_the_options(rt: HostRuntime) -> Result<(), Fail> {
             count = count.saturating_add(1);
         }
     }
-    assert_eq!(rt; count, 8);
+    assert_eq!(rt; count, 9);
     Ok(())
 }

@@ -34,6 +34,7 @@ Options:
       --rethunk         Check that no return instruction is left outside listed places
       --uaccess         Check that user access is off outside of listed functions
       --no-unreachable  Don't check that each instruction is reached
+      --all-opcodes     Read vector, virtualization and newer system instructions too
       --names=<FILE>    Add the function names of FILE to the lists that are built in
 
 Print the rows of an object's ORC tables

@@ -2,6 +2,9 @@
 use Rattle.std.specs.Prelude.{◌≡◌, ℕ, ◌+◌, ◌==◌, ◌&&◌, ◌||◌, not, Bool, true, false, List, [], ◌∷◌, ◌++◌, length, nat_le, codes, Option, Some, None, Result, Ok, Err, is_some, if◌then◌else◌, bytes_eq, option_map, string_bytes}
 use Rattle.std.specs.List.{list_any}
 use Rattle.ot_base.specs.declared.options.Options.{Options}
+use Rattle.x86_map.specs.declared.map.Map.{Map}
+use Rattle.x86_map.specs.declared.map.Map.TheVariants.{Base, Whole}
+use Rattle.cli_words.specs.declared.options.CheckOptions.{CheckOptions}
 use Rattle.cli_words.specs.declared.word.CommandWord.{CommandWord}
 use Rattle.cli_words.specs.declared.word.CommandWord.TheVariants.{Check, Dump, Unwind, Demo}
 use Rattle.cli_words.specs.declared.fault.UsageKind.{UsageKind}
@@ -15,7 +18,7 @@ use Rattle.cli_words.specs.Words.{Word, command_named, gives, is_names_option, i
 
 -- a command, with the names of its files
 pub data Command : Type 0 where
-  check : (input output : Word) (options : Options) (names : Option Word) → Command
+  check : (input output : Word) (options : CheckOptions) (names : Option Word) → Command
   dump : (file : Word) → Command
   unwind : (file image : Word) → Command
   demo : (n : ℕ) → Command
@@ -69,14 +72,22 @@ first_fault command before [] = None
 first_fault command before (word ∷ rest) = or_else (word_fault command before word) (length before + 1) (first_fault command (before ++ word ∷ []) rest)
 
 -- the rules that the options of `check` ask for; rule 14 is asked for unless an option says no
-abbrev pub options_in : List Word → Options
-options_in words = record {
+abbrev pub rules_in : List Word → Options
+rules_in words = record {
   fp = gives (codes "--fp") words;
   retpoline = gives (codes "--retpoline") words;
   rethunk = gives (codes "--rethunk") words;
   uaccess = gives (codes "--uaccess") words;
   unreachable = not (gives (codes "--no-unreachable") words);
 }
+
+-- the opcode map that they ask for: the base map, unless an option asks for the whole one
+abbrev pub map_in : List Word → Map
+map_in words = if gives (codes "--all-opcodes") words then Whole else Base
+
+-- what the options of `check` ask for
+abbrev pub options_in : List Word → CheckOptions
+options_in words = record { map = map_in words; rules = rules_in words }
 
 -- what a command asks for with these names or numbers and these options, where none is missing
 unfoldable pub asked : CommandWord → List Word → List Word → Option Command

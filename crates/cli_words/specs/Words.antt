@@ -45,7 +45,8 @@ is_check_option word =
     || (bytes_eq word (codes "--retpoline")
     || (bytes_eq word (codes "--rethunk")
     || (bytes_eq word (codes "--uaccess")
-    || (bytes_eq word (codes "--no-unreachable") || is_names_option word))))
+    || (bytes_eq word (codes "--no-unreachable")
+    || (bytes_eq word (codes "--all-opcodes") || is_names_option word)))))
 
 -- an option of this command: `check` alone has some
 abbrev pub is_option_of : CommandWord → Word → Bool

@@ -1,4 +1,4 @@
-use ot_base::Options;
+use crate::options::CheckOptions;
 
 /// What the words of a command line ask for.
 #[derive(Debug, Drop)]
@@ -7,8 +7,7 @@ pub enum Command {
     Check {
         input: String,
         output: String,
-        /// The rules that are looked at besides those that always are.
-        options: Options,
+        options: CheckOptions,
         /// The file of function names, where one is given.
         names: Option<String>,
     },

@@ -6,10 +6,13 @@ mod fault;
 mod judge;
 mod line;
 mod number;
+mod options;
 mod word;
 
 pub use command::Command;
 pub use fault::{UsageFault, UsageKind};
 pub use line::judge_words;
 pub use number::number_of;
+pub use options::CheckOptions;
 pub use word::CommandWord;
+pub use x86_map::Map;

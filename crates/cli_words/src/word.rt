@@ -80,7 +80,8 @@ fn is_check_option(word: &str) -> bool
     ensures { result ≡ is_check_option word.now }
 {
     match word {
-        "--fp" | "--retpoline" | "--rethunk" | "--uaccess" | "--no-unreachable" => true,
+        "--fp" | "--retpoline" | "--rethunk" | "--uaccess" | "--no-unreachable" | "--all-opcodes" =>
+            true,
         _ => is_names_option(word),
     }
 }

@@ -57,19 +57,19 @@ no_fault P meaning before after out out' answer ends nothing (inr (inr (inr none
 pub dump_law : DumpIsDone
 dump_law o lists written unwinds content file holds before after out out' answer told ends nothing =
     no_fault _ (Ok (dump file)) before after out out' answer ends nothing
-    (dump_answered (Ok (dump file)) before after out out' answer file written (with_tables_object o unwinds.rows) unwinds.rows content ends refl told (read_as content MAX_FILE_BYTES file written holds) (record { object = unwinds.reads_back; held = unwinds.holds }))
+    (dump_answered (Ok (dump file)) before after out out' answer file written (with_tables_object o.elf unwinds.rows) unwinds.rows content ends refl told (read_as content MAX_FILE_BYTES file written holds) (record { object = unwinds.reads_back; held = unwinds.holds }))
     (λ done. (done, printed (rows_dumped (Ok (dump file)) before after out out' answer file ends done refl)))
   where
-    printed : IsDumped file before.content out.written out'.written → out'.written ≡ appending out.written (rows_text (with_tables_object o unwinds.rows) unwinds.rows)
+    printed : IsDumped file before.content out.written out'.written → out'.written ≡ appending out.written (rows_text (with_tables_object o.elf unwinds.rows) unwinds.rows)
     printed d =
         let same = was_read content MAX_FILE_BYTES file written d.bytes before.content told holds d.may in
         let are = rows_are o lists written unwinds d.object d.rows (subst (λ (b : List ℕ). HoldsRows b d.object d.rows) same d.held) in
-        d.printed ∙ ap (λ (text : List ℕ). appending out.written text) (text_is d.object (with_tables_object o unwinds.rows) d.rows unwinds.rows are.0 are.1)
+        d.printed ∙ ap (λ (text : List ℕ). appending out.written text) (text_is d.object (with_tables_object o.elf unwinds.rows) d.rows unwinds.rows are.0 are.1)
 
 pub unwind_law : WalkIsDetermined → MemoryIsSaid → UnwindIsDone
 unwind_law determined said o lists written text unwinds state tells content file image holds holds_text before after out out' answer told ends nothing =
     no_fault _ (Ok (unwind file image)) before after out out' answer ends nothing
-    (unwind_answered (Ok (unwind file image)) before after out out' answer file image written text tells.image (with_tables_object o unwinds.rows) unwinds.rows content ends refl told
+    (unwind_answered (Ok (unwind file image)) before after out out' answer file image written text tells.image (with_tables_object o.elf unwinds.rows) unwinds.rows content ends refl told
     (read_as content MAX_FILE_BYTES file written holds) (read_as content MAX_IMAGE_BYTES image text holds_text) (placed_law o lists written text unwinds state tells))
     (λ done. (done, printed (walk_printed (Ok (unwind file image)) before after out out' answer file image ends done refl)))
   where
@@ -79,8 +79,8 @@ unwind_law determined said o lists written text unwinds state tells content file
         let words = was_read content MAX_IMAGE_BYTES image text d.text before.content told holds_text d.may_text in
         let also : IsImage text d.stack = subst (λ (t : List ℕ). IsImage t d.stack) words d.placed.is_image in
         let are = rows_are o lists written unwinds d.object d.rows (subst (λ (b : List ℕ). HoldsRows b d.object d.rows) bytes d.placed.held) in
-        let by_rows : Walks unwinds.rows (ranges_of (with_tables_object o unwinds.rows) d.stack.places) (word_at d.stack.memory) d.stack.regs d.frames d.stop =
-        subst (λ (rs : List PlacedRow). Walks rs (ranges_of (with_tables_object o unwinds.rows) d.stack.places) (word_at d.stack.memory) d.stack.regs d.frames d.stop) are.1
+        let by_rows : Walks unwinds.rows (ranges_of (with_tables_object o.elf unwinds.rows) d.stack.places) (word_at d.stack.memory) d.stack.regs d.frames d.stop =
+        subst (λ (rs : List PlacedRow). Walks rs (ranges_of (with_tables_object o.elf unwinds.rows) d.stack.places) (word_at d.stack.memory) d.stack.regs d.frames d.stop) are.1
         (subst (λ (q : Elf). Walks d.rows (ranges_of q d.stack.places) (word_at d.stack.memory) d.stack.regs d.frames d.stop) are.0 d.walks) in
         let machine = walk_is determined said o lists written text unwinds state tells d.stack also d.frames d.stop by_rows in
         (d.stop, machine.0, d.printed ∙ ap (λ (fs : List Frame). appending out.written (walk_text fs d.stop)) machine.1)

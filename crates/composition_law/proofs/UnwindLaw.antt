@@ -16,6 +16,7 @@ use Rattle.walk_defs.specs.Walk.{Walks}
 use Rattle.table_defs.specs.Walks.{StopsAs, registers_of, walk_frame}
 use Rattle.elf_objects.specs.Elf.{Elf}
 use Rattle.table_output.specs.Tables.{with_symbols, with_tables_object}
+use Rattle.flow_defs.specs.Coded.{Coded}
 use Rattle.flow_defs.specs.Program.{program_of}
 use Rattle.ot_base.specs.NameLists.{NameLists}
 use Rattle.orc_unwind.specs.Memory.{Piece, byte_at, bytes_at, word_at}
@@ -39,9 +40,9 @@ use Rattle.composition_law.proofs.Placed.{none_foreign, none_refused}
 
 pub placed_law : StatesAreUnwound
 placed_law o lists written text unwinds state told =
-    let named : Elf = with_symbols o unwinds.rows in
-    let out : Elf = with_tables_object o unwinds.rows in
-    let placement : IsPlacement (texts_of named) (ranges_of out told.image.places) = subst (λ texts. IsPlacement texts (ranges_of out told.image.places)) (sym (texts_stay o unwinds.rows)) told.holds.placement in
+    let named : Elf = with_symbols o.elf unwinds.rows in
+    let out : Elf = with_tables_object o.elf unwinds.rows in
+    let placement : IsPlacement (texts_of named) (ranges_of out told.image.places) = subst (λ texts. IsPlacement texts (ranges_of out told.image.places)) (sym (texts_stay o.elf unwinds.rows)) told.holds.placement in
     record {
       is_image = told.is_image;
       held = record { object = unwinds.reads_back; held = unwinds.holds };
@@ -74,14 +75,14 @@ stops_known (Some kind.Undefined) s (inr e) t = subst TellsOfWords e t
 
 -- The walk from any image of the text is the machine's.
 pub walk_is : WalkIsDetermined → MemoryIsSaid
-    → (o : Elf) (lists : NameLists) (written text : List ℕ) (unwinds : UnwindsBy o lists written) (state : Standing) (told : TellsState o lists written text unwinds state) (other : StackImage)
+    → (o : Coded) (lists : NameLists) (written text : List ℕ) (unwinds : UnwindsBy o lists written) (state : Standing) (told : TellsState o lists written text unwinds state) (other : StackImage)
     → IsImage text other
     → (found : List Frame) (stop : walk.Stop)
-    → Walks unwinds.rows (ranges_of (with_tables_object o unwinds.rows) other.places) (word_at other.memory) other.regs found stop
+    → Walks unwinds.rows (ranges_of (with_tables_object o.elf unwinds.rows) other.places) (word_at other.memory) other.regs found stop
     → StopsAs (frames_end state) stop × (found ≡ map walk_frame (frames state))
 walk_is determined said o lists written text unwinds state told other also found stop walks =
     let image = told.image in
-    let out : Elf = with_tables_object o unwinds.rows in
+    let out : Elf = with_tables_object o.elf unwinds.rows in
     let start : Regs = registers_of (program_of o lists) told.bases state in
     let regs : other.regs ≡ start = same_regs also.says.regs told.is_image.says.regs ∙ told.holds.regs in
     let places : other.places ≡ image.places = also.says.places ∙ sym told.is_image.says.places in
@@ -99,12 +100,12 @@ walk_is determined said o lists written text unwinds state told other also found
 pub unwind_law : WalkIsDetermined → MemoryIsSaid → UnwindTellsTheFrames
 unwind_law determined said o lists written text unwinds state told out out' answer (walked other p rows found stop placed walks prints) =
     let are = rows_are o lists written unwinds p rows placed.held in
-    let by_rows : Walks unwinds.rows (ranges_of (with_tables_object o unwinds.rows) other.places) (word_at other.memory) other.regs found stop =
-    subst (λ (rs : List PlacedRow). Walks rs (ranges_of (with_tables_object o unwinds.rows) other.places) (word_at other.memory) other.regs found stop) are.1
+    let by_rows : Walks unwinds.rows (ranges_of (with_tables_object o.elf unwinds.rows) other.places) (word_at other.memory) other.regs found stop =
+    subst (λ (rs : List PlacedRow). Walks rs (ranges_of (with_tables_object o.elf unwinds.rows) other.places) (word_at other.memory) other.regs found stop) are.1
     (subst (λ (q : Elf). Walks rows (ranges_of q other.places) (word_at other.memory) other.regs found stop) are.0 walks) in
     let machine = walk_is determined said o lists written text unwinds state told other placed.is_image found stop by_rows in
     inl (stop, machine.0, subst (λ (fs : List Frame). Prints status.Done (walk_text fs stop) out out' answer) machine.1 prints)
 unwind_law determined said o lists written text unwinds state told out out' answer (stopped why none concludes) =
     inr
     (subst (λ (w : Stop). Concludes w out out' answer)
-    (walk_excluded written text told.image (with_tables_object o unwinds.rows) unwinds.rows why (placed_law o lists written text unwinds state told) none) concludes)
+    (walk_excluded written text told.image (with_tables_object o.elf unwinds.rows) unwinds.rows why (placed_law o lists written text unwinds state told) none) concludes)

@@ -21,6 +21,7 @@ use Rattle.ot_base.specs.declared.row.PlacedRow.{PlacedRow}
 use Rattle.orc_bytes.specs.Sections.{HoldsOrc}
 use Rattle.orc_output.specs.OrcOutput.{CanHaveOrc, with_orc_object}
 use Rattle.table_output.specs.Tables.{with_tables_object}
+use Rattle.flow_defs.specs.Coded.{Coded}
 use Rattle.flow_defs.specs.Program.{program_of}
 use Rattle.ot_base.specs.NameLists.{NameLists}
 use Rattle.command_base.specs.declared.reading.TheConstants.{MAX_IMAGE_BYTES}
@@ -42,9 +43,9 @@ use Rattle.read_back.specs.WalkText.{walk_text}
 -- Bytes that unwind an object by some rows are dumped as the lines of exactly these rows, or memory runs out.
 abbrev pub DumpTellsTheRows : Type 0
 DumpTellsTheRows =
-    (o : Elf) (lists : NameLists) (written : List ℕ) (unwinds : UnwindsBy o lists written) (out out' : Output) (answer : Status)
+    (o : Coded) (lists : NameLists) (written : List ℕ) (unwinds : UnwindsBy o lists written) (out out' : Output) (answer : Status)
     → Dumps written out out' answer
-    → Prints status.Done (rows_text (with_tables_object o unwinds.rows) unwinds.rows) out out' answer ⊎ Concludes stop.NoMemory out out' answer
+    → Prints status.Done (rows_text (with_tables_object o.elf unwinds.rows) unwinds.rows) out out' answer ⊎ Concludes stop.NoMemory out out' answer
 
 -- An image holds a state of the machine: its registers are those of the state, each word of the state's stack stands in its
 -- memory, and it places the text sections of the object, by the numbers and sizes that they have in the object with its
@@ -56,19 +57,19 @@ pub record IsImageOf (o with_tables : Elf) (p : Program) (bases : Bases) (state 
   pub begin : BeginAt bases (ranges_of with_tables image.places)
 
 -- A text is an image that holds a state of some run of the program of an object, which bytes unwind.
-pub record TellsState (o : Elf) (lists : NameLists) (written text : List ℕ) (unwinds : UnwindsBy o lists written) (state : Standing) : Type 0 where
+pub record TellsState (o : Coded) (lists : NameLists) (written text : List ℕ) (unwinds : UnwindsBy o lists written) (state : Standing) : Type 0 where
   pub image : StackImage
   pub is_image : IsImage text image
   pub bases : Bases
   pub run : Run (program_of o lists) bases (At state)
-  pub holds : IsImageOf o (with_tables_object o unwinds.rows) (program_of o lists) bases state image
+  pub holds : IsImageOf o.elf (with_tables_object o.elf unwinds.rows) (program_of o lists) bases state image
 
 -- Such bytes and such a text give a walk: the text is an image, the bytes are an object that holds these rows, each place
 -- of the image names a text section of it, and the rows can be placed there. So `unwind` of them isn't refused.
 abbrev pub StatesAreUnwound : Type 0
 StatesAreUnwound =
-    (o : Elf) (lists : NameLists) (written text : List ℕ) (unwinds : UnwindsBy o lists written) (state : Standing) (told : TellsState o lists written text unwinds state)
-    → IsPlaced written text told.image (with_tables_object o unwinds.rows) unwinds.rows
+    (o : Coded) (lists : NameLists) (written text : List ℕ) (unwinds : UnwindsBy o lists written) (state : Standing) (told : TellsState o lists written text unwinds state)
+    → IsPlaced written text told.image (with_tables_object o.elf unwinds.rows) unwinds.rows
 
 -- the text of the frames of a state's shadow call stack, innermost first, and of a stop
 abbrev pub shadow_text : Standing → walk.Stop → List ℕ
@@ -78,7 +79,7 @@ shadow_text state stop = walk_text (map walk_frame (frames state)) stop
 -- belongs to how they end, or memory runs out.
 abbrev pub UnwindTellsTheFrames : Type 0
 UnwindTellsTheFrames =
-    (o : Elf) (lists : NameLists) (written text : List ℕ) (unwinds : UnwindsBy o lists written) (state : Standing)
+    (o : Coded) (lists : NameLists) (written text : List ℕ) (unwinds : UnwindsBy o lists written) (state : Standing)
     → TellsState o lists written text unwinds state
     → (out out' : Output) (answer : Status)
     → Unwinds written text out out' answer
@@ -100,21 +101,21 @@ pub record NothingFails (before after : Outside) (out out' : Output) : Type 0 wh
 -- printed the lines of exactly these rows, or memory ran out.
 abbrev pub DumpIsDone : Type 0
 DumpIsDone =
-    (o : Elf) (lists : NameLists) (written : List ℕ) (unwinds : UnwindsBy o lists written)
+    (o : Coded) (lists : NameLists) (written : List ℕ) (unwinds : UnwindsBy o lists written)
     → (content : Content) (file : List ℕ)
     → Holds content MAX_FILE_BYTES file written
     → (before after : Outside) (out out' : Output) (answer : Status)
     → before.content ≡ Some content
     → Ends (Ok (dump file)) before after out out' answer
     → NothingFails before after out out'
-    → ((answer ≡ status.Done) × (out'.written ≡ appending out.written (rows_text (with_tables_object o unwinds.rows) unwinds.rows))) ⊎ (answer ≡ status.NoMemory)
+    → ((answer ≡ status.Done) × (out'.written ≡ appending out.written (rows_text (with_tables_object o.elf unwinds.rows) unwinds.rows))) ⊎ (answer ≡ status.NoMemory)
 
 -- Where FILE holds bytes that unwind an object, IMAGE an image that holds a state of some run of its program, and nothing
 -- fails, `unwind FILE IMAGE` ends with status 0 and has printed exactly the frames of that state's shadow call stack and
 -- the stop that belongs to how they end, or memory ran out.
 abbrev pub UnwindIsDone : Type 0
 UnwindIsDone =
-    (o : Elf) (lists : NameLists) (written text : List ℕ) (unwinds : UnwindsBy o lists written) (state : Standing)
+    (o : Coded) (lists : NameLists) (written text : List ℕ) (unwinds : UnwindsBy o lists written) (state : Standing)
     → TellsState o lists written text unwinds state
     → (content : Content) (file image : List ℕ)
     → Holds content MAX_FILE_BYTES file written

@@ -1,5 +1,5 @@
 -- What the faults of readers are told as is why the object isn't checked.
-use Rattle.elf_objects.specs.Elf.{Elf}
+use Rattle.flow_defs.specs.Coded.{Coded}
 use Rattle.object_code.specs.declared.fault.LinkFault.{LinkFault}
 use Rattle.object_code.specs.declared.fault.LinkFault.TheVariants as link
 use Rattle.object_code.specs.Linked.{IsLinked, IsLinkFault}
@@ -9,14 +9,14 @@ use Rattle.flow_defs.specs.Faults.{IsFirstFlowFault}
 use Rattle.object_check.specs.Order.{IsCheckFault, unlinked, unflowed, no_memory}
 use Rattle.object_check.specs.Told.{flow_fault, link_fault}
 
-pub link_told : (o : Elf) (fault : LinkFault) → IsLinkFault o fault → IsCheckFault o (link_fault fault)
+pub link_told : (o : Coded) (fault : LinkFault) → IsLinkFault o fault → IsCheckFault o (link_fault fault)
 link_told o link.NoMemory is = no_memory
 link_told o (link.Text sec why) is = unlinked (link.Text sec why) (λ e. let z : ⊥ = cc in z) is
 link_told o (link.Special why) is = unlinked (link.Special why) (λ e. let z : ⊥ = cc in z) is
 link_told o (link.Index why) is = unlinked (link.Index why) (λ e. let z : ⊥ = cc in z) is
 link_told o (link.Site why) is = unlinked (link.Site why) (λ e. let z : ⊥ = cc in z) is
 
-pub flow_told : (o : Elf) (fault : FlowFault) → IsLinked o → IsFirstFlowFault o fault → IsCheckFault o (flow_fault fault)
+pub flow_told : (o : Coded) (fault : FlowFault) → IsLinked o → IsFirstFlowFault o fault → IsCheckFault o (flow_fault fault)
 flow_told o flow.NoMemory linked is = no_memory
 flow_told o (flow.FuncStart sym) linked is = unflowed (flow.FuncStart sym) (λ e. let z : ⊥ = cc in z) linked is
 flow_told o (flow.NotBoundary list entry) linked is = unflowed (flow.NotBoundary list entry) (λ e. let z : ⊥ = cc in z) linked is

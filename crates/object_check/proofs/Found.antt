@@ -5,7 +5,7 @@ use Rattle.std.proofs.lemmas.List.Elements.{All-contains}
 use Rattle.ot_base.specs.declared.options.Options.{Options}
 use Rattle.ot_base.specs.declared.row.PlacedRow.{PlacedRow}
 use Rattle.ot_base.specs.NameLists.{NameLists}
-use Rattle.elf_objects.specs.Elf.{Elf}
+use Rattle.flow_defs.specs.Coded.{Coded}
 use Rattle.elf_objects.specs.declared.TheConstants.{MAX_FILE_BYTES}
 use Rattle.checker_defs.specs.Rows.{rows_of}
 use Rattle.table_defs.specs.Walks.{WalksToFrames}
@@ -35,7 +35,7 @@ use Rattle.object_check.specs.declared.outcome.Outcome.{Outcome}
 use Rattle.object_check.specs.declared.outcome.Outcome.TheVariants.{Accepted, Broken}
 use Rattle.object_check.proofs.OrcSections.{all_other}
 
-pub ready : (o : Elf) (lists : NameLists) (parts : GraphParts) → ProgramIsOne → ProgramIsLaidOut → PointsAscend → ProgramHasFunctions → IsGraphOf o lists parts → IsReady (program_of o lists) parts
+pub ready : (o : Coded) (lists : NameLists) (parts : GraphParts) → ProgramIsOne → ProgramIsLaidOut → PointsAscend → ProgramHasFunctions → IsGraphOf o lists parts → IsReady (program_of o lists) parts
 ready o lists parts one laid ascend functions is = record {
   tells = is.tells;
   is_program = one o lists is.object.bytes is.object.special;
@@ -45,17 +45,17 @@ ready o lists parts one laid ascend functions is = record {
 }
 
 -- a table that is lent is the table
-pub lent_table : (o : Elf) (lists : NameLists) (table : Option AllowanceTable) (lent : Option (Bor AllowanceTable)) → option_copied lent ≡ table → IsTableOf (program_of o lists) (allowances_of o lists) table → IsTableOf (program_of o lists) (allowances_of o lists) (option_copied lent)
+pub lent_table : (o : Coded) (lists : NameLists) (table : Option AllowanceTable) (lent : Option (Bor AllowanceTable)) → option_copied lent ≡ table → IsTableOf (program_of o lists) (allowances_of o lists) table → IsTableOf (program_of o lists) (allowances_of o lists) (option_copied lent)
 lent_table o lists table lent same is = subst (IsTableOf (program_of o lists) (allowances_of o lists)) (sym same) is
 
 -- what was found of the program of an object that can be checked is the outcome
-pub is_outcome : (o : Elf) (lists : NameLists) (options : Options) (counts : CodeCounts) (outcome : Outcome)
+pub is_outcome : (o : Coded) (lists : NameLists) (options : Options) (counts : CodeCounts) (outcome : Outcome)
     → IsCheckable o → IsCounted o counts → IsOutcomeOf (program_of o lists) (allowances_of o lists) options counts outcome → IsOutcome o lists options outcome
 is_outcome o lists options counts (Accepted rows told) can counted found = (can, found.0, found.1, subst (IsCounted o) (sym found.2) counted)
 is_outcome o lists options counts (Broken warnings) can counted found = (can, found)
 
 -- a row that lies in a text section that a symbol names
-row_in : (o : Elf) (x : PlacedRow) → IsPlacedRow o x → IsNamed o x.place.sec → IsRowIn o x
+row_in : (o : Coded) (x : PlacedRow) → IsPlacedRow o x → IsNamed o x.place.sec → IsRowIn o.elf x
 row_in o x is named = record {
   section = is.section;
   at = is.at;
@@ -65,26 +65,26 @@ row_in o x is named = record {
   row = is.row;
 }
 
-pub can_have_tables : (o : Elf) (lists : NameLists) (options : Options) (counts : CodeCounts) (outcome : Outcome)
-    → length o.bytes ≤ MAX_FILE_BYTES → RowsArePlaced → RowsAreFew → RowsAreNamed → ObjectIsInOrder o → IsCheckable o → IsOutcomeOf (program_of o lists) (allowances_of o lists) options counts outcome
-    → OnAccepted outcome (CanHaveTables o)
+pub can_have_tables : (o : Coded) (lists : NameLists) (options : Options) (counts : CodeCounts) (outcome : Outcome)
+    → length o.elf.bytes ≤ MAX_FILE_BYTES → RowsArePlaced → RowsAreFew → RowsAreNamed → ObjectIsInOrder o → IsCheckable o → IsOutcomeOf (program_of o lists) (allowances_of o lists) options counts outcome
+    → OnAccepted outcome (CanHaveTables o.elf)
 can_have_tables o lists options counts (Accepted rows told) short are_placed are_few are_named order can found =
     let has = found.1 in
     let all : List PlacedRow = rows_of (program_of o lists) has.states in
     let placed = are_placed o lists has.states order.object found.0.accepted has.kept in
     let named = are_named o lists has.states order has.kept in
-    let each : All (IsRowIn o) all =
-    all_of (IsRowIn o) all (λ x c. row_in o x (All-contains (IsPlacedRow o) all x placed c) (All-contains (λ (y : PlacedRow). IsNamed o y.place.sec) all x named c)) in
+    let each : All (IsRowIn o.elf) all =
+    all_of (IsRowIn o.elf) all (λ x c. row_in o x (All-contains (IsPlacedRow o) all x placed c) (All-contains (λ (y : PlacedRow). IsNamed o y.place.sec) all x named c)) in
     record {
-      each = subst (All (IsRowIn o)) (sym has.is) each;
-      none = all_other o can.new;
+      each = subst (All (IsRowIn o.elf)) (sym has.is) each;
+      none = all_other o.elf can.new;
       few = omega (arith, can.few);
       short = short;
       few_rows = omega (arith, are_few o lists has.states order.object, ap length has.is);
     }
 can_have_tables o lists options counts (Broken warnings) short are_placed are_few are_named order can found = tt
 
-pub rows_unwind : (o : Elf) (lists : NameLists) (options : Options) (counts : CodeCounts) (outcome : Outcome)
+pub rows_unwind : (o : Coded) (lists : NameLists) (options : Options) (counts : CodeCounts) (outcome : Outcome)
     → ObjectUnwinds → ObjectIsInOrder o → IsCheckable o → IsOutcomeOf (program_of o lists) (allowances_of o lists) options counts outcome
     → OnAccepted outcome (RowsUnwind o lists)
 rows_unwind o lists options counts (Accepted rows told) unwinds order can found = λ bases ranges placed m run.
@@ -94,7 +94,7 @@ rows_unwind o lists options counts (Accepted rows told) unwinds order can found 
 rows_unwind o lists options counts (Broken warnings) unwinds order can found = tt
 
 -- what the options promise of its runs
-pub keeps_promises : (o : Elf) (lists : NameLists) (options : Options) (counts : CodeCounts) (outcome : Outcome)
+pub keeps_promises : (o : Coded) (lists : NameLists) (options : Options) (counts : CodeCounts) (outcome : Outcome)
     → FrameLaw → BranchLaw → AccessLaw → ProgramIsOne → ProgramHasFunctions → ObjectIsInOrder o
     → IsOutcomeOf (program_of o lists) (allowances_of o lists) options counts outcome
     → OnAccepted outcome (λ rows. KeepsPromises o lists options)

@@ -6,6 +6,7 @@ use Rattle.std.proofs.lemmas.Bool.{cases_lt}
 use Rattle.std.proofs.lemmas.Bool.Decides.{nat_tests}
 use Rattle.ot_base.specs.declared.place.Place.{Place}
 use Rattle.elf_objects.specs.Elf.{Elf}
+use Rattle.flow_defs.specs.Coded.{Coded}
 use Rattle.symbols_relocs.specs.declared.function.Function.{Function}
 use Rattle.symbols_relocs.specs.Functions.{is_function, start_of}
 use Rattle.symbols_relocs.specs.Lists.{AreFunctions, function}
@@ -93,9 +94,9 @@ counts_are : (a : CodeCounts) (functions instructions text : ℕ) → a.function
 counts_are a functions instructions text e f g = rw (← e, ← f, ← g) refl
 
 -- and it has so much code alone
-pub one_counts : (o : Elf) (a b : CodeCounts) → IsCounted o a → IsCounted o b → a ≡ b
+pub one_counts : (o : Coded) (a b : CodeCounts) → IsCounted o a → IsCounted o b → a ≡ b
 one_counts o a b h k =
     counts_are a b.functions b.instructions b.text_bytes
-    (h.functions.counted ∙ one_count o h.functions.functions k.functions.functions h.functions.are k.functions.are ∙ sym k.functions.counted)
+    (h.functions.counted ∙ one_count o.elf h.functions.functions k.functions.functions h.functions.are k.functions.are ∙ sym k.functions.counted)
     (h.instructions ∙ sym k.instructions)
     (h.text ∙ sym k.text)

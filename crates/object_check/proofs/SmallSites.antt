@@ -4,7 +4,8 @@ use Rattle.std.specs.Prelude.{◌^◌}
 use Rattle.std.specs.List.{range_with_len}
 use Rattle.std.proofs.lemmas.Bool.Decides.{nat_tests}
 use Rattle.ot_base.specs.NameLists.{NameLists}
-use Rattle.elf_objects.specs.Elf.{Elf, SectionEntry}
+use Rattle.elf_objects.specs.Elf.{SectionEntry}
+use Rattle.flow_defs.specs.Coded.{Coded}
 use Rattle.elf_objects.specs.Contents.{is_text, section_at}
 use Rattle.elf_objects.specs.Object.{IsObject}
 use Rattle.elf_objects.specs.declared.TheConstants.{SHT_NOBITS, SHT_NULL}
@@ -16,11 +17,11 @@ use Rattle.unwinding_law.proofs.Lists.{all_of, from_filter, in_map}
 use Rattle.program_defs.specs.Program.{Site}
 use Rattle.program_graph.specs.declared.parts.GraphParts.{GraphParts}
 use Rattle.program_graph.specs.Tells.{site_of}
-use Rattle.flow_defs.specs.Code.{alternatives_of, text_numbers}
+use Rattle.flow_defs.specs.Code.{alternatives_of, body_of, text_numbers}
 use Rattle.flow_defs.specs.Program.{graph_of, program_of, returning_graph}
 use Rattle.flow_defs.specs.Sites.{sites_of}
 use Rattle.flow_law.specs.Flows.{ObjectIsInOrder}
-use Rattle.flow_law.proofs.Bodies.{body_at, cut_within}
+use Rattle.flow_law.proofs.Bodies.{cut_within}
 use Rattle.flow_law.proofs.EntryFacts.{entry_is}
 use Rattle.flow_law.proofs.InText.{text_size}
 use Rattle.flow_law.proofs.Sites.{site_is}
@@ -30,18 +31,18 @@ is_progbits : (s : SectionEntry) → is_text s ≡ true → s.kind ≡ 1
 is_progbits s h = grind (arith, nat_tests)
 
 -- the body of a text section is part of the file
-body_small : (o : Elf) (sec : ℕ) → IsObject o.bytes o → Contains (text_numbers o) sec → length (body_at o sec) ≤ length o.bytes
+body_small : (o : Coded) (sec : ℕ) → IsObject o.elf.bytes o.elf → Contains (text_numbers o.elf) sec → length (body_of o sec).bytes ≤ length o.elf.bytes
 body_small o sec is listed =
-    let s : SectionEntry = section_at o sec in
-    let among = from_filter (λ i. is_text (section_at o i)) (range_with_len 0 (length o.sections)) sec listed in
-    let inside = every-in (λ (k : ℕ). (0 ≤ k) × (k < 0 + length o.sections)) (range_with_len 0 (length o.sections)) sec (every-range 0 (length o.sections)) (in_contains (range_with_len 0 (length o.sections)) sec among.0) in
-    let slice = IsSlice-entry o.bytes o sec (sym is.says) (omega (arith, inside.1, length-sections o.bytes o (sym is.says))) is.well_formed in
+    let s : SectionEntry = section_at o.elf sec in
+    let among = from_filter (λ i. is_text (section_at o.elf i)) (range_with_len 0 (length o.elf.sections)) sec listed in
+    let inside = every-in (λ (k : ℕ). (0 ≤ k) × (k < 0 + length o.elf.sections)) (range_with_len 0 (length o.elf.sections)) sec (every-range 0 (length o.elf.sections)) (in_contains (range_with_len 0 (length o.elf.sections)) sec among.0) in
+    let slice = IsSlice-entry o.elf.bytes o.elf sec (sym is.says) (omega (arith, inside.1, length-sections o.elf.bytes o.elf (sym is.says))) is.well_formed in
     let kind : s.kind ≡ 1 = is_progbits s among.1 in
     let not_null : s.kind ≢ SHT_NULL = λ e. absurd (omega (arith, e, kind)) in
     let not_nobits : s.kind ≢ SHT_NOBITS = λ e. absurd (omega (arith, e, kind)) in
     omega (arith, text_size o sec is listed, slice.inside not_null not_nobits)
 
-site_small : (o : Elf) (site : Site) → ObjectIsInOrder o → Contains (sites_of o) site → site.len ≤ length o.bytes
+site_small : (o : Coded) (site : Site) → ObjectIsInOrder o → Contains (sites_of o) site → site.len ≤ length o.elf.bytes
 site_small o site order listed =
     let own = site_is o site listed in
     let a = entry_at (alternatives_of o) own.k in
@@ -51,7 +52,7 @@ site_small o site order listed =
     let len : a.original_len ≡ site.len = ap (λ (s : Site). s.len) own.is in
     omega (arith, ends, small, len)
 
-pub small_sites : (o : Elf) (lists : NameLists) (parts : GraphParts) → length o.bytes ≤ 67108864 → IsGraphOf o lists parts → HasSmallSites parts
+pub small_sites : (o : Coded) (lists : NameLists) (parts : GraphParts) → length o.elf.bytes ≤ 67108864 → IsGraphOf o lists parts → HasSmallSites parts
 unfolding program_of returning_graph graph_of
 small_sites o lists parts short is =
     all_of (λ site. site.len < 2 ^ 63) parts.sites.items

@@ -1,6 +1,7 @@
 -- Which objects are checked, and why others aren't.
 use Rattle.std.specs.Prelude.{◌≡◌, ◌≢◌, ℕ, ◌-◌, ◌<◌, ◌≤◌, ◌||◌, Bool, List, [], length, position, Option, Some, None, bytes_eq, codes}
 use Rattle.elf_objects.specs.Elf.{Elf}
+use Rattle.flow_defs.specs.Coded.{Coded}
 use Rattle.elf_objects.specs.declared.TheConstants.{MAX_SECTIONS}
 use Rattle.object_code.specs.declared.fault.LinkFault.{LinkFault}
 use Rattle.object_code.specs.declared.fault.LinkFault.TheVariants as link
@@ -13,7 +14,7 @@ use Rattle.object_check.specs.declared.fault.CheckFault.TheVariants.{Link, Flow,
 
 -- The object's code is read, and its program can be checked: texts, special sections, functions, alternatives, starts of
 -- functions, lists of places, static branches and unchecked functions are in order.
-pub record IsInOrder (o : Elf) : Type 0 where
+pub record IsInOrder (o : Coded) : Type 0 where
   pub linked : IsLinked o
   pub flow : flow_faults o ≡ []
 
@@ -31,15 +32,15 @@ abbrev pub most_sections : ℕ
 most_sections = MAX_SECTIONS - 3
 
 -- The object is checked: it is in order, has no ORC sections yet, and room for them.
-pub record IsCheckable (o : Elf) : Type 0 where
+pub record IsCheckable (o : Coded) : Type 0 where
   pub in_order : IsInOrder o
-  pub new : orc_section o ≡ None
-  pub few : length o.sections ≤ most_sections
+  pub new : orc_section o.elf ≡ None
+  pub few : length o.elf.sections ≤ most_sections
 
 -- Why the object isn't checked: the first that is wrong, in this order. Want of memory says nothing of the object.
-pub data IsCheckFault (o : Elf) : CheckFault → Type 0 where
+pub data IsCheckFault (o : Coded) : CheckFault → Type 0 where
   unlinked : (fault : LinkFault) → fault ≢ link.NoMemory → IsLinkFault o fault → IsCheckFault o (Link fault)
   unflowed : (fault : FlowFault) → fault ≢ flow.NoMemory → IsLinked o → IsFirstFlowFault o fault → IsCheckFault o (Flow fault)
-  has_orc : (sec : ℕ) → IsInOrder o → orc_section o ≡ Some sec → IsCheckFault o (HasOrc sec)
-  crowded : IsInOrder o → orc_section o ≡ None → most_sections < length o.sections → IsCheckFault o (TooManySections (length o.sections))
+  has_orc : (sec : ℕ) → IsInOrder o → orc_section o.elf ≡ Some sec → IsCheckFault o (HasOrc sec)
+  crowded : IsInOrder o → orc_section o.elf ≡ None → most_sections < length o.elf.sections → IsCheckFault o (TooManySections (length o.elf.sections))
   no_memory : IsCheckFault o NoMemory

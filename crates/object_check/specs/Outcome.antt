@@ -4,7 +4,7 @@ use Rattle.ot_base.specs.declared.options.Options.{Options}
 use Rattle.ot_base.specs.declared.row.PlacedRow.{PlacedRow}
 use Rattle.ot_base.specs.declared.warning.Warning.{Warning}
 use Rattle.ot_base.specs.NameLists.{NameLists}
-use Rattle.elf_objects.specs.Elf.{Elf}
+use Rattle.flow_defs.specs.Coded.{Coded}
 use Rattle.state_defs.specs.declared.state.State.{State}
 use Rattle.program_defs.specs.Program.{Program}
 use Rattle.checker_defs.specs.Kept.{AreKeptStates}
@@ -39,7 +39,7 @@ pub record AreWarnings (p : Program) (allowed : Allowances) (options : Options) 
 
 -- The object is checked. Its program, under the lists of names, breaks no rule that is asked for, the rows are the
 -- program's, and the object has so much code; or the program breaks some, and the warnings are exactly these.
-abbrev pub IsOutcome : Elf → NameLists → Options → Outcome → Type 0
+abbrev pub IsOutcome : Coded → NameLists → Options → Outcome → Type 0
 IsOutcome o lists options (Accepted rows counts) = IsCheckable o × IsUnbroken (program_of o lists) (allowances_of o lists) options × HasRows (program_of o lists) rows.items × IsCounted o counts
 IsOutcome o lists options (Broken warnings) = IsCheckable o × AreWarnings (program_of o lists) (allowances_of o lists) options warnings.items
 

@@ -2,7 +2,7 @@
 use Rattle.std.specs.Prelude.{◌≡◌, ◌^◌, ◌<◌, Option, All, IfSome}
 use Rattle.ot_base.specs.declared.options.Options.{Options}
 use Rattle.ot_base.specs.NameLists.{NameLists}
-use Rattle.elf_objects.specs.Elf.{Elf}
+use Rattle.flow_defs.specs.Coded.{Coded}
 use Rattle.program_defs.specs.Program.{Program}
 use Rattle.program_defs.specs.IsProgram.{IsLaidOut, IsProgram}
 use Rattle.table_defs.specs.Order.{PlainPointsAscend}
@@ -20,7 +20,7 @@ use Rattle.object_check.specs.declared.outcome.Outcome.{Outcome}
 use Rattle.object_check.specs.declared.outcome.Outcome.TheVariants.{Accepted, Broken}
 
 -- The graph is that of the object's program, and the object is in order.
-pub record IsGraphOf (o : Elf) (lists : NameLists) (parts : GraphParts) : Type 0 where
+pub record IsGraphOf (o : Coded) (lists : NameLists) (parts : GraphParts) : Type 0 where
   pub tells : Tells (program_of o lists) parts
   pub in_order : IsInOrder o
   pub object : ObjectIsInOrder o

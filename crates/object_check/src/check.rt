@@ -2,6 +2,7 @@
 
 ghost use Rattle.std.specs.Prelude.{◌≤◌, IfOk, IfErr, length, option_copied};
 ghost use Rattle.elf_objects.specs.declared.TheConstants.{MAX_FILE_BYTES as most_bytes};
+ghost use Rattle.flow_defs.specs.Coded.{coded_by};
 ghost use Rattle.program_defs.specs.Program.{Program};
 ghost use Rattle.option_defs.specs.Allowances.{Allowances};
 ghost use Rattle.option_check.specs.Asked.{IsEnough};
@@ -23,6 +24,7 @@ use elf_objects::Object;
 use flow_law::laws::{program_is_laid_out, program_is_one};
 use function_law::laws::program_has_functions;
 use named_law::laws::rows_are_named;
+use object_code::Map;
 use object_law::laws::{object_unwinds, plain_points_ascend, rows_are_rows_of};
 use option_check::{Verdict, check};
 use option_law::laws::{access_is_kept, branches_are_safe, calls_have_frames};
@@ -54,7 +56,7 @@ fn outcome_of(
     }
 }
 
-/// Checks an object of at most 67,108,864 bytes (64 MiB) under lists of function names: the rules 1 to 13 and 15 to 18, and 14
+/// Checks an object of at most 67,108,864 bytes (64 MiB), whose code is read by an opcode map, under lists of function names: the rules 1 to 13 and 15 to 18, and 14
 /// (`unreachable`), 21 (`fp`), 31 (`retpoline`), 32 (`rethunk`) and 41 to 47 (`uaccess`) where the options ask for them.
 ///
 /// # Errors
@@ -64,18 +66,19 @@ fn outcome_of(
 /// sections than leave room for three more. [`CheckFault::NoMemory`] may come at any object.
 pub fn check_object(
     alloc: Global,
+    map: Map,
     object: &Object<'_>,
     lists: &Lists,
     options: Options,
 ) -> Result<Outcome, CheckFault>
     requires { length object.now.bytes ≤ most_bytes }
-    ensures ok { IfOk result (IsOutcome object.now lists.now options) }
+    ensures ok { IfOk result (IsOutcome (coded_by map object.now) lists.now options) }
     // The rows can be added to the object, and unwind its program.
     ensures tables { IfOk result (λ outcome. OnAccepted outcome (CanHaveTables object.now)) }
     // What the options promise of every run of its program.
-    ensures promises { IfOk result (λ outcome. OnAccepted outcome (λ rows. KeepsPromises object.now lists.now options)) }
-    ensures unwinds { IfOk result (λ outcome. OnAccepted outcome (RowsUnwind object.now lists.now)) }
-    ensures err { IfErr result (IsCheckFault object.now) }
+    ensures promises { IfOk result (λ outcome. OnAccepted outcome (λ rows. KeepsPromises (coded_by map object.now) lists.now options)) }
+    ensures unwinds { IfOk result (λ outcome. OnAccepted outcome (RowsUnwind (coded_by map object.now) lists.now)) }
+    ensures err { IfErr result (IsCheckFault (coded_by map object.now)) }
 {
     program_is_one();
     program_is_laid_out();
@@ -91,7 +94,7 @@ pub fn check_object(
         graph,
         table,
         counts,
-    } = read_code(alloc, object, lists, options)?;
+    } = read_code(alloc, map, object, lists, options)?;
     check_room(object)?;
     let outcome = outcome_of(alloc, graph, table.as_ref(), counts, options)?;
     Ok(outcome)

@@ -45,7 +45,7 @@ fn count_text(object: &Object<'_>) -> u64
 
 /// How much code an object has whose code is read.
 pub(crate) fn count_code(linked: &Linked<'_, '_>) -> CodeCounts
-    requires { length linked.now.bytes ≤ most_bytes }
+    requires { length linked.now.elf.bytes ≤ most_bytes }
     ensures { IsCounted linked.now result }
 {
     CodeCounts {

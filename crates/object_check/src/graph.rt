@@ -1,6 +1,7 @@
 //! The control-flow graph of an object's program, and how much code it has.
 
 ghost use Rattle.std.specs.Prelude.{◌≡◌, ◌≤◌, IfErr, IfOk, length};
+ghost use Rattle.flow_defs.specs.Coded.{coded_by};
 ghost use Rattle.flow_defs.specs.Program.{program_of};
 ghost use Rattle.option_check.specs.Asked.{IsEnough, needs_allowances as need_allowances};
 ghost use Rattle.point_allowances.specs.Allowances.{allowances_of};
@@ -14,7 +15,7 @@ use crate::fault::CheckFault;
 use allowances::AllowanceTable;
 use control_flow::{flow, object_is_in_order};
 use elf_objects::Object;
-use object_code::Linked;
+use object_code::{Linked, Map};
 use ot_base::{Lists, NoMemory, Options};
 use point_allowances::table_of;
 use program_graph::Graph;
@@ -55,7 +56,7 @@ fn table_if_needed(
     }
 }
 
-/// Reads the code of an object and follows its control flow. Of what it reads it keeps the graph, what is allowed at its points
+/// Reads the code of an object by an opcode map and follows its control flow. Of what it reads it keeps the graph, what is allowed at its points
 /// and symbols, and the counts alone.
 ///
 /// # Errors
@@ -64,18 +65,19 @@ fn table_if_needed(
 /// of places, static branches and unchecked functions. [`CheckFault::NoMemory`] may come at any object.
 pub(crate) fn read_code(
     alloc: Global,
+    map: Map,
     object: &Object<'_>,
     lists: &Lists,
     options: Options,
 ) -> Result<ReadCode, CheckFault>
     requires { length object.now.bytes ≤ most_bytes }
-    ensures ok { IfOk result (λ read. IsGraphOf object.now lists.now read.graph.parts) }
+    ensures ok { IfOk result (λ read. IsGraphOf (coded_by map object.now) lists.now read.graph.parts) }
     ensures enough { IfOk result (λ read. IsEnough options read.table) }
-    ensures allows { IfOk result (λ read. IsTableOf (program_of object.now lists.now) (allowances_of object.now lists.now) read.table) }
-    ensures counted { IfOk result (λ read. IsCounted object.now read.counts) }
-    ensures err { IfErr result (IsCheckFault object.now) }
+    ensures allows { IfOk result (λ read. IsTableOf (program_of (coded_by map object.now) lists.now) (allowances_of (coded_by map object.now) lists.now) read.table) }
+    ensures counted { IfOk result (λ read. IsCounted (coded_by map object.now) read.counts) }
+    ensures err { IfErr result (IsCheckFault (coded_by map object.now)) }
 {
-    let linked = Linked::link(alloc, object)?;
+    let linked = Linked::link(alloc, map, object)?;
     object_is_in_order(&linked);
     let graph = flow(alloc, &linked, lists)?;
     let table = table_if_needed(alloc, &linked, lists, options)?;

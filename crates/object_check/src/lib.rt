@@ -12,4 +12,5 @@ mod room;
 pub use check::check_object;
 pub use counts::CodeCounts;
 pub use fault::CheckFault;
+pub use object_code::Map;
 pub use outcome::Outcome;

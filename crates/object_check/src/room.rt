@@ -2,6 +2,8 @@
 
 ghost use Rattle.std.specs.Prelude.{◌≡◌, ◌≤◌, ◌<◌, None, IfErr, OnOk, length};
 ghost use Rattle.elf_objects.specs.Contents.{section_at};
+ghost use Rattle.flow_defs.specs.Coded.{coded_by};
+ghost use Rattle.x86_map.specs.declared.map.Map.{Map};
 ghost use Rattle.object_check.specs.Order.{IsCheckFault, IsInOrder, is_orc_name, most_sections, orc_section};
 
 use crate::fault::CheckFault;
@@ -29,12 +31,11 @@ fn first_orc_section(object: &Object<'_>) -> Option<u32>
     None
 }
 
-/// Checks that an object in order has no ORC section yet, and room for those of its tables.
+/// Checks that an object has no ORC section yet, and room for those of its tables.
 pub(crate) fn check_room(object: &Object<'_>) -> Result<(), CheckFault>
-    requires { IsInOrder object.now }
     ensures new { OnOk result (orc_section object.now ≡ None) }
     ensures few { OnOk result (length object.now.sections ≤ most_sections) }
-    ensures err { IfErr result (IsCheckFault object.now) }
+    ensures err { (map : Map) → IsInOrder (coded_by map object.now) → IfErr result (IsCheckFault (coded_by map object.now)) }
 {
     if let Some(sec) = first_orc_section(object) {
         return Err(CheckFault::HasOrc { sec });

@@ -1,6 +1,6 @@
 -- An input that is accepted is refused by no stop, and one whose program breaks a rule is neither refused nor done.
 use Rattle.std.proofs.Common.{◌≡◌, ℕ, ◌-◌, ◌<◌, ◌≤◌, List, [], ◌∷◌, length, refl, sym, ◌∙◌, subst, arith, inl, inr}
-use Rattle.std.specs.Prelude.{◌≢◌, ◌⊎◌, Contains, Some, None, Option, Result, Ok, Err, true}
+use Rattle.std.specs.Prelude.{◌≢◌, ◌⊎◌, Contains, Some, None, Option, Result, Ok, Err}
 use Rattle.elf_objects.specs.Elf.{Elf}
 use Rattle.elf_objects.specs.Object.{IsObject}
 use Rattle.elf_objects.specs.declared.TheConstants.{MAX_FILE_BYTES, MAX_SYMBOLS}
@@ -21,7 +21,7 @@ use Rattle.objtool_cli.specs.Command.{Ends, EndsCheck, IsRead, Stops, checked, d
 use Rattle.objtool_cli.specs.Lists.{HasNames, HoldsNames, IsListsStop, StopsAtNames, names_unread, no_lists, no_names}
 use Rattle.objtool_cli.specs.Writing.{StopsAtWrite}
 use Rattle.cli_words.specs.Grammar.{check, demo, dump, unwind}
-use Rattle.ot_base.specs.declared.options.Options.{Options}
+use Rattle.cli_words.specs.declared.options.CheckOptions.{CheckOptions}
 use Rattle.ot_base.specs.declared.row.PlacedRow.{PlacedRow}
 use Rattle.ot_base.specs.declared.warning.Warning.{Warning}
 use Rattle.ot_base.specs.NameLists.{NameLists, lists_with}
@@ -31,6 +31,7 @@ use Rattle.ot_base.specs.declared.lists.ListsWhy.{ListsWhy}
 use Rattle.command_base.specs.declared.refusal.Refusal.TheVariants as refusal
 use Rattle.objtool_cli.specs.Words.{Meaning}
 use Rattle.x86_decode.specs.Decoding.{OneOutcome}
+use Rattle.flow_defs.specs.Coded.{coded_by}
 use Rattle.flow_defs.specs.Program.{program_of}
 use Rattle.point_allowances.specs.Allowances.{allowances_of}
 use Rattle.object_check.specs.Outcome.{HasRows, IsUnbroken}
@@ -41,25 +42,25 @@ use Rattle.objtool_cli.proofs.EndsLemmas.{ChecksAs, no_fault_and_command, not_to
 -- ---- what is known of the bytes
 
 -- the bytes are refused in no way
-abbrev IsUnrefused : List ℕ → NameLists → Options → Type 0
+abbrev IsUnrefused : List ℕ → NameLists → CheckOptions → Type 0
 IsUnrefused bytes lists options = (told : Refusal) → Refuses bytes lists options told → ⊥
 
-accepted_unrefused : OneOutcome → (bytes table : List ℕ) (lists : NameLists) (options : Options) → Accepts bytes lists options table → IsUnrefused bytes lists options
-accepted_unrefused one bytes table lists options accepts told (uncheckable why) = checkable_unrefused one bytes accepts.object told accepts.is accepts.checkable why
+accepted_unrefused : OneOutcome → (bytes table : List ℕ) (lists : NameLists) (options : CheckOptions) → Accepts bytes lists options table → IsUnrefused bytes lists options
+accepted_unrefused one bytes table lists options accepts told (uncheckable why) = checkable_unrefused one options.map bytes accepts.object told accepts.is accepts.checkable why
 accepted_unrefused one bytes table lists options accepts told (crowded o others is checkable unbroken has many count) =
     let same = one_object bytes o accepts.object is accepts.is in
-    let rows = one_rows (program_of accepts.object lists) others accepts.rows (subst (λ (x : Elf). HasRows (program_of x lists) others) same has) accepts.has_rows in
+    let rows = one_rows (program_of (coded_by options.map accepts.object) lists) others accepts.rows (subst (λ (x : Elf). HasRows (program_of (coded_by options.map x) lists) others) same has) accepts.has_rows in
     let needed : MAX_SYMBOLS < symbols_needed accepts.object accepts.rows = subst (λ (rs : List PlacedRow). MAX_SYMBOLS < symbols_needed accepts.object rs) rows (subst (λ (x : Elf). MAX_SYMBOLS < symbols_needed x others) same many) in
     let few : symbols_needed accepts.object accepts.rows ≤ MAX_SYMBOLS = accepts.table_is.few in
     absurd (omega (arith, needed, few))
 
-pub breaks_unbroken : (bytes : List ℕ) (lists : NameLists) (options : Options) (o : Elf) → BreaksRule bytes lists options → IsObject bytes o → IsUnbroken (program_of o lists) (allowances_of o lists) options → ⊥
+pub breaks_unbroken : (bytes : List ℕ) (lists : NameLists) (options : CheckOptions) (o : Elf) → BreaksRule bytes lists options → IsObject bytes o → IsUnbroken (program_of (coded_by options.map o) lists) (allowances_of (coded_by options.map o) lists) options.rules → ⊥
 breaks_unbroken bytes lists options o breaks is unbroken =
     let same = one_object bytes o breaks.object is breaks.is in
-    (subst (λ (x : Elf). IsUnbroken (program_of x lists) (allowances_of x lists) options) same unbroken).clean breaks.place breaks.rule breaks.a breaks.b breaks.broken
+    (subst (λ (x : Elf). IsUnbroken (program_of (coded_by options.map x) lists) (allowances_of (coded_by options.map x) lists) options.rules) same unbroken).clean breaks.place breaks.rule breaks.a breaks.b breaks.broken
 
-broken_unrefused : OneOutcome → (bytes : List ℕ) (lists : NameLists) (options : Options) → BreaksRule bytes lists options → IsUnrefused bytes lists options
-broken_unrefused one bytes lists options breaks told (uncheckable why) = checkable_unrefused one bytes breaks.object told breaks.is breaks.checkable why
+broken_unrefused : OneOutcome → (bytes : List ℕ) (lists : NameLists) (options : CheckOptions) → BreaksRule bytes lists options → IsUnrefused bytes lists options
+broken_unrefused one bytes lists options breaks told (uncheckable why) = checkable_unrefused one options.map bytes breaks.object told breaks.is breaks.checkable why
 broken_unrefused one bytes lists options breaks told (crowded o others is checkable unbroken has many count) = breaks_unbroken bytes lists options o breaks is unbroken
 
 some_contained : (warnings : List Warning) → warnings ≢ [] → (w : Warning) × Contains warnings w
@@ -67,7 +68,7 @@ some_contained [] some = absurd (some refl)
 some_contained (w ∷ warnings) some = (w, (0, omega arith, refl))
 
 -- where there are warnings a rule is broken
-pub warns_breaks : (bytes : List ℕ) (lists : NameLists) (options : Options) (o : Elf) (warnings : List Warning) → Warns bytes lists options o warnings → BreaksRule bytes lists options
+pub warns_breaks : (bytes : List ℕ) (lists : NameLists) (options : CheckOptions) (o : Elf) (warnings : List Warning) → Warns bytes lists options o warnings → BreaksRule bytes lists options
 warns_breaks bytes lists options o warnings warns =
     let first = some_contained warnings warns.are.some in
     record {
@@ -82,7 +83,7 @@ warns_breaks bytes lists options o warnings warns =
     }
 
 -- what is accepted has no warnings
-accepted_unwarned : (bytes table : List ℕ) (lists : NameLists) (options : Options) (o : Elf) (warnings : List Warning) → Accepts bytes lists options table → Warns bytes lists options o warnings → ⊥
+accepted_unwarned : (bytes table : List ℕ) (lists : NameLists) (options : CheckOptions) (o : Elf) (warnings : List Warning) → Accepts bytes lists options table → Warns bytes lists options o warnings → ⊥
 accepted_unwarned bytes table lists options o warnings accepts warns = breaks_unbroken bytes lists options accepts.object (warns_breaks bytes lists options o warnings warns) accepts.is accepts.unbroken
 
 -- ---- what was read
@@ -128,7 +129,7 @@ stopped_unread (stop.Refused refusal) name read held before after out out' x c i
 stopped_unread (stop.FileFault told) name read held before after out out' x c is h t = concluded_after_fault (stop.FileFault told) out out' x refl t
 stopped_unread stop.NoMemory name read held before after out out' x c is h t = inr (concluded_no_memory out out' x t)
 
-stopped_refused : (s : Stop) (read : List ℕ) (lists : NameLists) (options : Options) (out out' : Output) (x : Status) → IsUnrefused read lists options → IsRefusal read lists options s → Concludes s out out' x → Faults x
+stopped_refused : (s : Stop) (read : List ℕ) (lists : NameLists) (options : CheckOptions) (out out' : Output) (x : Status) → IsUnrefused read lists options → IsRefusal read lists options s → Concludes s out out' x → Faults x
 stopped_refused (stop.Refused told) read lists options out out' x never h t = absurd (never told h)
 stopped_refused (stop.Usage usage) read lists options out out' x never h t = absurd h
 stopped_refused (stop.Missing told) read lists options out out' x never h t = absurd h
@@ -185,7 +186,7 @@ stopped_by_names s names lists held before after out out' x c has (no_names file
 stopped_by_names stop.NoMemory names lists held before after out out' x c has no_lists t = inr (concluded_no_memory out out' x t)
 
 -- where the bytes are refused in no way, only faults and want of memory stop the command
-stop_faults : (s : Stop) (input output : List ℕ) (options : Options) (names : Option (List ℕ)) (read : List ℕ) (lists : NameLists) (before after : Outside) (out out' : Output) (x : Status) → IsKnown before input names read lists → IsUnrefused read lists options → Stops input output options names before after s → Concludes s out out' x → Faults x
+stop_faults : (s : Stop) (input output : List ℕ) (options : CheckOptions) (names : Option (List ℕ)) (read : List ℕ) (lists : NameLists) (before after : Outside) (out out' : Output) (x : Status) → IsKnown before input names read lists → IsUnrefused read lists options → Stops input output options names before after s → Concludes s out out' x → Faults x
 stop_faults s input output options names read lists before after out out' x known never (unread h kept) t = stopped_unread s input read known.held before after out out' x known.told known.is h t
 stop_faults s input output options names read lists before after out out' x known never (without_names other may h kept) t = stopped_by_names s names lists known.held before after out out' x known.told known.named h t
 stop_faults s input output options names read lists before after out out' x known never (refused other others is h kept) t =
@@ -195,7 +196,7 @@ stop_faults s input output options names read lists before after out out' x know
 -- ---- how `check` ends
 
 -- words that ask for `check` end as it does, or for want of memory
-ends_as_check : (meaning : Meaning) (input output : List ℕ) (options : Options) (names : Option (List ℕ)) (before after : Outside) (out out' : Output) (x : Status) → meaning ≡ Ok (check input output options names) → Ends meaning before after out out' x → EndsCheck input output options names before after out out' x ⊎ (x ≡ status.NoMemory)
+ends_as_check : (meaning : Meaning) (input output : List ℕ) (options : CheckOptions) (names : Option (List ℕ)) (before after : Outside) (out out' : Output) (x : Status) → meaning ≡ Ok (check input output options names) → Ends meaning before after out out' x → EndsCheck input output options names before after out out' x ⊎ (x ≡ status.NoMemory)
 ends_as_check meaning input output options names before after out out' x n (faulty word kind none same t) = absurd (no_fault_and_command meaning word kind _ none n)
 ends_as_check meaning input output options names before after out out' x n (unfinished same t) = inr (concluded_no_memory out out' x t)
 ends_as_check meaning input output options names before after out out' x n (shown command some shows same t) = absurd (not_text meaning command _ some n shows refl)
@@ -210,14 +211,14 @@ ends_as_check meaning input output options names before after out out' x n (chec
 abbrev Left : Status → Type 0
 Left x = (x ≡ status.Done) ⊎ Faults x
 
-left_by_check : OneOutcome → (input output : List ℕ) (options : Options) (names : Option (List ℕ)) (read table : List ℕ) (lists : NameLists) (before after : Outside) (out out' : Output) (x : Status) → IsKnown before input names read lists → Accepts read lists options table → EndsCheck input output options names before after out out' x → Left x
+left_by_check : OneOutcome → (input output : List ℕ) (options : CheckOptions) (names : Option (List ℕ)) (read table : List ℕ) (lists : NameLists) (before after : Outside) (out out' : Output) (x : Status) → IsKnown before input names read lists → Accepts read lists options table → EndsCheck input output options names before after out out' x → Left x
 left_by_check one input output options names read table lists before after out out' status.Done known accepts (done d same) = inl refl
 left_by_check one input output options names read table lists before after out out' x known accepts (warned o warnings is kept t) =
     absurd (accepted_unwarned read table lists options o warnings accepts (one_reading (λ b l. Warns b l options o warnings) before input names read is.read lists is.lists known is.is_read is.warns))
 left_by_check one input output options names read table lists before after out out' x known accepts (stopped s h t) =
     inr (stop_faults s input output options names read lists before after out out' x known (accepted_unrefused one read table lists options accepts) h t)
 
-pub left : OneOutcome → (meaning : Meaning) (input output : List ℕ) (options : Options) (names : Option (List ℕ)) (read table : List ℕ) (lists : NameLists) (held : Content) (before after : Outside) (out out' : Output) (x : Status) → meaning ≡ Ok (check input output options names) → before.content ≡ Some held → reading held input MAX_FILE_BYTES ≡ Ok read → HasNames (Some held) names lists → Accepts read lists options table → Ends meaning before after out out' x → Left x
+pub left : OneOutcome → (meaning : Meaning) (input output : List ℕ) (options : CheckOptions) (names : Option (List ℕ)) (read table : List ℕ) (lists : NameLists) (held : Content) (before after : Outside) (out out' : Output) (x : Status) → meaning ≡ Ok (check input output options names) → before.content ≡ Some held → reading held input MAX_FILE_BYTES ≡ Ok read → HasNames (Some held) names lists → Accepts read lists options table → Ends meaning before after out out' x → Left x
 left one meaning input output options names read table lists held before after out out' x n told is named accepts ends = elim (ends_as_check meaning input output options names before after out out' x n ends) [
   | inl h ↦ left_by_check one input output options names read table lists before after out out' x (record { held = held; told = told; is = is; named = named }) accepts h
   | inr none ↦ inr (inr none)
@@ -238,7 +239,7 @@ text_warned text out out' status.FileFault (fault_stays prefix rose at) = inr (i
 text_warned text out out' status.SinkFault (fails prefix rose other) = inr (inr (inl refl))
 text_warned text out out' status.NoMemory (runs_out prefix) = inr (inr (inr refl))
 
-warned_by_check : OneOutcome → (input output : List ℕ) (options : Options) (names : Option (List ℕ)) (read : List ℕ) (lists : NameLists) (before after : Outside) (out out' : Output) (x : Status) → IsKnown before input names read lists → BreaksRule read lists options → EndsCheck input output options names before after out out' x → Warned x
+warned_by_check : OneOutcome → (input output : List ℕ) (options : CheckOptions) (names : Option (List ℕ)) (read : List ℕ) (lists : NameLists) (before after : Outside) (out out' : Output) (x : Status) → IsKnown before input names read lists → BreaksRule read lists options → EndsCheck input output options names before after out out' x → Warned x
 warned_by_check one input output options names read lists before after out out' status.Done known breaks (done d same) =
     let accepts : Accepts read lists options d.table = one_reading (λ b l. Accepts b l options d.table) before input names read d.accepted.read lists d.accepted.lists known d.accepted.is_read d.accepted.accepts in
     absurd (breaks_unbroken read lists options accepts.object breaks accepts.is accepts.unbroken)
@@ -246,7 +247,7 @@ warned_by_check one input output options names read lists before after out out' 
 warned_by_check one input output options names read lists before after out out' x known breaks (stopped s h t) =
     faults_warned x (stop_faults s input output options names read lists before after out out' x known (broken_unrefused one read lists options breaks) h t)
 
-pub all_warned : OneOutcome → (meaning : Meaning) (input output : List ℕ) (options : Options) (names : Option (List ℕ)) (read : List ℕ) (lists : NameLists) (held : Content) (before after : Outside) (out out' : Output) (x : Status) → meaning ≡ Ok (check input output options names) → before.content ≡ Some held → reading held input MAX_FILE_BYTES ≡ Ok read → HasNames (Some held) names lists → BreaksRule read lists options → Ends meaning before after out out' x → Warned x
+pub all_warned : OneOutcome → (meaning : Meaning) (input output : List ℕ) (options : CheckOptions) (names : Option (List ℕ)) (read : List ℕ) (lists : NameLists) (held : Content) (before after : Outside) (out out' : Output) (x : Status) → meaning ≡ Ok (check input output options names) → before.content ≡ Some held → reading held input MAX_FILE_BYTES ≡ Ok read → HasNames (Some held) names lists → BreaksRule read lists options → Ends meaning before after out out' x → Warned x
 all_warned one meaning input output options names read lists held before after out out' x n told is named breaks ends = elim (ends_as_check meaning input output options names before after out out' x n ends) [
   | inl h ↦ warned_by_check one input output options names read lists before after out out' x (record { held = held; told = told; is = is; named = named }) breaks h
   | inr none ↦ inr (inr (inr none))

@@ -3,7 +3,7 @@ use Rattle.std.proofs.Common.{◌≡◌, ℕ, List, refl, subst}
 use Rattle.std.specs.Prelude.{Option, Result, Ok, Err, Some, OnOk, OnErr, IfOk, IfErr}
 use Rattle.ot_base.specs.NameLists.{NameLists, lists_with}
 use Rattle.ot_base.specs.NamesFile.{IsNamesFile}
-use Rattle.ot_base.specs.declared.options.Options.{Options}
+use Rattle.cli_words.specs.declared.options.CheckOptions.{CheckOptions}
 use Rattle.ot_base.specs.declared.row.PlacedRow.{PlacedRow}
 use Rattle.ot_base.specs.declared.warning.Warning.{Warning}
 use Rattle.ot_files.specs.Content.{Content, ChangesAtMost, writing}
@@ -11,6 +11,7 @@ use Rattle.elf_objects.specs.Elf.{Elf}
 use Rattle.elf_objects.specs.Object.{IsObject}
 use Rattle.elf_objects.specs.declared.TheConstants.{MAX_FILE_BYTES}
 use Rattle.elf_objects.specs.declared.fault.Counted.TheVariants as counted
+use Rattle.flow_defs.specs.Coded.{coded_by}
 use Rattle.flow_defs.specs.Program.{program_of}
 use Rattle.point_allowances.specs.Allowances.{allowances_of}
 use Rattle.object_check.specs.Counts.{IsCounted}
@@ -58,21 +59,21 @@ table_cut_off (Err s) o rows output table before after is h others = cut_off tab
 
 -- ---- what the check comes to
 
-pub warned_end : (input output : List ℕ) (options : Options) (names : Option (List ℕ)) (read : List ℕ) (lists : NameLists) (before after : Outside) (out out' : Output) (x : Status) (o : Elf) (warnings told : List Warning) → IsRead before.content input names read lists → IsObject read o → IsCheckable o × AreWarnings (program_of o lists) (allowances_of o lists) options warnings → after.content ≡ before.content → told ≡ warnings → Prints status.Warnings (warnings_text o told) out out' x → EndsCheck input output options names before after out out' x
+pub warned_end : (input output : List ℕ) (options : CheckOptions) (names : Option (List ℕ)) (read : List ℕ) (lists : NameLists) (before after : Outside) (out out' : Output) (x : Status) (o : Elf) (warnings told : List Warning) → IsRead before.content input names read lists → IsObject read o → IsCheckable (coded_by options.map o) × AreWarnings (program_of (coded_by options.map o) lists) (allowances_of (coded_by options.map o) lists) options.rules warnings → after.content ≡ before.content → told ≡ warnings → Prints status.Warnings (warnings_text o told) out out' x → EndsCheck input output options names before after out out' x
 warned_end input output options names read lists before after out out' x o warnings told is_read is found kept same t =
     warned o warnings (record { read = read; lists = lists; is_read = is_read; warns = record { is = is; checkable = found.0; are = found.1 } }) kept
     (subst (λ (ws : List Warning). Prints status.Warnings (warnings_text o ws) out out' x) same t)
 
 -- an object that breaks no rule, and its rows
-abbrev pub IsSound : Elf → NameLists → Options → List PlacedRow → Type 0
-IsSound o lists options rows = IsCheckable o × IsUnbroken (program_of o lists) (allowances_of o lists) options × HasRows (program_of o lists) rows
+abbrev pub IsSound : Elf → NameLists → CheckOptions → List PlacedRow → Type 0
+IsSound o lists options rows = IsCheckable (coded_by options.map o) × IsUnbroken (program_of (coded_by options.map o) lists) (allowances_of (coded_by options.map o) lists) options.rules × HasRows (program_of (coded_by options.map o) lists) rows
 
 -- as its check finds it
-pub sound : (o : Elf) (lists : NameLists) (options : Options) (rows : List PlacedRow) (counts : CodeCounts)
-    → IsCheckable o × IsUnbroken (program_of o lists) (allowances_of o lists) options × HasRows (program_of o lists) rows × IsCounted o counts → IsSound o lists options rows
+pub sound : (o : Elf) (lists : NameLists) (options : CheckOptions) (rows : List PlacedRow) (counts : CodeCounts)
+    → IsCheckable (coded_by options.map o) × IsUnbroken (program_of (coded_by options.map o) lists) (allowances_of (coded_by options.map o) lists) options.rules × HasRows (program_of (coded_by options.map o) lists) rows × IsCounted (coded_by options.map o) counts → IsSound o lists options rows
 sound o lists options rows counts found = (found.0, found.1, found.2)
 
-accepts : (o : Elf) (read : List ℕ) (lists : NameLists) (options : Options) (rows : List PlacedRow) (table : List ℕ) → IsObject read o → IsSound o lists options rows → IsTable o rows table → Accepts read lists options table
+accepts : (o : Elf) (read : List ℕ) (lists : NameLists) (options : CheckOptions) (rows : List PlacedRow) (table : List ℕ) → IsObject read o → IsSound o lists options rows → IsTable o rows table → Accepts read lists options table
 accepts o read lists options rows table is sound has = record {
   object = o;
   is = is;
@@ -83,13 +84,13 @@ accepts o read lists options rows table is sound has = record {
   table_is = has;
 }
 
-pub done_end : (input output : List ℕ) (options : Options) (names : Option (List ℕ)) (read : List ℕ) (lists : NameLists) (before after : Outside) (o : Elf) (rows told : List PlacedRow) → IsRead before.content input names read lists → IsObject read o → IsSound o lists options rows → RowsUnwind o lists rows → KeepsPromises o lists options → told ≡ rows → WritesTable o told output before.content after.content → IsDone input output options names before after
+pub done_end : (input output : List ℕ) (options : CheckOptions) (names : Option (List ℕ)) (read : List ℕ) (lists : NameLists) (before after : Outside) (o : Elf) (rows told : List PlacedRow) → IsRead before.content input names read lists → IsObject read o → IsSound o lists options rows → RowsUnwind (coded_by options.map o) lists rows → KeepsPromises (coded_by options.map o) lists options.rules → told ≡ rows → WritesTable o told output before.content after.content → IsDone input output options names before after
 done_end input output options names read lists before after o rows told is_read is sound unwind keeps same h =
     let wrote = subst (λ (rs : List PlacedRow). WritesTable o rs output before.content after.content) same h in
     is_done input output options names read wrote.table lists before after o is_read is keeps (accepts o read lists options rows wrote.table is sound wrote.is)
-    (record { object = o; is_object = is; unwinds = unwinds_by one_list_fits o lists rows wrote.table unwind wrote.is.tables }) wrote.written
+    (record { object = o; is_object = is; unwinds = unwinds_by one_list_fits (coded_by options.map o) lists rows wrote.table unwind wrote.is.tables }) wrote.written
 
-crowd_refusal : (o : Elf) (read : List ℕ) (lists : NameLists) (options : Options) (rows : List PlacedRow) (s : Stop) → IsObject read o → IsSound o lists options rows → IsCrowded o rows s → IsRefusal read lists options s
+crowd_refusal : (o : Elf) (read : List ℕ) (lists : NameLists) (options : CheckOptions) (rows : List PlacedRow) (s : Stop) → IsObject read o → IsSound o lists options rows → IsCrowded o rows s → IsRefusal read lists options s
 crowd_refusal o read lists options rows (stop.Refused (refusal.TooMany counted.Symbols count)) is sound h = crowded o rows is sound.0 sound.1 sound.2 h.0 h.1
 crowd_refusal o read lists options rows (stop.Refused (refusal.TooMany counted.Sections count)) is sound h = absurd h
 crowd_refusal o read lists options rows (stop.Refused (refusal.TooMany counted.TextBytes count)) is sound h = absurd h
@@ -108,11 +109,11 @@ crowd_refusal o read lists options rows (stop.Missing file) is sound h = absurd 
 crowd_refusal o read lists options rows (stop.TooLong file limit) is sound h = absurd h
 crowd_refusal o read lists options rows (stop.FileFault file) is sound h = absurd h
 
-stop_of_table : (input output : List ℕ) (options : Options) (names : Option (List ℕ)) (read : List ℕ) (lists : NameLists) (before after : Outside) (o : Elf) (rows : List PlacedRow) (s : Stop) → IsRead before.content input names read lists → IsObject read o → IsSound o lists options rows → StopsAtTable o rows output before after s → Stops input output options names before after s
+stop_of_table : (input output : List ℕ) (options : CheckOptions) (names : Option (List ℕ)) (read : List ℕ) (lists : NameLists) (before after : Outside) (o : Elf) (rows : List PlacedRow) (s : Stop) → IsRead before.content input names read lists → IsObject read o → IsSound o lists options rows → StopsAtTable o rows output before after s → Stops input output options names before after s
 stop_of_table input output options names read lists before after o rows s is_read is sound (too_many h kept) = refused read lists is_read (crowd_refusal o read lists options rows s is sound h) kept
 stop_of_table input output options names read lists before after o rows s is_read is sound (cut_off table has h others) =
     unwritten table (record { read = read; lists = lists; is_read = is_read; accepts = accepts o read lists options rows table is sound has }) h others
 
-pub stopped_end : (input output : List ℕ) (options : Options) (names : Option (List ℕ)) (read : List ℕ) (lists : NameLists) (before after : Outside) (o : Elf) (rows told : List PlacedRow) (s : Stop) → IsRead before.content input names read lists → IsObject read o → IsSound o lists options rows → told ≡ rows → StopsAtTable o told output before after s → Stops input output options names before after s
+pub stopped_end : (input output : List ℕ) (options : CheckOptions) (names : Option (List ℕ)) (read : List ℕ) (lists : NameLists) (before after : Outside) (o : Elf) (rows told : List PlacedRow) (s : Stop) → IsRead before.content input names read lists → IsObject read o → IsSound o lists options rows → told ≡ rows → StopsAtTable o told output before after s → Stops input output options names before after s
 stopped_end input output options names read lists before after o rows told s is_read is sound same h =
     stop_of_table input output options names read lists before after o rows s is_read is sound (subst (λ (rs : List PlacedRow). StopsAtTable o rs output before after s) same h)

@@ -9,11 +9,13 @@ use Rattle.state_defs.specs.declared.state.State.{State}
 use Rattle.program_defs.specs.Program.{Program}
 use Rattle.checker_defs.specs.Kept.{AreKeptStates}
 use Rattle.checker_defs.specs.Rows.{rows_of}
-use Rattle.elf_objects.specs.Contents.{section_at}
 use Rattle.elf_objects.specs.Elf.{Elf}
 use Rattle.elf_objects.specs.Object.{IsObject}
 use Rattle.elf_objects.specs.declared.fault.Counted.TheVariants as counted
 use Rattle.elf_objects.proofs.FirstFault.{FirstFault-not}
+use Rattle.x86_map.specs.declared.map.Map.{Map}
+use Rattle.flow_defs.specs.Coded.{Coded, coded_by}
+use Rattle.flow_defs.specs.Code.{body_of}
 use Rattle.x86_decode.specs.declared.DecodeFault.{DecodeFault}
 use Rattle.x86_decode.specs.Decoding.{OneOutcome, Outcome, StandsInFront}
 use Rattle.x86_text.specs.declared.fault.TextFault.{TextFault}
@@ -44,21 +46,21 @@ first_of_none : {A : Type 0} (all : List A) (x : A) → all ≡ [] → slice_get
 first_of_none all x none some = none_and_some (slice_get all 0) x (ap (λ xs. slice_get xs 0) none) some
 
 -- an instruction and a refusal can't both be the answer to some bytes
-no_instruction : OneOutcome → (bytes : List ℕ) (insn : Insn) (why : DecodeFault) → StandsInFront bytes insn → Outcome bytes (Err why) → ⊥
-no_instruction one bytes insn why stands answer =
-    let same : ◌≡◌ {A = Result Insn DecodeFault} (Ok insn) (Err why) = one bytes (Ok insn) (Err why) stands answer in
+no_instruction : OneOutcome → (map : Map) (bytes : List ℕ) (insn : Insn) (why : DecodeFault) → StandsInFront map bytes insn → Outcome map bytes (Err why) → ⊥
+no_instruction one map bytes insn why stands answer =
+    let same : ◌≡◌ {A = Result Insn DecodeFault} (Ok insn) (Err why) = one map bytes (Ok insn) (Err why) stands answer in
     cc
 
 -- code decodes
-not_undecoded : OneOutcome → (o : Elf) (sec : ℕ) (why : TextFault) → AllCode o → TellsText o sec why → ⊥
+not_undecoded : OneOutcome → (o : Coded) (sec : ℕ) (why : TextFault) → AllCode o → TellsText o sec why → ⊥
 not_undecoded one o sec (text.At off why) code h =
     let stands = code sec h.inside h.text off h.here.0 in
-    no_instruction one (drop off (section_at o sec).body) stands.0 why stands.1 h.here.1
+    no_instruction one o.map (drop off (body_of o sec).bytes) stands.0 why stands.1 h.here.1
 not_undecoded one o sec text.NoMemory code h = h
 
-not_unlinked : OneOutcome → (o : Elf) (why : LinkFault) → why ≢ link.NoMemory → IsLinked o → IsLinkFault o why → ⊥
+not_unlinked : OneOutcome → (o : Coded) (why : LinkFault) → why ≢ link.NoMemory → IsLinked o → IsLinkFault o why → ⊥
 not_unlinked one o (link.Text sec why) some linked h = not_undecoded one o sec why linked.before.before.code h
-not_unlinked one o (link.Special (special.At sec entry why)) some linked h = first_of_none (special_faults o) _ linked.before.before.special h.1
+not_unlinked one o (link.Special (special.At sec entry why)) some linked h = first_of_none (special_faults o.elf) _ linked.before.before.special h.1
 not_unlinked one o (link.Special special.NoMemory) some linked h = h.1
 not_unlinked one o (link.Index (index.Func sym)) some linked h = none_and_some _ sym linked.before.functions h.1
 not_unlinked one o (link.Index index.NoMemory) some linked h = h.1
@@ -66,24 +68,24 @@ not_unlinked one o (link.Site (site.At entry why)) some linked h = none_and_some
 not_unlinked one o (link.Site site.NoMemory) some linked h = h.1
 not_unlinked one o link.NoMemory some linked h = some refl
 
-not_unflowed : (o : Elf) (why : FlowFault) → why ≢ flow.NoMemory → flow_faults o ≡ [] → IsFirstFlowFault o why → ⊥
+not_unflowed : (o : Coded) (why : FlowFault) → why ≢ flow.NoMemory → flow_faults o ≡ [] → IsFirstFlowFault o why → ⊥
 not_unflowed o (flow.FuncStart sym) some none h = first_of_none (flow_faults o) _ none h
 not_unflowed o (flow.NotBoundary list entry) some none h = first_of_none (flow_faults o) _ none h
 not_unflowed o (flow.StaticSite entry) some none h = first_of_none (flow_faults o) _ none h
 not_unflowed o (flow.NotFunction entry) some none h = first_of_none (flow_faults o) _ none h
 not_unflowed o flow.NoMemory some none h = some refl
 
-not_faulty : OneOutcome → (o : Elf) (why : CheckFault) → why ≢ fault.NoMemory → IsCheckable o → IsCheckFault o why → ⊥
+not_faulty : OneOutcome → (o : Coded) (why : CheckFault) → why ≢ fault.NoMemory → IsCheckable o → IsCheckFault o why → ⊥
 not_faulty one o why some can (unlinked told other h) = not_unlinked one o told other can.in_order.linked h
 not_faulty one o why some can (unflowed told other linked h) = not_unflowed o told other can.in_order.flow h
-not_faulty one o why some can (has_orc sec order at) = none_and_some (orc_section o) sec can.new at
+not_faulty one o why some can (has_orc sec order at) = none_and_some (orc_section o.elf) sec can.new at
 not_faulty one o why some can (crowded order new many) =
-    let few : length o.sections ≤ most_sections = can.few in
+    let few : length o.elf.sections ≤ most_sections = can.few in
     absurd (omega (arith, few, many))
 not_faulty one o why some can no_memory = some refl
 
 -- no refusal tells why it isn't checked
-pub not_told : OneOutcome → (o : Elf) (told : Refusal) → IsCheckable o → TellsCheckFault o told → ⊥
+pub not_told : OneOutcome → (o : Coded) (told : Refusal) → IsCheckable o → TellsCheckFault o told → ⊥
 not_told one o (refusal.Unlinked told) can h = not_faulty one o _ (λ e. cc) can h.0
 not_told one o (refusal.Unflowed told) can h = not_faulty one o _ (λ e. cc) can h
 not_told one o (refusal.HasOrc sec) can h = not_faulty one o _ (λ e. cc) can h
@@ -104,9 +106,9 @@ pub one_object : (bytes : List ℕ) (o p : Elf) → IsObject bytes o → IsObjec
 one_object bytes o p h k = h.says ∙ sym k.says
 
 -- and nothing keeps them from being checked
-pub checkable_unrefused : OneOutcome → (bytes : List ℕ) (o : Elf) (told : Refusal) → IsObject bytes o → IsCheckable o → IsUncheckable bytes told → ⊥
-checkable_unrefused one bytes o told is can (malformed fault) = FirstFault-not bytes _ fault is.well_formed
-checkable_unrefused one bytes o told is can (unchecked p other tells) = not_told one o told can (subst (λ (x : Elf). TellsCheckFault x told) (one_object bytes p o other is) tells)
+pub checkable_unrefused : OneOutcome → (map : Map) (bytes : List ℕ) (o : Elf) (told : Refusal) → IsObject bytes o → IsCheckable (coded_by map o) → IsUncheckable map bytes told → ⊥
+checkable_unrefused one map bytes o told is can (malformed fault) = FirstFault-not bytes _ fault is.well_formed
+checkable_unrefused one map bytes o told is can (unchecked p other tells) = not_told one (coded_by map o) told can (subst (λ (x : Elf). TellsCheckFault (coded_by map x) told) (one_object bytes p o other is) tells)
 
 -- ---- the rows of a program
 

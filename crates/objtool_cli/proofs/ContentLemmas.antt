@@ -13,12 +13,14 @@ use Rattle.elf_objects.specs.declared.TheConstants.{MAX_FILE_BYTES}
 use Rattle.objtool_cli.specs.Checked.{Accepts}
 use Rattle.command_base.specs.Outside.{Outside}
 use Rattle.ot_base.specs.NameLists.{NameLists}
-use Rattle.ot_base.specs.declared.options.Options.{Options}
+use Rattle.cli_words.specs.declared.options.CheckOptions.{CheckOptions}
 use Rattle.objtool_cli.specs.Command.{IsDone, IsRead}
 use Rattle.objtool_cli.specs.Promises.{InKeepsPromises}
 use Rattle.objtool_cli.specs.Unwinding.{OutUnwinds, Unwinds}
 use Rattle.elf_objects.specs.Elf.{Elf}
 use Rattle.elf_objects.specs.Object.{IsObject}
+use Rattle.x86_map.specs.declared.map.Map.{Map}
+use Rattle.flow_defs.specs.Coded.{coded_by}
 use Rattle.object_check.specs.Promises.{KeepsPromises}
 
 not_same : (a b : List ℕ) → a ≢ b → eq_by_cmp (slice_cmp nat_cmp) a b ≡ false
@@ -50,10 +52,10 @@ held_is limit (Some read) bytes is = within (nat_lt limit (length read)) is
     within false e = let u : ◌≡◌ {A = Result (List ℕ) FileError} (Ok bytes) (Ok read) = e in cc
 
 -- the bytes that are written unwind those that were read
-pub out_unwinds : (input output : List ℕ) (names : Option (List ℕ)) (bytes table : List ℕ) (lists : NameLists) (before after : Option Content) → IsRead before input names bytes lists → after ≡ writing before output table → Unwinds bytes lists table → OutUnwinds input output names before after
-out_unwinds input output names bytes table lists None after read e h = tt
-out_unwinds input output names bytes table lists (Some content) after read e h =
-    subst (λ (c : Option Content). OutUnwinds input output names (Some content) c) (sym e) (record {
+pub out_unwinds : (map : Map) (input output : List ℕ) (names : Option (List ℕ)) (bytes table : List ℕ) (lists : NameLists) (before after : Option Content) → IsRead before input names bytes lists → after ≡ writing before output table → Unwinds map bytes lists table → OutUnwinds map input output names before after
+out_unwinds map input output names bytes table lists None after read e h = tt
+out_unwinds map input output names bytes table lists (Some content) after read e h =
+    subst (λ (c : Option Content). OutUnwinds map input output names (Some content) c) (sym e) (record {
       read = bytes;
       held = held_is MAX_FILE_BYTES (get content input) bytes read.may;
       lists = lists;
@@ -64,7 +66,7 @@ out_unwinds input output names bytes table lists (Some content) after read e h =
     })
 
 -- the object that was read keeps its promises
-in_keeps : (input : List ℕ) (options : Options) (names : Option (List ℕ)) (bytes : List ℕ) (lists : NameLists) (before : Option Content) (o : Elf) → IsRead before input names bytes lists → IsObject bytes o → KeepsPromises o lists options → InKeepsPromises input options names before
+in_keeps : (input : List ℕ) (options : CheckOptions) (names : Option (List ℕ)) (bytes : List ℕ) (lists : NameLists) (before : Option Content) (o : Elf) → IsRead before input names bytes lists → IsObject bytes o → KeepsPromises (coded_by options.map o) lists options.rules → InKeepsPromises input options names before
 in_keeps input options names bytes lists None o read is keeps = tt
 in_keeps input options names bytes lists (Some content) o read is keeps = record {
   read = bytes;
@@ -77,11 +79,11 @@ in_keeps input options names bytes lists (Some content) o read is keeps = record
 }
 
 -- what stands where the command is done
-pub is_done : (input output : List ℕ) (options : Options) (names : Option (List ℕ)) (bytes table : List ℕ) (lists : NameLists) (before after : Outside) (o : Elf) → IsRead before.content input names bytes lists → IsObject bytes o → KeepsPromises o lists options → Accepts bytes lists options table → Unwinds bytes lists table → after.content ≡ writing before.content output table → IsDone input output options names before after
+pub is_done : (input output : List ℕ) (options : CheckOptions) (names : Option (List ℕ)) (bytes table : List ℕ) (lists : NameLists) (before after : Outside) (o : Elf) → IsRead before.content input names bytes lists → IsObject bytes o → KeepsPromises (coded_by options.map o) lists options.rules → Accepts bytes lists options table → Unwinds options.map bytes lists table → after.content ≡ writing before.content output table → IsDone input output options names before after
 is_done input output options names bytes table lists before after o read is keeps accepted unwinds e = record {
   table = table;
   accepted = record { read = bytes; lists = lists; is_read = read; accepts = accepted };
   written = e;
-  unwinds = out_unwinds input output names bytes table lists before.content after.content read e unwinds;
+  unwinds = out_unwinds options.map input output names bytes table lists before.content after.content read e unwinds;
   keeps = in_keeps input options names bytes lists before.content o read is keeps;
 }

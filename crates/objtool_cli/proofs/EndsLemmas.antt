@@ -26,7 +26,7 @@ use Rattle.objtool_cli.specs.Promises.{InKeepsPromises}
 use Rattle.objtool_cli.specs.Unwinding.{OutUnwinds}
 use Rattle.cli_words.specs.Grammar.{Command, check, demo, dump, help, unwind, version}
 use Rattle.cli_words.specs.declared.fault.UsageKind.{UsageKind}
-use Rattle.ot_base.specs.declared.options.Options.{Options}
+use Rattle.cli_words.specs.declared.options.CheckOptions.{CheckOptions}
 use Rattle.command_base.specs.declared.usage.Usage as declared
 use Rattle.command_base.specs.Printing.{Prints, fails, fault_stays, runs_out, silent, tells, whole}
 use Rattle.command_base.proofs.PrintLemmas.{nothing_printed}
@@ -60,7 +60,7 @@ write_fault (stop.Refused refusal) name before after h e = absurd h
 write_fault (stop.FileFault file) name before after h e = h.1
 write_fault stop.NoMemory name before after h e = cc
 
-refusal_no_fault : (s : Stop) (bytes : List ℕ) (lists : NameLists) (options : Options) → IsRefusal bytes lists options s → status_of s ≢ FileFault
+refusal_no_fault : (s : Stop) (bytes : List ℕ) (lists : NameLists) (options : CheckOptions) → IsRefusal bytes lists options s → status_of s ≢ FileFault
 refusal_no_fault (stop.Usage usage) bytes lists options h e = absurd h
 refusal_no_fault (stop.Missing file) bytes lists options h e = absurd h
 refusal_no_fault (stop.TooLong file limit) bytes lists options h e = absurd h
@@ -82,13 +82,13 @@ names_fault s names before after (names_unread file is h) e = read_fault s file 
 names_fault s names before after (no_names file text is may h) e = absurd (lists_no_fault s text h e)
 names_fault stop.NoMemory names before after no_lists e = cc
 
-stop_fault : (s : Stop) (input output : List ℕ) (options : Options) (names : Option (List ℕ)) (before after : Outside) → Stops input output options names before after s → status_of s ≡ FileFault → Rose before.faults after.faults
+stop_fault : (s : Stop) (input output : List ℕ) (options : CheckOptions) (names : Option (List ℕ)) (before after : Outside) → Stops input output options names before after s → status_of s ≡ FileFault → Rose before.faults after.faults
 stop_fault s input output options names before after (unread h kept) e = read_fault s input before after h e
 stop_fault s input output options names before after (without_names read may h kept) e = names_fault s names before after h e
 stop_fault s input output options names before after (refused read lists is_read h kept) e = absurd (refusal_no_fault s read lists options h e)
 stop_fault s input output options names before after (unwritten table accepted h others) e = write_fault s output before after h e
 
-fault_of_check : (input output : List ℕ) (options : Options) (names : Option (List ℕ)) (before after : Outside) (out out' : Output) (x : Status) → EndsCheck input output options names before after out out' x → x ≡ FileFault → Rose before.faults after.faults
+fault_of_check : (input output : List ℕ) (options : CheckOptions) (names : Option (List ℕ)) (before after : Outside) (out out' : Output) (x : Status) → EndsCheck input output options names before after out out' x → x ≡ FileFault → Rose before.faults after.faults
 fault_of_check input output options names before after out out' Done (done is same) e = cc
 fault_of_check input output options names before after out out' x (warned o warnings is kept t) e = let same = printed_fault status.Warnings _ out out' x t e in cc
 fault_of_check input output options names before after out out' x (stopped s h t) e = stop_fault s input output options names before after h (concluded_fault s out out' x t e)
@@ -123,7 +123,7 @@ file_fault meaning before after out out' x (demoed n is same h) e = absurd (sums
 file_fault meaning before after out out' x (dumped file is h kept) e = dump_fault file before after out out' x h e
 file_fault meaning before after out out' x (unwound file image is h kept) e = unwind_fault file image before after out out' x h e
 
-sink_fault_of_check : (input output : List ℕ) (options : Options) (names : Option (List ℕ)) (before after : Outside) (out out' : Output) (x : Status) → EndsCheck input output options names before after out out' x → x ≡ SinkFault → Rose out.faults out'.faults
+sink_fault_of_check : (input output : List ℕ) (options : CheckOptions) (names : Option (List ℕ)) (before after : Outside) (out out' : Output) (x : Status) → EndsCheck input output options names before after out out' x → x ≡ SinkFault → Rose out.faults out'.faults
 sink_fault_of_check input output options names before after out out' Done (done is same) e = cc
 sink_fault_of_check input output options names before after out out' x (warned o warnings is kept t) e = printed_sink_fault status.Warnings _ out out' x t warnings_no_sink_fault e
 sink_fault_of_check input output options names before after out out' x (stopped s h t) e = concluded_sink_fault s out out' x t e
@@ -150,13 +150,13 @@ write_told (stop.Refused refusal) name before after out out' x h t = absurd h
 write_told (stop.FileFault file) name before after out out' x h t = concluded_after_fault (stop.FileFault file) out out' x refl t
 write_told stop.NoMemory name before after out out' x h t = inr (concluded_no_memory out out' x t)
 
-stop_keeps : (s : Stop) (input output : List ℕ) (options : Options) (names : Option (List ℕ)) (before after : Outside) (out out' : Output) (x : Status) → Stops input output options names before after s → Concludes s out out' x → x ≢ FileFault → x ≢ NoMemory → after.content ≡ before.content
+stop_keeps : (s : Stop) (input output : List ℕ) (options : CheckOptions) (names : Option (List ℕ)) (before after : Outside) (out out' : Output) (x : Status) → Stops input output options names before after s → Concludes s out out' x → x ≢ FileFault → x ≢ NoMemory → after.content ≡ before.content
 stop_keeps s input output options names before after out out' x (unread h kept) t f m = kept
 stop_keeps s input output options names before after out out' x (without_names read may h kept) t f m = kept
 stop_keeps s input output options names before after out out' x (refused read lists is_read h kept) t f m = kept
 stop_keeps s input output options names before after out out' x (unwritten table accepted h others) t f m = absurd (neither x (write_told s output before after out out' x h t) f m)
 
-check_keeps : (input output : List ℕ) (options : Options) (names : Option (List ℕ)) (before after : Outside) (out out' : Output) (x : Status) → EndsCheck input output options names before after out out' x → x ≢ Done → x ≢ FileFault → x ≢ NoMemory → after.content ≡ before.content
+check_keeps : (input output : List ℕ) (options : CheckOptions) (names : Option (List ℕ)) (before after : Outside) (out out' : Output) (x : Status) → EndsCheck input output options names before after out out' x → x ≢ Done → x ≢ FileFault → x ≢ NoMemory → after.content ≡ before.content
 check_keeps input output options names before after out out' Done (done is same) d f m = absurd (d refl)
 check_keeps input output options names before after out out' x (warned o warnings is kept t) d f m = kept
 check_keeps input output options names before after out out' x (stopped s h t) d f m = stop_keeps s input output options names before after out out' x h t f m
@@ -178,13 +178,13 @@ written_others output table (Some held) after is = subst (λ (c : Option Content
 abbrev Left : Meaning → Outside → Outside → Type 0
 Left meaning before after = (after.content ≡ before.content) ⊎ MayChange meaning before.content after.content
 
-stop_changes : (s : Stop) (meaning : Meaning) (input output : List ℕ) (options : Options) (names : Option (List ℕ)) (before after : Outside) → meaning ≡ Ok (check input output options names) → Stops input output options names before after s → Left meaning before after
+stop_changes : (s : Stop) (meaning : Meaning) (input output : List ℕ) (options : CheckOptions) (names : Option (List ℕ)) (before after : Outside) → meaning ≡ Ok (check input output options names) → Stops input output options names before after s → Left meaning before after
 stop_changes s meaning input output options names before after is (unread h kept) = inl kept
 stop_changes s meaning input output options names before after is (without_names read may h kept) = inl kept
 stop_changes s meaning input output options names before after is (refused read lists is_read h kept) = inl kept
 stop_changes s meaning input output options names before after is (unwritten table accepted h others) = inr (output_of_check input output options names table is accepted others)
 
-check_changes : (meaning : Meaning) (input output : List ℕ) (options : Options) (names : Option (List ℕ)) (before after : Outside) (out out' : Output) (x : Status) → meaning ≡ Ok (check input output options names) → EndsCheck input output options names before after out out' x → Left meaning before after
+check_changes : (meaning : Meaning) (input output : List ℕ) (options : CheckOptions) (names : Option (List ℕ)) (before after : Outside) (out out' : Output) (x : Status) → meaning ≡ Ok (check input output options names) → EndsCheck input output options names before after out out' x → Left meaning before after
 check_changes meaning input output options names before after out out' Done is (done d same) = inr (output_of_check input output options names d.table is d.accepted (written_others output d.table before.content after.content d.written))
 check_changes meaning input output options names before after out out' x is (warned o warnings found kept t) = inl kept
 check_changes meaning input output options names before after out out' x is (stopped s h t) = stop_changes s meaning input output options names before after is h
@@ -217,13 +217,13 @@ not_both b p q = let same : true ≡ false = sym p ∙ q in cc
 pub not_told : (meaning : Meaning) (c d : Command) → meaning ≡ Ok c → meaning ≡ Ok d → is_told c ≡ true → is_told d ≡ false → ⊥
 not_told meaning c d p q told other = not_both (is_told c) told (ap is_told (same_command meaning c d p q) ∙ other)
 
-no_check_dump : (meaning : Meaning) (input output : List ℕ) (options : Options) (names : Option (List ℕ)) (file : List ℕ) → meaning ≡ Ok (check input output options names) → meaning ≡ Ok (dump file) → ⊥
+no_check_dump : (meaning : Meaning) (input output : List ℕ) (options : CheckOptions) (names : Option (List ℕ)) (file : List ℕ) → meaning ≡ Ok (check input output options names) → meaning ≡ Ok (dump file) → ⊥
 no_check_dump meaning input output options names file p q = let same = same_command meaning _ _ p q in cc
 
-no_check_unwind : (meaning : Meaning) (input output : List ℕ) (options : Options) (names : Option (List ℕ)) (file image : List ℕ) → meaning ≡ Ok (check input output options names) → meaning ≡ Ok (unwind file image) → ⊥
+no_check_unwind : (meaning : Meaning) (input output : List ℕ) (options : CheckOptions) (names : Option (List ℕ)) (file image : List ℕ) → meaning ≡ Ok (check input output options names) → meaning ≡ Ok (unwind file image) → ⊥
 no_check_unwind meaning input output options names file image p q = let same = same_command meaning _ _ p q in cc
 
-no_check_demo : (meaning : Meaning) (input output : List ℕ) (options : Options) (names : Option (List ℕ)) (n : ℕ) → meaning ≡ Ok (check input output options names) → meaning ≡ Ok (demo n) → ⊥
+no_check_demo : (meaning : Meaning) (input output : List ℕ) (options : CheckOptions) (names : Option (List ℕ)) (n : ℕ) → meaning ≡ Ok (check input output options names) → meaning ≡ Ok (demo n) → ⊥
 no_check_demo meaning input output options names n p q = let same = same_command meaning _ _ p q in cc
 
 no_dump_demo : (meaning : Meaning) (file : List ℕ) (n : ℕ) → meaning ≡ Ok (dump file) → meaning ≡ Ok (demo n) → ⊥
@@ -235,7 +235,7 @@ no_unwind_demo meaning file image n p q = let same = same_command meaning _ _ p 
 no_dump_unwind : (meaning : Meaning) (other file image : List ℕ) → meaning ≡ Ok (dump other) → meaning ≡ Ok (unwind file image) → ⊥
 no_dump_unwind meaning other file image p q = let same = same_command meaning _ _ p q in cc
 
-silent_check : (input output : List ℕ) (options : Options) (names : Option (List ℕ)) (before after : Outside) (out out' : Output) (x : Status) → EndsCheck input output options names before after out out' x → x ≡ Done → out'.written ≡ out.written
+silent_check : (input output : List ℕ) (options : CheckOptions) (names : Option (List ℕ)) (before after : Outside) (out out' : Output) (x : Status) → EndsCheck input output options names before after out out' x → x ≡ Done → out'.written ≡ out.written
 silent_check input output options names before after out out' Done (done is same) e = ap (λ (o : Output). o.written) same
 silent_check input output options names before after out out' x (warned o warnings is kept t) e = absurd (warnings_not_done (printed_done status.Warnings _ out out' x t e))
 silent_check input output options names before after out out' x (stopped s h t) e = absurd (concluded_not_done s out out' x t e)
@@ -244,7 +244,7 @@ silent_check input output options names before after out out' x (stopped s h t) 
 unless_told : (s : Stop) (out out' : Output) (x : Status) → Concludes s out out' x → x ≡ Done → ⊥
 unless_told s out out' x t e = concluded_not_done s out out' x t e
 
-pub tells_nothing : (meaning : Meaning) (before after : Outside) (out out' : Output) (x : Status) (input output : List ℕ) (options : Options) (names : Option (List ℕ)) → Ends meaning before after out out' x → meaning ≡ Ok (check input output options names) → x ≡ Done → out'.written ≡ out.written
+pub tells_nothing : (meaning : Meaning) (before after : Outside) (out out' : Output) (x : Status) (input output : List ℕ) (options : CheckOptions) (names : Option (List ℕ)) → Ends meaning before after out out' x → meaning ≡ Ok (check input output options names) → x ≡ Done → out'.written ≡ out.written
 tells_nothing meaning before after out out' x input output options names (faulty word kind is same t) n e = absurd (unless_told _ out out' x t e)
 tells_nothing meaning before after out out' x input output options names (unfinished same t) n e = absurd (unless_told _ out out' x t e)
 tells_nothing meaning before after out out' x input output options names (shown command is shows same t) n e = absurd (not_told meaning command _ is n shows refl)
@@ -261,7 +261,7 @@ whole_text text out out' FileFault (fault_stays prefix rose at) e = cc
 whole_text text out out' SinkFault (fails prefix rose other) e = cc
 whole_text text out out' NoMemory (runs_out prefix) e = cc
 
-check_warned : (meaning : Meaning) (input output : List ℕ) (options : Options) (names : Option (List ℕ)) (before after : Outside) (out out' : Output) (x : Status) → meaning ≡ Ok (check input output options names) → EndsCheck input output options names before after out out' x → x ≡ Warnings → PrintsWarnings meaning before.content out.written out'.written
+check_warned : (meaning : Meaning) (input output : List ℕ) (options : CheckOptions) (names : Option (List ℕ)) (before after : Outside) (out out' : Output) (x : Status) → meaning ≡ Ok (check input output options names) → EndsCheck input output options names before after out out' x → x ≡ Warnings → PrintsWarnings meaning before.content out.written out'.written
 check_warned meaning input output options names before after out out' Done asked (done is same) e = absurd (done_no_warnings e)
 check_warned meaning input output options names before after out out' x asked (warned o warnings is kept t) e =
     of_check input output options names o warnings asked is (whole_text (warnings_text o warnings) out out' x t e)
@@ -303,12 +303,12 @@ ChecksAs before after out out' x (demo n) = Unit {0}
 ChecksAs before after out out' x help = Unit {0}
 ChecksAs before after out out' x version = Unit {0}
 
-check_unwound : (input output : List ℕ) (options : Options) (names : Option (List ℕ)) (before after : Outside) (out out' : Output) (x : Status) → EndsCheck input output options names before after out out' x → x ≡ Done → OutUnwinds input output names before.content after.content
+check_unwound : (input output : List ℕ) (options : CheckOptions) (names : Option (List ℕ)) (before after : Outside) (out out' : Output) (x : Status) → EndsCheck input output options names before after out out' x → x ≡ Done → OutUnwinds options.map input output names before.content after.content
 check_unwound input output options names before after out out' Done (done is same) e = is.unwinds
 check_unwound input output options names before after out out' x (warned o warnings is kept t) e = absurd (warnings_not_done (printed_done status.Warnings _ out out' x t e))
 check_unwound input output options names before after out out' x (stopped s h t) e = absurd (concluded_not_done s out out' x t e)
 
-pub out_unwinds : (meaning : Meaning) (before after : Outside) (out out' : Output) (x : Status) (input output : List ℕ) (options : Options) (names : Option (List ℕ)) → Ends meaning before after out out' x → x ≡ Done → meaning ≡ Ok (check input output options names) → OutUnwinds input output names before.content after.content
+pub out_unwinds : (meaning : Meaning) (before after : Outside) (out out' : Output) (x : Status) (input output : List ℕ) (options : CheckOptions) (names : Option (List ℕ)) → Ends meaning before after out out' x → x ≡ Done → meaning ≡ Ok (check input output options names) → OutUnwinds options.map input output names before.content after.content
 out_unwinds meaning before after out out' x input output options names (faulty word kind is same t) e n = absurd (unless_told _ out out' x t e)
 out_unwinds meaning before after out out' x input output options names (unfinished same t) e n = absurd (unless_told _ out out' x t e)
 out_unwinds meaning before after out out' x input output options names (shown command is shows same t) e n = absurd (not_told meaning command _ is n shows refl)
@@ -318,12 +318,12 @@ out_unwinds meaning before after out out' x input output options names (unwound 
 out_unwinds meaning before after out out' x input output options names (checked i o os ns is h) e n =
     check_unwound input output options names before after out out' x (subst (ChecksAs before after out out' x) (same_command meaning (check i o os ns) (check input output options names) is n) h) e
 
-check_promised : (input output : List ℕ) (options : Options) (names : Option (List ℕ)) (before after : Outside) (out out' : Output) (x : Status) → EndsCheck input output options names before after out out' x → x ≡ Done → InKeepsPromises input options names before.content
+check_promised : (input output : List ℕ) (options : CheckOptions) (names : Option (List ℕ)) (before after : Outside) (out out' : Output) (x : Status) → EndsCheck input output options names before after out out' x → x ≡ Done → InKeepsPromises input options names before.content
 check_promised input output options names before after out out' Done (done is same) e = is.keeps
 check_promised input output options names before after out out' x (warned o warnings is kept t) e = absurd (warnings_not_done (printed_done status.Warnings _ out out' x t e))
 check_promised input output options names before after out out' x (stopped s h t) e = absurd (concluded_not_done s out out' x t e)
 
-pub promises_kept : (meaning : Meaning) (before after : Outside) (out out' : Output) (x : Status) (input output : List ℕ) (options : Options) (names : Option (List ℕ)) → Ends meaning before after out out' x → x ≡ Done → meaning ≡ Ok (check input output options names) → InKeepsPromises input options names before.content
+pub promises_kept : (meaning : Meaning) (before after : Outside) (out out' : Output) (x : Status) (input output : List ℕ) (options : CheckOptions) (names : Option (List ℕ)) → Ends meaning before after out out' x → x ≡ Done → meaning ≡ Ok (check input output options names) → InKeepsPromises input options names before.content
 promises_kept meaning before after out out' x input output options names (faulty word kind is same t) e n = absurd (unless_told _ out out' x t e)
 promises_kept meaning before after out out' x input output options names (unfinished same t) e n = absurd (unless_told _ out out' x t e)
 promises_kept meaning before after out out' x input output options names (shown command is shows same t) e n = absurd (not_told meaning command _ is n shows refl)
@@ -455,5 +455,5 @@ text_is one other out out' x same printed = subst (λ (text : List ℕ). Prints 
 pub ends_of : (c d : Command) (before after : Outside) (out out' : Output) (x : Status) → c ≡ d → Ends (Ok c) before after out out' x → Ends (Ok d) before after out out' x
 ends_of c d before after out out' x same h = subst (λ (e : Command). Ends (Ok e) before after out out' x) same h
 
-pub check_is : (i j o p : List ℕ) (options : Options) (names others : Option (List ℕ)) → i ≡ j → o ≡ p → names ≡ others → check i o options names ≡ check j p options others
+pub check_is : (i j o p : List ℕ) (options : CheckOptions) (names others : Option (List ℕ)) → i ≡ j → o ≡ p → names ≡ others → check i o options names ≡ check j p options others
 check_is i j o p options names others a b c = cc

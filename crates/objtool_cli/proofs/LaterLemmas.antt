@@ -11,7 +11,7 @@ use Rattle.command_base.specs.Outside.{Outside, Output}
 use Rattle.command_base.specs.Reading.{StopsAtRead}
 use Rattle.command_base.specs.declared.status.Status.{Status}
 use Rattle.command_base.specs.declared.status.Status.TheVariants as status
-use Rattle.ot_base.specs.declared.options.Options.{Options}
+use Rattle.cli_words.specs.declared.options.CheckOptions.{CheckOptions}
 use Rattle.objtool_cli.specs.Command.{EndsCheck, IsDone, Stops, done, refused, stopped, unread, unwritten, warned, without_names}
 use Rattle.objtool_cli.specs.Lists.{StopsAtNames, names_unread, no_lists, no_names}
 use Rattle.objtool_cli.specs.Writing.{StopsAtWrite}
@@ -47,21 +47,21 @@ names_earlier s names content before middle after later (no_names file text is m
 names_earlier s names content before middle after later no_lists = no_lists
 
 -- fewer faults at the beginning
-done_earlier : (input output : List ℕ) (options : Options) (names : Option (List ℕ)) (content : Option Content) (before middle : ℕ) (after : Outside) → IsDone input output options names (outside content middle) after → IsDone input output options names (outside content before) after
+done_earlier : (input output : List ℕ) (options : CheckOptions) (names : Option (List ℕ)) (content : Option Content) (before middle : ℕ) (after : Outside) → IsDone input output options names (outside content middle) after → IsDone input output options names (outside content before) after
 done_earlier input output options names content before middle after d = record { table = d.table; accepted = d.accepted; written = d.written; unwinds = d.unwinds; keeps = d.keeps }
 
-stops_earlier : (s : Stop) (input output : List ℕ) (options : Options) (names : Option (List ℕ)) (content : Option Content) (before middle : ℕ) (after : Outside) → before ≤ middle → Stops input output options names (outside content middle) after s → Stops input output options names (outside content before) after s
+stops_earlier : (s : Stop) (input output : List ℕ) (options : CheckOptions) (names : Option (List ℕ)) (content : Option Content) (before middle : ℕ) (after : Outside) → before ≤ middle → Stops input output options names (outside content middle) after s → Stops input output options names (outside content before) after s
 stops_earlier s input output options names content before middle after later (unread h kept) = unread (read_earlier s input content before middle after later h) kept
 stops_earlier s input output options names content before middle after later (without_names read may h kept) = without_names read may (names_earlier s names content before middle after later h) kept
 stops_earlier s input output options names content before middle after later (refused read lists is h kept) = refused read lists is h kept
 stops_earlier s input output options names content before middle after later (unwritten table accepted h others) = unwritten table accepted (write_earlier s output content before middle after later h) others
 
-ends_earlier : (input output : List ℕ) (options : Options) (names : Option (List ℕ)) (content : Option Content) (before middle : ℕ) (after : Outside) (out out' : Output) (x : Status) → before ≤ middle → EndsCheck input output options names (outside content middle) after out out' x → EndsCheck input output options names (outside content before) after out out' x
+ends_earlier : (input output : List ℕ) (options : CheckOptions) (names : Option (List ℕ)) (content : Option Content) (before middle : ℕ) (after : Outside) (out out' : Output) (x : Status) → before ≤ middle → EndsCheck input output options names (outside content middle) after out out' x → EndsCheck input output options names (outside content before) after out out' x
 ends_earlier input output options names content before middle after out out' status.Done later (done d same) = done (done_earlier input output options names content before middle after d) same
 ends_earlier input output options names content before middle after out out' x later (warned o warnings is kept t) = warned o warnings is kept t
 ends_earlier input output options names content before middle after out out' x later (stopped s h t) = stopped s (stops_earlier s input output options names content before middle after later h) t
 
-pub ends_later : (input output : List ℕ) (options : Options) (names : Option (List ℕ)) (content middle : Option Content) (before faults : ℕ) (after : Outside) (out out' : Output) (x : Status) → middle ≡ content → before ≤ faults → EndsCheck input output options names (outside middle faults) after out out' x → EndsCheck input output options names (outside content before) after out out' x
+pub ends_later : (input output : List ℕ) (options : CheckOptions) (names : Option (List ℕ)) (content middle : Option Content) (before faults : ℕ) (after : Outside) (out out' : Output) (x : Status) → middle ≡ content → before ≤ faults → EndsCheck input output options names (outside middle faults) after out out' x → EndsCheck input output options names (outside content before) after out out' x
 ends_later input output options names content middle before faults after out out' x same later h = ends_earlier input output options names content before faults after out out' x later (subst (λ (c : Option Content). EndsCheck input output options names (outside c faults) after out out' x) same h)
 
 pub names_later : (s : Stop) (names : Option (List ℕ)) (content middle : Option Content) (before faults : ℕ) (after : Outside) → middle ≡ content → before ≤ faults → StopsAtNames names (outside middle faults) after s → StopsAtNames names (outside content before) after s

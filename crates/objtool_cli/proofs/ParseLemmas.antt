@@ -2,11 +2,13 @@
 use Rattle.std.proofs.Common.{ℕ, List, inl, inr}
 use Rattle.std.specs.Prelude.{◌≢◌}
 use Rattle.ot_base.specs.NameLists.{NameLists}
-use Rattle.ot_base.specs.declared.options.Options.{Options}
+use Rattle.cli_words.specs.declared.options.CheckOptions.{CheckOptions}
 use Rattle.elf_objects.specs.Elf.{Elf}
 use Rattle.elf_objects.specs.Object.{FirstFault, IsObject, Refuses}
 use Rattle.elf_objects.specs.declared.fault.ElfFault.{ElfFault}
 use Rattle.elf_objects.specs.declared.fault.ElfFault.TheVariants.{Short, NotElfRel64, BadTable, BadRange, BadName, BadLink, BadSymbol, BadReloc, TooMany, NoMemory}
+use Rattle.x86_map.specs.declared.map.Map.{Map}
+use Rattle.flow_defs.specs.Coded.{coded_by}
 use Rattle.command_base.specs.declared.stop.Stop.{Stop}
 use Rattle.command_base.specs.declared.stop.Stop.TheVariants as stop
 use Rattle.command_base.specs.Reading.{parse_stop}
@@ -17,29 +19,29 @@ fault_of : (bytes : List ℕ) (e : ElfFault) → Refuses (FirstFault bytes) e �
 fault_of bytes e (inl none) other = absurd (other none)
 fault_of bytes e (inr fault) other = fault
 
-pub parse_uncheckable : (bytes : List ℕ) (e : ElfFault) → Refuses (FirstFault bytes) e → IsUncheckableStop bytes (parse_stop e)
-parse_uncheckable bytes (Short need have) h = malformed (fault_of bytes _ h (λ x. cc))
-parse_uncheckable bytes (NotElfRel64 at) h = malformed (fault_of bytes _ h (λ x. cc))
-parse_uncheckable bytes (BadTable sec) h = malformed (fault_of bytes _ h (λ x. cc))
-parse_uncheckable bytes (BadRange sec) h = malformed (fault_of bytes _ h (λ x. cc))
-parse_uncheckable bytes (BadName what index) h = malformed (fault_of bytes _ h (λ x. cc))
-parse_uncheckable bytes (BadLink sec) h = malformed (fault_of bytes _ h (λ x. cc))
-parse_uncheckable bytes (BadSymbol sym) h = malformed (fault_of bytes _ h (λ x. cc))
-parse_uncheckable bytes (BadReloc sec index) h = malformed (fault_of bytes _ h (λ x. cc))
-parse_uncheckable bytes (TooMany what count) h = malformed (fault_of bytes _ h (λ x. cc))
-parse_uncheckable bytes NoMemory h = tt
+pub parse_uncheckable : (map : Map) (bytes : List ℕ) (e : ElfFault) → Refuses (FirstFault bytes) e → IsUncheckableStop map bytes (parse_stop e)
+parse_uncheckable map bytes (Short need have) h = malformed (fault_of bytes _ h (λ x. cc))
+parse_uncheckable map bytes (NotElfRel64 at) h = malformed (fault_of bytes _ h (λ x. cc))
+parse_uncheckable map bytes (BadTable sec) h = malformed (fault_of bytes _ h (λ x. cc))
+parse_uncheckable map bytes (BadRange sec) h = malformed (fault_of bytes _ h (λ x. cc))
+parse_uncheckable map bytes (BadName what index) h = malformed (fault_of bytes _ h (λ x. cc))
+parse_uncheckable map bytes (BadLink sec) h = malformed (fault_of bytes _ h (λ x. cc))
+parse_uncheckable map bytes (BadSymbol sym) h = malformed (fault_of bytes _ h (λ x. cc))
+parse_uncheckable map bytes (BadReloc sec index) h = malformed (fault_of bytes _ h (λ x. cc))
+parse_uncheckable map bytes (TooMany what count) h = malformed (fault_of bytes _ h (λ x. cc))
+parse_uncheckable map bytes NoMemory h = tt
 
 -- what is told of an object that isn't checked is why its bytes can't be
-pub check_uncheckable : (bytes : List ℕ) (o : Elf) (s : Stop) → IsObject bytes o → IsUnchecked o s → IsUncheckableStop bytes s
-check_uncheckable bytes o (stop.Refused refusal) is h = unchecked o is h
-check_uncheckable bytes o stop.NoMemory is h = tt
-check_uncheckable bytes o (stop.Usage usage) is h = absurd h
-check_uncheckable bytes o (stop.Missing file) is h = absurd h
-check_uncheckable bytes o (stop.TooLong file limit) is h = absurd h
-check_uncheckable bytes o (stop.FileFault file) is h = absurd h
+pub check_uncheckable : (map : Map) (bytes : List ℕ) (o : Elf) (s : Stop) → IsObject bytes o → IsUnchecked (coded_by map o) s → IsUncheckableStop map bytes s
+check_uncheckable map bytes o (stop.Refused refusal) is h = unchecked o is h
+check_uncheckable map bytes o stop.NoMemory is h = tt
+check_uncheckable map bytes o (stop.Usage usage) is h = absurd h
+check_uncheckable map bytes o (stop.Missing file) is h = absurd h
+check_uncheckable map bytes o (stop.TooLong file limit) is h = absurd h
+check_uncheckable map bytes o (stop.FileFault file) is h = absurd h
 
 -- an input is refused whose bytes can't be checked
-pub uncheckable_refusal : (bytes : List ℕ) (lists : NameLists) (options : Options) (s : Stop) → IsUncheckableStop bytes s → IsRefusal bytes lists options s
+pub uncheckable_refusal : (bytes : List ℕ) (lists : NameLists) (options : CheckOptions) (s : Stop) → IsUncheckableStop options.map bytes s → IsRefusal bytes lists options s
 uncheckable_refusal bytes lists options (stop.Refused refusal) h = uncheckable h
 uncheckable_refusal bytes lists options stop.NoMemory h = tt
 uncheckable_refusal bytes lists options (stop.Usage usage) h = absurd h

@@ -6,6 +6,7 @@ use Rattle.ot_base.specs.NameLists.{NameLists}
 use Rattle.ot_base.specs.Section.{TextSection}
 use Rattle.elf_objects.specs.Contents.{is_text, no_section, section_at}
 use Rattle.elf_objects.specs.Elf.{Elf, SectionEntry}
+use Rattle.flow_defs.specs.Coded.{Coded}
 use Rattle.flow_defs.specs.Program.{graph_of, program_of, returning_graph, text_sections_of}
 use Rattle.command_base.specs.TextSections.{texts_of}
 
@@ -40,7 +41,7 @@ same_texts section from (s ∷ all) each =
     ∙ ap (λ (x : SectionEntry). cond (is_text s) (listed_text (from, x) ∷ listed (enumerate_from (from + 1) all)) (listed (enumerate_from (from + 1) all))) here
     ∙ sym (entry_first from s (enumerate_from (from + 1) all) (is_text s) refl)
 
-texts_are : (o : Elf) (lists : NameLists) → (program_of o lists).texts ≡ text_sections_of o
+texts_are : (o : Coded) (lists : NameLists) → (program_of o lists).texts ≡ text_sections_of o.elf
 unfolding program_of returning_graph graph_of
 texts_are o lists = refl
 
@@ -48,5 +49,5 @@ listed_texts : (o : Elf) → text_sections_of o ≡ texts_of o
 unfolding text_sections_of
 listed_texts o = same_texts (section_at o) 0 o.sections (λ k inside. ap (section_at o) (omega arith))
 
-pub program_texts : (o : Elf) (lists : NameLists) → (program_of o lists).texts ≡ texts_of o
-program_texts o lists = texts_are o lists ∙ listed_texts o
+pub program_texts : (o : Coded) (lists : NameLists) → (program_of o lists).texts ≡ texts_of o.elf
+program_texts o lists = texts_are o lists ∙ listed_texts o.elf

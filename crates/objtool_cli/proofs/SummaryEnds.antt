@@ -13,7 +13,7 @@ use Rattle.command_base.specs.Printing.{Concludes, Prints, fails, fault_stays, r
 use Rattle.command_base.specs.Stop.{line_of, status_of}
 use Rattle.command_base.proofs.ConcludeLemmas.{concluded_fault, concluded_no_memory, concluded_no_warnings, concluded_not_done, concluded_sink_fault, printed_done, printed_fault, printed_sink_fault, printed_warnings}
 use Rattle.objtool_cli.specs.Checked.{IsUncheckable, IsUncheckableStop}
-use Rattle.objtool_cli.specs.Summary.{PrintsRefusal, PrintsSummary, PrintsWarningsOf, SumsUp, passed, stopped, summary_line, warned}
+use Rattle.objtool_cli.specs.Summary.{PrintsRefusal, PrintsSummary, PrintsWarningsOf, SumsUp, no_options, passed, stopped, summary_line, warned}
 use Rattle.objtool_cli.specs.Warnings.{warnings_text}
 
 -- no fault, nor want of memory
@@ -58,7 +58,7 @@ done_no_warnings e = cc
 
 -- ---- faults
 
-uncheckable_no_fault : (bytes : List ℕ) (s : Stop) → IsUncheckableStop bytes s → status_of s ≢ FileFault
+uncheckable_no_fault : (bytes : List ℕ) (s : Stop) → IsUncheckableStop no_options.map bytes s → status_of s ≢ FileFault
 uncheckable_no_fault bytes (stop.Refused refusal) h e = cc
 uncheckable_no_fault bytes stop.NoMemory h e = cc
 uncheckable_no_fault bytes (stop.Usage usage) h e = absurd h
@@ -88,14 +88,14 @@ sums_warned title bytes out out' x (passed counts rows p t) e = absurd (done_no_
 sums_warned title bytes out out' x (warned o warnings w t) e = record { object = o; warnings = warnings; warns = w; printed = printed_whole Warnings (warnings_text o warnings) out out' x t e warnings_plain }
 sums_warned title bytes out out' x (stopped s h t) e = absurd (concluded_no_warnings s out out' x t e)
 
-refusal_told : (told : Refusal) (bytes : List ℕ) (out out' : Output) (x : Status) → IsUncheckable bytes told → Concludes (stop.Refused told) out out' x → x ≡ Refused → PrintsRefusal bytes out.written out'.written
+refusal_told : (told : Refusal) (bytes : List ℕ) (out out' : Output) (x : Status) → IsUncheckable no_options.map bytes told → Concludes (stop.Refused told) out out' x → x ≡ Refused → PrintsRefusal bytes out.written out'.written
 refusal_told told bytes out out' x h (tells other t) e = record { refusal = told; uncheckable = h; printed = printed_whole Refused (line_of (stop.Refused told)) out out' x t e refused_plain }
 refusal_told told bytes out out' NoMemory h (silent is same) e = absurd (refused_plain.memory (sym e))
 
 no_refusal : (out out' : Output) (x : Status) → Concludes stop.NoMemory out out' x → x ≢ Refused
 no_refusal out out' x t e = refused_plain.memory (sym e ∙ concluded_no_memory out out' x t)
 
-stop_refused : (s : Stop) (bytes : List ℕ) (out out' : Output) (x : Status) → IsUncheckableStop bytes s → Concludes s out out' x → x ≡ Refused → PrintsRefusal bytes out.written out'.written
+stop_refused : (s : Stop) (bytes : List ℕ) (out out' : Output) (x : Status) → IsUncheckableStop no_options.map bytes s → Concludes s out out' x → x ≡ Refused → PrintsRefusal bytes out.written out'.written
 stop_refused (stop.Refused told) bytes out out' x h t e = refusal_told told bytes out out' x h t e
 stop_refused stop.NoMemory bytes out out' x h t e = absurd (no_refusal out out' x t e)
 stop_refused (stop.Usage usage) bytes out out' x h t e = absurd h

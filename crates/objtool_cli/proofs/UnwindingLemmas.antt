@@ -3,20 +3,20 @@ use Rattle.std.proofs.Common.{ℕ, List, sym, subst}
 use Rattle.ot_base.specs.NameLists.{NameLists}
 use Rattle.ot_base.specs.declared.row.PlacedRow.{PlacedRow}
 use Rattle.walk_defs.specs.Placement.{IsPlacement}
-use Rattle.elf_objects.specs.Elf.{Elf}
 use Rattle.orc_bytes.specs.Laws.{OneListFits}
+use Rattle.flow_defs.specs.Coded.{Coded}
 use Rattle.object_check.specs.Unwinding.{RowsUnwind}
 use Rattle.table_output.specs.Tables.{HasTables, with_tables_object}
 use Rattle.objtool_cli.specs.Unwinding.{UnwindsBy}
 use Rattle.objtool_cli.proofs.PlacementLemmas.{program_texts}
 
 -- the rows that are written for an object unwind it
-pub unwinds_by : OneListFits → (o : Elf) (lists : NameLists) (rows : List PlacedRow) (written : List ℕ) → RowsUnwind o lists rows → HasTables o rows written → UnwindsBy o lists written
+pub unwinds_by : OneListFits → (o : Coded) (lists : NameLists) (rows : List PlacedRow) (written : List ℕ) → RowsUnwind o lists rows → HasTables o.elf rows written → UnwindsBy o lists written
 unwinds_by one o lists rows written unwind has = record {
   rows = rows;
   added = has.added;
   reads_back = has.added.object;
   holds = has.holds;
-  only = λ others h. one (with_tables_object o rows) others rows h has.holds;
+  only = λ others h. one (with_tables_object o.elf rows) others rows h has.holds;
   walks = λ bases ranges placement begin m run. unwind bases ranges (record { placement = subst (λ texts. IsPlacement texts ranges) (sym (program_texts o lists)) placement; begin = begin }) m run;
 }

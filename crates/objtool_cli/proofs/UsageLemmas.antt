@@ -18,9 +18,9 @@ use Rattle.objtool_cli.specs.Checked.{IsRefusal, IsUncheckableStop}
 use Rattle.objtool_cli.specs.Command.{Ends, EndsCheck, IsFaulty, Stops, at_fault, checked, demoed, done, dumped, faulty, refused, shown, stopped, unfinished, unread, unwound, unwritten, warned, without_names}
 use Rattle.objtool_cli.specs.Lists.{IsListsStop, StopsAtNames, names_unread, no_lists, no_names}
 use Rattle.objtool_cli.specs.Summary as sums
-use Rattle.objtool_cli.specs.Summary.{SumsUp}
+use Rattle.objtool_cli.specs.Summary.{SumsUp, no_options}
 use Rattle.objtool_cli.specs.Writing.{StopsAtWrite}
-use Rattle.ot_base.specs.declared.options.Options.{Options}
+use Rattle.cli_words.specs.declared.options.CheckOptions.{CheckOptions}
 use Rattle.objtool_cli.specs.Words.{Meaning}
 
 not_usage : (end : Status) (text : List ℕ) (before after : Output) (x : Status) → Prints end text before after x → end ≢ status.Usage → x ≢ status.Usage
@@ -94,7 +94,7 @@ names_other names before after s (names_unread file is h) = unread_other _ file 
 names_other names before after s (no_names file text is may h) = λ usage same. subst (λ (t : Stop). IsListsStop text t) same h
 names_other names before after stop.NoMemory no_lists = memory_other
 
-stop_other : (s : Stop) (input output : List ℕ) (options : Options) (names : Option (List ℕ)) (before after : Outside) → Stops input output options names before after s → IsOther s
+stop_other : (s : Stop) (input output : List ℕ) (options : CheckOptions) (names : Option (List ℕ)) (before after : Outside) → Stops input output options names before after s → IsOther s
 stop_other s input output options names before after (unread h kept) = unread_other _ input before after s h
 stop_other s input output options names before after (without_names read may h kept) = names_other names before after s h
 stop_other s input output options names before after (refused read lists is h kept) = λ usage same. subst (λ (t : Stop). IsRefusal read lists options t) same h
@@ -103,7 +103,7 @@ stop_other s input output options names before after (unwritten table accepted h
 warnings_not_usage : status.Warnings ≢ status.Usage
 warnings_not_usage e = cc
 
-check_ended : (input output : List ℕ) (options : Options) (names : Option (List ℕ)) (before after : Outside) (out out' : Output) (x : Status) → EndsCheck input output options names before after out out' x → x ≢ status.Usage
+check_ended : (input output : List ℕ) (options : CheckOptions) (names : Option (List ℕ)) (before after : Outside) (out out' : Output) (x : Status) → EndsCheck input output options names before after out out' x → x ≢ status.Usage
 check_ended input output options names before after out out' status.Done (done d same) e = cc
 check_ended input output options names before after out out' x (warned o warnings is kept t) e = not_usage _ _ out out' x t warnings_not_usage e
 check_ended input output options names before after out out' x (stopped s h t) e = concluded_other s out out' x t (stop_other s input output options names before after h) e
@@ -113,7 +113,7 @@ check_ended input output options names before after out out' x (stopped s h t) e
 pub sums_no_usage : (title bytes : List ℕ) (out out' : Output) (x : Status) → SumsUp title bytes out out' x → x ≢ status.Usage
 sums_no_usage title bytes out out' x (sums.passed counts rows p t) e = not_usage _ _ out out' x t done_not_usage e
 sums_no_usage title bytes out out' x (sums.warned o warnings w t) e = not_usage _ _ out out' x t warnings_not_usage e
-sums_no_usage title bytes out out' x (sums.stopped s h t) e = concluded_other s out out' x t (λ usage same. subst (λ (u : Stop). IsUncheckableStop bytes u) same h) e
+sums_no_usage title bytes out out' x (sums.stopped s h t) e = concluded_other s out out' x t (λ usage same. subst (λ (u : Stop). IsUncheckableStop no_options.map bytes u) same h) e
 
 pub only_faulty : (meaning : Meaning) (before after : Outside) (out out' : Output) (x : Status) → Ends meaning before after out out' x → x ≡ status.Usage → IsFaulty meaning
 only_faulty meaning before after out out' x (faulty word kind is same t) e = at_fault word kind is

@@ -1,7 +1,7 @@
 -- What `check` makes of the bytes of its input.
 use Rattle.std.specs.Prelude.{◌≡◌, ℕ, ℤ, ◌<◌, List}
 use Rattle.ot_base.specs.NameLists.{NameLists}
-use Rattle.ot_base.specs.declared.options.Options.{Options}
+use Rattle.cli_words.specs.declared.options.CheckOptions.{CheckOptions}
 use Rattle.ot_base.specs.declared.place.Place.{Place}
 use Rattle.ot_base.specs.declared.row.PlacedRow.{PlacedRow}
 use Rattle.ot_base.specs.declared.warning.Warning.{Warning}
@@ -11,8 +11,10 @@ use Rattle.elf_objects.specs.Contents.{section_at}
 use Rattle.elf_objects.specs.Elf.{Elf}
 use Rattle.elf_objects.specs.Object.{FirstFault, IsObject}
 use Rattle.elf_objects.specs.declared.TheConstants.{MAX_SYMBOLS}
+use Rattle.x86_map.specs.declared.map.Map.{Map}
 use Rattle.x86_text.specs.declared.fault.TextFault.{TextFault}
 use Rattle.option_defs.specs.Asked.{IsWarned}
+use Rattle.flow_defs.specs.Coded.{Coded, coded_by}
 use Rattle.flow_defs.specs.Program.{program_of}
 use Rattle.point_allowances.specs.Allowances.{allowances_of}
 use Rattle.object_code.specs.declared.fault.LinkFault.TheVariants.{Text}
@@ -28,34 +30,34 @@ use Rattle.command_base.specs.declared.stop.Stop.TheVariants.{Usage, Missing, To
 use Rattle.objtool_cli.specs.Writing.{IsTable}
 
 -- An input of these bytes is accepted under these lists of names and these options, and OUT is to hold the table: they are
--- an object that is checked, and whose program breaks no rule that is asked for; and the same with the tables of the rows of
+-- an object that is checked, and whose program, by the opcode map that is asked for, breaks no rule that is; and the same with the tables of the rows of
 -- its program.
-pub record Accepts (bytes : List ℕ) (lists : NameLists) (options : Options) (table : List ℕ) : Type 0 where
+pub record Accepts (bytes : List ℕ) (lists : NameLists) (options : CheckOptions) (table : List ℕ) : Type 0 where
   pub object : Elf
   pub is : IsObject bytes object
-  pub checkable : IsCheckable object
-  pub unbroken : IsUnbroken (program_of object lists) (allowances_of object lists) options
+  pub checkable : IsCheckable (coded_by options.map object)
+  pub unbroken : IsUnbroken (program_of (coded_by options.map object) lists) (allowances_of (coded_by options.map object) lists) options.rules
   pub rows : List PlacedRow
-  pub has_rows : HasRows (program_of object lists) rows
+  pub has_rows : HasRows (program_of (coded_by options.map object) lists) rows
   pub table_is : IsTable object rows table
 
 -- They are this object, which is checked, and whose program breaks rules that are asked for: these are all warnings, in
 -- their order.
-pub record Warns (bytes : List ℕ) (lists : NameLists) (options : Options) (o : Elf) (warnings : List Warning) : Type 0 where
+pub record Warns (bytes : List ℕ) (lists : NameLists) (options : CheckOptions) (o : Elf) (warnings : List Warning) : Type 0 where
   pub is : IsObject bytes o
-  pub checkable : IsCheckable o
-  pub are : AreWarnings (program_of o lists) (allowances_of o lists) options warnings
+  pub checkable : IsCheckable (coded_by options.map o)
+  pub are : AreWarnings (program_of (coded_by options.map o) lists) (allowances_of (coded_by options.map o) lists) options.rules warnings
 
 -- they are an object that is checked, and whose program breaks a rule that is asked for
-pub record BreaksRule (bytes : List ℕ) (lists : NameLists) (options : Options) : Type 0 where
+pub record BreaksRule (bytes : List ℕ) (lists : NameLists) (options : CheckOptions) : Type 0 where
   pub object : Elf
   pub is : IsObject bytes object
-  pub checkable : IsCheckable object
+  pub checkable : IsCheckable (coded_by options.map object)
   pub place : Place
   pub rule : ℕ
   pub a : ℤ
   pub b : ℤ
-  pub broken : IsWarned (program_of object lists) (allowances_of object lists) options place rule a b
+  pub broken : IsWarned (program_of (coded_by options.map object) lists) (allowances_of (coded_by options.map object) lists) options.rules place rule a b
 
 -- where a text section isn't code, it is told by its name and its body
 pub record NamesText (o : Elf) (told : LinkFaultText) (sec : ℕ) : Type 0 where
@@ -66,47 +68,47 @@ abbrev pub IsWorded : Elf → LinkFaultText → Type 0
 IsWorded o told = (sec : ℕ) (why : TextFault) → told.fault ≡ Text sec why → NamesText o told sec
 
 -- the refusal tells why the object isn't checked
-abbrev pub TellsCheckFault : Elf → Refusal → Type 0
-TellsCheckFault o (Unlinked told) = IsCheckFault o (fault.Link told.fault) × IsWorded o told
+abbrev pub TellsCheckFault : Coded → Refusal → Type 0
+TellsCheckFault o (Unlinked told) = IsCheckFault o (fault.Link told.fault) × IsWorded o.elf told
 TellsCheckFault o (Unflowed told) = IsCheckFault o (fault.Flow told.fault)
 TellsCheckFault o (HasOrc sec) = IsCheckFault o (fault.HasOrc sec)
 TellsCheckFault o (TooMany Sections count) = IsCheckFault o (fault.TooManySections count)
 TellsCheckFault o _ = ⊥
 
 -- the stop tells this, or want of memory
-abbrev pub IsUnchecked : Elf → Stop → Type 0
+abbrev pub IsUnchecked : Coded → Stop → Type 0
 IsUnchecked o (Refused refusal) = TellsCheckFault o refusal
 IsUnchecked o NoMemory = Unit {0}
 IsUnchecked o _ = ⊥
 
--- These bytes can't be checked, and this is why: they are no object, and this is their first fault; or an object that isn't
--- checked.
-pub data IsUncheckable (bytes : List ℕ) : Refusal → Type 0 where
-  malformed : {fault : ElfFault} → FirstFault bytes fault → IsUncheckable bytes (Malformed fault)
-  unchecked : {refusal : Refusal} (o : Elf) → IsObject bytes o → TellsCheckFault o refusal → IsUncheckable bytes refusal
+-- These bytes can't be checked by this opcode map, and this is why: they are no object, and this is their first fault; or an
+-- object that isn't checked.
+pub data IsUncheckable (map : Map) (bytes : List ℕ) : Refusal → Type 0 where
+  malformed : {fault : ElfFault} → FirstFault bytes fault → IsUncheckable map bytes (Malformed fault)
+  unchecked : {refusal : Refusal} (o : Elf) → IsObject bytes o → TellsCheckFault (coded_by map o) refusal → IsUncheckable map bytes refusal
 
 -- the stop tells this, or want of memory
-abbrev pub IsUncheckableStop : List ℕ → Stop → Type 0
-IsUncheckableStop bytes (Refused refusal) = IsUncheckable bytes refusal
-IsUncheckableStop bytes NoMemory = Unit {0}
-IsUncheckableStop bytes _ = ⊥
+abbrev pub IsUncheckableStop : Map → List ℕ → Stop → Type 0
+IsUncheckableStop map bytes (Refused refusal) = IsUncheckable map bytes refusal
+IsUncheckableStop map bytes NoMemory = Unit {0}
+IsUncheckableStop map bytes _ = ⊥
 
 -- An input of these bytes is refused so, in this order: they can't be checked, and this is why; or they are an object that
 -- breaks no rule, and whose tables need too many symbols.
-pub data Refuses (bytes : List ℕ) (lists : NameLists) (options : Options) : Refusal → Type 0 where
-  uncheckable : {refusal : Refusal} → IsUncheckable bytes refusal → Refuses bytes lists options refusal
+pub data Refuses (bytes : List ℕ) (lists : NameLists) (options : CheckOptions) : Refusal → Type 0 where
+  uncheckable : {refusal : Refusal} → IsUncheckable options.map bytes refusal → Refuses bytes lists options refusal
   crowded :
       {count : ℕ} (o : Elf) (rows : List PlacedRow)
       → IsObject bytes o
-      → IsCheckable o
-      → IsUnbroken (program_of o lists) (allowances_of o lists) options
-      → HasRows (program_of o lists) rows
+      → IsCheckable (coded_by options.map o)
+      → IsUnbroken (program_of (coded_by options.map o) lists) (allowances_of (coded_by options.map o) lists) options.rules
+      → HasRows (program_of (coded_by options.map o) lists) rows
       → MAX_SYMBOLS < symbols_needed o rows
       → count ≡ symbols_needed o rows
       → Refuses bytes lists options (TooMany Symbols count)
 
 -- the stop is a refusal of these bytes, or want of memory
-abbrev pub IsRefusal : List ℕ → NameLists → Options → Stop → Type 0
+abbrev pub IsRefusal : List ℕ → NameLists → CheckOptions → Stop → Type 0
 IsRefusal bytes lists options (Refused refusal) = Refuses bytes lists options refusal
 IsRefusal bytes lists options NoMemory = Unit {0}
 IsRefusal bytes lists options (Usage usage) = ⊥

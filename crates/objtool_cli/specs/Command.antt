@@ -1,5 +1,5 @@
 -- What the commands do, on whatever their files hold, and how they end.
-use Rattle.std.specs.Prelude.{◌≡◌, ◌⊎◌, ℕ, List, Option, Ok, Err, true, false}
+use Rattle.std.specs.Prelude.{◌≡◌, ◌⊎◌, ℕ, List, Option, Ok, Err, true}
 use Rattle.ot_files.specs.Content.{Content, ChangesAtMost, writing}
 use Rattle.ot_files.specs.Output.{appending}
 use Rattle.elf_objects.specs.Elf.{Elf}
@@ -20,7 +20,7 @@ use Rattle.objtool_cli.specs.Unwinding.{OutUnwinds}
 use Rattle.cli_words.specs.Grammar.{Command, check, demo, dump, unwind}
 use Rattle.cli_words.specs.declared.fault.UsageKind.{UsageKind}
 use Rattle.ot_base.specs.NameLists.{NameLists}
-use Rattle.ot_base.specs.declared.options.Options.{Options}
+use Rattle.cli_words.specs.declared.options.CheckOptions.{CheckOptions}
 use Rattle.ot_base.specs.declared.warning.Warning.{Warning}
 use Rattle.objtool_cli.specs.Lists.{HasNames, StopsAtNames}
 use Rattle.objtool_cli.specs.Summary.{PrintsWarningsOf, SumsUp, demo_bytes, demo_title}
@@ -35,14 +35,14 @@ pub record IsRead (content : Option Content) (input : List ℕ) (names : Option 
   pub named : HasNames content names lists
 
 -- the file may read as bytes that are accepted, and for which these are to be written
-pub record IsAccepted (content : Option Content) (input : List ℕ) (options : Options) (names : Option (List ℕ)) (table : List ℕ) : Type 0 where
+pub record IsAccepted (content : Option Content) (input : List ℕ) (options : CheckOptions) (names : Option (List ℕ)) (table : List ℕ) : Type 0 where
   pub read : List ℕ
   pub lists : NameLists
   pub is_read : IsRead content input names read lists
   pub accepts : Accepts read lists options table
 
 -- the file may read as the bytes of this object, which breaks rules: these are all warnings
-pub record IsWarned (content : Option Content) (input : List ℕ) (options : Options) (names : Option (List ℕ)) (o : Elf) (warnings : List Warning) : Type 0 where
+pub record IsWarned (content : Option Content) (input : List ℕ) (options : CheckOptions) (names : Option (List ℕ)) (o : Elf) (warnings : List Warning) : Type 0 where
   pub read : List ℕ
   pub lists : NameLists
   pub is_read : IsRead content input names read lists
@@ -50,17 +50,17 @@ pub record IsWarned (content : Option Content) (input : List ℕ) (options : Opt
 
 -- `check` is done: IN was accepted, OUT holds its bytes with the tables, which unwind it, and every other name what it
 -- held; and IN keeps what the options promise.
-pub record IsDone (input output : List ℕ) (options : Options) (names : Option (List ℕ)) (before after : Outside) : Type 0 where
+pub record IsDone (input output : List ℕ) (options : CheckOptions) (names : Option (List ℕ)) (before after : Outside) : Type 0 where
   pub table : List ℕ
   pub accepted : IsAccepted before.content input options names table
   pub written : after.content ≡ writing before.content output table
-  pub unwinds : OutUnwinds input output names before.content after.content
+  pub unwinds : OutUnwinds options.map input output names before.content after.content
   pub keeps : InKeepsPromises input options names before.content
 
 -- How `check` stops, and what stands then. Where IN or the names file isn't read, a line of the names file isn't in order,
 -- the bytes of IN are refused or memory runs out before OUT is written, no file has changed. Only where IN was accepted and
 -- then writing OUT didn't come to its end is it open what OUT holds; every other name holds what it held.
-pub data Stops (input output : List ℕ) (options : Options) (names : Option (List ℕ)) (before after : Outside) : Stop → Type 0 where
+pub data Stops (input output : List ℕ) (options : CheckOptions) (names : Option (List ℕ)) (before after : Outside) : Stop → Type 0 where
   unread : {stop : Stop} → StopsAtRead MAX_FILE_BYTES input before after stop → after.content ≡ before.content → Stops input output options names before after stop
   without_names :
       {stop : Stop} (read : List ℕ)
@@ -83,7 +83,7 @@ pub data Stops (input output : List ℕ) (options : Options) (names : Option (Li
 
 -- How `check` ends: it is done, and has printed nothing; or IN breaks rules, and it prints the lines of all warnings and changes
 -- no file; or it stops, and tells why.
-pub data EndsCheck (input output : List ℕ) (options : Options) (names : Option (List ℕ)) (before after : Outside) (out out' : Output) : Status → Type 0 where
+pub data EndsCheck (input output : List ℕ) (options : CheckOptions) (names : Option (List ℕ)) (before after : Outside) (out out' : Output) : Status → Type 0 where
   done : IsDone input output options names before after → out' ≡ out → EndsCheck input output options names before after out out' status.Done
   warned :
       {s : Status} (o : Elf) (warnings : List Warning)
@@ -108,7 +108,7 @@ pub data Ends (meaning : Meaning) (before after : Outside) (out out' : Output) :
       → after.content ≡ before.content
       → Ends meaning before after out out' s
   checked :
-      {s : Status} (input output : List ℕ) (options : Options) (names : Option (List ℕ))
+      {s : Status} (input output : List ℕ) (options : CheckOptions) (names : Option (List ℕ))
       → meaning ≡ Ok (check input output options names)
       → EndsCheck input output options names before after out out' s
       → Ends meaning before after out out' s
@@ -116,7 +116,7 @@ pub data Ends (meaning : Meaning) (before after : Outside) (out out' : Output) :
 -- The command may have changed a file: it is `check`, its input was accepted, and only OUT has changed.
 pub data MayChange (meaning : Meaning) (before after : Option Content) : Type 0 where
   output_of_check :
-      (input output : List ℕ) (options : Options) (names : Option (List ℕ)) (table : List ℕ)
+      (input output : List ℕ) (options : CheckOptions) (names : Option (List ℕ)) (table : List ℕ)
       → meaning ≡ Ok (check input output options names)
       → IsAccepted before input options names table
       → ChangesAtMost output before after
@@ -126,7 +126,7 @@ pub data MayChange (meaning : Meaning) (before after : Option Content) : Type 0 
 -- breaks some; these are all warnings of it, and exactly their lines were printed.
 pub data PrintsWarnings (meaning : Meaning) (content : Option Content) (before after : Option (List ℕ)) : Type 0 where
   of_check :
-      (input output : List ℕ) (options : Options) (names : Option (List ℕ)) (o : Elf) (warnings : List Warning)
+      (input output : List ℕ) (options : CheckOptions) (names : Option (List ℕ)) (o : Elf) (warnings : List Warning)
       → meaning ≡ Ok (check input output options names)
       → IsWarned content input options names o warnings
       → after ≡ appending before (warnings_text o warnings)

@@ -2,7 +2,7 @@
 use Rattle.std.specs.Prelude.{◌≡◌, ◌⊎◌, ℕ, List, [], ◌++◌, Option, codes, length}
 use Rattle.std.specs.Fmt.{decimal}
 use Rattle.ot_base.specs.NameLists.{built_in}
-use Rattle.ot_base.specs.declared.options.Options.{Options}
+use Rattle.cli_words.specs.declared.options.CheckOptions.{CheckOptions}
 use Rattle.ot_base.specs.declared.row.PlacedRow.{PlacedRow}
 use Rattle.ot_base.specs.declared.warning.Warning.{Warning}
 use Rattle.ot_files.specs.Output.{appending}
@@ -11,6 +11,7 @@ use Rattle.elf_objects.specs.Elf.{Elf}
 use Rattle.elf_objects.specs.Object.{IsObject}
 use Rattle.demo_objects.specs.Demo.{demo_spec}
 use Rattle.demo_objects.specs.Made.{made}
+use Rattle.flow_defs.specs.Coded.{coded_by}
 use Rattle.flow_defs.specs.Program.{program_of}
 use Rattle.point_allowances.specs.Allowances.{allowances_of}
 use Rattle.object_check.specs.Counts.{IsCounted}
@@ -29,7 +30,7 @@ use Rattle.objtool_cli.specs.Checked.{IsUncheckable, IsUncheckableStop, Warns}
 use Rattle.objtool_cli.specs.Warnings.{warnings_text}
 
 -- the options of `check` where none is given
-abbrev pub no_options : Options
+abbrev pub no_options : CheckOptions
 no_options = options_in []
 
 -- how much code an object has, and how many rows
@@ -46,11 +47,11 @@ summary_line title counts rows = title ++ codes ": " ++ numbers_text counts rows
 pub record Passes (bytes : List ℕ) (counts : CodeCounts) (rows : ℕ) : Type 0 where
   pub object : Elf
   pub is : IsObject bytes object
-  pub checkable : IsCheckable object
-  pub unbroken : IsUnbroken (program_of object built_in) (allowances_of object built_in) no_options
-  pub counted : IsCounted object counts
+  pub checkable : IsCheckable (coded_by no_options.map object)
+  pub unbroken : IsUnbroken (program_of (coded_by no_options.map object) built_in) (allowances_of (coded_by no_options.map object) built_in) no_options.rules
+  pub counted : IsCounted (coded_by no_options.map object) counts
   pub all : List PlacedRow
-  pub has_rows : HasRows (program_of object built_in) all
+  pub has_rows : HasRows (program_of (coded_by no_options.map object) built_in) all
   pub so_many : rows ≡ length all
 
 -- How the check of these bytes ends: they break no rule, and the line with the title is printed; or they break rules, and the
@@ -62,7 +63,7 @@ pub data SumsUp (title bytes : List ℕ) (out out' : Output) : Status → Type 0
       → Warns bytes built_in no_options o warnings
       → Prints status.Warnings (warnings_text o warnings) out out' s
       → SumsUp title bytes out out' s
-  stopped : {s : Status} (stop : Stop) → IsUncheckableStop bytes stop → Concludes stop out out' s → SumsUp title bytes out out' s
+  stopped : {s : Status} (stop : Stop) → IsUncheckableStop no_options.map bytes stop → Concludes stop out out' s → SumsUp title bytes out out' s
 
 -- these bytes break rules, these are all warnings, and exactly their lines were printed
 pub record PrintsWarningsOf (bytes : List ℕ) (before after : Option (List ℕ)) : Type 0 where
@@ -81,7 +82,7 @@ pub record PrintsSummary (title bytes : List ℕ) (before after : Option (List �
 -- these bytes can't be checked, and exactly the line that says why was printed
 pub record PrintsRefusal (bytes : List ℕ) (before after : Option (List ℕ)) : Type 0 where
   pub refusal : Refusal
-  pub uncheckable : IsUncheckable bytes refusal
+  pub uncheckable : IsUncheckable no_options.map bytes refusal
   pub printed : after ≡ appending before (line_of (stop.Refused refusal))
 
 -- what may be answered in place of a status: a fault of the output, or want of memory

@@ -1,6 +1,8 @@
 //! The check of the bytes of an input.
 
 ghost use Rattle.std.specs.Prelude.{◌≡◌, ◌≤◌, Ok, length, option_map};
+ghost use Rattle.flow_defs.specs.Coded.{coded_by};
+ghost use Rattle.x86_map.specs.declared.map.Map.{Map};
 ghost use Rattle.object_check.specs.Order.{IsCheckFault};
 ghost use Rattle.object_code.specs.Linked.{IsLinkFault};
 ghost use Rattle.objtool_cli.specs.Checked.{IsUnchecked, IsWorded};
@@ -20,7 +22,7 @@ use std::alloc::Global;
 
 /// Why an object's code isn't read, in words.
 fn link_text<'a>(object: &Object<'a>, fault: LinkFault) -> LinkFaultText<'a>
-    requires { IsLinkFault object.now fault }
+    requires { (map : Map) × IsLinkFault (coded_by map object.now) fault }
     ensures fault { result.fault ≡ fault }
     ensures worded { IsWorded object.now result }
 {
@@ -40,8 +42,8 @@ fn link_text<'a>(object: &Object<'a>, fault: LinkFault) -> LinkFaultText<'a>
 
 /// Why a command stops whose object isn't checked.
 pub(crate) fn check_stop<'a>(object: &Object<'a>, fault: CheckFault) -> Stop<'a>
-    requires { IsCheckFault object.now fault }
-    ensures { IsUnchecked object.now result }
+    requires { (map : Map) × IsCheckFault (coded_by map object.now) fault }
+    ensures { (map : Map) → IsCheckFault (coded_by map object.now) fault → IsUnchecked (coded_by map object.now) result }
 {
     match fault {
         CheckFault::Link(fault) => Stop::Refused(Refusal::Unlinked(link_text(object, fault))),
@@ -79,7 +81,13 @@ pub fn check<F: Files, S: Sink>(
         Ok(object) => object,
         Err(fault) => return conclude(alloc, parse_stop(fault), out),
     };
-    let rows = match check_object(alloc, &object, lists, asked.options) {
+    let rows = match check_object(
+        alloc,
+        asked.options.map,
+        &object,
+        lists,
+        asked.options.rules,
+    ) {
         Ok(Outcome::Accepted { rows, .. }) => rows,
         Ok(Outcome::Broken(warnings)) => return print_warnings(alloc, &object, &warnings, out),
         Err(fault) => return conclude(alloc, check_stop(&object, fault), out),

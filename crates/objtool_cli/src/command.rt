@@ -10,7 +10,7 @@ ghost use Rattle.objtool_cli.specs.Checked.{Accepts, BreaksRule};
 ghost use Rattle.command_base.specs.Printing.{Prints};
 ghost use Rattle.cli_words.specs.Grammar.{Command as Meant, check, command_in, demo, dump, meaning, unwind};
 ghost use Rattle.ot_base.specs.NameLists.{NameLists};
-ghost use Rattle.ot_base.specs.declared.options.Options.{Options};
+ghost use Rattle.cli_words.specs.declared.options.CheckOptions.{CheckOptions};
 ghost use Rattle.objtool_cli.specs.Lists.{HasNames};
 ghost use Rattle.objtool_cli.specs.Words.{is_told, told_text};
 ghost use Rattle.objtool_cli.specs.Summary.{SumsUp, demo_bytes, demo_title};
@@ -26,7 +26,6 @@ use cli_matches::{help_text, read_words, version_text};
 use cli_words::{Command, UsageFault};
 use command_base::{MAX_IMAGE_BYTES, Status, Stop, Usage, conclude, print_line, read_file};
 use elf_objects::MAX_FILE_BYTES;
-use ot_base::Options;
 use ot_files::{Files, Sink};
 use read_back::{dump, unwind};
 use std::alloc::Global;
@@ -170,19 +169,19 @@ pub fn run<F: Files, S: Sink>(alloc: Global, words: &[String], files: &mut F, ou
     // of every run of the stack machine on IN, walking the tables in the bytes that OUT holds gives exactly the frames of
     // the machine's shadow call stack, innermost first, down to the outermost frame or to the first place whose unwind
     // hint ends the stack. The names of functions that don't return are the built-in ones and those of the names file.
-    ensures unwinds { (input output : List ℕ) (options : Options) (names : Option (List ℕ)) → result ≡ Status.Done
+    ensures unwinds { (input output : List ℕ) (options : CheckOptions) (names : Option (List ℕ)) → result ≡ Status.Done
         → meaning (map string_bytes words.now) ≡ Ok (check input output options names)
-        → OutUnwinds input output names (F.content files.old) (F.content files.new) }
+        → OutUnwinds options.map input output names (F.content files.old) (F.content files.new) }
 
     // And IN's program keeps what the options promise of every run: calls have frames (`fp`), no indirect branch and no return is
     // come to that isn't listed as safe (`retpoline`, `rethunk`), and user access is in order (`uaccess`).
-    ensures promises { (input output : List ℕ) (options : Options) (names : Option (List ℕ)) → result ≡ Status.Done
+    ensures promises { (input output : List ℕ) (options : CheckOptions) (names : Option (List ℕ)) → result ≡ Status.Done
         → meaning (map string_bytes words.now) ≡ Ok (check input output options names)
         → InKeepsPromises input options names (F.content files.old) }
 
     // An input that is accepted, with a names file in order where one is given, is refused nowhere: it is done, unless a
     // file's fault or want of memory is answered.
-    ensures accepts { (input output : List ℕ) (options : Options) (names : Option (List ℕ)) (read table : List ℕ) (lists : NameLists) (held : Content)
+    ensures accepts { (input output : List ℕ) (options : CheckOptions) (names : Option (List ℕ)) (read table : List ℕ) (lists : NameLists) (held : Content)
         → meaning (map string_bytes words.now) ≡ Ok (check input output options names)
         → F.content files.old ≡ Some held → reading held input MAX_FILE_BYTES ≡ Ok read → HasNames (Some held) names lists
         → Accepts read lists options table
@@ -196,7 +195,7 @@ pub fn run<F: Files, S: Sink>(alloc: Global, words: &[String], files: &mut F, ou
 
     // An input whose program breaks a rule that is asked for is neither refused nor done: its warnings are answered, unless a
     // fault or want of memory is.
-    ensures warns { (input output : List ℕ) (options : Options) (names : Option (List ℕ)) (read : List ℕ) (lists : NameLists) (held : Content)
+    ensures warns { (input output : List ℕ) (options : CheckOptions) (names : Option (List ℕ)) (read : List ℕ) (lists : NameLists) (held : Content)
         → meaning (map string_bytes words.now) ≡ Ok (check input output options names)
         → F.content files.old ≡ Some held → reading held input MAX_FILE_BYTES ≡ Ok read → HasNames (Some held) names lists
         → BreaksRule read lists options
@@ -245,7 +244,7 @@ pub fn run<F: Files, S: Sink>(alloc: Global, words: &[String], files: &mut F, ou
         ⊎ MayChange (meaning (map string_bytes words.now)) (F.content files.old) (F.content files.new) }
 
     // Nothing is told where `check` is done.
-    ensures silent { (input output : List ℕ) (options : Options) (names : Option (List ℕ))
+    ensures silent { (input output : List ℕ) (options : CheckOptions) (names : Option (List ℕ))
         → meaning (map string_bytes words.now) ≡ Ok (check input output options names) → result ≡ Status.Done → S.written out.new ≡ S.written out.old }
 {
     one_outcome();

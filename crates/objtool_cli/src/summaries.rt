@@ -13,6 +13,7 @@ ghost use Rattle.objtool_cli.specs.Summary.{IsOrFails, Passes, PrintsRefusal, Pr
 
 use crate::check::check_stop;
 use crate::warnings::print_warnings;
+use cli_words::{CheckOptions, Map};
 use command_base::{Status, conclude, parse_stop, print_line};
 use elf_objects::Object;
 use object_check::{CodeCounts, Outcome, check_object};
@@ -23,12 +24,15 @@ use std::fmt;
 use x86_decode::one_outcome;
 
 /// The options of `check` where none is given.
-const NO_OPTIONS: Options = Options {
-    fp: false,
-    retpoline: false,
-    rethunk: false,
-    uaccess: false,
-    unreachable: true,
+const NO_OPTIONS: CheckOptions = CheckOptions {
+    map: Map::Base,
+    rules: Options {
+        fp: false,
+        retpoline: false,
+        rethunk: false,
+        uaccess: false,
+        unreachable: true,
+    },
 };
 
 /// The numbers that a summary tells.
@@ -110,7 +114,7 @@ fn sum_up<S: Sink>(alloc: Global, title: &str, bytes: &[u8], out: &mut S) -> Sta
         Ok(object) => object,
         Err(fault) => return conclude(alloc, parse_stop(fault), out),
     };
-    match check_object(alloc, &object, &lists, NO_OPTIONS) {
+    match check_object(alloc, NO_OPTIONS.map, &object, &lists, NO_OPTIONS.rules) {
         Ok(Outcome::Accepted { rows, counts }) => {
             let rows = rows.len() as u64;
             let numbers = Numbers { counts, rows };
@@ -153,7 +157,7 @@ pub fn summary<S: Sink>(alloc: Global, title: &str, bytes: &[u8], out: &mut S) -
 
     // The same of bytes that can't be checked, and of the line that says why.
     ensures refused { result ≡ Status.Refused → PrintsRefusal bytes.now (S.written out.old) (S.written out.new) }
-    ensures refuses { (refusal : Refusal) → IsUncheckable bytes.now refusal → IsOrFails status.Refused result }
+    ensures refuses { (refusal : Refusal) → IsUncheckable no_options.map bytes.now refusal → IsOrFails status.Refused result }
 
     // There are no other answers; a fault of the output is answered only where its count rose, and no count falls.
     ensures no_usage { result ≢ Status.Usage }

@@ -1,4 +1,4 @@
-use ot_base::Options;
+use cli_words::CheckOptions;
 
 /// What `check` is asked to do.
 #[derive(Clone, Copy, Debug)]
@@ -7,8 +7,8 @@ pub struct Check<'a> {
     pub input: &'a str,
     /// The name that the object with its tables is written to.
     pub output: &'a str,
-    /// Which rules are asked for beyond those that always are.
-    pub options: Options,
+    /// What its options ask for.
+    pub options: CheckOptions,
     /// The file of function names, where one is given.
     pub names: Option<&'a str>,
 }

@@ -1,5 +1,5 @@
 use Rattle.std.proofs.lemmas.Result.{err_from_is_err_and}
-use Rattle.elf_objects.specs.Elf.{Elf}
+use Rattle.flow_defs.specs.Coded.{Coded, coded_by}
 use Rattle.flow_defs.specs.Program.{program_of}
 use Rattle.point_allowances.specs.Allowances.{allowances_of}
 use Rattle.object_check.specs.Order.{IsCheckable, no_memory}
@@ -10,18 +10,18 @@ use Rattle.object_check.proofs.check.check_object.Goals as goal
 
 pub outcome_of-requires-clause-program : goal.outcome_of-requires-clause-program
 outcome_of-requires-clause-program c = (
-  program_of c.args.object.now c.args.lists.now,
-  allowances_of c.args.object.now c.args.lists.now,
-  ready c.args.object.now c.args.lists.now c.in_ok-graph.field-0.graph.parts c.program_is_one.ensures c.program_is_laid_out.ensures c.plain_points_ascend.ensures c.program_has_functions.ensures c.in_ok-graph.ensures.ok,
-  lent_table c.args.object.now c.args.lists.now c.in_ok-graph.field-0.table c.as_ref.result c.as_ref.ensures.value c.in_ok-graph.ensures.allows,
+  program_of (coded_by c.args.map c.args.object.now) c.args.lists.now,
+  allowances_of (coded_by c.args.map c.args.object.now) c.args.lists.now,
+  ready (coded_by c.args.map c.args.object.now) c.args.lists.now c.in_ok-graph.field-0.graph.parts c.program_is_one.ensures c.program_is_laid_out.ensures c.plain_points_ascend.ensures c.program_has_functions.ensures c.in_ok-graph.ensures.ok,
+  lent_table (coded_by c.args.map c.args.object.now) c.args.lists.now c.in_ok-graph.field-0.table c.as_ref.result c.as_ref.ensures.value c.in_ok-graph.ensures.allows,
 )
 
 pub outcome_of-requires-clause-sites : goal.outcome_of-requires-clause-sites
-outcome_of-requires-clause-sites c = small_sites c.args.object.now c.args.lists.now c.in_ok-graph.field-0.graph.parts c.requires c.in_ok-graph.ensures.ok
+outcome_of-requires-clause-sites c = small_sites (coded_by c.args.map c.args.object.now) c.args.lists.now c.in_ok-graph.field-0.graph.parts c.requires c.in_ok-graph.ensures.ok
 
 pub returns-clause-ok : goal.returns-clause-ok
 returns-clause-ok c =
-    let o : Elf = c.args.object.now in
+    let o : Coded = coded_by c.args.map c.args.object.now in
     let lists = c.args.lists.now in
     let is = c.in_ok-graph.ensures.ok in
     let can : IsCheckable o = record { in_order = is.in_order; new = c.in_ok-check_room.ensures.new; few = c.in_ok-check_room.ensures.few } in
@@ -30,7 +30,7 @@ returns-clause-ok c =
 
 pub returns-clause-tables : goal.returns-clause-tables
 returns-clause-tables c =
-    let o : Elf = c.args.object.now in
+    let o : Coded = coded_by c.args.map c.args.object.now in
     let lists = c.args.lists.now in
     let is = c.in_ok-graph.ensures.ok in
     let can : IsCheckable o = record { in_order = is.in_order; new = c.in_ok-check_room.ensures.new; few = c.in_ok-check_room.ensures.few } in
@@ -39,7 +39,7 @@ returns-clause-tables c =
 
 pub returns-clause-unwinds : goal.returns-clause-unwinds
 returns-clause-unwinds c =
-    let o : Elf = c.args.object.now in
+    let o : Coded = coded_by c.args.map c.args.object.now in
     let lists = c.args.lists.now in
     let is = c.in_ok-graph.ensures.ok in
     let can : IsCheckable o = record { in_order = is.in_order; new = c.in_ok-check_room.ensures.new; few = c.in_ok-check_room.ensures.few } in
@@ -48,7 +48,7 @@ returns-clause-unwinds c =
 
 pub returns-clause-promises : goal.returns-clause-promises
 returns-clause-promises c =
-    let o : Elf = c.args.object.now in
+    let o : Coded = coded_by c.args.map c.args.object.now in
     let lists = c.args.lists.now in
     let is = c.in_ok-graph.ensures.ok in
     let of_program : IsReady (program_of o lists) c.in_ok-graph.field-0.graph.parts = ready o lists c.in_ok-graph.field-0.graph.parts c.program_is_one.ensures c.program_is_laid_out.ensures c.plain_points_ascend.ensures c.program_has_functions.ensures is in
