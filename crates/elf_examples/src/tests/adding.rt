@@ -4,11 +4,12 @@ ghost use Rattle.std.specs.Prelude.{◌≡◌, ◌≤◌, IfOk, length, replicat
 ghost use Rattle.elf_objects.specs.Object.{IsObject};
 ghost use Rattle.elf_write.specs.New.{entry_of};
 
-use super::leaf::LEAF;
+use super::leaf::leaf;
 use elf_objects::Object;
 use elf_write::{NewSection, append};
 use ot_base::NoMemory;
 use std::alloc::{AllocError, Global};
+use std::process::Abort;
 use std::test::Fail;
 
 /// A section whose body is so many bytes, all the same.
@@ -75,7 +76,7 @@ fn part(bytes: &[u8], at: usize, len: usize) -> &[u8] {
 }
 
 /// What the object with the sections of five rows has at an offset.
-const CHANGED: [(usize, &[u8]); 9] = [
+const CHANGED: [(usize, &[u8]); 12] = [
     // e_shoff
     (40, b"\xf8\x02\x00\x00\x00\x00\x00\x00"),
     // e_shnum
@@ -85,6 +86,10 @@ const CHANGED: [(usize, &[u8]); 9] = [
         504,
         b"\0.text\0.symtab\0.strtab\0.shstrtab\0.orc_unwind\0.orc_unwind_ip\0.rela.orc_unwind_ip\0",
     ),
+    // the bodies
+    (584, &[0x11; 30]),
+    (616, &[0x22; 20]),
+    (640, &[0x33; 120]),
     // the gaps
     (614, b"\x00\x00"),
     (636, b"\x00\x00\x00\x00"),
@@ -125,63 +130,72 @@ const PLACES: [(usize, usize, usize, u8, usize); 2] = [
     (4, 608, 624, 0xd0, 1232),
 ];
 
-#[test]
-fn lays_out_the_pieces(rt: HostRuntime) -> Result<(), Fail> {
-    let object = Object::parse(rt.alloc(), &LEAF)?;
-    assert_eq!(rt; object.sections(), 5);
-    assert_eq!(rt; object.bytes().len(), 504);
-    let file = with_rows(rt.alloc(), &object, 5)?;
-    assert_eq!(rt; file.len(), 1272);
+/// The leaf with the sections of so many rows.
+fn leaf_with_rows(rt: &impl Abort, alloc: Global, rows: usize) -> Result<Vec<u8>, Fail>
+    requires { rows ≤ 5 }
+{
+    let object = Object::parse(alloc, leaf())?;
+    assert!(rt; object.sections() == 5 && object.bytes().len() == 504);
+    Ok(with_rows(alloc, &object, rows)?)
+}
+
+/// The file has the bytes of the table, and those of the input elsewhere.
+fn expect_pieces(rt: &impl Abort, file: &[u8]) {
     for (at, bytes) in CHANGED {
-        assert_eq!(rt; part(&file, at, bytes.len()), bytes);
+        assert!(rt; part(file, at, bytes.len()) == bytes);
     }
     for (at, from, len) in KEPT {
-        assert_eq!(rt; part(&file, at, len), part(&LEAF, from, len));
+        assert!(rt; part(file, at, len) == part(leaf(), from, len));
     }
-    assert_eq!(rt; part(&file, 584, 30), [0x11; 30].as_slice());
-    assert_eq!(rt; part(&file, 616, 20), [0x22; 20].as_slice());
-    assert_eq!(rt; part(&file, 640, 120), [0x33; 120].as_slice());
+}
+
+#[test]
+fn lays_out_the_pieces(rt: HostRuntime) -> Result<(), Fail> {
+    let file = leaf_with_rows(&rt, rt.alloc(), 5)?;
+    assert!(rt; file.len() == 1272);
+    expect_pieces(&rt, &file);
     Ok(())
+}
+
+fn expect_place(rt: &impl Abort, file: &[u8], place: (usize, usize, usize, u8, usize)) {
+    let (_, ip, rela, headers, end) = place;
+    assert!(rt; file.len() == end);
+    assert!(rt; part(file, ip, 1) == [0x22].as_slice());
+    assert!(rt; part(file, rela, 1) == [0x33].as_slice());
+    assert!(rt; part(file, 40, 2) == [headers, 2].as_slice());
 }
 
 #[test]
 fn places_follow_the_sizes(rt: HostRuntime) -> Result<(), Fail> {
-    let object = Object::parse(rt.alloc(), &LEAF)?;
-    assert_eq!(rt; object.sections(), 5);
-    assert_eq!(rt; object.bytes().len(), 504);
-    for (rows, ip, rela, headers, end) in PLACES {
-        assert!(rt; rows <= 5);
-        let file = with_rows(rt.alloc(), &object, rows)?;
-        assert_eq!(rt; file.len(), end);
-        assert_eq!(rt; part(&file, ip, 1), [0x22].as_slice());
-        assert_eq!(rt; part(&file, rela, 1), [0x33].as_slice());
-        assert_eq!(rt; part(&file, 40, 2), [headers, 2].as_slice());
+    for place in PLACES {
+        assert!(rt; place.0 <= 5);
+        let file = leaf_with_rows(&rt, rt.alloc(), place.0)?;
+        expect_place(&rt, &file, place);
     }
     Ok(())
 }
 
+fn expect_read(rt: &impl Abort, object: &Object<'_>) {
+    assert!(rt; object.sections() == 8);
+    assert!(rt; object.symbols() == 3);
+    assert!(rt; object.name_of_section(1) == b".text".as_slice());
+    assert!(rt; object.name_of_section(6) == b".orc_unwind_ip".as_slice());
+    assert!(rt; object.section(6).body == [0x22; 20].as_slice());
+}
+
 #[test]
 fn reads_back(rt: HostRuntime) -> Result<(), Fail> {
-    let object = Object::parse(rt.alloc(), &LEAF)?;
-    assert_eq!(rt; object.sections(), 5);
-    assert_eq!(rt; object.bytes().len(), 504);
-    let file = with_rows(rt.alloc(), &object, 5)?;
+    let file = leaf_with_rows(&rt, rt.alloc(), 5)?;
     assert!(rt; file.len() < 4096);
-    let read = Object::parse(rt.alloc(), &file)?;
-    assert_eq!(rt; read.sections(), 8);
-    assert_eq!(rt; read.symbols(), 3);
-    assert_eq!(rt; read.name_of_section(1), b".text".as_slice());
-    assert_eq!(rt; read.name_of_section(6), b".orc_unwind_ip".as_slice());
-    assert_eq!(rt; read.section(6).body, [0x22; 20].as_slice());
+    expect_read(&rt, &Object::parse(rt.alloc(), &file)?);
     Ok(())
 }
 
 #[test]
 fn no_section_changes_nothing(rt: HostRuntime) -> Result<(), Fail> {
-    let object = Object::parse(rt.alloc(), &LEAF)?;
-    assert_eq!(rt; object.sections(), 5);
-    assert_eq!(rt; object.bytes().len(), 504);
+    let object = Object::parse(rt.alloc(), leaf())?;
+    assert!(rt; object.sections() == 5 && object.bytes().len() == 504);
     let file = with_none(rt.alloc(), &object)?;
-    assert_eq!(rt; file.as_slice(), LEAF.as_slice());
+    assert!(rt; file.as_slice() == leaf());
     Ok(())
 }

@@ -34,17 +34,51 @@ pub(super) struct Counts {
     pub names: u16,
 }
 
+/// Puts numbers, each in so many bytes, the least first.
+fn put_numbers(out: &mut Vec<u8>, numbers: &[(u64, usize)]) -> Result<(), AllocError> {
+    for (number, size) in numbers {
+        for byte in number.to_le_bytes().iter().take(*size) {
+            out.push(*byte)?;
+        }
+    }
+    Ok(())
+}
+
 fn put_head(out: &mut Vec<u8>, head: &Head) -> Result<(), AllocError> {
-    out.extend_from_slice(&head.name.to_le_bytes())?;
-    out.extend_from_slice(&head.kind.to_le_bytes())?;
-    out.extend_from_slice(&head.flags.to_le_bytes())?;
-    out.extend_from_slice(&[0; 8])?;
-    out.extend_from_slice(&head.offset.to_le_bytes())?;
-    out.extend_from_slice(&head.size.to_le_bytes())?;
-    out.extend_from_slice(&head.link.to_le_bytes())?;
-    out.extend_from_slice(&head.info.to_le_bytes())?;
-    out.extend_from_slice(&[1, 0, 0, 0, 0, 0, 0, 0])?;
-    out.extend_from_slice(&head.entsize.to_le_bytes())
+    let numbers = [
+        (u64::from(head.name), 4),
+        (u64::from(head.kind), 4),
+        (head.flags, 8),
+        (0, 8),
+        (head.offset, 8),
+        (head.size, 8),
+        (u64::from(head.link), 4),
+        (u64::from(head.info), 4),
+        (1, 8),
+        (head.entsize, 8),
+    ];
+    put_numbers(out, &numbers)
+}
+
+/// The file header of an object whose section headers stand behind so many bytes of content.
+fn put_file_header(out: &mut Vec<u8>, counts: Counts, content: usize) -> Result<(), AllocError> {
+    let numbers = [
+        (0x0001_0102_464C_457F, 8),
+        (0, 8),
+        (1, 2),
+        (62, 2),
+        (1, 4),
+        (0, 8),
+        (0, 8),
+        ((content as u64).wrapping_add(64), 8),
+        (0, 4),
+        (64, 2),
+        (0, 4),
+        (64, 2),
+        (u64::from(counts.number), 2),
+        (u64::from(counts.names), 2),
+    ];
+    put_numbers(out, &numbers)
 }
 
 /// A file with these bytes from byte 64 on, and then these section headers.
@@ -55,14 +89,7 @@ pub(super) fn file(
     heads: &[Head],
 ) -> Result<Vec<u8>, AllocError> {
     let mut out = Vec::new(alloc);
-    out.extend_from_slice(b"\x7FELF\x02\x01\x01\x00\x00\x00\x00\x00\x00\x00\x00\x00")?;
-    out.extend_from_slice(&[1, 0, 62, 0, 1, 0, 0, 0])?;
-    out.extend_from_slice(&[0; 16])?;
-    let at = (content.len() as u64).wrapping_add(64);
-    out.extend_from_slice(&at.to_le_bytes())?;
-    out.extend_from_slice(&[0, 0, 0, 0, 64, 0, 0, 0, 0, 0, 64, 0])?;
-    out.extend_from_slice(&counts.number.to_le_bytes())?;
-    out.extend_from_slice(&counts.names.to_le_bytes())?;
+    put_file_header(&mut out, counts, content.len())?;
     out.extend_from_slice(content)?;
     for head in heads {
         put_head(&mut out, head)?;

@@ -2,7 +2,7 @@
 
 ghost use Rattle.std.specs.Prelude.{◌≤◌};
 
-use super::leaf::LEAF;
+use super::leaf::leaf;
 use super::reading::put;
 use demo_objects::demo;
 use elf_objects::{Home, Object};
@@ -94,20 +94,6 @@ fn bytes_of(alloc: Global, size: usize, parts: &[Part]) -> Result<Vec<u8>, Fail>
     Ok(bytes)
 }
 
-#[test]
-fn none_and_three_byte_by_byte(rt: HostRuntime) -> Result<(), Fail> {
-    let alloc = rt.alloc();
-    assert_eq!(rt; demo(alloc, 0)?, bytes_of(alloc, 472, &NONE)?);
-    assert_eq!(rt; demo(alloc, 3)?, bytes_of(alloc, 584, &THREE)?);
-    Ok(())
-}
-
-#[test]
-fn one_is_the_leaf(rt: HostRuntime) -> Result<(), Fail> {
-    assert_eq!(rt; demo(rt.alloc(), 1)?.as_slice(), LEAF.as_slice());
-    Ok(())
-}
-
 /// The object of so many functions. What it is to say isn't written out for a number here, as it would be
 /// for one in a call of `demo`.
 fn functions(alloc: Global, n: u32) -> Result<Vec<u8>, NoMemory>
@@ -116,24 +102,51 @@ fn functions(alloc: Global, n: u32) -> Result<Vec<u8>, NoMemory>
     demo(alloc, n)
 }
 
+/// The object of so many functions has these parts.
+fn expect_parts(
+    rt: &impl Abort,
+    alloc: Global,
+    n: u32,
+    size: usize,
+    parts: &[Part],
+) -> Result<(), Fail>
+    requires { n ≤ 100000 }
+{
+    let expected = bytes_of(alloc, size, parts)?;
+    assert!(rt; functions(alloc, n)? == expected);
+    Ok(())
+}
+
+#[test]
+fn none_byte_by_byte(rt: HostRuntime) -> Result<(), Fail> {
+    expect_parts(&rt, rt.alloc(), 0, 472, &NONE)
+}
+
+#[test]
+fn three_byte_by_byte(rt: HostRuntime) -> Result<(), Fail> {
+    expect_parts(&rt, rt.alloc(), 3, 584, &THREE)
+}
+
+#[test]
+fn one_is_the_leaf(rt: HostRuntime) -> Result<(), Fail> {
+    assert!(rt; functions(rt.alloc(), 1)?.as_slice() == leaf());
+    Ok(())
+}
+
 /// The last of 100,000 functions stands where those before it end.
 fn expect_last(rt: &impl Abort, object: &Object<'_>) {
+    assert!(rt; object.sections() == 5);
+    assert!(rt; object.section(1).size == 966_663);
     assert!(rt; object.symbols() == 100_002);
     let last = object.symbol(100_001);
-    assert_eq!(rt; last.home, Home::Section(1));
-    assert_eq!(rt; (last.bind, last.kind), (1, 2));
-    assert_eq!(rt; (last.value, last.size), (966_657, 6));
+    assert!(rt; last.home == Home::Section(1));
+    assert!(rt; (last.bind, last.kind, last.value, last.size) == (1, 2, 966_657, 6));
 }
 
 #[test]
 fn as_many_as_there_may_be(rt: HostRuntime) -> Result<(), Fail> {
     let file = functions(rt.alloc(), 100_000)?;
     assert!(rt; file.len() < 1 << 32);
-    let object = Object::parse(rt.alloc(), &file)
-        .ok()
-        .ok_or("it is an object")?;
-    assert!(rt; object.sections() == 5);
-    assert_eq!(rt; object.section(1).size, 966_663);
-    expect_last(&rt, &object);
+    expect_last(&rt, &Object::parse(rt.alloc(), &file)?);
     Ok(())
 }

@@ -1,186 +1,215 @@
 //! Objects that are made, and what cannot be made.
 
-use super::leaf::LEAF;
+use super::leaf::leaf;
+use super::reading::expect_section_names;
 use demo_objects::{RelSpec, Spec, SymSpec, build, section};
 use elf_objects::{
     Home, Object, R_X86_64_PC32, Reloc, SHF_ALLOC, SHF_EXECINSTR, SHF_WRITE, SHT_NOBITS,
-    STB_GLOBAL, STB_LOCAL, STT_FUNC, STT_SECTION,
+    SHT_PROGBITS, STB_GLOBAL, STB_LOCAL, STT_FUNC, STT_SECTION,
 };
-use elf_write::NewSection;
-use ot_base::Names;
+use ot_base::NoMemory;
 use std::alloc::Global;
+use std::process::Abort;
 use std::test::Fail;
 
-/// A symbol at the beginning of section 1.
-fn symbol(alloc: Global, name: &[u8], bind: u8, kind: u8, size: u64) -> Result<SymSpec, Fail> {
+/// The code `55 48 89 E5 5D C3` in a section, the symbol of the section, another symbol, and a relocation.
+#[derive(Clone, Copy)]
+struct Parts {
+    section: &'static [u8],
+    kind: u32,
+    align: u64,
+    symbol: &'static [u8],
+    bind: u8,
+    of: u8,
+    home: Home,
+    rel: RelSpec,
+}
+
+/// The function `f0`, and a relocation of the section by it.
+const RIGHT: Parts = Parts {
+    section: b".text",
+    kind: SHT_PROGBITS,
+    align: 1,
+    symbol: b"f0",
+    bind: STB_GLOBAL,
+    of: STT_FUNC,
+    home: Home::Section(1),
+    rel: CALL,
+};
+
+/// A relocation of section 1 by symbol 2.
+const CALL: RelSpec = RelSpec {
+    sec: 1,
+    reloc: BY_F0,
+};
+
+const BY_F0: Reloc = Reloc {
+    offset: 2,
+    kind: R_X86_64_PC32,
+    sym: 2,
+    addend: -4,
+};
+
+fn symbol(alloc: Global, name: &[u8], bind: u8, kind: u8, home: Home) -> Result<SymSpec, NoMemory> {
+    let size = if kind == STT_SECTION { 0 } else { 6 };
     Ok(SymSpec {
-        name: name.to_vec(alloc)?,
+        name: Vec::from_slice(alloc, name)?,
         bind,
         kind,
-        home: Home::Section(1),
+        home,
         value: 0,
         size,
     })
 }
 
-/// The function `f0` with the code `55 48 89 E5 5D C3`, and the symbol of its section.
-fn leaf_spec(alloc: Global) -> Result<Spec, Fail> {
-    let mut spec = Spec::new(alloc);
-    let code = b"\x55\x48\x89\xE5\x5D\xC3";
-    let flags = SHF_ALLOC + SHF_EXECINSTR;
-    spec.sections.push(section(alloc, b".text", flags, code)?)?;
-    spec.symbols
-        .push(symbol(alloc, b"", STB_LOCAL, STT_SECTION, 0)?)?;
-    spec.symbols
-        .push(symbol(alloc, b"f0", STB_GLOBAL, STT_FUNC, 6)?)?;
-    Ok(spec)
+/// What the object of these parts is made of, without the relocation.
+fn spec_of(alloc: Global, parts: &Parts) -> Result<Spec, NoMemory> {
+    let mut text = section(
+        alloc,
+        parts.section,
+        SHF_ALLOC + SHF_EXECINSTR,
+        b"\x55\x48\x89\xE5\x5D\xC3",
+    )?;
+    text.kind = parts.kind;
+    text.align = parts.align;
+    let first = symbol(alloc, b"", STB_LOCAL, STT_SECTION, Home::Section(1))?;
+    let second = symbol(alloc, parts.symbol, parts.bind, parts.of, parts.home)?;
+    Ok(Spec {
+        sections: vec![in alloc; text]?,
+        symbols: vec![in alloc; first, second]?,
+        relocs: Vec::new(alloc),
+    })
+}
+
+/// The object of these parts and relocations, if they make one.
+fn made(alloc: Global, parts: &Parts, relocs: &[RelSpec]) -> Result<Option<Vec<u8>>, NoMemory> {
+    let mut spec = spec_of(alloc, parts)?;
+    spec.relocs.extend_from_slice(relocs)?;
+    build(alloc, &spec)
 }
 
 #[test]
 fn the_leaf_byte_by_byte(rt: HostRuntime) -> Result<(), Fail> {
-    let spec = leaf_spec(rt.alloc())?;
-    let file = build(rt.alloc(), &spec)?.ok_or("the leaf can be made")?;
-    assert_eq!(rt; file.as_slice(), LEAF.as_slice());
+    let file = made(rt.alloc(), &RIGHT, &[])?.ok_or("the leaf can be made")?;
+    assert!(rt; file.as_slice() == leaf());
     Ok(())
 }
 
-/// A relocation of section 1 by symbol 2.
-const CALL: RelSpec = RelSpec {
-    sec: 1,
-    reloc: Reloc {
-        offset: 2,
-        kind: R_X86_64_PC32,
-        sym: 2,
-        addend: -4,
-    },
-};
+/// The names of the sections of the leaf with `.data` and a relocation.
+const SECTION_NAMES: [&[u8]; 7] = [
+    b"",
+    b".text",
+    b".data",
+    b".rela.text",
+    b".symtab",
+    b".strtab",
+    b".shstrtab",
+];
 
-#[test]
-fn an_object_with_relocations(rt: HostRuntime) -> Result<(), Fail> {
-    let mut spec = leaf_spec(rt.alloc())?;
-    let mut data = section(rt.alloc(), b".data", SHF_ALLOC + SHF_WRITE, b"1234")?;
+/// The leaf with `.data` and a relocation of `.text`.
+fn with_data(alloc: Global) -> Result<Option<Vec<u8>>, NoMemory> {
+    let mut spec = spec_of(alloc, &RIGHT)?;
+    let mut data = section(alloc, b".data", SHF_ALLOC + SHF_WRITE, b"1234")?;
     data.align = 16;
     spec.sections.push(data)?;
     spec.relocs.push(CALL)?;
-    let file = build(rt.alloc(), &spec)?.ok_or("it can be made")?;
-    assert!(rt; file.len() < 1 << 32);
-    let object = Object::parse(rt.alloc(), &file).ok().ok_or("an object")?;
-    let names: [&[u8]; 7] = [
-        b"",
-        b".text",
-        b".data",
-        b".rela.text",
-        b".symtab",
-        b".strtab",
-        b".shstrtab",
-    ];
+    build(alloc, &spec)
+}
+
+fn expect_data(rt: &impl Abort, object: &Object<'_>) {
     assert!(rt; object.sections() == 7);
-    for (i, name) in names.into_iter().enumerate() {
-        assert_eq!(rt; object.section_name(i as u32), name, "section {i}");
-    }
     let data = object.section(2);
-    assert_eq!(rt; (data.offset, data.size, data.align), (80, 4, 16));
-    assert_eq!(rt; data.body, b"1234".as_slice());
+    assert!(rt; (data.offset, data.size, data.align) == (80, 4, 16));
+    assert!(rt; data.body == b"1234".as_slice());
+}
+
+fn expect_call(rt: &impl Abort, object: &Object<'_>) {
+    assert!(rt; object.sections() == 7);
+    assert!(rt; object.relocs(2) == 0);
     assert!(rt; object.relocs(1) == 1);
-    assert_eq!(rt; object.reloc(1, 0), CALL.reloc);
-    assert_eq!(rt; object.relocs(2), 0);
+    assert!(rt; object.reloc(1, 0) == BY_F0);
+}
+
+#[test]
+fn an_object_with_relocations(rt: HostRuntime) -> Result<(), Fail> {
+    let file = with_data(rt.alloc())?.ok_or("it can be made")?;
+    assert!(rt; file.len() < 1 << 32);
+    let object = Object::parse(rt.alloc(), &file)?;
+    expect_section_names(&rt, &object, &SECTION_NAMES);
+    expect_data(&rt, &object);
+    expect_call(&rt, &object);
     Ok(())
 }
 
-/// Whether an object is built of the leaf with this section, function and relocation.
-fn is_built(
-    alloc: Global,
-    text: NewSection,
-    function: SymSpec,
-    rel: RelSpec,
-) -> Result<bool, Fail> {
-    let mut spec = Spec::new(alloc);
-    spec.sections.push(text)?;
-    spec.symbols
-        .push(symbol(alloc, b"", STB_LOCAL, STT_SECTION, 0)?)?;
-    spec.symbols.push(function)?;
-    spec.relocs.push(rel)?;
-    Ok(build(alloc, &spec)?.is_some())
+/// Parts of which no object is made.
+const WRONG: [Parts; 12] = [
+    Parts {
+        section: b"a\0",
+        ..RIGHT
+    },
+    Parts {
+        kind: SHT_NOBITS,
+        ..RIGHT
+    },
+    Parts { align: 0, ..RIGHT },
+    Parts {
+        symbol: b"f\0",
+        ..RIGHT
+    },
+    Parts { bind: 16, ..RIGHT },
+    Parts { of: 16, ..RIGHT },
+    Parts {
+        home: Home::Section(0),
+        ..RIGHT
+    },
+    Parts {
+        home: Home::Section(6),
+        ..RIGHT
+    },
+    Parts {
+        rel: RelSpec { sec: 0, ..CALL },
+        ..RIGHT
+    },
+    Parts {
+        rel: RelSpec { sec: 2, ..CALL },
+        ..RIGHT
+    },
+    Parts {
+        rel: RelSpec {
+            reloc: Reloc { sym: 3, ..BY_F0 },
+            ..CALL
+        },
+        ..RIGHT
+    },
+    Parts {
+        rel: RelSpec {
+            reloc: Reloc { offset: 3, ..BY_F0 },
+            ..CALL
+        },
+        ..RIGHT
+    },
+];
+
+/// No object is made of these parts with their relocation.
+fn expect_unmade(rt: &impl Abort, alloc: Global, wrong: &[Parts]) -> Result<(), NoMemory> {
+    for parts in wrong {
+        assert!(rt; made(alloc, parts, &[parts.rel])?.is_none());
+    }
+    Ok(())
 }
 
 #[test]
 fn what_cannot_be_made(rt: HostRuntime) -> Result<(), Fail> {
-    let alloc = rt.alloc();
-    let text = || section(alloc, b".text", SHF_ALLOC, b"123456");
-    let function = || symbol(alloc, b"f0", STB_GLOBAL, STT_FUNC, 6);
-    assert!(rt; is_built(alloc, text()?, function()?, CALL)?);
-
-    let sections = [
-        NewSection {
-            name: b"a\0".to_vec(alloc)?,
-            ..text()?
-        },
-        NewSection {
-            kind: SHT_NOBITS,
-            ..text()?
-        },
-        NewSection {
-            align: 0,
-            ..text()?
-        },
-    ];
-    for wrong in sections {
-        assert!(rt; !is_built(alloc, wrong, function()?, CALL)?);
-    }
-    let symbols = [
-        SymSpec {
-            name: b"f\0".to_vec(alloc)?,
-            ..function()?
-        },
-        SymSpec {
-            bind: 16,
-            ..function()?
-        },
-        SymSpec {
-            kind: 16,
-            ..function()?
-        },
-        SymSpec {
-            home: Home::Section(0),
-            ..function()?
-        },
-        SymSpec {
-            home: Home::Section(6),
-            ..function()?
-        },
-    ];
-    for wrong in symbols {
-        assert!(rt; !is_built(alloc, text()?, wrong, CALL)?);
-    }
-    let relocs = [
-        RelSpec { sec: 0, ..CALL },
-        RelSpec { sec: 2, ..CALL },
-        RelSpec {
-            reloc: Reloc {
-                sym: 3,
-                ..CALL.reloc
-            },
-            ..CALL
-        },
-        RelSpec {
-            reloc: Reloc {
-                offset: 3,
-                ..CALL.reloc
-            },
-            ..CALL
-        },
-    ];
-    for wrong in relocs {
-        assert!(rt; !is_built(alloc, text()?, function()?, wrong)?);
-    }
+    assert!(rt; made(rt.alloc(), &RIGHT, &[CALL])?.is_some());
+    expect_unmade(&rt, rt.alloc(), &WRONG)?;
     Ok(())
 }
 
 #[test]
 fn a_local_symbol_behind_a_global_one(rt: HostRuntime) -> Result<(), Fail> {
-    let mut spec = leaf_spec(rt.alloc())?;
-    spec.symbols
-        .push(symbol(rt.alloc(), b"f1", STB_LOCAL, STT_FUNC, 6)?)?;
+    let mut spec = spec_of(rt.alloc(), &RIGHT)?;
+    let local = symbol(rt.alloc(), b"f1", STB_LOCAL, STT_FUNC, Home::Section(1))?;
+    spec.symbols.push(local)?;
     assert!(rt; build(rt.alloc(), &spec)?.is_none());
     Ok(())
 }

@@ -1,10 +1,10 @@
 //! Objects from outside, and what their reading answers.
 
-use super::leaf::LEAF;
+use super::leaf::leaf;
 use super::plain;
 use elf_objects::{ElfFault, Home, NameOf, Object};
 use ot_base::Names;
-use std::alloc::Global;
+use std::alloc::{AllocError, Global};
 use std::process::Abort;
 use std::test::Fail;
 
@@ -24,96 +24,112 @@ pub(super) fn put(bytes: &mut Vec<u8>, at: usize, values: &[u8]) {
 }
 
 /// The leaf object with other bytes at an offset.
-fn changed(alloc: Global, at: usize, values: &[u8]) -> Result<Vec<u8>, Fail> {
-    let mut all = LEAF.to_vec(alloc)?;
+fn changed(alloc: Global, at: usize, values: &[u8]) -> Result<Vec<u8>, AllocError> {
+    let mut all = leaf().to_vec(alloc)?;
     put(&mut all, at, values);
     Ok(all)
+}
+
+/// The fault of the leaf that is cut after so many bytes.
+fn expect_short(rt: &impl Abort, alloc: Global, len: usize) {
+    let need = if len < 64 { 64 } else { 504 };
+    let have = len as u64;
+    let fault = fault_of(rt, alloc, leaf().get(..len).unwrap_or(&[]));
+    assert!(rt; fault == Some(ElfFault::Short { need, have }));
 }
 
 #[test]
 fn a_file_cut_short(rt: HostRuntime) {
     for len in 0..504 {
-        let need = if len < 64 { 64 } else { 504 };
-        let have = len as u64;
-        assert_eq!(rt;
-            fault_of(&rt, rt.alloc(), &LEAF[..len]),
-            Some(ElfFault::Short { need, have }),
-            "at {len}"
-        );
+        expect_short(&rt, rt.alloc(), len);
     }
-    assert_eq!(rt; fault_of(&rt, rt.alloc(), &LEAF), None);
+    assert!(rt; fault_of(&rt, rt.alloc(), leaf()).is_none());
 }
+
+/// Bytes at an offset of the leaf, and the fault that they make.
+const CHANGES: [(usize, &[u8], ElfFault); 13] = [
+    (0, &[0x7E], ElfFault::NotElfRel64 { at: 0 }),
+    (6, &[2], ElfFault::NotElfRel64 { at: 6 }),
+    (18, &[3], ElfFault::NotElfRel64 { at: 18 }),
+    (
+        40,
+        &[0xC0, 255, 255, 255, 255, 255, 255, 255],
+        ElfFault::Short {
+            need: u64::MAX,
+            have: 504,
+        },
+    ),
+    (
+        40,
+        &[192, 0, 0, 0, 0, 0, 0, 0],
+        ElfFault::Short {
+            need: 512,
+            have: 504,
+        },
+    ),
+    (62, &[5], ElfFault::BadTable { sec: 0 }),
+    (
+        272,
+        &[255, 255, 255, 255, 255, 255, 255, 255],
+        ElfFault::BadRange { sec: 1 },
+    ),
+    (147, &[1], ElfFault::BadTable { sec: 3 }),
+    (356, &[9, 0, 0, 0], ElfFault::BadLink { sec: 2 }),
+    (
+        440,
+        &[33],
+        ElfFault::BadName {
+            what: NameOf::Section,
+            index: 4,
+        },
+    ),
+    (
+        96,
+        &[255, 255, 255, 255],
+        ElfFault::BadName {
+            what: NameOf::Symbol,
+            index: 1,
+        },
+    ),
+    (126, &[0, 255], ElfFault::BadSymbol { sym: 2 }),
+    (124, &[0x02], ElfFault::BadSymbol { sym: 2 }),
+];
 
 #[test]
 fn a_file_with_changed_bytes(rt: HostRuntime) -> Result<(), Fail> {
-    let all = u64::MAX;
-    let table: [(usize, &[u8], ElfFault); 13] = [
-        (0, &[0x7E], ElfFault::NotElfRel64 { at: 0 }),
-        (6, &[2], ElfFault::NotElfRel64 { at: 6 }),
-        (18, &[3], ElfFault::NotElfRel64 { at: 18 }),
-        (
-            40,
-            &[0xC0, 255, 255, 255, 255, 255, 255, 255],
-            ElfFault::Short {
-                need: all,
-                have: 504,
-            },
-        ),
-        (
-            40,
-            &[192, 0, 0, 0, 0, 0, 0, 0],
-            ElfFault::Short {
-                need: 512,
-                have: 504,
-            },
-        ),
-        (62, &[5], ElfFault::BadTable { sec: 0 }),
-        (
-            272,
-            &[255, 255, 255, 255, 255, 255, 255, 255],
-            ElfFault::BadRange { sec: 1 },
-        ),
-        (147, &[1], ElfFault::BadTable { sec: 3 }),
-        (356, &[9, 0, 0, 0], ElfFault::BadLink { sec: 2 }),
-        (
-            440,
-            &[33],
-            ElfFault::BadName {
-                what: NameOf::Section,
-                index: 4,
-            },
-        ),
-        (
-            96,
-            &[255, 255, 255, 255],
-            ElfFault::BadName {
-                what: NameOf::Symbol,
-                index: 1,
-            },
-        ),
-        (126, &[0, 255], ElfFault::BadSymbol { sym: 2 }),
-        (124, &[0x02], ElfFault::BadSymbol { sym: 2 }),
-    ];
-    for (at, bytes, fault) in table {
+    for (at, bytes, fault) in CHANGES {
         let file = changed(rt.alloc(), at, bytes)?;
-        assert_eq!(rt; fault_of(&rt, rt.alloc(), &file), Some(fault), "at {at}");
+        assert!(rt; fault_of(&rt, rt.alloc(), &file) == Some(fault));
     }
     Ok(())
 }
 
-/// Each change of one of the 64 bytes from an offset is judged as the plain reading does.
+/// A file is judged as the plain reading does.
+fn expect_plain(rt: &impl Abort, alloc: Global, file: &[u8]) -> Result<(), AllocError> {
+    let want = plain::fault_of(alloc, file)?;
+    assert!(rt; fault_of(rt, alloc, file) == want);
+    Ok(())
+}
+
+/// And so is each change of a byte.
+fn change_byte(
+    rt: &impl Abort,
+    alloc: Global,
+    file: &mut Vec<u8>,
+    at: usize,
+) -> Result<(), AllocError> {
+    for value in 0..=255 {
+        put(file, at, &[value]);
+        expect_plain(rt, alloc, file)?;
+    }
+    Ok(())
+}
+
+/// Each change of one of the 64 bytes from an offset.
 fn change_each(rt: &impl Abort, alloc: Global, from: usize) -> Result<(), Fail> {
-    let mut file = LEAF.to_vec(alloc)?;
     for step in 0..64 {
-        let at = from.wrapping_add(step);
-        assert!(rt; at < file.len());
-        let before = file[at];
-        for value in 0..=255 {
-            file[at] = value;
-            let want = plain::fault_of(alloc, &file)?;
-            assert_eq!(rt; fault_of(rt, alloc, &file), want, "{value} at {at}");
-        }
-        file[at] = before;
+        let mut file = leaf().to_vec(alloc)?;
+        change_byte(rt, alloc, &mut file, from.wrapping_add(step))?;
     }
     Ok(())
 }
@@ -148,50 +164,66 @@ fn a_changed_name_table(rt: HostRuntime) -> Result<(), Fail> {
     change_each(&rt, rt.alloc(), 440)
 }
 
-#[test]
-fn what_the_leaf_says(rt: HostRuntime) -> Result<(), Fail> {
-    let object = Object::parse(rt.alloc(), &LEAF)
-        .ok()
-        .ok_or("the leaf is an object")?;
-    assert_eq!(rt; object.headers_at(), 184);
-    assert_eq!(rt; object.name_table(), 4);
-    assert_eq!(rt; object.symbol_table(), Some(2));
-    assert_eq!(rt; object.bytes().len(), 504);
-    assert_eq!(rt; object.sections(), 5);
-    let names: [&[u8]; 6] = [b"", b".text", b".symtab", b".strtab", b".shstrtab", b""];
-    for (i, name) in names.into_iter().enumerate() {
-        assert_eq!(rt; object.section_name(i as u32), name, "section {i}");
+/// The names of the leaf's sections and symbols, and that of none behind the last.
+const SECTION_NAMES: [&[u8]; 6] = [b"", b".text", b".symtab", b".strtab", b".shstrtab", b""];
+
+const SYMBOL_NAMES: [&[u8]; 4] = [b"", b"", b"f0", b""];
+
+/// The sections of an object have these names, and behind the last there is none.
+pub(super) fn expect_section_names(rt: &impl Abort, object: &Object<'_>, names: &[&[u8]]) {
+    let mut i: u32 = 0;
+    for name in names {
+        assert!(rt; object.section_name(i) == *name);
+        i = i.wrapping_add(1);
     }
+}
+
+fn expect_symbol_names(rt: &impl Abort, object: &Object<'_>) {
+    for (k, name) in SYMBOL_NAMES.into_iter().enumerate() {
+        assert!(rt; object.symbol_name(k as u32) == name);
+    }
+}
+
+fn expect_tables(rt: &impl Abort, object: &Object<'_>) {
+    assert!(rt; (object.headers_at(), object.name_table()) == (184, 4));
+    assert!(rt; object.symbol_table() == Some(2));
+    assert!(rt; object.bytes().len() == 504);
+}
+
+fn expect_sections(rt: &impl Abort, object: &Object<'_>) {
     assert!(rt; object.sections() == 5);
     let text = object.section(1);
-    assert_eq!(rt;
-        (text.kind, text.flags, text.offset, text.size),
-        (1, 6, 64, 6)
-    );
-    assert_eq!(rt; text.body, b"\x55\x48\x89\xE5\x5D\xC3".as_slice());
-    assert!(rt; object.is_text(1));
-    assert!(rt; !object.is_text(2));
-    assert_eq!(rt; object.section(0).body.len(), 0);
-    assert_eq!(rt;
-        (
-            object.section(2).link,
-            object.section(2).info,
-            object.section(2).entsize
-        ),
-        (3, 2, 24)
-    );
-    assert_eq!(rt; object.section_symbol(1), Some(1));
-    assert_eq!(rt; object.section_symbol(2), None);
-    assert_eq!(rt; object.relocs(1), 0);
-    let symbols: [&[u8]; 4] = [b"", b"", b"f0", b""];
-    for (k, name) in symbols.into_iter().enumerate() {
-        assert_eq!(rt; object.symbol_name(k as u32), name, "symbol {k}");
-    }
+    assert!(rt; (text.kind, text.flags, text.offset, text.size) == (1, 6, 64, 6));
+    assert!(rt; text.body == b"\x55\x48\x89\xE5\x5D\xC3".as_slice());
+    assert!(rt; object.section(0).body.is_empty());
+    let symbols = object.section(2);
+    assert!(rt; (symbols.link, symbols.info, symbols.entsize) == (3, 2, 24));
+}
+
+fn expect_text(rt: &impl Abort, object: &Object<'_>) {
+    assert!(rt; object.sections() == 5);
+    assert!(rt; (object.is_text(1), object.is_text(2)) == (true, false));
+    assert!(rt; object.section_symbol(1) == Some(1));
+    assert!(rt; object.section_symbol(2).is_none());
+    assert!(rt; object.relocs(1) == 0);
+}
+
+fn expect_symbols(rt: &impl Abort, object: &Object<'_>) {
     assert!(rt; object.symbols() == 3);
-    assert_eq!(rt; object.symbol(0).home, Home::Undefined);
-    let function = object.symbol(2);
-    assert_eq!(rt; (function.bind, function.kind, function.other), (1, 2, 0));
-    assert_eq!(rt; function.home, Home::Section(1));
-    assert_eq!(rt; (function.value, function.size), (0, 6));
+    assert!(rt; object.symbol(0).home == Home::Undefined);
+    let f = object.symbol(2);
+    assert!(rt; f.home == Home::Section(1));
+    assert!(rt; (f.bind, f.kind, f.other, f.value, f.size) == (1, 2, 0, 0, 6));
+}
+
+#[test]
+fn what_the_leaf_says(rt: HostRuntime) -> Result<(), Fail> {
+    let object = Object::parse(rt.alloc(), leaf())?;
+    expect_tables(&rt, &object);
+    expect_section_names(&rt, &object, &SECTION_NAMES);
+    expect_sections(&rt, &object);
+    expect_text(&rt, &object);
+    expect_symbol_names(&rt, &object);
+    expect_symbols(&rt, &object);
     Ok(())
 }

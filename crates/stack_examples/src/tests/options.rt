@@ -1,4 +1,5 @@
-//! What options ask for. By these rules no run goes wrong.
+//! What options ask for. By these rules no run's stack goes wrong; runs that break what `--fp` promises of calls are
+//! in `option_examples`.
 
 use super::case::{Broken, End};
 use super::expect::expect_broken;

@@ -1,8 +1,8 @@
 //! Alternatives.
 
 use super::{Answer, Worked, expect_worked};
-use crate::objects::{CODE, DATA, Example, SECOND, TEXT};
-use crate::rows::{BP_SAVED, DEPTH_8, DEPTH_16, FRAME_BASE, ZERO};
+use check_examples::objects::{CODE, DATA, Example, SECOND, TEXT};
+use check_examples::rows::{BP_SAVED, DEPTH_8, DEPTH_16, FRAME_BASE, ZERO};
 use elf_objects::{R_X86_64_PC32, STB_GLOBAL, STT_FUNC, STT_NOTYPE};
 use std::test::Fail;
 

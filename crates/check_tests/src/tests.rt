@@ -8,9 +8,9 @@ mod sites;
 mod special;
 mod straight;
 
-use crate::objects::{Example, object};
-use crate::rows::{RowBytes, holds_rows};
-use crate::running::{OLD, ends};
+use check_examples::objects::{Example, object};
+use check_examples::rows::{RowBytes, holds_rows};
+use check_examples::running::{OLD, ends};
 use objtool_cli::Status;
 use std::alloc::{AllocError, Global};
 use std::process::Abort;

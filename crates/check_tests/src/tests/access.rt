@@ -1,8 +1,8 @@
 //! User access, and a list of names.
 
 use super::{Answer, expect_answer};
-use crate::objects::code_with_call;
-use crate::rows::{DEPTH_8, ZERO};
+use check_examples::objects::code_with_call;
+use check_examples::rows::{DEPTH_8, ZERO};
 use std::test::Fail;
 
 /// stac; call memcpy; clac; ret

@@ -1,8 +1,8 @@
 //! Code that calls nothing.
 
 use super::{Answer, expect_answer};
-use crate::objects::code_in_f;
-use crate::rows::{BP_SAVED, DEPTH_8, DEPTH_16, FRAME_BASE, ZERO};
+use check_examples::objects::code_in_f;
+use check_examples::rows::{BP_SAVED, DEPTH_8, DEPTH_16, FRAME_BASE, ZERO};
 use std::alloc::Global;
 use std::process::Abort;
 use std::test::Fail;

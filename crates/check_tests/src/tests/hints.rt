@@ -2,8 +2,8 @@
 //! that aren't read.
 
 use super::{Answer, Worked, expect_worked};
-use crate::objects::{CODE, DATA, Example, TEXT};
-use crate::rows::{DEPTH_8, DEPTH_16, ZERO};
+use check_examples::objects::{CODE, DATA, Example, TEXT};
+use check_examples::rows::{DEPTH_8, DEPTH_16, ZERO};
 use elf_objects::{R_X86_64_PC32, STB_GLOBAL, STT_FUNC};
 use std::test::Fail;
 

@@ -1,8 +1,8 @@
 //! Calls of functions that are defined elsewhere.
 
 use super::{Answer, Worked, expect_answer, expect_worked};
-use crate::objects::{CODE, Example, TEXT, code_with_call};
-use crate::rows::{BP_SAVED, DEPTH_8, DEPTH_16, ZERO};
+use check_examples::objects::{CODE, Example, TEXT, code_with_call};
+use check_examples::rows::{BP_SAVED, DEPTH_8, DEPTH_16, ZERO};
 use elf_objects::{R_X86_64_PLT32, STB_GLOBAL, STT_FUNC, STT_NOTYPE};
 use std::test::Fail;
 

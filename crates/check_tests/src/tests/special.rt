@@ -1,8 +1,8 @@
 //! Static branches, exception tables and jump tables.
 
 use super::{Answer, Worked, expect_worked};
-use crate::objects::{CODE, DATA, Example, SECOND, TEXT};
-use crate::rows::{DEPTH_8, DEPTH_16, ZERO};
+use check_examples::objects::{CODE, DATA, Example, SECOND, TEXT};
+use check_examples::rows::{DEPTH_8, DEPTH_16, ZERO};
 use elf_objects::{
     R_X86_64_32S, R_X86_64_64, R_X86_64_PC32, R_X86_64_PLT32, STB_GLOBAL, STB_LOCAL, STT_FUNC,
 };
