@@ -534,8 +534,8 @@ def dead_ends():
     """2,000,000 places that are said to be no dead ends"""
     count = scaled(2_000_000)
     made, text, symbol = one_function(UD2 * count + RET)
-    section = made.section(b".discard.reachable", b"")
-    made.relocate(section, rela([0] * count, R_PC32, symbol, range(2, 2 * count + 2, 2)))
+    section = made.section(b".discard.reachable", bytes(4 * count))
+    made.relocate(section, rela(range(0, 4 * count, 4), R_PC32, symbol, range(2, 2 * count + 2, 2)))
     return made.bytes()
 
 
@@ -547,8 +547,8 @@ def unchecked():
     made.strings += b"f\0"
     for k in range(count):
         made.local(1, text, k, 1)
-    section = made.section(b".discard.func_stack_frame_non_standard", b"")
-    made.relocate(section, rela([0] * count, R_PC32, symbol, range(count)))
+    section = made.section(b".discard.func_stack_frame_non_standard", bytes(4 * count))
+    made.relocate(section, rela(range(0, 4 * count, 4), R_PC32, symbol, range(count)))
     return made.bytes()
 
 
@@ -571,7 +571,9 @@ def tables(count, entries, shared):
     table = made.section_symbol(rodata)
     made.relocate(text, rela(range(3, 7 * count, 7), R_32S, table, [0] * count if shared else range(0, size * count, size)))
     total = entries if shared else entries * count
-    made.relocate(rodata, rela(range(0, 8 * total, 8), R_64, symbol, [7 * (k * 7919 % count) for k in range(total)]))
+    # Entries lead anywhere; those of one table to all jumps and the return, else the first one to what stands behind its jump.
+    places = [k * 7919 if shared else k // entries + 1 + k % entries * 7919 for k in range(total)]
+    made.relocate(rodata, rela(range(0, 8 * total, 8), R_64, symbol, [7 * (place % (count + 1)) for place in places]))
     return made.bytes()
 
 
