@@ -28,7 +28,8 @@ use Rattle.command_base.specs.Reading.{MayRead}
 use Rattle.objtool_cli.specs.Command.{Ends}
 use Rattle.cli_words.specs.Grammar.{dump, unwind}
 use Rattle.objtool_cli.specs.Words.{Meaning}
-use Rattle.objtool_cli.proofs.EndsLemmas.{dump_answered, file_fault, rows_dumped, sink_fault, unwind_answered, walk_printed}
+use Rattle.objtool_cli.proofs.FaultEnds.{file_fault, sink_fault}
+use Rattle.objtool_cli.proofs.ReadBackEnds.{dump_answered, rows_dumped, unwind_answered, walk_printed}
 use Rattle.read_back.specs.Dump.{HoldsRows, IsAnswered, IsDumped, rows_text}
 use Rattle.read_back.specs.Unwind.{IsUnwound, ranges_of}
 use Rattle.read_back.specs.WalkText.{walk_text}

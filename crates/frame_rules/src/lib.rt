@@ -9,6 +9,3 @@ mod offsets;
 pub use exits::{iret_rule, return_rule, sibling_rule, switch_rule};
 pub use frames::{call_rule, depth_number, same_row};
 pub use offsets::{fit_rule, unfit_offset};
-
-#[cfg(test)]
-mod tests;

@@ -37,7 +37,8 @@ use Rattle.point_allowances.specs.Allowances.{allowances_of}
 use Rattle.object_check.specs.Outcome.{HasRows, IsUnbroken}
 use Rattle.table_output.specs.Tables.{symbols_needed}
 use Rattle.objtool_cli.proofs.CheckableLemmas.{checkable_unrefused, one_object, one_rows}
-use Rattle.objtool_cli.proofs.EndsLemmas.{ChecksAs, no_fault_and_command, not_told as not_text, same_command}
+use Rattle.objtool_cli.proofs.CheckEnds.{ChecksAs}
+use Rattle.objtool_cli.proofs.SameCommand.{no_fault_and_command, not_told as not_text, same_command}
 
 -- ---- what is known of the bytes
 

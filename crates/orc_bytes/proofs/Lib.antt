@@ -6,4 +6,3 @@ pub mod SlotLemmas
 pub mod OneList
 pub mod ReadBack
 pub mod Held
-pub mod TestRows

@@ -8,8 +8,6 @@ mod laws;
 mod reading;
 mod relocs;
 mod rows;
-#[cfg(test)]
-mod tests;
 mod worked;
 
 pub use bodies::{OrcSections, encode};

@@ -13,8 +13,6 @@ mod std_files;
 mod std_sink;
 mod sure_files;
 mod sure_sink;
-#[cfg(test)]
-mod tests;
 
 pub use access::{FileError, Files};
 pub use lines::write_line;

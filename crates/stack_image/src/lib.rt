@@ -15,6 +15,3 @@ pub use fault::{ImageFault, ImageWhy};
 pub use image::Image;
 pub use laws::memory_is_said;
 pub use orc_unwind::{Memory, Regs};
-
-#[cfg(test)]
-mod tests;

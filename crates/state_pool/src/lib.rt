@@ -5,6 +5,3 @@ mod key;
 mod pool;
 
 pub use pool::{Pool, StateNo};
-
-#[cfg(test)]
-mod tests;

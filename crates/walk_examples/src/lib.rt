@@ -1,6 +1,10 @@
-//! Tables, stacks and walks of worked examples.
+//! Tables, their bytes, stacks, images of them and walks of worked examples.
 #![tactic(auto)]
 
+#[cfg(test)]
+mod bodies;
+#[cfg(test)]
+mod images;
 #[cfg(test)]
 mod made;
 #[cfg(test)]

@@ -1,11 +1,12 @@
 //! The command `demo N`, and the check of bytes that no file holds.
 
-use super::object::{make, make_call};
-use super::words_of;
+use super::answers::{UNCHANGED, object_of};
+use super::running::{expect_printed, words_of};
+use check_examples::objects::code_with_call;
 use check_examples::running::run_words;
 use objtool_cli::{Status, summary};
 use ot_files::{MemSink, SureFiles, SureSink};
-use std::alloc::Global;
+use std::alloc::{AllocError, Global};
 use std::process::Abort;
 use std::test::Fail;
 
@@ -25,52 +26,57 @@ const DEMOS: [(&str, &str); 3] = [
     ),
 ];
 
+fn expect_demo(rt: &impl Abort, alloc: Global, line: &str, text: &str) -> Result<(), AllocError> {
+    let words = words_of(alloc, line)?;
+    let mut files = SureFiles::new(alloc, Vec::new(alloc));
+    let mut out = SureSink::new(alloc, 100);
+    let status = run_words(alloc, &words, &mut files, &mut out);
+    expect_printed(rt, line, (status, out.written()), (Status::Done, text));
+    Ok(())
+}
+
 #[test]
 fn objects_are_made_up_and_checked(rt: HostRuntime) -> Result<(), Fail> {
-    let alloc = rt.alloc();
     for (line, text) in DEMOS {
-        let mut files = SureFiles::new(alloc, Vec::new(alloc));
-        let mut out = SureSink::new(alloc, 100);
-        let status = run_words(alloc, &words_of(alloc, line)?, &mut files, &mut out);
-        assert!(rt; status == Status::Done, "{line}: {status:?}");
-        assert!(rt; out.written() == text.as_bytes(), "{line}");
+        expect_demo(&rt, rt.alloc(), line, text)?;
     }
     Ok(())
 }
 
-/// An output that takes one byte a write and fails at a byte has exactly those before.
-fn expect_cut(rt: &impl Abort, alloc: Global, line: &str, text: &[u8]) -> Result<(), Fail> {
-    let words = words_of(alloc, line)?;
-    for cut in 0..text.len() {
-        let mut files = SureFiles::new(alloc, Vec::new(alloc));
-        let mut out = MemSink::new(alloc, 1, vec![in alloc; cut as u64]?);
-        let status = run_words(alloc, &words, &mut files, &mut out);
-        assert!(rt; status == Status::SinkFault, "{cut}: {status:?}");
-        assert!(rt; out.written() == &text[..cut], "{cut}");
-    }
+/// An output that takes one byte a write and fails at a byte has exactly those before, which are these.
+fn expect_cut(
+    rt: &impl Abort,
+    alloc: Global,
+    words: &[String],
+    before: &[u8],
+) -> Result<(), AllocError> {
+    let mut files = SureFiles::new(alloc, Vec::new(alloc));
+    let mut out = MemSink::new(alloc, 1, vec![in alloc; before.len() as u64]?);
+    let status = run_words(alloc, words, &mut files, &mut out);
+    let cut = before.len();
+    assert!(rt;
+        status == Status::SinkFault && out.written() == before,
+        "{cut}"
+    );
     Ok(())
 }
 
 #[test]
 fn a_line_is_cut_where_the_output_fails(rt: HostRuntime) -> Result<(), Fail> {
     let (line, text) = DEMOS[1];
-    expect_cut(&rt, rt.alloc(), line, text.as_bytes())
+    let words = words_of(rt.alloc(), line)?;
+    for cut in 0..text.len() {
+        expect_cut(&rt, rt.alloc(), &words, &text.as_bytes()[..cut])?;
+    }
+    Ok(())
 }
 
 /// Bytes with the title `x` end with this status and print this text.
-fn expect_summary(
-    rt: &impl Abort,
-    alloc: Global,
-    bytes: &[u8],
-    status: Status,
-    text: &str,
-) -> Result<(), Fail> {
+fn expect_summary(rt: &impl Abort, alloc: Global, bytes: &[u8], (status, text): (Status, &str)) {
     assert!(rt; bytes.len() < 1000, "{text}");
     let mut out = SureSink::new(alloc, 100);
-    let ended = summary(alloc, "x", bytes, &mut out);
-    assert!(rt; ended == status, "{text}: {ended:?}");
-    assert!(rt; out.written() == text.as_bytes(), "{text}");
-    Ok(())
+    let found = summary(alloc, "x", bytes, &mut out);
+    expect_printed(rt, "x", (found, out.written()), (status, text));
 }
 
 /// push %rbp; push %rbx; sub $24,%rsp; mov %rdi,%rbp; call g; test %eax,%eax; je to the add; call f; add $24,%rsp; pop %rbx;
@@ -80,29 +86,25 @@ const CALLS: [u8; 30] = [
     0xE8, 0xE9, 0xFF, 0xFF, 0xFF, 0x48, 0x83, 0xC4, 0x18, 0x5B, 0x5D, 0xC3,
 ];
 
-#[test]
-fn bytes_are_summed_up(rt: HostRuntime) -> Result<(), Fail> {
-    let alloc = rt.alloc();
-    expect_summary(
-        &rt,
-        alloc,
-        &make_call(alloc, &CALLS, 10)?,
-        Status::Done,
-        "x: functions 1, instructions 12, rows 8, text bytes 30\n",
-    )?;
+/// A code, and how its bytes are summed up.
+const SUMMED: [(&[u8], Status, &str); 2] = [
     // push %rbx; ret
-    expect_summary(
-        &rt,
-        alloc,
-        &make(alloc, b"\x53\xC3")?,
+    (
+        b"\x53\xC3",
         Status::Warnings,
         ".text+0x1: rule 5: return with modified stack: depth 16\n",
-    )?;
-    expect_summary(
-        &rt,
-        alloc,
-        &make(alloc, b"")?,
-        Status::Refused,
-        "refused: symbol 2: bad function\n",
-    )
+    ),
+    (b"", Status::Refused, "refused: symbol 2: bad function\n"),
+];
+
+#[test]
+fn bytes_are_summed_up(rt: HostRuntime) -> Result<(), Fail> {
+    let object = code_with_call(rt.alloc(), &CALLS, 10, b"g")?.ok_or("the call makes an object")?;
+    let text = "x: functions 1, instructions 12, rows 8, text bytes 30\n";
+    expect_summary(&rt, rt.alloc(), &object, (Status::Done, text));
+    for (code, status, text) in SUMMED {
+        let object = object_of(rt.alloc(), code, UNCHANGED)?;
+        expect_summary(&rt, rt.alloc(), &object, (status, text));
+    }
+    Ok(())
 }

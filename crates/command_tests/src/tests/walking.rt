@@ -1,12 +1,10 @@
 //! Walks over a stack by the table of OUT, as the kernel's ORC unwinder goes: a plain reading of
 //! `struct orc_entry` and `unwind_next_frame` of Linux 6.6.
 
-use super::object::make;
-use super::{only_in, words};
+use super::answers::{UNCHANGED, object_of};
+use super::running::run_line;
 use check_examples::reading::section;
-use check_examples::running::run_words;
-use objtool_cli::Status;
-use ot_files::{SureFiles, SureSink};
+use std::alloc::Global;
 use std::process::Abort;
 use std::test::Fail;
 
@@ -127,40 +125,51 @@ fn expect_callers(rt: &impl Abort, out: &[u8], instants: &[Instant]) {
     }
 }
 
+const OF_A_RETURN: [Instant; 1] = [(0, 0x3f8, [LOW, OWN, OWN, OWN, OWN], 0x400, LOW, 0x880)];
+
+const OF_A_PUSH: [Instant; 4] = [
+    (0, 0x3f8, [HIGH, OWN, OWN, OWN, OWN], 0x400, HIGH, 0x880),
+    (1, 0x3f0, [RBX, HIGH, OWN, OWN, OWN], 0x400, HIGH, 0x880),
+    (2, 0x3f8, [HIGH, OWN, OWN, OWN, OWN], 0x400, HIGH, 0x880),
+    (3, 0x3f8, [HIGH, OWN, OWN, OWN, OWN], 0x400, HIGH, 0x880),
+];
+
+const OF_PUSHES: [Instant; 8] = [
+    (0, 0x7f8, [LOW, OWN, OWN, OWN, OWN], 0x800, LOW, 0x880),
+    (1, 0x7f0, [RBX, LOW, OWN, OWN, OWN], 0x800, LOW, 0x880),
+    (2, 0x7e8, [RSI, RBX, LOW, OWN, OWN], 0x800, LOW, 0x880),
+    (3, 0x7e0, [RDI, RSI, RBX, LOW, OWN], 0x800, LOW, 0x880),
+    (4, 0x7e0, [RDI, RSI, RBX, LOW, OWN], 0x800, LOW, 0x880),
+    (5, 0x7e8, [RSI, RBX, LOW, OWN, OWN], 0x800, LOW, 0x880),
+    (6, 0x7f0, [RBX, LOW, OWN, OWN, OWN], 0x800, LOW, 0x880),
+    (7, 0x7f8, [LOW, OWN, OWN, OWN, OWN], 0x800, LOW, 0x880),
+];
+
+/// The table that `check` writes of a code has the zero row at its end, and its walks find their callers.
+fn expect_walks(
+    rt: &impl Abort,
+    alloc: Global,
+    code: &[u8],
+    instants: &[Instant],
+) -> Result<(), Fail> {
+    let object = object_of(alloc, code, UNCHANGED)?;
+    let ran = run_line(alloc, "check IN OUT", &object, "")?;
+    let out = ran.files.content("OUT").unwrap_or(b"");
+    let end = BASE.wrapping_add(code.len() as u64);
+    assert!(rt; row_at(out, end) == Some([0; 6]), "{code:?}");
+    expect_callers(rt, out, instants);
+    Ok(())
+}
+
 #[test]
 fn a_walk_from_each_instruction_finds_the_caller(rt: HostRuntime) -> Result<(), Fail> {
-    let alloc = rt.alloc();
-    let of_a_return: [Instant; 1] = [(0, 0x3f8, [LOW, OWN, OWN, OWN, OWN], 0x400, LOW, 0x880)];
-    let of_a_push: [Instant; 4] = [
-        (0, 0x3f8, [HIGH, OWN, OWN, OWN, OWN], 0x400, HIGH, 0x880),
-        (1, 0x3f0, [RBX, HIGH, OWN, OWN, OWN], 0x400, HIGH, 0x880),
-        (2, 0x3f8, [HIGH, OWN, OWN, OWN, OWN], 0x400, HIGH, 0x880),
-        (3, 0x3f8, [HIGH, OWN, OWN, OWN, OWN], 0x400, HIGH, 0x880),
-    ];
-    let of_pushes: [Instant; 8] = [
-        (0, 0x7f8, [LOW, OWN, OWN, OWN, OWN], 0x800, LOW, 0x880),
-        (1, 0x7f0, [RBX, LOW, OWN, OWN, OWN], 0x800, LOW, 0x880),
-        (2, 0x7e8, [RSI, RBX, LOW, OWN, OWN], 0x800, LOW, 0x880),
-        (3, 0x7e0, [RDI, RSI, RBX, LOW, OWN], 0x800, LOW, 0x880),
-        (4, 0x7e0, [RDI, RSI, RBX, LOW, OWN], 0x800, LOW, 0x880),
-        (5, 0x7e8, [RSI, RBX, LOW, OWN, OWN], 0x800, LOW, 0x880),
-        (6, 0x7f0, [RBX, LOW, OWN, OWN, OWN], 0x800, LOW, 0x880),
-        (7, 0x7f8, [LOW, OWN, OWN, OWN, OWN], 0x800, LOW, 0x880),
-    ];
     let table: [(&[u8], &[Instant]); 3] = [
-        (b"\xC3", &of_a_return),
-        (b"\x53\x5B\x90\xC3", &of_a_push),
-        (b"\x53\x56\x57\x90\x5F\x5E\x5B\xC3", &of_pushes),
+        (b"\xC3", &OF_A_RETURN),
+        (b"\x53\x5B\x90\xC3", &OF_A_PUSH),
+        (b"\x53\x56\x57\x90\x5F\x5E\x5B\xC3", &OF_PUSHES),
     ];
-    let words = words(alloc, &["check", "IN", "OUT"])?;
     for (code, instants) in table {
-        let mut files = SureFiles::new(alloc, only_in(alloc, &make(alloc, code)?)?);
-        let status = run_words(alloc, &words, &mut files, &mut SureSink::new(alloc, 100));
-        assert_eq!(rt; status, Status::Done, "{code:?}");
-        let out = files.content("OUT").ok_or("OUT is there")?;
-        let end = BASE.wrapping_add(code.len() as u64);
-        assert_eq!(rt; row_at(out, end), Some([0; 6]), "{code:?}");
-        expect_callers(&rt, out, instants);
+        expect_walks(&rt, rt.alloc(), code, instants)?;
     }
     Ok(())
 }

@@ -1,4 +1,10 @@
-use Rattle.objtool_cli.proofs.EndsLemmas.{changes, demo_sums_up, file_fault, text_shown, out_unwinds, promises_kept, dump_answered, rows_dumped, sink_fault, tells_nothing, unchanged, unwind_answered, usage_answered, walk_printed, warnings_printed}
+use Rattle.objtool_cli.proofs.CheckEnds.{out_unwinds, promises_kept, tells_nothing, warnings_printed}
+use Rattle.objtool_cli.proofs.ContentEnds.{changes, unchanged}
+use Rattle.objtool_cli.proofs.DemoEnds.{demo_sums_up}
+use Rattle.objtool_cli.proofs.FaultEnds.{file_fault, sink_fault}
+use Rattle.objtool_cli.proofs.ReadBackEnds.{dump_answered, rows_dumped, unwind_answered, walk_printed}
+use Rattle.objtool_cli.proofs.TextEnds.{text_shown}
+use Rattle.objtool_cli.proofs.UsageEnds.{usage_answered}
 use Rattle.objtool_cli.proofs.AcceptsLemmas.{all_warned, left}
 use Rattle.objtool_cli.proofs.UsageLemmas.{only_faulty}
 use Rattle.objtool_cli.proofs.command.run.Goals as goal

@@ -2,7 +2,8 @@ use Rattle.std.proofs.Common.{◌≡◌, ℕ, List, refl, sym, ap, ◌∙◌}
 use Rattle.cli_words.specs.Grammar.{command_in, dump, unwind}
 use Rattle.objtool_cli.specs.Command.{checked, demoed, dumped, shown, unwound}
 use Rattle.objtool_cli.specs.Words.{is_told, told_text}
-use Rattle.objtool_cli.proofs.EndsLemmas.{check_is, ends_of, text_is}
+use Rattle.objtool_cli.proofs.SameCommand.{check_is, ends_of}
+use Rattle.objtool_cli.proofs.TextEnds.{text_is}
 use Rattle.objtool_cli.proofs.command.run_command.Goals as goal
 
 pub returns-in-Check-clause-ends : goal.returns-in-Check-clause-ends

@@ -1,6 +1,6 @@
 //! Images of worked examples, and texts that are none.
 
-use crate::{Image, ImageFault, ImageWhy, Regs};
+use stack_image::{Image, ImageFault, ImageWhy, Regs};
 use std::process::Abort;
 use std::test::Fail;
 

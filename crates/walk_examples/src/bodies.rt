@@ -3,76 +3,54 @@
 ghost use Rattle.std.specs.Prelude.{◌≡◌};
 ghost use Rattle.orc_bytes.specs.RowBytes.{IsRow};
 
-use crate::encode;
 use elf_objects::Object;
+use orc_bytes::encode;
 use ot_base::{Place, PlacedRow, Row};
 use std::alloc::{AllocError, Global};
 use std::test::Fail;
 
-/// A section header; its address is 0 and its alignment 1.
-#[derive(Drop)]
-struct Header {
-    name: u32,
-    kind: u32,
-    flags: u64,
-    offset: u64,
-    size: u64,
-    link: u32,
-    info: u32,
-    entsize: u64,
+/// The parts of an object of four sections, but for their headers: that of the file, `.text` with `53 5B 90 C3`,
+/// `.symtab` with the section symbol of `.text`, `.strtab` and `.shstrtab`.
+const PARTS: [&[u8]; 9] = [
+    b"\x7FELF\x02\x01\x01\0\0\0\0\0\0\0\0\0",
+    b"\x01\0\x3E\0\x01\0\0\0",
+    &[0; 16],
+    b"\xA0\0\0\0\0\0\0\0\0\0\0\0\x40\0\0\0\0\0\x40\0\x05\0\x04\0",
+    b"\x53\x5B\x90\xC3\0\0\0\0",
+    &[0; 24],
+    b"\0\0\0\0\x03\0\x01\0\0\0\0\0\0\0\0\0\0\0\0\0\0\0\0\0",
+    b"\0\0.text\0.symtab\0.strtab\0.shstrtab\0",
+    &[0; 6],
+];
+
+/// How many bytes each field of a section header has: its name, kind, flags, address, offset, size, link, info,
+/// alignment, and the size of an entry.
+const WIDTHS: [usize; 10] = [4, 4, 8, 8, 8, 8, 4, 4, 8, 8];
+
+const HEADERS: [[u64; 10]; 5] = [
+    [0, 0, 0, 0, 0, 0, 0, 0, 1, 0],
+    [1, 1, 6, 0, 64, 4, 0, 0, 1, 0],
+    [7, 2, 0, 0, 72, 48, 3, 2, 1, 24],
+    [15, 3, 0, 0, 120, 1, 0, 0, 1, 0],
+    [23, 3, 0, 0, 121, 33, 0, 0, 1, 0],
+];
+
+fn push_header(out: &mut Vec<u8>, header: &[u64; 10]) -> Result<(), AllocError> {
+    for (number, width) in header.iter().zip(&WIDTHS) {
+        for byte in number.to_le_bytes().iter().take(*width) {
+            out.push(*byte)?;
+        }
+    }
+    Ok(())
 }
 
-fn push_header(out: &mut Vec<u8>, header: &Header) -> Result<(), AllocError> {
-    out.extend_from_slice(&header.name.to_le_bytes())?;
-    out.extend_from_slice(&header.kind.to_le_bytes())?;
-    out.extend_from_slice(&header.flags.to_le_bytes())?;
-    out.extend_from_slice(&[0; 8])?;
-    out.extend_from_slice(&header.offset.to_le_bytes())?;
-    out.extend_from_slice(&header.size.to_le_bytes())?;
-    out.extend_from_slice(&header.link.to_le_bytes())?;
-    out.extend_from_slice(&header.info.to_le_bytes())?;
-    out.extend_from_slice(&1u64.to_le_bytes())?;
-    out.extend_from_slice(&header.entsize.to_le_bytes())
-}
-
-fn push_file_header(out: &mut Vec<u8>) -> Result<(), AllocError> {
-    out.extend_from_slice(b"\x7FELF\x02\x01\x01\0\0\0\0\0\0\0\0\0")?;
-    out.extend_from_slice(b"\x01\0\x3E\0\x01\0\0\0")?;
-    out.extend_from_slice(&[0; 16])?;
-    out.extend_from_slice(&160u64.to_le_bytes())?;
-    out.extend_from_slice(b"\0\0\0\0\x40\0\0\0\0\0\x40\0\x05\0\x04\0")
-}
-
-/// Sections 1 to 4 are `.text` with `53 5B 90 C3`, `.symtab` with the section symbol of `.text`,
-/// `.strtab` and `.shstrtab`.
 fn small_object(alloc: Global) -> Result<Vec<u8>, AllocError> {
     let mut out = Vec::new(alloc);
-    push_file_header(&mut out)?;
-    out.extend_from_slice(b"\x53\x5B\x90\xC3\0\0\0\0")?;
-    out.extend_from_slice(&[0; 24])?;
-    out.extend_from_slice(b"\0\0\0\0\x03\0\x01\0\0\0\0\0\0\0\0\0\0\0\0\0\0\0\0\0")?;
-    out.extend_from_slice(b"\0")?;
-    out.extend_from_slice(b"\0.text\0.symtab\0.strtab\0.shstrtab\0")?;
-    out.extend_from_slice(&[0; 6])?;
-    let table = [
-        (0, 0, 0, 0, 0, 0, 0, 0),
-        (1, 1, 6, 64, 4, 0, 0, 0),
-        (7, 2, 0, 72, 48, 3, 2, 24),
-        (15, 3, 0, 120, 1, 0, 0, 0),
-        (23, 3, 0, 121, 33, 0, 0, 0),
-    ];
-    for (name, kind, flags, offset, size, link, info, entsize) in table {
-        let header = Header {
-            name,
-            kind,
-            flags,
-            offset,
-            size,
-            link,
-            info,
-            entsize,
-        };
-        push_header(&mut out, &header)?;
+    for part in PARTS {
+        out.extend_from_slice(part)?;
+    }
+    for header in &HEADERS {
+        push_header(&mut out, header)?;
     }
     Ok(out)
 }

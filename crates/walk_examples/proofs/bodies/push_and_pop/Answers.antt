@@ -2,8 +2,8 @@ use Rattle.std.proofs.Common.{◌≡◌, ◌<◌, true, length, sym, ◌∙◌, 
 use Rattle.std.specs.Prelude.{is_some}
 use Rattle.elf_objects.specs.Elf.{SectionEntry}
 use Rattle.elf_objects.specs.Contents.{is_text, section_at, section_symbol_of}
-use Rattle.orc_bytes.proofs.TestRows.{four_rows}
-use Rattle.orc_bytes.proofs.tests.push_and_pop.Goals as goal
+use Rattle.walk_examples.proofs.TestRows.{four_rows}
+use Rattle.walk_examples.proofs.bodies.push_and_pop.Goals as goal
 
 pub encode-requires : goal.encode-requires
 encode-requires g c =

@@ -2,7 +2,7 @@
 ghost use Rattle.std.specs.Prelude.{IfOk, IsTrue};
 ghost use Rattle.ot_files.specs.Memory.{names_of, names_differ};
 
-use crate::{
+use ot_files::{
     FileError, Files, MemFiles, MemSink, Sink, SinkError, StdFiles, StdSink, SureFiles, SureSink,
     write_line,
 };

@@ -1,7 +1,7 @@
 //! States that are numbered by hand.
 
-use crate::{Pool, StateNo};
 use state_defs::{BpHome, Depth, EndKind, State};
+use state_pool::{Pool, StateNo};
 use std::test::Fail;
 
 /// States, each with the number that it gets in this order.
