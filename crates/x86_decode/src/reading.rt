@@ -72,6 +72,7 @@ pub(crate) fn read(map: Map, bytes: &[u8]) -> Result<Insn, Stop>
 }
 
 #[tactic(auto, unfolding(crate::specs::Reading::rex_at))]
+#[inline(always)]
 fn read_rex(p: Prefixes, seen: u8, bytes: &[u8]) -> Result<Insn, Stop>
     requires { seen + length bytes.now ≤ 15 }
     ensures { result ≡ rex_at p seen bytes.now }
@@ -93,6 +94,7 @@ fn read_rex(p: Prefixes, seen: u8, bytes: &[u8]) -> Result<Insn, Stop>
 }
 
 #[tactic(auto, unfolding(crate::specs::Reading::opcode_at))]
+#[inline(always)]
 fn read_opcode(p: Prefixes, seen: u8, bytes: &[u8]) -> Result<Insn, Stop>
     requires { seen + length bytes.now ≤ 15 }
     ensures { result ≡ opcode_at p seen bytes.now }
@@ -102,7 +104,7 @@ fn read_opcode(p: Prefixes, seen: u8, bytes: &[u8]) -> Result<Insn, Stop>
         [0x0F, rest @ ..] => read_two_byte(p, seen + 1, rest),
         [first, rest @ ..] if opens_vector(&p, *first) => read_vector(p, *first, seen + 1, rest),
         [byte, rest @ ..] => read_operands(
-            Opcode {
+            &Opcode {
                 prefixes: p,
                 number: 1,
                 byte: *byte,
@@ -124,6 +126,7 @@ fn opens_vector(p: &Prefixes, byte: u8) -> bool
 }
 
 /// Behind C5, C4 or 62.
+#[inline(never)]
 fn read_vector(p: Prefixes, first: u8, seen: u8, bytes: &[u8]) -> Result<Insn, Stop>
     requires { seen + length bytes.now ≤ 15 }
     ensures { result ≡ escaped_at first p seen bytes.now }
@@ -238,7 +241,7 @@ fn read_two_byte(p: Prefixes, seen: u8, bytes: &[u8]) -> Result<Insn, Stop>
         [0x38, rest @ ..] => read_map(p, 3, seen + 1, rest),
         [0x3A, rest @ ..] => read_map(p, 4, seen + 1, rest),
         [byte, rest @ ..] => read_operands(
-            Opcode {
+            &Opcode {
                 prefixes: p,
                 number: 2,
                 byte: *byte,
@@ -263,7 +266,7 @@ fn read_map(p: Prefixes, number: u8, seen: u8, bytes: &[u8]) -> Result<Insn, Sto
     match bytes {
         [] => Err(Stop::More),
         [byte, rest @ ..] => read_operands(
-            Opcode {
+            &Opcode {
                 prefixes: p,
                 number,
                 byte: *byte,
@@ -275,11 +278,12 @@ fn read_map(p: Prefixes, number: u8, seen: u8, bytes: &[u8]) -> Result<Insn, Sto
 }
 
 #[tactic(auto, unfolding(crate::specs::Reading::operands_at, crate::specs::Reading::operands_by))]
-fn read_operands(opcode: Opcode, bytes: &[u8]) -> Result<Insn, Stop>
-    requires { opcode.end + length bytes.now ≤ 15 }
-    ensures { result ≡ operands_at opcode.prefixes opcode.number opcode.byte opcode.end bytes.now }
+#[inline(never)]
+fn read_operands(opcode: &Opcode, bytes: &[u8]) -> Result<Insn, Stop>
+    requires { opcode.now.end + length bytes.now ≤ 15 }
+    ensures { result ≡ operands_at opcode.now.prefixes opcode.now.number opcode.now.byte opcode.now.end bytes.now }
 {
-    match lookup(opcode.prefixes, opcode.number, opcode.byte, None) {
+    match lookup(&opcode.prefixes, opcode.number, opcode.byte, None) {
         Look::Refused => Err(Stop::Dead { seen: opcode.end }),
         Look::NeedModrm => read_modrm(opcode, bytes),
         Look::Fits(shape) => read_rest(opcode, None, None, shape, bytes),
@@ -287,14 +291,15 @@ fn read_operands(opcode: Opcode, bytes: &[u8]) -> Result<Insn, Stop>
 }
 
 #[tactic(auto, unfolding(crate::specs::Reading::modrm_at, crate::specs::Reading::modrm_fits, crate::specs::Reading::sib_at))]
-fn read_modrm(opcode: Opcode, bytes: &[u8]) -> Result<Insn, Stop>
-    requires { opcode.end + length bytes.now ≤ 15 }
-    ensures { result ≡ modrm_at opcode.prefixes opcode.number opcode.byte opcode.end bytes.now }
+#[inline(always)]
+fn read_modrm(opcode: &Opcode, bytes: &[u8]) -> Result<Insn, Stop>
+    requires { opcode.now.end + length bytes.now ≤ 15 }
+    ensures { result ≡ modrm_at opcode.now.prefixes opcode.now.number opcode.now.byte opcode.now.end bytes.now }
 {
     let [modrm, rest @ ..] = bytes else {
         return Err(Stop::More);
     };
-    match lookup(opcode.prefixes, opcode.number, opcode.byte, Some(*modrm)) {
+    match lookup(&opcode.prefixes, opcode.number, opcode.byte, Some(*modrm)) {
         Look::Fits(shape) => read_sib(opcode, *modrm, shape, rest),
         _ => Err(Stop::Dead {
             seen: opcode.end + 1,
@@ -303,9 +308,10 @@ fn read_modrm(opcode: Opcode, bytes: &[u8]) -> Result<Insn, Stop>
 }
 
 #[tactic(auto, unfolding(crate::specs::Reading::sib_at))]
-fn read_sib(opcode: Opcode, modrm: u8, shape: Shape, bytes: &[u8]) -> Result<Insn, Stop>
-    requires { opcode.end + 1 + length bytes.now ≤ 15 }
-    ensures { result ≡ sib_at opcode.prefixes opcode.number opcode.byte modrm shape opcode.end (has_sib (Some modrm)) bytes.now }
+#[inline(always)]
+fn read_sib(opcode: &Opcode, modrm: u8, shape: Shape, bytes: &[u8]) -> Result<Insn, Stop>
+    requires { opcode.now.end + 1 + length bytes.now ≤ 15 }
+    ensures { result ≡ sib_at opcode.now.prefixes opcode.now.number opcode.now.byte modrm shape opcode.now.end (has_sib (Some modrm)) bytes.now }
 {
     if !has_sib(modrm) {
         return read_rest(opcode, Some(modrm), None, shape, bytes);
@@ -317,15 +323,16 @@ fn read_sib(opcode: Opcode, modrm: u8, shape: Shape, bytes: &[u8]) -> Result<Ins
 }
 
 #[tactic(auto, unfolding(crate::specs::Reading::rest_at))]
+#[inline(always)]
 fn read_rest(
-    opcode: Opcode,
+    opcode: &Opcode,
     modrm: Option<u8>,
     sib: Option<u8>,
     shape: Shape,
     bytes: &[u8],
 ) -> Result<Insn, Stop>
-    requires { opcode.end + length (optional modrm) + length (optional sib) + length bytes.now ≤ 15 }
-    ensures { result ≡ rest_at opcode.prefixes opcode.number opcode.byte modrm sib shape opcode.end bytes.now }
+    requires { opcode.now.end + length (optional modrm) + length (optional sib) + length bytes.now ≤ 15 }
+    ensures { result ≡ rest_at opcode.now.prefixes opcode.now.number opcode.now.byte modrm sib shape opcode.now.end bytes.now }
 {
     let len = displacement_len(modrm, sib);
     let imm = shape.imm as usize;
@@ -338,17 +345,18 @@ fn read_rest(
 }
 
 #[tactic(auto, unfolding(crate::specs::Reading::finished))]
+#[inline(always)]
 fn finished(
-    opcode: Opcode,
+    opcode: &Opcode,
     modrm: Option<u8>,
     sib: Option<u8>,
     shape: Shape,
     displacement: &[u8],
     immediate: &[u8],
 ) -> Insn
-    requires { opcode.end + length (optional modrm) + length (optional sib)
+    requires { opcode.now.end + length (optional modrm) + length (optional sib)
         + length displacement.now + length immediate.now ≤ 15 }
-    ensures { result ≡ finished opcode.prefixes opcode.number opcode.byte modrm sib shape opcode.end displacement.now immediate.now }
+    ensures { result ≡ finished opcode.now.prefixes opcode.now.number opcode.now.byte modrm sib shape opcode.now.end displacement.now immediate.now }
 {
     let displacement_at = opcode.end + count(modrm) + count(sib);
     let op = operation_of(&Fields {

@@ -107,7 +107,25 @@ impl PrefixUse {
 }
 
 impl PrefixUses {
+    /// Most forms allow any prefix.
+    #[inline(always)]
     fn accept(&self, p: &Prefixes) -> bool
+        ensures { result ≡ accepts self.now p.now }
+    {
+        match self {
+            PrefixUses {
+                of_66: PrefixUse::Allowed,
+                of_67: PrefixUse::Allowed,
+                of_f3: PrefixUse::Allowed,
+                of_f2: PrefixUse::Allowed,
+                of_rex_b: PrefixUse::Allowed,
+            } => true,
+            _ => self.accept_each(p),
+        }
+    }
+
+    #[inline(never)]
+    fn accept_each(&self, p: &Prefixes) -> bool
         ensures { result ≡ accepts self.now p.now }
     {
         self.of_66.allows(p.under_66())
@@ -172,6 +190,7 @@ impl Immediate {
 }
 
 impl Form {
+    #[inline(always)]
     fn shape(&self, p: &Prefixes) -> Shape
         ensures { result ≡ shape_of self.now p.now }
     {
@@ -184,6 +203,7 @@ impl Form {
 
     /// What this form says of the prefixes, and of a ModRM byte where one is given.
     #[tactic(auto, unfolding(crate::specs::Form::look_form))]
+    #[inline(always)]
     pub(crate) fn look(&self, p: &Prefixes, modrm: Option<u8>) -> Look
         ensures { result ≡ look_form self.now p.now modrm }
     {

@@ -31,6 +31,7 @@ fn base_forms(number: u8, opcode: u8) -> &'static [Form]
     }
 }
 
+#[inline(always)]
 fn look_among(forms: &[Form], p: &Prefixes, modrm: Option<u8>) -> Look
     ensures { result ≡ look_forms forms.now p.now modrm }
 {
@@ -44,6 +45,7 @@ fn look_among(forms: &[Form], p: &Prefixes, modrm: Option<u8>) -> Look
 }
 
 #[tactic(auto, unfolding(crate::specs::OpcodeMap::added_forms))]
+#[inline(never)]
 fn look_added(p: &Prefixes, number: u8, opcode: u8, modrm: Option<u8>) -> Look
     ensures { result ≡ look_forms (added_forms p.now.map number opcode) p.now modrm }
 {
@@ -54,6 +56,7 @@ fn look_added(p: &Prefixes, number: u8, opcode: u8, modrm: Option<u8>) -> Look
 }
 
 #[tactic(auto, using(crate::proofs::Looks::look_append))]
+#[inline(always)]
 fn look_forms(p: &Prefixes, number: u8, opcode: u8, modrm: Option<u8>) -> Look
     ensures { result ≡ look_forms (base_forms number opcode ++ added_forms p.now.map number opcode) p.now modrm }
 {
@@ -67,13 +70,14 @@ fn look_forms(p: &Prefixes, number: u8, opcode: u8, modrm: Option<u8>) -> Look
 /// one-byte opcodes, 2 for those behind 0F, 3 for those behind 0F 38, 4 for those behind 0F 3A, 5 to 7 for the maps 1 to 3 of VEX, and 8
 /// to 12 for the maps 1, 2, 3, 5 and 6 of EVEX.
 #[tactic(auto, unfolding(crate::specs::OpcodeMap::look))]
-pub fn lookup(p: Prefixes, number: u8, opcode: u8, modrm: Option<u8>) -> Look
-    ensures { result ≡ look p number opcode modrm }
+#[inline(always)]
+pub fn lookup(p: &Prefixes, number: u8, opcode: u8, modrm: Option<u8>) -> Look
+    ensures { result ≡ look p.now number opcode modrm }
 {
     if !p.lead_to(number) {
         return Look::Refused;
     }
-    look_forms(&p, number, opcode, modrm)
+    look_forms(p, number, opcode, modrm)
 }
 
 fn stands_added(p: &Prefixes, number: u8) -> bool

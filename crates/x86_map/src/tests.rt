@@ -69,7 +69,7 @@ fn one_byte_opcodes(rt: HostRuntime) {
         (with_rex(0x50), 0x90, None, Look::Refused),
     ];
     for (prefixes, opcode, modrm, look) in cases {
-        assert_eq!(rt; lookup(prefixes, 1, opcode, modrm), look, "{opcode:x}");
+        assert_eq!(rt; lookup(&prefixes, 1, opcode, modrm), look, "{opcode:x}");
     }
 }
 
@@ -83,7 +83,7 @@ fn two_byte_opcodes(rt: HostRuntime) {
     ];
     for (prefixes, opcode, modrm, look) in cases {
         assert_eq!(rt;
-            lookup(prefixes, 2, opcode, Some(modrm)),
+            lookup(&prefixes, 2, opcode, Some(modrm)),
             look,
             "{opcode:x}"
         );
@@ -152,14 +152,14 @@ fn vex_opcodes(rt: HostRuntime) {
             rex: Some(0x48),
             ..whole
         };
-        assert_eq!(rt; lookup(whole, number, opcode, modrm), look, "{opcode:x}");
+        assert_eq!(rt; lookup(&whole, number, opcode, modrm), look, "{opcode:x}");
         assert_eq!(rt;
-            lookup(base, number, opcode, modrm),
+            lookup(&base, number, opcode, modrm),
             Look::Refused,
             "{opcode:x}"
         );
         assert_eq!(rt;
-            lookup(behind_rex, number, opcode, modrm),
+            lookup(&behind_rex, number, opcode, modrm),
             Look::Refused,
             "{opcode:x}"
         );

@@ -1,4 +1,4 @@
-ghost use Rattle.std.specs.Prelude.{◌≡◌, ◌+◌, ◌<◌, ◌≤◌, ◌↔◌, ℕ, ⊤, All, length, drop, slice_get, slice_index_or, slice_range, Contains, IfOk, IfErr, OnOk, IfSome, IfNone, MatchOption};
+ghost use Rattle.std.specs.Prelude.{◌≡◌, ◌+◌, ◌<◌, ◌≤◌, ◌↔◌, ℕ, All, length, drop, slice_get, slice_index_or, slice_range, Contains, IfOk, IfErr, OnOk, IfSome, IfNone, MatchOption};
 ghost use Rattle.std.specs.List.Sorted.{IsNonDecreasingBy};
 ghost use Rattle.x86_decode.specs.Decoding.{StandsInFront};
 ghost use Rattle.x86_text.specs.Code.{read_by, code_of, insn_listed, offsets_of, IsBoundary, IsCode, IsNextBoundary, IsPreviousBoundary, LeadsTo};
