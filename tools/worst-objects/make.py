@@ -355,6 +355,17 @@ def suffixes():
     return made.bytes()
 
 
+def called_suffixes():
+    """500,000 calls of functions of other objects, each named by most of one text of 30 MB"""
+    count = scaled(500_000)
+    made, text, _ = one_function(b"\xe8\0\0\0\0" * count + RET)
+    place, first = len(made.strings), len(made.locals)
+    made.strings += b"x" * scaled(30_000_000) + b"\0"
+    made.others += [SYMBOL.pack(place + k, GLOBAL, 0, 0, 0, 0) for k in range(count)]
+    made.relocate(text, b"".join(RELA.pack(5 * k + 1, (first + k) << 32 | R_PLT32, -4) for k in range(count)))
+    return made.bytes()
+
+
 def digits():
     """1,000,000 functions, each named by .cold. and most of one text of 30 MB of digits"""
     made, count = Object(), scaled(1_000_000)
@@ -668,6 +679,8 @@ CASES = {
     "parts": (parts, CHECK, "01"),
     "nested-parts": (nested_parts, CHECK, "01"),
     "suffixes": (suffixes, CHECK, "0"),
+    "called-suffixes": (called_suffixes, CHECK, "0"),
+    "safe-suffixes": (called_suffixes, f"{CHECK} --uaccess", "0"),
     "digits": (digits, CHECK, "01"),
     "overlapping": (overlapping, CHECK, "01"),
     "without-sizes": (without_sizes, CHECK, "1"),

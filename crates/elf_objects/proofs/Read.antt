@@ -1,5 +1,5 @@
 -- What stands at an index of an object's lists.
-use Rattle.std.proofs.Common.{◌≡◌, ◌≢◌, ◌<◌, ◌≤◌, ◌+◌, ◌/◌, ℕ, true, Option, Some, None, List, [], map, length, length-take, length-drop, slice_range, slice_get, refl, ap, sym, ◌∙◌, arith}
+use Rattle.std.proofs.Common.{◌≡◌, ◌≢◌, ◌<◌, ◌≤◌, ◌+◌, ◌-◌, ◌^◌, ◌/◌, ℕ, Bool, true, false, cond, Option, Some, None, List, [], map, length, length-take, length-drop, drop, slice_range, slice_get, refl, ap, sym, ◌∙◌, arith}
 use Rattle.std.proofs.lemmas.List.FromFn.{get_or-map-range_with_len, length-map-range_with_len}
 use Rattle.std.specs.List.{range_with_len}
 use Rattle.std.proofs.lemmas.Option.{slice_get_read}
@@ -113,3 +113,12 @@ relocs_of-get b s i h =
     let f = reloc_of b (header_of b (rela_of b s)) in
     let n = (header_of b (rela_of b s)).size / 24 in
     slice_get_read (map f (range_with_len 0 n)) n i (f i) (sym (length-map-range_with_len f 0 n)) h (sym (get_or-map-range_with_len f 0 n i i (f i) h (omega arith)))
+
+-- a body is no longer than the file
+pub body_short : (b : List ℕ) (h : SectionHeader) → length b < 2 ^ 32 → length (body_of b h) < 2 ^ 32
+unfolding body_of
+body_short b h few = go (has_body h)
+  where
+    go : (has : Bool) → length (cond has (slice_range b h.offset (h.offset + h.size)) []) < 2 ^ 32
+    go true = let left = length-drop h.offset b in let cut = length-take (h.offset + h.size - h.offset) (drop h.offset b) in omega (arith, cut, left)
+    go false = omega arith

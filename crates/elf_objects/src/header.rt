@@ -1,7 +1,8 @@
 //! Section headers, `Elf64_Shdr`.
 
-ghost use Rattle.std.specs.Prelude.{◌≡◌, ◌+◌, ◌≤◌, length};
+ghost use Rattle.std.specs.Prelude.{◌≡◌, ◌+◌, ◌≤◌, ◌==◌, ◌&&◌, not, bit_and, length};
 ghost use Rattle.elf_objects.specs.Header.{header_at};
+ghost use Rattle.elf_objects.specs.declared.TheConstants.{SHT_PROGBITS as PROGBITS, SHF_EXECINSTR as EXECINSTR};
 
 use crate::number::{word_at, xword_at};
 use crate::{SHF_EXECINSTR, SHT_NOBITS, SHT_NULL, SHT_PROGBITS};
@@ -41,6 +42,13 @@ pub(crate) fn read_header(bytes: &[u8], at: usize) -> SectionHeader
     }
 }
 
+/// Whether a section of this type with these flags has code.
+pub(crate) fn has_code(kind: u32, flags: u64) -> bool
+    ensures { result ≡ ((kind == PROGBITS) && not (bit_and flags EXECINSTR == 0)) }
+{
+    kind == SHT_PROGBITS && flags & SHF_EXECINSTR != 0
+}
+
 impl SectionHeader {
     ghost use Rattle.elf_objects.specs.Header.{null_header, has_body, is_text_header};
 
@@ -73,6 +81,6 @@ impl SectionHeader {
     pub(crate) fn is_text(&self) -> bool
         ensures { result ≡ is_text_header self.now }
     {
-        self.kind == SHT_PROGBITS && self.flags & SHF_EXECINSTR != 0
+        has_code(self.kind, self.flags)
     }
 }

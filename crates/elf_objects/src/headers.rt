@@ -1,11 +1,12 @@
 //! The file header, and the table of section headers that it names.
 
-ghost use Rattle.std.specs.Prelude.{◌≡◌, ◌<◌, ◌^◌, length, IfOk, IfErr, MatchResult};
+ghost use Rattle.std.specs.Prelude.{◌≡◌, ◌<◌, ◌≤◌, ◌+◌, ◌*◌, ◌^◌, length, IfOk, IfErr, MatchResult};
 ghost use Rattle.std.specs.Prelude.{find, not, ◌==◌};
+ghost use Rattle.elf_objects.specs.Header.{is_text_header};
 ghost use Rattle.elf_objects.specs.File.{HasFileHeader, IsElfRel64, HasFirstHeader, HasTable, TableFault, headers_at, section_count, section_header, name_table, fields, too_short};
 
 use crate::fault::{Counted, ElfFault};
-use crate::header::{SectionHeader, read_header};
+use crate::header::{SectionHeader, has_code, read_header};
 use crate::number::{half_at, word_at, xword_at};
 use crate::{MAX_SECTIONS, SHN_LORESERVE, SHN_XINDEX};
 
@@ -49,13 +50,41 @@ impl<'a> Headers<'a> {
         })
     }
 
+    /// Where the header of a section begins.
+    fn header_place(&self, i: u32) -> usize
+        requires { i < section_count self.now.bytes.now }
+        ensures value { result ≡ headers_at self.now.bytes.now + 64 * i }
+        ensures inside { result + 64 ≤ length self.now.bytes.now }
+    {
+        self.at as usize + 64 * i as usize
+    }
+
     /// The header of a section.
     #[tactic(auto, unfolding(crate::specs::File::section_header))]
     pub(crate) fn get(&self, i: u32) -> SectionHeader
         requires { i < section_count self.now.bytes.now }
         ensures { result ≡ section_header self.now.bytes.now i }
     {
-        read_header(self.bytes, self.at as usize + 64 * i as usize)
+        read_header(self.bytes, self.header_place(i))
+    }
+
+    /// The size of a section, read alone.
+    #[tactic(auto, unfolding(crate::specs::File::section_header, crate::specs::Header::header_at))]
+    pub(crate) fn size(&self, i: u32) -> u64
+        requires { i < section_count self.now.bytes.now }
+        ensures { result ≡ (section_header self.now.bytes.now i).size }
+    {
+        xword_at(self.bytes, self.header_place(i) + 32)
+    }
+
+    /// Whether a section has code, by its type and its flags alone.
+    #[tactic(auto, unfolding(crate::specs::File::section_header, crate::specs::Header::header_at))]
+    pub(crate) fn is_text(&self, i: u32) -> bool
+        requires { i < section_count self.now.bytes.now }
+        ensures { result ≡ is_text_header (section_header self.now.bytes.now i) }
+    {
+        let at = self.header_place(i);
+        has_code(word_at(self.bytes, at + 4), xword_at(self.bytes, at + 8))
     }
 }
 

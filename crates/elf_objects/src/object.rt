@@ -14,13 +14,14 @@ use crate::names::{check_names, check_text};
 use crate::relocs::{check_relocs, nth_reloc, rela_header};
 use crate::section::Section;
 use crate::slices::slice_body;
-use crate::strings::{tail, text_begins, text_is, text_of};
+use crate::strings::{list_ends, tail, text_at, text_begins, text_is, text_of};
 use crate::symbol::{Reloc, Symbol};
 use crate::symbols::{Symbols, find_home};
 use crate::{MAX_SECTIONS, MAX_SYMBOLS};
 use ot_base::Names;
 use std::alloc::Global;
 use std::marker::Model;
+use text_numbers::Ends;
 
 /// A well-formed ELF-64 relocatable object for x86-64, read where its bytes lie.
 ///
@@ -31,6 +32,8 @@ pub struct Object<'a> {
     symbol_count: u32,
     names: SectionHeader,
     strings: SectionHeader,
+    /// Where the names of symbols end.
+    ends: Ends<'a>,
     /// For each section the section with its relocations.
     relas: Vec<Option<u32>>,
     /// For each section the first symbol that stands for it.
@@ -46,7 +49,7 @@ impl<'a> Model for Object<'a> {
 
     ghost view = { λ o. elf_of o.symbols.headers.bytes.now };
 
-    ghost invariant = { λ o. IsKept o.symbols.headers.bytes.now o.symbol_count o.names o.strings o.relas.items o.section_symbols.items };
+    ghost invariant = { λ o. IsKept o.symbols.headers.bytes.now o.symbol_count o.names o.strings o.ends o.relas.items o.section_symbols.items };
 }
 
 impl<'a> Object<'a> {
@@ -81,9 +84,12 @@ impl<'a> Object<'a> {
         let section_symbols = check_symbols(alloc, &symbols, symbol_count)?;
         check_relocs(&symbols)?;
         check_text(&symbols.headers)?;
+        let strings = symbols.strings();
+        let ends = list_ends(alloc, symbols.headers.bytes, &strings)?;
         Ok(Object {
             names: symbols.headers.get(symbols.headers.names),
-            strings: symbols.strings(),
+            strings,
+            ends,
             symbols,
             symbol_count,
             relas,
@@ -154,6 +160,14 @@ impl<'a> Object<'a> {
         }
     }
 
+    /// The size of a section in bytes, `sh_size`.
+    pub fn section_size(&self, i: u32) -> u64
+        requires { i < length self.now.sections }
+        ensures { result ≡ (section_at self.now i).size }
+    {
+        self.symbols.headers.size(i)
+    }
+
     /// The table of section names from where the name of a section begins.
     fn section_name_on(&self, i: u32) -> &'a [u8]
         requires { i < length self.now.sections }
@@ -194,7 +208,7 @@ impl<'a> Object<'a> {
         requires { sec < length self.now.sections }
         ensures { result ≡ is_text (section_at self.now sec) }
     {
-        self.symbols.headers.get(sec).is_text()
+        self.symbols.headers.is_text(sec)
     }
 
     /// The index of the symbol table, where there is one.
@@ -242,12 +256,12 @@ impl<'a> Object<'a> {
         tail(strings, raw.name as usize)
     }
 
-    /// The name of a symbol, without its zero byte. It takes the time of the name's length.
+    /// The name of a symbol, without its zero byte. It reads 64 bytes of it at most.
     pub fn name_of_symbol(&self, k: u32) -> &'a [u8]
         requires { k < length self.now.symbols }
         ensures { result.now ≡ (symbol_at self.now k).name }
     {
-        text_of(self.symbol_name_on(k))
+        text_at(&self.ends, self.symbols.raw(k).name as usize)
     }
 
     /// Whether the name of a symbol is this one. It reads one byte more than this name has at most.

@@ -14,7 +14,7 @@ pub enum Home {
 }
 
 /// A symbol, `Elf64_Sym`. Its name is read by [`name_of_symbol`](crate::Object::name_of_symbol) and
-/// its kin alone, since that takes the time of the name's length.
+/// its kin alone.
 #[derive(Clone, Copy, Debug, PartialEq, Eq)]
 pub struct Symbol {
     /// The high four bits of `st_info`.

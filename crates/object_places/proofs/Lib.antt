@@ -1,3 +1,4 @@
+mod Bounds
 mod Finding
 mod Runs
 mod Sorting

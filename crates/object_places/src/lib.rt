@@ -5,6 +5,7 @@
 #![tactic(auto)]
 
 mod index;
+mod near;
 mod place;
 
 pub use index::RelocIndex;

@@ -53,7 +53,7 @@ pub(crate) fn section_size(object: &Object<'_>, sec: u32) -> u64
     ensures { result ≡ (section_at object.now sec).size }
 {
     if sec < object.sections() {
-        object.section(sec).size
+        object.section_size(sec)
     } else {
         0
     }
