@@ -1,18 +1,25 @@
 -- Where control may stand that comes to a place.
-use Rattle.std.proofs.Common.{◌≡◌, ℕ, ◌+◌, ◌<◌, List, [], ◌∷◌, ◌++◌, length, get_or, map, take, Option, Some, None, All, refl, sym, ap, ◌∙◌, subst}
+use Rattle.std.proofs.Common.{◌≡◌, ℕ, ◌+◌, ◌<◌, true, false, eqb, ◌&&◌, List, [], ◌∷◌, ◌++◌, length, get_or, map, take, Option, Some, None, All, refl, sym, ap, ◌∙◌, subst, arith}
 use Rattle.std.specs.Prelude.{filter_map}
 use Rattle.std.specs.List.{cons_option, range_with_len}
+use Rattle.std.proofs.lemmas.Bool.{false≢true}
+use Rattle.std.proofs.lemmas.Bool.Decides.{nat_tests}
+use Rattle.std.proofs.lemmas.List.{get_or-map, length-map}
 use Rattle.std.proofs.lemmas.List.Elements.{All-filter, filter_passes}
+use Rattle.std.proofs.lemmas.List.Folds.{list_any_at}
 use Rattle.ot_base.specs.declared.place.Place.{Place}
 use Rattle.flow_defs.specs.Coded.{Coded}
 use Rattle.special_sections.specs.declared.entries.AltEntry.{AltEntry}
 use Rattle.special_sections.specs.Hints.{is_place}
-use Rattle.alternatives.specs.Originals.{counted, counts, entry_at}
+use Rattle.alternatives.specs.Originals.{counted, counts, entry_at, no_entry}
 use Rattle.alternatives.specs.Points.{entries_from, first_of}
 use Rattle.alternatives.proofs.Opened.{counts_inside}
 use Rattle.flow_defs.specs.Arrival.{arrive}
 use Rattle.flow_defs.specs.Code.{alternatives_of, number_of, numbers_of, plain_point}
+use Rattle.symbols_relocs.specs.Places.{same_place}
+use Rattle.place_lists.specs.Places.{is_among}
 use Rattle.point_places.proofs.Found.{made_more}
+use Rattle.point_arrivals.specs.Lists.{original_places_of}
 use Rattle.point_arrivals.proofs.Numbers.{numbers_inside, numbers_of_points, IsNumber}
 
 -- the number of the first point of the replacement of an entry
@@ -52,3 +59,24 @@ pub entries_inside : (entries : List AltEntry) (place : Place) → All (λ k. k 
 entries_inside entries place =
     All-filter (λ k. is_place (entry_at entries k).original place) (λ k. k < length entries) (counted entries)
     (λ i d inside. counts_inside entries (get_or (counted entries) i d) (filter_passes (λ k. counts (entry_at entries k)) (range_with_len 0 (length entries)) i d inside))
+
+-- where no original begins, none of an entry does
+other_place : (a b c d : ℕ) → (eqb a c && eqb b d) ≡ true → (eqb c a && eqb d b) ≡ true
+other_place a b c d same = grind (arith, nat_tests)
+
+original_at : (entries : List AltEntry) (place : Place) (k : ℕ) → k < length entries → is_place (entry_at entries k).original place ≡ true → is_among (original_places_of entries) place ≡ true
+original_at entries place k inside here =
+    let p : Place = (entry_at entries k).original in
+    list_any_at (same_place place) (original_places_of entries) k place (omega (arith, inside, length-map entries (λ (a : AltEntry). a.original)))
+    (ap (same_place place) (get_or-map (λ (a : AltEntry). a.original) entries k no_entry place inside) ∙ other_place p.sec p.off place.sec place.off here)
+
+pub no_original : (entries : List AltEntry) (place : Place) → is_among (original_places_of entries) place ≡ false → entries_from entries place ≡ []
+no_original entries place none = by (entries_from entries place) refl
+  where
+    by : (ks : List ℕ) → entries_from entries place ≡ ks → ks ≡ []
+    by [] is = refl
+    by (k ∷ ks) is =
+        let some : 0 < length (entries_from entries place) = omega (arith, ap length is) in
+        let first : ℕ = get_or (entries_from entries place) 0 0 in
+        let here : is_place (entry_at entries first).original place ≡ true = filter_passes (λ j. is_place (entry_at entries j).original place) (counted entries) 0 0 some in
+        absurd (false≢true (sym none ∙ original_at entries place first (entries_inside entries place 0 0 some) here))

@@ -3,3 +3,4 @@ pub mod Numbers
 pub mod Arriving
 pub mod Following
 pub mod Ending
+pub mod Marking

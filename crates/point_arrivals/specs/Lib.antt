@@ -1,3 +1,4 @@
 pub mod Low
 pub mod Next
 pub mod Lists
+pub mod Marks

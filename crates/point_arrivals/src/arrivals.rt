@@ -1,19 +1,14 @@
 //! Points with where control comes to them.
 
-ghost use Rattle.std.specs.Prelude.{◌≡◌, ◌<◌, ◌||◌, length, All, IfOk};
-ghost use Rattle.flow_defs.specs.Arrival.{after as points_following, arrive as points_coming_to, decoded_insn, ends_at, insn_of_object, is_at_end as is_at_an_end, is_dead_end as is_a_dead_end, is_ud2 as is_an_ud2};
-ghost use Rattle.special_sections.specs.Special.{special_of};
+ghost use Rattle.std.specs.Prelude.{◌≡◌, ◌<◌, length, All, IfOk};
+ghost use Rattle.flow_defs.specs.Arrival.{after as points_following, arrive as points_coming_to, insn_of_object, is_at_end as is_at_an_end, is_dead_end as is_a_dead_end};
 ghost use Rattle.flow_defs.specs.Code.{point_at, points_of_object};
 ghost use Rattle.flow_defs.specs.Edges.{fixups as fixups_of, static_targets as static_targets_of};
 
-use crate::arrive::arrive;
-use crate::behind::{after, end_of, is_at_end};
-use crate::iret::insn;
-use crate::low::points_are_low;
-use crate::pairs::{branch_pairs, fix_pairs};
-use operation_defs::{Insn, Op};
+use crate::lists::PointLists;
+use crate::marks::mark_points;
+use operation_defs::Insn;
 use ot_base::{NoMemory, Place};
-use place_lists::{PlaceMap, PlaceSet};
 use point_places::PointPlaces;
 use smallvec::SmallVec;
 use std::alloc::Global;
@@ -22,26 +17,24 @@ use std::marker::Model;
 /// The points of an object with where control comes to them and from them, and what its lists say of their places.
 /// Contracts see it as the object.
 ///
-/// A point is told by its number.
+/// A point is told by its number. The lists say nothing of most points: each point has a mark that tells so.
 #[derive(Drop)]
 pub struct PointArrivals<'l, 'o, 'a> {
-    places: PointPlaces<'l, 'o, 'a>,
-    reachable: PlaceSet,
-    unreachable: PlaceSet,
-    branches: PlaceMap,
-    fixes: PlaceMap,
+    lists: PointLists<'l, 'o, 'a>,
+    marks: Vec<bool>,
 }
 
 impl<'l, 'o, 'a> Model for PointArrivals<'l, 'o, 'a> {
+    ghost use Rattle.std.specs.Prelude.{length};
     ghost use Rattle.flow_defs.specs.Coded.{Coded};
-    ghost use Rattle.point_arrivals.specs.Low.{AreLow};
-    ghost use Rattle.point_arrivals.specs.Lists.{AreListsOf};
+    ghost use Rattle.flow_defs.specs.Code.{points_of_object};
+    ghost use Rattle.point_arrivals.specs.Marks.{AreMarked};
 
     ghost Value = { Coded };
 
-    ghost view = { λ a. a.places };
+    ghost view = { λ a. a.lists };
 
-    ghost invariant = { λ a. AreLow a.places × AreListsOf a.places a.reachable a.unreachable a.branches a.fixes };
+    ghost invariant = { λ a. AreMarked a.lists a.marks.items (length (points_of_object a.lists)) };
 }
 
 impl<'l, 'o, 'a> PointArrivals<'l, 'o, 'a> {
@@ -56,26 +49,16 @@ impl<'l, 'o, 'a> PointArrivals<'l, 'o, 'a> {
     ) -> Result<PointArrivals<'l, 'o, 'a>, NoMemory>
         ensures { IfOk result (λ arrivals. arrivals ≡ places.entry) }
     {
-        points_are_low(places.linked());
-        let special = places.linked().special();
-        let reachable = PlaceSet::build(alloc, special.after_reachable())?;
-        let unreachable = PlaceSet::build(alloc, special.after_unreachable())?;
-        let branches = PlaceMap::build(alloc, branch_pairs(alloc, special.branches())?)?;
-        let fixes = PlaceMap::build(alloc, fix_pairs(alloc, special.fixes())?)?;
-        Ok(PointArrivals {
-            places,
-            reachable,
-            unreachable,
-            branches,
-            fixes,
-        })
+        let lists = PointLists::build(alloc, places)?;
+        let marks = mark_points(alloc, &lists)?;
+        Ok(PointArrivals { lists, marks })
     }
 
     /// The points.
     pub fn places(&self) -> &PointPlaces<'l, 'o, 'a>
         ensures { result.now ≡ self.now }
     {
-        &self.places
+        self.lists.places()
     }
 
     /// The points at which control may stand that comes to a place: the plain point there, and where a site starts there
@@ -88,7 +71,7 @@ impl<'l, 'o, 'a> PointArrivals<'l, 'o, 'a> {
         ensures points { IfOk result (λ points. points.items ≡ points_coming_to self.now place) }
         ensures known { IfOk result (λ points. All (λ q. q < length (points_of_object self.now)) points.items) }
     {
-        arrive(alloc, &self.places, place)
+        self.lists.arrive(alloc, place)
     }
 
     /// The points that follow a point, whatever it does: the next of its replacement, and else those to which control
@@ -102,7 +85,7 @@ impl<'l, 'o, 'a> PointArrivals<'l, 'o, 'a> {
         ensures points { IfOk result (λ points. points.items ≡ points_following self.now (point_at self.now n)) }
         ensures known { IfOk result (λ points. All (λ q. q < length (points_of_object self.now)) points.items) }
     {
-        after(alloc, &self.places, n)
+        self.lists.after(alloc, n)
     }
 
     /// Whether nothing follows a point: behind it its section ends.
@@ -110,7 +93,7 @@ impl<'l, 'o, 'a> PointArrivals<'l, 'o, 'a> {
         requires { n < length (points_of_object self.now) }
         ensures { result ≡ is_at_an_end self.now (point_at self.now n) }
     {
-        is_at_end(&self.places, n)
+        self.lists.is_at_end(n)
     }
 
     /// Whether execution never passes a point: a Ud2, or an instruction that ends at a place of `.discard.unreachable`,
@@ -119,26 +102,10 @@ impl<'l, 'o, 'a> PointArrivals<'l, 'o, 'a> {
         requires { n < length (points_of_object self.now) }
         ensures { result ≡ is_a_dead_end self.now (point_at self.now n) }
     {
-        if !self.may_end(n) {
+        if !self.marks[n as usize] {
             return false;
         }
-        if self.places.is_padding(n) {
-            return false;
-        }
-        let end = end_of(&self.places, n);
-        !self.reachable.contains(end)
-    }
-
-    /// Whether a point is a Ud2, or its instruction ends at a place of `.discard.unreachable`.
-    fn may_end(&self, n: u32) -> bool
-        requires { n < length (points_of_object self.now) }
-        ensures { result ≡ (is_an_ud2 (decoded_insn self.now (point_at self.now n)).op || ends_at self.now (point_at self.now n) (special_of self.now.elf).after_unreachable) }
-    {
-        if is_ud2(self.places.decoded_insn(n).op) {
-            return true;
-        }
-        let end = end_of(&self.places, n);
-        self.unreachable.contains(end)
+        self.lists.is_dead_end(n)
     }
 
     /// The instruction of a point: as it is decoded, but for an IRET of a function that goes on right behind itself in
@@ -151,7 +118,7 @@ impl<'l, 'o, 'a> PointArrivals<'l, 'o, 'a> {
         requires { n < length (points_of_object self.now) }
         ensures { IfOk result (λ insn. insn ≡ insn_of_object self.now (point_at self.now n)) }
     {
-        insn(alloc, &self.places, n)
+        self.lists.insn(alloc, n)
     }
 
     /// Where the static branches at a point lead, in the order of `__jump_table`; nowhere from padding.
@@ -159,10 +126,10 @@ impl<'l, 'o, 'a> PointArrivals<'l, 'o, 'a> {
         requires { n < length (points_of_object self.now) }
         ensures { result.now ≡ static_targets_of self.now (point_at self.now n) }
     {
-        if self.places.is_padding(n) {
+        if !self.marks[n as usize] {
             return &[];
         }
-        self.branches.targets(self.places.point(n).place)
+        self.lists.static_targets(n)
     }
 
     /// Where the exception entries at a point lead, in the order of `__ex_table`; nowhere from padding.
@@ -170,16 +137,9 @@ impl<'l, 'o, 'a> PointArrivals<'l, 'o, 'a> {
         requires { n < length (points_of_object self.now) }
         ensures { result.now ≡ fixups_of self.now (point_at self.now n) }
     {
-        if self.places.is_padding(n) {
+        if !self.marks[n as usize] {
             return &[];
         }
-        self.fixes.targets(self.places.point(n).place)
+        self.lists.fixups(n)
     }
-}
-
-/// Whether an operation is a Ud2.
-fn is_ud2(op: Op) -> bool
-    ensures { result ≡ is_an_ud2 op }
-{
-    matches!(op, Op::Ud2)
 }

@@ -3,12 +3,15 @@
 ghost use Rattle.std.specs.Prelude.{◌≡◌, ◌<◌, length, IfOk};
 ghost use Rattle.alternatives.specs.Texts.{behind};
 ghost use Rattle.flow_defs.specs.Arrival.{after as points_following, decoded_insn, is_at_end as is_at_an_end, place_behind as place_after};
-ghost use Rattle.flow_defs.specs.Code.{point_at, points_of_object};
+ghost use Rattle.flow_defs.specs.Code.{alternatives_of, point_at, points_of_object};
+ghost use Rattle.place_lists.specs.Places.{HaveSamePlaces};
+ghost use Rattle.point_arrivals.specs.Lists.{original_places_of};
 ghost use Rattle.point_arrivals.specs.Low.{AreLow};
 ghost use Rattle.point_arrivals.specs.Next.{number_of_next as number_following};
 
 use crate::arrive::arrive;
 use ot_base::{NoMemory, Place};
+use place_lists::PlaceSet;
 use point_places::PointPlaces;
 use smallvec::SmallVec;
 use std::alloc::Global;
@@ -58,15 +61,20 @@ fn place_behind(places: &PointPlaces<'_, '_, '_>, n: u32) -> Place
 pub(crate) fn after(
     alloc: Global,
     places: &PointPlaces<'_, '_, '_>,
+    originals: &PlaceSet,
     n: u32,
 ) -> Result<SmallVec<u32, 4>, NoMemory>
     requires low { AreLow places.now }
+    requires originals { HaveSamePlaces (original_places_of (alternatives_of places.now)) originals.now }
     requires point { n < length (points_of_object places.now) }
     ensures { IfOk result (λ points. points.items ≡ points_following places.now (point_at places.now n)) }
 {
     match number_of_next(places, n) {
         Some(next) => Ok(SmallVec::from_slice(alloc, &[next])?),
-        None => arrive(alloc, places, place_behind(places, n)),
+        None => {
+            let place = place_behind(places, n);
+            arrive(alloc, places, originals, place, n.wrapping_add(1))
+        }
     }
 }
 
@@ -76,5 +84,6 @@ pub(crate) fn is_at_end(places: &PointPlaces<'_, '_, '_>, n: u32) -> bool
     requires point { n < length (points_of_object places.now) }
     ensures { result ≡ is_at_an_end places.now (point_at places.now n) }
 {
-    number_of_next(places, n).is_none() && !places.is_boundary(place_behind(places, n))
+    number_of_next(places, n).is_none()
+        && !places.is_boundary_by_guess(place_behind(places, n), n.wrapping_add(1))
 }

@@ -4,13 +4,16 @@ ghost use Rattle.std.specs.Prelude.{◌≡◌, ◌<◌, ℕ, Some, length, All, 
 ghost use Rattle.alternatives.specs.declared.point.Point.{Point};
 ghost use Rattle.jump_tables.specs.Tables.{same_owner};
 ghost use Rattle.flow_defs.specs.Arrival.{goes_on_behind as goes_on_in_owner, insn_of_object};
-ghost use Rattle.flow_defs.specs.Code.{point_at, points_of_object};
+ghost use Rattle.flow_defs.specs.Code.{alternatives_of, point_at, points_of_object};
+ghost use Rattle.place_lists.specs.Places.{HaveSamePlaces};
+ghost use Rattle.point_arrivals.specs.Lists.{original_places_of};
 ghost use Rattle.point_arrivals.specs.Low.{AreLow};
 ghost use Rattle.point_arrivals.specs.Next.{is_iret as is_an_iret};
 
 use crate::behind::after;
 use operation_defs::{Insn, Op};
 use ot_base::NoMemory;
+use place_lists::PlaceSet;
 use point_places::PointPlaces;
 use std::alloc::Global;
 
@@ -48,9 +51,11 @@ fn goes_on_behind(places: &PointPlaces<'_, '_, '_>, owner: u32, next: &[u32]) ->
 pub(crate) fn insn(
     alloc: Global,
     places: &PointPlaces<'_, '_, '_>,
+    originals: &PlaceSet,
     n: u32,
 ) -> Result<Insn, NoMemory>
     requires low { AreLow places.now }
+    requires originals { HaveSamePlaces (original_places_of (alternatives_of places.now)) originals.now }
     requires point { n < length (points_of_object places.now) }
     ensures { IfOk result (λ insn. insn ≡ insn_of_object places.now (point_at places.now n)) }
 {
@@ -61,7 +66,7 @@ pub(crate) fn insn(
     let Some(owner) = places.owner(n) else {
         return Ok(insn);
     };
-    let next = after(alloc, places, n)?;
+    let next = after(alloc, places, originals, n)?;
     if !goes_on_behind(places, owner, next.as_slice()) {
         return Ok(insn);
     }

@@ -5,7 +5,9 @@ mod arrivals;
 mod arrive;
 mod behind;
 mod iret;
+mod lists;
 mod low;
+mod marks;
 mod pairs;
 
 pub use arrivals::PointArrivals;

@@ -1,11 +1,19 @@
-//! Entries of special sections as pairs of a place and one where it leads.
+//! Entries of special sections as places, and as pairs of a place and one where it leads.
 
 ghost use Rattle.std.specs.Prelude.{◌≡◌, IfOk};
-ghost use Rattle.point_arrivals.specs.Lists.{branch_pairs_of, fix_pairs_of};
+ghost use Rattle.point_arrivals.specs.Lists.{branch_pairs_of, fix_pairs_of, original_places_of};
 
 use ot_base::{NoMemory, Place};
-use special_sections::{BranchEntry, FixEntry};
+use special_sections::{AltEntry, BranchEntry, FixEntry};
 use std::alloc::Global;
+
+/// Where the original of each alternative begins.
+pub(crate) fn original_places(alloc: Global, entries: &[AltEntry]) -> Result<Vec<Place>, NoMemory>
+    ensures { IfOk result (λ places. places.items ≡ original_places_of entries.now) }
+{
+    let places = entries.iter().map(|entry| entry.original).collect(alloc)?;
+    Ok(places)
+}
 
 /// Where the code of each static branch leads.
 pub(crate) fn branch_pairs(

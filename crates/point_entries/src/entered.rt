@@ -42,7 +42,7 @@ pub fn entry_at(places: &PointPlaces<'_, '_, '_>, n: u32) -> Option<u32>
     let place = entered_place(places, n)?;
     if places.is_entry(place) {
         let variant = 0;
-        places.number_of(Point { place, variant })
+        places.number_by_guess(Point { place, variant }, n)
     } else {
         None
     }

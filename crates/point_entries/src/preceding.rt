@@ -92,5 +92,5 @@ pub fn previous(places: &PointPlaces<'_, '_, '_>, n: u32) -> Option<u32>
     let near = neighbour(places, n);
     let off = last_before(places.linked().texts(), point.place, near)?;
     let place = Place { off, ..point.place };
-    places.number_of(Point { place, variant: 0 })
+    places.number_by_guess(Point { place, variant: 0 }, n.saturating_sub(1))
 }

@@ -1,12 +1,20 @@
 -- The functions that start at a place: entries, and unchecked ones.
-use Rattle.std.proofs.Common.{◌≡◌, ℕ, Bool, true, false, not, ◌&&◌, List, Option, Some, None, if◌then◌else◌, refl, sym, ap, ◌∙◌}
+use Rattle.std.proofs.Common.{◌≡◌, ℕ, ◌<◌, Bool, true, false, not, eqb, ◌&&◌, List, length, map, Option, Some, None, if◌then◌else◌, refl, sym, ap, ◌∙◌, arith}
 use Rattle.std.specs.Prelude.{is_none, is_some, option_and_then, option_map}
+use Rattle.std.proofs.lemmas.Bool.{false≢true}
+use Rattle.std.proofs.lemmas.Bool.Decides.{nat_tests}
+use Rattle.std.proofs.lemmas.List.{get_or-map, length-map}
+use Rattle.std.proofs.lemmas.List.Folds.{list_any_at}
 use Rattle.ot_base.specs.declared.place.Place.{Place}
 use Rattle.elf_objects.specs.Elf.{Elf}
+use Rattle.elf_objects.proofs.LeastBelow.{none-least_below}
 use Rattle.symbols_relocs.specs.declared.function.Function.{Function}
-use Rattle.symbols_relocs.specs.Functions.{starts_at}
-use Rattle.symbols_relocs.specs.Lists.{symbol_of}
+use Rattle.symbols_relocs.specs.Functions.{is_function, is_symbol_at, start_of, starts_at}
+use Rattle.symbols_relocs.specs.Lists.{no_function, symbol_of, AreFunctions}
 use Rattle.symbols_relocs.specs.Parts.{owner_of, parent_of}
+use Rattle.symbols_relocs.specs.Places.{same_place}
+use Rattle.alternatives.proofs.Placed.{and_both}
+use Rattle.place_lists.specs.Places.{is_among as is_place_among}
 use Rattle.flow_defs.specs.Owners.{is_entry, is_entry_by, is_unchecked_owner, unchecked_start}
 
 -- the symbol of the function that an index looks up
@@ -48,3 +56,24 @@ unfolding unchecked_start
 unchecked_is o place f among starts is_among =
     ap (λ b. if b then Some f else None) is_among
     ∙ sym (ap (option_and_then (λ g. if is_unchecked_owner o (owner_of o g) then Some g else None)) starts)
+
+same_start : (a b c d : ℕ) → (eqb a c && eqb b d) ≡ true → (eqb c a && eqb d b) ≡ true
+same_start a b c d same = grind (arith, nat_tests)
+
+-- where a symbol of a function is, one of all functions starts
+start_listed : (o : Elf) (fs : List Function) (place : Place) (k : ℕ) → AreFunctions o fs → k < length o.symbols → is_symbol_at o place k ≡ true → is_place_among (map (λ (f : Function). f.start) fs) place ≡ true
+start_listed o fs place k all inside here =
+    let both = and_both (is_function o k) (same_place (start_of o k) place) here in
+    let f = all.all k inside both.0 in
+    let start = start_of o k in
+    let own : same_place place start ≡ true = same_start start.sec start.off place.sec place.off both.1 in
+    list_any_at (same_place place) (map (λ (g : Function). g.start) fs) f.0 no_function.start (omega (arith, f.1, length-map fs (λ (g : Function). g.start)))
+    (ap (same_place place) (get_or-map (λ (g : Function). g.start) fs f.0 no_function no_function.start f.1 ∙ f.2) ∙ own)
+
+-- so no function starts at a place that is not among the starts
+pub no_other_start : (o : Elf) (fs : List Function) (place : Place) → AreFunctions o fs → is_place_among (map (λ (f : Function). f.start) fs) place ≡ false → starts_at o place ≡ None
+no_other_start o fs place all other = none-least_below (is_symbol_at o place) (length o.symbols) (λ k inside. by k inside (is_symbol_at o place k) refl)
+  where
+    by : (k : ℕ) → k < length o.symbols → (b : Bool) → is_symbol_at o place k ≡ b → is_symbol_at o place k ≡ false
+    by k inside true here = absurd (false≢true (sym other ∙ start_listed o fs place k all inside here))
+    by k inside false here = here

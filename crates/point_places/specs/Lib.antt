@@ -1,1 +1,2 @@
 pub mod Unchecked
+pub mod Starts

@@ -1,18 +1,20 @@
 //! Points by their numbers.
 
-ghost use Rattle.std.specs.Prelude.{◌≡◌, ◌+◌, ◌<◌, length, nat_le, IfOk};
+ghost use Rattle.std.specs.Prelude.{◌≡◌, ◌+◌, ◌<◌, Some, length, nat_le, slice_get, IfOk, IfSome};
 ghost use Rattle.alternatives.specs.Points.{address_of_point};
 ghost use Rattle.jump_tables.specs.Texts.{is_boundary as is_a_boundary};
 ghost use Rattle.flow_defs.specs.Arrival.{decoded_insn as decoded_insn_of, is_padding as is_padding_at};
 ghost use Rattle.flow_defs.specs.Code.{alternatives_of, number_of as number_of_point, point_at, points_of_object, texts_of};
 ghost use Rattle.flow_defs.specs.Owners.{function_of_point, is_entry as is_an_entry, is_unchecked as is_unchecked_by, is_unchecked_point as is_unchecked_at, owner_of_point, unchecked_start as unchecked_starting_at};
 
+use crate::function_starts::list_starts;
 use crate::owner::{function_at, is_part, owner_at, owner_of};
 use crate::unchecked::{is_among, list_unchecked};
 use alternatives::Point;
 use object_code::Linked;
 use operation_defs::Insn;
 use ot_base::{NoMemory, Place};
+use place_lists::PlaceSet;
 use std::alloc::Global;
 use std::marker::Model;
 
@@ -22,18 +24,20 @@ use std::marker::Model;
 #[derive(Drop)]
 pub struct PointPlaces<'l, 'o, 'a> {
     linked: &'l Linked<'o, 'a>,
+    starts: PlaceSet,
     unchecked: Vec<u32>,
 }
 
 impl<'l, 'o, 'a> Model for PointPlaces<'l, 'o, 'a> {
     ghost use Rattle.flow_defs.specs.Coded.{Coded};
+    ghost use Rattle.point_places.specs.Starts.{AreStarts};
     ghost use Rattle.point_places.specs.Unchecked.{AreUnchecked};
 
     ghost Value = { Coded };
 
     ghost view = { λ p. p.linked.now };
 
-    ghost invariant = { λ p. AreUnchecked p.linked.now.elf p.unchecked.items };
+    ghost invariant = { λ p. AreStarts p.linked.now.elf p.starts × AreUnchecked p.linked.now.elf p.unchecked.items };
 }
 
 impl<'l, 'o, 'a> PointPlaces<'l, 'o, 'a> {
@@ -48,8 +52,13 @@ impl<'l, 'o, 'a> PointPlaces<'l, 'o, 'a> {
     ) -> Result<PointPlaces<'l, 'o, 'a>, NoMemory>
         ensures { IfOk result (λ places. places ≡ linked.now) }
     {
+        let starts = list_starts(alloc, linked.index())?;
         let unchecked = list_unchecked(alloc, linked)?;
-        Ok(PointPlaces { linked, unchecked })
+        Ok(PointPlaces {
+            linked,
+            starts,
+            unchecked,
+        })
     }
 
     /// The object with its code.
@@ -81,6 +90,17 @@ impl<'l, 'o, 'a> PointPlaces<'l, 'o, 'a> {
         self.linked.sites().number_of(point)
     }
 
+    /// The number of a point, found at once where it is the guessed one. A wrong guess costs time and nothing else.
+    pub fn number_by_guess(&self, point: Point, guess: u32) -> Option<u32>
+        ensures { result ≡ number_of_point self.now point }
+    {
+        let points = self.linked.sites().points();
+        if let Some(n) = guessed(points, point, guess) {
+            return Some(n);
+        }
+        self.number_of(point)
+    }
+
     /// Whether a place is a boundary: an instruction of a text section begins there.
     pub fn is_boundary(&self, place: Place) -> bool
         ensures { result ≡ is_a_boundary (texts_of self.now) place }
@@ -88,6 +108,19 @@ impl<'l, 'o, 'a> PointPlaces<'l, 'o, 'a> {
         let variant = 0;
         let plain = self.linked.sites().number_of(Point { place, variant });
         plain.is_some()
+    }
+
+    /// Whether a place is a boundary, told at once where the guessed point is the plain one there. A wrong guess costs time
+    /// and nothing else.
+    pub fn is_boundary_by_guess(&self, place: Place, guess: u32) -> bool
+        ensures { result ≡ is_a_boundary (texts_of self.now) place }
+    {
+        let variant = 0;
+        let points = self.linked.sites().points();
+        if let Some(_) = guessed(points, Point { place, variant }, guess) {
+            return true;
+        }
+        self.is_boundary(place)
     }
 
     /// The instruction of a point as it is decoded; of padding, the padding.
@@ -162,6 +195,9 @@ impl<'l, 'o, 'a> PointPlaces<'l, 'o, 'a> {
     pub fn unchecked_start(&self, place: Place) -> Option<u32>
         ensures { result ≡ unchecked_starting_at self.now.elf place }
     {
+        if !self.starts.contains(place) {
+            return None;
+        }
         let index = self.linked.index();
         let Some(function) = index.starts_at(place) else {
             return None;
@@ -177,6 +213,9 @@ impl<'l, 'o, 'a> PointPlaces<'l, 'o, 'a> {
     pub fn is_entry(&self, place: Place) -> bool
         ensures { result ≡ is_an_entry self.now.elf place }
     {
+        if !self.starts.contains(place) {
+            return false;
+        }
         let index = self.linked.index();
         let Some(function) = index.starts_at(place) else {
             return false;
@@ -194,4 +233,15 @@ fn is_behind(start: u64, len: u8, off: u64) -> bool
     ensures { result ≡ nat_le (start + len) off }
 {
     u128::from(start) + u128::from(len) <= u128::from(off)
+}
+
+/// A guessed number, where it is that of a point. Of any other nothing is told.
+fn guessed(points: &[Point], point: Point, guess: u32) -> Option<u32>
+    ensures { IfSome result (λ n. slice_get points.now n ≡ Some point) }
+{
+    let n = guess as usize;
+    if n < points.len() && points[n] == point {
+        return Some(guess);
+    }
+    None
 }

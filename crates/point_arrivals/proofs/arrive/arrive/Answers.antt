@@ -7,7 +7,7 @@ use Rattle.alternatives.specs.declared.point.Point.{Point}
 use Rattle.alternatives.specs.Numbers.{IsNumberOf}
 use Rattle.alternatives.specs.Points.{entries_from, first_of}
 use Rattle.flow_defs.specs.Code.{alternatives_of, points_of_object}
-use Rattle.point_arrivals.proofs.Arriving.{arrive_is, entries_inside, first_number, standing_at, standing_more}
+use Rattle.point_arrivals.proofs.Arriving.{arrive_is, entries_inside, first_number, no_original, standing_at, standing_more}
 use Rattle.point_arrivals.proofs.Numbers.{number_is}
 use Rattle.point_arrivals.proofs.arrive.arrive.Goals as goal
 
@@ -40,4 +40,14 @@ returns c =
     let all : ks ≡ entries_from (alternatives_of o) c.args.place = c.entries_at-entry-items.ensures ∙ ap (λ (es : List AltEntry). entries_from es c.args.place) entries in
     c.loop-entry.invariant
     ∙ ap (standing_at o c.args.place) (take_all c.loop-entry.entry-index ks (omega (arith, c.loop-entry-test.false)) ∙ all)
+    ∙ arrive_is o c.args.place
+
+pub returns-then-not-contains : goal.returns-then-not-contains
+returns-then-not-contains c =
+    let o : Coded = c.args.places.now in
+    let none : entries_from (alternatives_of o) c.args.place ≡ [] = no_original (alternatives_of o) c.args.place (sym (c.contains.ensures ∙ c.requires.same c.args.place) ∙ c.if-not-contains.true) in
+    c.in_ok-add.ensures
+    ∙ ap (λ (list : List ℕ). list ++ cons_option c.number_by_guess-plain.result []) c.new-points.ensures.items
+    ∙ ap (λ x. cons_option x []) c.number_by_guess-plain.ensures
+    ∙ ap (standing_at o c.args.place) (sym none)
     ∙ arrive_is o c.args.place

@@ -14,4 +14,4 @@ pub returns-in-None : goal.returns-in-None
 returns-in-None c =
     let o : Coded = c.args.places.now in
     IfOk-weaker c.arrive.result _ _ (λ v is.
-    is ∙ ap (arrive o) c.place_behind.ensures ∙ after_none o (point_at o c.args.n) (sym c.number_of_next.ensures ∙ c.in-None.is)) c.arrive.ensures
+    is ∙ ap (arrive o) c.place_behind-place.ensures ∙ after_none o (point_at o c.args.n) (sym c.number_of_next.ensures ∙ c.in-None.is)) c.arrive.ensures

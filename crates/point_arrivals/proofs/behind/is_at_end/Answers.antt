@@ -14,7 +14,7 @@ returns-then-is_none c =
     let o : Coded = c.args.places.now in
     let p : Point = point_at o c.args.n in
     let none : c.is_none.result ≡ is_none (number_of_next o p) = none_is c.number_of_next.result c.is_none.result c.is_none.ensures ∙ ap (λ x. is_none x) c.number_of_next.ensures in
-    ap not (c.is_boundary.ensures ∙ ap (is_boundary (texts_of o)) c.place_behind.ensures)
+    ap not (c.is_boundary_by_guess.ensures ∙ ap (is_boundary (texts_of o)) c.place_behind.ensures)
     ∙ ap (λ b. b && not (is_boundary (texts_of o) (place_behind o p))) (sym c.if-is_none.true ∙ none)
     ∙ at_end_is o p
 

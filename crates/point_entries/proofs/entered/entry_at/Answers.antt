@@ -11,10 +11,10 @@ returns-in_err-place-clause-entered c = λ names. program_enters c.args.places.n
 
 pub returns-then-is_entry-clause-is : goal.returns-then-is_entry-clause-is
 returns-then-is_entry-clause-is c =
-    enters_there c.args.places.now c.args.n c.entered_place.result c.entered_place.ensures c.in_ok-place.place c.number_of.result c.in_ok-place.was (sym c.is_entry.ensures ∙ c.if-is_entry.true) c.number_of.ensures
+    enters_there c.args.places.now c.args.n c.entered_place.result c.entered_place.ensures c.in_ok-place.place c.number_by_guess.result c.in_ok-place.was (sym c.is_entry.ensures ∙ c.if-is_entry.true) c.number_by_guess.ensures
 
 pub returns-then-is_entry-clause-entered : goal.returns-then-is_entry-clause-entered
-returns-then-is_entry-clause-entered c = λ names. program_enters c.args.places.now names c.args.n c.number_of.result (returns-then-is_entry-clause-is c)
+returns-then-is_entry-clause-entered c = λ names. program_enters c.args.places.now names c.args.n c.number_by_guess.result (returns-then-is_entry-clause-is c)
 
 pub returns-else-is_entry-clause-is : goal.returns-else-is_entry-clause-is
 returns-else-is_entry-clause-is c =

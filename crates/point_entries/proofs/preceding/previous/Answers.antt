@@ -43,6 +43,6 @@ returns c =
     let o : Coded = c.args.places.now in
     let p : Point = point_at o c.args.n in
     let plain : is_plain p ≡ true = eq-eqb p.variant 0 (ap (λ (q : Point). q.variant) (sym c.point-point.ensures) ∙ c.if-point-ne0.false) in
-    c.number_of.ensures
+    c.number_by_guess.ensures
     ∙ ap (λ (q : Point). number_of o (beside q.place c.in_ok-off.off)) c.point-point.ensures
     ∙ sym (last_before o p (numbered_point o c.args.n c.requires) plain c.last_before.result c.in_ok-off.off (searched o c.linked.result.now c.texts.result.now p c.point-point.result c.last_before.result c.linked.ensures c.texts.ensures.value c.point-point.ensures c.last_before.ensures) c.in_ok-off.was)

@@ -1,8 +1,9 @@
-use Rattle.std.proofs.Common.{◌≡◌, ℕ, List, ap, ◌∙◌}
+use Rattle.std.proofs.Common.{◌≡◌, ℕ, List, ap, sym, ◌∙◌}
 use Rattle.std.specs.Prelude.{is_some}
 use Rattle.elf_objects.specs.Elf.{Elf}
 use Rattle.flow_defs.specs.Coded.{Coded}
 use Rattle.symbols_relocs.specs.declared.function.Function.{Function}
+use Rattle.symbols_relocs.specs.Functions.{starts_at}
 use Rattle.symbols_relocs.specs.Lists.{symbol_of}
 use Rattle.symbols_relocs.specs.Parts.{parent_of}
 use Rattle.flow_defs.specs.Owners.{is_unchecked_owner}
@@ -34,4 +35,8 @@ returns c =
     checked_entry o.elf c.args.place f c.is_part.result c.is_among.result
     (start_known o.elf c.index-index.result.now.elf fs c.args.place c.starts_at.result c.in-Some.function same c.starts_at.ensures.symbol c.in-Some.is)
     (c.is_part.ensures ∙ ap (λ (e : Elf). is_some (parent_of e f)) same) c.if-is_part.false
-    (c.is_among.ensures ∙ ap (λ (list : List ℕ). is_among list (symbol_of c.functions.result.now c.in-Some.function)) c.deref.ensures.value ∙ ap (is_among c.self.inside.unchecked.items) read ∙ c.self.invariant.all f ∙ ap (λ (e : Coded). is_unchecked_owner e.elf f) c.self.view_is)
+    (c.is_among.ensures ∙ ap (λ (list : List ℕ). is_among list (symbol_of c.functions.result.now c.in-Some.function)) c.deref.ensures.value ∙ ap (is_among c.self.inside.unchecked.items) read ∙ c.self.invariant.1.all f ∙ ap (λ (e : Coded). is_unchecked_owner e.elf f) c.self.view_is)
+
+pub returns-then-not-contains : goal.returns-then-not-contains
+returns-then-not-contains c =
+    no_entry c.args.self.now.elf c.args.place (ap (λ (e : Coded). starts_at e.elf c.args.place) (sym c.self.view_is) ∙ c.self.invariant.0 c.args.place (sym c.contains.ensures ∙ c.if-not-contains.true))

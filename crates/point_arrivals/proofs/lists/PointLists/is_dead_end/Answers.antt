@@ -6,7 +6,7 @@ use Rattle.flow_defs.specs.Arrival.{ends_at, is_padding}
 use Rattle.flow_defs.specs.Code.{point_at}
 use Rattle.place_lists.specs.Places.{is_among}
 use Rattle.point_arrivals.proofs.Ending.{other_passes, padding_passes, unless_reached}
-use Rattle.point_arrivals.proofs.arrivals.PointArrivals.is_dead_end.Goals as goal
+use Rattle.point_arrivals.proofs.lists.PointLists.is_dead_end.Goals as goal
 
 pub returns-then-not-may_end : goal.returns-then-not-may_end
 returns-then-not-may_end c = other_passes c.args.self.now (point_at c.args.self.now c.args.n) c.may_end.result c.may_end.ensures c.if-not-may_end.true

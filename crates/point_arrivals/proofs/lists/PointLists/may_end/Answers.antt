@@ -6,7 +6,7 @@ use Rattle.alternatives.specs.declared.point.Point.{Point}
 use Rattle.flow_defs.specs.Arrival.{decoded_insn, ends_at, is_ud2}
 use Rattle.flow_defs.specs.Code.{point_at}
 use Rattle.place_lists.specs.Places.{is_among}
-use Rattle.point_arrivals.proofs.arrivals.PointArrivals.may_end.Goals as goal
+use Rattle.point_arrivals.proofs.lists.PointLists.may_end.Goals as goal
 
 pub returns-then-is_ud2 : goal.returns-then-is_ud2
 returns-then-is_ud2 c =

@@ -7,7 +7,7 @@ use Rattle.flow_defs.specs.Code.{point_at}
 use Rattle.place_lists.specs.Places.{targets_of}
 use Rattle.point_arrivals.specs.Lists.{fix_pairs_of}
 use Rattle.point_arrivals.proofs.Ending.{fixups_are}
-use Rattle.point_arrivals.proofs.arrivals.PointArrivals.fixups.Goals as goal
+use Rattle.point_arrivals.proofs.lists.PointLists.fixups.Goals as goal
 
 pub returns : goal.returns
 returns c =

@@ -4,7 +4,7 @@ use Rattle.flow_defs.specs.Arrival.{arrive}
 use Rattle.std.proofs.lemmas.Result.{IfOk-weaker}
 use Rattle.point_arrivals.proofs.Arriving.{arrive_inside}
 use Rattle.point_arrivals.proofs.Numbers.{IsNumber}
-use Rattle.point_arrivals.proofs.arrivals.PointArrivals.arrive.Goals as goal
+use Rattle.point_arrivals.proofs.lists.PointLists.arrive.Goals as goal
 
 pub returns-clause-known : goal.returns-clause-known
 returns-clause-known c =

@@ -7,7 +7,7 @@ use Rattle.flow_defs.specs.Code.{point_at}
 use Rattle.place_lists.specs.Places.{targets_of}
 use Rattle.point_arrivals.specs.Lists.{branch_pairs_of}
 use Rattle.point_arrivals.proofs.Ending.{targets_are}
-use Rattle.point_arrivals.proofs.arrivals.PointArrivals.static_targets.Goals as goal
+use Rattle.point_arrivals.proofs.lists.PointLists.static_targets.Goals as goal
 
 pub returns : goal.returns
 returns c =

@@ -5,7 +5,7 @@ use Rattle.flow_defs.specs.Code.{point_at}
 use Rattle.std.proofs.lemmas.Result.{IfOk-weaker}
 use Rattle.point_arrivals.proofs.Following.{after_inside}
 use Rattle.point_arrivals.proofs.Numbers.{IsNumber}
-use Rattle.point_arrivals.proofs.arrivals.PointArrivals.after.Goals as goal
+use Rattle.point_arrivals.proofs.lists.PointLists.after.Goals as goal
 
 pub returns-clause-known : goal.returns-clause-known
 returns-clause-known c =
