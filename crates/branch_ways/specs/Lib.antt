@@ -1,1 +1,2 @@
 pub mod Displacements
+pub mod Jumps

@@ -82,7 +82,7 @@ fn displaced_aim(
 /// Where the direct call or branch with this instruction at a point goes: to the target that its relocation and its
 /// displacement have. Code of a replacement without a relocation goes to a point of the same replacement, or, where it
 /// leads to that replacement's end, behind its site. Any other instruction goes to [`Target::Bad`].
-pub fn aim(places: &PointPlaces<'_, '_, '_>, n: u32, insn: Insn) -> Aim
+pub(crate) fn aim(places: &PointPlaces<'_, '_, '_>, n: u32, insn: Insn) -> Aim
     requires { n < length (points_of_object places.now) }
     ensures { result ≡ aim_of places.now (point_at places.now n) insn }
 {

@@ -1,29 +1,32 @@
--- Roles, dead ends, entries and edges, of one point more.
+-- Exits, dead ends, entries and edges, of one point more.
 use Rattle.std.proofs.Common.{◌≡◌, ℕ, ◌+◌, ◌^◌, ◌<◌, ◌≤◌, Bool, List, [], ◌∷◌, ◌++◌, Option, Some, None, All, length, get_or, inl, inr, refl, sym, ap, ◌∙◌, subst, arith, length-append}
 use Rattle.std.specs.Prelude.{◌↔◌, IfSome, slice_index, slice_range}
 use Rattle.std.proofs.lemmas.Bool.{cases_lt}
 use Rattle.std.proofs.lemmas.List.{get_or_append_left, get_or_push, length_push}
 use Rattle.std.proofs.lemmas.List.Elements.{All-append, All-nil, All-push}
+use Rattle.ot_base.specs.NameLists.{NameLists}
 use Rattle.flow_defs.specs.Coded.{Coded}
 use Rattle.program_defs.specs.declared.flow.Edge.{Edge}
-use Rattle.program_defs.specs.declared.flow.Role.{Role}
 use Rattle.flow_defs.specs.Arrival.{is_dead_end}
 use Rattle.flow_defs.specs.Code.{point_at}
 use Rattle.flow_defs.specs.Edges.{goes}
+use Rattle.flow_defs.specs.Program.{program_of}
 use Rattle.flow_defs.specs.Roles.{role_of}
+use Rattle.return_search.specs.declared.flow.Exit.{Exit}
+use Rattle.return_search.specs.Told.{exit_of}
 use Rattle.return_search.proofs.Ranges.{range_new, range_push}
 use Rattle.point_entries.specs.Entered.{IsEnteredAt}
-use Rattle.control_flow.specs.Listed.{AreDeadEnds, AreEdges, AreEntered, AreRoles, CallsPoint, IsPointIfAny, count_of}
+use Rattle.control_flow.specs.Listed.{AreDeadEnds, AreEdges, AreEntered, AreExits, ExitCallsPoint, IsPointIfAny, count_of}
 use Rattle.control_flow.proofs.Steps.{each_more}
 
-pub no_roles : (o : Coded) → AreRoles o [] 0
-no_roles o = record { long = refl; each = λ q d l. absurd (omega arith); known = All-nil (CallsPoint o) }
+pub no_exits : (o : Coded) (lists : NameLists) → AreExits o lists [] 0
+no_exits o lists = record { long = refl; each = λ q d l. absurd (omega arith); known = All-nil (ExitCallsPoint o) }
 
-pub roles_more : (o : Coded) (roles : List Role) (n : ℕ) (role : Role) → AreRoles o roles n → role ≡ role_of o (point_at o n) → CallsPoint o role → AreRoles o (roles ++ role ∷ []) (n + 1)
-roles_more o roles n role are here known = record {
-  long = omega (arith, length_push roles role, are.long);
-  each = each_more (λ q. role_of o (point_at o q)) roles role n are.long are.each here;
-  known = All-push (CallsPoint o) roles role are.known known;
+pub exits_more : (o : Coded) (lists : NameLists) (exits : List Exit) (n : ℕ) (exit : Exit) → AreExits o lists exits n → exit ≡ exit_of (program_of o lists) (role_of o (point_at o n)) → ExitCallsPoint o exit → AreExits o lists (exits ++ exit ∷ []) (n + 1)
+exits_more o lists exits n exit are here known = record {
+  long = omega (arith, length_push exits exit, are.long);
+  each = each_more (λ q. exit_of (program_of o lists) (role_of o (point_at o q))) exits exit n are.long are.each here;
+  known = All-push (ExitCallsPoint o) exits exit are.known known;
 }
 
 pub no_dead_ends : (o : Coded) → AreDeadEnds o [] 0

@@ -8,4 +8,6 @@ pub mod Numbering
 pub mod Equal
 pub mod Meant
 pub mod Making
+pub mod Going
+pub mod Settling
 pub mod Whole

@@ -1,8 +1,6 @@
 -- A flow that has what is listed of the points tells their program.
-use Rattle.std.proofs.Common.{◌≡◌, ℕ, ◌^◌, ◌<◌, Bool, true, false, cond, List, Some, None, All, Contains, length, map, get_or, sym, ap, ◌∙◌, subst, arith}
+use Rattle.std.proofs.Common.{◌≡◌, ℕ, ◌^◌, ◌<◌, Bool, true, false, cond, Some, None, All, Contains, length, get_or, sym, ap, ◌∙◌, subst, arith}
 use Rattle.std.specs.Prelude.{◌↔◌, slice_index}
-use Rattle.std.proofs.lemmas.List.{get_or-map, length-map}
-use Rattle.std.proofs.lemmas.List.Elements.{All-map, All-weaker}
 use Rattle.ot_base.specs.NameLists.{NameLists}
 use Rattle.flow_defs.specs.Coded.{Coded}
 use Rattle.program_defs.specs.declared.flow.Edge.{Edge}
@@ -18,7 +16,7 @@ use Rattle.return_search.specs.declared.flow.Exit.TheVariants as exits
 use Rattle.return_search.specs.declared.flow.Flow.{Flow}
 use Rattle.return_search.specs.Shape.{HasShape}
 use Rattle.return_search.specs.Told.{TellsFlow, exit_of, exit_at}
-use Rattle.control_flow.specs.Listed.{AreDeadEnds, AreEdges, AreEntered, AreRoles, CallsPoint, IsPointIfAny, count_of}
+use Rattle.control_flow.specs.Listed.{AreDeadEnds, AreEdges, AreEntered, AreExits, CallsPoint, ExitCallsPoint, IsPointIfAny, count_of}
 use Rattle.control_flow.proofs.Steps.{all_at}
 
 by_name : (b : Bool) (x y : Exit) (entry : ℕ) → (x ≡ exits.Calls entry → ⊥) → (y ≡ exits.Calls entry → ⊥) → cond b x y ≡ exits.Calls entry → ⊥
@@ -37,24 +35,20 @@ exit_calls p (roles.JumpOut sym) entry e = absurd (by_name (p.never_returns sym)
 exit_calls p roles.JumpAny entry e = absurd (let k : ⊥ = cc in k)
 exit_calls p roles.Switch entry e = absurd (let k : ⊥ = cc in k)
 
--- an exit calls a point, if it calls any entry
-abbrev ExitCallsPoint : Coded → Exit → Type 0
-ExitCallsPoint o x = (entry : ℕ) → x ≡ exits.Calls entry → entry < count_of o
+-- and where the entry that a role calls is a point, so is that which its exit calls
+pub exit_calls_point : (o : Coded) (p : Program) (role : Role) (exit : Exit) → exit ≡ exit_of p role → CallsPoint o role → ExitCallsPoint o exit
+exit_calls_point o p role exit is known entry e = known entry (exit_calls p role entry (sym is ∙ e))
 
-module _ (o : Coded) (lists : NameLists) (flow : Flow) (all_roles : List Role)
-    (are : AreRoles o all_roles (count_of o))
+module _ (o : Coded) (lists : NameLists) (flow : Flow)
     (edges : AreEdges o flow.starts.items flow.edges.items (count_of o))
-    (leave : flow.exits.items ≡ map (exit_of (program_of o lists)) all_roles)
+    (leave : AreExits o lists flow.exits.items (count_of o))
     (dead : AreDeadEnds o flow.dead_ends.items (count_of o))
     (entered : AreEntered o flow.entered.items (count_of o)) where
   pub flow_count : length flow.exits.items ≡ count_of o
-  flow_count = ap length leave ∙ (length-map all_roles (exit_of (program_of o lists)) ∙ are.long)
+  flow_count = leave.long
 
   exit_is : (q : ℕ) → q < count_of o → exit_of (program_of o lists) (role_of o (point_at o q)) ≡ exit_at flow q
-  exit_is q here =
-      ap (exit_of (program_of o lists)) (sym (are.each q roles.Plain here))
-      ∙ (sym (get_or-map (exit_of (program_of o lists)) all_roles q roles.Plain exits.Passes (omega (arith, are.long)))
-      ∙ ap (λ (xs : List Exit). get_or xs q exits.Passes) (sym leave))
+  exit_is q here = sym (leave.each q exits.Passes here)
 
   entered_is : (call entry q : ℕ) → IsPoint (program_of o lists) call → (program_of o lists).role call ≡ roles.CallIn entry → q < count_of o → Contains (entry_points (program_of o lists) entry) q ↔ (get_or flow.entered.items q None ≡ Some entry)
   unfolding program_of returning_graph graph_of
@@ -73,12 +67,6 @@ module _ (o : Coded) (lists : NameLists) (flow : Flow) (all_roles : List Role)
     entered = λ call entry q at calls here. entered_is call entry q at calls here;
   }
 
-  calls_points : All (ExitCallsPoint o) flow.exits.items
-  calls_points =
-      subst (All (ExitCallsPoint o)) (sym leave)
-      (All-map (ExitCallsPoint o) (exit_of (program_of o lists)) all_roles
-      (All-weaker (CallsPoint o) (λ role. ExitCallsPoint o (exit_of (program_of o lists) role)) (λ role known entry e. known entry (exit_calls (program_of o lists) role entry e)) all_roles are.known))
-
   pub has_shape : count_of o < 2 ^ 32 → HasShape flow
   has_shape few = record {
     few = omega (arith, flow_count, few);
@@ -88,7 +76,7 @@ module _ (o : Coded) (lists : NameLists) (flow : Flow) (all_roles : List Role)
     ascending = λ q l. edges.ascending q (omega (arith, flow_count));
     last = ap (slice_index flow.starts.items) flow_count ∙ edges.end;
     targets = subst (λ (n : ℕ). All (λ (e : Edge). e.to < n) flow.edges.items) (sym flow_count) edges.targets;
-    calls = λ q entry e. subst (λ (n : ℕ). entry < n) (sym flow_count) (all_at (ExitCallsPoint o) flow.exits.items exits.Passes q calls_points (λ other h. absurd (let k : ⊥ = cc in k)) entry e);
+    calls = λ q entry e. subst (λ (n : ℕ). entry < n) (sym flow_count) (all_at (ExitCallsPoint o) flow.exits.items exits.Passes q leave.known (λ other h. absurd (let k : ⊥ = cc in k)) entry e);
     entries = λ q entry e. subst (λ (n : ℕ). entry < n) (sym flow_count) (all_at (IsPointIfAny o) flow.entered.items None q entered.known (λ other h. absurd (let k : ⊥ = cc in k)) entry e);
     dead_ends = omega (arith, dead.long, flow_count);
     entered = omega (arith, entered.long, flow_count);

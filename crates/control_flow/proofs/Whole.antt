@@ -26,7 +26,7 @@ use Rattle.return_search.specs.Told.{TellsReturns}
 use Rattle.point_fields.specs.Owners.{IsOwnerBy}
 use Rattle.control_flow.specs.Listed.{count_of}
 use Rattle.control_flow.specs.Hinted.{AreHinted, IsHinted, IsMeant, IsUnhinted}
-use Rattle.control_flow.specs.Numbers.{AreNumbered}
+use Rattle.control_flow.specs.Numbers.{HaveNumbers}
 use Rattle.control_flow.specs.Points.{AreMade}
 use Rattle.control_flow.specs.Rares.{IsRareOf}
 use Rattle.control_flow.specs.Transfers.{IsTransferOf}
@@ -38,8 +38,8 @@ use Rattle.control_flow.proofs.Numbering.{numbered_at, numbered_inside}
 pub record AreParts (o : Coded) (lists : NameLists) (parts : GraphParts) (returns : Returns) (hinted_numbers : List (Option ℕ)) (rare_numbers transfer_numbers : List ℕ) : Type 0 where
   pub few : length parts.points.items < 2 ^ 32
   pub points : AreMade o parts.owners.items returns rare_numbers transfer_numbers parts.points.items (count_of o)
-  pub transfers : AreNumbered (IsTransferOf o returns) parts.transfers.items transfer_numbers (count_of o)
-  pub rares : AreNumbered (IsRareOf o hinted_numbers) parts.rares.items rare_numbers (count_of o)
+  pub transfers : HaveNumbers (IsTransferOf o returns) parts.transfers.items transfer_numbers (count_of o)
+  pub rares : HaveNumbers (IsRareOf o hinted_numbers) parts.rares.items rare_numbers (count_of o)
   pub hinted : AreHinted o parts.restores.items parts.hinted.items hinted_numbers (count_of o)
   pub returns_shape : HaveReturnShape (count_of o) returns
   pub returns_told : TellsReturns (program_of o lists) returns

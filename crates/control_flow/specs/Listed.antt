@@ -1,5 +1,6 @@
 -- What is listed of the points of an object, by their numbers.
 use Rattle.std.specs.Prelude.{◌≡◌, ◌↔◌, ◌+◌, ◌^◌, ◌<◌, ◌≤◌, ℕ, Bool, List, Option, Some, None, All, length, slice_index, slice_index_or, slice_range}
+use Rattle.ot_base.specs.NameLists.{NameLists}
 use Rattle.flow_defs.specs.Coded.{Coded}
 use Rattle.program_defs.specs.declared.flow.Edge.{Edge}
 use Rattle.program_defs.specs.declared.flow.Role.{Role}
@@ -7,7 +8,11 @@ use Rattle.program_defs.specs.declared.flow.Role.TheVariants.{CallIn}
 use Rattle.flow_defs.specs.Arrival.{is_dead_end}
 use Rattle.flow_defs.specs.Code.{point_at, points_of_object}
 use Rattle.flow_defs.specs.Edges.{goes}
+use Rattle.flow_defs.specs.Program.{program_of}
 use Rattle.flow_defs.specs.Roles.{role_of}
+use Rattle.return_search.specs.declared.flow.Exit.{Exit}
+use Rattle.return_search.specs.declared.flow.Exit.TheVariants.{Calls}
+use Rattle.return_search.specs.Told.{exit_of}
 use Rattle.point_entries.specs.Entered.{IsEnteredAt}
 
 -- how many points an object has
@@ -18,11 +23,15 @@ count_of o = length (points_of_object o)
 abbrev pub CallsPoint : Coded → Role → Type 0
 CallsPoint o role = (entry : ℕ) → role ≡ CallIn entry → entry < count_of o
 
--- the roles of the first n points
-pub record AreRoles (o : Coded) (roles : List Role) (n : ℕ) : Type 0 where
-  pub long : length roles ≡ n
-  pub each : (q : ℕ) (d : Role) → q < n → slice_index_or roles q d ≡ role_of o (point_at o q)
-  pub known : All (CallsPoint o) roles
+-- so is that which an exit calls
+abbrev pub ExitCallsPoint : Coded → Exit → Type 0
+ExitCallsPoint o exit = (entry : ℕ) → exit ≡ Calls entry → entry < count_of o
+
+-- what the first n points are to a return
+pub record AreExits (o : Coded) (lists : NameLists) (exits : List Exit) (n : ℕ) : Type 0 where
+  pub long : length exits ≡ n
+  pub each : (q : ℕ) (d : Exit) → q < n → slice_index_or exits q d ≡ exit_of (program_of o lists) (role_of o (point_at o q))
+  pub known : All (ExitCallsPoint o) exits
 
 -- whether execution never passes the first n points
 pub record AreDeadEnds (o : Coded) (dead_ends : List Bool) (n : ℕ) : Type 0 where

@@ -8,6 +8,11 @@ pub record IsNumbered {X : Type 0} (before after : List X) (x : X) (number : ℕ
   pub short : length after ≤ length before + 1
 
 -- each of the first n points has a record by its number, of which this holds
+pub record HaveNumbers {X : Type 0} (P : ℕ → X → Type 0) (records : List X) (numbers : List ℕ) (n : ℕ) : Type 0 where
+  pub long : length numbers ≡ n
+  pub each : (q : ℕ) → q < n → (x : X) × (slice_get records (slice_index numbers q) ≡ Some x) × P q x
+
+-- and where there are few: at most one for each of the points, and one more
 pub record AreNumbered {X : Type 0} (P : ℕ → X → Type 0) (records : List X) (numbers : List ℕ) (n : ℕ) : Type 0 where
   pub long : length numbers ≡ n
   pub some : 0 < length records

@@ -1,5 +1,5 @@
 -- Where control may go from the points of an object, beside their edges.
-use Rattle.std.specs.Prelude.{◌≡◌, ℕ, Bool, false, slice_index_or}
+use Rattle.std.specs.Prelude.{◌≡◌, ℕ, Bool, false, true, slice_index_or}
 use Rattle.flow_defs.specs.Coded.{Coded}
 use Rattle.flow_defs.specs.Code.{point_at}
 use Rattle.flow_defs.specs.Marks.{marks_of}
@@ -17,3 +17,7 @@ pub record IsTransfer (o : Coded) (q : ℕ) (comes_back : Bool) (x : Transfer) :
 -- and where that is told of all points
 abbrev pub IsTransferOf : Coded → Returns → ℕ → Transfer → Type 0
 IsTransferOf o returns q x = IsTransfer o q (slice_index_or returns.comes_back.items q false) x
+
+-- and where a call there can come back
+abbrev pub IsTransferIfBack : Coded → ℕ → Transfer → Type 0
+IsTransferIfBack o q x = IsTransfer o q true x

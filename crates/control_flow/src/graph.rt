@@ -7,11 +7,11 @@ ghost use Rattle.program_graph.specs.Shape.{HaveShape};
 ghost use Rattle.program_graph.specs.Tells.{Tells};
 
 use crate::hinted::{HintedList, list_hinted, restores_are_points};
-use crate::listed::list_roles;
+use crate::outgoing::{Outgoing, list_outgoing};
 use crate::points::list_points;
 use crate::rares::list_rares;
 use crate::returning::returns_of;
-use crate::transfers::list_transfers;
+use crate::transfers::settle_transfers;
 use flow_defs::FlowFault;
 use flow_faults::check_flow;
 use flow_points::FlowPoints;
@@ -36,9 +36,13 @@ fn parts_of(
 {
     let places = points.places();
     let object = places.linked().object();
-    let roles = list_roles(alloc, points)?;
-    let returns = returns_of(alloc, points, lists, &roles)?;
-    let transfer_list = list_transfers(alloc, points, roles, &returns)?;
+    let Outgoing {
+        edges,
+        exits,
+        transfers,
+    } = list_outgoing(alloc, points, lists)?;
+    let returns = returns_of(alloc, points, lists, edges, exits)?;
+    let transfer_list = settle_transfers(points, transfers, &returns)?;
     let hints = HintPoints::build(alloc, places)?;
     let HintedList { hinted, numbers } = list_hinted(alloc, places, &hints)?;
     let rare_list = list_rares(alloc, places, numbers)?;

@@ -1,13 +1,13 @@
 //! The control-flow graph of an object whose code is read.
 #![tactic(auto)]
 
-mod edges;
 mod graph;
 mod hinted;
 mod listed;
 mod low;
 mod numbers;
 mod order;
+mod outgoing;
 mod points;
 mod rares;
 mod returning;

@@ -1,9 +1,9 @@
-//! What the points are to their functions and to returns, by their numbers.
+//! What the points are to returns, by their numbers.
 
-ghost use Rattle.std.specs.Prelude.{◌≡◌, ◌<◌, IfOk, length, map};
+ghost use Rattle.std.specs.Prelude.{◌≡◌, IfOk};
 ghost use Rattle.flow_defs.specs.Program.{program_of};
 ghost use Rattle.return_search.specs.Told.{exit_of};
-ghost use Rattle.control_flow.specs.Listed.{AreDeadEnds, AreEntered, AreRoles, count_of};
+ghost use Rattle.control_flow.specs.Listed.{AreDeadEnds, AreEntered, count_of};
 
 use flow_points::FlowPoints;
 use object_code::Linked;
@@ -11,7 +11,6 @@ use ot_base::{Lists, NoMemory};
 use point_entries::entry_at;
 use point_fields::never_returns;
 use point_places::PointPlaces;
-use point_roles::role;
 use program_defs::Role;
 use return_search::Exit;
 use std::alloc::Global;
@@ -23,24 +22,8 @@ pub(crate) fn count_points(places: &PointPlaces<'_, '_, '_>) -> u32
     places.linked().sites().points().len() as u32
 }
 
-/// What the points are to their functions.
-pub(crate) fn list_roles(
-    alloc: Global,
-    points: &FlowPoints<'_, '_, '_>,
-) -> Result<Vec<Role>, NoMemory>
-    ensures { IfOk result (λ roles. AreRoles points.now roles.items (count_of points.now)) }
-{
-    let count = count_points(points.places());
-    let mut roles = Vec::with_capacity(alloc, count as usize)?;
-    for n in 0..count {
-        let insn = points.arrivals().insn(alloc, n)?;
-        roles.push(role(points, n, insn))?;
-    }
-    Ok(roles)
-}
-
 /// What a point with this role is to a return.
-fn exit(linked: &Linked<'_, '_>, lists: &Lists, role: Role) -> Exit
+pub(crate) fn exit(linked: &Linked<'_, '_>, lists: &Lists, role: Role) -> Exit
     ensures { result ≡ exit_of (program_of linked.now lists.now) role }
 {
     let object = linked.object();
@@ -64,23 +47,6 @@ fn exit(linked: &Linked<'_, '_>, lists: &Lists, role: Role) -> Exit
         Role::CallEither { .. } | Role::CallAny => Exit::CallsOut,
         Role::Plain | Role::Switch => Exit::Passes,
     }
-}
-
-/// What points with these roles are to a return.
-pub(crate) fn list_exits(
-    alloc: Global,
-    linked: &Linked<'_, '_>,
-    lists: &Lists,
-    roles: &[Role],
-) -> Result<Vec<Exit>, NoMemory>
-    ensures { IfOk result (λ exits. exits.items ≡ map (exit_of (program_of linked.now lists.now)) roles.now) }
-{
-    Ok(
-        roles
-            .iter()
-            .map(|role| exit(linked, lists, *role))
-            .collect(alloc)?,
-    )
 }
 
 /// Whether execution never passes the points.

@@ -1,19 +1,18 @@
 //! From which points a return may come.
 
-ghost use Rattle.std.specs.Prelude.{◌≡◌, IfOk};
+ghost use Rattle.std.specs.Prelude.{◌≡◌, ◌<◌, ◌^◌, IfOk};
 ghost use Rattle.flow_defs.specs.Program.{program_of};
 ghost use Rattle.return_search.specs.Shape.{HasShape, HaveShape, points_of};
 ghost use Rattle.return_search.specs.Told.{TellsFlow, TellsReturns};
-ghost use Rattle.control_flow.specs.Listed.{AreRoles, count_of};
+ghost use Rattle.control_flow.specs.Listed.{AreEdges, AreExits, count_of};
 
-use crate::edges::{EdgeList, list_edges};
-use crate::listed::{list_dead_ends, list_entered, list_exits};
+use crate::listed::{list_dead_ends, list_entered};
 use crate::order::object_is_in_order;
+use crate::outgoing::EdgeList;
 use flow_law::laws::program_is_one;
 use flow_points::FlowPoints;
 use ot_base::{Lists, NoMemory};
-use program_defs::Role;
-use return_search::{Flow, Returns, find_returns};
+use return_search::{Exit, Flow, Returns, find_returns};
 use std::alloc::Global;
 
 /// The edges of the points, and what they are to a return.
@@ -21,16 +20,18 @@ fn flow_of(
     alloc: Global,
     points: &FlowPoints<'_, '_, '_>,
     lists: &Lists,
-    roles: &[Role],
+    list: EdgeList,
+    exits: Vec<Exit>,
 ) -> Result<Flow, NoMemory>
-    requires { AreRoles points.now roles.now (count_of points.now) }
+    requires edges { AreEdges points.now list.starts.items list.edges.items (count_of points.now) }
+    requires exits { AreExits points.now lists.now exits.items (count_of points.now) }
+    requires few { count_of points.now < 2 ^ 32 }
     ensures told { IfOk result (TellsFlow (program_of points.now lists.now)) }
     ensures shape { IfOk result HasShape }
     ensures count { IfOk result (λ flow. points_of flow ≡ count_of points.now) }
 {
     let places = points.places();
-    let EdgeList { starts, edges } = list_edges(alloc, points)?;
-    let exits = list_exits(alloc, places.linked(), lists, roles)?;
+    let EdgeList { starts, edges } = list;
     let dead_ends = list_dead_ends(alloc, points)?;
     let entered = list_entered(alloc, places)?;
     Ok(Flow {
@@ -47,13 +48,16 @@ pub(crate) fn returns_of(
     alloc: Global,
     points: &FlowPoints<'_, '_, '_>,
     lists: &Lists,
-    roles: &[Role],
+    list: EdgeList,
+    exits: Vec<Exit>,
 ) -> Result<Returns, NoMemory>
-    requires { AreRoles points.now roles.now (count_of points.now) }
+    requires edges { AreEdges points.now list.starts.items list.edges.items (count_of points.now) }
+    requires exits { AreExits points.now lists.now exits.items (count_of points.now) }
+    requires few { count_of points.now < 2 ^ 32 }
     ensures shape { IfOk result (HaveShape (count_of points.now)) }
     ensures told { IfOk result (TellsReturns (program_of points.now lists.now)) }
 {
     program_is_one();
     object_is_in_order(points.places().linked());
-    find_returns(alloc, flow_of(alloc, points, lists, roles)?)
+    find_returns(alloc, flow_of(alloc, points, lists, list, exits)?)
 }

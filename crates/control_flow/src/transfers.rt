@@ -1,26 +1,30 @@
 //! Where control may go from the points, beside their edges.
 
-ghost use Rattle.std.specs.Prelude.{◌≡◌, ◌<◌, ◌^◌, IfOk, length};
+ghost use Rattle.std.specs.Prelude.{◌≡◌, ◌<◌, ◌^◌, ℕ, IfOk, false, length, true};
+ghost use Rattle.flow_defs.specs.Coded.{Coded};
+ghost use Rattle.flow_defs.specs.Arrival.{insn_of_object};
 ghost use Rattle.flow_defs.specs.Code.{point_at};
 ghost use Rattle.flow_defs.specs.Roles.{role_of};
+ghost use Rattle.flow_defs.specs.Targets.{aim as aim_of};
 ghost use Rattle.return_search.specs.Shape.{HaveShape};
-ghost use Rattle.control_flow.specs.Listed.{AreRoles, CallsPoint, count_of};
-ghost use Rattle.control_flow.specs.Numbers.{AreNumbered, IsNumbered};
-ghost use Rattle.control_flow.specs.Transfers.{IsTransfer, IsTransferOf};
+ghost use Rattle.branch_ways.specs.Jumps.{way_by};
+ghost use Rattle.control_flow.specs.Listed.{CallsPoint, count_of};
+ghost use Rattle.control_flow.specs.Numbers.{AreNumbered, HaveNumbers, IsNumbered};
+ghost use Rattle.control_flow.specs.Transfers.{IsTransfer, IsTransferIfBack, IsTransferOf};
 
-use crate::listed::count_points;
 use crate::numbers::number_of;
+use branch_ways::Branch;
 use flow_points::FlowPoints;
+use operation_defs::Insn;
 use ot_base::NoMemory;
 use point_fields::calls_fentry;
 use point_marks::marks;
 use program_defs::{Marks, Role};
 use program_graph::Transfer;
 use return_search::Returns;
-use std::alloc::Global;
 
 /// That of most points: they neither call nor leave their function, and nothing is wrong with where they go.
-const USUAL: Transfer = Transfer {
+pub(crate) const USUAL: Transfer = Transfer {
     role: Role::Plain,
     marks: Marks {
         bad: false,
@@ -31,29 +35,35 @@ const USUAL: Transfer = Transfer {
     calls_fentry: false,
 };
 
-/// That of a point with this role, where it is told whether a call there can come back.
-fn transfer_of(
-    alloc: Global,
+/// That of a point with this instruction and this role, whose direct call or branch goes there, where a call there can come
+/// back.
+pub(crate) fn transfer_of(
     points: &FlowPoints<'_, '_, '_>,
     n: u32,
+    insn: Insn,
+    branch: Branch,
     role: Role,
-    comes_back: bool,
-) -> Result<Transfer, NoMemory>
+) -> Transfer
     requires point { n < count_of points.now }
+    requires insn { insn ≡ insn_of_object points.now (point_at points.now n) }
+    requires aim { branch.to ≡ aim_of points.now (point_at points.now n) insn }
+    requires way { branch.way ≡ way_by points.now (point_at points.now n) insn insn.op }
     requires role { role ≡ role_of points.now (point_at points.now n) }
     requires known { CallsPoint points.now role }
-    ensures { IfOk result (IsTransfer points.now n comes_back) }
+    ensures { IsTransfer points.now n true result }
 {
-    let insn = points.arrivals().insn(alloc, n)?;
-    Ok(Transfer {
+    Transfer {
         role,
-        marks: marks(points, n, insn, comes_back),
+        marks: marks(points, n, insn, branch, true),
         calls_fentry: calls_fentry(points.places(), role),
-    })
+    }
 }
 
 /// The number of a transfer, which goes behind the others unless it is that of most points or the last.
-fn number_transfer(transfers: &mut Vec<Transfer>, transfer: Transfer) -> Result<u32, NoMemory>
+pub(crate) fn number_transfer(
+    transfers: &mut Vec<Transfer>,
+    transfer: Transfer,
+) -> Result<u32, NoMemory>
     requires some { 0 < length transfers.old.items }
     requires few { length transfers.old.items < 2 ^ 32 }
     ensures { IfOk result (IsNumbered transfers.old.items transfers.new.items transfer) }
@@ -70,25 +80,43 @@ pub(crate) struct TransferList {
     pub(crate) numbers: Vec<u32>,
 }
 
-/// The transfers of all points, with these roles.
-pub(crate) fn list_transfers(
-    alloc: Global,
+/// A transfer that is told where a call there can come back, where it can't.
+fn without_back(transfer: Transfer) -> Transfer
+    ensures { (o : Coded) (q : ℕ) → IsTransfer o q true transfer → IsTransfer o q false result }
+{
+    Transfer {
+        marks: Marks {
+            past_end: false,
+            ..transfer.marks
+        },
+        ..transfer
+    }
+}
+
+/// The transfers of all points, by those where every call can come back. 2^32 of them, which would take 80 GiB, are too many.
+pub(crate) fn settle_transfers(
     points: &FlowPoints<'_, '_, '_>,
-    roles: Vec<Role>,
+    list: TransferList,
     returns: &Returns,
 ) -> Result<TransferList, NoMemory>
-    requires roles { AreRoles points.now roles.items (count_of points.now) }
+    requires list { AreNumbered (IsTransferIfBack points.now) list.transfers.items list.numbers.items (count_of points.now) }
     requires returns { HaveShape (count_of points.now) returns.now }
-    ensures { IfOk result (λ list. AreNumbered (IsTransferOf points.now returns.now) list.transfers.items list.numbers.items (count_of points.now)) }
+    ensures { IfOk result (λ list. HaveNumbers (IsTransferOf points.now returns.now) list.transfers.items list.numbers.items (count_of points.now)) }
 {
-    let count = count_points(points.places());
-    let mut transfers = Vec::new(alloc);
-    transfers.push(USUAL)?;
-    let mut numbers = Vec::with_capacity(alloc, count as usize)?;
-    for n in 0..count {
-        let k = n as usize;
-        let transfer = transfer_of(alloc, points, n, roles[k], returns.comes_back[k])?;
-        numbers.push(number_transfer(&mut transfers, transfer)?)?;
+    let TransferList {
+        mut transfers,
+        mut numbers,
+    } = list;
+    for k in 0..numbers.len() {
+        if returns.comes_back[k] {
+            continue;
+        }
+        if transfers.len() > u32::MAX as usize {
+            return Err(NoMemory);
+        }
+        let transfer = transfers[numbers[k] as usize];
+        numbers[k] = transfers.len() as u32;
+        transfers.push(without_back(transfer))?;
     }
     Ok(TransferList { transfers, numbers })
 }

@@ -3,11 +3,13 @@
 ghost use Rattle.std.specs.Prelude.{◌≡◌, ◌<◌, ◌++◌, length, OnOk};
 ghost use Rattle.flow_defs.specs.Code.{point_at, points_of_object};
 ghost use Rattle.flow_defs.specs.Edges.{aim_edges, branch_edges_by, table_edges_by};
+ghost use Rattle.flow_defs.specs.Targets.{aim as aim_of};
+ghost use Rattle.branch_ways.specs.Jumps.{jump_way, way_by};
 
 use crate::owners::is_same_owner;
-use crate::ways::{push_entries, push_jump};
+use crate::ways::{push_entries, push_way};
 use alternatives::Point;
-use branch_ways::aim;
+use branch_ways::Branch;
 use flow_defs::Aim;
 use flow_points::FlowPoints;
 use operation_defs::{Insn, Op};
@@ -42,38 +44,41 @@ fn push_aim(
     alloc: Global,
     points: &FlowPoints<'_, '_, '_>,
     n: u32,
-    to: Aim,
+    branch: Branch,
     into: &mut Vec<Edge>,
 ) -> Result<(), NoMemory>
-    requires { n < length (points_of_object points.now) }
-    ensures { OnOk result (into.new.items ≡ into.old.items ++ aim_edges points.now (point_at points.now n) to) }
+    requires point { n < length (points_of_object points.now) }
+    requires way { branch.way ≡ jump_way points.now (point_at points.now n) branch.to }
+    ensures { OnOk result (into.new.items ≡ into.old.items ++ aim_edges points.now (point_at points.now n) branch.to) }
 {
-    match to {
+    match branch.to {
         Aim::At(Target::Inside(place) | Target::Either(place, _)) => {
-            push_jump(alloc, points, true, n, place, into)
+            push_way(alloc, points, n, place, branch.way, into)
         }
         Aim::At(_) => Ok(()),
         Aim::Within(other) => push_within(points, n, other, into),
-        Aim::Behind(place) => push_jump(alloc, points, false, n, place, into),
+        Aim::Behind(place) => push_way(alloc, points, n, place, branch.way, into),
     }
 }
 
-/// Pushes the edges of the direct jump at a point. Any other instruction has none.
+/// Pushes the edges of the direct jump at a point, which goes there. Any other instruction has none.
 pub(crate) fn push_branch(
     alloc: Global,
     points: &FlowPoints<'_, '_, '_>,
     n: u32,
     insn: Insn,
+    branch: Branch,
     into: &mut Vec<Edge>,
 ) -> Result<(), NoMemory>
-    requires { n < length (points_of_object points.now) }
+    requires point { n < length (points_of_object points.now) }
+    requires aim { branch.to ≡ aim_of points.now (point_at points.now n) insn }
+    requires way { branch.way ≡ way_by points.now (point_at points.now n) insn insn.op }
     ensures { OnOk result (into.new.items ≡ into.old.items ++ branch_edges_by points.now (point_at points.now n) insn insn.op) }
 {
-    if !matches!(insn.op, Op::Jmp { .. } | Op::Jcc { .. }) {
-        return Ok(());
+    match insn.op {
+        Op::Jmp { .. } | Op::Jcc { .. } => push_aim(alloc, points, n, branch, into),
+        _ => Ok(()),
     }
-    let to = aim(points.places(), n, insn);
-    push_aim(alloc, points, n, to, into)
 }
 
 /// Pushes the edges of the indirect jump with this operation through its table. Any other operation has none.

@@ -4,19 +4,22 @@ ghost use Rattle.std.specs.Prelude.{◌≡◌, ◌<◌, ◌++◌, length, All, O
 ghost use Rattle.flow_defs.specs.Arrival.{insn_of_object};
 ghost use Rattle.flow_defs.specs.Code.{point_at, points_of_object};
 ghost use Rattle.flow_defs.specs.Edges.{goes};
+ghost use Rattle.flow_defs.specs.Targets.{aim as aim_of};
+ghost use Rattle.branch_ways.specs.Jumps.{way_by};
 
 use crate::branches::{push_branch, push_table};
 use crate::next::push_next;
 use crate::ways::push_listed;
+use branch_ways::Branch;
 use flow_points::FlowPoints;
 use operation_defs::Insn;
 use ot_base::NoMemory;
 use program_defs::{Edge, EdgeKind};
 use std::alloc::Global;
 
-/// Pushes the edges of a point with this instruction: where execution goes on, those to what follows it, and then those
-/// of its direct jump, of the static branches at it, of its exception entries, and of its jump table. A point of an
-/// unchecked function has none.
+/// Pushes the edges of a point with this instruction, whose direct call or branch goes there: where execution goes on, those
+/// to what follows it, and then those of its direct jump, of the static branches at it, of its exception entries, and of its
+/// jump table. A point of an unchecked function has none.
 ///
 /// # Errors
 ///
@@ -26,10 +29,13 @@ pub fn push_edges(
     points: &FlowPoints<'_, '_, '_>,
     n: u32,
     insn: Insn,
+    branch: Branch,
     into: &mut Vec<Edge>,
 ) -> Result<(), NoMemory>
     requires point { n < length (points_of_object points.now) }
     requires insn { insn ≡ insn_of_object points.now (point_at points.now n) }
+    requires aim { branch.to ≡ aim_of points.now (point_at points.now n) insn }
+    requires way { branch.way ≡ way_by points.now (point_at points.now n) insn insn.op }
     ensures pushed { OnOk result (into.new.items ≡ into.old.items ++ goes points.now (point_at points.now n)) }
 
     // Edges lead to points.
@@ -39,7 +45,7 @@ pub fn push_edges(
         return Ok(());
     }
     push_next(alloc, points, n, insn, into)?;
-    push_branch(alloc, points, n, insn, into)?;
+    push_branch(alloc, points, n, insn, branch, into)?;
     let arrivals = points.arrivals();
     push_listed(
         alloc,

@@ -2,10 +2,10 @@
 
 ghost use Rattle.std.specs.Prelude.{◌≡◌, ◌<◌, ◌++◌, length, OnOk};
 ghost use Rattle.flow_defs.specs.Code.{point_at, points_of_object};
-ghost use Rattle.flow_defs.specs.Edges.{edges_to, jump_edges, listed_edges, way_edges};
+ghost use Rattle.flow_defs.specs.Edges.{edges_to, listed_edges, way_edges};
 ghost use Rattle.point_edges.specs.Entries.{entry_edges};
 
-use branch_ways::{branch_way, listed_way};
+use branch_ways::listed_way;
 use flow_defs::Way;
 use flow_points::FlowPoints;
 use ot_base::{NoMemory, Place};
@@ -24,7 +24,7 @@ pub(crate) fn push_to(kind: EdgeKind, numbers: &[u32], into: &mut Vec<Edge>) -> 
 }
 
 /// Pushes the edges along a way to a place.
-fn push_way(
+pub(crate) fn push_way(
     alloc: Global,
     points: &FlowPoints<'_, '_, '_>,
     n: u32,
@@ -43,23 +43,6 @@ fn push_way(
     }
     let numbers = points.arrivals().arrive(alloc, place)?;
     push_to(kind, numbers.as_slice(), into)
-}
-
-/// Pushes the edges of a direct jump to a place.
-pub(crate) fn push_jump(
-    alloc: Global,
-    points: &FlowPoints<'_, '_, '_>,
-    crosses: bool,
-    n: u32,
-    place: Place,
-    into: &mut Vec<Edge>,
-) -> Result<(), NoMemory>
-    requires { n < length (points_of_object points.now) }
-    ensures { OnOk result (into.new.items ≡ into.old.items ++ jump_edges points.now crosses (point_at points.now n) place) }
-{
-    let owner = points.places().owner(n);
-    let way = branch_way(points.places(), crosses, EdgeKind::Taken, owner, place);
-    push_way(alloc, points, n, place, way, into)
 }
 
 /// Pushes the edges of the static branches at a point, or of its exception entries.

@@ -3,13 +3,14 @@
 ghost use Rattle.std.specs.Prelude.{◌≡◌, ◌<◌, length, true};
 ghost use Rattle.alternatives.specs.Points.{is_point};
 ghost use Rattle.flow_defs.specs.Code.{alternatives_of, point_at, points_of_object, texts_of};
-ghost use Rattle.flow_defs.specs.Marks.{is_bad_by as is_bad_of_op, is_bad_call as is_bad_called, is_bad_call_of, is_bad_jump as is_bad_jumped, is_bad_jump_to as is_bad_jumped_to, is_bad_listed as is_bad_among};
+ghost use Rattle.flow_defs.specs.Marks.{is_bad_by as is_bad_of_op, is_bad_call as is_bad_called, is_bad_call_of, is_bad_jump as is_bad_jumped, is_bad_listed as is_bad_among};
 ghost use Rattle.flow_defs.specs.Targets.{aim as aim_of};
 ghost use Rattle.flow_defs.specs.Ways.{is_bad as is_bad_of};
+ghost use Rattle.branch_ways.specs.Jumps.{jump_way, way_by};
 
 use crate::owners::is_same_owner;
 use alternatives::Point;
-use branch_ways::{branch_way, listed_way};
+use branch_ways::{Branch, listed_way};
 use flow_defs::{Aim, Way};
 use flow_points::FlowPoints;
 use operation_defs::{Insn, Op};
@@ -55,23 +56,14 @@ fn is_bad_call(places: &PointPlaces<'_, '_, '_>, to: Aim) -> bool
     }
 }
 
-/// Whether a place is none to jump to from a point.
-fn is_bad_jump_to(places: &PointPlaces<'_, '_, '_>, crosses: bool, n: u32, place: Place) -> bool
-    requires { n < length (points_of_object places.now) }
-    ensures { result ≡ is_bad_jumped_to places.now crosses (point_at places.now n) place }
-{
-    let kind = EdgeKind::Taken;
-    is_bad(branch_way(places, crosses, kind, places.owner(n), place))
-}
-
-/// Whether a jump from a point by the target of its place goes to none to go to.
-fn is_bad_jump_target(places: &PointPlaces<'_, '_, '_>, n: u32, target: Target) -> bool
-    requires { n < length (points_of_object places.now) }
+/// Whether a jump from a point by the target of its place, to which it goes this way, goes to none to go to.
+fn is_bad_jump_target(places: &PointPlaces<'_, '_, '_>, n: u32, target: Target, way: Way) -> bool
+    requires point { n < length (points_of_object places.now) }
+    requires way { way ≡ jump_way places.now (point_at places.now n) (Aim.At target) }
     ensures { result ≡ is_bad_jumped places.now (point_at places.now n) (Aim.At target) }
 {
     match target {
-        Target::Inside(place) => is_bad_jump_to(places, true, n, place),
-        Target::Either(place, _) => is_bad_jump_to(places, true, n, place),
+        Target::Inside(_) | Target::Either(_, _) => is_bad(way),
         Target::Outside(_) | Target::ThunkIndirect | Target::ThunkReturn => false,
         Target::Bad => true,
     }
@@ -89,30 +81,36 @@ fn leaves_owner(places: &PointPlaces<'_, '_, '_>, n: u32, other: Point) -> bool
     }
 }
 
-/// Whether a jump with this instruction from a point, which goes `to` there, goes to a place that is none to go to.
-fn is_bad_jump(places: &PointPlaces<'_, '_, '_>, n: u32, insn: Insn, to: Aim) -> bool
+/// Whether a jump with this instruction from a point, which goes there, goes to a place that is none to go to.
+fn is_bad_jump(places: &PointPlaces<'_, '_, '_>, n: u32, insn: Insn, branch: Branch) -> bool
     requires point { n < length (points_of_object places.now) }
-    requires aim { to ≡ aim_of places.now (point_at places.now n) insn }
+    requires aim { branch.to ≡ aim_of places.now (point_at places.now n) insn }
+    requires way { branch.way ≡ jump_way places.now (point_at places.now n) branch.to }
     ensures { result ≡ is_bad_jumped places.now (point_at places.now n) (aim_of places.now (point_at places.now n) insn) }
 {
-    match to {
-        Aim::At(target) => is_bad_jump_target(places, n, target),
+    match branch.to {
+        Aim::At(target) => is_bad_jump_target(places, n, target, branch.way),
         Aim::Within(other) => leaves_owner(places, n, other),
-        Aim::Behind(place) => is_bad_jump_to(places, false, n, place),
+        Aim::Behind(_) => is_bad(branch.way),
     }
 }
 
-/// Whether the direct call or jump with this instruction at a point, which goes `to` there, goes to a place that is none to go
-/// to.
-pub(crate) fn is_bad_branch(points: &FlowPoints<'_, '_, '_>, n: u32, insn: Insn, to: Aim) -> bool
+/// Whether the direct call or jump with this instruction at a point, which goes there, goes to a place that is none to go to.
+pub(crate) fn is_bad_branch(
+    points: &FlowPoints<'_, '_, '_>,
+    n: u32,
+    insn: Insn,
+    branch: Branch,
+) -> bool
     requires point { n < length (points_of_object points.now) }
-    requires aim { to ≡ aim_of points.now (point_at points.now n) insn }
+    requires aim { branch.to ≡ aim_of points.now (point_at points.now n) insn }
+    requires way { branch.way ≡ way_by points.now (point_at points.now n) insn insn.op }
     ensures { result ≡ is_bad_of_op points.now (point_at points.now n) insn insn.op }
 {
     let places = points.places();
     match insn.op {
-        Op::Call { .. } => is_bad_call(places, to),
-        Op::Jmp { .. } | Op::Jcc { .. } => is_bad_jump(places, n, insn, to),
+        Op::Call { .. } => is_bad_call(places, branch.to),
+        Op::Jmp { .. } | Op::Jcc { .. } => is_bad_jump(places, n, insn, branch),
         _ => false,
     }
 }

@@ -6,11 +6,11 @@ ghost use Rattle.flow_defs.specs.Code.{point_at, points_of_object};
 ghost use Rattle.flow_defs.specs.Edges.{goes_on as goes_on_of};
 ghost use Rattle.flow_defs.specs.Marks.{marks_of};
 ghost use Rattle.flow_defs.specs.Targets.{aim as aim_of};
+ghost use Rattle.branch_ways.specs.Jumps.{way_by};
 
 use crate::inner::calls_into_function;
 use crate::targets::{has_bad_target, has_target_in_site};
-use branch_ways::aim;
-use flow_defs::Aim;
+use branch_ways::Branch;
 use flow_points::FlowPoints;
 use operation_defs::Insn;
 use point_edges::goes_on;
@@ -42,25 +42,25 @@ fn runs_past_end(points: &FlowPoints<'_, '_, '_>, n: u32, insn: Insn, comes_back
     is_at_end(points, n) && comes_behind(points, n, insn, comes_back)
 }
 
-/// Where the direct call or branch with this instruction at a point goes.
-fn aim_of_point(points: &FlowPoints<'_, '_, '_>, n: u32, insn: Insn) -> Aim
-    requires { n < length (points_of_object points.now) }
-    ensures { result ≡ aim_of points.now (point_at points.now n) insn }
-{
-    aim(points.places(), n, insn)
-}
-
-/// What is wrong with where a point with this instruction goes, where it is told whether a call there can come back.
-pub fn marks(points: &FlowPoints<'_, '_, '_>, n: u32, insn: Insn, comes_back: bool) -> Marks
+/// What is wrong with where a point with this instruction goes, whose direct call or branch goes there, where it is told
+/// whether a call there can come back.
+pub fn marks(
+    points: &FlowPoints<'_, '_, '_>,
+    n: u32,
+    insn: Insn,
+    branch: Branch,
+    comes_back: bool,
+) -> Marks
     requires point { n < length (points_of_object points.now) }
     requires insn { insn ≡ insn_of_object points.now (point_at points.now n) }
+    requires aim { branch.to ≡ aim_of points.now (point_at points.now n) insn }
+    requires way { branch.way ≡ way_by points.now (point_at points.now n) insn insn.op }
     ensures { result ≡ marks_of points.now (point_at points.now n) comes_back }
 {
-    let to = aim_of_point(points, n, insn);
     Marks {
-        bad: has_bad_target(points, n, insn, to),
+        bad: has_bad_target(points, n, insn, branch),
         past_end: runs_past_end(points, n, insn, comes_back),
-        into_site: has_target_in_site(points, n, insn, to),
-        into_function: calls_into_function(points, n, insn, to),
+        into_site: has_target_in_site(points, n, insn, branch),
+        into_function: calls_into_function(points, n, insn, branch.to),
     }
 }

@@ -8,8 +8,9 @@ ghost use Rattle.flow_defs.specs.Marks.{call_places, jump_places, jump_places_by
 ghost use Rattle.flow_defs.specs.Sites.{is_into_site as comes_into_site};
 ghost use Rattle.flow_defs.specs.Targets.{aim as aim_of};
 ghost use Rattle.flow_defs.specs.Ways.{is_along as is_along_of};
+ghost use Rattle.branch_ways.specs.Jumps.{jump_way, place_way, way_by};
 
-use branch_ways::{branch_way, listed_way};
+use branch_ways::{Branch, listed_way};
 use flow_defs::{Aim, Way};
 use flow_points::FlowPoints;
 use operation_defs::{Insn, Op};
@@ -58,36 +59,44 @@ fn call_aim_enters(places: &PointPlaces<'_, '_, '_>, n: u32, to: Aim) -> bool
     }
 }
 
-/// Whether a jump from a point to a place comes into a site.
-fn jump_enters(places: &PointPlaces<'_, '_, '_>, crosses: bool, n: u32, place: Place) -> bool
-    requires { n < length (points_of_object places.now) }
+/// Whether a jump that goes this way from a point to a place comes into a site. It may be one that `crosses`.
+fn jump_enters(
+    places: &PointPlaces<'_, '_, '_>,
+    crosses: bool,
+    n: u32,
+    place: Place,
+    way: Way,
+) -> bool
+    requires point { n < length (points_of_object places.now) }
+    requires way { way ≡ place_way places.now crosses (point_at places.now n) place }
     ensures { result ≡ list_any (comes_into_site places.now (point_at places.now n)) (jump_places_by places.now crosses (point_at places.now n) place) }
 {
-    let way = branch_way(places, crosses, EdgeKind::Taken, places.owner(n), place);
     is_along(way) && is_into_site(places, n, place)
 }
 
-/// Whether a jump from a point by the target of its place comes into a site.
-fn jump_target_enters(places: &PointPlaces<'_, '_, '_>, n: u32, target: Target) -> bool
-    requires { n < length (points_of_object places.now) }
+/// Whether a jump from a point by the target of its place, to which it goes this way, comes into a site.
+fn jump_target_enters(places: &PointPlaces<'_, '_, '_>, n: u32, target: Target, way: Way) -> bool
+    requires point { n < length (points_of_object places.now) }
+    requires way { way ≡ jump_way places.now (point_at places.now n) (Aim.At target) }
     ensures { result ≡ list_any (comes_into_site places.now (point_at places.now n)) (jump_places places.now (point_at places.now n) (Aim.At target)) }
 {
     match target {
-        Target::Inside(place) => jump_enters(places, true, n, place),
-        Target::Either(place, _) => jump_enters(places, true, n, place),
+        Target::Inside(place) => jump_enters(places, true, n, place, way),
+        Target::Either(place, _) => jump_enters(places, true, n, place, way),
         _ => false,
     }
 }
 
-/// Whether a jump from a point comes into a site. One inside its replacement doesn't.
-fn jump_aim_enters(places: &PointPlaces<'_, '_, '_>, n: u32, to: Aim) -> bool
-    requires { n < length (points_of_object places.now) }
-    ensures { result ≡ list_any (comes_into_site places.now (point_at places.now n)) (jump_places places.now (point_at places.now n) to) }
+/// Whether a jump from a point comes into a site, which goes there. One inside its replacement doesn't.
+fn jump_aim_enters(places: &PointPlaces<'_, '_, '_>, n: u32, branch: Branch) -> bool
+    requires point { n < length (points_of_object places.now) }
+    requires way { branch.way ≡ jump_way places.now (point_at places.now n) branch.to }
+    ensures { result ≡ list_any (comes_into_site places.now (point_at places.now n)) (jump_places places.now (point_at places.now n) branch.to) }
 {
-    match to {
-        Aim::At(target) => jump_target_enters(places, n, target),
+    match branch.to {
+        Aim::At(target) => jump_target_enters(places, n, target, branch.way),
         Aim::Within(_) => false,
-        Aim::Behind(place) => jump_enters(places, false, n, place),
+        Aim::Behind(place) => jump_enters(places, false, n, place, branch.way),
     }
 }
 
@@ -99,16 +108,22 @@ fn table_enters(places: &PointPlaces<'_, '_, '_>, n: u32, table: &[Place]) -> bo
     table.iter().any(|place| is_into_site(places, n, *place))
 }
 
-/// Whether the call or jump with this instruction at a point, which goes `to` there, comes into a site.
-pub(crate) fn branch_enters(points: &FlowPoints<'_, '_, '_>, n: u32, insn: Insn, to: Aim) -> bool
+/// Whether the call or jump with this instruction at a point, which goes there, comes into a site.
+pub(crate) fn branch_enters(
+    points: &FlowPoints<'_, '_, '_>,
+    n: u32,
+    insn: Insn,
+    branch: Branch,
+) -> bool
     requires point { n < length (points_of_object points.now) }
-    requires aim { to ≡ aim_of points.now (point_at points.now n) insn }
+    requires aim { branch.to ≡ aim_of points.now (point_at points.now n) insn }
+    requires way { branch.way ≡ way_by points.now (point_at points.now n) insn insn.op }
     ensures { result ≡ list_any (comes_into_site points.now (point_at points.now n)) (places_by points.now (point_at points.now n) insn insn.op) }
 {
     let places = points.places();
     match insn.op {
-        Op::Call { .. } => call_aim_enters(places, n, to),
-        Op::Jmp { .. } | Op::Jcc { .. } => jump_aim_enters(places, n, to),
+        Op::Call { .. } => call_aim_enters(places, n, branch.to),
+        Op::Jmp { .. } | Op::Jcc { .. } => jump_aim_enters(places, n, branch),
         Op::JmpInd { .. } => table_enters(places, n, points.table(n)),
         _ => false,
     }

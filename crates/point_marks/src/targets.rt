@@ -8,10 +8,11 @@ ghost use Rattle.flow_defs.specs.Edges.{fixups as fixups_of, static_targets as s
 ghost use Rattle.flow_defs.specs.Marks.{has_bad_target as has_a_bad_target, has_target_in_site as has_a_target_in_site, is_bad_listed as is_bad_among, listed_places};
 ghost use Rattle.flow_defs.specs.Sites.{is_into_site as comes_into_site};
 ghost use Rattle.flow_defs.specs.Targets.{aim as aim_of};
+ghost use Rattle.branch_ways.specs.Jumps.{way_by};
 
 use crate::bad::{is_bad_branch, is_bad_listed};
 use crate::sites::{branch_enters, listed_enter};
-use flow_defs::Aim;
+use branch_ways::Branch;
 use flow_points::FlowPoints;
 use operation_defs::Insn;
 use program_defs::EdgeKind;
@@ -27,14 +28,20 @@ fn has_bad_entry(points: &FlowPoints<'_, '_, '_>, n: u32) -> bool
         || is_bad_listed(places, EdgeKind::Fixup, n, arrivals.fixups(n))
 }
 
-/// Whether a target of a point with this instruction, which goes `to` there, is no place to go.
-pub(crate) fn has_bad_target(points: &FlowPoints<'_, '_, '_>, n: u32, insn: Insn, to: Aim) -> bool
+/// Whether a target of a point with this instruction, whose direct call or branch goes there, is no place to go.
+pub(crate) fn has_bad_target(
+    points: &FlowPoints<'_, '_, '_>,
+    n: u32,
+    insn: Insn,
+    branch: Branch,
+) -> bool
     requires point { n < length (points_of_object points.now) }
     requires insn { insn ≡ insn_of_object points.now (point_at points.now n) }
-    requires aim { to ≡ aim_of points.now (point_at points.now n) insn }
+    requires aim { branch.to ≡ aim_of points.now (point_at points.now n) insn }
+    requires way { branch.way ≡ way_by points.now (point_at points.now n) insn insn.op }
     ensures { result ≡ has_a_bad_target points.now (point_at points.now n) }
 {
-    is_bad_branch(points, n, insn, to) || has_bad_entry(points, n)
+    is_bad_branch(points, n, insn, branch) || has_bad_entry(points, n)
 }
 
 /// Whether a static branch or an exception entry at a point leads into a site.
@@ -48,18 +55,19 @@ fn has_entry_in_site(points: &FlowPoints<'_, '_, '_>, n: u32) -> bool
         || listed_enter(places, EdgeKind::Fixup, n, arrivals.fixups(n))
 }
 
-/// Whether a target of a point with this instruction, which goes `to` there, lies in a site, past its start, and the point is
-/// none of that site's original code.
+/// Whether a target of a point with this instruction, whose direct call or branch goes there, lies in a site, past its start,
+/// and the point is none of that site's original code.
 pub(crate) fn has_target_in_site(
     points: &FlowPoints<'_, '_, '_>,
     n: u32,
     insn: Insn,
-    to: Aim,
+    branch: Branch,
 ) -> bool
     requires point { n < length (points_of_object points.now) }
     requires insn { insn ≡ insn_of_object points.now (point_at points.now n) }
-    requires aim { to ≡ aim_of points.now (point_at points.now n) insn }
+    requires aim { branch.to ≡ aim_of points.now (point_at points.now n) insn }
+    requires way { branch.way ≡ way_by points.now (point_at points.now n) insn insn.op }
     ensures { result ≡ has_a_target_in_site points.now (point_at points.now n) }
 {
-    branch_enters(points, n, insn, to) || has_entry_in_site(points, n)
+    branch_enters(points, n, insn, branch) || has_entry_in_site(points, n)
 }

@@ -7,7 +7,6 @@ ghost use Rattle.flow_defs.specs.Roles.{call_of_target as call_of_target_of, cal
 ghost use Rattle.flow_defs.specs.Targets.{aim as aim_of};
 
 use alternatives::Point;
-use branch_ways::aim;
 use flow_defs::Aim;
 use operation_defs::Insn;
 use ot_base::Place;
@@ -78,12 +77,13 @@ fn call_within(places: &PointPlaces<'_, '_, '_>, point: Point) -> Role
     }
 }
 
-/// What the direct call with this instruction at a point is.
-pub(crate) fn call_role(places: &PointPlaces<'_, '_, '_>, n: u32, insn: Insn) -> Role
-    requires { n < length (points_of_object places.now) }
-    ensures { result ≡ call_role_of places.now (aim_of places.now (point_at places.now n) insn) }
+/// What the direct call with this instruction at a point is, which goes `to` there.
+pub(crate) fn call_role(places: &PointPlaces<'_, '_, '_>, n: u32, insn: Insn, to: Aim) -> Role
+    requires point { n < length (points_of_object places.now) }
+    requires aim { to ≡ aim_of places.now (point_at places.now n) insn }
+    ensures { result ≡ call_role_of places.now to }
 {
-    match aim(places, n, insn) {
+    match to {
         Aim::At(target) => call_of_target(places, target),
         Aim::Within(point) => call_within(places, point),
         Aim::Behind(place) => place_call(places, place, None),

@@ -7,6 +7,7 @@ use Rattle.program_graph.specs.declared.parts.Owner.{Owner}
 use Rattle.control_flow.specs.Listed.{count_of}
 use Rattle.control_flow.specs.Hinted.{AreHinted}
 use Rattle.control_flow.specs.Numbers.{AreNumbered}
+use Rattle.control_flow.proofs.Numbering.{have_numbers}
 use Rattle.control_flow.specs.Points.{AreMade}
 use Rattle.control_flow.specs.Rares.{IsRareOf}
 use Rattle.control_flow.proofs.Whole.{AreParts, parts_have_shape, parts_tell}
@@ -39,17 +40,17 @@ returns c =
     let object : c.object-object.result.now ≡ o.elf = c.object-object.ensures ∙ ap (λ (e : Coded). e.elf) (c.linked.ensures ∙ places) in
     let all_hinted : AreHinted o restores parts.hinted.items hinted (count_of o) = subst (λ (e : Coded). AreHinted e restores parts.hinted.items hinted (count_of e)) places c.in_ok-hinted.ensures in
     let all_rares : AreNumbered (IsRareOf o hinted) parts.rares.items rares (count_of o) = subst (λ (e : Coded). AreNumbered (IsRareOf e hinted) parts.rares.items rares (count_of e)) places c.in_ok-rare_list.ensures in
-    let same_rares : c.deref-2.result.now ≡ rares = cc in
-    let same_transfers : c.deref-3.result.now ≡ transfers = cc in
+    let same_rares : c.deref.result.now ≡ rares = cc in
+    let same_transfers : c.deref-2.result.now ≡ transfers = cc in
     let told : AreMade o c.in_ok-owners.owners.owners returned rares transfers made (count_of o) =
     subst (λ (ts : List ℕ). AreMade o c.in_ok-owners.owners.owners returned rares ts made (count_of o)) same_transfers
-    (subst (λ (rs : List ℕ). AreMade o c.in_ok-owners.owners.owners returned rs c.deref-3.result.now made (count_of o)) same_rares c.in_ok-made.ensures.made) in
+    (subst (λ (rs : List ℕ). AreMade o c.in_ok-owners.owners.owners returned rs c.deref-2.result.now made (count_of o)) same_rares c.in_ok-made.ensures.made) in
     let known : All (λ r. r < count_of o) restores = subst (λ (e : Coded). All (λ r. r < count_of e) restores) (c.in_ok-hints.ensures ∙ places) c.restores_are_points.ensures in
     let are : AreParts o lists parts returned hinted rares transfers = record {
       few = c.in_ok-made.ensures.few;
       points = subst (λ (ws : List Owner). AreMade o ws returned rares transfers made (count_of o)) (sym c.into_owners.ensures) told;
       transfers = c.in_ok-transfer_list.ensures;
-      rares = all_rares;
+      rares = have_numbers (IsRareOf o hinted) parts.rares.items rares (count_of o) all_rares;
       hinted = subst (λ (rs : List ℕ). AreHinted o rs parts.hinted.items hinted (count_of o)) (sym c.into_restores.ensures) all_hinted;
       returns_shape = c.in_ok-returns.ensures.shape;
       returns_told = c.in_ok-returns.ensures.told;
