@@ -5,3 +5,4 @@ pub mod Places
 pub mod Giving
 pub mod Rounds
 pub mod Numbered
+pub mod Short

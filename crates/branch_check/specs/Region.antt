@@ -1,5 +1,5 @@
 -- The state of a packed form, and a region as contracts see it.
-use Rattle.std.specs.Prelude.{ℕ, List, Some, None, ℤ, if◌then◌else◌}
+use Rattle.std.specs.Prelude.{ℕ, List, Some, None, ℤ, ◌≤ℤ◌, pos, negsuc, if◌then◌else◌}
 use Rattle.state_defs.specs.declared.state.State.{State}
 use Rattle.state_defs.specs.declared.state.State.TheVariants as states
 use Rattle.state_defs.specs.declared.state.Depth.TheVariants.{Known, AtLeast}
@@ -15,6 +15,10 @@ with_numbers (Regs full) depth fp home = states.Regs full depth
 
 abbrev pub state_of : PackedState → State
 state_of p = with_numbers p.shape p.depth p.fp p.home
+
+-- the number has 16 bits, and so has its negation
+abbrev pub IsShort : ℤ → Type 0
+IsShort n = (negsuc 32766 ≤ℤ n) × (n ≤ℤ pos 32767)
 
 -- the states by place from 0 on, and how many there is room for
 pub record RegionStates : Type 0 where

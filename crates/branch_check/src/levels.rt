@@ -1,6 +1,8 @@
 //! The states of points, level by level.
 
-ghost use Rattle.std.specs.Prelude.{◌≡◌, ◌+◌, ◌<◌, ℕ, [], None, All, Contains, IfOk, IsSome, length, replicate, slice_index, slice_set};
+ghost use Rattle.std.specs.Prelude.{◌≡◌, ◌+◌, ◌<◌, ◌↔◌, ℕ, [], None, Some, All, Contains, IfOk, IsSome, IsTrue, length, replicate, slice_index, slice_set, true};
+ghost use Rattle.state_defs.specs.Move.{has_near_numbers};
+ghost use Rattle.state_defs.specs.Row.{unfit_offset};
 ghost use Rattle.checker_defs.specs.Kept.{kept_or};
 ghost use Rattle.branch_check.specs.LevelStates.{LevelStates, after_offer, at, count_open};
 ghost use Rattle.branch_check.specs.Reached.{AreReached, kept_at, offered_at};
@@ -75,6 +77,36 @@ impl Levels {
         } else {
             None
         }
+    }
+
+    /// Whether a point keeps a state.
+    pub(crate) fn is_kept(&self, n: u32) -> bool
+        requires { n < length self.now.kept }
+        ensures { IsTrue result ↔ IsSome (at self.now.kept n) }
+    {
+        (self.places[n as usize] as usize) < self.kept
+    }
+
+    /// Whether a point keeps a state whose numbers have 16 bits, and so have the offsets of its row.
+    pub(crate) fn is_short(&self, n: u32) -> bool
+        requires { n < length self.now.kept }
+        ensures some { IsTrue result → IsSome (at self.now.kept n) }
+        ensures near { IsTrue result → (s : State) → at self.now.kept n ≡ Some s → has_near_numbers s ≡ true }
+        ensures fit { IsTrue result → (s : State) → at self.now.kept n ≡ Some s → unfit_offset s ≡ None }
+    {
+        let place = self.places[n as usize] as usize;
+        place < self.kept && self.states.is_short(place)
+    }
+
+    /// Whether two points keep states that are packed alike, so that they keep the same.
+    pub(crate) fn are_alike(&self, one: u32, other: u32) -> bool
+        requires one { one < length self.now.kept }
+        requires other { other < length self.now.kept }
+        ensures { IsTrue result → at self.now.kept one ≡ at self.now.kept other }
+    {
+        let place = self.places[one as usize] as usize;
+        let other_place = self.places[other as usize] as usize;
+        place < self.kept && other_place < self.kept && self.states.are_alike(place, other_place)
     }
 
     /// How many points are kept since the last level.

@@ -1,7 +1,9 @@
 //! A state in 32 bytes.
 
-ghost use Rattle.std.specs.Prelude.{◌≡◌};
-ghost use Rattle.branch_check.specs.Region.{state_of};
+ghost use Rattle.std.specs.Prelude.{◌≡◌, None, IsTrue, true};
+ghost use Rattle.state_defs.specs.Move.{has_near_numbers};
+ghost use Rattle.state_defs.specs.Row.{unfit_offset};
+ghost use Rattle.branch_check.specs.Region.{IsShort, state_of};
 
 use state_defs::{BpHome, Depth, EndKind, State};
 
@@ -29,6 +31,34 @@ pub(crate) struct PackedState {
 }
 
 const _: () = prove!(size_of::<PackedState>() == 32);
+
+/// Whether two shapes are the same one of a live state.
+fn are_live_alike(one: Shape, other: Shape) -> bool
+    ensures { IsTrue result → one ≡ other }
+{
+    match (one, other) {
+        (
+            Shape::Live {
+                at_least,
+                framed,
+                saved,
+            },
+            Shape::Live {
+                at_least: other_at_least,
+                framed: other_framed,
+                saved: other_saved,
+            },
+        ) => at_least == other_at_least && framed == other_framed && saved == other_saved,
+        (Shape::Live { .. } | Shape::Ended(_) | Shape::Regs { .. }, _) => false,
+    }
+}
+
+/// Whether a number and its negation have 16 bits.
+fn is_short(number: i64) -> bool
+    ensures { IsTrue result → IsShort number }
+{
+    -32767 <= number && number <= 32767
+}
 
 impl PackedState {
     /// A state in its packed form.
@@ -99,5 +129,35 @@ impl PackedState {
                 depth: self.depth,
             },
         }
+    }
+
+    /// A quick test whether two packed forms are those of the same live state.
+    pub(crate) fn is_alike(&self, other: &PackedState) -> bool
+        ensures { IsTrue result → state_of self.now ≡ state_of other.now }
+    {
+        if self.depth != other.depth {
+            return false;
+        }
+        if self.fp != other.fp {
+            return false;
+        }
+        if self.home != other.home {
+            return false;
+        }
+        are_live_alike(self.shape, other.shape)
+    }
+
+    /// Whether the numbers of a state have 16 bits, and so have the offsets of its row.
+    pub(crate) fn is_short(&self) -> bool
+        ensures near { IsTrue result → has_near_numbers (state_of self.now) ≡ true }
+        ensures fit { IsTrue result → unfit_offset (state_of self.now) ≡ None }
+    {
+        if !is_short(self.depth) {
+            return false;
+        }
+        if !is_short(self.fp) {
+            return false;
+        }
+        is_short(self.home)
     }
 }

@@ -1,6 +1,8 @@
 //! States by place, in a region that is reserved once.
 
-ghost use Rattle.std.specs.Prelude.{◌≡◌, ◌<◌, ◌++◌, ◌∷◌, [], IfOk, Some, length, slice_get, slice_set};
+ghost use Rattle.std.specs.Prelude.{◌≡◌, ◌<◌, ◌++◌, ◌∷◌, [], IfOk, IsTrue, None, Some, length, slice_get, slice_set, true};
+ghost use Rattle.state_defs.specs.Move.{has_near_numbers};
+ghost use Rattle.state_defs.specs.Row.{unfit_offset};
 ghost use Rattle.branch_check.specs.Region.{RegionStates};
 
 use crate::packed::PackedState;
@@ -49,6 +51,24 @@ impl Region {
         ensures { slice_get self.now.list place ≡ Some result }
     {
         self.packed[place].state()
+    }
+
+    /// Whether the numbers of the state at a place have 16 bits, and so have the offsets of its row.
+    pub(crate) fn is_short(&self, place: usize) -> bool
+        requires { place < length self.now.list }
+        ensures near { IsTrue result → (s : State) → slice_get self.now.list place ≡ Some s → has_near_numbers s ≡ true }
+        ensures fit { IsTrue result → (s : State) → slice_get self.now.list place ≡ Some s → unfit_offset s ≡ None }
+    {
+        self.packed[place].is_short()
+    }
+
+    /// Whether the states at two places are packed alike, so that they are the same.
+    pub(crate) fn are_alike(&self, one: usize, other: usize) -> bool
+        requires one { one < length self.now.list }
+        requires other { other < length self.now.list }
+        ensures { IsTrue result → slice_get self.now.list one ≡ slice_get self.now.list other }
+    {
+        self.packed[one].is_alike(&self.packed[other])
     }
 
     /// Puts a state at a place in place of the one there.

@@ -1,6 +1,8 @@
 //! How states spread over a program, level by level.
 
-ghost use Rattle.std.specs.Prelude.{◌≡◌, ◌≢◌, ◌+◌, ◌<◌, ℕ, [], None, All, IfOk, length};
+ghost use Rattle.std.specs.Prelude.{◌≡◌, ◌≢◌, ◌+◌, ◌<◌, ◌↔◌, ℕ, [], None, Some, All, IfOk, IsSome, IsTrue, length, true};
+ghost use Rattle.state_defs.specs.Move.{has_near_numbers};
+ghost use Rattle.state_defs.specs.Row.{unfit_offset};
 ghost use Rattle.program_defs.specs.Program.{Program, IsPoint};
 ghost use Rattle.program_defs.specs.IsProgram.{IsProgram, HintsStandAtPoints};
 ghost use Rattle.checker_defs.specs.Kept.{AreKeptStates, state_at};
@@ -181,6 +183,34 @@ impl Kept {
         ensures { result ≡ at self.now n }
     {
         self.levels.state(n)
+    }
+
+    /// Whether a point keeps a state.
+    pub fn is_kept(&self, n: u32) -> bool
+        requires { n < length self.now }
+        ensures { IsTrue result ↔ IsSome (at self.now n) }
+    {
+        self.levels.is_kept(n)
+    }
+
+    /// Whether a point keeps a state whose numbers have 16 bits. Then a move that leaves it as it is isn't refused, and the
+    /// offsets of its row fit the format.
+    pub fn is_short(&self, n: u32) -> bool
+        requires { n < length self.now }
+        ensures some { IsTrue result → IsSome (at self.now n) }
+        ensures near { IsTrue result → (s : State) → at self.now n ≡ Some s → has_near_numbers s ≡ true }
+        ensures fit { IsTrue result → (s : State) → at self.now n ≡ Some s → unfit_offset s ≡ None }
+    {
+        self.levels.is_short(n)
+    }
+
+    /// A quick test whether two points keep the same state: where it says so they do.
+    pub fn are_alike(&self, one: u32, other: u32) -> bool
+        requires one { one < length self.now }
+        requires other { other < length self.now }
+        ensures { IsTrue result → at self.now one ≡ at self.now other }
+    {
+        self.levels.are_alike(one, other)
     }
 
     /// How many different states are kept.

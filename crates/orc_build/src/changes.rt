@@ -1,9 +1,10 @@
 //! The rows that differ from the one before.
 
-ghost use Rattle.std.specs.Prelude.{◌≡◌, ◌≤◌, ◌<◌, [], IfOk, List, MatchOption, OnOk, length, slice_index_or, slice_range, true, false, ℕ};
+ghost use Rattle.std.specs.Prelude.{◌≡◌, ◌≤◌, ◌<◌, ◌-◌, [], IfOk, List, MatchOption, OnOk, length, slice_index_or, slice_range, true, false, ℕ};
 ghost use Rattle.ot_base.specs.declared.row.PlacedRow.{PlacedRow};
 ghost use Rattle.program_defs.specs.Program.{Program};
 ghost use Rattle.program_defs.specs.IsProgram.{IsLaidOut};
+ghost use Rattle.checker_defs.specs.Rows.{row_of_point};
 ghost use Rattle.program_graph.specs.Tells.{Tells};
 ghost use Rattle.branch_check.specs.LevelStates.{at};
 ghost use Rattle.site_points.specs.Sites.{IsIndexOf, is_before as is_lower};
@@ -13,7 +14,7 @@ ghost use Rattle.orc_build.specs.Fit.{Fit};
 
 use crate::row::{ZERO_ROW, row_or_zero};
 use branch_check::Kept;
-use ot_base::{NoMemory, Place, PlacedRow};
+use ot_base::{NoMemory, Place, PlacedRow, Row};
 use program_graph::Graph;
 use site_points::SiteIndex;
 use std::alloc::Global;
@@ -72,34 +73,47 @@ fn push_all(rows: &mut Vec<PlacedRow>, more: &[PlacedRow]) -> Result<(), NoMemor
     Ok(())
 }
 
-/// The row of a point of the object's code that begins one: outside sites each does, and the first of a site does
-/// where it isn't kept.
+/// The row of a point, which is mostly that of the one before.
+fn row_at(kept: &Kept, n: u32, before: Row) -> Row
+    requires inside { n < length kept.now }
+    requires fit { Fit (at kept.now) }
+    requires before { 0 < n → before ≡ row_of_point (at kept.now) (n - 1) }
+    ensures { result ≡ row_of_point (at kept.now) n }
+{
+    if n == 0 {
+        return row_or_zero(kept.state(n));
+    }
+    if kept.are_alike(n - 1, n) {
+        return before;
+    }
+    row_or_zero(kept.state(n))
+}
+
+/// The row of a point of the object's code that begins one, where the point has this row: outside sites each does, and the
+/// first of a site does where it isn't kept.
 fn plain_row(
     graph: &Graph,
     kept: &Kept,
     sites: &SiteIndex,
     near: &mut usize,
     n: u32,
+    row: Row,
 ) -> Option<PlacedRow>
     requires points { length kept.now ≡ length graph.now.parts.points.items }
     requires inside { n < length graph.now.parts.points.items }
-    requires fit { Fit (at kept.now) }
+    requires row { row ≡ row_of_point (at kept.now) n }
     ensures { (p : Program) → Tells p graph.now.parts → IsIndexOf p sites.now → IsLaidOut p → MatchOption result (BeginsRow p (at kept.now) n → ⊥) (λ row. BeginsRow p (at kept.now) n × (row ≡ row_from p (at kept.now) n)) }
 {
     if graph.variant(n) != 0 {
         return None;
     }
     let place = graph.place(n);
-    let state = kept.state(n);
     if let Some(site) = sites.find(place, near) {
-        if state.is_some() || site.start != place {
+        if kept.is_kept(n) || site.start != place {
             return None;
         }
     }
-    Some(PlacedRow {
-        place,
-        row: row_or_zero(state),
-    })
+    Some(PlacedRow { place, row })
 }
 
 /// The rows of points of the object's code and those in kept sites, in the order of their places and without those that
@@ -118,8 +132,10 @@ pub(crate) fn list_changes(
     let mut rows = Vec::new(alloc);
     let mut next = 0usize;
     let mut near = 0usize;
+    let mut row = ZERO_ROW;
     for n in 0..graph.points() {
-        if let Some(row) = plain_row(graph, kept, sites, &mut near, n) {
+        row = row_at(kept, n, row);
+        if let Some(row) = plain_row(graph, kept, sites, &mut near, n, row) {
             next = push_before(&mut rows, in_sites, next, row.place)?;
             push_change(&mut rows, row)?;
         }

@@ -5,10 +5,10 @@ ghost use Rattle.ot_files.specs.Causes.{raised};
 use crate::access::{FileError, Files};
 use crate::replacing::replace;
 use std::alloc::Global;
-use std::fs;
 use std::io::{ErrorKind, Read};
 use std::marker::Model;
 use std::rt::Files as SystemFiles;
+use std::{fs, io};
 
 /// The files of the system that a runtime reaches. They tell no content, and count each call that
 /// fails; a file that is missing or too long is no failure. A file gets new content in one step
@@ -62,8 +62,8 @@ impl<R: SystemFiles> Files for StdFiles<R> {
             Err(e) if e.kind() == ErrorKind::NotFound => return Err(FileError::Missing),
             Err(_) => return Err(self.fault()),
         };
-        let read = file.take(limit.saturating_add(1)).read_to_end(into);
-        let error = match read {
+        let mut reader = file.take(limit.saturating_add(1));
+        let error = match io::copy(&mut reader, into) {
             Ok(_) if into.len() as u64 <= limit => return Ok(()),
             Ok(_) => FileError::TooLong { limit },
             Err(e) if e.kind() == ErrorKind::OutOfMemory => FileError::NoMemory,

@@ -1,5 +1,5 @@
 -- What is told at points, by what is kept there.
-use Rattle.std.proofs.Common.{◌≡◌, ℕ, List, inl, inr, true, Option, Some, None, refl, sym, ap, ◌∙◌, subst}
+use Rattle.std.proofs.Common.{◌≡◌, ◌↔◌, ℕ, Bool, List, inl, inr, true, false, IsTrue, Option, Some, None, IsSome, refl, sym, ap, ◌∙◌, subst}
 use Rattle.std.specs.Prelude.{option_to_list}
 use Rattle.ot_base.specs.declared.warning.Warning.{Warning}
 use Rattle.program_defs.specs.declared.flow.EdgeKind.{EdgeKind}
@@ -12,6 +12,11 @@ use Rattle.branch_check.specs.LevelStates.{at}
 use Rattle.rule_check.specs.Gains.{Gains, bare_warning}
 use Rattle.rule_check.specs.PointWarns.{ArrivalWarns, IsBrought, KeptWarns, MismatchWarns, PointWarns, UnkeptWarns}
 use Rattle.rule_check.proofs.GainsLemmas.{gains_same}
+
+-- a test that says that there is no state
+pub none_of : (o : Option State) (b : Bool) → IsTrue b ↔ IsSome o → b ≡ false → o ≡ None
+none_of None b same h = refl
+none_of (Some s) b same h = let t : IsTrue b = same.1 refl in absurd (let z : ⊥ = cc in z)
 
 module _ (p : Program) (states : List (Option State)) (old new : List Warning) where
   -- where a state is kept, and none is restored

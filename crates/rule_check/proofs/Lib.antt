@@ -4,3 +4,4 @@ pub mod Consistency
 pub mod AllWarnings
 pub mod ByState
 pub mod WarningOrder
+pub mod QuietPoints

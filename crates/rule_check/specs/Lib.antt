@@ -4,3 +4,4 @@ pub mod PointWarns
 pub mod Telling
 pub mod Unframed
 pub mod Before
+pub mod Quiet

@@ -45,7 +45,7 @@ fn is_free(hint: Option<HintState>) -> bool
 }
 
 /// Whether an edge falls into a point of another owner.
-fn falls_out(graph: &Graph, n: u32, edge: Edge) -> bool
+pub(crate) fn falls_out(graph: &Graph, n: u32, edge: Edge) -> bool
     requires from { n < length graph.now.parts.points.items }
     requires to { edge.to < length graph.now.parts.points.items }
     ensures { (p : Program) → Tells p graph.now.parts → IsTrue result ↔ (edge.kind ≡ EdgeKind.Next × p.owner edge.to ≢ p.owner n) }

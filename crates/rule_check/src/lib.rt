@@ -6,6 +6,7 @@ mod exits;
 mod listing;
 mod numbers;
 mod points;
+mod quiet;
 mod sorting;
 mod unframed;
 mod unreached;

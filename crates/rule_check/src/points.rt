@@ -16,6 +16,7 @@ use crate::arrivals::push_edge;
 use crate::exits::{push_marks, push_operation, push_role};
 use crate::listing::{bare_warning, is_restore, push, push_if};
 use crate::numbers::push_row;
+use crate::quiet::is_quiet;
 use branch_check::Kept;
 use ot_base::rules::{FUNCTION_WITHOUT_SIZE, RESTORE_WITHOUT_SAVE};
 use ot_base::{NoMemory, Place, Warning};
@@ -84,6 +85,9 @@ fn push_point(graph: &Graph, kept: &Kept, into: &mut Vec<Warning>, n: u32) -> Re
     requires point { n < length graph.now.parts.points.items }
     ensures { OnOk result ((p : Program) → Checks p graph.now.parts kept.now → Gains into.old.items into.new.items (PointWarns p kept.now n)) }
 {
+    if is_quiet(graph, kept, n) {
+        return Ok(());
+    }
     match kept.state(n) {
         Some(state) => push_kept(graph, kept, into, n, state),
         None => push_unkept(graph, into, n),

@@ -49,10 +49,10 @@ fn is_unreached(graph: &Graph, kept: &Kept, n: u32) -> bool
     if n >= graph.points() {
         return false;
     }
-    match kept.state(n) {
-        None => is_telling(graph, n),
-        Some(_) => false,
+    if kept.is_kept(n) {
+        return false;
     }
+    is_telling(graph, n)
 }
 
 /// Whether a point is an instruction that isn't reached, and what is right before it of its function isn't one.

@@ -28,6 +28,16 @@ fn holds(site: &Site, place: Place) -> bool
         && u128::from(place.off) < u128::from(start.off) + u128::from(site.len)
 }
 
+/// Whether a place lies behind a site, in the same section.
+fn is_behind(site: &Site, place: Place) -> bool
+    ensures start { IsTrue result → is_lower place site.now.start ≡ false }
+    ensures outside { IsTrue result → is_held site.now place ≡ false }
+{
+    site.start.sec == place.sec
+        && site.start.off <= place.off
+        && place.off - site.start.off >= site.len
+}
+
 /// How many of these begin at a place or before it.
 fn count_to(sites: &[Site], place: Place) -> usize
     requires { AreIndexed sites.now }
@@ -90,6 +100,24 @@ fn site_before(sites: &[Site], place: Place, count: usize) -> Option<Site>
     }
 }
 
+/// A quick test whether a place lies between two sites that follow each other, of which the later one has this number: where it
+/// says so, the place is in no site.
+fn lies_between(sites: &[Site], place: Place, near: usize) -> bool
+    requires { AreIndexed sites.now }
+    ensures { IsTrue result → AreApart sites.now → (site : Site) → Contains sites.now site → is_held site place ≡ false }
+{
+    if near == 0 {
+        return false;
+    }
+    if near >= sites.len() {
+        return false;
+    }
+    if !is_behind(&sites[near - 1], place) {
+        return false;
+    }
+    is_before(place, sites[near].start)
+}
+
 /// Sites by place, for quick look-up. Contracts see it as the list of them.
 #[derive(Drop)]
 pub struct SiteIndex {
@@ -141,6 +169,17 @@ impl SiteIndex {
     /// `near` is any number. Where it is the one that the last look-up left there, and no site begins between that one's place and
     /// this one, nothing is searched.
     pub fn find(&self, place: Place, near: &mut usize) -> Option<Site>
+        ensures held { IfSome result (λ site. Contains self.now site × (is_held site place ≡ true)) }
+        ensures none { AreApart self.now → IfNone result ((site : Site) → Contains self.now site → is_held site place ≡ false) }
+    {
+        if lies_between(self.sites.as_slice(), place, *near) {
+            return None;
+        }
+        self.search(place, near)
+    }
+
+    /// The same by a search, but where no site begins between the last one's place and this one.
+    fn search(&self, place: Place, near: &mut usize) -> Option<Site>
         ensures held { IfSome result (λ site. Contains self.now site × (is_held site place ≡ true)) }
         ensures none { AreApart self.now → IfNone result ((site : Site) → Contains self.now site → is_held site place ≡ false) }
     {

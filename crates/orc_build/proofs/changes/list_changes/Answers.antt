@@ -1,9 +1,10 @@
 -- Point after point, with the rows in sites before it.
-use Rattle.std.proofs.Common.{◌≡◌, ℕ, true, false, pos, List, [], get_or, drop, sym, ap, subst, ◌∙◌, arith}
+use Rattle.std.proofs.Common.{◌≡◌, ◌<◌, ◌+◌, ◌-◌, ℕ, true, false, pos, List, [], get_or, drop, sym, ap, subst, ◌∙◌, arith}
 use Rattle.std.specs.Prelude.{slice_range}
 use Rattle.std.proofs.lemmas.List.{take_rest}
 use Rattle.ot_base.specs.declared.place.Place.{Place}
 use Rattle.ot_base.specs.declared.row.PlacedRow.{PlacedRow}
+use Rattle.checker_defs.specs.Rows.{row_of_point}
 use Rattle.branch_check.specs.LevelStates.{at}
 use Rattle.site_points.specs.Sites.{is_before}
 use Rattle.orc_build.specs.Changes.{add_all, after_row}
@@ -17,6 +18,7 @@ none = record { place = record { sec = 0; off = 0 }; row = record { sp_offset = 
 
 pub loop-n-init : goal.loop-n-init
 loop-n-init c = record {
+  row = λ some. absurd (let z : 0 < 0 = some in omega (arith, z));
   within = omega arith;
   merged = λ p checked index rows. ([], none_so_far p (at c.args.kept.now) c.args.in_sites.now, c.new-rows.ensures.items);
 }
@@ -26,12 +28,14 @@ loop-n-preserved c =
     let in_sites : List PlacedRow = c.args.in_sites.now in
     let n : ℕ = c.loop-n.n in
     let next : ℕ = c.loop-n.next in
+    let here : c.row_at-row.result ≡ row_of_point (at c.args.kept.now) (n + 1 - 1) = c.row_at-row.ensures ∙ ap (row_of_point (at c.args.kept.now)) (let e : n ≡ n + 1 - 1 = omega arith in e) in
     elim c.match-plain_row.branch [
       | in-Some+in_ok-next+in_ok-push_change w ↦
           let rows_is = w.rows-is in
           let next_is = w.next-is in
           let end : ℕ = w.in_ok-next.next in
           rw (rows_is, next_is) (record {
+            row = λ _. here;
             within = w.in_ok-next.ensures.within;
             merged = λ p checked index rows.
                 let row = w.in-Some.ensures p checked.tells index checked.laid in
@@ -55,6 +59,7 @@ loop-n-preserved c =
           let rows_is = w.rows-is in
           let next_is = w.next-is in
           rw (rows_is, next_is) (record {
+            row = λ _. here;
             within = c.loop-n.invariant.within;
             merged = λ p checked index rows.
                 let h = c.loop-n.invariant.merged p checked index rows in

@@ -2,8 +2,15 @@
 use Rattle.std.proofs.Common.{◌≡◌, Some, None, sym, ◌∙◌}
 use Rattle.std.proofs.lemmas.Result.{on_ok_weaker}
 use Rattle.branch_check.specs.LevelStates.{at}
+use Rattle.rule_check.specs.PointWarns.{PointWarns}
+use Rattle.rule_check.proofs.GainsLemmas.{gains_none}
+use Rattle.rule_check.proofs.QuietPoints.{quiet_warns_nothing}
 use Rattle.rule_check.proofs.ByState.{point_kept, point_unkept}
 use Rattle.rule_check.proofs.points.push_point.Goals as goal
+
+pub returns-then-is_quiet : goal.returns-then-is_quiet
+returns-then-is_quiet c p ch =
+    gains_none c.args.into.now.items (PointWarns p c.args.kept.now c.args.n) (λ w. quiet_warns_nothing p c.args.kept.now c.args.n w (c.is_quiet.ensures c.if-is_quiet.true p ch.tells))
 
 pub returns-in-Some : goal.returns-in-Some
 returns-in-Some c = on_ok_weaker c.push_kept.result (λ h p ch.

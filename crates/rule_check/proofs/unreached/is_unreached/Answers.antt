@@ -1,22 +1,23 @@
 -- A point that keeps no state, and one that keeps one.
-use Rattle.std.proofs.Common.{◌≡◌, Some, None, sym, ◌∙◌, arith}
+use Rattle.std.proofs.Common.{◌≡◌, None, IsSome, arith}
 use Rattle.program_defs.specs.Program.{IsPoint}
 use Rattle.branch_check.specs.LevelStates.{at}
 use Rattle.rule_check.proofs.Consistency.{not_kept, has_none}
+use Rattle.rule_check.proofs.ByState.{none_of}
 use Rattle.rule_check.proofs.unreached.is_unreached.Goals as goal
 
-pub returns-in-None-clause-unreached : goal.returns-in-None-clause-unreached
-returns-in-None-clause-unreached c p ch =
+pub returns-clause-unreached : goal.returns-clause-unreached
+returns-clause-unreached c p ch =
     let same = c.is_telling.ensures p ch.tells in
-    let none : at c.args.kept.now c.args.n ≡ None = sym c.state.ensures ∙ c.in-None.is in
+    let none : at c.args.kept.now c.args.n ≡ None = none_of _ _ c.is_kept.ensures c.if-is_kept.false in
     let point : IsPoint p c.args.n = omega (arith, c.if-n-points.false, c.points.ensures.points, ch.tells.count) in (
       λ h. let k = same.0 h in record { point = point; plain = k.plain; function = k.function; inside = k.inside; checked = k.checked; telling = k.telling; not_kept = not_kept p c.args.graph.now.parts c.args.kept.now ch c.args.n none },
       λ u. same.1 (record { plain = u.plain; function = u.function; inside = u.inside; checked = u.checked; telling = u.telling }),
     )
 
-pub returns-in-Some-clause-unreached : goal.returns-in-Some-clause-unreached
-returns-in-Some-clause-unreached c p ch = (
+pub returns-then-is_kept-clause-unreached : goal.returns-then-is_kept-clause-unreached
+returns-then-is_kept-clause-unreached c p ch = (
   λ h. absurd (let z : ⊥ = cc in z),
   λ u. absurd (let none : at c.args.kept.now c.args.n ≡ None = has_none p c.args.graph.now.parts c.args.kept.now ch c.args.n u.not_kept in
-      let some : at c.args.kept.now c.args.n ≡ Some c.in-Some.field-0 = sym c.state.ensures ∙ c.in-Some.is in let z : ⊥ = cc in z),
+      let some : IsSome (at c.args.kept.now c.args.n) = c.is_kept.ensures.0 c.if-is_kept.true in let z : ⊥ = grind arith in z),
 )
