@@ -3,16 +3,17 @@
 # lines, what is written, and its rows by `dump`.
 #   made-up-objects.sh [COUNT [SEED [PROGRAM]]]
 # COUNT is 1000 and SEED is 1 where they aren't given; PROGRAM is what tools/build.sh builds. The same COUNT and SEED make the same objects.
-# KEPT names the folder in which objects with different answers are kept. OBJECTS names a folder of real objects, NAME.o, that are
+# PYTHON names the interpreter, python3 where it isn't given: pypy3 is several times as fast. KEPT names the folder in which objects with different answers are kept. OBJECTS names a folder of real objects, NAME.o, that are
 # changed by lot too. Ends with status 1 where an answer is different. Skipped where a
 # tool is missing.
 set -eu
 . "$(dirname "$0")/prepare.sh"
-needs "made-up objects" python3
+python=${PYTHON:-python3}
+needs "made-up objects" "$python"
 count=${1:-1000} seed=${2:-1} program=${3:-}
 kept=${KEPT:-${TMPDIR:-/tmp}/made-up-objects}
 cd "$root"
 [ -n "$program" ] || program=$(tools/build.sh)
 export PYTHONDONTWRITEBYTECODE=1
-python3 tools/model/worked.py
-python3 tools/model/made_up.py "$program" "$count" "$seed" "$kept" ${OBJECTS:+"$OBJECTS"}
+"$python" tools/model/worked.py
+"$python" tools/model/made_up.py "$program" "$count" "$seed" "$kept" ${OBJECTS:+"$OBJECTS"}

@@ -34,9 +34,9 @@ class Answer(NamedTuple):
     written: Optional[bytes] = None
 
 
-def graph_of(object: Object, names: Names) -> Flow:
-    """The control-flow graph of the object's code. Raises Refused."""
-    code = Code(object)
+def graph_of(object: Object, names: Names, whole: bool = False) -> Flow:
+    """The control-flow graph of the object's code, which the base map or the whole one reads. Raises Refused."""
+    code = Code(object, whole)
     entries = special.read(object)
     functions = Functions(object)
     sites = Sites(code, entries)
@@ -66,7 +66,7 @@ def check_or_refuse(data: bytes, options: Options, names_file: Optional[bytes]) 
             raise Refused(f"{name} is longer than {LONGEST_FILE} bytes")
     names = Names(names_file or b"")
     object = elf.parse(data)
-    flow = graph_of(object, names)
+    flow = graph_of(object, names, options.all_opcodes)
     refuse_known_sections(object)
     kept = kept_states(flow)
     warnings = broken_rules(flow, kept, options)
@@ -80,7 +80,8 @@ def check_or_refuse(data: bytes, options: Options, names_file: Optional[bytes]) 
 
 
 def options_of(words: list[str]) -> Options:
-    return Options(**{name: f"--{name}" in words for name in ("fp", "retpoline", "rethunk", "uaccess")}, unreachable="--no-unreachable" not in words)
+    given = {name: f"--{name}" in words for name in ("fp", "retpoline", "rethunk", "uaccess")}
+    return Options(**given, unreachable="--no-unreachable" not in words, all_opcodes="--all-opcodes" in words)
 
 
 def read_file(path: str) -> bytes:

@@ -9,11 +9,11 @@ from texts import Refused, place_text
 
 
 class Code:
-    def __init__(self, object: Object):
+    def __init__(self, object: Object, whole: bool = False):
         self.object = object
         self.insns: dict[int, dict[int, Insn]] = {}
         for sec in object.texts:
-            self.insns[sec], fault = read_text(object.sections[sec].body)
+            self.insns[sec], fault = read_text(object.sections[sec].body, whole)
             if fault is not None:
                 raise Refused(fault_text(object, Place(sec, fault[0]), fault[1]))
         self.boundaries = {sec: list(insns) for sec, insns in self.insns.items()}

@@ -1,13 +1,14 @@
-"""Checks the objects of a folder by the model, and compares with the answers that are expected: kernel_objects.py FOLDER.
+"""Checks the objects of a folder by the model, and compares with the answers that are expected:
+kernel_objects.py FOLDER [--all-opcodes].
 
-FOLDER is as tools/kernel-objects.sh takes it: objects/NAME.o, expected/NAME.status and NAME.lines, and linux-rows/NAME.rows, whose
+With --all-opcodes the expected answers stand in expected-all-opcodes. FOLDER is as tools/kernel-objects.sh takes it: objects/NAME.o, expected/NAME.status and NAME.lines, and linux-rows/NAME.rows, whose
 rows are those of accepted objects but for `.altinstr_aux`.
 """
 
 import os
 import sys
 
-from check import DONE, check, read_file
+from check import DONE, check, options_of, read_file
 
 
 def lines_of(path: str) -> list[str]:
@@ -18,12 +19,13 @@ def without_aux(rows: list[str]) -> list[str]:
     return [row for row in rows if not row.startswith(".altinstr_aux+")]
 
 
-def main(folder: str) -> int:
+def main(folder: str, *words: str) -> int:
+    wanted = f"{folder}/expected{'-all-opcodes' if words else ''}"
     right, rows_right, different = 0, 0, 0
     for file in sorted(os.listdir(f"{folder}/objects")):
         name = file.removesuffix(".o")
-        answer = check(read_file(f"{folder}/objects/{file}"))
-        expected = int(read_file(f"{folder}/expected/{name}.status")), lines_of(f"{folder}/expected/{name}.lines")
+        answer = check(read_file(f"{folder}/objects/{file}"), options_of(list(words)))
+        expected = int(read_file(f"{wanted}/{name}.status")), lines_of(f"{wanted}/{name}.lines")
         if (answer.status, answer.lines) == expected:
             right += 1
         else:

@@ -24,7 +24,7 @@ from program import Program, Run, differences, is_well_formed
 from soup import soup
 from worked import WORKED
 
-OPTIONS = ("fp", "no-unreachable", "retpoline", "rethunk", "uaccess")
+OPTIONS = ("fp", "no-unreachable", "retpoline", "rethunk", "uaccess", "all-opcodes")
 LARGE = 20_000
 NAMES_FILES = [
     b"noreturn stop_here\nuaccess safe_one\n",

@@ -1,18 +1,20 @@
-"""The opcode map: what may stand behind the prefixes of an instruction.
+"""The opcode maps: what may stand behind the prefixes of an instruction.
 
-It has three parts: one byte, `0F` and a byte, `0F 38` and a byte. What isn't in the map is outside. It is a cut of the Intel SDM's volume 2,
-appendix A, as docs/OPCODES.md says.
+The base map has three parts: one byte, `0F` and a byte, `0F 38` and a byte. The whole map has more of them, and more parts
+(`extension.py`). What isn't in the map is outside. Both are cuts of the Intel SDM's volume 2, appendix A, as docs/OPCODES.md says.
 """
 
 from functools import lru_cache
 from typing import NamedTuple, Optional
+
+from extension import lines_at
 
 
 class Entry(NamedTuple):
     """What stands behind an opcode: E any ModRM, Em one of memory, Er one of a register, none; then an immediate.
 
     `writes` are the registers that are written: m the one of ModRM's rm field (where that is a register), r that of its reg field,
-    o that of the opcode's low three bits; a b behind one marks byte registers.
+    o that of the opcode's low three bits, v that of the vvvv of VEX or EVEX; a b behind one marks byte registers.
     """
 
     operand: str = ""
@@ -21,7 +23,7 @@ class Entry(NamedTuple):
 
 
 class Prefixes(NamedTuple):
-    """The prefixes that decide what is in the map: 66, 67, F2 and F3."""
+    """The prefixes that decide what is in the map: 66, 67, F2 and F3. Behind VEX and EVEX 66, F2 and F3 are told by pp."""
 
     opsize: bool = False
     addrsize: bool = False
@@ -223,9 +225,10 @@ def operand_fits(entry: Entry, modrm: int) -> bool:
     return entry.operand == "E" or (entry.operand == "Er") == is_register(modrm)
 
 
-@lru_cache(maxsize=None)
-def lookup(prefixes: Prefixes, number: int, opcode: int):
-    """What is in map `number` (1, 2, or 3 for `0F 38`): None, an Entry without ModRM, or the entries of the ModRM bytes that fit."""
+def base_lookup(prefixes: Prefixes, number: int, opcode: int):
+    """What is in map `number` of the base map, in the form of `lookup`."""
+    if number > 3:
+        return None
     if number == 3:
         found = {modrm: three_byte_entry(opcode, modrm, prefixes) for modrm in range(256)}
     elif number == 2 and opcode in BY_MODRM:
@@ -244,13 +247,31 @@ def lookup(prefixes: Prefixes, number: int, opcode: int):
             found[modrm] = entry if entry is not None and operand_fits(entry, modrm) else None
     if number != 3:
         found = {modrm: None if refused_by_prefix(prefixes, number, opcode, modrm) else entry for modrm, entry in found.items()}
-    found = {modrm: entry for modrm, entry in found.items() if entry is not None}
-    return found or None
+    return {modrm: entry for modrm, entry in found.items() if entry is not None} or None
+
+
+def added_lookup(prefixes: Prefixes, number: int, opcode: int):
+    """What the whole map has more, in the form of `lookup`."""
+    standing = {"6": prefixes.opsize, "3": prefixes.rep, "2": prefixes.repne}
+    lines = lines_at(number, opcode, frozenset(name for name, there in standing.items() if there))
+    for line in lines:
+        if line.modrms is None:
+            return Entry("", line.imm)
+    return {modrm: Entry("E", line.imm, line.writes) for line in lines for modrm in line.modrms or ()} or None
 
 
 @lru_cache(maxsize=None)
-def map_has_some(prefixes: Prefixes, number: int) -> bool:
+def lookup(prefixes: Prefixes, number: int, opcode: int, whole: bool):
+    """What is in map `number` (1, 2, 3 for `0F 38`, 4 for `0F 3A`, 5 to 12 behind VEX and EVEX): None, an Entry without ModRM, or the
+    entries of the ModRM bytes that fit."""
+    found = base_lookup(prefixes, number, opcode)
+    added = added_lookup(prefixes, number, opcode) if whole else None
+    return {**found, **added} if isinstance(found, dict) and isinstance(added, dict) else found or added
+
+
+@lru_cache(maxsize=None)
+def map_has_some(prefixes: Prefixes, number: int, whole: bool) -> bool:
     """Whether any instruction with these prefixes is in the map, so that the bytes which lead to it begin a spelling."""
-    if number == 2 and map_has_some(prefixes, 3):
+    if number == 2 and (map_has_some(prefixes, 3, whole) or map_has_some(prefixes, 4, whole)):
         return True
-    return any(lookup(prefixes, number, opcode) is not None for opcode in range(256))
+    return any(lookup(prefixes, number, opcode, whole) is not None for opcode in range(256))

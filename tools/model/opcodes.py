@@ -1,15 +1,19 @@
 """Instructions: reading one off the front of some bytes, and its operation: what it does to rsp, rbp and the flow of control.
 
 A spelling of an instruction is: legacy prefixes in any number and order, at most one REX prefix, the opcode (one byte, `0F` and
-a byte, or `0F 38` and a byte), ModRM with SIB and displacement where the opcode has them, and the immediate. What follows the
-prefixes is told by the opcode map.
+a byte, `0F 38` or `0F 3A` and a byte), ModRM with SIB and displacement where the opcode has them, and the immediate. In the whole
+map VEX or EVEX and a byte may stand in the place of the opcode, without REX, 66, F2, F3 and F0. What follows the prefixes is told by
+the opcode map.
 """
 
 from typing import NamedTuple, Optional
 
+from extension import EVEX_MAPS, VEX_MAPS
 from opcode_map import Entry, Prefixes, lookup, map_has_some
 
 LEGACY = {0x66, 0x67, 0x2E, 0x36, 0x3E, 0x26, 0x64, 0x65, 0xF0, 0xF2, 0xF3}
+# Which map an opcode leads to.
+ESCAPES = {(1, 0x0F): 2, (2, 0x38): 3, (2, 0x3A): 4}
 LONGEST = 15
 RSP, RBP = 4, 5
 
@@ -64,12 +68,22 @@ class Reader:
         return Stop(Fault("outside", self.at))
 
 
+class Vector(NamedTuple):
+    """VEX or EVEX: the bits W, R, X and B as those of REX, the register of vvvv, the prefix that pp stands for, the map that follows."""
+
+    bits: int
+    vvvv: int
+    pp: int
+    map: int
+
+
 class Spelling(NamedTuple):
     """The parts of a spelling that decide its operation."""
 
     prefixes: Prefixes
     segment: bool  # 64 or 65 is among the prefixes
     rex: Optional[int]
+    vector: Optional[Vector]
     map: int
     opcode: int
     entry: Entry
@@ -81,8 +95,8 @@ class Spelling(NamedTuple):
     length: int
 
     def rex_bit(self, bit: int) -> int:
-        """REX.W is bit 3, R is 2, X is 1, B is 0."""
-        return (self.rex or 0) >> bit & 1
+        """REX.W is bit 3, R is 2, X is 1, B is 0; or those of VEX or EVEX."""
+        return (self.vector.bits if self.vector else self.rex or 0) >> bit & 1
 
     @property
     def wide(self) -> bool:
@@ -113,7 +127,30 @@ class Spelling(NamedTuple):
         return (self.opcode & 7) + 8 * self.rex_bit(0)
 
 
-def read_spelling(code: bytes, start: int) -> Spelling:
+def vector_of(bits: int, last: int, map: int) -> Vector:
+    """By R, X and B, which are inverted in the byte's upper bits, and the byte W vvvv L pp."""
+    return Vector((bits >> 5 & 7 ^ 7) | (last >> 7) << 3, 15 - (last >> 3 & 15), last & 3, map)
+
+
+def read_vector(reader: Reader, first: int) -> Vector:
+    """VEX or EVEX, which this byte begins."""
+    if first == 0xC5:
+        last = reader.byte()
+        # It has neither W nor X and B.
+        return vector_of(last | 0x60, last & 0x7F, VEX_MAPS[1])
+    bits = reader.byte()
+    map = VEX_MAPS.get(bits & 0x1F) if first == 0xC4 else EVEX_MAPS.get(bits & 0x0F)
+    if map is None:
+        raise reader.outside()
+    last = reader.byte()
+    if first == 0x62:
+        if not last & 4:
+            raise reader.outside()
+        reader.byte()
+    return vector_of(bits, last, map)
+
+
+def read_spelling(code: bytes, start: int, whole: bool) -> Spelling:
     """The spelling that stands there. Raises Stop."""
     reader = Reader(code, start)
     seen = set()
@@ -124,13 +161,20 @@ def read_spelling(code: bytes, start: int) -> Spelling:
     prefixes = Prefixes(0x66 in seen, 0x67 in seen, 0xF2 in seen, 0xF3 in seen)
     rex = byte if 0x40 <= byte <= 0x4F else None
     opcode = byte if rex is None else reader.byte()
-    number = 1
-    while (number, opcode) in ((1, 0x0F), (2, 0x38)):
-        number += 1
-        if not map_has_some(prefixes, number):
+    number, vector = 1, None
+    if whole and opcode in (0xC4, 0xC5, 0x62) and rex is None and not seen & {0x66, 0xF0, 0xF2, 0xF3}:
+        vector = read_vector(reader, opcode)
+        prefixes = Prefixes(vector.pp == 1, prefixes.addrsize, vector.pp == 3, vector.pp == 2)
+        number = vector.map
+        if not map_has_some(prefixes, number, whole):
             raise reader.outside()
         opcode = reader.byte()
-    found = lookup(prefixes, number, opcode)
+    while (number, opcode) in ESCAPES:
+        number = ESCAPES[number, opcode]
+        if not map_has_some(prefixes, number, whole):
+            raise reader.outside()
+        opcode = reader.byte()
+    found = lookup(prefixes, number, opcode, whole)
     if found is None:
         raise reader.outside()
     modrm = sib = displacement = None
@@ -143,7 +187,9 @@ def read_spelling(code: bytes, start: int) -> Spelling:
         sib, displacement_at, displacement = read_address(reader, modrm)
     immediate = read_immediate(reader, found.imm, prefixes.opsize, rex is not None and rex & 8 != 0)
     segment = 0x64 in seen or 0x65 in seen
-    return Spelling(prefixes, segment, rex, number, opcode, found, modrm, sib, displacement, displacement_at, immediate, reader.at)
+    return Spelling(
+        prefixes, segment, rex, vector, number, opcode, found, modrm, sib, displacement, displacement_at, immediate, reader.at
+    )  # fmt: skip
 
 
 def read_address(reader: Reader, modrm: int) -> tuple[Optional[int], int, Optional[int]]:
@@ -167,10 +213,10 @@ def read_immediate(reader: Reader, imm: str, opsize: bool, wide: bool) -> Option
     return reader.number(count)
 
 
-def decode(code: bytes, start: int = 0):
-    """The instruction in front of the bytes from `start` on, or the Fault: why there is none."""
+def decode(code: bytes, start: int = 0, whole: bool = False):
+    """The instruction in front of the bytes from `start` on, by the base map or the whole one, or the Fault: why there is none."""
     try:
-        spelling = read_spelling(code, start)
+        spelling = read_spelling(code, start, whole)
     except Stop as stop:
         return stop.fault
     op, *rest = operation(spelling)
@@ -181,7 +227,8 @@ def written(s: Spelling) -> set[int]:
     """The registers that the instruction writes, by its entry in the map."""
     registers = set()
     for write in s.entry.writes.split():
-        register = {"m": s.rm if s.modrm is not None else None, "r": s.reg if s.modrm is not None else None, "o": s.low}[write[0]]
+        fields = {"m": s.rm if s.modrm is not None else None, "r": s.reg if s.modrm is not None else None, "o": s.low}
+        register = s.vector.vvvv if write == "v" and s.vector else fields[write[0]]
         high_byte = write.endswith("b") and s.rex is None and register in range(4, 8)
         if register is not None and not high_byte:
             registers.add(register)
@@ -295,11 +342,11 @@ def pointer_operation(s: Spelling) -> Optional[tuple]:
     return None
 
 
-def read_text(body: bytes):
+def read_text(body: bytes, whole: bool = False):
     """The instructions of a text section by their offsets; where one doesn't decode, its offset and why."""
     insns, at = {}, 0
     while at < len(body):
-        found = decode(body, at)
+        found = decode(body, at, whole)
         if isinstance(found, Fault):
             return insns, (at, found)
         insns[at] = found

@@ -2,6 +2,9 @@
 
 import os
 import re
+import select
+import shlex
+import signal
 import subprocess
 import tempfile
 from typing import NamedTuple, Optional
@@ -23,17 +26,35 @@ class Run(NamedTuple):
     fault: str
 
 
+class NoAnswer(Exception):
+    """The program didn't end in time."""
+
+
 class Program:
-    """The program at a path, run in a folder of its own."""
+    """The program at a path, run in a folder of its own by a shell that stays: an interpreter that forked itself for each run
+    would copy the tables of all that it holds."""
 
     def __init__(self, path: str):
         self.path = os.path.abspath(path)
         self.folder = tempfile.TemporaryDirectory()
+        self.output = tempfile.NamedTemporaryFile()
+        self.shell = self.started()
+
+    def started(self) -> subprocess.Popen:
+        """A shell in the folder."""
+        pipe = subprocess.PIPE
+        return subprocess.Popen(["sh"], cwd=self.folder.name, stdin=pipe, stdout=pipe, bufsize=0, start_new_session=True)
 
     def call(self, *words: str) -> tuple[int, list[str]]:
         """Its status and lines."""
-        ran = subprocess.run([self.path, *words], cwd=self.folder.name, capture_output=True, timeout=SECONDS, check=False)
-        return ran.returncode, (ran.stdout + ran.stderr).decode("ascii", "replace").splitlines()
+        self.shell.stdin.write(f"{shlex.join([self.path, *words])} >{self.output.name} 2>&1; echo $?\n".encode())
+        if not select.select([self.shell.stdout], [], [], SECONDS)[0]:
+            os.killpg(self.shell.pid, signal.SIGKILL)
+            self.shell.wait()
+            self.shell = self.started()
+            raise NoAnswer
+        status = int(self.shell.stdout.readline())
+        return status, read_file(self.output.name).decode("ascii", "replace").splitlines()
 
     def check(self, data: bytes, options: list[str], names: Optional[bytes]) -> Run:
         """Its answer on an object, with the rows that it prints of what it writes."""
@@ -47,7 +68,7 @@ class Program:
         words = options + (["--names=names"] if names is not None else [])
         try:
             status, lines = self.call("check", "in.o", "out.o", *words)
-        except subprocess.TimeoutExpired:
+        except NoAnswer:
             return Run(-1, [], None, [], f"no answer in {SECONDS} seconds")
         there = {name: read_file(f"{folder}/{name}") for name in os.listdir(folder)}
         written = there.pop("out.o", None)

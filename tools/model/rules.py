@@ -15,6 +15,8 @@ class Options(NamedTuple):
     rethunk: bool = False
     uaccess: bool = False
     unreachable: bool = True
+    # Whether the whole opcode map reads the code. It asks for no rule.
+    all_opcodes: bool = False
 
 
 class Warning(NamedTuple):
