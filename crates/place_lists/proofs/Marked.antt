@@ -1,5 +1,6 @@
 -- Places whose marks aren't set.
-use Rattle.std.proofs.Common.{◌≡◌, ℕ, suc, ◌%◌, Bool, true, false, cond, eqb, ◌&&◌, List, [], ◌∷◌, map, filter, get_or, inl, inr, arith, refl, sym, ap, ◌∙◌}
+use Rattle.std.proofs.Common.{◌≡◌, ℕ, suc, ◌-◌, Bool, true, false, cond, eqb, ◌&&◌, List, [], ◌∷◌, map, filter, get_or, inl, inr, arith, refl, sym, ap, ◌∙◌}
+use Rattle.std.specs.Prelude.{bit_and}
 use Rattle.std.specs.List.{list_any, zip}
 use Rattle.std.proofs.lemmas.Bool.{cases_Bool, false≢true}
 use Rattle.std.proofs.lemmas.Bool.Decides.{nat_tests}
@@ -18,13 +19,13 @@ same_off a b c d same = grind (arith, nat_tests)
 other_place : (count : ℕ) (marks : List Bool) (p place : Place) → is_marked count marks p ≡ true → is_marked count marks place ≡ false → same_place p place ≡ false
 other_place count marks p place set unset = elim (cases_Bool (same_place p place)) [
   | inr other ↦ other
-  | inl same ↦ absurd (false≢true (sym unset ∙ ap (λ off. get_or marks (off % count) false) (sym (same_off p.sec p.off place.sec place.off same)) ∙ set))
+  | inl same ↦ absurd (false≢true (sym unset ∙ ap (λ off. get_or marks (bit_and off (count - 1)) false) (sym (same_off p.sec p.off place.sec place.off same)) ∙ set))
 ]
 
 other_way : (count : ℕ) (marks : List Bool) (p place : Place) → is_marked count marks p ≡ true → is_marked count marks place ≡ false → same_place place p ≡ false
 other_way count marks p place set unset = elim (cases_Bool (same_place place p)) [
   | inr other ↦ other
-  | inl same ↦ absurd (false≢true (sym unset ∙ ap (λ off. get_or marks (off % count) false) (same_off place.sec place.off p.sec p.off same) ∙ set))
+  | inl same ↦ absurd (false≢true (sym unset ∙ ap (λ off. get_or marks (bit_and off (count - 1)) false) (same_off place.sec place.off p.sec p.off same) ∙ set))
 ]
 
 -- so it is in no list of such

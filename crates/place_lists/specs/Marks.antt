@@ -1,10 +1,10 @@
 -- Marks at the offsets of places.
-use Rattle.std.specs.Prelude.{◌≡◌, ◌<◌, ◌%◌, ℕ, Bool, true, false, List, length, slice_index_or}
+use Rattle.std.specs.Prelude.{◌≡◌, ◌-◌, ◌<◌, ℕ, Bool, true, false, List, length, slice_index_or, bit_and}
 use Rattle.ot_base.specs.declared.place.Place.{Place}
 
--- the number of the mark of a place, of so many
+-- The number of the mark of a place, of so many: the last bits of its offset, where they are a power of two.
 abbrev pub mark_of : ℕ → Place → ℕ
-mark_of count place = place.off % count
+mark_of count place = bit_and place.off (count - 1)
 
 -- the mark of a place is set
 abbrev pub is_marked : ℕ → List Bool → Place → Bool

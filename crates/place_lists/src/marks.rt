@@ -11,13 +11,23 @@ const MARKS: usize = 16;
 
 const MOST_MARKS: usize = 262144;
 
-/// The number of the mark of a place, of so many. Places have one mark whose offsets differ by a multiple of that.
+/// How many marks there are for so many places: a power of two, so that the number of a mark is told by the last bits of
+/// an offset.
+fn count_marks(places: usize) -> usize
+    ensures { 0 < result }
+{
+    let wanted = places.saturating_mul(MARKS);
+    wanted.min(MOST_MARKS).max(1).next_power_of_two()
+}
+
+/// The number of the mark of a place, of so many.
+#[inline(always)]
 fn mark_of(place: Place, count: usize) -> usize
     requires { 0 < count }
     ensures value { result ≡ mark_of_place count place }
     ensures known { result < count }
 {
-    (place.off % count as u64) as usize
+    place.off as usize & (count - 1)
 }
 
 /// So many marks of which none is set.
@@ -29,9 +39,10 @@ fn unset_marks(alloc: Global, count: usize) -> Result<Vec<bool>, NoMemory>
 
 /// Marks of which those of places are set.
 pub(crate) fn mark_places(alloc: Global, places: &[Place]) -> Result<Vec<bool>, NoMemory>
-    ensures { IfOk result (λ marks. AreMarked (length marks.items) places.now marks.items) }
+    ensures some { IfOk result (λ marks. 0 < length marks.items) }
+    ensures set { IfOk result (λ marks. AreMarked (length marks.items) places.now marks.items) }
 {
-    let count = MOST_MARKS.min(places.len().saturating_mul(MARKS));
+    let count = count_marks(places.len());
     let mut marks = unset_marks(alloc, count)?;
     for place in places {
         marks[mark_of(*place, count)] = true;
@@ -40,8 +51,10 @@ pub(crate) fn mark_places(alloc: Global, places: &[Place]) -> Result<Vec<bool>, 
 }
 
 /// Whether the mark of a place is set.
+#[inline(always)]
 pub(crate) fn is_marked(marks: &[bool], place: Place) -> bool
+    requires { 0 < length marks.now }
     ensures { result ≡ is_marked_by (length marks.now) marks.now place }
 {
-    !marks.is_empty() && marks[mark_of(place, marks.len())]
+    marks[mark_of(place, marks.len())]
 }

@@ -1,9 +1,9 @@
 //! Which places each place leads to.
 
-ghost use Rattle.std.specs.Prelude.{◌≡◌, ◌<◌, ◌≤◌, ℕ, true, false, length, map, filter, slice_index_or, IfOk, OnOk};
+ghost use Rattle.std.specs.Prelude.{◌≡◌, ◌<◌, ◌≤◌, ℕ, true, false, length, map, slice_index_or, IfOk, OnOk};
 ghost use Rattle.ot_base.specs.declared.place.Place.{Place};
-ghost use Rattle.symbols_relocs.specs.Places.{is_before as is_lower, same_place};
-ghost use Rattle.place_lists.specs.Places.{AreByPlace, AreByFirst, HaveSameTargets};
+ghost use Rattle.symbols_relocs.specs.Places.{is_before as is_lower};
+ghost use Rattle.place_lists.specs.Places.{targets_of, AreByPlace, AreByFirst, HaveSameTargets};
 
 use crate::marks::{is_marked, mark_places};
 use ot_base::{NoMemory, Place};
@@ -19,7 +19,7 @@ pub struct PlaceMap {
 }
 
 impl Model for PlaceMap {
-    ghost use Rattle.std.specs.Prelude.{◌≡◌, List, length};
+    ghost use Rattle.std.specs.Prelude.{◌≡◌, ◌<◌, List, length};
     ghost use Rattle.std.specs.List.{zip};
     ghost use Rattle.ot_base.specs.declared.place.Place.{Place};
     ghost use Rattle.place_lists.specs.Places.{AreByPlace};
@@ -29,7 +29,7 @@ impl Model for PlaceMap {
 
     ghost view = { λ m. zip m.places.items m.targets.items };
 
-    ghost invariant = { λ m. AreByPlace m.places.items × (length m.targets.items ≡ length m.places.items) × AreMarked (length m.marks.items) m.places.items m.marks.items };
+    ghost invariant = { λ m. AreByPlace m.places.items × (length m.targets.items ≡ length m.places.items) × AreMarked (length m.marks.items) m.places.items m.marks.items × (0 < length m.marks.items) };
 }
 
 impl PlaceMap {
@@ -53,12 +53,21 @@ impl PlaceMap {
     }
 
     /// Where a place leads, in the order of the list.
+    #[inline(always)]
     pub fn targets(&self, place: Place) -> &[Place]
-        ensures { result.now ≡ map (λ e. e.1) (filter (λ e. same_place e.0 place) self.now) }
+        ensures { result.now ≡ targets_of self.now place }
     {
         if !is_marked(&self.marks, place) {
             return &[];
         }
+        self.search(place)
+    }
+
+    /// Where a place leads, by a search.
+    #[inline(never)]
+    fn search(&self, place: Place) -> &[Place]
+        ensures { result.now ≡ targets_of self.now place }
+    {
         let first = count_before(&self.places, place);
         let end = count_to(&self.places, place);
         let (to_end, _) = self.targets.split_at(end);

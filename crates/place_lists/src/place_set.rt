@@ -1,9 +1,7 @@
 //! Whether a place is one of a list.
 
-ghost use Rattle.std.specs.Prelude.{◌≡◌, IfOk};
-ghost use Rattle.std.specs.List.{list_any};
-ghost use Rattle.symbols_relocs.specs.Places.{same_place};
-ghost use Rattle.place_lists.specs.Places.{HaveSamePlaces};
+ghost use Rattle.std.specs.Prelude.{◌≡◌, false, IfOk};
+ghost use Rattle.place_lists.specs.Places.{is_among, HaveSamePlaces};
 
 use crate::marks::{is_marked, mark_places};
 use ot_base::{NoMemory, Place};
@@ -18,7 +16,7 @@ pub struct PlaceSet {
 }
 
 impl Model for PlaceSet {
-    ghost use Rattle.std.specs.Prelude.{List, length};
+    ghost use Rattle.std.specs.Prelude.{◌<◌, List, length};
     ghost use Rattle.ot_base.specs.declared.place.Place.{Place};
     ghost use Rattle.place_lists.specs.Places.{AreByPlace};
     ghost use Rattle.place_lists.specs.Marks.{AreMarked};
@@ -27,7 +25,7 @@ impl Model for PlaceSet {
 
     ghost view = { λ s. s.places.items };
 
-    ghost invariant = { λ s. AreByPlace s.places.items × AreMarked (length s.marks.items) s.places.items s.marks.items };
+    ghost invariant = { λ s. AreByPlace s.places.items × AreMarked (length s.marks.items) s.places.items s.marks.items × (0 < length s.marks.items) };
 }
 
 impl PlaceSet {
@@ -45,13 +43,30 @@ impl PlaceSet {
         Ok(PlaceSet { places, marks })
     }
 
-    /// Whether a place is one of the list.
-    pub fn contains(&self, place: Place) -> bool
-        ensures { result ≡ list_any (same_place place) self.now }
+    /// Whether a place may be one of the list, told without a search: where it may not, it isn't.
+    #[inline(always)]
+    pub fn may_contain(&self, place: Place) -> bool
+        ensures { result ≡ false → is_among self.now place ≡ false }
     {
-        if !is_marked(&self.marks, place) {
+        is_marked(&self.marks, place)
+    }
+
+    /// Whether a place is one of the list.
+    #[inline(always)]
+    pub fn contains(&self, place: Place) -> bool
+        ensures { result ≡ is_among self.now place }
+    {
+        if !self.may_contain(place) {
             return false;
         }
+        self.search(place)
+    }
+
+    /// Whether a place is one of the list, by a search.
+    #[inline(never)]
+    fn search(&self, place: Place) -> bool
+        ensures { result ≡ is_among self.now place }
+    {
         self.places.binary_search(&place).is_ok()
     }
 }

@@ -3,4 +3,5 @@ pub mod Numbers
 pub mod Arriving
 pub mod Following
 pub mod Ending
-pub mod Marking
+pub mod KindOf
+pub mod StraightOn

@@ -17,6 +17,7 @@ use smallvec::SmallVec;
 use std::alloc::Global;
 
 /// Where the instruction of a point ends.
+#[inline(always)]
 pub(crate) fn end_of(places: &PointPlaces<'_, '_, '_>, n: u32) -> Place
     requires low { AreLow places.now }
     requires point { n < length (points_of_object places.now) }

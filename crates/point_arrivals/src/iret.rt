@@ -1,9 +1,9 @@
 //! The instruction of a point. An IRET of a function that goes on right behind itself is an IretNext.
 
-ghost use Rattle.std.specs.Prelude.{◌≡◌, ◌<◌, ℕ, Some, length, All, IfOk};
+ghost use Rattle.std.specs.Prelude.{◌≡◌, ◌<◌, ℕ, Some, true, length, All, IfOk};
 ghost use Rattle.alternatives.specs.declared.point.Point.{Point};
 ghost use Rattle.jump_tables.specs.Tables.{same_owner};
-ghost use Rattle.flow_defs.specs.Arrival.{goes_on_behind as goes_on_in_owner, insn_of_object};
+ghost use Rattle.flow_defs.specs.Arrival.{decoded_insn, goes_on_behind as goes_on_in_owner, insn_of_object};
 ghost use Rattle.flow_defs.specs.Code.{alternatives_of, point_at, points_of_object};
 ghost use Rattle.place_lists.specs.Places.{HaveSamePlaces};
 ghost use Rattle.point_arrivals.specs.Lists.{original_places_of};
@@ -48,6 +48,7 @@ fn goes_on_behind(places: &PointPlaces<'_, '_, '_>, owner: u32, next: &[u32]) ->
 }
 
 /// The instruction of a point.
+#[inline(always)]
 pub(crate) fn insn(
     alloc: Global,
     places: &PointPlaces<'_, '_, '_>,
@@ -63,6 +64,25 @@ pub(crate) fn insn(
     if !is_iret(insn.op) {
         return Ok(insn);
     }
+    insn_of_iret(alloc, places, originals, n, insn)
+}
+
+/// The instruction of a point that is decoded as an IRET.
+#[inline(never)]
+fn insn_of_iret(
+    alloc: Global,
+    places: &PointPlaces<'_, '_, '_>,
+    originals: &PlaceSet,
+    n: u32,
+    insn: Insn,
+) -> Result<Insn, NoMemory>
+    requires low { AreLow places.now }
+    requires originals { HaveSamePlaces (original_places_of (alternatives_of places.now)) originals.now }
+    requires point { n < length (points_of_object places.now) }
+    requires decoded { insn ≡ decoded_insn places.now (point_at places.now n) }
+    requires iret { is_an_iret insn.op ≡ true }
+    ensures { IfOk result (λ insn. insn ≡ insn_of_object places.now (point_at places.now n)) }
+{
     let Some(owner) = places.owner(n) else {
         return Ok(insn);
     };

@@ -5,9 +5,11 @@ mod arrivals;
 mod arrive;
 mod behind;
 mod iret;
+mod kind;
+mod kinds;
 mod lists;
 mod low;
-mod marks;
 mod pairs;
+mod straight;
 
 pub use arrivals::PointArrivals;

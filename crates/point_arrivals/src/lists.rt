@@ -6,12 +6,14 @@ ghost use Rattle.special_sections.specs.Special.{special_of};
 ghost use Rattle.flow_defs.specs.Code.{point_at, points_of_object};
 ghost use Rattle.flow_defs.specs.Edges.{fixups as fixups_of, is_some_place, static_targets as static_targets_of};
 ghost use Rattle.point_arrivals.specs.Marks.{is_listed as is_listed_point};
+ghost use Rattle.point_arrivals.specs.Straight.{goes_straight as goes_straight_on};
 
 use crate::arrive::arrive;
 use crate::behind::{after, end_of, is_at_end};
 use crate::iret::insn;
 use crate::low::points_are_low;
 use crate::pairs::{branch_pairs, fix_pairs, original_places};
+use crate::straight::goes_straight;
 use operation_defs::{Insn, Op};
 use ot_base::{NoMemory, Place};
 use place_lists::{PlaceMap, PlaceSet};
@@ -105,6 +107,7 @@ impl<'l, 'o, 'a> PointLists<'l, 'o, 'a> {
 
     /// Whether execution never passes a point: a Ud2, or an instruction that ends at a place of `.discard.unreachable`,
     /// where no place of `.discard.reachable` is that end. The padding behind a replacement is always passed.
+    #[inline(always)]
     pub(crate) fn is_dead_end(&self, n: u32) -> bool
         requires { n < length (points_of_object self.now) }
         ensures { result ≡ is_a_dead_end self.now (point_at self.now n) }
@@ -120,6 +123,7 @@ impl<'l, 'o, 'a> PointLists<'l, 'o, 'a> {
     }
 
     /// Whether a point is a Ud2, or its instruction ends at a place of `.discard.unreachable`.
+    #[inline(always)]
     fn may_end(&self, n: u32) -> bool
         requires { n < length (points_of_object self.now) }
         ensures { result ≡ (is_an_ud2 (decoded_insn self.now (point_at self.now n)).op || ends_at self.now (point_at self.now n) (special_of self.now.elf).after_unreachable) }
@@ -133,6 +137,7 @@ impl<'l, 'o, 'a> PointLists<'l, 'o, 'a> {
 
     /// The instruction of a point: as it is decoded, but for an IRET of a function that goes on right behind itself in
     /// that function, which is an `IretNext`.
+    #[inline(always)]
     pub(crate) fn insn(&self, alloc: Global, n: u32) -> Result<Insn, NoMemory>
         requires { n < length (points_of_object self.now) }
         ensures { IfOk result (λ insn. insn ≡ insn_of_object self.now (point_at self.now n)) }
@@ -141,6 +146,7 @@ impl<'l, 'o, 'a> PointLists<'l, 'o, 'a> {
     }
 
     /// Where the static branches at a point lead, in the order of `__jump_table`; nowhere from padding.
+    #[inline(always)]
     pub(crate) fn static_targets(&self, n: u32) -> &[Place]
         requires { n < length (points_of_object self.now) }
         ensures { result.now ≡ static_targets_of self.now (point_at self.now n) }
@@ -152,6 +158,7 @@ impl<'l, 'o, 'a> PointLists<'l, 'o, 'a> {
     }
 
     /// Where the exception entries at a point lead, in the order of `__ex_table`; nowhere from padding.
+    #[inline(always)]
     pub(crate) fn fixups(&self, n: u32) -> &[Place]
         requires { n < length (points_of_object self.now) }
         ensures { result.now ≡ fixups_of self.now (point_at self.now n) }
@@ -163,11 +170,22 @@ impl<'l, 'o, 'a> PointLists<'l, 'o, 'a> {
     }
 
     /// Whether anything leads from a point beside what its instruction says, or it is a dead end.
+    #[inline(always)]
     pub(crate) fn is_listed(&self, n: u32) -> bool
         requires { n < length (points_of_object self.now) }
         ensures { result ≡ is_listed_point self.now (point_at self.now n) }
     {
         has_place(self.static_targets(n)) || has_place(self.fixups(n)) || self.is_dead_end(n)
+    }
+
+    /// Whether control goes straight on from a point, where no list says anything of it: it is plain, it neither calls,
+    /// jumps nor returns, and the point with the next number alone follows it.
+    #[inline(always)]
+    pub(crate) fn goes_straight(&self, n: u32) -> bool
+        requires { n < length (points_of_object self.now) }
+        ensures { result ≡ goes_straight_on self.now n }
+    {
+        goes_straight(&self.places, &self.originals, n)
     }
 }
 

@@ -20,7 +20,8 @@ invariant_of-result c =
     let targets : c.in_ok-targets.targets.items ≡ map second sorted = c.in_ok-targets.ensures ∙ ap (map second) c.as_slice-2.ensures.value in (
       subst AreByPlace (sym places) c.in_ok-sort_by_first.ensures.sorted,
       ap length targets ∙ length-map sorted second ∙ sym (length-map sorted first) ∙ sym (ap length places),
-      subst (λ ps. AreMarked (length c.in_ok-marks.marks.items) ps c.in_ok-marks.marks.items) c.deref.ensures.value c.in_ok-marks.ensures,
+      subst (λ ps. AreMarked (length c.in_ok-marks.marks.items) ps c.in_ok-marks.marks.items) c.deref.ensures.value c.in_ok-marks.ensures.set,
+      c.in_ok-marks.ensures.some,
     )
 
 pub returns : goal.returns

@@ -10,7 +10,8 @@ use Rattle.place_lists.proofs.place_set.PlaceSet.build.Goals as goal
 pub invariant_of-result : goal.invariant_of-result
 invariant_of-result c = (
   by_place _ c.sort_unstable.ensures.sorted,
-  subst (λ ps. AreMarked (length c.in_ok-marks.marks.items) ps c.in_ok-marks.marks.items) c.deref.ensures.value c.in_ok-marks.ensures,
+  subst (λ ps. AreMarked (length c.in_ok-marks.marks.items) ps c.in_ok-marks.marks.items) c.deref.ensures.value c.in_ok-marks.ensures.set,
+  c.in_ok-marks.ensures.some,
 )
 
 pub returns : goal.returns
