@@ -1,7 +1,9 @@
 //! Whose code points are.
 
-ghost use Rattle.std.specs.Prelude.{◌≡◌, ◌<◌, None, Some, IfOk, IfSome, length, slice_get};
+ghost use Rattle.std.specs.Prelude.{◌≡◌, ◌<◌, None, Some, IfOk, IfSome, IsTrue, length, slice_get};
 ghost use Rattle.elf_objects.specs.Elf.{Elf};
+ghost use Rattle.alternatives.specs.Points.{address_of_point};
+ghost use Rattle.flow_defs.specs.Code.{alternatives_of, point_at, points_of_object};
 ghost use Rattle.symbols_relocs.specs.Lists.{symbol_of};
 ghost use Rattle.symbols_relocs.specs.Parts.{owner_of as owner_of_function};
 ghost use Rattle.point_fields.specs.Functions.{AreOwnersTo};
@@ -70,6 +72,16 @@ fn no_owner() -> Owner
     }
 }
 
+/// Whether the item with an index is there, and that of a function or of none.
+fn is_item_of(owners: &[Owner], number: u32, function: Option<u32>) -> bool
+    ensures { IsTrue result → IfSome (slice_get owners.now number) (λ x. x.function ≡ function) × (number < length owners.now) }
+{
+    match owners.get(number as usize) {
+        Some(owner) => owner.function == function,
+        None => false,
+    }
+}
+
 /// The items of all functions.
 fn function_items(
     alloc: Global,
@@ -115,6 +127,20 @@ impl<'l, 'o, 'a> OwnerTable<'l, 'o, 'a> {
             Some(function) => function,
             None => self.index.functions().len() as u32,
         }
+    }
+
+    /// The index of the item of a point, that of the place where it runs: told at once where it is the guessed one. A wrong
+    /// guess costs time and nothing else.
+    pub fn number_by_guess(&self, places: &PointPlaces<'_, '_, '_>, n: u32, guess: u32) -> u32
+        requires object { self.now.elf ≡ places.now.elf }
+        requires point { n < length (points_of_object places.now) }
+        ensures inside { result < length self.now.owners }
+        ensures item { IfSome (slice_get self.now.owners result) (λ x. IsOwnerAt self.now.elf (address_of_point (alternatives_of places.now) (point_at places.now n)) x) }
+    {
+        if is_item_of(&self.owners, guess, places.function(n)) {
+            return guess;
+        }
+        self.number_of(places.address(n))
     }
 
     /// The items.

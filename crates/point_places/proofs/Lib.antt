@@ -2,3 +2,4 @@ pub mod Numbers
 pub mod Found
 pub mod Starts
 pub mod Points
+pub mod Items

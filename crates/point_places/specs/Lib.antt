@@ -1,2 +1,4 @@
 pub mod Unchecked
 pub mod Starts
+pub mod CodeOwners
+pub mod Kept

@@ -2,6 +2,7 @@
 //! which owners aren't checked.
 #![tactic(auto)]
 
+mod code_owners;
 mod function_starts;
 mod owner;
 mod places;

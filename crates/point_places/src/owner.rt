@@ -1,29 +1,12 @@
 //! Functions and owners by their symbols.
 
 ghost use Rattle.std.specs.Prelude.{◌≡◌, ◌<◌, length, is_some};
-ghost use Rattle.symbols_relocs.specs.Functions.{function_at as function_of_place, starts_at};
 ghost use Rattle.symbols_relocs.specs.Lists.{symbol_of};
-ghost use Rattle.symbols_relocs.specs.Parts.{owner_at as owner_of_place, owner_of as owner_of_function, parent_of};
+ghost use Rattle.symbols_relocs.specs.Parts.{owner_of as owner_of_function, parent_of};
 ghost use Rattle.flow_defs.specs.Owners.{owner_of_start as owner_of_function_at};
 
 use ot_base::Place;
 use symbols_relocs::Index;
-
-/// The function of a place, by its symbol.
-pub(crate) fn function_at(index: &Index<'_, '_>, place: Place) -> Option<u32>
-    ensures { result ≡ function_of_place index.now.elf place }
-{
-    let function = index.function_at(place)?;
-    Some(index.functions()[function as usize].sym)
-}
-
-/// The owner of a place, by its symbol.
-pub(crate) fn owner_at(index: &Index<'_, '_>, place: Place) -> Option<u32>
-    ensures { result ≡ owner_of_place index.now.elf place }
-{
-    let owner = index.owner_at(place)?;
-    Some(index.functions()[owner as usize].sym)
-}
 
 /// The owner of the function with an index, by its symbol.
 pub(crate) fn owner_of(index: &Index<'_, '_>, function: u32) -> u32

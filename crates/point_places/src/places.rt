@@ -5,10 +5,12 @@ ghost use Rattle.alternatives.specs.Points.{address_of_point};
 ghost use Rattle.jump_tables.specs.Texts.{is_boundary as is_a_boundary};
 ghost use Rattle.flow_defs.specs.Arrival.{decoded_insn as decoded_insn_of, is_padding as is_padding_at};
 ghost use Rattle.flow_defs.specs.Code.{alternatives_of, number_of as number_of_point, point_at, points_of_object, texts_of};
+ghost use Rattle.point_places.specs.CodeOwners.{IsItemBy};
 ghost use Rattle.flow_defs.specs.Owners.{function_of_point, is_entry as is_an_entry, is_unchecked as is_unchecked_by, is_unchecked_point as is_unchecked_at, owner_of_point, unchecked_start as unchecked_starting_at};
 
+use crate::code_owners::{CodeOwner, address_of, list_items, list_numbers};
 use crate::function_starts::list_starts;
-use crate::owner::{function_at, is_part, owner_at, owner_of};
+use crate::owner::{is_part, owner_of};
 use crate::unchecked::{is_among, list_unchecked};
 use alternatives::Point;
 use object_code::Linked;
@@ -20,24 +22,28 @@ use std::marker::Model;
 
 /// The points of an object whose code is read, with who owns them. Contracts see it as the object.
 ///
-/// A point is told by its number, functions and owners by their symbols. Nothing here takes memory once it is built.
+/// A point is told by its number, functions and owners by their symbols. It takes 4 bytes for each point and 20 for each
+/// function, besides what it says of places. Nothing here takes memory once it is built.
 #[derive(Drop)]
 pub struct PointPlaces<'l, 'o, 'a> {
     linked: &'l Linked<'o, 'a>,
     starts: PlaceSet,
     unchecked: Vec<u32>,
+    /// Whose code that of each function is, and that of no function.
+    items: Vec<CodeOwner>,
+    /// For each point, which of these items is its own.
+    numbers: Vec<u32>,
 }
 
 impl<'l, 'o, 'a> Model for PointPlaces<'l, 'o, 'a> {
     ghost use Rattle.flow_defs.specs.Coded.{Coded};
-    ghost use Rattle.point_places.specs.Starts.{AreStarts};
-    ghost use Rattle.point_places.specs.Unchecked.{AreUnchecked};
+    ghost use Rattle.point_places.specs.Kept.{IsKept};
 
     ghost Value = { Coded };
 
     ghost view = { λ p. p.linked.now };
 
-    ghost invariant = { λ p. AreStarts p.linked.now.elf p.starts × AreUnchecked p.linked.now.elf p.unchecked.items };
+    ghost invariant = { λ p. IsKept p.linked.now p.starts p.unchecked.items p.items.items p.numbers.items };
 }
 
 impl<'l, 'o, 'a> PointPlaces<'l, 'o, 'a> {
@@ -52,12 +58,17 @@ impl<'l, 'o, 'a> PointPlaces<'l, 'o, 'a> {
     ) -> Result<PointPlaces<'l, 'o, 'a>, NoMemory>
         ensures { IfOk result (λ places. places ≡ linked.now) }
     {
-        let starts = list_starts(alloc, linked.index())?;
+        let index = linked.index();
+        let starts = list_starts(alloc, index)?;
         let unchecked = list_unchecked(alloc, linked)?;
+        let items = list_items(alloc, index, &unchecked)?;
+        let numbers = list_numbers(alloc, linked, index, &items)?;
         Ok(PointPlaces {
             linked,
             starts,
             unchecked,
+            items,
+            numbers,
         })
     }
 
@@ -153,7 +164,7 @@ impl<'l, 'o, 'a> PointPlaces<'l, 'o, 'a> {
         requires { n < length (points_of_object self.now) }
         ensures { result ≡ address_of_point (alternatives_of self.now) (point_at self.now n) }
     {
-        self.linked.sites().address_of(n)
+        address_of(self.linked, n)
     }
 
     /// The function of a point: that of the place where it runs.
@@ -161,7 +172,7 @@ impl<'l, 'o, 'a> PointPlaces<'l, 'o, 'a> {
         requires { n < length (points_of_object self.now) }
         ensures { result ≡ function_of_point self.now (point_at self.now n) }
     {
-        function_at(self.linked.index(), self.address(n))
+        self.item(n).function
     }
 
     /// The owner of a point: its function, or that function's parent where it is a part.
@@ -169,7 +180,7 @@ impl<'l, 'o, 'a> PointPlaces<'l, 'o, 'a> {
         requires { n < length (points_of_object self.now) }
         ensures { result ≡ owner_of_point self.now (point_at self.now n) }
     {
-        owner_at(self.linked.index(), self.address(n))
+        self.item(n).owner
     }
 
     /// Whether what an owner owns isn't checked: one of its functions is listed as one without a standard frame
@@ -188,14 +199,22 @@ impl<'l, 'o, 'a> PointPlaces<'l, 'o, 'a> {
         requires { n < length (points_of_object self.now) }
         ensures { result ≡ is_unchecked_at self.now (point_at self.now n) }
     {
-        self.is_unchecked(self.owner(n))
+        self.item(n).is_unchecked
+    }
+
+    /// Whose code a point is.
+    fn item(&self, n: u32) -> CodeOwner
+        requires { n < length (points_of_object self.now) }
+        ensures { IsItemBy self.now.elf (function_of_point self.now (point_at self.now n)) (owner_of_point self.now (point_at self.now n)) result }
+    {
+        self.items[self.numbers[n as usize] as usize]
     }
 
     /// The function that starts at a place and isn't checked.
     pub fn unchecked_start(&self, place: Place) -> Option<u32>
         ensures { result ≡ unchecked_starting_at self.now.elf place }
     {
-        if !self.starts.contains(place) {
+        if !self.starts.may_contain(place) {
             return None;
         }
         let index = self.linked.index();
@@ -213,7 +232,7 @@ impl<'l, 'o, 'a> PointPlaces<'l, 'o, 'a> {
     pub fn is_entry(&self, place: Place) -> bool
         ensures { result ≡ is_an_entry self.now.elf place }
     {
-        if !self.starts.contains(place) {
+        if !self.starts.may_contain(place) {
             return false;
         }
         let index = self.linked.index();

@@ -1,11 +1,12 @@
 -- What a count that fits its neighbours tells of all functions.
-use Rattle.std.proofs.Common.{◌≡◌, ℕ, ◌-◌, ◌<◌, ◌≤◌, Bool, true, false, not, eqb, leb, ◌&&◌, ◌||◌, List, length, refl, sym, ap, ◌∙◌, arith, inl, inr}
+use Rattle.std.proofs.Common.{◌≡◌, ℕ, ◌+◌, ◌-◌, ◌<◌, ◌≤◌, Bool, true, false, not, eqb, leb, ltb, ◌&&◌, ◌||◌, List, length, refl, sym, ap, ◌∙◌, arith, inl, inr}
+use Rattle.std.specs.Ordering.{nat_cmp, is_lt, ordering_then}
 use Rattle.std.proofs.lemmas.Bool.{cases_Bool, false≢true}
 use Rattle.std.proofs.lemmas.Bool.Decides.{nat_tests}
 use Rattle.ot_base.specs.declared.place.Place.{Place}
 use Rattle.symbols_relocs.specs.declared.function.Function.{Function}
-use Rattle.symbols_relocs.specs.Counts.{is_behind, is_count, is_upto}
-use Rattle.symbols_relocs.specs.Lists.{function, no_function, AreRising}
+use Rattle.symbols_relocs.specs.Counts.{is_behind, is_count, is_holder, is_upto}
+use Rattle.symbols_relocs.specs.Lists.{function, holds, no_function, AreRising}
 use Rattle.symbols_relocs.specs.Places.{is_before}
 use Rattle.symbols_relocs.proofs.PlaceOrder.{rising_parts, not_true}
 
@@ -40,10 +41,33 @@ counted_to fs count place up is k lower =
     let last : not (is_before place (function fs (count - 1)).start) ≡ true = not_upto count _ (omega arith) (right (is_behind fs count place) _ (right (leb count (length fs)) _ is)) in
     not_true _ (rising_parts fs place up k (count - 1) no_function (omega arith) (omega arith) last)
 
-pub counted_behind : (fs : List Function) (count : ℕ) (place : Place) → AreRising fs → is_count fs count place ≡ true → (k : ℕ) → count ≤ k → k < length fs → is_before place (function fs k).start ≡ true
-counted_behind fs count place up is k from inside =
-    let next : is_before place (function fs count).start ≡ true = not_behind (length fs) count _ (omega arith) (left (is_behind fs count place) (is_upto fs count place) (right (leb count (length fs)) _ is)) in
+-- where one starts behind a place, so do those behind it
+behind_on : (fs : List Function) (count : ℕ) (place : Place) → AreRising fs → is_behind fs count place ≡ true → (k : ℕ) → count ≤ k → k < length fs → is_before place (function fs k).start ≡ true
+behind_on fs count place up is k from inside =
+    let next : is_before place (function fs count).start ≡ true = not_behind (length fs) count _ (omega arith) is in
     elim (cases_Bool (is_before place (function fs k).start)) [
       | inl behind ↦ behind
       | inr not_so ↦ absurd (false≢true (sym (not_true _ (rising_parts fs place up count k no_function from inside (not_of _ not_so))) ∙ next))
     ]
+
+pub counted_behind : (fs : List Function) (count : ℕ) (place : Place) → AreRising fs → is_count fs count place ≡ true → (k : ℕ) → count ≤ k → k < length fs → is_before place (function fs k).start ≡ true
+counted_behind fs count place up is k from inside =
+    behind_on fs count place up (left (is_behind fs count place) (is_upto fs count place) (right (leb count (length fs)) _ is)) k from inside
+
+below : (n m : ℕ) → ltb n m ≡ true → n < m
+below n m h = grind (arith, nat_tests)
+
+not_held : (a b c d n : ℕ) → is_lt (ordering_then (nat_cmp a c) (nat_cmp b d)) ≡ true → (eqb c a && leb d b && ltb b (d + n)) ≡ false
+not_held a b c d n x = grind (arith, nat_tests)
+
+pub holder_within : (fs : List Function) (index : ℕ) (place : Place) → is_holder fs index place ≡ true → index < length fs
+holder_within fs index place is = below index (length fs) (left _ _ is)
+
+pub holder_holds : (fs : List Function) (index : ℕ) (place : Place) → is_holder fs index place ≡ true → holds (function fs index) place ≡ true
+holder_holds fs index place is = left (holds (function fs index) place) (is_behind fs (index + 1) place) (right (ltb index (length fs)) _ is)
+
+pub holder_last : (fs : List Function) (index : ℕ) (place : Place) → AreRising fs → is_holder fs index place ≡ true → (k : ℕ) → index < k → k < length fs → holds (function fs k) place ≡ false
+holder_last fs index place up is k from inside =
+    let f : Function = function fs k in
+    not_held place.sec place.off f.start.sec f.start.off f.size
+    (behind_on fs (index + 1) place up (right (holds (function fs index) place) (is_behind fs (index + 1) place) (right (ltb index (length fs)) _ is)) k (omega arith) inside)

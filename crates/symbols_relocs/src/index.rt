@@ -15,7 +15,7 @@ use crate::function::Function;
 use crate::merge::merge_symbols;
 use crate::near::list_counts;
 use crate::order::find_start;
-use crate::outer::{find_holder, link_outer};
+use crate::outer::{find_holder, is_holder, link_outer};
 use crate::parents::with_parents;
 use crate::symbols::list_symbols;
 use crate::target::{Target, relative_target, reloc_target};
@@ -103,6 +103,17 @@ impl<'o, 'a> Index<'o, 'a> {
     {
         let index = find_holder(&self.functions, &self.outer, &self.near, place)?;
         Some(index as u32)
+    }
+
+    /// The function of a place, told at once where the guessed one holds it and the next one starts behind it. A wrong
+    /// guess costs time and nothing else.
+    pub fn function_by_guess(&self, place: Place, guess: u32) -> Option<u32>
+        ensures { IsIndexOfSymbol self.now.functions result (function_symbol_at self.now.elf place) }
+    {
+        if is_holder(&self.functions, guess as usize, place) {
+            return Some(guess);
+        }
+        self.function_at(place)
     }
 
     /// The owner of a place, by its place among the functions: the parent of its function, or the function

@@ -27,7 +27,7 @@ pub(crate) fn count_to(functions: &[Function], place: Place) -> usize
 }
 
 /// Whether the one with an index starts behind a place, or there is none.
-fn is_behind(functions: &[Function], index: usize, place: Place) -> bool
+pub(crate) fn is_behind(functions: &[Function], index: usize, place: Place) -> bool
     ensures { result ≡ is_one_behind functions.now index place }
 {
     index >= functions.len() || is_before(place, functions[index].start)
@@ -50,6 +50,18 @@ fn is_count(functions: &[Function], count: usize, place: Place) -> bool
         && is_upto(functions, count, place)
 }
 
+/// How many of so many there are without those at the end that start behind a place, of which it leaves out at most 16.
+fn without_behind(functions: &[Function], count: usize, place: Place) -> usize {
+    let mut left = count.min(functions.len());
+    for _ in 0..16 {
+        if left == 0 || !is_before(place, functions[left - 1].start) {
+            break;
+        }
+        left -= 1;
+    }
+    left
+}
+
 /// How many of these start at a place or before it, where `near` has what to try first.
 pub(crate) fn count_near(functions: &[Function], near: &[u32], place: Place) -> usize
     requires { AreRising functions.now }
@@ -57,7 +69,7 @@ pub(crate) fn count_near(functions: &[Function], near: &[u32], place: Place) -> 
     ensures to { (k : ℕ) → k < result → is_lower place (function functions.now k).start ≡ false }
     ensures behind { (k : ℕ) → result ≤ k → k < length functions.now → is_lower place (function functions.now k).start ≡ true }
 {
-    let count = near_count(near, place);
+    let count = without_behind(functions, near_count(near, place), place);
     if is_count(functions, count, place) {
         return count;
     }

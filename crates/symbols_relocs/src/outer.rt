@@ -1,10 +1,11 @@
 //! The function of a place, among functions that may overlap.
 
 ghost use Rattle.std.specs.Prelude.{◌≡◌, ◌<◌, ◌≤◌, ◌+◌, ◌-◌, ℕ, true, false, length, IfOk, MatchOption};
-ghost use Rattle.symbols_relocs.specs.Lists.{function, AreOuter, AreRising, ends_beyond as ends_after, holds, IsLastBeyond};
+ghost use Rattle.symbols_relocs.specs.Lists.{function, AreOuter, AreRising, ends_beyond as ends_after, holds, holds as holds_place, IsLastBeyond};
+ghost use Rattle.symbols_relocs.specs.Counts.{is_holder as is_one_holder};
 
 use crate::function::Function;
-use crate::order::count_near;
+use crate::order::{count_near, is_behind};
 use ot_base::{NoMemory, Place};
 use std::alloc::Global;
 
@@ -53,6 +54,24 @@ pub(crate) fn link_outer(alloc: Global, functions: &[Function]) -> Result<Vec<us
         outer.push(count)?;
     }
     Ok(outer)
+}
+
+/// Whether a function holds a place.
+fn holds(function: &Function, place: Place) -> bool
+    ensures { result ≡ holds_place function.now place }
+{
+    function.start.sec == place.sec
+        && function.start.off <= place.off
+        && u128::from(place.off) < end_of(function)
+}
+
+/// Whether the one with an index holds a place, and the next one starts behind that, or there is none.
+pub(crate) fn is_holder(functions: &[Function], index: usize, place: Place) -> bool
+    ensures { result ≡ is_one_holder functions.now index place }
+{
+    index < functions.len()
+        && holds(&functions[index], place)
+        && is_behind(functions, index + 1, place)
 }
 
 /// The index of the last function that holds a place.

@@ -35,8 +35,8 @@ returns c =
     checked_entry o.elf c.args.place f c.is_part.result c.is_among.result
     (start_known o.elf c.index-index.result.now.elf fs c.args.place c.starts_at.result c.in-Some.function same c.starts_at.ensures.symbol c.in-Some.is)
     (c.is_part.ensures ∙ ap (λ (e : Elf). is_some (parent_of e f)) same) c.if-is_part.false
-    (c.is_among.ensures ∙ ap (λ (list : List ℕ). is_among list (symbol_of c.functions.result.now c.in-Some.function)) c.deref.ensures.value ∙ ap (is_among c.self.inside.unchecked.items) read ∙ c.self.invariant.1.all f ∙ ap (λ (e : Coded). is_unchecked_owner e.elf f) c.self.view_is)
+    (c.is_among.ensures ∙ ap (λ (list : List ℕ). is_among list (symbol_of c.functions.result.now c.in-Some.function)) c.deref.ensures.value ∙ ap (is_among c.self.inside.unchecked.items) read ∙ c.self.invariant.unchecked.all f ∙ ap (λ (e : Coded). is_unchecked_owner e.elf f) c.self.view_is)
 
-pub returns-then-not-contains : goal.returns-then-not-contains
-returns-then-not-contains c =
-    no_entry c.args.self.now.elf c.args.place (ap (λ (e : Coded). starts_at e.elf c.args.place) (sym c.self.view_is) ∙ c.self.invariant.0 c.args.place (sym c.contains.ensures ∙ c.if-not-contains.true))
+pub returns-then-not-may_contain : goal.returns-then-not-may_contain
+returns-then-not-may_contain c =
+    no_entry c.args.self.now.elf c.args.place (ap (λ (e : Coded). starts_at e.elf c.args.place) (sym c.self.view_is) ∙ c.self.invariant.starts c.args.place (c.may_contain.ensures c.if-not-may_contain.true))

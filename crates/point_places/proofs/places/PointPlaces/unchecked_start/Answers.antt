@@ -22,7 +22,7 @@ returns-then-is_among c =
     let f : ℕ = symbol_of fs c.in-Some.function in
     let owner : c.owner_of.result ≡ owner_of o.elf f = c.owner_of.ensures ∙ ap (λ (e : Elf). owner_of e f) same in
     let among : c.is_among.result ≡ is_unchecked_owner o.elf (owner_of o.elf f) =
-    c.is_among.ensures ∙ ap (λ (list : List ℕ). is_among list c.owner_of.result) c.deref.ensures.value ∙ c.self.invariant.1.all c.owner_of.result ∙ ap (λ (e : Coded). is_unchecked_owner e.elf c.owner_of.result) c.self.view_is ∙ ap (is_unchecked_owner o.elf) owner in
+    c.is_among.ensures ∙ ap (λ (list : List ℕ). is_among list c.owner_of.result) c.deref.ensures.value ∙ c.self.invariant.unchecked.all c.owner_of.result ∙ ap (λ (e : Coded). is_unchecked_owner e.elf c.owner_of.result) c.self.view_is ∙ ap (is_unchecked_owner o.elf) owner in
     ap (λ (gs : List Function). Some (symbol_of gs c.in-Some.function)) c.functions.ensures.value
     ∙ ap (λ (b : Bool). if b then Some f else None) (sym c.if-is_among.true)
     ∙ unchecked_is o.elf c.args.place f c.is_among.result
@@ -36,11 +36,11 @@ returns-else-is_among c =
     let f : ℕ = symbol_of fs c.in-Some.function in
     let owner : c.owner_of.result ≡ owner_of o.elf f = c.owner_of.ensures ∙ ap (λ (e : Elf). owner_of e f) same in
     let among : c.is_among.result ≡ is_unchecked_owner o.elf (owner_of o.elf f) =
-    c.is_among.ensures ∙ ap (λ (list : List ℕ). is_among list c.owner_of.result) c.deref.ensures.value ∙ c.self.invariant.1.all c.owner_of.result ∙ ap (λ (e : Coded). is_unchecked_owner e.elf c.owner_of.result) c.self.view_is ∙ ap (is_unchecked_owner o.elf) owner in
+    c.is_among.ensures ∙ ap (λ (list : List ℕ). is_among list c.owner_of.result) c.deref.ensures.value ∙ c.self.invariant.unchecked.all c.owner_of.result ∙ ap (λ (e : Coded). is_unchecked_owner e.elf c.owner_of.result) c.self.view_is ∙ ap (is_unchecked_owner o.elf) owner in
     ap (λ (b : Bool). if b then Some f else None) (sym c.if-is_among.false)
     ∙ unchecked_is o.elf c.args.place f c.is_among.result
     (start_known o.elf c.index-index.result.now.elf fs c.args.place c.starts_at.result c.in-Some.function same c.starts_at.ensures.symbol c.in-Some.is) among
 
-pub returns-then-not-contains : goal.returns-then-not-contains
-returns-then-not-contains c =
-    no_unchecked c.args.self.now.elf c.args.place (ap (λ (e : Coded). starts_at e.elf c.args.place) (sym c.self.view_is) ∙ c.self.invariant.0 c.args.place (sym c.contains.ensures ∙ c.if-not-contains.true))
+pub returns-then-not-may_contain : goal.returns-then-not-may_contain
+returns-then-not-may_contain c =
+    no_unchecked c.args.self.now.elf c.args.place (ap (λ (e : Coded). starts_at e.elf c.args.place) (sym c.self.view_is) ∙ c.self.invariant.starts c.args.place (c.may_contain.ensures c.if-not-may_contain.true))
