@@ -1,9 +1,8 @@
--- The points of an object, gathered by variant and then sorted by place.
-use Rattle.std.proofs.Common.{◌≡◌, ℕ, ◌+◌, ◌-◌, ◌<◌, ◌≤◌, List, length, get_or, map, inl, inr, refl, sym, subst, arith}
+-- The points of an object, the plain ones with those of replacements woven among them.
+use Rattle.std.proofs.Common.{◌≡◌, ℕ, ◌+◌, ◌-◌, ◌<◌, ◌≤◌, ◌⊎◌, List, length, get_or, map, inl, inr, refl, sym, subst, arith}
 use Rattle.std.specs.List.{AllByRecursion, flat_map, range_with_len, sum_by}
 use Rattle.std.specs.List.Sorted.{IsStrictlySortedBy, IsSortedBy, IsPermutation}
 use Rattle.std.specs.Ordering.{is_lt, eq_by_cmp}
-use Rattle.std.specs.declared.cmp.Ordering.TheVariants.{Less}
 use Rattle.std.specs.List.{IsDistinct}
 use Rattle.std.proofs.lemmas.Cmp.{eq_by_cmp_equiv}
 use Rattle.std.proofs.lemmas.List.{length-map}
@@ -22,30 +21,38 @@ use Rattle.alternatives.specs.declared.point.Point.{Point}
 use Rattle.alternatives.specs.Texts.{text_bytes, AscendBySection}
 use Rattle.alternatives.specs.Originals.{entry_at, counts, counted}
 use Rattle.alternatives.specs.Points.{is_point, points_of, point_cmp, IsPoint}
-use Rattle.alternatives.specs.Gathered.{plain_at, plain_of, replaced_at, replaced_of, gathered}
-use Rattle.alternatives.proofs.Ascending.{In, every-append, every-each, every-filter, every-from_in, every-in, every-flat_map, every-map, every-passes, every-weaker, in_contains, contains_in, in-append_left, in-append_right, in-filter, in-flat_map, in-map, in-range, rising-filter, rising-range, sorted-append, sorted-flat_map, sorted-map}
+use Rattle.alternatives.specs.Gathered.{plain_at, plain_of, plain_points, replaced_at, replaced_of, replacement_points, woven}
+use Rattle.alternatives.proofs.Ascending.{In, every-each, every-filter, every-from_in, every-in, every-flat_map, every-map, every-passes, every-weaker, in_contains, contains_in, in-filter, in-flat_map, in-map, in-range, rising-filter, rising-range, sorted-flat_map, sorted-map}
 use Rattle.alternatives.proofs.Placed.{RiseBySection, rise_by_section, BeginsAt, code_rising, code_short, insn_has_text, listed_begins, begins_listed, text_has_insn}
 use Rattle.alternatives.proofs.Opened.{counts_inside, plain_or_replaced}
-use Rattle.alternatives.proofs.PointOrder.{variant_cmp, variant_total, point_total, same_point, less_from, then_off, then_sec, variant_first}
+use Rattle.alternatives.proofs.PointOrder.{variant_cmp, variant_total, point_total, same_point, less_from, then_off, variant_first, first_by_off, first_by_sec}
 use Rattle.alternatives.proofs.Listing.{points_are}
+use Rattle.alternatives.proofs.Weaving.{every-woven, in-woven_plain, in-woven_other, woven-sorted}
+
+-- each point of a replacement that is gathered is one
+pub replaced_sound : (texts : List SectionText) (entries : List AltEntry) → AllByRecursion (IsPoint texts entries) (replacement_points texts entries)
+replaced_sound texts entries =
+    every-flat_map (IsPoint texts entries) (replaced_of texts entries) (counted entries) (every-each (λ k. AllByRecursion (IsPoint texts entries) (replaced_of texts entries k)) (λ k.
+    every-passes (is_point texts entries) (map (replaced_at entries k) (range_with_len 0 ((entry_at entries k).replacement_len + 1)))) (counted entries))
 
 module _ (texts : List SectionText) (entries : List AltEntry) (rise : RiseBySection texts) where
   abbrev plain : List Point
-  plain = flat_map plain_of texts
+  plain = plain_points texts
 
   abbrev replaced : List Point
-  replaced = flat_map (replaced_of texts entries) (counted entries)
+  replaced = replacement_points texts entries
 
   abbrev distances : ℕ → List ℕ
   distances k = range_with_len 0 ((entry_at entries k).replacement_len + 1)
 
-  plain_sorted : IsStrictlySortedBy variant_cmp plain
+  -- plain ones ascend
+  plain_sorted : IsStrictlySortedBy point_cmp plain
   plain_sorted =
-      sorted-flat_map variant_cmp (λ (t u : SectionText). t.sec < u.sec) (λ (t : SectionText) (p : Point). (p.variant ≡ 0) × (p.place.sec ≡ t.sec))
-      (λ t u a b less of-t of-u. then_sec a.place.sec b.place.sec a.place.off b.place.off a.variant b.variant (omega (arith, of-t.0, of-u.0)) (omega (arith, of-t.1, of-u.1)))
+      sorted-flat_map point_cmp (λ (t u : SectionText). t.sec < u.sec) (λ (t : SectionText) (p : Point). p.place.sec ≡ t.sec)
+      (λ t u a b less of-t of-u. first_by_sec a.place.sec b.place.sec a.place.off b.place.off a.variant b.variant (omega (arith, of-t, of-u)))
       plain_of
-      (λ t. every-map (λ (p : Point). (p.variant ≡ 0) × (p.place.sec ≡ t.sec)) (plain_at t.sec) (code_of t.text) (every-each (λ (p : PlacedInsn). (0 ≡ 0) × (t.sec ≡ t.sec)) (λ p. (refl, refl)) (code_of t.text)))
-      (λ t. sorted-map variant_cmp (λ (p q : PlacedInsn). p.off < q.off) (plain_at t.sec) (λ p q less. then_off t.sec t.sec p.off q.off 0 0 refl refl less) (code_of t.text) (code_rising t.text))
+      (λ t. every-map (λ (p : Point). p.place.sec ≡ t.sec) (plain_at t.sec) (code_of t.text) (every-each (λ (p : PlacedInsn). t.sec ≡ t.sec) (λ p. refl) (code_of t.text)))
+      (λ t. sorted-map point_cmp (λ (p q : PlacedInsn). p.off < q.off) (plain_at t.sec) (λ p q less. first_by_off t.sec t.sec p.off q.off 0 0 refl less) (code_of t.text) (code_rising t.text))
       texts rise
 
   one_sorted : (k : ℕ) → IsStrictlySortedBy variant_cmp (replaced_of texts entries k)
@@ -59,6 +66,7 @@ module _ (texts : List SectionText) (entries : List AltEntry) (rise : RiseBySect
       every-filter (λ (p : Point). p.variant ≡ k + 1) (is_point texts entries) (map (replaced_at entries k) (distances k))
       (every-map (λ (p : Point). p.variant ≡ k + 1) (replaced_at entries k) (distances k) (every-each (λ d. k + 1 ≡ k + 1) (λ d. refl) (distances k)))
 
+  -- those of replacements ascend by variant
   replaced_sorted : IsStrictlySortedBy variant_cmp replaced
   replaced_sorted =
       sorted-flat_map variant_cmp (λ i j. i < j) (λ k (p : Point). p.variant ≡ k + 1)
@@ -76,32 +84,21 @@ module _ (texts : List SectionText) (entries : List AltEntry) (rise : RiseBySect
       every-flat_map (λ (p : Point). 0 < p.variant) (replaced_of texts entries) (counted entries) (every-each (λ k. AllByRecursion (λ (p : Point). 0 < p.variant) (replaced_of texts entries k)) (λ k.
       every-weaker (λ (p : Point). p.variant ≡ k + 1) (λ (p : Point). 0 < p.variant) (λ p is. omega (arith, is)) (replaced_of texts entries k) (one_variant k)) (counted entries))
 
-  -- they ascend by variant
-  gathered_sorted : IsStrictlySortedBy variant_cmp (gathered texts entries)
-  gathered_sorted =
-      sorted-append variant_cmp plain replaced plain_sorted replaced_sorted
-      (every-weaker (λ (p : Point). p.variant ≡ 0) (λ p. AllByRecursion (λ q. variant_cmp p q ≡ Less) replaced) (λ p zero.
-      every-weaker (λ (q : Point). 0 < q.variant) (λ q. variant_cmp p q ≡ Less) (λ q above. variant_first p.place.sec q.place.sec p.place.off q.place.off p.variant q.variant (omega (arith, zero, above))) replaced replaced_above)
-      plain plain_zero)
-
   -- each is a point
-  gathered_sound : (q : Point) → In q (gathered texts entries) → IsPoint texts entries q
-  gathered_sound q h =
-      every-in (IsPoint texts entries) (gathered texts entries) q (every-append (IsPoint texts entries) plain replaced
-      (every-flat_map (IsPoint texts entries) plain_of texts (every-from_in (λ t. AllByRecursion (IsPoint texts entries) (plain_of t)) texts (λ t is_in.
-      every-map (IsPoint texts entries) (plain_at t.sec) (code_of t.text) (every-from_in (λ p. IsPoint texts entries (plain_at t.sec p)) (code_of t.text) (λ p listed. text_has_insn texts t p.off rise is_in (begins_listed (code_of t.text) p listed))))))
-      (every-flat_map (IsPoint texts entries) (replaced_of texts entries) (counted entries) (every-each (λ k. AllByRecursion (IsPoint texts entries) (replaced_of texts entries k)) (λ k. every-passes (is_point texts entries) (map (replaced_at entries k) (distances k))) (counted entries))))
-      h
+  plain_sound : AllByRecursion (IsPoint texts entries) plain
+  plain_sound =
+      every-flat_map (IsPoint texts entries) plain_of texts (every-from_in (λ t. AllByRecursion (IsPoint texts entries) (plain_of t)) texts (λ t is_in.
+      every-map (IsPoint texts entries) (plain_at t.sec) (code_of t.text) (every-from_in (λ p. IsPoint texts entries (plain_at t.sec p)) (code_of t.text) (λ p listed. text_has_insn texts t p.off rise is_in (begins_listed (code_of t.text) p listed)))))
 
   -- and each point is one of them
-  gathered_complete : (q : Point) → IsPoint texts entries q → In q (gathered texts entries)
+  gathered_complete : (q : Point) → IsPoint texts entries q → In q plain ⊎ In q replaced
   gathered_complete q point = elim (plain_or_replaced texts entries q point) [
     | inl (zero, some) ↦
         let has = insn_has_text texts q.place some in
         let t : SectionText = has.t in
         let begins : BeginsAt (code_of t.text) q.place.off = listed_begins (code_of t.text) q.place.off has.holds in
         let is : plain_at t.sec begins.p ≡ q = same_point t.sec begins.p.off 0 q has.sec begins.at (sym zero) in
-        in-append_left plain replaced q (in-flat_map plain_of texts t q has.is_in
+        inl (in-flat_map plain_of texts t q has.is_in
         (subst (λ z. In z (plain_of t)) is (in-map (plain_at t.sec) (code_of t.text) begins.p begins.is_in)))
     | inr r ↦
         let k : ℕ = r.k in
@@ -114,27 +111,42 @@ module _ (texts : List SectionText) (entries : List AltEntry) (rise : RiseBySect
         let is : replaced_at entries k distance ≡ q = same_point start.sec (start.off + distance) (k + 1) q r.place.sec there r.variant in
         let inside : k < length entries = counts_inside entries k r.counts in
         let at : In distance (distances k) = in-range 0 (len + 1) distance (omega arith) (omega arith) in
-        in-append_right plain replaced q (in-flat_map (replaced_of texts entries) (counted entries) k q
+        inr (in-flat_map (replaced_of texts entries) (counted entries) k q
         (in-filter (λ i. counts (entry_at entries i)) (range_with_len 0 (length entries)) k (in-range 0 (length entries) k (omega arith) (omega arith)) r.counts)
         (in-filter (is_point texts entries) (map (replaced_at entries k) (distances k)) q
         (subst (λ z. In z (map (replaced_at entries k) (distances k))) is (in-map (replaced_at entries k) (distances k) distance at)) point))
   ]
 
--- once they are sorted, they are the points in their order
-pub sorted_points : (texts : List SectionText) (entries : List AltEntry) (ps : List Point) → AscendBySection texts → IsPermutation (gathered texts entries) ps → IsSortedBy (λ p q. is_lt (point_cmp p q)) ps → ps ≡ points_of texts entries
-sorted_points texts entries ps ascend moved sorted =
-    let rise : RiseBySection texts = rise_by_section texts ascend in
-    let distinct : IsDistinct (eq_by_cmp variant_cmp) ps =
-    IsDistinct-IsPermutation (eq_by_cmp variant_cmp) (λ p q. (eq_by_cmp_equiv variant_total).symm p q) (gathered texts entries) ps moved
-    (IsDistinct-from_sorted variant_cmp (gathered texts entries) (gathered_sorted texts entries rise)) in
-    let d : Point = record { place = record { sec = 0; off = 0 }; variant = 0 } in
-    let strictly : IsStrictlySortedBy point_cmp ps =
-    sorted_from_all_adjacent point_total ps d (λ k inside. less_from (get_or ps k d) (get_or ps (k + 1) d) (sorted k d (omega arith) inside) (apart_from_distinct (eq_by_cmp variant_cmp) ps k (k + 1) d distinct (omega arith) inside)) in
-    points_are texts entries ascend ps strictly
-    (λ q h. every-in (IsPoint texts entries) ps q
-    (recursion_from_All (IsPoint texts entries) ps (All-permutation (IsPoint texts entries) (gathered texts entries) ps moved
-    (All-from_recursion (IsPoint texts entries) (gathered texts entries) (every-from_in (IsPoint texts entries) (gathered texts entries) (gathered_sound texts entries rise))))) h)
-    (λ q point. in_contains ps q (Contains-permutation (gathered texts entries) ps q moved (contains_in (gathered texts entries) q (gathered_complete texts entries rise q point))))
+  -- those of replacements once they are sorted by place
+  module _ (others : List Point) (moved : IsPermutation replaced others) (sorted : IsSortedBy (λ p q. is_lt (point_cmp p q)) others) where
+    others_sorted : IsStrictlySortedBy point_cmp others
+    others_sorted =
+        let distinct : IsDistinct (eq_by_cmp variant_cmp) others =
+        IsDistinct-IsPermutation (eq_by_cmp variant_cmp) (λ p q. (eq_by_cmp_equiv variant_total).symm p q) replaced others moved
+        (IsDistinct-from_sorted variant_cmp replaced replaced_sorted) in
+        let d : Point = record { place = record { sec = 0; off = 0 }; variant = 0 } in
+        sorted_from_all_adjacent point_total others d (λ k inside. less_from (get_or others k d) (get_or others (k + 1) d) (sorted k d (omega arith) inside) (apart_from_distinct (eq_by_cmp variant_cmp) others k (k + 1) d distinct (omega arith) inside))
+
+    others_above : AllByRecursion (λ (p : Point). 0 < p.variant) others
+    others_above = recursion_from_All (λ (p : Point). 0 < p.variant) others (All-permutation (λ (p : Point). 0 < p.variant) replaced others moved (All-from_recursion (λ (p : Point). 0 < p.variant) replaced replaced_above))
+
+    others_sound : AllByRecursion (IsPoint texts entries) others
+    others_sound = recursion_from_All (IsPoint texts entries) others (All-permutation (IsPoint texts entries) replaced others moved (All-from_recursion (IsPoint texts entries) replaced (replaced_sound texts entries)))
+
+    woven_complete : (q : Point) → In q plain ⊎ In q replaced → In q (woven plain others)
+    woven_complete q (inl h) = in-woven_plain plain others q h
+    woven_complete q (inr h) = in-woven_other plain others q (in_contains others q (Contains-permutation replaced others q moved (contains_in replaced q h)))
+
+    all_points : AscendBySection texts → woven plain others ≡ points_of texts entries
+    all_points ascend =
+        points_are texts entries ascend (woven plain others)
+        (woven-sorted plain others plain_sorted others_sorted plain_zero others_above)
+        (λ q h. every-in (IsPoint texts entries) (woven plain others) q (every-woven (IsPoint texts entries) plain others plain_sound others_sound) h)
+        (λ q point. woven_complete q (gathered_complete q point))
+
+-- woven among the plain ones, they are the points in their order
+pub woven_points : (texts : List SectionText) (entries : List AltEntry) (others : List Point) → AscendBySection texts → IsPermutation (replacement_points texts entries) others → IsSortedBy (λ p q. is_lt (point_cmp p q)) others → woven (plain_points texts) others ≡ points_of texts entries
+woven_points texts entries others ascend moved sorted = all_points texts entries (rise_by_section texts ascend) others moved sorted ascend
 
 few_of : (t : SectionText) → length (plain_of t) ≤ length t.text.bytes
 few_of t =
@@ -142,7 +154,7 @@ few_of t =
     omega (arith, code_short t.text)
 
 -- the code as it is assembled has no more points than bytes
-pub few_plain : (texts : List SectionText) → length (flat_map plain_of texts) ≤ text_bytes texts
+pub few_plain : (texts : List SectionText) → length (plain_points texts) ≤ text_bytes texts
 few_plain texts =
     let whole : length (flat_map plain_of texts) ≡ sum_by (λ t. length (plain_of t)) texts = length-flat_map plain_of texts in
     let most : sum_by (λ t. length (plain_of t)) texts ≤ sum_by (λ (t : SectionText). length t.text.bytes) texts = sum_by-le-sum_by (λ t. length (plain_of t)) (λ (t : SectionText). length t.text.bytes) texts few_of in

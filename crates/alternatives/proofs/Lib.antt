@@ -13,6 +13,7 @@ pub mod Placed
 pub mod Opened
 pub mod PointOrder
 pub mod Listing
+pub mod Weaving
 pub mod Gathering
 pub mod Numbering
 pub mod SiteEntries

@@ -41,7 +41,7 @@ fn replacement_insn(texts: &[SectionText<'_>], entry: &AltEntry, place: Place) -
         return None;
     }
     if is_within(entry.replacement, entry.replacement_len, place) {
-        return insn_at(texts, place, 0);
+        return insn_at(texts, place);
     }
     if !is_padded(texts, entry, place) {
         return None;
@@ -50,19 +50,18 @@ fn replacement_insn(texts: &[SectionText<'_>], entry: &AltEntry, place: Place) -
     Some(Insn { len, op: Op::Nop })
 }
 
-/// The instruction of a point; of a plain one that with a number in its text is tried first.
+/// The instruction of a point.
 pub(crate) fn insn_of_point(
     texts: &[SectionText<'_>],
     entries: &[AltEntry],
     point: Point,
-    near: u32,
 ) -> Option<Insn>
     requires ascending { AscendBySection texts.now }
     requires short { AreShort texts.now }
     ensures { result ≡ insn_of_a_point texts.now entries.now point }
 {
     if point.variant == 0 {
-        return insn_at(texts, point.place, near);
+        return insn_at(texts, point.place);
     }
     let entry = point.variant as usize - 1;
     if entry >= entries.len() {

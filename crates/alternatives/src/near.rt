@@ -1,55 +1,118 @@
-//! Where a point stands by its place, without a search.
+//! Where a point stands by its place, found among the few of its block.
 
-ghost use Rattle.std.specs.Prelude.{◌≡◌, ◌<◌, ◌^◌, Some, length, slice_get, IfOk, IfSome};
+ghost use Rattle.std.specs.Prelude.{◌+◌, ◌≡◌, ◌<◌, ◌^◌, Some, length, slice_get, IfSome};
 
 use crate::point::Point;
+use crate::site::Site;
 use ot_base::{NoMemory, Place};
 use std::alloc::Global;
 
-/// How many bytes of a section share a slot. As many points may begin there, and more where replacements overlap.
-const BYTES: usize = 4;
+/// How many bytes of a section a block has.
+const BYTES: u64 = 16;
 
-/// The slot of a place, of so many.
-fn slot_of(place: Place, count: usize) -> usize
-    requires { 0 < count }
-    ensures { result < count }
-{
-    let block = (place.off / 4).wrapping_add(8191 * u64::from(place.sec));
-    (block % count as u64) as usize
+/// How many of some places stand up to the end of each block of bytes of the sections. It is a guess: no contract says so.
+#[derive(Drop)]
+pub(crate) struct Blocks {
+    /// How many blocks the sections before each section have.
+    before: Vec<u64>,
+    /// How many places stand up to the end of each block.
+    upto: Vec<u32>,
 }
 
-/// So many slots without a point.
-fn unused_slots(alloc: Global, count: usize) -> Result<Vec<u32>, NoMemory>
-    ensures { IfOk result (λ slots. length slots.items ≡ count) }
-{
-    Ok(vec![in alloc; 0; count]?)
-}
-
-/// The number of the last point in each slot, of as many slots as there are points; 0 where a slot has none.
-pub(crate) fn slots_of(alloc: Global, points: &[Point]) -> Result<Vec<u32>, NoMemory>
-    requires { length points.now < 2 ^ 32 }
-    ensures { IfOk result (λ slots. length slots.items ≡ length points.now) }
-{
-    let count = points.len();
-    let mut slots = unused_slots(alloc, count)?;
-    for n in 0..count {
-        slots[slot_of(points[n].place, count)] = n as u32;
+impl Blocks {
+    /// Counts a place, which comes behind so many others.
+    fn count(&mut self, place: Place, others: u32) -> Result<(), NoMemory>
+        requires { others + 1 < 2 ^ 32 }
+    {
+        let sec = place.sec as usize;
+        while self.before.len() <= sec {
+            self.before.push(self.upto.len() as u64)?;
+        }
+        let block = self.before[sec].wrapping_add(place.off / BYTES) as usize;
+        while self.upto.len() <= block {
+            self.upto.push(others)?;
+        }
+        self.upto[block] = others + 1;
+        Ok(())
     }
-    Ok(slots)
-}
 
-/// The number of a point that is the last in its slot or one of the few before that. Of any other nothing is told.
-pub(crate) fn near_number(points: &[Point], slots: &[u32], point: Point) -> Option<u32>
-    ensures { IfSome result (λ n. slice_get points.now n ≡ Some point) }
-{
-    if slots.is_empty() {
-        return None;
+    /// The blocks of points that ascend by place.
+    pub(crate) fn of_points(alloc: Global, points: &[Point]) -> Result<Blocks, NoMemory>
+        requires { length points.now < 2 ^ 32 }
+    {
+        let before = Vec::new(alloc);
+        let upto = Vec::new(alloc);
+        let mut blocks = Blocks { before, upto };
+        for n in 0..points.len() {
+            blocks.count(points[n].place, n as u32)?;
+        }
+        Ok(blocks)
     }
-    let last = slots[slot_of(point.place, slots.len())] as usize;
-    for n in last.saturating_sub(BYTES - 1)..last + 1 {
-        if n < points.len() && points[n] == point {
-            return Some(n as u32);
+
+    /// The blocks of the starts of sites that ascend.
+    pub(crate) fn of_sites(alloc: Global, sites: &[Site]) -> Result<Blocks, NoMemory>
+        requires { length sites.now < 2 ^ 32 }
+    {
+        let before = Vec::new(alloc);
+        let upto = Vec::new(alloc);
+        let mut blocks = Blocks { before, upto };
+        for n in 0..sites.len() {
+            blocks.count(sites[n].start, n as u32)?;
+        }
+        Ok(blocks)
+    }
+
+    /// How many blocks the sections before one have.
+    fn before(&self, sec: usize) -> u64 {
+        match self.before.get(sec) {
+            Some(before) => *before,
+            None => self.upto.len() as u64,
         }
     }
-    None
+
+    /// How many places stand before the block of a place, and up to its end.
+    pub(crate) fn numbers(&self, place: Place) -> (u32, u32) {
+        let sec = place.sec as usize;
+        let block = self.before(sec).wrapping_add(place.off / BYTES);
+        let block = block.min(self.before(sec + 1)) as usize;
+        let first = if block == 0 {
+            0
+        } else {
+            *self.upto.get(block - 1).unwrap_or(&0)
+        };
+        (first, *self.upto.get(block).unwrap_or(&first))
+    }
+
+    /// The number of a point, of those of its block. Where none is told, the point may still be one.
+    pub(crate) fn number_of(&self, points: &[Point], point: Point) -> Option<u32>
+        ensures { IfSome result (λ n. slice_get points.now n ≡ Some point) }
+    {
+        let (first, end) = self.numbers(point.place);
+        let n = last_up_to(points, point, first as usize, end as usize)?;
+        if points[n] == point {
+            Some(n as u32)
+        } else {
+            None
+        }
+    }
+}
+
+/// The last of these points, of those between two numbers, that isn't behind a point, where they ascend.
+fn last_up_to(points: &[Point], point: Point, first: usize, end: usize) -> Option<usize>
+    ensures { IfSome result (λ n. (n < length points.now) × (n < end)) }
+{
+    if end > points.len() || first >= end {
+        return None;
+    }
+    let mut low = first;
+    let mut high = end;
+    while high - low > 1 {
+        let middle = low + (high - low) / 2;
+        if points[middle] <= point {
+            low = middle;
+        } else {
+            high = middle;
+        }
+    }
+    Some(low)
 }

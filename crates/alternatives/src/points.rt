@@ -1,30 +1,44 @@
 //! The points of an object, in their order.
 
-ghost use Rattle.std.specs.Prelude.{◌≡◌, ◌+◌, ◌*◌, ◌≤◌, ◌<◌, ◌++◌, ℕ, true, Some, map, length, All, IfOk, OnOk};
-ghost use Rattle.alternatives.specs.Gathered.{gathered, plain_of, replaced_of};
+ghost use Rattle.std.specs.Prelude.{◌≡◌, ◌+◌, ◌*◌, ◌≤◌, ◌<◌, ◌++◌, ◌∷◌, [], ℕ, true, false, List, Option, Some, map, drop, length, slice_index_or, All, IfOk, OnOk};
+ghost use Rattle.std.specs.List.Sorted.{IsPermutation, IsSortedBy};
+ghost use Rattle.std.specs.Ordering.{is_lt};
+ghost use Rattle.operation_defs.specs.declared.insn.Insn.{Insn};
+ghost use Rattle.alternatives.specs.declared.point.Point.{Point};
+ghost use Rattle.alternatives.specs.Gathered.{plain_of, replaced_of, replacement_points, woven, HaveInsns, TellsPlain};
 ghost use Rattle.alternatives.specs.Originals.{counts as is_counted, entry_at};
-ghost use Rattle.alternatives.specs.Points.{insn_of_point as insn_of_a_point, points_of as points_in_order, IsPoint};
+ghost use Rattle.alternatives.specs.Points.{insn_of_point as insn_of_a_point, point_cmp, points_of as points_in_order, IsPoint};
+ghost use Rattle.alternatives.specs.Sites.{is_before as is_before_place};
 ghost use Rattle.alternatives.specs.Texts.{text_bytes, AreShort, AscendBySection};
 
 use crate::insns::insn_of_point;
 use crate::original::counts;
 use crate::point::Point;
+use crate::site::is_before;
 use crate::texts::SectionText;
 use operation_defs::Insn;
 use ot_base::{NoMemory, Place};
 use special_sections::AltEntry;
 use std::alloc::Global;
 
-/// Adds the points of a text section.
-fn push_plain(points: &mut Vec<Point>, text: &SectionText<'_>) -> Result<(), NoMemory>
-    ensures { OnOk result (points.new.items ≡ points.old.items ++ plain_of text.now) }
-{
-    for i in 0..text.text.count() {
-        let (off, _) = text.text.insn(i);
-        let place = Place { sec: text.sec, off };
-        points.push(Point { place, variant: 0 })?;
+/// Points with their instructions.
+#[derive(Drop)]
+pub(crate) struct Listed {
+    pub(crate) points: Vec<Point>,
+    pub(crate) insns: Vec<Insn>,
+}
+
+impl Listed {
+    /// Adds a point.
+    #[inline(always)]
+    fn push(&mut self, point: Point, insn: Insn) -> Result<(), NoMemory>
+        ensures point { OnOk result (self.new.points.items ≡ self.old.points.items ++ point ∷ []) }
+        ensures insn { OnOk result (self.new.insns.items ≡ self.old.insns.items ++ insn ∷ []) }
+    {
+        self.points.push(point)?;
+        self.insns.push(insn)?;
+        Ok(())
     }
-    Ok(())
 }
 
 /// Adds the points of the replacement of an entry.
@@ -49,15 +63,15 @@ fn push_replaced(
         let place = Place { off, ..start };
         let variant = entry + 1;
         let point = Point { place, variant };
-        if insn_of_point(texts, entries, point, 0).is_some() {
+        if insn_of_point(texts, entries, point).is_some() {
             points.push(point)?;
         }
     }
     Ok(())
 }
 
-/// The points of an object, by variant.
-fn gather_points(
+/// The points of replacements, by variant.
+fn gather_replaced(
     alloc: Global,
     texts: &[SectionText<'_>],
     entries: &[AltEntry],
@@ -66,13 +80,10 @@ fn gather_points(
     requires short { AreShort texts.now }
     requires few { length entries.now ≤ 8388608 }
     requires near { (k : ℕ) → k < length entries.now → is_counted (entry_at entries.now k) ≡ true → (entry_at entries.now k).replacement.off ≤ 16777216 }
-    ensures all { IfOk result (λ points. points.items ≡ gathered texts.now entries.now) }
-    ensures few { IfOk result (λ points. length points.items ≤ text_bytes texts.now + 256 * length entries.now) }
+    ensures all { IfOk result (λ points. points.items ≡ replacement_points texts.now entries.now) }
+    ensures few { IfOk result (λ points. length points.items ≤ 256 * length entries.now) }
 {
     let mut points = Vec::new(alloc);
-    for text in texts {
-        push_plain(&mut points, text)?;
-    }
     for entry in 0..entries.len() as u32 {
         if counts(&entries[entry as usize]) {
             push_replaced(&mut points, texts, entries, entry)?;
@@ -81,48 +92,8 @@ fn gather_points(
     Ok(points)
 }
 
-/// The points of an object, by place and then by variant.
-pub(crate) fn points_of(
-    alloc: Global,
-    texts: &[SectionText<'_>],
-    entries: &[AltEntry],
-) -> Result<Vec<Point>, NoMemory>
-    requires ascending { AscendBySection texts.now }
-    requires short { AreShort texts.now }
-    requires few { length entries.now ≤ 8388608 }
-    requires near { (k : ℕ) → k < length entries.now → is_counted (entry_at entries.now k) ≡ true → (entry_at entries.now k).replacement.off ≤ 16777216 }
-    ensures all { IfOk result (λ points. points.items ≡ points_in_order texts.now entries.now) }
-    ensures few { IfOk result (λ points. length points.items ≤ text_bytes texts.now + 256 * length entries.now) }
-{
-    let mut points = gather_points(alloc, texts, entries)?;
-    // It is sorted but for replacements, whose points come in short runs: runs are merged.
-    points.sort_by_key(|point| (point.place, point.variant))?;
-    Ok(points)
-}
-
-/// Where the instruction of a plain point is tried first: by its number in the text of a section.
-#[derive(Clone, Copy)]
-struct Near {
-    sec: u32,
-    index: u32,
-}
-
-/// The same for a point behind others.
-fn near_behind(near: Near, point: Point) -> Near {
-    if point.variant != 0 {
-        return near;
-    }
-    let sec = point.place.sec;
-    let index = if sec == near.sec {
-        near.index.saturating_add(1)
-    } else {
-        0
-    };
-    Near { sec, index }
-}
-
 /// The instructions of points.
-pub(crate) fn insns_of(
+fn insns_of(
     alloc: Global,
     texts: &[SectionText<'_>],
     entries: &[AltEntry],
@@ -134,12 +105,129 @@ pub(crate) fn insns_of(
     ensures { IfOk result (λ insns. map (λ insn. Some insn) insns.items ≡ map (insn_of_a_point texts.now entries.now) points.now) }
 {
     let mut insns = Vec::with_capacity(alloc, points.len())?;
-    let mut near = Near { sec: 0, index: 0 };
     for point in points {
-        near = near_behind(near, *point);
-        if let Some(insn) = insn_of_point(texts, entries, *point, near.index) {
+        if let Some(insn) = insn_of_point(texts, entries, *point) {
             insns.push(insn)?;
         }
     }
     Ok(insns)
+}
+
+/// The points of replacements, by place and then by variant.
+fn list_replaced(
+    alloc: Global,
+    texts: &[SectionText<'_>],
+    entries: &[AltEntry],
+) -> Result<Listed, NoMemory>
+    requires ascending { AscendBySection texts.now }
+    requires short { AreShort texts.now }
+    requires few { length entries.now ≤ 8388608 }
+    requires near { (k : ℕ) → k < length entries.now → is_counted (entry_at entries.now k) ≡ true → (entry_at entries.now k).replacement.off ≤ 16777216 }
+    ensures all { IfOk result (λ l. IsPermutation (replacement_points texts.now entries.now) l.points.items) }
+    ensures sorted { IfOk result (λ l. IsSortedBy (λ p q. is_lt (point_cmp p q)) l.points.items) }
+    ensures insns { IfOk result (HaveInsns (insn_of_a_point texts.now entries.now)) }
+    ensures few { IfOk result (λ l. length l.points.items ≤ 256 * length entries.now) }
+{
+    let mut points = gather_replaced(alloc, texts, entries)?;
+    points.sort_by_key(|point| (point.place, point.variant))?;
+    let insns = insns_of(alloc, texts, entries, points.as_slice())?;
+    Ok(Listed { points, insns })
+}
+
+/// No points yet, with room for the instructions of texts and so many others.
+fn room_for(alloc: Global, texts: &[SectionText<'_>], others: usize) -> Result<Listed, NoMemory>
+    ensures points { IfOk result (λ l. l.points.items ≡ []) }
+    ensures insns { IfOk result (λ l. l.insns.items ≡ []) }
+{
+    let mut count = others;
+    for text in texts {
+        count = count.saturating_add(text.text.count() as usize);
+    }
+    let points = Vec::with_capacity(alloc, count)?;
+    let insns = Vec::with_capacity(alloc, count)?;
+    Ok(Listed { points, insns })
+}
+
+/// Whether there is an other point of this number, at a lower place than a plain point.
+#[inline(always)]
+fn comes_first(others: &[Point], n: usize, point: Point) -> bool
+    ensures other { result ≡ true → (n < length others.now) × ((d : Point) → is_before_place (slice_index_or others.now n d).place point.place ≡ true) }
+    ensures plain { result ≡ false → (rest : List Point) → woven (point ∷ rest) (drop n others.now) ≡ point ∷ woven rest (drop n others.now) }
+{
+    if n >= others.len() {
+        return false;
+    }
+    is_before(others[n].place, point.place)
+}
+
+/// Adds those of these points, from a number on, that come before a plain point, and tells the number of the next.
+fn push_before(
+    listed: &mut Listed,
+    replaced: &Listed,
+    from: usize,
+    point: Point,
+) -> Result<usize, NoMemory>
+    requires within { from ≤ length replaced.now.points.items }
+    requires each { length replaced.now.insns.items ≡ length replaced.now.points.items }
+    ensures within { IfOk result (λ next. next ≤ length replaced.now.points.items) }
+    ensures points { IfOk result (λ next. (rest : List Point) → listed.new.points.items ++ point ∷ woven rest (drop next replaced.now.points.items) ≡ listed.old.points.items ++ woven (point ∷ rest) (drop from replaced.now.points.items)) }
+    ensures insns { OnOk result ((told : Point → Option Insn) → HaveInsns told replaced.now → HaveInsns told listed.old → HaveInsns told listed.new) }
+{
+    let mut next = from;
+    while comes_first(&replaced.points, next, point) {
+        listed.push(replaced.points[next], replaced.insns[next])?;
+        next += 1;
+    }
+    Ok(next)
+}
+
+/// Adds the points of a text section, and those of these points, from a number on, that come before one of them, and tells
+/// the number of the next.
+fn push_text(
+    listed: &mut Listed,
+    text: &SectionText<'_>,
+    replaced: &Listed,
+    from: usize,
+) -> Result<usize, NoMemory>
+    requires within { from ≤ length replaced.now.points.items }
+    requires each { length replaced.now.insns.items ≡ length replaced.now.points.items }
+    ensures within { IfOk result (λ next. next ≤ length replaced.now.points.items) }
+    ensures points { IfOk result (λ next. (rest : List Point) → listed.new.points.items ++ woven rest (drop next replaced.now.points.items) ≡ listed.old.points.items ++ woven (plain_of text.now ++ rest) (drop from replaced.now.points.items)) }
+    ensures insns { OnOk result ((told : Point → Option Insn) → TellsPlain told text.now → HaveInsns told replaced.now → HaveInsns told listed.old → HaveInsns told listed.new) }
+{
+    let mut next = from;
+    for i in 0..text.text.count() {
+        let (off, insn) = text.text.insn(i);
+        let place = Place { sec: text.sec, off };
+        let point = Point { place, variant: 0 };
+        next = push_before(listed, replaced, next, point)?;
+        listed.push(point, insn)?;
+    }
+    Ok(next)
+}
+
+/// The points of an object, by place and then by variant.
+pub(crate) fn list_points(
+    alloc: Global,
+    texts: &[SectionText<'_>],
+    entries: &[AltEntry],
+) -> Result<Listed, NoMemory>
+    requires ascending { AscendBySection texts.now }
+    requires short { AreShort texts.now }
+    requires few { length entries.now ≤ 8388608 }
+    requires near { (k : ℕ) → k < length entries.now → is_counted (entry_at entries.now k) ≡ true → (entry_at entries.now k).replacement.off ≤ 16777216 }
+    ensures all { IfOk result (λ l. l.points.items ≡ points_in_order texts.now entries.now) }
+    ensures insns { IfOk result (HaveInsns (insn_of_a_point texts.now entries.now)) }
+    ensures few { IfOk result (λ l. length l.points.items ≤ text_bytes texts.now + 256 * length entries.now) }
+{
+    let replaced = list_replaced(alloc, texts, entries)?;
+    let mut listed = room_for(alloc, texts, replaced.points.len())?;
+    let mut next = 0;
+    for text in texts {
+        next = push_text(&mut listed, text, &replaced, next)?;
+    }
+    for n in next..replaced.points.len() {
+        listed.push(replaced.points[n], replaced.insns[n])?;
+    }
+    Ok(listed)
 }

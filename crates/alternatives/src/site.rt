@@ -1,6 +1,6 @@
 //! Sites: the places of code that may be patched over.
 
-ghost use Rattle.std.specs.Prelude.{◌≡◌, ◌+◌, ◌<◌, ◌≤◌, ◌^◌, ℕ, true, false, List, length, slice_index_or, IfOk, All, MatchOption};
+ghost use Rattle.std.specs.Prelude.{◌≡◌, ◌+◌, ◌-◌, ◌<◌, ◌≤◌, ◌^◌, ℕ, true, false, List, length, slice_index_or, IfOk, All, MatchOption};
 ghost use Rattle.special_sections.specs.Hints.{is_place};
 ghost use Rattle.special_sections.specs.declared.entries.AltEntry.{AltEntry};
 ghost use Rattle.alternatives.specs.declared.original.Original.{Original};
@@ -85,7 +85,7 @@ fn holds(site: &Site, place: Place) -> bool
 }
 
 /// How many of these begin at a place or before it.
-fn count_to(sites: &[Site], place: Place) -> usize
+fn search_to(sites: &[Site], place: Place) -> usize
     requires { AscendApart sites.now }
     ensures within { result ≤ length sites.now }
     ensures from { (k : ℕ) (d : Site) → k < result → is_lower place (slice_index_or sites.now k d).start ≡ false }
@@ -94,13 +94,42 @@ fn count_to(sites: &[Site], place: Place) -> usize
     sites.partition_point(|site| !is_before(place, site.start))
 }
 
-/// The number of the site that holds a place.
-pub(crate) fn find_site(sites: &[Site], place: Place) -> Option<u32>
+/// Whether so many of these begin at a place or before it, or more.
+fn are_from(sites: &[Site], place: Place, count: usize) -> bool
+    ensures within { result ≡ true → count ≤ length sites.now }
+    ensures last { result ≡ true → (d : Site) → 0 < count → is_lower place (slice_index_or sites.now (count - 1) d).start ≡ false }
+{
+    if count > sites.len() {
+        return false;
+    }
+    count == 0 || !is_before(place, sites[count - 1].start)
+}
+
+/// How many of these begin at a place or before it, counted on from so many of the first that are thought to.
+fn count_to(sites: &[Site], place: Place, near: usize) -> usize
+    requires { AscendApart sites.now }
+    ensures within { result ≤ length sites.now }
+    ensures from { (k : ℕ) (d : Site) → k < result → is_lower place (slice_index_or sites.now k d).start ≡ false }
+    ensures behind { (k : ℕ) (d : Site) → result ≤ k → k < length sites.now → is_lower place (slice_index_or sites.now k d).start ≡ true }
+{
+    if !are_from(sites, place, near) {
+        return search_to(sites, place);
+    }
+    for count in near..sites.len() {
+        if is_before(place, sites[count].start) {
+            return count;
+        }
+    }
+    sites.len()
+}
+
+/// The number of the site that holds a place, looked for near so many.
+pub(crate) fn find_site(sites: &[Site], place: Place, near: usize) -> Option<u32>
     requires few { length sites.now < 2 ^ 32 }
     requires apart { AscendApart sites.now }
     ensures { MatchOption result ((k : ℕ) (d : Site) → k < length sites.now → site_holds (slice_index_or sites.now k d) place ≡ false) (λ i. (i < length sites.now) × ((d : Site) → site_holds (slice_index_or sites.now i d) place ≡ true)) }
 {
-    let count = count_to(sites, place);
+    let count = count_to(sites, place, near);
     if count == 0 {
         return None;
     }
@@ -112,15 +141,20 @@ pub(crate) fn find_site(sites: &[Site], place: Place) -> Option<u32>
     }
 }
 
-/// The numbers of the entries of the site that begins at a place, of those of all sites.
-pub(crate) fn numbers_from<'n>(sites: &[Site], numbers: &'n [u32], place: Place) -> &'n [u32]
+/// The numbers of the entries of the site that begins at a place, of those of all sites, looked for near so many.
+pub(crate) fn numbers_from<'n>(
+    sites: &[Site],
+    numbers: &'n [u32],
+    place: Place,
+    near: usize,
+) -> &'n [u32]
     requires few { length sites.now < 2 ^ 32 }
     requires some { length numbers.now ≤ 8388608 }
     requires apart { AscendApart sites.now }
     requires fill { FillFrom 0 sites.now (length numbers.now) }
     ensures { (entries : List AltEntry) → AreSitesOf entries sites.now numbers.now → result.now ≡ entries_from entries place }
 {
-    let Some(found) = find_site(sites, place) else {
+    let Some(found) = find_site(sites, place, near) else {
         return &[];
     };
     let site = sites[found as usize];

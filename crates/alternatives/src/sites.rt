@@ -11,6 +11,7 @@ ghost use Rattle.alternatives.specs.declared.site.Site.{Site};
 
 use crate::check::check_entries;
 use crate::fault::SiteFault;
+use crate::near::Blocks;
 use crate::original::{Original, sorted_originals};
 use crate::overlap::find_overlap;
 use crate::point::Point;
@@ -29,6 +30,7 @@ use std::marker::Model;
 pub struct Sites {
     sites: Vec<Site>,
     entry_numbers: Vec<u32>,
+    blocks: Blocks,
     table: PointTable,
 }
 
@@ -88,7 +90,8 @@ impl Sites {
     pub fn site_at(&self, place: Place) -> Option<u32>
         ensures { MatchOption result ((k : ℕ) (d : Site) → k < length self.now.sites → holds (slice_index_or self.now.sites k d) place ≡ false) (λ i. (i < length self.now.sites) × ((d : Site) → holds (slice_index_or self.now.sites i d) place ≡ true)) }
     {
-        find_site(self.sites.as_slice(), place)
+        let (near, _) = self.blocks.numbers(place);
+        find_site(self.sites.as_slice(), place, near as usize)
     }
 
     /// The numbers of the entries that have an original, by site, and those of one site ascending.
@@ -102,7 +105,8 @@ impl Sites {
     pub fn entries_at(&self, place: Place) -> &[u32]
         ensures { result.now ≡ entries_from self.now.entries place }
     {
-        numbers_from(&self.sites, &self.entry_numbers, place)
+        let (near, _) = self.blocks.numbers(place);
+        numbers_from(&self.sites, &self.entry_numbers, place, near as usize)
     }
 
     /// The points of the object's code, by place and then by variant. The number of a point is its index
@@ -203,10 +207,12 @@ pub(crate) fn build_sites(
     check_entries(texts, entries, overlap)?;
     let sites = group_sites(alloc, originals.as_slice())?;
     let entry_numbers = numbers_of(alloc, originals.as_slice())?;
+    let blocks = Blocks::of_sites(alloc, sites.as_slice())?;
     let table = PointTable::build(alloc, texts, entries)?;
     Ok(Sites {
         sites,
         entry_numbers,
+        blocks,
         table,
     })
 }

@@ -6,9 +6,9 @@ ghost use Rattle.alternatives.specs.Numbers.{IsNumberOf, IsRunOf};
 ghost use Rattle.alternatives.specs.Points.{address_of_point, first_of as first_point, insn_of_point as insn_of_a_point, point_after, points_of as points_in_order};
 ghost use Rattle.alternatives.specs.Texts.{text_bytes, AreShort, AscendBySection};
 
-use crate::near::{near_number, slots_of};
+use crate::near::Blocks;
 use crate::point::{Point, count_before, count_to};
-use crate::points::{insns_of, points_of};
+use crate::points::list_points;
 use crate::texts::SectionText;
 use operation_defs::Insn;
 use ot_base::{NoMemory, Place};
@@ -23,8 +23,7 @@ pub(crate) struct PointTable {
     points: Vec<Point>,
     insns: Vec<Insn>,
     entries: Vec<AltEntry>,
-    /// The number of the last point in each slot of places.
-    slots: Vec<u32>,
+    blocks: Blocks,
 }
 
 impl Model for PointTable {
@@ -53,15 +52,14 @@ impl PointTable {
         ensures insns { IfOk result (λ t. map (λ insn. Some insn) t.insns ≡ map (insn_of_a_point texts.now entries.now) t.points) }
         ensures entries { IfOk result (λ t. t.entries ≡ entries.now) }
     {
-        let points = points_of(alloc, texts, entries)?;
-        let insns = insns_of(alloc, texts, entries, points.as_slice())?;
-        let slots = slots_of(alloc, points.as_slice())?;
+        let listed = list_points(alloc, texts, entries)?;
+        let blocks = Blocks::of_points(alloc, listed.points.as_slice())?;
         let entries = entries.to_vec(alloc)?;
         Ok(PointTable {
-            points,
-            insns,
+            points: listed.points,
+            insns: listed.insns,
             entries,
-            slots,
+            blocks,
         })
     }
 
@@ -77,7 +75,7 @@ impl PointTable {
     pub(crate) fn number_of(&self, point: Point) -> Option<u32>
         ensures { IsNumberOf self.now.points point result }
     {
-        if let Some(n) = near_number(&self.points, &self.slots, point) {
+        if let Some(n) = self.blocks.number_of(&self.points, point) {
             return Some(n);
         }
         match self.points.binary_search(&point) {

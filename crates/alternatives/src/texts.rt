@@ -3,7 +3,6 @@
 ghost use Rattle.std.specs.Prelude.{◌≡◌, ◌+◌, ◌<◌, ◌≤◌, ◌==◌, ℕ, true, length, slice_index_or};
 ghost use Rattle.alternatives.specs.Texts.{insn_at as insn_found, is_cut as is_a_cut, is_cut_of as is_a_cut_of, is_whole as is_a_whole, AreShort, AscendBySection};
 ghost use Rattle.alternatives.specs.declared.texts.SectionText.{SectionText};
-ghost use Rattle.x86_text.specs.Code.{code_of, insn_listed};
 
 use operation_defs::Insn;
 use ot_base::Place;
@@ -48,22 +47,8 @@ fn count_below(texts: &[SectionText<'_>], sec: u32) -> usize
     texts.partition_point(|text| text.sec < sec)
 }
 
-/// The instruction of a body that begins at an offset, where the one with a number is tried first.
-fn insn_in(text: &Text<'_>, off: u64, near: u32) -> Option<Insn>
-    ensures { result ≡ insn_listed (code_of text.now) off }
-{
-    if near >= text.count() {
-        return text.insn_at(off);
-    }
-    let (begin, insn) = text.insn(near);
-    if begin == off {
-        return Some(insn);
-    }
-    text.insn_at(off)
-}
-
-/// The instruction that begins at a place, where the one with a number is tried first.
-pub(crate) fn insn_at(texts: &[SectionText<'_>], place: Place, near: u32) -> Option<Insn>
+/// The instruction that begins at a place.
+pub(crate) fn insn_at(texts: &[SectionText<'_>], place: Place) -> Option<Insn>
     requires { AscendBySection texts.now }
     ensures { result ≡ insn_found texts.now place }
 {
@@ -75,7 +60,7 @@ pub(crate) fn insn_at(texts: &[SectionText<'_>], place: Place, near: u32) -> Opt
     if text.sec != place.sec {
         return None;
     }
-    insn_in(&text.text, place.off, near)
+    text.text.insn_at(place.off)
 }
 
 /// Whether a place is a boundary of a text section, or that section's size.

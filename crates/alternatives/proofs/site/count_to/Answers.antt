@@ -1,45 +1,37 @@
-use Rattle.std.proofs.Common.{◌≡◌, ◌⊎◌, Bool, true, false, not, List, get_or, inl, inr, arith, rules, tests, refl, sym, ap, ◌∙◌}
-use Rattle.std.specs.List.Sorted.{IsPartitionedBy}
+use Rattle.std.proofs.Common.{◌≡◌, ℕ, ◌-◌, true, List, get_or, inl, inr, refl, sym, ap, ◌∙◌, arith}
 use Rattle.std.proofs.lemmas.Bool.{cases_lt}
-use Rattle.std.proofs.lemmas.List.Sorted.{IsPartitionPoint-from_clause}
-use Rattle.ot_base.specs.declared.place.Place.{Place}
+use Rattle.std.proofs.lemmas.List.{get_or_default}
 use Rattle.alternatives.specs.declared.site.Site.{Site}
-use Rattle.alternatives.specs.Sites.{is_before, AscendApart}
-use Rattle.alternatives.proofs.Order.{before_on}
+use Rattle.alternatives.specs.Sites.{is_before}
+use Rattle.alternatives.proofs.Order.{behind_on, from_on}
 use Rattle.alternatives.proofs.site.count_to.Goals as goal
 
-not_true : (b : Bool) → not b ≡ true → b ≡ false
-not_true b h = elim b as (λ b. not b ≡ true → b ≡ false) [ true ↦ λ k. sym k | false ↦ λ k. refl ] h
+none : Site
+none = record { start = record { sec = 0; off = 0 }; len = 0; first = 0; count = 0 }
 
-not_false : (b : Bool) → not b ≡ false → b ≡ true
-not_false b h = elim b as (λ b. not b ≡ false → b ≡ true) [ true ↦ λ k. refl | false ↦ λ k. sym k ] h
+pub loop-count-init : goal.loop-count-init
+loop-count-init c = λ k d less.
+    from_on c.args.sites.now c.args.place c.requires k (c.args.near - 1) d (omega arith) (omega (arith, c.if-not-are_from.ensures.within refl)) (c.if-not-are_from.ensures.last refl d (omega arith))
 
-cases : (b : Bool) → (b ≡ true) ⊎ (b ≡ false)
-cases b = elim b as (λ b. (b ≡ true) ⊎ (b ≡ false)) [ true ↦ inl refl | false ↦ inr refl ]
-
-parted : (sites : List Site) (place : Place) → AscendApart sites → IsPartitionedBy (λ (s : Site). not (is_before place s.start)) sites
-parted sites place apart i j d order inside h =
-    let p : Site = get_or sites i d in
-    let q : Site = get_or sites j d in
-    elim (cases_lt i j) [
-      | inl lower ↦ elim (cases (is_before place p.start)) [
-        | inr clear ↦ ap not clear
-        | inl before ↦
-            let after : is_before place q.start ≡ true = before_on place p.start q.start p.len before (apart i j d lower inside) in
-            let bad : false ≡ true = sym (ap not after) ∙ h in
-            cc
-      ]
-      | inr last ↦ let is : j ≡ i = omega arith in ap (λ k. not (is_before place (get_or sites k d).start)) (sym is) ∙ h
+pub loop-count-preserved : goal.loop-count-preserved
+unfolding none
+loop-count-preserved c = λ k d less.
+    let sites : List Site = c.args.sites.now in
+    let n : ℕ = c.loop-count.count in
+    elim (cases_lt k n) [
+      | inl lower ↦ c.loop-count.invariant k d lower
+      | inr not_lower ↦
+          let is : k ≡ n = omega arith in
+          ap (λ j. is_before c.args.place (get_or sites j d).start) is
+          ∙ ap (λ (s : Site). is_before c.args.place s.start) (get_or_default sites n d none c.loop-count-test.true)
+          ∙ sym c.is_before.ensures ∙ c.if-is_before.false
     ]
 
-pub returns-clause-from : goal.returns-clause-from
-returns-clause-from c =
-    let point = IsPartitionPoint-from_clause (λ (s : Site). not (is_before c.args.place s.start)) c.args.sites.now c.partition_point.result c.partition_point.ensures.partitioned
-    (parted c.args.sites.now c.args.place c.requires) (λ a r f k. search (rules, tests)) in
-    λ k d h. not_true _ (point.0 k d (omega arith) h)
-
-pub returns-clause-behind : goal.returns-clause-behind
-returns-clause-behind c =
-    let point = IsPartitionPoint-from_clause (λ (s : Site). not (is_before c.args.place s.start)) c.args.sites.now c.partition_point.result c.partition_point.ensures.partitioned
-    (parted c.args.sites.now c.args.place c.requires) (λ a r f k. search (rules, tests)) in
-    λ k d h i. not_false _ (point.1 k d h i)
+pub returns-then-is_before-clause-behind : goal.returns-then-is_before-clause-behind
+unfolding none
+returns-then-is_before-clause-behind c = λ k d order inside.
+    let sites : List Site = c.args.sites.now in
+    let n : ℕ = c.loop-count.count in
+    let here : is_before c.args.place (get_or sites n d).start ≡ true =
+    ap (λ (s : Site). is_before c.args.place s.start) (get_or_default sites n d none c.loop-count-test.true) ∙ sym c.is_before.ensures ∙ c.if-is_before.true in
+    behind_on sites c.args.place c.requires n k d order inside here

@@ -47,3 +47,12 @@ returns-clause-sites c =
     let groups : GroupsOf os sites (length os) = subst (λ xs. GroupsOf xs sites (length xs)) c.as_slice-2.ensures.value c.in_ok-sites.ensures in
     let numbers : c.in_ok-entry_numbers.entry_numbers.items ≡ map (λ (o : Original). o.entry) os = c.in_ok-entry_numbers.ensures ∙ ap (map (λ (o : Original). o.entry)) c.as_slice-3.ensures.value in
     subst (λ ns. AreSitesOf entries sites ns) (sym numbers) (whole_sites entries os c.in_ok-originals.ensures.all c.in_ok-originals.ensures.sorted sites groups)
+
+pub of_sites-requires : goal.of_sites-requires
+of_sites-requires c =
+    let os : List Original = c.in_ok-originals.originals.items in
+    let few : length os ≤ length c.args.entries.now = few_originals c.args.entries.now os c.in_ok-originals.ensures.all in
+    let same : length c.as_slice-2.result.now ≡ length os = ap (λ (xs : List Original). length xs) c.as_slice-2.ensures.value in
+    let count : 0 + length c.in_ok-sites.sites.items ≤ length c.as_slice-2.result.now = fill_few 0 (length c.as_slice-2.result.now) c.in_ok-sites.sites.items c.in_ok-sites.ensures.fill in
+    let sites : length c.as_slice-4.result.now ≡ length c.in_ok-sites.sites.items = ap (λ (xs : List Site). length xs) c.as_slice-4.ensures.value in
+    omega (arith, c.requires.few)

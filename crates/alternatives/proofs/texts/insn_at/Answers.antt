@@ -39,7 +39,7 @@ returns c =
     only_one (test place) texts n d c.if-at-texts.false (others texts place n d c.requires c.count_below-at.ensures.below c.count_below-at.ensures.above)
     ∙ ap (λ (t : SectionText). cond (test place t) (Some t) None) (sym c.index-texts-at.is)
     ∙ ap (λ b. cond b (Some d) None) (eq-eqb d.sec place.sec c.if-text-place.false) in
-    c.insn_in.ensures ∙ sym (ap (option_and_then (its place)) found)
+    c.insn_at.ensures.listed ∙ sym (ap (option_and_then (its place)) found)
 
 pub returns-then-text-place : goal.returns-then-text-place
 returns-then-text-place c =

@@ -16,29 +16,25 @@ use Rattle.alternatives.proofs.table.PointTable.build.Goals as goal
 all_points : (texts : List SectionText) (entries : List AltEntry) (points : List Point) → points ≡ points_of texts entries → All (IsPoint texts entries) points
 all_points texts entries points is = subst (All (IsPoint texts entries)) (sym is) (All-from_recursion (IsPoint texts entries) (points_of texts entries) (points_sound texts entries))
 
-pub points_of-requires-clause-near : goal.points_of-requires-clause-near
-points_of-requires-clause-near c = replacement_low c.args.texts.now c.args.entries.now c.requires.short c.requires.right
-
-pub insns_of-requires-clause-each : goal.insns_of-requires-clause-each
-insns_of-requires-clause-each c = all_points c.args.texts.now c.args.entries.now c.as_slice.result.now (c.as_slice.ensures.value ∙ c.in_ok-points.ensures.all)
+pub list_points-requires-clause-near : goal.list_points-requires-clause-near
+list_points-requires-clause-near c = replacement_low c.args.texts.now c.args.entries.now c.requires.short c.requires.right
 
 pub invariant_of-result : goal.invariant_of-result
 invariant_of-result c =
     let texts : List SectionText = c.args.texts.now in
     let entries : List AltEntry = c.args.entries.now in
-    let points : List Point = c.in_ok-points.points.items in
-    let insns : List Insn = c.in_ok-insns.insns.items in
+    let points : List Point = c.in_ok-listed.listed.points.items in
+    let insns : List Insn = c.in_ok-listed.listed.insns.items in
     let same : c.in_ok-entries.entries.items ≡ entries = search rules in
     let as_many : length c.in_ok-entries.entries.items ≡ length entries = ap (λ (es : List AltEntry). length es) same in
-    let mapped : length (map (λ (insn : Insn). Some insn) insns) ≡ length (map (insn_of_point texts entries) c.as_slice.result.now) = ap (λ (os : List (Option Insn)). length os) c.in_ok-insns.ensures in
-    let told : length c.as_slice.result.now ≡ length points = ap (λ (ps : List Point). length ps) c.as_slice.ensures.value in
+    let mapped : length (map (λ (insn : Insn). Some insn) insns) ≡ length (map (insn_of_point texts entries) points) = ap (λ (os : List (Option Insn)). length os) c.in_ok-listed.ensures.insns in
     record {
-      few = omega (arith, c.in_ok-points.ensures.few, c.requires.bytes, c.requires.few);
+      few = omega (arith, c.in_ok-listed.ensures.few, c.requires.bytes, c.requires.few);
       few_entries = omega (arith, c.requires.few);
-      ascend = subst (IsStrictlySortedBy point_cmp) (sym c.in_ok-points.ensures.all) (points_sorted texts entries (rise_by_section texts c.requires.ascending));
-      each = sym (length-map insns (λ (insn : Insn). Some insn)) ∙ mapped ∙ length-map c.as_slice.result.now (insn_of_point texts entries) ∙ told;
-      kept = subst (λ es. All (IsKept es) points) (sym same) (points_kept texts entries c.requires.short c.requires.right points (all_points texts entries points c.in_ok-points.ensures.all));
+      ascend = subst (IsStrictlySortedBy point_cmp) (sym c.in_ok-listed.ensures.all) (points_sorted texts entries (rise_by_section texts c.requires.ascending));
+      each = sym (length-map insns (λ (insn : Insn). Some insn)) ∙ mapped ∙ length-map points (insn_of_point texts entries);
+      kept = subst (λ es. All (IsKept es) points) (sym same) (points_kept texts entries c.requires.short c.requires.right points (all_points texts entries points c.in_ok-listed.ensures.all));
     }
 
-pub slots_of-requires : goal.slots_of-requires
-slots_of-requires c = omega (arith, c.in_ok-points.ensures.few, c.requires.bytes, c.requires.few, ap length c.as_slice-2.ensures.value)
+pub of_points-requires : goal.of_points-requires
+of_points-requires c = omega (arith, c.in_ok-listed.ensures.few, c.requires.bytes, c.requires.few, ap length c.as_slice.ensures.value)

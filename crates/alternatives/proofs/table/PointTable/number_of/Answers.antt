@@ -8,9 +8,9 @@ use Rattle.alternatives.proofs.table.PointTable.number_of.Goals as goal
 
 pub returns-in-Err : goal.returns-in-Err
 returns-in-Err c =
-    let points : List Point = c.deref-3.result.now in
-    let sorted : IsStrictlySortedBy point_cmp points = subst (IsStrictlySortedBy point_cmp) (sym c.deref-3.ensures.value) c.self.invariant.ascend in
-    let same : points ≡ c.args.self.now.points = c.deref-3.ensures.value ∙ ap (λ t. t.points) c.self.view_is in
+    let points : List Point = c.deref-2.result.now in
+    let sorted : IsStrictlySortedBy point_cmp points = subst (IsStrictlySortedBy point_cmp) (sym c.deref-2.ensures.value) c.self.invariant.ascend in
+    let same : points ≡ c.args.self.now.points = c.deref-2.ensures.value ∙ ap (λ t. t.points) c.self.view_is in
     λ at. never_found points c.args.point c.in-Err.field-0 sorted c.in-Err.ensures.position (subst (λ ps. Contains ps c.args.point) (sym same) at)
 
 pub returns-in-Some : goal.returns-in-Some

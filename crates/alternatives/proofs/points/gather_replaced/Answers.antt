@@ -1,14 +1,12 @@
-use Rattle.std.proofs.Common.{◌≡◌, ℕ, ◌+◌, ◌≤◌, arith, length, subst, Vec, Global, Bool, true, false, List, ◌++◌, filter, sym, ap, ◌∙◌, append_assoc}
-use Rattle.std.specs.List.{range_with_len, flat_map}
+use Rattle.std.proofs.Common.{◌≡◌, ℕ, ◌+◌, ◌≤◌, arith, length, subst, Vec, Global, Bool, true, false, List, ◌++◌, sym, ap, ◌∙◌}
 use Rattle.special_sections.specs.declared.entries.AltEntry.{AltEntry}
 use Rattle.alternatives.specs.declared.texts.SectionText.{SectionText}
 use Rattle.alternatives.specs.declared.point.Point.{Point}
-use Rattle.alternatives.specs.Gathered.{plain_of, replaced_of}
+use Rattle.alternatives.specs.Gathered.{replaced_of}
 use Rattle.alternatives.specs.Originals.{counts, entry_at}
-use Rattle.alternatives.proofs.Gathering.{few_plain}
 use Rattle.alternatives.proofs.Ranges.{joined_more, joined_same}
-use Rattle.alternatives.proofs.points.gather_points.Goals as goal
-use Rattle.alternatives.proofs.points.gather_points.Goals.{then-counts+in_ok-push_replaced, else-counts}
+use Rattle.alternatives.proofs.points.gather_replaced.Goals as goal
+use Rattle.alternatives.proofs.points.gather_replaced.Goals.{then-counts+in_ok-push_replaced, else-counts}
 
 pub loop-entry-preserved : goal.loop-entry-preserved
 loop-entry-preserved c =
@@ -17,18 +15,13 @@ loop-entry-preserved c =
     let n : ℕ = c.loop-entry.entry in
     let p : ℕ → Bool = λ k. counts (entry_at entries k) in
     let f : ℕ → List Point = replaced_of texts entries in
-    let plain : List Point = flat_map plain_of texts in
-    let so_far : List Point = flat_map f (filter p (range_with_len 0 n)) in
     elim c.if-counts.branch [
       | then-counts+in_ok-push_replaced w ↦
           let passes : p n ≡ true = sym c.counts.ensures ∙ w.if-counts.true in
           let longer : length c.if-counts.points.items ≤ length c.loop-entry.points.items + 256 = subst (λ (v : Vec Point Global). length v.items ≤ length c.loop-entry.points.items + 256) (sym w.points-is) w.in_ok-push_replaced.ensures.few in
-          (ap (λ v. v.items) w.points-is ∙ w.in_ok-push_replaced.ensures.all ∙ ap (λ xs. xs ++ f n) c.loop-entry.invariant.0 ∙ append_assoc plain so_far (f n) ∙ ap (λ xs. plain ++ xs) (sym (joined_more f p n passes)), omega (arith, c.loop-entry.invariant.1))
+          (ap (λ v. v.items) w.points-is ∙ w.in_ok-push_replaced.ensures.all ∙ ap (λ xs. xs ++ f n) c.loop-entry.invariant.0 ∙ sym (joined_more f p n passes), omega (arith, c.loop-entry.invariant.1))
       | else-counts w ↦
           let fails : p n ≡ false = sym c.counts.ensures ∙ w.if-counts.false in
           let same : length c.if-counts.points.items ≡ length c.loop-entry.points.items = ap (λ v. length v.items) w.points-is in
-          (ap (λ v. v.items) w.points-is ∙ c.loop-entry.invariant.0 ∙ ap (λ xs. plain ++ xs) (sym (joined_same f p n fails)), omega (arith, c.loop-entry.invariant.1))
+          (ap (λ v. v.items) w.points-is ∙ c.loop-entry.invariant.0 ∙ sym (joined_same f p n fails), omega (arith, c.loop-entry.invariant.1))
     ]
-
-pub returns-clause-few : goal.returns-clause-few
-returns-clause-few c = omega (arith, c.loop-entry.invariant.1, few_plain c.args.texts.now, c.loop-entry.auto.entry-end)
