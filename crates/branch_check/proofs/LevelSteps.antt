@@ -35,6 +35,14 @@ not_none : {P : Type 0} (o : Option State) → o ≡ None → IsSome o → P
 not_none None e h = absurd (let k : ⊥ = cc in k)
 not_none (Some s) e h = absurd (let k : ⊥ = cc in k)
 
+pub none_of : (o : Option State) → (IsSome o → ⊥) → o ≡ None
+none_of None h = refl
+none_of (Some s) h = absurd (h refl)
+
+pub state_of_some : (o : Option State) → IsSome o → (s : State) × (o ≡ Some s)
+state_of_some None h = absurd (let k : ⊥ = cc in k)
+state_of_some (Some s) h = (s, refl)
+
 is_some_of : (o : Option State) (s : State) → o ≡ Some s → IsSome o
 is_some_of None s e = absurd (let k : ⊥ = cc in k)
 is_some_of (Some t) s e = refl

@@ -6,3 +6,4 @@ pub mod Giving
 pub mod Rounds
 pub mod Numbered
 pub mod Short
+pub mod NeutralMoves

@@ -1,5 +1,5 @@
 -- States whose numbers have 16 bits.
-use Rattle.std.proofs.Common.{◌≡◌, Bool, true, false, Option, Some, None, ℤ, pos, if◌then◌else◌, refl, arith}
+use Rattle.std.proofs.Common.{◌≡◌, Bool, true, false, Some, None, ℤ, if◌then◌else◌, refl, arith}
 use Rattle.std.specs.Prelude.{neg_ℤ}
 use Rattle.std.proofs.lemmas.Int.{ints}
 use Rattle.state_defs.specs.declared.state.State.{State}

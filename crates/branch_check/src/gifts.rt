@@ -1,33 +1,22 @@
 //! What a kept point gives to others.
 
-ghost use Rattle.std.specs.Prelude.{◌≡◌, ◌<◌, ◌+◌, ◌&&◌, ℕ, List, not, option_to_list, length};
+ghost use Rattle.std.specs.Prelude.{◌≡◌, ◌<◌, ◌&&◌, Some, not, length};
+ghost use Rattle.state_defs.specs.declared.state.State.{State as StateValue};
+ghost use Rattle.state_defs.specs.Move.{move};
 ghost use Rattle.program_defs.specs.Program.{Program};
-ghost use Rattle.checker_defs.specs.Kept.{brought_along as brought_along_edge, is_free as is_free_hint};
+ghost use Rattle.checker_defs.specs.Kept.{brought_along, is_free as is_free_hint, moved};
 ghost use Rattle.program_graph.specs.Tells.{Tells};
 ghost use Rattle.branch_check.specs.LevelStates.{at};
-ghost use Rattle.branch_check.specs.Told.{HaveGiven, given_along, given_to_restore, offer_all};
+ghost use Rattle.branch_check.specs.Told.{given_along, given_to_restore, offer_all};
 
 use crate::levels::Levels;
+use crate::neutral::is_neutral;
+use crate::packed::PackedState;
 use operation_defs::Op;
 use program_defs::{Edge, EdgeKind};
 use program_graph::Graph;
 use stack_state::step;
-use state_defs::{HintState, State};
-
-/// What a state is brought along an edge as: to a fixup the state before the instruction, else the one after it;
-/// to another function none.
-fn brought_along(state: State, op: Op, kind: EdgeKind) -> Option<State>
-    ensures { option_to_list result ≡ brought_along_edge state op kind }
-{
-    match kind {
-        EdgeKind::Next | EdgeKind::Taken | EdgeKind::Table => match step(state, op) {
-            Ok(moved) => Some(moved),
-            Err(_) => None,
-        },
-        EdgeKind::Fixup => Some(state),
-        EdgeKind::Sibling => None,
-    }
-}
+use state_defs::HintState;
 
 /// Whether states come in along edges at a point with this hint.
 fn is_free(hint: Option<HintState>) -> bool
@@ -47,32 +36,84 @@ fn is_open(graph: &Graph, n: u32) -> bool
     !graph.unchecked(n) && is_free(graph.hint(n))
 }
 
-/// Offers the point at an edge's end what is brought along it.
-pub(crate) fn give_along(graph: &Graph, levels: &mut Levels, state: State, op: Op, edge: Edge)
+/// Offers a point the state that another one keeps, moved by an operation, if that isn't refused.
+fn offer_stepped(levels: &mut Levels, from: u32, op: Op, to: u32)
+    requires from { from < length levels.old.kept }
+    requires point { to < length levels.old.kept }
+    ensures kept { levels.new.kept ≡ levels.old.kept }
+    ensures front { levels.new.front ≡ levels.old.front }
+    ensures len { length levels.new.next ≡ length levels.old.next }
+    ensures next { (s : StateValue) → at levels.old.kept from ≡ Some s → levels.new.next ≡ offer_all levels.old.kept levels.old.next to (moved (move s op)) }
+{
+    let Some(state) = levels.state(from) else {
+        return;
+    };
+    if let Ok(after) = step(state, op) {
+        levels.offer(to, PackedState::new(after));
+    }
+}
+
+/// The same. Where the operation leaves the state as it is, it is handed on as it stands.
+fn offer_moved(levels: &mut Levels, from: u32, op: Op, to: u32)
+    requires from { from < length levels.old.kept }
+    requires point { to < length levels.old.kept }
+    ensures kept { levels.new.kept ≡ levels.old.kept }
+    ensures front { levels.new.front ≡ levels.old.front }
+    ensures len { length levels.new.next ≡ length levels.old.next }
+    ensures next { (s : StateValue) → at levels.old.kept from ≡ Some s → levels.new.next ≡ offer_all levels.old.kept levels.old.next to (moved (move s op)) }
+{
+    if is_neutral(op) && levels.is_short(from) {
+        levels.pass_on(to, from);
+    } else {
+        offer_stepped(levels, from, op, to);
+    }
+}
+
+/// Offers the point at an edge's end what is brought along it: to a fixup the state before the instruction, else the one
+/// after it; to another function none.
+fn bring_along(levels: &mut Levels, from: u32, op: Op, edge: Edge)
+    requires from { from < length levels.old.kept }
+    requires point { edge.to < length levels.old.kept }
+    ensures kept { levels.new.kept ≡ levels.old.kept }
+    ensures front { levels.new.front ≡ levels.old.front }
+    ensures len { length levels.new.next ≡ length levels.old.next }
+    ensures next { (s : StateValue) → at levels.old.kept from ≡ Some s → levels.new.next ≡ offer_all levels.old.kept levels.old.next edge.to (brought_along s op edge.kind) }
+{
+    match edge.kind {
+        EdgeKind::Next | EdgeKind::Taken | EdgeKind::Table => {
+            offer_moved(levels, from, op, edge.to);
+        }
+        EdgeKind::Fixup => levels.pass_on(edge.to, from),
+        EdgeKind::Sibling => {}
+    }
+}
+
+/// Offers the point at an edge's end what a point that is kept gives along it.
+pub(crate) fn give_along(graph: &Graph, levels: &mut Levels, from: u32, edge: Edge)
     requires points { length levels.old.kept ≡ length graph.now.parts.points.items }
+    requires from { from < length graph.now.parts.points.items }
     requires point { edge.to < length graph.now.parts.points.items }
     ensures kept { levels.new.kept ≡ levels.old.kept }
     ensures front { levels.new.front ≡ levels.old.front }
     ensures len { length levels.new.next ≡ length levels.old.next }
-    ensures next { (p : Program) → Tells p graph.now.parts → levels.new.next ≡ offer_all levels.old.kept levels.old.next edge.to (given_along p state op edge) }
+    ensures next { (p : Program) (s : StateValue) → Tells p graph.now.parts → at levels.old.kept from ≡ Some s → levels.new.next ≡ offer_all levels.old.kept levels.old.next edge.to (given_along p s (p.insn from).op edge) }
 {
     if is_open(graph, edge.to) {
-        if let Some(brought) = brought_along(state, op, edge.kind) {
-            levels.offer(edge.to, brought);
-        }
+        bring_along(levels, from, graph.insn(from).op, edge);
     }
 }
 
-/// Offers a RESTORE the state of its SAVE.
-pub(crate) fn give_to_restore(graph: &Graph, levels: &mut Levels, state: State, restore: u32)
+/// Offers a RESTORE the state of its SAVE, which is kept.
+pub(crate) fn give_to_restore(graph: &Graph, levels: &mut Levels, save: u32, restore: u32)
     requires points { length levels.old.kept ≡ length graph.now.parts.points.items }
+    requires save { save < length graph.now.parts.points.items }
     requires point { restore < length graph.now.parts.points.items }
     ensures kept { levels.new.kept ≡ levels.old.kept }
     ensures front { levels.new.front ≡ levels.old.front }
     ensures len { length levels.new.next ≡ length levels.old.next }
-    ensures next { (p : Program) → Tells p graph.now.parts → levels.new.next ≡ offer_all levels.old.kept levels.old.next restore (given_to_restore p state restore) }
+    ensures next { (p : Program) (s : StateValue) → Tells p graph.now.parts → at levels.old.kept save ≡ Some s → levels.new.next ≡ offer_all levels.old.kept levels.old.next restore (given_to_restore p s restore) }
 {
     if !graph.unchecked(restore) {
-        levels.offer(restore, state);
+        levels.pass_on(restore, save);
     }
 }

@@ -1,13 +1,15 @@
 //! The states of points, level by level.
 
-ghost use Rattle.std.specs.Prelude.{◌≡◌, ◌+◌, ◌<◌, ◌↔◌, ℕ, [], None, Some, All, Contains, IfOk, IsSome, IsTrue, length, replicate, slice_index, slice_set, true};
+ghost use Rattle.std.specs.Prelude.{◌≡◌, ◌+◌, ◌<◌, ◌↔◌, ℕ, [], None, Some, All, Contains, IfOk, IsSome, IsTrue, length, option_map, replicate, slice_index, slice_set, true};
 ghost use Rattle.state_defs.specs.Move.{has_near_numbers};
 ghost use Rattle.state_defs.specs.Row.{unfit_offset};
 ghost use Rattle.checker_defs.specs.Kept.{kept_or};
 ghost use Rattle.branch_check.specs.LevelStates.{LevelStates, after_offer, at, count_open};
 ghost use Rattle.branch_check.specs.Reached.{AreReached, kept_at, offered_at};
+ghost use Rattle.branch_check.specs.Region.{state_of};
 
 use crate::order::lesser;
+use crate::packed::PackedState;
 use crate::region::Region;
 use ot_base::NoMemory;
 use state_defs::State;
@@ -79,6 +81,19 @@ impl Levels {
         }
     }
 
+    /// The state that a point keeps, packed.
+    fn packed(&self, n: u32) -> Option<PackedState>
+        requires { n < length self.now.kept }
+        ensures { option_map state_of result ≡ at self.now.kept n }
+    {
+        let place = self.places[n as usize] as usize;
+        if place < self.kept {
+            Some(self.states.packed(place))
+        } else {
+            None
+        }
+    }
+
     /// Whether a point keeps a state.
     pub(crate) fn is_kept(&self, n: u32) -> bool
         requires { n < length self.now.kept }
@@ -127,23 +142,38 @@ impl Levels {
     }
 
     /// Offers a point a state for the next level.
-    pub(crate) fn offer(&mut self, n: u32, state: State)
+    #[inline(always)]
+    pub(crate) fn offer(&mut self, n: u32, state: PackedState)
         requires { n < length self.old.kept }
         ensures kept { self.new.kept ≡ self.old.kept }
         ensures front { self.new.front ≡ self.old.front }
-        ensures next { self.new.next ≡ slice_set self.old.next n (after_offer (at self.old.kept n) (at self.old.next n) state) }
+        ensures next { self.new.next ≡ slice_set self.old.next n (after_offer (at self.old.kept n) (at self.old.next n) (state_of state)) }
     {
         let place = self.places[n as usize] as usize;
         if place < self.kept {
             return;
         }
         if place < self.states.len() {
-            let best = self.states.state(place);
+            let best = self.states.packed(place);
             self.states.set(place, lesser(best, state));
         } else {
             self.places[n as usize] = self.states.len() as u32;
             self.reached.push_reserved(n);
             self.states.push(state);
+        }
+    }
+
+    /// Offers a point the state that another one keeps.
+    pub(crate) fn pass_on(&mut self, n: u32, from: u32)
+        requires point { n < length self.old.kept }
+        requires from { from < length self.old.kept }
+        ensures kept { self.new.kept ≡ self.old.kept }
+        ensures front { self.new.front ≡ self.old.front }
+        ensures len { length self.new.next ≡ length self.old.next }
+        ensures next { (s : State) → at self.old.kept from ≡ Some s → self.new.next ≡ slice_set self.old.next n (after_offer (at self.old.kept n) (at self.old.next n) s) }
+    {
+        if let Some(state) = self.packed(from) {
+            self.offer(n, state);
         }
     }
 

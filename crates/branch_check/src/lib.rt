@@ -4,9 +4,11 @@
 mod counting;
 mod gifts;
 mod levels;
+mod neutral;
 mod order;
 mod packed;
 mod region;
 mod spreading;
 
+pub use neutral::is_neutral;
 pub use spreading::{Kept, Scratch, spread};

@@ -3,7 +3,9 @@
 
 ghost use Rattle.std.specs.Prelude.{◌≡◌, ◌∷◌, [], false, true, if◌then◌else◌, List, ℤ, int_lt};
 ghost use Rattle.state_defs.specs.Order.{comes_before, depth_key, fp_key, home_key, key_before, lesser as lesser_state};
+ghost use Rattle.branch_check.specs.Region.{state_of};
 
+use crate::packed::PackedState;
 use state_defs::{BpHome, Depth, EndKind, State};
 
 /// A part of a state: the place of its variant, and its number.
@@ -106,8 +108,12 @@ pub(crate) fn is_before(one: State, other: State) -> bool
 }
 
 /// The lesser of two states.
-pub(crate) fn lesser(one: State, other: State) -> State
-    ensures { result ≡ lesser_state one other }
+pub(crate) fn lesser(one: PackedState, other: PackedState) -> PackedState
+    ensures { state_of result ≡ lesser_state (state_of one) (state_of other) }
 {
-    if is_before(other, one) { other } else { one }
+    if is_before(other.state(), one.state()) {
+        other
+    } else {
+        one
+    }
 }

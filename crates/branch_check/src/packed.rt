@@ -48,7 +48,7 @@ fn are_live_alike(one: Shape, other: Shape) -> bool
                 framed: other_framed,
                 saved: other_saved,
             },
-        ) => at_least == other_at_least && framed == other_framed && saved == other_saved,
+        ) => (at_least == other_at_least) & (framed == other_framed) & (saved == other_saved),
         (Shape::Live { .. } | Shape::Ended(_) | Shape::Regs { .. }, _) => false,
     }
 }

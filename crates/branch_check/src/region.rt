@@ -3,7 +3,7 @@
 ghost use Rattle.std.specs.Prelude.{◌≡◌, ◌<◌, ◌++◌, ◌∷◌, [], IfOk, IsTrue, None, Some, length, slice_get, slice_set, true};
 ghost use Rattle.state_defs.specs.Move.{has_near_numbers};
 ghost use Rattle.state_defs.specs.Row.{unfit_offset};
-ghost use Rattle.branch_check.specs.Region.{RegionStates};
+ghost use Rattle.branch_check.specs.Region.{RegionStates, state_of};
 
 use crate::packed::PackedState;
 use ot_base::NoMemory;
@@ -53,6 +53,14 @@ impl Region {
         self.packed[place].state()
     }
 
+    /// The state at a place, packed.
+    pub(crate) fn packed(&self, place: usize) -> PackedState
+        requires { place < length self.now.list }
+        ensures { slice_get self.now.list place ≡ Some (state_of result) }
+    {
+        self.packed[place]
+    }
+
     /// Whether the numbers of the state at a place have 16 bits, and so have the offsets of its row.
     pub(crate) fn is_short(&self, place: usize) -> bool
         requires { place < length self.now.list }
@@ -72,18 +80,18 @@ impl Region {
     }
 
     /// Puts a state at a place in place of the one there.
-    pub(crate) fn set(&mut self, place: usize, state: State)
+    pub(crate) fn set(&mut self, place: usize, state: PackedState)
         requires { place < length self.old.list }
-        ensures { self.new ≡ record { list = slice_set self.old.list place state; room = self.old.room } }
+        ensures { self.new ≡ record { list = slice_set self.old.list place (state_of state); room = self.old.room } }
     {
-        self.packed[place] = PackedState::new(state);
+        self.packed[place] = state;
     }
 
     /// Puts a state behind the others.
-    pub(crate) fn push(&mut self, state: State)
+    pub(crate) fn push(&mut self, state: PackedState)
         requires { length self.old.list < self.old.room }
-        ensures { self.new ≡ record { list = self.old.list ++ state ∷ []; room = self.old.room } }
+        ensures { self.new ≡ record { list = self.old.list ++ state_of state ∷ []; room = self.old.room } }
     {
-        self.packed.push_reserved(PackedState::new(state));
+        self.packed.push_reserved(state);
     }
 }

@@ -15,6 +15,7 @@ ghost use Rattle.branch_check.specs.Told.{HaveGiven};
 use crate::counting::count_states;
 use crate::gifts::{give_along, give_to_restore};
 use crate::levels::Levels;
+use crate::packed::PackedState;
 use ot_base::NoMemory;
 use program_graph::Graph;
 use stack_state::initial;
@@ -55,15 +56,14 @@ fn give(graph: &Graph, levels: &mut Levels, i: usize)
     ensures given { (p : Program) → Tells p graph.now.parts → HaveGiven p levels.new (i + 1) }
 {
     let a = levels.front(i);
-    let Some(state) = levels.state(a) else {
+    if !levels.is_kept(a) {
         return;
-    };
-    let op = graph.insn(a).op;
+    }
     for edge in graph.successors(a) {
-        give_along(graph, levels, state, op, *edge);
+        give_along(graph, levels, a, *edge);
     }
     for restore in graph.restores(a) {
-        give_to_restore(graph, levels, state, *restore);
+        give_to_restore(graph, levels, a, *restore);
     }
 }
 
@@ -96,7 +96,7 @@ fn offer_first(graph: &Graph, levels: &mut Levels, n: u32)
     ensures others { (q : ℕ) → q ≢ n → at levels.new.next q ≡ at levels.old.next q }
 {
     if let Some(state) = first_state(graph, n) {
-        levels.offer(n, state);
+        levels.offer(n, PackedState::new(state));
     }
 }
 
@@ -116,6 +116,7 @@ fn offer_all_first(graph: &Graph, levels: &mut Levels)
 }
 
 /// Goes from level to level while points are in front.
+#[inline(never)]
 fn spread_levels(graph: &Graph, levels: &mut Levels)
     requires points { length levels.old.kept ≡ length graph.now.parts.points.items }
     requires next { length levels.old.next ≡ length levels.old.kept }

@@ -1,62 +1,35 @@
-//! Points at which no rule is broken, by a quick test that most of them pass: the operation leaves the state as it is, and
-//! whatever comes next of the function keeps the same state.
+//! Points at which no rule is broken, by a quick test that most of them pass: the operation moves the state, and whatever
+//! comes next of the function keeps the moved one.
 
-ghost use Rattle.std.specs.Prelude.{◌≡◌, ◌<◌, ◌↔◌, All, IsTrue, length};
+ghost use Rattle.std.specs.Prelude.{◌≡◌, ◌≢◌, ◌<◌, ◌↔◌, ◌∷◌, [], All, IsTrue, Ok, Some, length};
+ghost use Rattle.state_defs.specs.Move.{move};
 ghost use Rattle.program_defs.specs.Program.{Program};
-ghost use Rattle.checker_defs.specs.Kept.{edges_of};
+ghost use Rattle.checker_defs.specs.Kept.{brought_along, edges_of};
 ghost use Rattle.program_graph.specs.Tells.{Tells};
-ghost use Rattle.rule_check.specs.Quiet.{IsQuiet, Passes, is_neutral as is_neutral_op, is_unmarked as is_unmarked_by, stays as stays_by};
+ghost use Rattle.branch_check.specs.LevelStates.{at};
+ghost use Rattle.rule_check.specs.Quiet.{IsQuiet, Leads, Passes, is_exit as is_exit_op, is_unmarked as is_unmarked_by, stays as stays_by};
 
 use crate::arrivals::falls_out;
-use branch_check::Kept;
+use crate::numbers::is_same;
+use branch_check::{Kept, is_neutral};
 use operation_defs::Op;
 use program_defs::{Edge, EdgeKind, Marks, Role};
 use program_graph::Graph;
+use stack_state::step;
+use state_defs::State;
 
-/// Whether an operation leaves each state as it is, and isn't a way out that a state has to allow.
-fn is_neutral(op: Op) -> bool
-    ensures { result ≡ is_neutral_op op }
+/// Whether an operation is a way out that a state has to allow.
+fn is_exit(op: Op) -> bool
+    ensures { result ≡ is_exit_op op }
 {
-    match op {
-        Op::Plain
-        | Op::Nop
-        | Op::Endbr
-        | Op::Call { .. }
-        | Op::CallInd
-        | Op::Jmp { .. }
-        | Op::Jcc { .. }
-        | Op::JmpInd { .. }
-        | Op::Ud2
-        | Op::Int3
-        | Op::Stac
-        | Op::Clac => true,
-        Op::Push
-        | Op::PushBp
-        | Op::Pop
-        | Op::PopBp
-        | Op::Popf
-        | Op::AddSp { .. }
-        | Op::AndSp { .. }
-        | Op::LeaSpBp { .. }
-        | Op::LeaBpSp { .. }
-        | Op::StoreBp { .. }
-        | Op::LoadBp { .. }
-        | Op::Leave
-        | Op::SpOther
-        | Op::BpOther
-        | Op::Ret
-        | Op::RetImm
-        | Op::Iret
-        | Op::IretNext
-        | Op::Switch => false,
-    }
+    matches!(op, Op::Switch | Op::Iret)
 }
 
 /// Whether nothing is wrong with where control goes.
 fn is_unmarked(marks: Marks) -> bool
     ensures { result ≡ is_unmarked_by marks }
 {
-    !marks.bad && !marks.past_end && !marks.into_site && !marks.into_function
+    !(marks.bad | marks.past_end | marks.into_site | marks.into_function)
 }
 
 /// Whether a role is no way out of the function that a state has to allow.
@@ -105,13 +78,77 @@ fn all_pass(graph: &Graph, kept: &Kept, n: u32) -> bool
     true
 }
 
+/// What comes along an edge in its function, by the states before and after the instruction.
+fn brought(kind: EdgeKind, before: State, after: State) -> State
+    ensures { (op : Op) → kind ≢ EdgeKind.Sibling → move before op ≡ Ok after → brought_along before op kind ≡ result ∷ [] }
+{
+    match kind {
+        EdgeKind::Fixup => before,
+        EdgeKind::Next | EdgeKind::Taken | EdgeKind::Table | EdgeKind::Sibling => after,
+    }
+}
+
+/// Whether a point keeps a state.
+fn keeps(kept: &Kept, n: u32, state: State) -> bool
+    requires { n < length kept.now }
+    ensures { IsTrue result → at kept.now n ≡ Some state }
+{
+    match kept.state(n) {
+        Some(other) => is_same(other, state),
+        None => false,
+    }
+}
+
+/// Whether an edge stays in its function, and leads to where the state is kept that is brought along it.
+fn leads(graph: &Graph, kept: &Kept, n: u32, before: State, after: State, edge: Edge) -> bool
+    requires points { length kept.now ≡ length graph.now.parts.points.items }
+    requires from { n < length graph.now.parts.points.items }
+    requires to { edge.to < length graph.now.parts.points.items }
+    ensures { IsTrue result → (p : Program) → Tells p graph.now.parts → move before (p.insn n).op ≡ Ok after → Leads p kept.now n before edge }
+{
+    !is_sibling(edge.kind)
+        && !falls_out(graph, n, edge)
+        && keeps(kept, edge.to, brought(edge.kind, before, after))
+}
+
+/// Whether each edge of a point does.
+fn all_lead(graph: &Graph, kept: &Kept, n: u32, before: State, after: State) -> bool
+    requires points { length kept.now ≡ length graph.now.parts.points.items }
+    requires point { n < length graph.now.parts.points.items }
+    ensures { IsTrue result → (p : Program) → Tells p graph.now.parts → move before (p.insn n).op ≡ Ok after → All (Leads p kept.now n before) (edges_of p n) }
+{
+    for edge in graph.successors(n) {
+        if !leads(graph, kept, n, before, after, *edge) {
+            return false;
+        }
+    }
+    true
+}
+
+/// Whether the operation of a point isn't refused in its state, and each edge does.
+fn moves_on(graph: &Graph, kept: &Kept, n: u32) -> bool
+    requires points { length kept.now ≡ length graph.now.parts.points.items }
+    requires point { n < length graph.now.parts.points.items }
+    ensures moves { IsTrue result → (p : Program) → Tells p graph.now.parts → (s : State) → at kept.now n ≡ Some s → (t : State) × (move s (p.insn n).op ≡ Ok t) }
+    ensures leads { IsTrue result → (p : Program) → Tells p graph.now.parts → (s : State) → at kept.now n ≡ Some s → All (Leads p kept.now n s) (edges_of p n) }
+{
+    let Some(state) = kept.state(n) else {
+        return false;
+    };
+    match step(state, graph.insn(n).op) {
+        Ok(after) => all_lead(graph, kept, n, state, after),
+        Err(_) => false,
+    }
+}
+
 /// Whether it is quickly seen that no rule is broken at a point.
 pub(crate) fn is_quiet(graph: &Graph, kept: &Kept, n: u32) -> bool
     requires points { length kept.now ≡ length graph.now.parts.points.items }
     requires point { n < length graph.now.parts.points.items }
     ensures { IsTrue result → (p : Program) → Tells p graph.now.parts → IsQuiet p kept.now n }
 {
-    if !is_neutral(graph.insn(n).op) {
+    let op = graph.insn(n).op;
+    if is_exit(op) {
         return false;
     }
     if !kept.is_short(n) {
@@ -123,5 +160,9 @@ pub(crate) fn is_quiet(graph: &Graph, kept: &Kept, n: u32) -> bool
     if !is_unmarked(graph.marks(n)) {
         return false;
     }
-    all_pass(graph, kept, n)
+    if is_neutral(op) {
+        all_pass(graph, kept, n)
+    } else {
+        moves_on(graph, kept, n)
+    }
 }

@@ -1,27 +1,28 @@
 -- The edges of the point, then the RESTOREs that mean it.
-use Rattle.std.proofs.Common.{◌≡◌, ℕ, ◌+◌, ◌<◌, List, Option, length, take, get_or, ap, refl, sym, ◌∙◌, subst, arith}
+use Rattle.std.proofs.Common.{◌≡◌, ℕ, ◌+◌, ◌<◌, List, Option, Some, length, take, get_or, ap, refl, sym, ◌∙◌, subst, arith}
 use Rattle.std.proofs.lemmas.List.{take_all}
-use Rattle.operation_defs.specs.declared.op.Op.{Op}
 use Rattle.program_defs.specs.declared.flow.Edge.{Edge}
 use Rattle.program_defs.specs.declared.flow.EdgeKind.TheVariants.{Next}
 use Rattle.state_defs.specs.declared.state.State.{State}
 use Rattle.checker_defs.specs.Kept.{edges_of}
 use Rattle.branch_check.specs.Gives.{IsGiven}
 use Rattle.branch_check.specs.LevelStates.{at}
-use Rattle.branch_check.specs.Told.{AreLeast, offer_all, given_along, given_to_restore}
+use Rattle.branch_check.specs.Told.{AreLeast, HaveGiven, offer_all, given_along, given_to_restore}
+use Rattle.branch_check.proofs.LevelSteps.{none_of, state_of_some}
 use Rattle.branch_check.proofs.Giving.{WithEdges, WithRestores, no_edge, edge_more, no_restore, restore_more, given_none, given_more}
 use Rattle.branch_check.proofs.spreading.give.Goals as goal
 
-pub returns-in_default-clause-given : goal.returns-in_default-clause-given
-returns-in_default-clause-given c p t =
-    given_none p c.args.levels.now.kept c.args.levels.now.front c.args.i c.front-a.result c.requires.inside c.front-a.ensures.front (t.count ∙ sym c.requires.points) c.args.levels.now.next (sym c.state.ensures ∙ c.in_default.is) (c.requires.given p t)
+pub returns-then-not-is_kept-clause-given : goal.returns-then-not-is_kept-clause-given
+returns-then-not-is_kept-clause-given c p t =
+    let none = none_of (at c.args.levels.now.kept c.front-a.result) (λ some. let k = c.is_kept.ensures.1 some in let h = c.if-not-is_kept.true in grind arith) in
+    given_none p c.args.levels.now.kept c.args.levels.now.front c.args.i c.front-a.result c.requires.inside c.front-a.ensures.front (t.count ∙ sym c.requires.points) c.args.levels.now.next none (c.requires.given p t)
 
 pub loop-edge-init : goal.loop-edge-init
 loop-edge-init c = record {
   kept = refl;
   front = refl;
   next = c.requires.next;
-  given = λ p t. no_edge c.args.levels.now.kept p c.in-Some.state (IsGiven p (at c.args.levels.now.kept) (take c.args.i c.args.levels.now.front)) c.args.levels.now.next c.insn-op.result.op c.successors-edge-items.result.now (c.requires.given p t);
+  given = λ p s t e. no_edge c.args.levels.now.kept p s (IsGiven p (at c.args.levels.now.kept) (take c.args.i c.args.levels.now.front)) c.args.levels.now.next (p.insn c.front-a.result).op c.successors-edge-items.result.now (c.requires.given p t);
 }
 
 pub loop-edge-preserved : goal.loop-edge-preserved
@@ -37,13 +38,14 @@ loop-edge-preserved c =
       kept = c.give_along.ensures.kept ∙ c.loop-edge.invariant.kept;
       front = c.give_along.ensures.front ∙ c.loop-edge.invariant.front;
       next = c.give_along.ensures.len ∙ long;
-      given = λ p t.
-          let gift : List State = given_along p c.in-Some.state c.insn-op.result.op e in
+      given = λ p s t has.
+          let gift : List State = given_along p s (p.insn c.front-a.result).op e in
           let A : ℕ → State → Type 0 = IsGiven p (at kept) (take c.args.i c.args.levels.now.front) in
+          let still : at c.loop-edge.levels.kept c.front-a.result ≡ Some s = ap (λ (k : List (Option State)). at k c.front-a.result) c.loop-edge.invariant.kept ∙ has in
           let m : c.give_along.new.levels.next ≡ offer_all kept c.loop-edge.levels.next e.to gift =
-          c.give_along.ensures.next p t ∙ ap (λ (k : List (Option State)). offer_all k c.loop-edge.levels.next e.to gift) c.loop-edge.invariant.kept in
-          subst (λ (n : List (Option State)). AreLeast kept n (WithEdges A p c.in-Some.state c.insn-op.result.op (take (c.loop-edge.edge-index + 1) items))) (sym m)
-          (edge_more kept p c.in-Some.state A c.loop-edge.levels.next c.insn-op.result.op items c.loop-edge.edge-index d e c.loop-edge-test.true refl inside (c.loop-edge.invariant.given p t));
+          c.give_along.ensures.next p s t still ∙ ap (λ (k : List (Option State)). offer_all k c.loop-edge.levels.next e.to gift) c.loop-edge.invariant.kept in
+          subst (λ (n : List (Option State)). AreLeast kept n (WithEdges A p s (p.insn c.front-a.result).op (take (c.loop-edge.edge-index + 1) items))) (sym m)
+          (edge_more kept p s A c.loop-edge.levels.next (p.insn c.front-a.result).op items c.loop-edge.edge-index d e c.loop-edge-test.true refl inside (c.loop-edge.invariant.given p s t has));
     }
 
 pub loop-restore-init : goal.loop-restore-init
@@ -51,16 +53,14 @@ loop-restore-init c = record {
   kept = c.loop-edge.invariant.kept;
   front = c.loop-edge.invariant.front;
   next = c.loop-edge.invariant.next;
-  given = λ p t.
+  given = λ p s t has.
       let kept : List (Option State) = c.args.levels.now.kept in
       let items : List Edge = c.successors-edge-items.result.now in
       let A : ℕ → State → Type 0 = IsGiven p (at kept) (take c.args.i c.args.levels.now.front) in
       let all : take c.loop-edge.edge-index items ≡ edges_of p c.front-a.result = take_all c.loop-edge.edge-index items c.loop-edge-test.false ∙ c.successors-edge-items.ensures.edges p t in
-      let op : c.insn-op.result.op ≡ (p.insn c.front-a.result).op = ap (λ x. x.op) (c.insn-op.ensures p t) in
-      let edges : AreLeast kept c.loop-edge.levels.next (WithEdges A p c.in-Some.state (p.insn c.front-a.result).op (edges_of p c.front-a.result)) =
-      subst (λ (o : Op). AreLeast kept c.loop-edge.levels.next (WithEdges A p c.in-Some.state o (edges_of p c.front-a.result))) op
-      (subst (λ (es : List Edge). AreLeast kept c.loop-edge.levels.next (WithEdges A p c.in-Some.state c.insn-op.result.op es)) all (c.loop-edge.invariant.given p t)) in
-      no_restore kept p c.in-Some.state (WithEdges A p c.in-Some.state (p.insn c.front-a.result).op (edges_of p c.front-a.result)) c.loop-edge.levels.next c.restores-restore-items.result.now edges;
+      let edges : AreLeast kept c.loop-edge.levels.next (WithEdges A p s (p.insn c.front-a.result).op (edges_of p c.front-a.result)) =
+      subst (λ (es : List Edge). AreLeast kept c.loop-edge.levels.next (WithEdges A p s (p.insn c.front-a.result).op es)) all (c.loop-edge.invariant.given p s t has) in
+      no_restore kept p s (WithEdges A p s (p.insn c.front-a.result).op (edges_of p c.front-a.result)) c.loop-edge.levels.next c.restores-restore-items.result.now edges;
 }
 
 pub loop-restore-preserved : goal.loop-restore-preserved
@@ -75,25 +75,29 @@ loop-restore-preserved c =
       kept = c.give_to_restore.ensures.kept ∙ c.loop-restore.invariant.kept;
       front = c.give_to_restore.ensures.front ∙ c.loop-restore.invariant.front;
       next = c.give_to_restore.ensures.len ∙ long;
-      given = λ p t.
-          let gift : List State = given_to_restore p c.in-Some.state r in
-          let A : ℕ → State → Type 0 = WithEdges (IsGiven p (at kept) (take c.args.i c.args.levels.now.front)) p c.in-Some.state (p.insn c.front-a.result).op (edges_of p c.front-a.result) in
+      given = λ p s t has.
+          let gift : List State = given_to_restore p s r in
+          let A : ℕ → State → Type 0 = WithEdges (IsGiven p (at kept) (take c.args.i c.args.levels.now.front)) p s (p.insn c.front-a.result).op (edges_of p c.front-a.result) in
+          let still : at c.loop-restore.levels.kept c.front-a.result ≡ Some s = ap (λ (k : List (Option State)). at k c.front-a.result) c.loop-restore.invariant.kept ∙ has in
           let m : c.give_to_restore.new.levels.next ≡ offer_all kept c.loop-restore.levels.next r gift =
-          c.give_to_restore.ensures.next p t ∙ ap (λ (k : List (Option State)). offer_all k c.loop-restore.levels.next r gift) c.loop-restore.invariant.kept in
-          subst (λ (n : List (Option State)). AreLeast kept n (WithRestores A p c.in-Some.state (take (c.loop-restore.restore-index + 1) items))) (sym m)
-          (restore_more kept p c.in-Some.state A c.loop-restore.levels.next items c.loop-restore.restore-index r c.loop-restore-test.true refl inside (c.loop-restore.invariant.given p t));
+          c.give_to_restore.ensures.next p s t still ∙ ap (λ (k : List (Option State)). offer_all k c.loop-restore.levels.next r gift) c.loop-restore.invariant.kept in
+          subst (λ (n : List (Option State)). AreLeast kept n (WithRestores A p s (take (c.loop-restore.restore-index + 1) items))) (sym m)
+          (restore_more kept p s A c.loop-restore.levels.next items c.loop-restore.restore-index r c.loop-restore-test.true refl inside (c.loop-restore.invariant.given p s t has));
     }
 
 pub returns-clause-given : goal.returns-clause-given
-returns-clause-given c p t =
-    let items : List ℕ = c.restores-restore-items.result.now in
-    let kept : List (Option State) = c.args.levels.now.kept in
-    let front : List ℕ = c.args.levels.now.front in
-    let next : List (Option State) = c.loop-restore.levels.next in
-    let A : ℕ → State → Type 0 = WithEdges (IsGiven p (at kept) (take c.args.i front)) p c.in-Some.state (p.insn c.front-a.result).op (edges_of p c.front-a.result) in
-    let all : AreLeast kept next (WithRestores A p c.in-Some.state items) =
-    subst (λ (rs : List ℕ). AreLeast kept next (WithRestores A p c.in-Some.state rs)) (take_all c.loop-restore.restore-index items c.loop-restore-test.false) (c.loop-restore.invariant.given p t) in
-    let more : AreLeast kept next (IsGiven p (at kept) (take (c.args.i + 1) front)) =
-    given_more p kept front c.args.i c.front-a.result c.requires.inside c.front-a.ensures.front (t.count ∙ sym c.requires.points) next c.in-Some.state items (sym c.state.ensures ∙ c.in-Some.is) (c.restores-restore-items.ensures.restores p t) all in
-    subst (λ (k : List (Option State)). AreLeast k next (IsGiven p (at k) (take (c.args.i + 1) c.loop-restore.levels.front))) (sym c.loop-restore.invariant.kept)
-    (subst (λ (f : List ℕ). AreLeast kept next (IsGiven p (at kept) (take (c.args.i + 1) f))) (sym c.loop-restore.invariant.front) more)
+returns-clause-given c p t = all (state_of_some (at c.args.levels.now.kept c.front-a.result) (c.is_kept.ensures.0 (let h = c.if-not-is_kept.false in grind arith)))
+  where
+    all : (s : State) × (at c.args.levels.now.kept c.front-a.result ≡ Some s) → HaveGiven p c.loop-restore.levels (c.args.i + 1)
+    all (s, has) =
+        let items : List ℕ = c.restores-restore-items.result.now in
+        let kept : List (Option State) = c.args.levels.now.kept in
+        let front : List ℕ = c.args.levels.now.front in
+        let next : List (Option State) = c.loop-restore.levels.next in
+        let A : ℕ → State → Type 0 = WithEdges (IsGiven p (at kept) (take c.args.i front)) p s (p.insn c.front-a.result).op (edges_of p c.front-a.result) in
+        let all : AreLeast kept next (WithRestores A p s items) =
+        subst (λ (rs : List ℕ). AreLeast kept next (WithRestores A p s rs)) (take_all c.loop-restore.restore-index items c.loop-restore-test.false) (c.loop-restore.invariant.given p s t has) in
+        let more : AreLeast kept next (IsGiven p (at kept) (take (c.args.i + 1) front)) =
+        given_more p kept front c.args.i c.front-a.result c.requires.inside c.front-a.ensures.front (t.count ∙ sym c.requires.points) next s items has (c.restores-restore-items.ensures.restores p t) all in
+        subst (λ (k : List (Option State)). AreLeast k next (IsGiven p (at k) (take (c.args.i + 1) c.loop-restore.levels.front))) (sym c.loop-restore.invariant.kept)
+        (subst (λ (f : List ℕ). AreLeast kept next (IsGiven p (at kept) (take (c.args.i + 1) f))) (sym c.loop-restore.invariant.front) more)

@@ -1,4 +1,5 @@
-use Rattle.std.proofs.Common.{◌≡◌, length, take}
+use Rattle.std.proofs.Common.{◌≡◌, Some, length, take}
+use Rattle.state_defs.specs.declared.state.State.{State}
 use Rattle.program_defs.specs.Program.{Program}
 use Rattle.checker_defs.specs.Kept.{edges_of}
 use Rattle.program_graph.specs.Tells.{Tells}
@@ -13,7 +14,7 @@ invariant-loop-edge l = record {
   kept : l.levels.kept ≡ l.fn.levels.kept;
   front : l.levels.front ≡ l.fn.levels.front;
   next : length l.levels.next ≡ length l.fn.levels.kept;
-  given : (p : Program) → Tells p l.graph.parts → AreLeast l.fn.levels.kept l.levels.next (WithEdges (IsGiven p (at l.fn.levels.kept) (take l.i l.fn.levels.front)) p l.state l.op (take l.edge-index l.edge-items));
+  given : (p : Program) (s : State) → Tells p l.graph.parts → at l.fn.levels.kept l.a ≡ Some s → AreLeast l.fn.levels.kept l.levels.next (WithEdges (IsGiven p (at l.fn.levels.kept) (take l.i l.fn.levels.front)) p s (p.insn l.a).op (take l.edge-index l.edge-items));
 }
 
 abbrev pub invariant-loop-restore : goal.invariant-loop-restore
@@ -21,5 +22,5 @@ invariant-loop-restore l = record {
   kept : l.levels.kept ≡ l.fn.levels.kept;
   front : l.levels.front ≡ l.fn.levels.front;
   next : length l.levels.next ≡ length l.fn.levels.kept;
-  given : (p : Program) → Tells p l.graph.parts → AreLeast l.fn.levels.kept l.levels.next (WithRestores (WithEdges (IsGiven p (at l.fn.levels.kept) (take l.i l.fn.levels.front)) p l.state (p.insn l.a).op (edges_of p l.a)) p l.state (take l.restore-index l.restore-items));
+  given : (p : Program) (s : State) → Tells p l.graph.parts → at l.fn.levels.kept l.a ≡ Some s → AreLeast l.fn.levels.kept l.levels.next (WithRestores (WithEdges (IsGiven p (at l.fn.levels.kept) (take l.i l.fn.levels.front)) p s (p.insn l.a).op (edges_of p l.a)) p s (take l.restore-index l.restore-items));
 }
