@@ -1,9 +1,8 @@
 -- Chains when a number is added.
-use Rattle.std.proofs.Common.{◌≡◌, ◌≢◌, ℕ, zero, suc, ◌+◌, ◌<◌, ◌≤◌, ◌⊎◌, inl, inr, Bool, cond, List, [], ◌∷◌, ◌++◌, Option, Some, None, replicate, length, get_or, set, refl, sym, ap, ◌∙◌, subst, arith, get_or-set_same, get_or-set_other, length-set}
-use Rattle.std.specs.Prelude.{unwrap_or}
-use Rattle.std.proofs.lemmas.List.{get_or_append_left, get_or_push, length_push}
+use Rattle.std.proofs.Common.{◌≡◌, ◌≢◌, ℕ, ◌+◌, ◌<◌, ◌≤◌, ◌⊎◌, inl, inr, Bool, cond, List, [], ◌∷◌, ◌++◌, Option, Some, None, replicate, length, get_or, set, refl, sym, ap, ◌∙◌, subst, arith, get_or-set_same, get_or-set_other, length-set}
+use Rattle.std.proofs.lemmas.List.{get_or_append_left, get_or_push, get_or-replicate, length_push, length-replicate}
 use Rattle.std.proofs.lemmas.Bool.{cases_eq, lt-ltb, le-ltb}
-use Rattle.return_search.specs.Chained.{IsLastBelow, linked, AreChains}
+use Rattle.return_search.specs.Chained.{IsLastBelow, linked, no_number, AreChains}
 
 -- what is below a place stays as it is when more is put behind
 below_push : (keys : List (Option ℕ)) (y : Option ℕ) (key n : ℕ) (o : Option ℕ) → n ≤ length keys → IsLastBelow keys key n o → IsLastBelow (keys ++ y ∷ []) key n o
@@ -41,24 +40,28 @@ linked_before n link h = ap (λ (b : Bool). cond b (Some link) None) (lt-ltb lin
 linked_itself : (n link : ℕ) → n ≤ link → linked n link ≡ None
 linked_itself n link h = ap (λ (b : Bool). cond b (Some link) None) (le-ltb link n h)
 
-linked_last : (keys : List (Option ℕ)) (key n : ℕ) (o : Option ℕ) → IsLastBelow keys key n o → linked n (unwrap_or o n) ≡ o
-linked_last keys key n None h = linked_itself n n (omega arith)
-linked_last keys key n (Some i) h = linked_before n i h.0
+split_at : (a b : ℕ) → (a < b) ⊎ (b ≤ a)
+split_at a b = grind arith
 
-no_head : (n key : ℕ) → (let heads : List (Option ℕ) = replicate n None in get_or heads key None ≡ None)
-no_head zero key = refl
-no_head (suc n) zero = refl
-no_head (suc n) (suc key) = no_head n key
+-- a head is a link of the next number
+linked_head : (keys : List (Option ℕ)) (key n head : ℕ) → n ≤ no_number → IsLastBelow keys key n (linked no_number head) → linked n head ≡ linked no_number head
+linked_head keys key n head few h = elim (split_at head no_number) [
+  | inl below ↦
+      let is : linked no_number head ≡ Some head = linked_before no_number head below in
+      let last : IsLastBelow keys key n (Some head) = subst (IsLastBelow keys key n) is h in
+      linked_before n head last.0 ∙ sym is
+  | inr beyond ↦ linked_itself n head (omega (arith, few, beyond)) ∙ sym (linked_itself no_number head beyond)
+]
 
 -- no number yet
-pub chains_none : (n : ℕ) → AreChains (replicate n None) [] []
+pub chains_none : (n : ℕ) → AreChains (replicate n no_number) [] []
 chains_none n = record {
   long = refl;
-  last = λ key l. subst (IsLastBelow [] key 0) (sym (no_head n key)) (λ j h. absurd (omega arith));
+  last = λ key l. subst (IsLastBelow [] key 0) (sym (ap (linked no_number) (get_or-replicate n key no_number 0 (omega (arith, l, length-replicate n no_number))) ∙ linked_itself no_number no_number (omega arith))) (λ j h. absurd (omega arith));
   before = λ m key l. absurd (omega arith);
 }
 
-module _ (heads : List (Option ℕ)) (links : List ℕ) (keys : List (Option ℕ)) (are : AreChains heads links keys) (y : Option ℕ) (link : ℕ) where
+module _ (heads : List ℕ) (links : List ℕ) (keys : List (Option ℕ)) (are : AreChains heads links keys) (y : Option ℕ) (link : ℕ) where
   before_push : ((key : ℕ) → y ≡ Some key → IsLastBelow keys key (length keys) (linked (length keys) link)) → (n key : ℕ) → n < length (keys ++ y ∷ []) → get_or (keys ++ y ∷ []) n None ≡ Some key → IsLastBelow (keys ++ y ∷ []) key n (linked n (get_or (links ++ link ∷ []) n 0))
   before_push new n key l e = elim (split_last n (length keys) (omega (arith, length_push keys y))) [ inl less ↦ old less | inr at ↦ here at ]
     where
@@ -81,39 +84,38 @@ module _ (heads : List (Option ℕ)) (links : List ℕ) (keys : List (Option ℕ
   long_push = omega (arith, length_push links link, length_push keys y, are.long)
 
 -- a number without a key
-pub chains_skip : (heads : List (Option ℕ)) (links : List ℕ) (keys : List (Option ℕ)) (link : ℕ) → AreChains heads links keys → AreChains heads (links ++ link ∷ []) (keys ++ None ∷ [])
+pub chains_skip : (heads : List ℕ) (links : List ℕ) (keys : List (Option ℕ)) (link : ℕ) → AreChains heads links keys → AreChains heads (links ++ link ∷ []) (keys ++ None ∷ [])
 chains_skip heads links keys link are = record {
   long = long_push heads links keys are None link;
-  last = λ key l. last_other keys None key (get_or heads key None) (λ e. let z : ⊥ = cc in z) (are.last key l);
+  last = λ key l. last_other keys None key (linked no_number (get_or heads key 0)) (λ e. let z : ⊥ = cc in z) (are.last key l);
   before = before_push heads links keys are None link (λ key e. absurd (let z : ⊥ = cc in z));
 }
 
 -- a number with a key
-pub chains_add : (heads : List (Option ℕ)) (links : List ℕ) (keys : List (Option ℕ)) (key n : ℕ) → n ≡ length links → key < length heads → AreChains heads links keys → AreChains (set heads key (Some n)) (links ++ unwrap_or (get_or heads key None) n ∷ []) (keys ++ Some key ∷ [])
-chains_add heads links keys key n is inside are = record {
+pub chains_add : (heads links : List ℕ) (keys : List (Option ℕ)) (key n : ℕ) → n ≡ length links → n < no_number → key < length heads → AreChains heads links keys → AreChains (set heads key n) (links ++ get_or heads key 0 ∷ []) (keys ++ Some key ∷ [])
+chains_add heads links keys key n is few inside are = record {
   long = long_push heads links keys are (Some key) link;
   last = last;
   before = before_push heads links keys are (Some key) link before;
 }
   where
     link : ℕ
-    link = unwrap_or (get_or heads key None) n
+    link = get_or heads key 0
 
     at : n ≡ length keys
     at = is ∙ are.long
 
-    last : (other : ℕ) → other < length (set heads key (Some n)) → IsLastBelow (keys ++ Some key ∷ []) other (length (keys ++ Some key ∷ [])) (get_or (set heads key (Some n)) other None)
+    last : (other : ℕ) → other < length (set heads key n) → IsLastBelow (keys ++ Some key ∷ []) other (length (keys ++ Some key ∷ [])) (linked no_number (get_or (set heads key n) other 0))
     last other l = elim (cases_eq other key) [
-      | inl same ↦ subst (λ (k : ℕ). IsLastBelow (keys ++ Some key ∷ []) k (length (keys ++ Some key ∷ [])) (get_or (set heads key (Some n)) k None)) (sym same)
-          (subst (IsLastBelow (keys ++ Some key ∷ []) key (length (keys ++ Some key ∷ []))) (sym (get_or-set_same heads key (Some n) None inside ∙ ap Some at)) (last_new keys key))
-      | inr different ↦ subst (IsLastBelow (keys ++ Some key ∷ []) other (length (keys ++ Some key ∷ []))) (sym (get_or-set_other heads key other (Some n) None different))
-          (last_other keys (Some key) other (get_or heads other None) (λ e. different (let z : other ≡ key = cc in z)) (are.last other (omega (arith, simp length-set at l))))
+      | inl same ↦ subst (λ (k : ℕ). IsLastBelow (keys ++ Some key ∷ []) k (length (keys ++ Some key ∷ [])) (linked no_number (get_or (set heads key n) k 0))) (sym same)
+          (subst (IsLastBelow (keys ++ Some key ∷ []) key (length (keys ++ Some key ∷ []))) (sym (ap (linked no_number) (get_or-set_same heads key n 0 inside) ∙ (linked_before no_number n few ∙ ap Some at))) (last_new keys key))
+      | inr different ↦ subst (IsLastBelow (keys ++ Some key ∷ []) other (length (keys ++ Some key ∷ []))) (sym (ap (linked no_number) (get_or-set_other heads key other n 0 different)))
+          (last_other keys (Some key) other (linked no_number (get_or heads other 0)) (λ e. different (let z : other ≡ key = cc in z)) (are.last other (omega (arith, simp length-set at l))))
     ]
 
     before : (k : ℕ) → Some key ≡ Some k → IsLastBelow keys k (length keys) (linked (length keys) link)
     before k e =
         let same : key ≡ k = cc in
-        let old : IsLastBelow keys key (length keys) (get_or heads key None) = are.last key inside in
-        let told : linked (length keys) (unwrap_or (get_or heads key None) (length keys)) ≡ get_or heads key None = linked_last keys key (length keys) (get_or heads key None) old in
-        let told_n : linked (length keys) link ≡ get_or heads key None = subst (λ (m : ℕ). linked (length keys) (unwrap_or (get_or heads key None) m) ≡ get_or heads key None) (sym at) told in
-        subst (λ (j : ℕ). IsLastBelow keys j (length keys) (linked (length keys) link)) same (subst (IsLastBelow keys key (length keys)) (sym told_n) old)
+        let old : IsLastBelow keys key (length keys) (linked no_number link) = are.last key inside in
+        let told : linked (length keys) link ≡ linked no_number link = linked_head keys key (length keys) link (omega (arith, few, at)) old in
+        subst (λ (j : ℕ). IsLastBelow keys j (length keys) (linked (length keys) link)) same (subst (IsLastBelow keys key (length keys)) (sym told) old)

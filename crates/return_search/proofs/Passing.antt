@@ -13,7 +13,7 @@ use Rattle.return_search.specs.declared.search.Search.{Search}
 use Rattle.return_search.specs.Told.{exit_at, dead_end_at, entered_at}
 use Rattle.return_search.specs.Shape.{points_of}
 use Rattle.return_search.specs.Backward.{IsEdgeOf, edge_at}
-use Rattle.return_search.specs.Search.{holds, target_returns, is_calling, carries, AreListed, AreSound, Extends, FindsAlong, IsPassedOn, IsSearch, AreClosed}
+use Rattle.return_search.specs.Search.{holds, target_returns, is_calling, carries, AreListed, AreSound, Extends, FindsAlong, FindsLeaving, IsPassedOn, IsSearch, AreClosed}
 use Rattle.return_search.proofs.Steps.{extends_more, holds_new, holds_still}
 
 pub holds_inside : (tests : List Bool) (q : ℕ) → holds tests q ≡ true → q < length tests
@@ -82,13 +82,13 @@ passed_know flow found after known entry x inside still calls is passed = record
 
 -- the search stands before the next point
 pub search_next : (flow : Flow) (s t : Search) (i : ℕ) → IsSearch flow s i → i < length s.order.items → AreListed flow t → AreSound flow t.found.items t.known.items → Extends s t
-    → ((k : ℕ) → k < i → k < length s.order.items → IsPassedOn flow t.found.items t.known.items (slice_index s.order.items k)) → IsPassedOn flow t.found.items t.known.items (slice_index s.order.items i) → IsSearch flow t (i + 1)
+    → ((k : ℕ) → k < i → IsPassedOn flow t.found.items t.known.items (slice_index s.order.items k)) → IsPassedOn flow t.found.items t.known.items (slice_index s.order.items i) → IsSearch flow t (i + 1)
 search_next flow s t i search inside listed sound extends before here = record {
   listed = listed;
   sound = sound;
-  leaving = λ q l e. extends.found q (search.leaving q l e);
-  passed = λ k l within. elim (split k l) [
-    | inl less ↦ passed k (omega arith) (before k less (omega arith))
+  within = let l : length s.order.items ≤ length t.order.items = extends.longer in omega (arith, inside, l);
+  passed = λ k l. elim (split k l) [
+    | inl less ↦ passed k (omega arith) (before k less)
     | inr same ↦ passed k (omega arith) (subst (λ (j : ℕ). IsPassedOn flow t.found.items t.known.items (slice_index s.order.items j)) (sym same) here)
   ];
 }
@@ -104,7 +104,7 @@ pub search_same : (flow : Flow) (s t : Search) (i x : ℕ) → IsSearch flow s i
     → FindsAlong flow t.found.items s.known.items x → ((entry : ℕ) → entered_at flow x ≡ Some entry → holds s.known.items entry ≡ true) → IsSearch flow t (i + 1)
 search_same flow s t i x search inside read listed sound extends same along entry =
     search_next flow s t i search inside listed sound extends
-    (λ k l within. subst (λ (known : List Bool). IsPassedOn flow t.found.items known (slice_index s.order.items k)) (sym same) (passed_more flow s.found.items t.found.items s.known.items (slice_index s.order.items k) extends.found (search.passed k l within)))
+    (λ k l. subst (λ (known : List Bool). IsPassedOn flow t.found.items known (slice_index s.order.items k)) (sym same) (passed_more flow s.found.items t.found.items s.known.items (slice_index s.order.items k) extends.found (search.passed k l)))
     (subst (IsPassedOn flow t.found.items t.known.items) read (subst (λ (known : List Bool). IsPassedOn flow t.found.items known x) (sym same) here))
   where
     here : IsPassedOn flow t.found.items s.known.items x
@@ -116,10 +116,11 @@ module _ (flow : Flow) (s one t : Search) (i x entry : ℕ) (search : IsSearch f
       → ((q j : ℕ) → exit_at flow q ≡ Calls entry → IsEdgeOf flow q j → holds one.found.items (edge_at flow j).to ≡ true → carries flow (set one.known.items entry true) q (edge_at flow j).kind ≡ true → holds t.found.items q ≡ true) → IsSearch flow t (i + 1)
   search_entry listed sound first second same known along calls =
       search_next flow s t i search inside listed sound (extends_more s one t first second)
-      (λ k l within.
-      let was : IsPassedOn flow s.found.items one.known.items (slice_index s.order.items k) = subst (λ (ks : List Bool). IsPassedOn flow s.found.items ks (slice_index s.order.items k)) (sym same) (search.passed k l within) in
+      (λ k l.
+      let below : k < length s.order.items = omega (arith, inside, l) in
+      let was : IsPassedOn flow s.found.items one.known.items (slice_index s.order.items k) = subst (λ (ks : List Bool). IsPassedOn flow s.found.items ks (slice_index s.order.items k)) (sym same) (search.passed k l) in
       subst (λ (ks : List Bool). IsPassedOn flow t.found.items ks (slice_index s.order.items k)) (sym known)
-      (passed_know flow one.found.items t.found.items one.known.items entry (slice_index s.order.items k) entry_in second.found calls (first.found (slice_index s.order.items k) (search.listed.found k 0 within))
+      (passed_know flow one.found.items t.found.items one.known.items entry (slice_index s.order.items k) entry_in second.found calls (first.found (slice_index s.order.items k) (search.listed.found k 0 below))
       (passed_more flow s.found.items one.found.items one.known.items (slice_index s.order.items k) first.found was)))
       (subst (IsPassedOn flow t.found.items t.known.items) read (subst (λ (ks : List Bool). IsPassedOn flow t.found.items ks x) (sym known) here))
     where
@@ -135,12 +136,49 @@ module _ (flow : Flow) (s one t : Search) (i x entry : ℕ) (search : IsSearch f
         entry = entry_known;
       }
 
+-- before the first point none is passed on
+pub search_first : (flow : Flow) (s : Search) → AreListed flow s → AreSound flow s.found.items s.known.items → IsSearch flow s 0
+search_first flow s listed sound = record {
+  listed = listed;
+  sound = sound;
+  within = omega arith;
+  passed = λ k l. absurd (omega arith);
+}
+
+-- those that are passed on stay so where more is found
+pub search_found : (flow : Flow) (s t : Search) (i : ℕ) → IsSearch flow s i → AreListed flow t → AreSound flow t.found.items t.known.items → Extends s t → t.known.items ≡ s.known.items → IsSearch flow t i
+search_found flow s t i search listed sound extends same = record {
+  listed = listed;
+  sound = sound;
+  within = longer;
+  passed = λ k l.
+      let x = slice_index s.order.items k in
+      subst (IsPassedOn flow t.found.items t.known.items) (sym (extends.order k (omega (arith, within, l))))
+      (subst (λ (known : List Bool). IsPassedOn flow t.found.items known x) (sym same) (passed_more flow s.found.items t.found.items s.known.items x extends.found (search.passed k l)));
+}
+  where
+    within : i ≤ length s.order.items
+    within = search.within
+
+    longer : i ≤ length t.order.items
+    longer = let l : length s.order.items ≤ length t.order.items = extends.longer in omega (arith, within, l)
+
+-- those of one point more are found
+pub leaving_next : (flow : Flow) (s t : Search) (n : ℕ) → FindsLeaving flow s.found.items n → Extends s t → (exit_at flow n ≡ Leaves → holds t.found.items n ≡ true) → FindsLeaving flow t.found.items (n + 1)
+leaving_next flow s t n so_far extends here q l e = elim (split q l) [
+  | inl less ↦ extends.found q (so_far q less e)
+  | inr same ↦ subst (λ (k : ℕ). holds t.found.items k ≡ true) (sym same) (here (subst (λ (k : ℕ). exit_at flow k ≡ Leaves) same e))
+]
+  where
+    split : (q : ℕ) → q < n + 1 → (q < n) ⊎ (q ≡ n)
+    split q l = grind arith
+
 -- all points that are found are passed on
-pub closed_at_end : (flow : Flow) (s : Search) (i : ℕ) → IsSearch flow s i → length s.order.items ≤ i → AreClosed flow s.found.items s.known.items
-closed_at_end flow s i search end = record {
-  leaving = search.leaving;
+pub closed_at_end : (flow : Flow) (s : Search) (i n : ℕ) → IsSearch flow s i → length s.order.items ≤ i → FindsLeaving flow s.found.items n → points_of flow ≤ n → AreClosed flow s.found.items s.known.items
+closed_at_end flow s i n search end leaving all = record {
+  leaving = λ q l e. leaving q (omega (arith, l, all)) e;
   passed = λ x h. go x (search.listed.listed x h);
 }
   where
     go : (x : ℕ) → Contains s.order.items x → IsPassedOn flow s.found.items s.known.items x
-    go x (k, l, is) = subst (IsPassedOn flow s.found.items s.known.items) (sym (get_or_default_zero s.order.items k x l) ∙ is) (search.passed k (omega arith) l)
+    go x (k, l, is) = subst (IsPassedOn flow s.found.items s.known.items) (sym (get_or_default_zero s.order.items k x l) ∙ is) (search.passed k (omega (arith, l, end)))

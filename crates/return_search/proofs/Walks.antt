@@ -1,19 +1,19 @@
 -- What is found while a search walks over points, over the edges that lead to a point, and over the calls of an entry.
-use Rattle.std.proofs.Common.{◌≡◌, ℕ, ◌+◌, ◌<◌, ◌≤◌, ◌⊎◌, inl, inr, Bool, true, false, List, Option, Some, None, map, length, get_or, set, refl, sym, ap, ◌∙◌, subst, arith}
+use Rattle.std.proofs.Common.{◌≡◌, ℕ, ◌+◌, ◌<◌, ◌≤◌, inl, inr, Bool, true, false, List, Option, Some, None, map, length, get_or, set, refl, sym, ap, ◌∙◌, subst, arith}
 use Rattle.std.proofs.lemmas.List.{length-map}
 use Rattle.program_defs.specs.declared.flow.EdgeKind.TheVariants.{Next}
 use Rattle.program_defs.specs.Program.{Program, edge}
 use Rattle.program_defs.specs.MayReturn.{MayReturn}
-use Rattle.return_search.specs.declared.flow.Exit.TheVariants.{Leaves, Calls, Passes}
+use Rattle.return_search.specs.declared.flow.Exit.TheVariants.{Calls, Passes}
 use Rattle.return_search.specs.declared.flow.Flow.{Flow}
 use Rattle.return_search.specs.declared.search.Search.{Search}
 use Rattle.return_search.specs.Chained.{IsLastBelow}
 use Rattle.return_search.specs.Told.{TellsFlow, exit_at, start_of}
 use Rattle.return_search.specs.Shape.{HasShape, points_of}
 use Rattle.return_search.specs.Backward.{IsEdgeOf, called, edge_at, target_of}
-use Rattle.return_search.specs.Search.{holds, carries, AreListed, AreSound, Extends, IsSearch}
+use Rattle.return_search.specs.Search.{holds, carries, AreListed, AreSound, Extends}
 use Rattle.return_search.proofs.Ranges.{ends_within}
-use Rattle.return_search.proofs.Least.{leaving_sound, carried_sound}
+use Rattle.return_search.proofs.Least.{carried_sound}
 use Rattle.return_search.proofs.Steps.{IsCursor, IsPassed, cursor_first, cursor_next, none_passed, passed_next, edge_of_one, key_at, holds_new, sound_find, extends_itself, extends_more}
 
 -- one point is found, and nothing else
@@ -29,43 +29,6 @@ module _ (flow : Flow) (s t : Search) (q : ℕ) (inside : q < points_of flow) (f
 
   pub sound_now : AreSound flow s.found.items s.known.items → ((p : Program) → TellsFlow p flow → MayReturn p q) → AreSound flow t.found.items t.known.items
   sound_now sound may = subst (λ (found : List Bool). AreSound flow found t.known.items) (sym finds.found) (subst (AreSound flow (set s.found.items q true)) (sym finds.known) (sound_find flow s.found.items s.known.items q sound may))
-
--- of the first n points those that leave are found
-pub record LeavingFound (flow : Flow) (s : Search) (n : ℕ) : Type 0 where
-  pub listed : AreListed flow s
-  pub sound : AreSound flow s.found.items s.known.items
-  pub leaving : (q : ℕ) → q < n → exit_at flow q ≡ Leaves → holds s.found.items q ≡ true
-
-split_last : (j n : ℕ) → j < n + 1 → (j < n) ⊎ (j ≡ n)
-split_last j n h = grind arith
-
-pub leaving_found : (flow : Flow) → HasShape flow → (s t : Search) (n : ℕ) → n < points_of flow → LeavingFound flow s n → exit_at flow n ≡ Leaves → Finds flow s t n → LeavingFound flow t (n + 1)
-leaving_found flow shape s t n inside so_far leaves finds = record {
-  listed = finds.listed;
-  sound = sound_now flow s t n inside finds so_far.sound (λ p tells. leaving_sound p flow tells shape n leaves inside);
-  leaving = λ q l e. elim (split_last q n l) [
-    | inl less ↦ finds.extends.found q (so_far.leaving q less e)
-    | inr same ↦ subst (λ (k : ℕ). holds t.found.items k ≡ true) (sym same) (found_now flow s t n inside finds so_far.listed)
-  ];
-}
-
-pub leaving_other : (flow : Flow) (s : Search) (n : ℕ) → LeavingFound flow s n → (exit_at flow n ≡ Leaves → ⊥) → LeavingFound flow s (n + 1)
-leaving_other flow s n so_far other = record {
-  listed = so_far.listed;
-  sound = so_far.sound;
-  leaving = λ q l e. elim (split_last q n l) [
-    | inl less ↦ so_far.leaving q less e
-    | inr same ↦ absurd (other (subst (λ (k : ℕ). exit_at flow k ≡ Leaves) same e))
-  ];
-}
-
-pub leaving_all : (flow : Flow) (s : Search) (n : ℕ) → LeavingFound flow s n → points_of flow ≤ n → IsSearch flow s 0
-leaving_all flow s n so_far end = record {
-  listed = so_far.listed;
-  sound = so_far.sound;
-  leaving = λ q l e. so_far.leaving q (omega arith) e;
-  passed = λ k l within. absurd (omega arith);
-}
 
 -- the points of those edges to x are found that the walk has passed, as far as they carry a return
 pub record AlongFound (flow : Flow) (before s : Search) (x : ℕ) (next : Option ℕ) : Type 0 where

@@ -10,8 +10,12 @@ IsLastBelow keys key n (Some i) = (i < n) × (slice_index_or keys i None ≡ Som
 abbrev pub linked : ℕ → ℕ → Option ℕ
 linked n link = if nat_lt link n then Some link else None
 
+-- the head of a key that no number has; a head says what a link of this would
+abbrev pub no_number : ℕ
+no_number = 4294967295
+
 -- The heads by key, and the links by number, where the numbers have these keys.
-pub record AreChains (heads : List (Option ℕ)) (links : List ℕ) (keys : List (Option ℕ)) : Type 0 where
+pub record AreChains (heads : List ℕ) (links : List ℕ) (keys : List (Option ℕ)) : Type 0 where
   pub long : length links ≡ length keys
-  pub last : (key : ℕ) → key < length heads → IsLastBelow keys key (length keys) (slice_index_or heads key None)
+  pub last : (key : ℕ) → key < length heads → IsLastBelow keys key (length keys) (linked no_number (slice_index heads key))
   pub before : (n key : ℕ) → n < length keys → slice_index_or keys n None ≡ Some key → IsLastBelow keys key n (linked n (slice_index links n))

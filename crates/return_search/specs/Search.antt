@@ -70,18 +70,18 @@ pub record IsPassedOn (flow : Flow) (found known : List Bool) (x : ℕ) : Type 0
   pub edges : FindsAlong flow found known x
   pub entry : (entry : ℕ) → entered_at flow x ≡ Some entry → holds known entry ≡ true
 
--- all points from which a return comes are found
-abbrev pub FindsLeaving : Flow → List Bool → Type 0
-FindsLeaving flow found = (q : ℕ) → q < points_of flow → exit_at flow q ≡ Leaves → holds found q ≡ true
+-- those of the first n points from which a return comes are found
+abbrev pub FindsLeaving : Flow → List Bool → ℕ → Type 0
+FindsLeaving flow found n = (q : ℕ) → q < n → exit_at flow q ≡ Leaves → holds found q ≡ true
 
 -- The search stands before the i-th of the points that it has found: those before it are passed on.
 pub record IsSearch (flow : Flow) (s : Search) (i : ℕ) : Type 0 where
   pub listed : AreListed flow s
   pub sound : AreSound flow s.found.items s.known.items
-  pub leaving : FindsLeaving flow s.found.items
-  pub passed : (k : ℕ) → k < i → k < length s.order.items → IsPassedOn flow s.found.items s.known.items (slice_index s.order.items k)
+  pub within : i ≤ length s.order.items
+  pub passed : (k : ℕ) → k < i → IsPassedOn flow s.found.items s.known.items (slice_index s.order.items k)
 
 -- what is found and known is closed: no return is carried any further
 pub record AreClosed (flow : Flow) (found known : List Bool) : Type 0 where
-  pub leaving : FindsLeaving flow found
+  pub leaving : FindsLeaving flow found (points_of flow)
   pub passed : (x : ℕ) → holds found x ≡ true → IsPassedOn flow found known x

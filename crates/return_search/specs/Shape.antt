@@ -35,3 +35,5 @@ pub record HaveShape (points : ℕ) (returns : Returns) : Type 0 where
   pub ascending : (q : ℕ) → q < points → slice_index returns.starts.items q ≤ slice_index returns.starts.items (q + 1)
   pub within : (q : ℕ) → q < points → slice_index returns.starts.items (q + 1) ≤ length returns.edges.items
   pub targets : All (λ e. e.to < points) returns.edges.items
+  pub dead_ends : length returns.dead_ends.items ≡ points
+  pub entered : length returns.entered.items ≡ points

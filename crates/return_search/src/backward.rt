@@ -28,7 +28,7 @@ fn by_target(alloc: Global, flow: &Flow) -> Result<Chains, NoMemory>
     ensures heads { IfOk result (λ chains. length chains.heads.items ≡ points_of flow.now) }
     ensures links { IfOk result (λ chains. length chains.links.items ≡ length flow.now.edges.items) }
 {
-    let mut chains = Chains::new(alloc, flow.exits.len() as u32)?;
+    let mut chains = Chains::new(alloc, flow.exits.len() as u32, flow.edges.len())?;
     for edge in &flow.edges {
         chains.add(Some(edge.to))?;
     }
@@ -52,7 +52,8 @@ fn by_entry(alloc: Global, flow: &Flow) -> Result<Chains, NoMemory>
     ensures heads { IfOk result (λ chains. length chains.heads.items ≡ points_of flow.now) }
     ensures links { IfOk result (λ chains. length chains.links.items ≡ points_of flow.now) }
 {
-    let mut chains = Chains::new(alloc, flow.exits.len() as u32)?;
+    let points = flow.exits.len();
+    let mut chains = Chains::new(alloc, points as u32, points)?;
     for exit in &flow.exits {
         chains.add(called_entry(*exit))?;
     }

@@ -6,25 +6,28 @@ ghost use Rattle.return_search.specs.Chained.{AreChains, IsLastBelow};
 use ot_base::NoMemory;
 use std::alloc::Global;
 
+/// The head of a key that no number has. All numbers are less.
+const NONE: u32 = u32::MAX;
+
 /// Numbers from 0 on in chains, one for each key. A number has a key or none, and gets its place as it is added.
 #[derive(Drop)]
 pub(crate) struct Chains {
-    /// For each key, the last number that has it.
-    heads: Vec<Option<u32>>,
-    /// For each number, the number before it that has its key, or itself where there is none.
+    /// For each key, the last number that has it, or `NONE`.
+    heads: Vec<u32>,
+    /// For each number, the number before it that has its key, or one that isn't less where there is none.
     links: Vec<u32>,
 }
 
 impl Chains {
-    /// No number has a key yet.
-    pub(crate) fn new(alloc: Global, keys: u32) -> Result<Chains, NoMemory>
+    /// No number has a key yet. There is room for so many.
+    pub(crate) fn new(alloc: Global, keys: u32, numbers: usize) -> Result<Chains, NoMemory>
         ensures none { IfOk result (λ chains. AreChains chains.heads.items chains.links.items []) }
         ensures heads { IfOk result (λ chains. length chains.heads.items ≡ keys) }
         ensures links { IfOk result (λ chains. length chains.links.items ≡ 0) }
     {
         Ok(Chains {
-            heads: vec![in alloc; None; keys as usize]?,
-            links: Vec::new(alloc),
+            heads: vec![in alloc; NONE; keys as usize]?,
+            links: Vec::with_capacity(alloc, numbers)?,
         })
     }
 
@@ -40,8 +43,8 @@ impl Chains {
         match key {
             None => self.links.push(n)?,
             Some(key) => {
-                self.links.push(self.heads[key as usize].unwrap_or(n))?;
-                self.heads[key as usize] = Some(n);
+                self.links.push(self.heads[key as usize])?;
+                self.heads[key as usize] = n;
             }
         }
         Ok(())
@@ -52,7 +55,8 @@ impl Chains {
         requires { key < length self.now.heads.items }
         ensures { (keys : List (Option ℕ)) → AreChains self.now.heads.items self.now.links.items keys → IsLastBelow keys key (length keys) result }
     {
-        self.heads[key as usize]
+        let head = self.heads[key as usize];
+        if head < NONE { Some(head) } else { None }
     }
 
     /// The number before one that has its key.

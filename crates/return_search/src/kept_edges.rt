@@ -52,7 +52,7 @@ pub(crate) fn kept_edges(
     requires comes_back { length comes_back.now ≡ points_of flow.now }
     ensures { IfOk result (λ kept. AreKept flow.now comes_back.now kept.starts.items kept.edges.items (points_of flow.now)) }
 {
-    let mut edges = Vec::new(alloc);
+    let mut edges = Vec::with_capacity(alloc, flow.edges.len())?;
     let mut starts = Vec::with_capacity(alloc, flow.starts.len())?;
     starts.push(0)?;
     for q in 0..flow.exits.len() {

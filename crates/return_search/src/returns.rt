@@ -15,7 +15,8 @@ use ot_base::NoMemory;
 use program_defs::Edge;
 use std::alloc::Global;
 
-/// From which points of a program a return may come, and its edges without the Next of a call that can't come back.
+/// From which points of a program a return may come, its edges without the Next of a call that can't come back, and what
+/// else its flow told of its points.
 #[derive(Drop)]
 pub struct Returns {
     /// Whether a return may come from a point on.
@@ -27,6 +28,10 @@ pub struct Returns {
     pub starts: Vec<u32>,
     /// The edges of all points, in the order of the points, without the Next of a call that can't come back.
     pub edges: Vec<Edge>,
+    /// Whether execution never passes a point, as the flow told it.
+    pub dead_ends: Vec<bool>,
+    /// For each point, the entry at which control may come to stand at it, if there is one, as the flow told it.
+    pub entered: Vec<Option<u32>>,
 }
 
 /// Whether the target of each point's call returns, where these entries are known to return.
@@ -46,20 +51,29 @@ fn returning_targets(alloc: Global, flow: &Flow, known: &[bool]) -> Result<Vec<b
 /// Finds from which points of a program a return may come, backwards over its edges, and drops the Next of each call that
 /// can't come back.
 ///
-/// Each point is looked at once and each edge a few times. Beside the result it takes some 30 bytes a point and 8 an
+/// Each point is looked at once and each edge a few times. Beside the result it takes some 20 bytes a point and 8 an
 /// edge, and gives them back.
 pub fn find_returns(alloc: Global, flow: Flow) -> Result<Returns, NoMemory>
     requires { HasShape flow }
     ensures shape { IfOk result (HaveShape (points_of flow)) }
+    ensures dead_ends { IfOk result (λ returns. returns.dead_ends ≡ flow.dead_ends) }
+    ensures entered { IfOk result (λ returns. returns.entered ≡ flow.entered) }
     ensures told { (p : Program) → TellsFlow p flow → IsProgram p → IfOk result (TellsReturns p) }
 {
     let Search { found, known, .. } = spread(alloc, &flow)?;
     let comes_back = returning_targets(alloc, &flow, &known)?;
     let KeptEdges { starts, edges } = kept_edges(alloc, &flow, &comes_back)?;
+    let Flow {
+        dead_ends,
+        entered,
+        ..
+    } = flow;
     Ok(Returns {
         may_return: found,
         comes_back,
         starts,
         edges,
+        dead_ends,
+        entered,
     })
 }

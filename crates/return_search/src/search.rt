@@ -1,6 +1,6 @@
 //! What a search has found.
 
-ghost use Rattle.std.specs.Prelude.{◌≡◌, ◌<◌, ◌≤◌, false, true, IfOk, length, replicate, slice_index, slice_set};
+ghost use Rattle.std.specs.Prelude.{◌≡◌, ◌<◌, ◌≤◌, [], false, true, IfOk, length, replicate, slice_index, slice_set};
 ghost use Rattle.return_search.specs.Shape.{HasShape, points_of};
 
 use crate::flow::{Exit, Flow};
@@ -27,6 +27,7 @@ impl Search {
         requires { HasShape flow.now }
         ensures listed { IfOk result (AreListed flow.now) }
         ensures found { IfOk result (λ search. search.found.items ≡ replicate (points_of flow.now) false) }
+        ensures order { IfOk result (λ search. search.order.items ≡ []) }
         ensures known { IfOk result (λ search. search.known.items ≡ replicate (points_of flow.now) false) }
     {
         let points = flow.exits.len();

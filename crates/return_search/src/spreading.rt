@@ -133,6 +133,7 @@ fn pass_on(flow: &Flow, backward: &Backward, search: &mut Search, i: usize)
     requires search { IsSearch flow.now search.old i }
     requires inside { i < length search.old.order.items }
     ensures search { IsSearch flow.now search.new (i + 1) }
+    ensures extends { Extends search.old search.new }
 {
     let x = search.order[i];
     find_along(flow, backward, search, x);
@@ -144,21 +145,27 @@ fn pass_on(flow: &Flow, backward: &Backward, search: &mut Search, i: usize)
     }
 }
 
-/// Finds the points from which a return comes.
-fn find_leaving(flow: &Flow, search: &mut Search)
+/// Finds a point, if a return comes from it.
+fn find_leaving(flow: &Flow, search: &mut Search, q: u32)
     requires shape { HasShape flow.now }
     requires listed { AreListed flow.now search.old }
     requires sound { AreSound flow.now search.old.found.items search.old.known.items }
-    ensures { IsSearch flow.now search.new 0 }
+    requires point { q < points_of flow.now }
+    ensures listed { AreListed flow.now search.new }
+    ensures extends { Extends search.old search.new }
+    ensures known { search.new.known.items ≡ search.old.known.items }
+    ensures sound { AreSound flow.now search.new.found.items search.new.known.items }
+    ensures leaving { exit_at flow.now q ≡ Leaves → holds search.new.found.items q ≡ true }
 {
-    for q in 0..flow.exits.len() as u32 {
-        if leaves(flow.exits[q as usize]) {
-            search.find(flow, q);
-        }
+    if leaves(flow.exits[q as usize]) {
+        search.find(flow, q);
     }
 }
 
 /// Finds the points from which a return may come. Each point is passed on once, and each edge is looked at twice at most.
+///
+/// All that a point leads to is passed on before the next point from which a return comes is looked for, so that the
+/// search stays in one function for long.
 pub(crate) fn spread(alloc: Global, flow: &Flow) -> Result<Search, NoMemory>
     requires { HasShape flow.now }
     ensures listed { IfOk result (AreListed flow.now) }
@@ -167,11 +174,13 @@ pub(crate) fn spread(alloc: Global, flow: &Flow) -> Result<Search, NoMemory>
 {
     let backward = Backward::new(alloc, flow)?;
     let mut search = Search::new(alloc, flow)?;
-    find_leaving(flow, &mut search);
     let mut i = 0;
-    'found: while i < search.order.len() {
-        pass_on(flow, &backward, &mut search, i);
-        i += 1;
+    for q in 0..flow.exits.len() as u32 {
+        find_leaving(flow, &mut search, q);
+        'found: while i < search.order.len() {
+            pass_on(flow, &backward, &mut search, i);
+            i += 1;
+        }
     }
     Ok(search)
 }

@@ -1,29 +1,39 @@
--- A point more is looked at.
-use Rattle.std.proofs.Common.{◌≡◌, ◌<◌, ◌+◌, true, sym, ◌∙◌, subst, arith}
+-- The point is found where it leaves.
+use Rattle.std.proofs.Common.{◌≡◌, true, refl, sym, ◌∙◌}
 use Rattle.std.proofs.lemmas.List.{get_or_read}
 use Rattle.return_search.specs.declared.flow.Exit.TheVariants.{Leaves, Passes}
-use Rattle.return_search.specs.declared.search.Search.{Search}
 use Rattle.return_search.specs.Told.{exit_at}
-use Rattle.return_search.specs.Shape.{points_of}
-use Rattle.return_search.proofs.Walks.{Finds, LeavingFound, leaving_found, leaving_other, leaving_all}
+use Rattle.return_search.proofs.Least.{leaving_sound}
+use Rattle.return_search.proofs.Steps.{extends_itself}
+use Rattle.return_search.proofs.Walks.{Finds, found_now, sound_now}
 use Rattle.return_search.proofs.spreading.find_leaving.Goals as goal
-use Rattle.return_search.proofs.spreading.find_leaving.Goals.{then-leaves, else-leaves}
 
-pub loop-q-preserved : goal.loop-q-preserved
-loop-q-preserved c =
+pub returns-then-leaves : goal.returns-then-leaves
+returns-then-leaves c =
     let flow = c.args.flow.now in
-    let q = c.loop-q.q in
-    let inside : q < points_of flow = omega arith in
-    let read = get_or_read flow.exits.items q (c.index.result).now inside c.index.ensures Passes in
-    elim c.if-leaves.branch [
-      | then-leaves w ↦
-          let is : exit_at flow q ≡ Leaves = sym read ∙ c.leaves.ensures.0 w.if-leaves.true in
-          let finds : Finds flow c.loop-q.search w.find.new.self q = record { listed = w.find.ensures.listed; extends = w.find.ensures.extends; found = w.find.ensures.found; known = w.find.ensures.known } in
-          subst (λ (s : Search). LeavingFound flow s (q + 1)) (sym w.search-is) (leaving_found flow c.requires.shape c.loop-q.search w.find.new.self q inside c.loop-q.invariant is finds)
-      | else-leaves w ↦
-          subst (λ (s : Search). LeavingFound flow s (q + 1)) (sym w.search-is)
-          (leaving_other flow c.loop-q.search q c.loop-q.invariant (λ is. let yes : c.leaves.result ≡ true = c.leaves.ensures.1 (read ∙ is) in let no = w.if-leaves.false in cc))
-    ]
+    let s = c.args.search.now in
+    let t = c.find.new.self in
+    let q = c.args.q in
+    let read = get_or_read flow.exits.items q (c.index.result).now c.requires.point c.index.ensures Passes in
+    let is : exit_at flow q ≡ Leaves = sym read ∙ c.leaves.ensures.0 c.if-leaves.true in
+    let finds : Finds flow s t q = record { listed = c.find.ensures.listed; extends = c.find.ensures.extends; found = c.find.ensures.found; known = c.find.ensures.known } in
+    record {
+      listed = c.find.ensures.listed;
+      extends = c.find.ensures.extends;
+      known = c.find.ensures.known;
+      sound = sound_now flow s t q c.requires.point finds c.requires.sound (λ p tells. leaving_sound p flow tells c.requires.shape q is c.requires.point);
+      leaving = λ e. found_now flow s t q c.requires.point finds c.requires.listed;
+    }
 
-pub returns : goal.returns
-returns c = leaving_all c.args.flow.now c.loop-q.search c.loop-q.q c.loop-q.invariant (omega arith)
+pub returns-else-leaves : goal.returns-else-leaves
+returns-else-leaves c =
+    let flow = c.args.flow.now in
+    let q = c.args.q in
+    let read = get_or_read flow.exits.items q (c.index.result).now c.requires.point c.index.ensures Passes in
+    record {
+      listed = c.requires.listed;
+      extends = extends_itself c.args.search.now;
+      known = refl;
+      sound = c.requires.sound;
+      leaving = λ is. absurd (let yes : c.leaves.result ≡ true = c.leaves.ensures.1 (read ∙ is) in let no = c.if-leaves.false in cc);
+    }

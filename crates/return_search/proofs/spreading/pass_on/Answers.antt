@@ -5,8 +5,9 @@ use Rattle.return_search.specs.declared.flow.Flow.{Flow}
 use Rattle.return_search.specs.declared.search.Search.{Search}
 use Rattle.return_search.specs.Told.{entered_at}
 use Rattle.return_search.specs.Shape.{HasShape, points_of}
-use Rattle.return_search.specs.Search.{holds, AreListed}
+use Rattle.return_search.specs.Search.{holds, AreListed, Extends}
 use Rattle.return_search.proofs.Passing.{holds_inside, search_entry, search_same, sound_know}
+use Rattle.return_search.proofs.Steps.{extends_more}
 use Rattle.return_search.proofs.spreading.pass_on.Goals as goal
 
 -- the point is found, and a point
@@ -71,6 +72,7 @@ returns-else-not-index c =
     record {
       search = search_same flow s c.find_along.new.search c.args.i x c.requires.search c.requires.inside (get_or_read s.order.items c.args.i x c.requires.inside c.index-x.ensures 0) c.find_along.ensures.listed c.find_along.ensures.sound c.find_along.ensures.extends c.find_along.ensures.known c.find_along.ensures.along
           (λ e is. let same : e ≡ c.in-Some.entry = cc in subst (λ (k : ℕ). holds s.known.items k ≡ true) (sym same) known_before);
+      extends = c.find_along.ensures.extends;
     }
 
 pub returns-in_default : goal.returns-in_default
@@ -83,6 +85,7 @@ returns-in_default c =
     record {
       search = search_same flow s c.find_along.new.search c.args.i x c.requires.search c.requires.inside (get_or_read s.order.items c.args.i x c.requires.inside c.index-x.ensures 0) c.find_along.ensures.listed c.find_along.ensures.sound c.find_along.ensures.extends c.find_along.ensures.known c.find_along.ensures.along
           (λ e is. absurd (let z : (c.index.result).now ≡ Some e = read ∙ is in c.in_default.not-Some e z));
+      extends = c.find_along.ensures.extends;
     }
 
 pub returns-then-not-index : goal.returns-then-not-index
@@ -96,8 +99,10 @@ returns-then-not-index c =
     let point = is_point flow s c.args.i x c.requires.search.listed c.requires.inside c.index-x.ensures in
     let entered = is_entry flow c.requires.shape x entry (c.index.result).now point c.index.ensures c.in-Some.is in
     let entry_in : entry < length one.known.items = omega (arith, entry_inside flow c.requires.shape x entry entered, c.find_along.ensures.listed.known) in
-    let later = c.find_calls.ensures.extends in
+    let told = c.find_calls.ensures.extends in
+    let later : Extends one t = record { found = told.found; longer = told.longer; order = told.order } in
     record {
       search = search_entry flow s one t c.args.i x entry c.requires.search c.requires.inside (get_or_read s.order.items c.args.i x c.requires.inside c.index-x.ensures 0) entered entry_in
-          c.find_calls.ensures.listed c.find_calls.ensures.sound c.find_along.ensures.extends (record { found = later.found; longer = later.longer; order = later.order }) c.find_along.ensures.known c.find_calls.ensures.known c.find_along.ensures.along c.find_calls.ensures.calls;
+          c.find_calls.ensures.listed c.find_calls.ensures.sound c.find_along.ensures.extends later c.find_along.ensures.known c.find_calls.ensures.known c.find_along.ensures.along c.find_calls.ensures.calls;
+      extends = extends_more s one t c.find_along.ensures.extends later;
     }
