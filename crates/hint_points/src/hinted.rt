@@ -15,7 +15,21 @@ use std::alloc::Global;
 use unwind_hints::Hints;
 
 /// The hint of a point: the one at its place. Padding has none.
+#[inline(always)]
 pub(crate) fn hint_of(places: &PointPlaces<'_, '_, '_>, hints: &Hints, n: u32) -> Option<HintState>
+    requires inside { n < length (points_of_object places.now) }
+    requires hints { HaveSameFirst (special_of places.now.elf).hints hints.now }
+    ensures { result ≡ hint_of_point places.now (point_at places.now n) }
+{
+    if places.linked().special().hints().is_empty() {
+        return None;
+    }
+    search_hint(places, hints, n)
+}
+
+/// The same by a search among all hints.
+#[inline(never)]
+fn search_hint(places: &PointPlaces<'_, '_, '_>, hints: &Hints, n: u32) -> Option<HintState>
     requires inside { n < length (points_of_object places.now) }
     requires hints { HaveSameFirst (special_of places.now.elf).hints hints.now }
     ensures { result ≡ hint_of_point places.now (point_at places.now n) }

@@ -71,6 +71,7 @@ impl<'p, 'l, 'o, 'a> HintPoints<'p, 'l, 'o, 'a> {
     }
 
     /// The unwind hint of a point.
+    #[inline(always)]
     pub fn hint(&self, n: u32) -> Option<HintState>
         requires { n < length (points_of_object self.now.object) }
         ensures { result ≡ hint_of_point self.now.object (point_at self.now.object n) }
