@@ -20,11 +20,11 @@ get_behind : (xs : List PlacedRow) (x : PlacedRow) → slice_get (xs ++ x ∷ []
 get_behind [] x = refl
 get_behind (y ∷ xs) x = get_behind xs x
 
-last_push : (xs : List PlacedRow) (x : PlacedRow) → last_of (xs ++ x ∷ []) ≡ Some x
+pub last_push : (xs : List PlacedRow) (x : PlacedRow) → last_of (xs ++ x ∷ []) ≡ Some x
 last_push xs x = let e : length (xs ++ x ∷ []) - 1 ≡ length xs = omega (arith, length_push xs x) in ap (λ (n : ℕ). slice_get (xs ++ x ∷ []) n) e ∙ get_behind xs x
 
 -- what holds behind a row in its section, and in another one
-before_same : (sec : ℕ) (x : PlacedRow) → x.place.sec ≡ sec → row_before sec (Some x) ≡ x.row
+pub before_same : (sec : ℕ) (x : PlacedRow) → x.place.sec ≡ sec → row_before sec (Some x) ≡ x.row
 before_same sec x e = ap (λ (b : Bool). cond b x.row zero_row) (eq-eqb x.place.sec sec e)
 
 before_other : (sec : ℕ) (x : PlacedRow) → x.place.sec ≢ sec → row_before sec (Some x) ≡ zero_row

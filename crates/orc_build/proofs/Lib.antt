@@ -4,6 +4,7 @@ pub mod Merging
 pub mod Begins
 pub mod Whole
 pub mod Compressed
+pub mod Held
 pub mod Ended
 pub mod SiteRows
 pub mod Plain

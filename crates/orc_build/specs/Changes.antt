@@ -1,5 +1,5 @@
 -- The rows that begin in a program, and those of them that differ from the one before.
-use Rattle.std.specs.Prelude.{◌≡◌, ◌⊎◌, ℕ, ◌-◌, ◌==◌, true, false, List, [], ◌∷◌, ◌++◌, Option, Some, None, Contains, if◌then◌else◌, length, slice_get}
+use Rattle.std.specs.Prelude.{◌≡◌, ◌⊎◌, ℕ, ◌-◌, ◌==◌, Bool, true, false, List, [], ◌∷◌, ◌++◌, Option, Some, None, Contains, if◌then◌else◌, length, slice_get}
 use Rattle.ot_base.specs.declared.place.Place.{Place}
 use Rattle.ot_base.specs.declared.row.Row.{Row}
 use Rattle.ot_base.specs.declared.row.PlacedRow.{PlacedRow}
@@ -21,9 +21,13 @@ abbrev pub row_before : ℕ → Option PlacedRow → Row
 row_before sec None = zero_row
 row_before sec (Some last) = if last.place.sec == sec then last.row else zero_row
 
+-- whether a row is equal to the one that holds in its section behind some rows
+abbrev pub is_held : List PlacedRow → ℕ → Row → Bool
+is_held rows sec row = same_row (row_before sec (slice_get rows (length rows - 1))) row
+
 -- some rows and one more, unless it is equal to the one before in its section
 abbrev pub after_row : List PlacedRow → PlacedRow → List PlacedRow
-after_row rows x = if same_row (row_before x.place.sec (slice_get rows (length rows - 1))) x.row then rows else rows ++ x ∷ []
+after_row rows x = if is_held rows x.place.sec x.row then rows else rows ++ x ∷ []
 
 abbrev pub add_all : List PlacedRow → List PlacedRow → List PlacedRow
 add_all rows [] = rows

@@ -1,6 +1,6 @@
 //! The rows that differ from the one before.
 
-ghost use Rattle.std.specs.Prelude.{◌≡◌, ◌≤◌, ◌<◌, ◌-◌, [], IfOk, List, MatchOption, OnOk, length, slice_index_or, slice_range, true, false, ℕ};
+ghost use Rattle.std.specs.Prelude.{◌≡◌, ◌≤◌, ◌<◌, ◌-◌, [], IfOk, IfSome, IsTrue, List, MatchOption, OnOk, Some, length, slice_index_or, slice_range, true, false, ℕ};
 ghost use Rattle.ot_base.specs.declared.row.PlacedRow.{PlacedRow};
 ghost use Rattle.program_defs.specs.Program.{Program};
 ghost use Rattle.program_defs.specs.IsProgram.{IsLaidOut};
@@ -8,7 +8,7 @@ ghost use Rattle.checker_defs.specs.Rows.{row_of_point};
 ghost use Rattle.program_graph.specs.Tells.{Tells};
 ghost use Rattle.branch_check.specs.LevelStates.{at};
 ghost use Rattle.site_points.specs.Sites.{IsIndexOf, is_before as is_lower};
-ghost use Rattle.orc_build.specs.Changes.{AreMerged, AreRowsInSites, Ascends, BeginsRow, add_all, after_row, row_from};
+ghost use Rattle.orc_build.specs.Changes.{AreMerged, AreRowsInSites, Ascends, BeginsRow, add_all, after_row, is_held as is_row_held, row_from};
 ghost use Rattle.orc_build.specs.Checked.{IsCheckedBy};
 ghost use Rattle.orc_build.specs.Fit.{Fit};
 
@@ -27,6 +27,7 @@ fn is_before(place: Place, other: Place) -> bool
 }
 
 /// Adds a row behind others, unless it is equal to the one before. Before the first of a section nothing is known.
+#[inline(never)]
 fn push_change(rows: &mut Vec<PlacedRow>, row: PlacedRow) -> Result<(), NoMemory>
     ensures { OnOk result (rows.new.items ≡ after_row rows.old.items row) }
 {
@@ -73,20 +74,63 @@ fn push_all(rows: &mut Vec<PlacedRow>, more: &[PlacedRow]) -> Result<(), NoMemor
     Ok(())
 }
 
+/// Whether rows have one that begins before a place, from one on.
+fn has_before(rows: &[PlacedRow], from: usize, place: Place) -> bool
+    requires { from ≤ length rows.now }
+    ensures { result ≡ false → (d : PlacedRow) → from < length rows.now → is_lower (slice_index_or rows.now from d).place place ≡ false }
+{
+    from < rows.len() && is_before(rows[from].place, place)
+}
+
+/// Adds rows that begin before another one, from one on, then that one, unless it is known to be held already where none is
+/// before it. Says where those end.
+#[inline(always)]
+fn push_plain(
+    rows: &mut Vec<PlacedRow>,
+    more: &[PlacedRow],
+    from: usize,
+    row: PlacedRow,
+    is_held: bool,
+) -> Result<usize, NoMemory>
+    requires from { from ≤ length more.now }
+    requires held { IsTrue is_held → is_row_held rows.old.items row.place.sec row.row ≡ true }
+    ensures behind { IfOk result (λ end. from ≤ end) }
+    ensures within { IfOk result (λ end. end ≤ length more.now) }
+    ensures before { IfOk result (λ end. (k : ℕ) (d : PlacedRow) → from ≤ k → k < end → is_lower (slice_index_or more.now k d).place row.place ≡ true) }
+    ensures other { IfOk result (λ end. (d : PlacedRow) → end < length more.now → is_lower (slice_index_or more.now end d).place row.place ≡ false) }
+    ensures pushed { IfOk result (λ end. rows.new.items ≡ after_row (add_all rows.old.items (slice_range more.now from end)) row) }
+    ensures held { OnOk result (is_row_held rows.new.items row.place.sec row.row ≡ true) }
+{
+    if is_held && !has_before(more, from, row.place) {
+        return Ok(from);
+    }
+    let end = push_before(rows, more, from, row.place)?;
+    push_change(rows, row)?;
+    Ok(end)
+}
+
+/// The row of a point, and the section in which the rows so far are known to end with it.
+#[derive(Clone, Copy)]
+struct Current {
+    row: Row,
+    held: Option<u32>,
+}
+
 /// The row of a point, which is mostly that of the one before.
-fn row_at(kept: &Kept, n: u32, before: Row) -> Row
+fn row_at(kept: &Kept, n: u32, before: Current) -> Current
     requires inside { n < length kept.now }
     requires fit { Fit (at kept.now) }
-    requires before { 0 < n → before ≡ row_of_point (at kept.now) (n - 1) }
-    ensures { result ≡ row_of_point (at kept.now) n }
+    requires before { 0 < n → before.row ≡ row_of_point (at kept.now) (n - 1) }
+    ensures row { result.row ≡ row_of_point (at kept.now) n }
+    ensures held { (sec : ℕ) → result.held ≡ Some sec → (before.held ≡ Some sec) × (result.row ≡ before.row) }
 {
-    if n == 0 {
-        return row_or_zero(kept.state(n));
-    }
-    if kept.are_alike(n - 1, n) {
+    if n != 0 && kept.are_alike(n - 1, n) {
         return before;
     }
-    row_or_zero(kept.state(n))
+    Current {
+        row: row_or_zero(kept.state(n)),
+        held: None,
+    }
 }
 
 /// The row of a point of the object's code that begins one, where the point has this row: outside sites each does, and the
@@ -102,7 +146,8 @@ fn plain_row(
     requires points { length kept.now ≡ length graph.now.parts.points.items }
     requires inside { n < length graph.now.parts.points.items }
     requires row { row ≡ row_of_point (at kept.now) n }
-    ensures { (p : Program) → Tells p graph.now.parts → IsIndexOf p sites.now → IsLaidOut p → MatchOption result (BeginsRow p (at kept.now) n → ⊥) (λ row. BeginsRow p (at kept.now) n × (row ≡ row_from p (at kept.now) n)) }
+    ensures row { IfSome result (λ placed. placed.row ≡ row) }
+    ensures begins { (p : Program) → Tells p graph.now.parts → IsIndexOf p sites.now → IsLaidOut p → MatchOption result (BeginsRow p (at kept.now) n → ⊥) (λ row. BeginsRow p (at kept.now) n × (row ≡ row_from p (at kept.now) n)) }
 {
     if graph.variant(n) != 0 {
         return None;
@@ -118,6 +163,7 @@ fn plain_row(
 
 /// The rows of points of the object's code and those in kept sites, in the order of their places and without those that
 /// are equal to the one before in their section.
+#[inline(never)]
 pub(crate) fn list_changes(
     alloc: Global,
     graph: &Graph,
@@ -132,12 +178,17 @@ pub(crate) fn list_changes(
     let mut rows = Vec::new(alloc);
     let mut next = 0usize;
     let mut near = 0usize;
-    let mut row = ZERO_ROW;
+    let mut current = Current {
+        row: ZERO_ROW,
+        held: None,
+    };
     for n in 0..graph.points() {
-        row = row_at(kept, n, row);
-        if let Some(row) = plain_row(graph, kept, sites, &mut near, n, row) {
-            next = push_before(&mut rows, in_sites, next, row.place)?;
-            push_change(&mut rows, row)?;
+        current = row_at(kept, n, current);
+        if let Some(row) = plain_row(graph, kept, sites, &mut near, n, current.row) {
+            let sec = row.place.sec;
+            let is_held = current.held == Some(sec);
+            next = push_plain(&mut rows, in_sites, next, row, is_held)?;
+            current.held = Some(sec);
         }
     }
     push_all(&mut rows, &in_sites[next..])?;

@@ -5,33 +5,42 @@ ghost use Rattle.program_defs.specs.Program.{Program};
 ghost use Rattle.checker_defs.specs.Broken.{IsAccepted};
 ghost use Rattle.checker_defs.specs.Rows.{rows_of};
 ghost use Rattle.branch_check.specs.LevelStates.{at};
+ghost use Rattle.site_points.specs.Points.{AreSitePointsOf};
 ghost use Rattle.program_check.specs.Checkable.{AreOfSomeAccepted, IsCheckable};
 
 use branch_check::Kept;
 use ot_base::{NoMemory, PlacedRow};
 use program_graph::Graph;
+use site_points::SitePoint;
 use state_defs::State;
 use std::alloc::Global;
 
-/// The graph and the kept states of a program in which no rule is broken. [`check`](crate::check) alone makes one, so
-/// whoever has one has a program that was checked.
+/// The graph and the kept states of a program in which no rule is broken, and which of its points run in sites.
+/// [`check`](crate::check) alone makes one, so whoever has one has a program that was checked.
 ///
 /// Contracts see it as its graph and its states.
 #[derive(Drop)]
 pub struct Checked {
     graph: Graph,
     kept: Kept,
+    site_points: Vec<SitePoint>,
     pub ghost accepted: { AreOfSomeAccepted graph.parts kept },
+    ghost listed: { ∥ AreSitePointsOf graph.parts kept site_points.items ∥₁ },
 }
 
 impl Checked {
-    /// What was checked and accepted.
-    pub(crate) fn new(graph: Graph, kept: Kept) -> Checked
-        requires { AreOfSomeAccepted graph.parts kept }
+    /// What was checked and accepted, with the kept points that run in sites.
+    pub(crate) fn new(graph: Graph, kept: Kept, site_points: Vec<SitePoint>) -> Checked
+        requires accepted { AreOfSomeAccepted graph.parts kept }
+        requires listed { ∥ AreSitePointsOf graph.parts kept site_points.items ∥₁ }
         ensures graph { result.graph.parts ≡ graph.parts }
         ensures kept { result.kept ≡ kept }
     {
-        Checked { graph, kept }
+        Checked {
+            graph,
+            kept,
+            site_points,
+        }
     }
 
     /// The graph of the program.
@@ -59,6 +68,6 @@ impl Checked {
         ensures each { IfOk result (λ rows. (p : Program) → IsCheckable p self.now.graph.parts self.now.kept → IsAccepted p → rows.items ≡ rows_of p (at self.now.kept)) }
         ensures some { IfOk result (λ rows. ∥ ((p : Program) × IsCheckable p self.now.graph.parts self.now.kept × IsAccepted p × (rows.items ≡ rows_of p (at self.now.kept))) ∥₁) }
     {
-        orc_build::rows(alloc, &self.graph, &self.kept)
+        orc_build::rows(alloc, &self.graph, &self.kept, &self.site_points)
     }
 }

@@ -10,6 +10,7 @@ use crate::warnings::list_warnings;
 use branch_check::Kept;
 use ot_base::{NoMemory, Options, Warning};
 use program_graph::Graph;
+use site_points::list_site_points;
 use std::alloc::Global;
 
 /// What a check finds.
@@ -27,7 +28,7 @@ pub enum Verdict {
 /// The options `retpoline`, `rethunk` and `uaccess` ask for rules 31, 32 and 41 to 47, which aren't looked at here.
 /// Every site has fewer than 2^63 bytes.
 ///
-/// Each point and each edge is looked at a few times, with a search among the sites for each kept point.
+/// Each point and each edge is looked at a few times, with a look-up among the sites for each point.
 ///
 /// # Errors
 ///
@@ -37,9 +38,10 @@ pub fn check(alloc: Global, graph: Graph, kept: Kept, options: Options) -> Resul
     requires sites { All (λ site. site.len < 2 ^ 63) graph.parts.sites.items }
     ensures { IfOk result (λ verdict. (p : Program) → IsCheckable p graph.parts kept → IsVerdict p options graph.parts kept verdict) }
 {
-    let warnings = list_warnings(alloc, &graph, &kept, options)?;
+    let points = list_site_points(alloc, &graph, &kept)?;
+    let warnings = list_warnings(alloc, &graph, &kept, &points, options)?;
     if warnings.is_empty() {
-        Ok(Verdict::Accepted(Checked::new(graph, kept)))
+        Ok(Verdict::Accepted(Checked::new(graph, kept, points)))
     } else {
         Ok(Verdict::Broken(graph, warnings))
     }

@@ -5,6 +5,7 @@ ghost use Rattle.program_defs.specs.Program.{Program};
 ghost use Rattle.rule_check.specs.Before.{ComesBefore};
 ghost use Rattle.rule_check.specs.Checks.{Checks};
 ghost use Rattle.rule_check.specs.Gains.{Gains};
+ghost use Rattle.site_points.specs.Points.{AreSitePointsOf};
 ghost use Rattle.program_check.specs.Asked.{AreBroken, AreUnasked, UnframedWarns, UnreachedWarns};
 ghost use Rattle.program_check.specs.Checkable.{IsCheckable};
 
@@ -12,18 +13,25 @@ use branch_check::Kept;
 use ot_base::{NoMemory, Options, Warning};
 use program_graph::Graph;
 use rule_check::{push_unreachable, push_warnings, push_without_frame, sort_warnings};
+use site_points::SitePoint;
 use site_rules::push_site_warnings;
 use std::alloc::Global;
 
 /// The warnings of the rules that no option has to ask for, in no certain order. One may be there more than once.
-fn list_unasked(alloc: Global, graph: &Graph, kept: &Kept) -> Result<Vec<Warning>, NoMemory>
+fn list_unasked(
+    alloc: Global,
+    graph: &Graph,
+    kept: &Kept,
+    points: &[SitePoint],
+) -> Result<Vec<Warning>, NoMemory>
     requires points { length kept.now ≡ length graph.now.parts.points.items }
+    requires listed { AreSitePointsOf graph.now.parts kept.now points.now }
     requires sites { All (λ site. site.len < 2 ^ 63) graph.now.parts.sites.items }
     ensures { IfOk result (λ warnings. (p : Program) → IsCheckable p graph.now.parts kept.now → AreUnasked p warnings.items) }
 {
     let mut warnings = Vec::new(alloc);
     push_warnings(graph, kept, &mut warnings)?;
-    push_site_warnings(alloc, graph, kept, &mut warnings)?;
+    push_site_warnings(graph, kept, points, &mut warnings)?;
     Ok(warnings)
 }
 
@@ -62,19 +70,22 @@ fn push_unframed(
     push_without_frame(graph, kept, warnings)
 }
 
-/// All warnings of a program, each once, in the order in which they are told.
+/// All warnings of a program, each once, in the order in which they are told. The kept points that run in sites are listed
+/// already.
 pub(crate) fn list_warnings(
     alloc: Global,
     graph: &Graph,
     kept: &Kept,
+    points: &[SitePoint],
     options: Options,
 ) -> Result<Vec<Warning>, NoMemory>
     requires points { length kept.now ≡ length graph.now.parts.points.items }
+    requires listed { AreSitePointsOf graph.now.parts kept.now points.now }
     requires sites { All (λ site. site.len < 2 ^ 63) graph.now.parts.sites.items }
     ensures broken { IfOk result (λ warnings. (p : Program) → IsCheckable p graph.now.parts kept.now → AreBroken p options warnings.items) }
     ensures ascending { IfOk result (λ warnings. AllPairs ComesBefore warnings.items) }
 {
-    let mut warnings = list_unasked(alloc, graph, kept)?;
+    let mut warnings = list_unasked(alloc, graph, kept, points)?;
     push_unreached(graph, kept, options, &mut warnings)?;
     push_unframed(graph, kept, options, &mut warnings)?;
     sort_warnings(&mut warnings);

@@ -1,10 +1,14 @@
 -- Kept points that run in sites.
-use Rattle.std.specs.Prelude.{◌≡◌, ◌⊎◌, ℕ, ◌<◌, ◌≤◌, true, List, Option, IsSome, AllPairs, Contains, length, slice_index_or}
+use Rattle.std.specs.Prelude.{◌≡◌, ◌⊎◌, ℕ, ◌<◌, ◌≤◌, true, List, Option, IsSome, All, AllPairs, Contains, length, slice_index_or}
 use Rattle.state_defs.specs.declared.state.State.{State}
 use Rattle.program_defs.specs.Program.{Program, Site, IsPoint}
+use Rattle.program_defs.specs.IsProgram.{IsLaidOut}
+use Rattle.checker_defs.specs.Kept.{AreKeptStates}
 use Rattle.checker_defs.specs.Broken.{KeptInSite}
 use Rattle.program_graph.specs.declared.parts.Site.{Site as OwnSite}
-use Rattle.program_graph.specs.Tells.{site_of}
+use Rattle.program_graph.specs.declared.parts.GraphParts.{GraphParts}
+use Rattle.program_graph.specs.Tells.{Tells, site_of}
+use Rattle.branch_check.specs.LevelStates.{at}
 use Rattle.site_points.specs.Sites.{holds, is_before, AreApart}
 use Rattle.site_points.specs.declared.points.SitePoint.{SitePoint}
 
@@ -64,3 +68,8 @@ pub record AreSitePoints (p : Program) (points : List SitePoint) : Type 0 where
   pub ascend : AllPairs ComesBefore points
   pub each : (x : SitePoint) → Contains points x → IsSitePoint p x
   pub all : (site : Site) (q : ℕ) (s : State) → KeptInSite p site q s → (x : SitePoint) × Contains points x × (x.point ≡ q) × (site_of x.site ≡ site)
+
+-- The list has these of each program that the graph tells and whose states are those.
+pub record AreSitePointsOf (parts : GraphParts) (states : List (Option State)) (points : List SitePoint) : Type 0 where
+  pub within : All (λ x. x.point < length states) points
+  pub listed : (p : Program) → Tells p parts → IsLaidOut p → AreKeptStates p (at states) → AreSitePoints p points

@@ -102,6 +102,7 @@ fn site_before(sites: &[Site], place: Place, count: usize) -> Option<Site>
 
 /// A quick test whether a place lies between two sites that follow each other, of which the later one has this number: where it
 /// says so, the place is in no site.
+#[inline(always)]
 fn lies_between(sites: &[Site], place: Place, near: usize) -> bool
     requires { AreIndexed sites.now }
     ensures { IsTrue result → AreApart sites.now → (site : Site) → Contains sites.now site → is_held site place ≡ false }
@@ -168,6 +169,7 @@ impl SiteIndex {
     ///
     /// `near` is any number. Where it is the one that the last look-up left there, and no site begins between that one's place and
     /// this one, nothing is searched.
+    #[inline(always)]
     pub fn find(&self, place: Place, near: &mut usize) -> Option<Site>
         ensures held { IfSome result (λ site. Contains self.now site × (is_held site place ≡ true)) }
         ensures none { AreApart self.now → IfNone result ((site : Site) → Contains self.now site → is_held site place ≡ false) }
@@ -179,6 +181,7 @@ impl SiteIndex {
     }
 
     /// The same by a search, but where no site begins between the last one's place and this one.
+    #[inline(never)]
     fn search(&self, place: Place, near: &mut usize) -> Option<Site>
         ensures held { IfSome result (λ site. Contains self.now site × (is_held site place ≡ true)) }
         ensures none { AreApart self.now → IfNone result ((site : Site) → Contains self.now site → is_held site place ≡ false) }

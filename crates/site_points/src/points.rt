@@ -2,13 +2,11 @@
 
 ghost use Rattle.std.specs.Prelude.{◌≡◌, ◌<◌, ◌↔◌, true, All, AllPairs, IsPermutation, Contains, IfOk, IfSome, IfNone, IsSome, IsTrue, length};
 ghost use Rattle.program_defs.specs.Program.{Program};
-ghost use Rattle.program_defs.specs.IsProgram.{IsLaidOut};
-ghost use Rattle.checker_defs.specs.Kept.{AreKeptStates};
 ghost use Rattle.program_graph.specs.declared.parts.Site.{Site};
 ghost use Rattle.program_graph.specs.Tells.{Tells};
 ghost use Rattle.branch_check.specs.LevelStates.{at};
 ghost use Rattle.site_points.specs.Sites.{AreApart, holds};
-ghost use Rattle.site_points.specs.Points.{AreAmong, AreInOrder, AreKeptIn, ArePointsIn, AreSitePoints, IsAtStart, IsPointIn};
+ghost use Rattle.site_points.specs.Points.{AreAmong, AreInOrder, AreKeptIn, ArePointsIn, AreSitePointsOf, IsAtStart, IsPointIn};
 ghost use Rattle.site_points.specs.declared.points.SitePoint.{SitePoint};
 
 use crate::index::SiteIndex;
@@ -31,6 +29,7 @@ pub struct SitePoint {
 }
 
 /// A point as one of a site, where it is kept and runs in one of these.
+#[inline(always)]
 fn point_in(
     graph: &Graph,
     kept: &Kept,
@@ -141,9 +140,8 @@ pub fn list_site_points(
     kept: &Kept,
 ) -> Result<Vec<SitePoint>, NoMemory>
     requires { length kept.now ≡ length graph.now.parts.points.items }
-    ensures points { IfOk result (λ points. All (λ x. x.point < length kept.now) points.items) }
     ensures kept { IfOk result (λ points. All (λ x. IsSome (at kept.now x.point)) points.items) }
-    ensures listed { IfOk result (λ points. (p : Program) → Tells p graph.now.parts → IsLaidOut p → AreKeptStates p (at kept.now) → AreSitePoints p points.items) }
+    ensures listed { IfOk result (λ points. AreSitePointsOf graph.now.parts kept.now points.items) }
 {
     let sites = SiteIndex::build(alloc, graph)?;
     let all = points_in(alloc, graph, kept, &sites)?;

@@ -10,7 +10,7 @@ ghost use Rattle.program_graph.specs.Tells.{Tells};
 ghost use Rattle.branch_check.specs.LevelStates.{at};
 ghost use Rattle.rule_check.specs.Checks.{Checks};
 ghost use Rattle.rule_check.specs.Gains.{Gains};
-ghost use Rattle.site_points.specs.Points.{ComesBefore};
+ghost use Rattle.site_points.specs.Points.{AreSitePointsOf, ComesBefore};
 ghost use Rattle.site_points.specs.declared.points.SitePoint.{SitePoint as SitePointValue};
 ghost use Rattle.site_rules.specs.Disagree.{Disagrees, FitsOffset, FitPoint, HaveOtherRows, IsOutOfForce, PointDisagrees};
 
@@ -21,8 +21,7 @@ use frame_rules::same_row;
 use operation_defs::Op;
 use ot_base::{NoMemory, Warning};
 use program_graph::Graph;
-use site_points::{SitePoint, list_site_points};
-use std::alloc::Global;
+use site_points::SitePoint;
 
 /// Whether two kept points have different rows.
 fn have_other_rows(kept: &Kept, one: u32, other: u32) -> bool
@@ -115,22 +114,22 @@ fn push_points(
 /// have an instruction, or the row in force at the last byte of a call in a site isn't the call's. A warning may be
 /// added more than once.
 ///
-/// Every site has fewer than 2^63 bytes. Each point is looked at once, with a look-up among the sites, and for each kept one that
-/// runs in a site there are a few searches among those.
+/// Every site has fewer than 2^63 bytes. The kept points that run in sites are listed already. For each of them there are a few
+/// searches among them.
 ///
 /// # Errors
 ///
 /// [`NoMemory`] may come at any graph.
 pub fn push_site_warnings(
-    alloc: Global,
     graph: &Graph,
     kept: &Kept,
+    points: &[SitePoint],
     into: &mut Vec<Warning>,
 ) -> Result<(), NoMemory>
     requires points { length kept.now ≡ length graph.now.parts.points.items }
+    requires listed { AreSitePointsOf graph.now.parts kept.now points.now }
     requires sites { All (λ site. site.len < 2 ^ 63) graph.now.parts.sites.items }
     ensures { OnOk result ((p : Program) → Checks p graph.now.parts kept.now → IsLaidOut p → (w : WarningValue) → Contains into.new.items w ↔ (Contains into.old.items w ⊎ Warns p w.place w.rule w.a w.b × w.rule ≡ ALTERNATIVES_DISAGREE)) }
 {
-    let points = list_site_points(alloc, graph, kept)?;
-    push_points(graph, kept, into, points.as_slice())
+    push_points(graph, kept, into, points)
 }

@@ -16,6 +16,7 @@ use ot_base::{NoMemory, Options, Warning};
 use program_graph::Graph;
 use program_model::Program;
 use rule_check::{push_unreachable, push_warnings, push_without_frame, sort_warnings};
+use site_points::list_site_points;
 use site_rules::push_site_warnings;
 use state_defs::State;
 use std::alloc::{AllocError, Global};
@@ -53,7 +54,8 @@ fn checked_warnings(
 {
     let mut warnings = Vec::new(alloc);
     push_warnings(graph, kept, &mut warnings)?;
-    push_site_warnings(alloc, graph, kept, &mut warnings)?;
+    let points = list_site_points(alloc, graph, kept)?;
+    push_site_warnings(graph, kept, &points, &mut warnings)?;
     if options.unreachable && warnings.is_empty() {
         push_unreachable(graph, kept, &mut warnings)?;
     }
@@ -146,7 +148,8 @@ fn expect_same_rows(
     requires { length kept.now ≡ length graph.now.parts.points.items }
 {
     if all_fit(graph, kept) {
-        let found = rows(alloc, graph, kept)?;
+        let points = list_site_points(alloc, graph, kept)?;
+        let found = rows(alloc, graph, kept, &points)?;
         let expected = model_rows(alloc, p)?;
         assert!(rt; found == expected, "{name}: {found:?}, not {expected:?}");
     } else {

@@ -1,17 +1,20 @@
 -- Point after point, with the rows in sites before it.
-use Rattle.std.proofs.Common.{◌≡◌, ◌<◌, ◌+◌, ◌-◌, ℕ, true, false, pos, List, [], get_or, drop, sym, ap, subst, ◌∙◌, arith}
+use Rattle.std.proofs.Common.{◌≡◌, ◌<◌, ◌+◌, ◌-◌, ℕ, Bool, IsTrue, Option, Some, None, eqb, true, false, pos, List, [], get_or, drop, sym, ap, subst, ◌∙◌, arith}
 use Rattle.std.specs.Prelude.{slice_range}
+use Rattle.std.specs.Option.{option_eq}
+use Rattle.std.proofs.lemmas.Bool.{eqb-true}
 use Rattle.std.proofs.lemmas.List.{take_rest}
 use Rattle.ot_base.specs.declared.place.Place.{Place}
+use Rattle.ot_base.specs.declared.row.Row.{Row}
 use Rattle.ot_base.specs.declared.row.PlacedRow.{PlacedRow}
 use Rattle.checker_defs.specs.Rows.{row_of_point}
 use Rattle.branch_check.specs.LevelStates.{at}
 use Rattle.site_points.specs.Sites.{is_before}
-use Rattle.orc_build.specs.Changes.{add_all, after_row}
+use Rattle.orc_build.specs.Changes.{add_all, after_row, is_held}
 use Rattle.orc_build.proofs.Merging.{none_so_far, no_row, step, whole}
 use Rattle.orc_build.proofs.Kept.{kept_is_point}
 use Rattle.orc_build.proofs.changes.list_changes.Goals as goal
-use Rattle.orc_build.proofs.changes.list_changes.Goals.{in-Some+in_ok-next+in_ok-push_change, in_default}
+use Rattle.orc_build.proofs.changes.list_changes.Goals.{in-Some+in_ok-next, in_default}
 
 none : PlacedRow
 none = record { place = record { sec = 0; off = 0 }; row = record { sp_offset = pos 0; bp_offset = pos 0; sp_reg = 0; bp_reg = 0; kind = 0; signal = false } }
@@ -19,29 +22,37 @@ none = record { place = record { sec = 0; off = 0 }; row = record { sp_offset = 
 pub loop-n-init : goal.loop-n-init
 loop-n-init c = record {
   row = λ some. absurd (let z : 0 < 0 = some in omega (arith, z));
+  held = λ sec h. absurd (let z : ⊥ = cc in z);
   within = omega arith;
   merged = λ p checked index rows. ([], none_so_far p (at c.args.kept.now) c.args.in_sites.now, c.new-rows.ensures.items);
 }
+
+-- a row that was added is the current one
+held_now : (rows : List PlacedRow) (sec there : ℕ) (row current : Row) → Some there ≡ Some sec → row ≡ current → is_held rows there row ≡ true → is_held rows sec current ≡ true
+held_now rows sec there row current h e held = subst (λ (n : ℕ). is_held rows n current ≡ true) (let same : there ≡ sec = cc in same) (subst (λ (r : Row). is_held rows there r ≡ true) e held)
 
 pub loop-n-preserved : goal.loop-n-preserved
 loop-n-preserved c =
     let in_sites : List PlacedRow = c.args.in_sites.now in
     let n : ℕ = c.loop-n.n in
     let next : ℕ = c.loop-n.next in
-    let here : c.row_at-row.result ≡ row_of_point (at c.args.kept.now) (n + 1 - 1) = c.row_at-row.ensures ∙ ap (row_of_point (at c.args.kept.now)) (let e : n ≡ n + 1 - 1 = omega arith in e) in
+    let states = at c.args.kept.now in
+    let here : c.row_at-current.result.row ≡ row_of_point states (n + 1 - 1) = c.row_at-current.ensures.row ∙ ap (row_of_point states) (let e : n ≡ n + 1 - 1 = omega arith in e) in
     elim c.match-plain_row.branch [
-      | in-Some+in_ok-next+in_ok-push_change w ↦
+      | in-Some+in_ok-next w ↦
           let rows_is = w.rows-is in
           let next_is = w.next-is in
+          let current_is = w.current-is in
           let end : ℕ = w.in_ok-next.next in
-          rw (rows_is, next_is) (record {
+          rw (rows_is, next_is, current_is) (record {
             row = λ _. here;
+            held = λ sec h. held_now w.push_plain.new.rows.items sec w.in-Some.row.place.sec w.in-Some.row.row c.row_at-current.result.row h w.in-Some.ensures.row w.in_ok-next.ensures.held;
             within = w.in_ok-next.ensures.within;
             merged = λ p checked index rows.
-                let row = w.in-Some.ensures p checked.tells index checked.laid in
+                let row = w.in-Some.ensures.begins p checked.tells index checked.laid in
                 let h = c.loop-n.invariant.merged p checked index rows in
                 let place : w.in-Some.row.place ≡ p.place n = ap (λ (x : PlacedRow). x.place) row.1 in
-                let r = step p (at c.args.kept.now) in_sites checked.ascending checked.laid checked.kept
+                let r = step p states in_sites checked.ascending checked.laid checked.kept
                 (kept_is_point p c.args.kept.now checked.kept (checked.tells.count ∙ sym c.requires.points)) rows.ascend rows n next end none h.0 h.1
                 w.in_ok-next.ensures.behind w.in_ok-next.ensures.within
                 (λ k l m. subst (λ (z : Place). is_before (get_or in_sites k none).place z ≡ true) place (w.in_ok-next.ensures.before k none l m))
@@ -49,8 +60,8 @@ loop-n-preserved c =
                 (omega (arith, c.loop-n-test.true, c.points-n-end.ensures.count p checked.tells)) row.0 in (
                   r.0,
                   r.1,
-                  w.in_ok-push_change.ensures
-                      ∙ ap (λ (xs : List PlacedRow). after_row xs w.in-Some.row) (w.in_ok-next.ensures.pushed ∙ ap (λ (xs : List PlacedRow). add_all xs (slice_range in_sites next end)) h.2)
+                  w.in_ok-next.ensures.pushed
+                      ∙ ap (λ (xs : List PlacedRow). after_row (add_all xs (slice_range in_sites next end)) w.in-Some.row) h.2
                       ∙ ap (λ (x : PlacedRow). after_row (add_all (add_all [] h.0) (slice_range in_sites next end)) x) row.1
                       ∙ sym r.2,
                 );
@@ -58,14 +69,26 @@ loop-n-preserved c =
       | in_default w ↦
           let rows_is = w.rows-is in
           let next_is = w.next-is in
-          rw (rows_is, next_is) (record {
+          let current_is = w.current-is in
+          rw (rows_is, next_is, current_is) (record {
             row = λ _. here;
+            held = λ sec h. let k = c.row_at-current.ensures.held sec h in subst (λ (r : Row). is_held c.loop-n.rows.items sec r ≡ true) (sym k.1) (c.loop-n.invariant.held sec k.0);
             within = c.loop-n.invariant.within;
             merged = λ p checked index rows.
                 let h = c.loop-n.invariant.merged p checked index rows in
-                (h.0, no_row p (at c.args.kept.now) in_sites n next h.0 h.1 (w.in_default.ensures p checked.tells index checked.laid), h.2);
+                (h.0, no_row p states in_sites n next h.0 h.1 (w.in_default.ensures.begins p checked.tells index checked.laid), h.2);
           })
     ]
+
+held_in : (o : Option ℕ) (b : Bool) (sec : ℕ) → b ≡ option_eq eqb o (Some sec) → IsTrue b → o ≡ Some sec
+held_in None b sec is h = absurd (let z : ⊥ = cc in z)
+held_in (Some k) b sec is h = ap Some (eqb-true k sec (sym is ∙ h))
+
+pub push_plain-requires-clause-held : goal.push_plain-requires-clause-held
+push_plain-requires-clause-held c h =
+    let sec : ℕ = c.in-Some.row.place.sec in
+    let k = c.row_at-current.ensures.held sec (held_in c.row_at-current.result.held c.eq-is_held.result sec c.eq-is_held.ensures h) in
+    subst (λ (r : Row). is_held c.loop-n.rows.items sec r ≡ true) (sym (c.in-Some.ensures.row ∙ k.1)) (c.loop-n.invariant.held sec k.0)
 
 pub returns : goal.returns
 returns c p checked index rows =

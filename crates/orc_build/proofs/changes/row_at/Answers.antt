@@ -3,5 +3,5 @@ use Rattle.std.proofs.Common.{ap, ◌∙◌, arith}
 use Rattle.checker_defs.specs.Rows.{row_or_zero}
 use Rattle.orc_build.proofs.changes.row_at.Goals as goal
 
-pub returns-then-are_alike : goal.returns-then-are_alike
-returns-then-are_alike c = c.requires.before (omega (arith, c.if-n-eq0.false)) ∙ ap row_or_zero (c.are_alike.ensures c.if-are_alike.true)
+pub returns-then-are_alike-clause-row : goal.returns-then-are_alike-clause-row
+returns-then-are_alike-clause-row c = c.requires.before (omega (arith, c.if-n-ne0.true)) ∙ ap row_or_zero (c.are_alike.ensures c.if-are_alike.true)

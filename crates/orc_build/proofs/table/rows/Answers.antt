@@ -1,6 +1,10 @@
 -- Section by section, the rows that begin in the program.
-use Rattle.std.proofs.Common.{List, Option, subst, sym, ap, ◌∙◌}
+use Rattle.std.proofs.Common.{◌≡◌, List, Option, subst, sym, ap, ◌∙◌}
+use Rattle.std.proofs.Math.Logic.{∥∥₁_elim}
+use Rattle.std.proofs.Props.{props}
 use Rattle.std.proofs.lemmas.Result.{IfOk-weaker}
+use Rattle.ot_base.specs.declared.row.PlacedRow.{PlacedRow}
+use Rattle.checker_defs.specs.Rows.{rows_of}
 use Rattle.state_defs.specs.declared.state.State.{State}
 use Rattle.program_defs.specs.Program.{TextSection}
 use Rattle.branch_check.specs.LevelStates.{at}
@@ -13,14 +17,17 @@ use Rattle.orc_build.proofs.Whole.{all_is}
 use Rattle.orc_build.proofs.Joined.{table_is}
 use Rattle.orc_build.proofs.table.rows.Goals as goal
 
+rows_are_one : (xs ys : List PlacedRow) → IsProp (xs ≡ ys)
+rows_are_one xs ys = Prim.hlevel props
+
 pub returns : goal.returns
-returns c = IfOk-weaker c.with_ends.result _ _ (λ rows made p checked.
+returns c = IfOk-weaker c.with_ends.result _ _ (λ rows made p checked. ∥∥₁_elim c.requires.listed (rows_are_one rows.items (rows_of p (at c.args.kept.now))) (λ listed.
     let kept : List (Option State) = c.args.kept.now in
-    let points : AreSitePoints p c.as_slice.result.now = subst (AreSitePoints p) (sym c.as_slice.ensures.value) (c.in_ok-points.ensures.listed p checked.tells checked.laid checked.kept) in
-    let in_sites : AreRowsInSites p (at kept) c.as_slice-2.result.now = subst (AreRowsInSites p (at kept)) (sym c.as_slice-2.ensures.value) (in_program p (at kept) c.as_slice.result.now c.in_ok-in_sites.in_sites.items points c.in_ok-in_sites.ensures.rows c.in_ok-in_sites.ensures.ascending) in
+    let points : AreSitePoints p c.args.points.now = listed.listed p checked.tells checked.laid checked.kept in
+    let in_sites : AreRowsInSites p (at kept) c.as_slice.result.now = subst (AreRowsInSites p (at kept)) (sym c.as_slice.ensures.value) (in_program p (at kept) c.args.points.now c.in_ok-in_sites.in_sites.items points c.in_ok-in_sites.ensures.rows c.in_ok-in_sites.ensures.ascending) in
     let changes = c.in_ok-changes.ensures p checked (c.in_ok-sites.ensures p checked.tells) in_sites in
-    let all = all_is p (at kept) checked.laid checked.kept checked.accepted (kept_is_point p kept checked.kept (checked.tells.count ∙ sym c.requires.points)) c.as_slice-2.result.now changes.0 in_sites changes.1 in
+    let all = all_is p (at kept) checked.laid checked.kept checked.accepted (kept_is_point p kept checked.kept (checked.tells.count ∙ sym c.requires.points)) c.as_slice.result.now changes.0 in_sites changes.1 in
     made
-    ∙ ap (λ (texts : List TextSection). with_ends texts c.as_slice-3.result.now) (c.texts.ensures p checked.tells)
-    ∙ ap (with_ends p.texts) (c.as_slice-3.ensures.value ∙ changes.2)
-    ∙ table_is p (at kept) changes.0 checked.laid.sections all) c.with_ends.ensures
+    ∙ ap (λ (texts : List TextSection). with_ends texts c.as_slice-2.result.now) (c.texts.ensures p checked.tells)
+    ∙ ap (with_ends p.texts) (c.as_slice-2.ensures.value ∙ changes.2)
+    ∙ table_is p (at kept) changes.0 checked.laid.sections all)) c.with_ends.ensures

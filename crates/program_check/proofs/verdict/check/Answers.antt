@@ -4,12 +4,15 @@ use Rattle.program_check.proofs.Empty.{is_empty, is_longer}
 use Rattle.program_check.proofs.Sums.{nothing_accepts, none_is_broken}
 use Rattle.program_check.proofs.verdict.check.Goals as goal
 
-pub new-requires : goal.new-requires
-new-requires c =
+pub new-requires-clause-accepted : goal.new-requires-clause-accepted
+new-requires-clause-accepted c =
     let none = is_empty c.is_empty.result c.in_ok-warnings.warnings.len c.in_ok-warnings.warnings.items c.is_empty.ensures c.in_ok-warnings.warnings.ok.0 c.if-is_empty.true in
     let p = c.requires.program.0 in
     let ch = c.requires.program.1 in
     ∣ (p, ch, nothing_accepts p c.args.options c.in_ok-warnings.warnings.items none (c.in_ok-warnings.ensures.broken p ch)) ∣₁
+
+pub new-requires-clause-listed : goal.new-requires-clause-listed
+new-requires-clause-listed c = ∣ c.in_ok-points.ensures.listed ∣₁
 
 pub returns-then-is_empty : goal.returns-then-is_empty
 returns-then-is_empty c p ch =
