@@ -3,7 +3,9 @@ pub mod Gathered
 pub mod Bytes
 pub mod Fields
 pub mod Told
-pub mod HintedSteps
+pub mod RareSteps
+pub mod GoesOn
+pub mod Behind
 pub mod Numbering
 pub mod Equal
 pub mod Meant

@@ -8,38 +8,32 @@ use Rattle.control_flow.specs.Numbers.{AreNumbered, HaveNumbers, IsNumbered}
 
 pub first_numbered : {X : Type 0} (P : ℕ → X → Type 0) (x : X) → AreNumbered P (x ∷ []) [] 0
 first_numbered P x = record {
-  long = refl;
+  have = record { long = refl; each = λ q below. absurd (omega arith) };
   some = omega arith;
   short = omega arith;
-  each = λ q below. absurd (omega arith);
 }
 
 pub numbered_more : {X : Type 0} (P : ℕ → X → Type 0) (before after : List X) (numbers : List ℕ) (n number : ℕ) (x : X) → AreNumbered P before numbers n → IsNumbered before after x number → P n x → AreNumbered P after (numbers ++ number ∷ []) (n + 1)
 numbered_more {X} P before after numbers n number x are is here = record {
-  long = omega (arith, length_push numbers number, are.long);
+  have = record { long = omega (arith, length_push numbers number, are.have.long); each = each };
   some = omega (arith, slice_get_within after number x is.here);
   short = omega (arith, is.short, are.short);
-  each = each;
 }
   where
     each : (q : ℕ) → q < n + 1 → (y : X) × (slice_get after (slice_index (numbers ++ number ∷ []) q) ≡ Some y) × P q y
     each q below = elim (cases_lt q n) [
       | inl less ↦
-          let own = are.each q less in
-          let at : slice_index (numbers ++ number ∷ []) q ≡ slice_index numbers q = get_or_append_left numbers (number ∷ []) 0 q (omega (arith, are.long)) in
+          let own = are.have.each q less in
+          let at : slice_index (numbers ++ number ∷ []) q ≡ slice_index numbers q = get_or_append_left numbers (number ∷ []) 0 q (omega (arith, are.have.long)) in
           (own.0, subst (λ (k : ℕ). slice_get after k ≡ Some own.0) (sym at) (is.kept (slice_index numbers q) own.0 own.1), own.2)
       | inr more ↦
           let same : q ≡ n = omega arith in
-          let at : slice_index (numbers ++ number ∷ []) q ≡ number = get_or_push numbers number 0 q (are.long ∙ sym same) in
+          let at : slice_index (numbers ++ number ∷ []) q ≡ number = get_or_push numbers number 0 q (are.have.long ∙ sym same) in
           (x, subst (λ (k : ℕ). slice_get after k ≡ Some x) (sym at) is.here, subst (λ (m : ℕ). P m x) (sym same) here)
     ]
 
 same_some : {X : Type 0} {a b : X} → Some a ≡ Some b → a ≡ b
 same_some e = cc
-
--- the numbers that points have
-pub have_numbers : {X : Type 0} (P : ℕ → X → Type 0) (items : List X) (numbers : List ℕ) (n : ℕ) → AreNumbered P items numbers n → HaveNumbers P items numbers n
-have_numbers P items numbers n are = record { long = are.long; each = are.each }
 
 -- what stands at a point's number is the point's
 pub numbered_at : {X : Type 0} (P : ℕ → X → Type 0) (items : List X) (numbers : List ℕ) (n q k : ℕ) (x : X) → HaveNumbers P items numbers n → q < n → slice_index numbers q ≡ k → slice_get items k ≡ Some x → P q x
@@ -102,3 +96,7 @@ numbered_otherwise P Q items numbers n step are = record {
   long = are.long;
   each = λ q below. let own = are.each q below in (own.0, own.1, step q own.0 below own.2);
 }
+
+-- so it is where there are few
+pub few_otherwise : {X : Type 0} (P Q : ℕ → X → Type 0) (items : List X) (numbers : List ℕ) (n : ℕ) → ((q : ℕ) (x : X) → q < n → P q x → Q q x) → AreNumbered P items numbers n → AreNumbered Q items numbers n
+few_otherwise P Q items numbers n step are = record { have = numbered_otherwise P Q items numbers n step are.have; some = are.some; short = are.short }

@@ -1,6 +1,6 @@
 -- Lists of what points have, one point more at a time.
 use Rattle.std.proofs.Common.{◌≡◌, ℕ, ◌+◌, ◌<◌, List, [], ◌∷◌, ◌++◌, Some, All, length, get_or, inl, inr, sym, ap, ◌∙◌, subst, arith}
-use Rattle.std.specs.Prelude.{slice_get}
+use Rattle.std.specs.Prelude.{IfOk, Result, Ok, Err, slice_get}
 use Rattle.std.proofs.lemmas.Bool.{cases_lt}
 use Rattle.std.proofs.lemmas.List.{get_or_append_left, get_or_past, get_or_push, length_push}
 use Rattle.std.proofs.lemmas.Option.{slice_get_within}
@@ -29,3 +29,8 @@ all_at P xs d q each default = elim (cases_lt q (length xs)) [
   | inl less ↦ each q d less
   | inr past ↦ subst P (sym (get_or_past xs q d past)) default
 ]
+
+-- what holds of a value, if there is one, and what follows from it
+pub all_ok : {T E : Type 0} {P Q : T → Type 0} (r : Result T E) → ((x : T) → P x → Q x) → IfOk r P → IfOk r Q
+all_ok (Ok x) f is = f x is
+all_ok (Err e) f is = is

@@ -1,5 +1,5 @@
 -- The parts of a graph tell the program of an object.
-use Rattle.std.proofs.Common.{◌≡◌, ℕ, ◌+◌, ◌^◌, ◌<◌, ◌≤◌, false, List, Option, Some, All, length, map, sym, ap, ◌∙◌, subst, arith}
+use Rattle.std.proofs.Common.{◌≡◌, ℕ, ◌+◌, ◌^◌, ◌<◌, ◌≤◌, false, List, Some, All, length, map, sym, ap, ◌∙◌, subst, arith}
 use Rattle.std.specs.Prelude.{slice_get, slice_index, slice_index_or, slice_range}
 use Rattle.std.proofs.lemmas.Option.{get_or_from_slice_get, slice_get_within}
 use Rattle.ot_base.specs.NameLists.{NameLists}
@@ -25,22 +25,21 @@ use Rattle.return_search.specs.Shape.{HaveShape as HaveReturnShape}
 use Rattle.return_search.specs.Told.{TellsReturns}
 use Rattle.point_fields.specs.Owners.{IsOwnerBy}
 use Rattle.control_flow.specs.Listed.{count_of}
-use Rattle.control_flow.specs.Hinted.{AreHinted, IsHinted, IsMeant, IsUnhinted}
+use Rattle.control_flow.specs.Hinted.{IsHinted, IsMeant, IsUnhinted}
 use Rattle.control_flow.specs.Numbers.{HaveNumbers}
 use Rattle.control_flow.specs.Points.{AreMade}
-use Rattle.control_flow.specs.Rares.{IsRareOf}
+use Rattle.control_flow.specs.Rares.{AreRares, IsRareOf}
 use Rattle.control_flow.specs.Transfers.{IsTransferOf}
 use Rattle.control_flow.proofs.Fields.{comes_back_is}
 use Rattle.control_flow.proofs.Meant.{meant_has_hint}
 use Rattle.control_flow.proofs.Numbering.{numbered_at, numbered_inside}
 
 -- the parts are what is listed of the object's points
-pub record AreParts (o : Coded) (lists : NameLists) (parts : GraphParts) (returns : Returns) (hinted_numbers : List (Option ℕ)) (rare_numbers transfer_numbers : List ℕ) : Type 0 where
+pub record AreParts (o : Coded) (lists : NameLists) (parts : GraphParts) (returns : Returns) (rare_numbers transfer_numbers : List ℕ) : Type 0 where
   pub few : length parts.points.items < 2 ^ 32
   pub points : AreMade o parts.owners.items returns rare_numbers transfer_numbers parts.points.items (count_of o)
   pub transfers : HaveNumbers (IsTransferOf o returns) parts.transfers.items transfer_numbers (count_of o)
-  pub rares : HaveNumbers (IsRareOf o hinted_numbers) parts.rares.items rare_numbers (count_of o)
-  pub hinted : AreHinted o parts.restores.items parts.hinted.items hinted_numbers (count_of o)
+  pub rares : AreRares o parts.restores.items parts.rares.items parts.hinted.items rare_numbers (count_of o)
   pub returns_shape : HaveReturnShape (count_of o) returns
   pub returns_told : TellsReturns (program_of o lists) returns
   pub starts : parts.starts.items ≡ returns.starts.items
@@ -50,7 +49,11 @@ pub record AreParts (o : Coded) (lists : NameLists) (parts : GraphParts) (return
   pub texts : map text_of parts.texts.items ≡ text_sections_of o.elf
   pub without_size : parts.without_size.items ≡ unsized_of o.elf
 
-module _ (o : Coded) (lists : NameLists) (parts : GraphParts) (returns : Returns) (hinted : List (Option ℕ)) (rares transfers : List ℕ) (are : AreParts o lists parts returns hinted rares transfers) where
+module _ (o : Coded) (lists : NameLists) (parts : GraphParts) (returns : Returns) (rares transfers : List ℕ) (are : AreParts o lists parts returns rares transfers) where
+  -- what a point has that few have
+  abbrev HasRare : ℕ → Rare → Type 0
+  HasRare = IsRareOf o parts.restores.items parts.hinted.items
+
   inside : (q : ℕ) (x : Point) → slice_get parts.points.items q ≡ Some x → q < count_of o
   inside q x at = omega (arith, slice_get_within parts.points.items q x at, are.points.long)
 
@@ -82,14 +85,14 @@ module _ (o : Coded) (lists : NameLists) (parts : GraphParts) (returns : Returns
     restores = λ r m. meant_has_hint o (point_at o r) q (meant q r m).2 is;
   }
 
-  tells_rare : (q : ℕ) (x : Rare) → q < count_of o → IsRareOf o hinted q x → TellsRare (program_of o lists) parts q x
+  tells_rare : (q : ℕ) (x : Rare) → HasRare q x → TellsRare (program_of o lists) parts q x
   unfolding program_of returning_graph graph_of
-  tells_rare q x here is = record {
-    variant = is.variant;
-    address = is.address;
-    previous = is.previous;
-    hinted = λ k h number own. tells_hinted q h (are.hinted.own q k h here (is.hinted ∙ number) own);
-    unhinted = λ number. tells_unhinted q (are.hinted.unhinted q here (is.hinted ∙ number));
+  tells_rare q x is = record {
+    variant = is.rare.variant;
+    address = is.rare.address;
+    previous = is.rare.previous;
+    hinted = λ k h number own. tells_hinted q h (is.known.own k h number own);
+    unhinted = λ number. tells_unhinted q (is.known.unhinted number);
   }
 
   marks_are : (q : ℕ) → q < count_of o → slice_index_or returns.comes_back.items q false ≡ comes_back o lists (point_at o q)
@@ -121,7 +124,7 @@ module _ (o : Coded) (lists : NameLists) (parts : GraphParts) (returns : Returns
         entered = is.entered lists;
         owner = λ w own. tells_owner q w (is.owner w own);
         transfer = λ t own. tells_transfer q t here (numbered_at (IsTransferOf o returns) parts.transfers.items transfers (count_of o) q x.transfer t are.transfers here is.transfer_number own);
-        rare = λ r own. tells_rare q r here (numbered_at (IsRareOf o hinted) parts.rares.items rares (count_of o) q x.rare r are.rares here is.rare_number own);
+        rare = λ r own. tells_rare q r (numbered_at HasRare parts.rares.items rares (count_of o) q x.rare r are.rares.numbered.have here is.rare_number own);
       }
 
   pub parts_tell : Tells (program_of o lists) parts
@@ -145,15 +148,14 @@ module _ (o : Coded) (lists : NameLists) (parts : GraphParts) (returns : Returns
     few = are.few;
     owners = λ q x at. (are.points.each q x at).owner_inside;
     transfers = λ q x at. numbered_inside (IsTransferOf o returns) parts.transfers.items transfers (count_of o) q x.transfer are.transfers (inside q x at) (are.points.each q x at).transfer_number;
-    rares = λ q x at. numbered_inside (IsRareOf o hinted) parts.rares.items rares (count_of o) q x.rare are.rares (inside q x at) (are.points.each q x at).rare_number;
+    rares = λ q x at. numbered_inside HasRare parts.rares.items rares (count_of o) q x.rare are.rares.numbered.have (inside q x at) (are.points.each q x at).rare_number;
     hinted = λ q h x r at own number.
-        let here = inside q x at in
-        let is = numbered_at (IsRareOf o hinted) parts.rares.items rares (count_of o) q x.rare r are.rares here (are.points.each q x at).rare_number own in
-        are.hinted.inside q h here (is.hinted ∙ number);
+        let is = numbered_at HasRare parts.rares.items rares (count_of o) q x.rare r are.rares.numbered.have (inside q x at) (are.points.each q x at).rare_number own in
+        is.known.inside h number;
     starts = omega (arith, ap length are.starts, are.returns_shape.starts, are.points.long);
     ascending = λ q l. subst (λ (starts : List ℕ). slice_index starts q ≤ slice_index starts (q + 1)) (sym are.starts) (are.returns_shape.ascending q (omega (arith, are.points.long)));
     within = λ q l. subst (λ (starts : List ℕ). slice_index starts (q + 1) ≤ length parts.edges.items) (sym are.starts) (omega (arith, are.returns_shape.within q (omega (arith, are.points.long)), ap length are.edges));
-    restored = are.hinted.ranges;
+    restored = are.rares.ranges;
     targets = subst (λ (n : ℕ). All (λ (e : Edge). e.to < n) parts.edges.items) (sym are.points.long) (subst (All (λ (e : Edge). e.to < count_of o)) (sym are.edges) are.returns_shape.targets);
     restores = subst (λ (n : ℕ). All (λ r. r < n) parts.restores.items) (sym are.points.long) are.restores;
   }

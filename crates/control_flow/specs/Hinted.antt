@@ -1,5 +1,5 @@
--- What the points of an object have that have a hint, listed.
-use Rattle.std.specs.Prelude.{◌≡◌, ◌↔◌, ◌<◌, ◌≤◌, ℕ, List, Option, Some, None, Contains, length, slice_get, slice_index_or, slice_range}
+-- What the points of an object have that have a hint.
+use Rattle.std.specs.Prelude.{◌≡◌, ◌↔◌, ◌<◌, ◌≤◌, ℕ, List, Some, None, Contains, length, slice_range}
 use Rattle.flow_defs.specs.Coded.{Coded}
 use Rattle.state_defs.specs.declared.state.HintState.TheVariants.{Restore}
 use Rattle.flow_defs.specs.Code.{point_at}
@@ -22,12 +22,3 @@ pub record IsHinted (o : Coded) (listed : List ℕ) (q : ℕ) (x : Hinted) : Typ
 -- point q has no hint
 abbrev pub IsUnhinted : Coded → ℕ → Type 0
 IsUnhinted o q = hint_of o (point_at o q) ≡ None
-
--- what those of the first n points have that have a hint, and the numbers by which it is found
-pub record AreHinted (o : Coded) (restores : List ℕ) (hinted : List Hinted) (numbers : List (Option ℕ)) (n : ℕ) : Type 0 where
-  pub long : length numbers ≡ n
-  pub short : length hinted ≤ n
-  pub inside : (q k : ℕ) → q < n → slice_index_or numbers q None ≡ Some k → k < length hinted
-  pub own : (q k : ℕ) (x : Hinted) → q < n → slice_index_or numbers q None ≡ Some k → slice_get hinted k ≡ Some x → IsHinted o restores q x
-  pub unhinted : (q : ℕ) → q < n → slice_index_or numbers q None ≡ None → IsUnhinted o q
-  pub ranges : (k : ℕ) (x : Hinted) → slice_get hinted k ≡ Some x → (x.restores_from ≤ x.restores_to) × (x.restores_to ≤ length restores)

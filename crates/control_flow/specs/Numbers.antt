@@ -14,7 +14,6 @@ pub record HaveNumbers {X : Type 0} (P : ℕ → X → Type 0) (records : List X
 
 -- and where there are few: at most one for each of the points, and one more
 pub record AreNumbered {X : Type 0} (P : ℕ → X → Type 0) (records : List X) (numbers : List ℕ) (n : ℕ) : Type 0 where
-  pub long : length numbers ≡ n
+  pub have : HaveNumbers P records numbers n
   pub some : 0 < length records
   pub short : length records ≤ n + 1
-  pub each : (q : ℕ) → q < n → (x : X) × (slice_get records (slice_index numbers q) ≡ Some x) × P q x

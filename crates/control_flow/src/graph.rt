@@ -6,10 +6,10 @@ ghost use Rattle.flow_defs.specs.Program.{program_of};
 ghost use Rattle.program_graph.specs.Shape.{HaveShape};
 ghost use Rattle.program_graph.specs.Tells.{Tells};
 
-use crate::hinted::{HintedList, list_hinted, restores_are_points};
+use crate::hinted::restores_are_points;
 use crate::outgoing::{Outgoing, list_outgoing};
 use crate::points::list_points;
-use crate::rares::list_rares;
+use crate::rares::{RareList, list_rares};
 use crate::returning::returns_of;
 use crate::transfers::settle_transfers;
 use flow_defs::FlowFault;
@@ -44,15 +44,18 @@ fn parts_of(
     let returns = returns_of(alloc, points, lists, edges, exits)?;
     let transfer_list = settle_transfers(points, transfers, &returns)?;
     let hints = HintPoints::build(alloc, places)?;
-    let HintedList { hinted, numbers } = list_hinted(alloc, places, &hints)?;
-    let rare_list = list_rares(alloc, places, numbers)?;
+    let RareList {
+        rares,
+        hinted,
+        numbers,
+    } = list_rares(alloc, points, &hints)?;
     let owners = OwnerTable::build(alloc, places)?;
     let made = list_points(
         alloc,
         points,
         &owners,
         &returns,
-        &rare_list.numbers,
+        &numbers,
         &transfer_list.numbers,
     )?;
     let sites = list_sites(alloc, places)?;
@@ -65,7 +68,7 @@ fn parts_of(
         edges: returns.edges,
         owners: owners.into_owners(),
         transfers: transfer_list.transfers,
-        rares: rare_list.rares,
+        rares,
         hinted,
         restores: hints.into_restores(),
         sites,
@@ -91,7 +94,7 @@ fn graph_of(
 /// order.
 ///
 /// Names that never return are those of the lists. Each point is looked at a few times, and each edge. Beside the graph it
-/// takes some 60 bytes a point and 16 an edge, and gives them back.
+/// takes some 50 bytes a point and up to 24 an edge, most of them to find the returns, and gives them back.
 ///
 /// # Errors
 ///

@@ -1,18 +1,15 @@
 //! What points with a hint have.
 
 ghost use Rattle.std.specs.Prelude.{◌≡◌, ◌<◌, ◌^◌, ◌++◌, ◌∷◌, [], None, Some, All, IfOk, MatchOption, length};
-ghost use Rattle.control_flow.specs.Hinted.{AreHinted, IsHinted, IsUnhinted};
+ghost use Rattle.control_flow.specs.Hinted.{IsHinted, IsUnhinted};
 ghost use Rattle.control_flow.specs.Listed.{count_of};
 
-use crate::listed::count_points;
 use hint_points::HintPoints;
 use ot_base::NoMemory;
-use point_places::PointPlaces;
 use program_graph::Hinted;
-use std::alloc::Global;
 
 /// What a point has that has a hint.
-fn hinted_of(hints: &HintPoints<'_, '_, '_, '_>, n: u32) -> Option<Hinted>
+pub(crate) fn hinted_of(hints: &HintPoints<'_, '_, '_, '_>, n: u32) -> Option<Hinted>
     requires { n < count_of hints.now.object }
     ensures { MatchOption result (IsUnhinted hints.now.object n) (IsHinted hints.now.object hints.now.restores n) }
 {
@@ -30,7 +27,10 @@ fn hinted_of(hints: &HintPoints<'_, '_, '_, '_>, n: u32) -> Option<Hinted>
 }
 
 /// Puts what a point has, if it has something, behind what others have, and tells where it stands.
-fn push_hinted(hinted: &mut Vec<Hinted>, found: Option<Hinted>) -> Result<Option<u32>, NoMemory>
+pub(crate) fn push_hinted(
+    hinted: &mut Vec<Hinted>,
+    found: Option<Hinted>,
+) -> Result<Option<u32>, NoMemory>
     requires { length hinted.old.items < 2 ^ 32 }
     ensures { IfOk result (λ number. MatchOption found ((number ≡ None) × (hinted.new.items ≡ hinted.old.items)) (λ x. (number ≡ Some (length hinted.old.items)) × (hinted.new.items ≡ hinted.old.items ++ x ∷ []))) }
 {
@@ -47,30 +47,4 @@ pub(crate) fn restores_are_points(hints: &HintPoints<'_, '_, '_, '_>)
     ensures { All (λ r. r < count_of hints.now.object) hints.now.restores }
 {
     hints.restores();
-}
-
-/// What points with a hint have, and for each point where it stands.
-#[derive(Drop)]
-pub(crate) struct HintedList {
-    pub(crate) hinted: Vec<Hinted>,
-    pub(crate) numbers: Vec<Option<u32>>,
-}
-
-/// What the points have that have a hint.
-pub(crate) fn list_hinted(
-    alloc: Global,
-    places: &PointPlaces<'_, '_, '_>,
-    hints: &HintPoints<'_, '_, '_, '_>,
-) -> Result<HintedList, NoMemory>
-    requires { hints.now.object ≡ places.now }
-    ensures { IfOk result (λ list. AreHinted places.now hints.now.restores list.hinted.items list.numbers.items (count_of places.now)) }
-{
-    let count = count_points(places);
-    let mut hinted = Vec::new(alloc);
-    let mut numbers = Vec::with_capacity(alloc, count as usize)?;
-    for n in 0..count {
-        let number = push_hinted(&mut hinted, hinted_of(hints, n))?;
-        numbers.push(number)?;
-    }
-    Ok(HintedList { hinted, numbers })
 }

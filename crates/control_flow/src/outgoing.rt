@@ -8,6 +8,7 @@ ghost use Rattle.flow_defs.specs.Roles.{role_of};
 ghost use Rattle.return_search.specs.Told.{exit_of};
 ghost use Rattle.control_flow.specs.Listed.{AreEdges, AreExits, ExitCallsPoint, count_of};
 ghost use Rattle.control_flow.specs.Numbers.{AreNumbered};
+ghost use Rattle.point_arrivals.specs.Straight.{IsStraight};
 ghost use Rattle.control_flow.specs.Transfers.{IsTransfer, IsTransferIfBack};
 
 use crate::listed::{count_points, exit};
@@ -17,7 +18,7 @@ use flow_points::FlowPoints;
 use ot_base::{Lists, NoMemory};
 use point_edges::push_edges;
 use point_roles::role;
-use program_defs::Edge;
+use program_defs::{Edge, EdgeKind};
 use program_graph::Transfer;
 use return_search::Exit;
 use std::alloc::Global;
@@ -51,8 +52,28 @@ struct Found {
     transfer: Transfer,
 }
 
-/// Pushes the edges of a point, and finds what else there is of it.
-fn look(
+/// Pushes the edges of a straight point: one to the point with the next number, unless it isn't checked.
+fn push_below(
+    points: &FlowPoints<'_, '_, '_>,
+    n: u32,
+    edges: &mut Vec<Edge>,
+) -> Result<(), NoMemory>
+    requires straight { IsStraight points.now n }
+    requires few { count_of points.now < 2 ^ 32 }
+    ensures pushed { OnOk result (edges.new.items ≡ edges.old.items ++ goes points.now (point_at points.now n)) }
+    ensures inside { OnOk result (All (λ e. e.to < count_of points.now) (goes points.now (point_at points.now n))) }
+{
+    if points.places().is_unchecked_point(n) {
+        return Ok(());
+    }
+    let kind = EdgeKind::Next;
+    edges.push(Edge { to: n + 1, kind })?;
+    Ok(())
+}
+
+/// Pushes the edges of a point of any kind, and finds what else there is of it.
+#[inline(never)]
+fn look_around(
     alloc: Global,
     points: &FlowPoints<'_, '_, '_>,
     lists: &Lists,
@@ -73,6 +94,32 @@ fn look(
     Ok(Found {
         exit: exit(points.places().linked(), lists, role),
         transfer: transfer_of(points, n, insn, branch, role),
+    })
+}
+
+/// Pushes the edges of a point, and finds what else there is of it.
+fn look(
+    alloc: Global,
+    points: &FlowPoints<'_, '_, '_>,
+    lists: &Lists,
+    n: u32,
+    edges: &mut Vec<Edge>,
+) -> Result<Found, NoMemory>
+    requires point { n < count_of points.now }
+    requires few { count_of points.now < 2 ^ 32 }
+    ensures pushed { OnOk result (edges.new.items ≡ edges.old.items ++ goes points.now (point_at points.now n)) }
+    ensures inside { OnOk result (All (λ e. e.to < count_of points.now) (goes points.now (point_at points.now n))) }
+    ensures exit { IfOk result (λ found. found.exit ≡ exit_of (program_of points.now lists.now) (role_of points.now (point_at points.now n))) }
+    ensures known { IfOk result (λ found. ExitCallsPoint points.now found.exit) }
+    ensures transfer { IfOk result (λ found. IsTransfer points.now n true found.transfer) }
+{
+    if !points.arrivals().is_straight(n) {
+        return look_around(alloc, points, lists, n, edges);
+    }
+    push_below(points, n, edges)?;
+    Ok(Found {
+        exit: Exit::Passes,
+        transfer: USUAL,
     })
 }
 

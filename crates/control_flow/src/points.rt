@@ -1,15 +1,17 @@
 //! The points of a graph.
 
 ghost use Rattle.std.specs.Prelude.{◌≡◌, ◌<◌, ◌^◌, IfOk, length};
+ghost use Rattle.ot_base.specs.NameLists.{NameLists};
+ghost use Rattle.checker_defs.specs.Kept.{is_entry_point};
+ghost use Rattle.flow_defs.specs.Program.{program_of};
 ghost use Rattle.return_search.specs.Shape.{HaveShape};
-ghost use Rattle.control_flow.specs.Listed.{count_of};
+ghost use Rattle.control_flow.specs.Listed.{AreEntered, count_of};
 ghost use Rattle.control_flow.specs.Points.{AreMade, IsMade};
 
 use crate::listed::count_points;
 use crate::low::point_is_low;
 use flow_points::FlowPoints;
 use ot_base::NoMemory;
-use point_entries::entry_at;
 use point_fields::OwnerTable;
 use program_graph::Point;
 use return_search::Returns;
@@ -20,22 +22,26 @@ use std::alloc::Global;
 struct Told {
     /// Whether a return may come from it on.
     may_return: bool,
+    /// Whether control that comes to some entry may stand at it.
+    is_entered: bool,
     /// Where what few points have stands for it.
     rare: u32,
     /// Where its transfer stands.
     transfer: u32,
 }
 
-/// The point with a number.
+/// The point with a number, where it is guessed where its owner stands.
 fn point_of(
     alloc: Global,
     points: &FlowPoints<'_, '_, '_>,
     owners: &OwnerTable<'_, '_, '_>,
     n: u32,
+    guess: u32,
     told: Told,
 ) -> Result<Point, NoMemory>
     requires point { n < count_of points.now }
     requires owners { owners.now.elf ≡ points.now.elf }
+    requires entered { (lists : NameLists) → is_entry_point (program_of points.now lists) n ≡ told.is_entered }
     ensures { IfOk result (IsMade points.now owners.now.owners n told.may_return told.rare told.transfer) }
 {
     let places = points.places();
@@ -47,12 +53,12 @@ fn point_of(
         section: place.sec,
         offset: place.off as u32,
         rare: told.rare,
-        owner: owners.number_of(places.address(n)),
+        owner: owners.number_by_guess(places, n, guess),
         transfer: told.transfer,
         len: insn.len,
         is_dead_end: points.arrivals().is_dead_end(n),
         may_return: told.may_return,
-        is_entered: entry_at(places, n).is_some(),
+        is_entered: told.is_entered,
     })
 }
 
@@ -67,6 +73,7 @@ pub(crate) fn list_points(
 ) -> Result<Vec<Point>, NoMemory>
     requires owners { owners.now.elf ≡ points.now.elf }
     requires returns { HaveShape (count_of points.now) returns.now }
+    requires entered { AreEntered points.now returns.now.entered.items (count_of points.now) }
     requires rares { length rares.now ≡ count_of points.now }
     requires transfers { length transfers.now ≡ count_of points.now }
     ensures made { IfOk result (λ made. AreMade points.now owners.now.owners returns.now rares.now transfers.now made.items (count_of points.now)) }
@@ -74,14 +81,18 @@ pub(crate) fn list_points(
 {
     let count = count_points(points.places());
     let mut made = Vec::with_capacity(alloc, count as usize)?;
+    let mut guess = 0;
     for n in 0..count {
         let k = n as usize;
         let told = Told {
             may_return: returns.may_return[k],
+            is_entered: returns.entered[k].is_some(),
             rare: rares[k],
             transfer: transfers[k],
         };
-        made.push(point_of(alloc, points, owners, n, told)?)?;
+        let point = point_of(alloc, points, owners, n, guess, told)?;
+        guess = point.owner;
+        made.push(point)?;
     }
     Ok(made)
 }

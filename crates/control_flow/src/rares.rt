@@ -1,21 +1,25 @@
 //! What few points have otherwise than most.
 
-ghost use Rattle.std.specs.Prelude.{◌≡◌, ◌<◌, ◌^◌, IfOk, length};
+ghost use Rattle.std.specs.Prelude.{◌≡◌, ◌+◌, ◌<◌, ◌^◌, ◌++◌, ◌∷◌, [], ℕ, List, None, IfOk, IsTrue, length};
 ghost use Rattle.alternatives.specs.Points.{address_of_point};
 ghost use Rattle.flow_defs.specs.Code.{alternatives_of, point_at};
 ghost use Rattle.flow_defs.specs.Program.{previous_of as previous_of_point};
 ghost use Rattle.program_graph.specs.Tells.{address_by, previous_by, variant_by};
 ghost use Rattle.control_flow.specs.Listed.{count_of};
-ghost use Rattle.control_flow.specs.Numbers.{AreNumbered, IsNumbered};
-ghost use Rattle.control_flow.specs.Rares.{IsRare, IsRareOf};
+ghost use Rattle.control_flow.specs.Numbers.{IsNumbered};
+ghost use Rattle.control_flow.specs.Rares.{AreRares, IsRare};
 
+use crate::hinted::{hinted_of, push_hinted};
 use crate::listed::count_points;
 use crate::low::point_is_low;
 use crate::numbers::number_of;
+use crate::order::object_is_in_order;
+use flow_points::FlowPoints;
+use hint_points::HintPoints;
 use ot_base::NoMemory;
 use point_entries::previous;
 use point_places::PointPlaces;
-use program_graph::{Previous, Rare, Replaced};
+use program_graph::{Hinted, Previous, Rare, Replaced};
 use std::alloc::Global;
 
 /// What most points have.
@@ -75,33 +79,72 @@ fn number_rare(rares: &mut Vec<Rare>, rare: Rare) -> Result<u32, NoMemory>
     ensures { IfOk result (IsNumbered rares.old.items rares.new.items rare) }
 {
     let is_first = rares[0] == rare;
-    let is_last = rares[rares.len() - 1] == rare;
+    let is_last = !is_first && rares[rares.len() - 1] == rare;
     number_of(rares, rare, is_first, is_last)
+}
+
+/// Whether a point is right behind a straight one. But for a hint it has what most have then.
+fn is_behind_straight(points: &FlowPoints<'_, '_, '_>, n: u32) -> bool
+    requires point { n < count_of points.now }
+    ensures { IsTrue result → IsRare points.now n None USUAL }
+{
+    object_is_in_order(points.places().linked());
+    n > 0 && points.arrivals().is_straight(n - 1)
+}
+
+/// Lists what a point has where few have it, and tells where it stands.
+fn add_rare(
+    points: &FlowPoints<'_, '_, '_>,
+    hints: &HintPoints<'_, '_, '_, '_>,
+    n: u32,
+    rares: &mut Vec<Rare>,
+    hinted: &mut Vec<Hinted>,
+) -> Result<u32, NoMemory>
+    requires hints { hints.now.object ≡ points.now }
+    requires point { n < count_of points.now }
+    requires some { 0 < length rares.old.items }
+    requires few { length rares.old.items < 2 ^ 32 }
+    requires few_hinted { length hinted.old.items < 2 ^ 32 }
+    ensures { IfOk result (λ number. (numbers : List ℕ) → AreRares points.now hints.now.restores rares.old.items hinted.old.items numbers n → AreRares points.now hints.now.restores rares.new.items hinted.new.items (numbers ++ number ∷ []) (n + 1)) }
+{
+    let known = push_hinted(hinted, hinted_of(hints, n))?;
+    if known.is_none() && is_behind_straight(points, n) {
+        return Ok(0);
+    }
+    number_rare(rares, rare_of(points.places(), n, known))
 }
 
 /// What few points have, and for each point where it stands.
 #[derive(Drop)]
 pub(crate) struct RareList {
+    /// What few points have, behind what most have.
     pub(crate) rares: Vec<Rare>,
+    /// What points have that have a hint.
+    pub(crate) hinted: Vec<Hinted>,
+    /// For each point where what it has stands among the first.
     pub(crate) numbers: Vec<u32>,
 }
 
-/// What all points have, where it is told for each where what points with a hint have stands.
+/// What all points have.
 pub(crate) fn list_rares(
     alloc: Global,
-    places: &PointPlaces<'_, '_, '_>,
-    hinted: Vec<Option<u32>>,
+    points: &FlowPoints<'_, '_, '_>,
+    hints: &HintPoints<'_, '_, '_, '_>,
 ) -> Result<RareList, NoMemory>
-    requires { length hinted.items ≡ count_of places.now }
-    ensures { IfOk result (λ list. AreNumbered (IsRareOf places.now hinted.items) list.rares.items list.numbers.items (count_of places.now)) }
+    requires { hints.now.object ≡ points.now }
+    ensures { IfOk result (λ list. AreRares points.now hints.now.restores list.rares.items list.hinted.items list.numbers.items (count_of points.now)) }
 {
-    let count = count_points(places);
+    let count = count_points(points.places());
     let mut rares = Vec::new(alloc);
     rares.push(USUAL)?;
+    let mut hinted = Vec::new(alloc);
     let mut numbers = Vec::with_capacity(alloc, count as usize)?;
     for n in 0..count {
-        let rare = rare_of(places, n, hinted[n as usize]);
-        numbers.push(number_rare(&mut rares, rare)?)?;
+        numbers.push(add_rare(points, hints, n, &mut rares, &mut hinted)?)?;
     }
-    Ok(RareList { rares, numbers })
+    Ok(RareList {
+        rares,
+        hinted,
+        numbers,
+    })
 }

@@ -4,7 +4,7 @@ ghost use Rattle.std.specs.Prelude.{◌≡◌, ◌<◌, ◌^◌, IfOk};
 ghost use Rattle.flow_defs.specs.Program.{program_of};
 ghost use Rattle.return_search.specs.Shape.{HasShape, HaveShape, points_of};
 ghost use Rattle.return_search.specs.Told.{TellsFlow, TellsReturns};
-ghost use Rattle.control_flow.specs.Listed.{AreEdges, AreExits, count_of};
+ghost use Rattle.control_flow.specs.Listed.{AreEdges, AreEntered, AreExits, count_of};
 
 use crate::listed::{list_dead_ends, list_entered};
 use crate::order::object_is_in_order;
@@ -29,6 +29,7 @@ fn flow_of(
     ensures told { IfOk result (TellsFlow (program_of points.now lists.now)) }
     ensures shape { IfOk result HasShape }
     ensures count { IfOk result (λ flow. points_of flow ≡ count_of points.now) }
+    ensures entered { IfOk result (λ flow. AreEntered points.now flow.entered.items (count_of points.now)) }
 {
     let places = points.places();
     let EdgeList { starts, edges } = list;
@@ -56,6 +57,7 @@ pub(crate) fn returns_of(
     requires few { count_of points.now < 2 ^ 32 }
     ensures shape { IfOk result (HaveShape (count_of points.now)) }
     ensures told { IfOk result (TellsReturns (program_of points.now lists.now)) }
+    ensures entered { IfOk result (λ returns. AreEntered points.now returns.entered.items (count_of points.now)) }
 {
     program_is_one();
     object_is_in_order(points.places().linked());

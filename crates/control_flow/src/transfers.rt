@@ -69,7 +69,7 @@ pub(crate) fn number_transfer(
     ensures { IfOk result (IsNumbered transfers.old.items transfers.new.items transfer) }
 {
     let is_first = transfers[0] == transfer;
-    let is_last = transfers[transfers.len() - 1] == transfer;
+    let is_last = !is_first && transfers[transfers.len() - 1] == transfer;
     number_of(transfers, transfer, is_first, is_last)
 }
 

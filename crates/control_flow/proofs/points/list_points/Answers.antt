@@ -1,7 +1,10 @@
-use Rattle.std.proofs.Common.{◌+◌, ◌<◌, ℕ, List, length, sym, ap, subst, arith}
+use Rattle.std.proofs.Common.{◌≡◌, ◌+◌, ◌<◌, ℕ, List, None, Option, Some, length, sym, ap, ◌∙◌, subst, arith}
+use Rattle.std.specs.Prelude.{◌↔◌, slice_index_or}
 use Rattle.std.proofs.lemmas.List.{get_or_default}
 use Rattle.flow_defs.specs.Coded.{Coded}
 use Rattle.program_graph.specs.declared.parts.Point.{Point}
+use Rattle.point_entries.specs.Entered.{IsEnteredAt}
+use Rattle.point_entries.proofs.Standing.{program_enters}
 use Rattle.control_flow.specs.Listed.{count_of}
 use Rattle.control_flow.specs.Points.{AreMade}
 use Rattle.control_flow.proofs.Making.{made_at, made_more}
@@ -15,11 +18,21 @@ loop-n-preserved c =
     let rares : List ℕ = c.args.rares.now in
     let transfers : List ℕ = c.args.transfers.now in
     let n : ℕ = c.loop-n.n in
-    let x : Point = c.in_ok-point_of.field-0 in
+    let x : Point = c.in_ok-point.point in
     let inside : n < count_of o = omega (arith, c.count_points-count.ensures, ap count_of c.places.ensures) in
     let in_may : n < length returns.may_return.items = omega (arith, c.requires.returns.may_return) in
     let in_rares : n < length rares = omega (arith, c.requires.rares) in
     let in_transfers : n < length transfers = omega (arith, c.requires.transfers) in
     subst (λ (items : List Point). AreMade o owners returns rares transfers items (n + 1)) (sym c.in_ok-push.ensures.items)
     (made_more o owners returns rares transfers c.loop-n.made.items n x c.loop-n.invariant
-    (made_at o owners returns rares transfers n x _ _ _ in_may c.index.ensures (get_or_default rares n _ 0 in_rares) (get_or_default transfers n _ 0 in_transfers) c.in_ok-point_of.ensures))
+    (made_at o owners returns rares transfers n x _ _ _ in_may c.index.ensures (get_or_default rares n _ 0 in_rares) (get_or_default transfers n _ 0 in_transfers) c.in_ok-point.ensures))
+
+pub point_of-requires-clause-entered : goal.point_of-requires-clause-entered
+point_of-requires-clause-entered c = λ lists.
+    let o : Coded = c.args.points.now in
+    let n : ℕ = c.loop-n.n in
+    let entered : List (Option ℕ) = c.args.returns.now.entered.items in
+    let inside : n < count_of o = omega (arith, c.count_points-count.ensures, ap count_of c.places.ensures) in
+    let found : Option ℕ = c.index-in-loop-n.result.now in
+    let own : found ≡ slice_index_or entered n None = c.index-in-loop-n.ensures ∙ get_or_default entered n found None (omega (arith, inside, c.requires.entered.long)) in
+    program_enters o lists n found (λ entry. subst (λ (x : Option ℕ). IsEnteredAt o entry n ↔ (x ≡ Some entry)) (sym own) (c.requires.entered.each n entry inside)) ∙ sym c.is_some.ensures

@@ -21,4 +21,5 @@ returns c =
       told = tells_flow o lists flow c.requires.edges c.requires.exits c.in_ok-dead_ends.ensures entered;
       shape = has_shape o lists flow c.requires.edges c.requires.exits c.in_ok-dead_ends.ensures entered c.requires.few;
       count = flow_count o lists flow c.requires.edges c.requires.exits c.in_ok-dead_ends.ensures entered;
+      entered = entered;
     }

@@ -1,7 +1,9 @@
-use Rattle.std.proofs.Common.{◌∙◌, subst}
+use Rattle.std.proofs.Common.{◌≡◌, ℕ, List, Option, ◌∙◌, subst}
 use Rattle.flow_defs.specs.Coded.{Coded}
 use Rattle.flow_defs.specs.Program.{program_of}
 use Rattle.flow_law.specs.Flows.{ObjectIsInOrder}
+use Rattle.control_flow.specs.Listed.{AreEntered, count_of}
+use Rattle.control_flow.proofs.Steps.{all_ok}
 use Rattle.control_flow.proofs.returning.returns_of.Goals as goal
 
 pub returns-clause-told : goal.returns-clause-told
@@ -10,3 +12,9 @@ returns-clause-told c =
     let lists = c.args.lists.now in
     let order : ObjectIsInOrder o = subst ObjectIsInOrder (c.linked.ensures ∙ c.places.ensures) c.object_is_in_order.ensures in
     c.find_returns.ensures.told (program_of o lists) c.in_ok-flow_of.ensures.told (c.program_is_one.ensures o lists order.bytes order.special)
+
+pub returns-clause-entered : goal.returns-clause-entered
+returns-clause-entered c =
+    let o : Coded = c.args.points.now in
+    let entered : List (Option ℕ) = c.in_ok-flow_of.field-0.entered.items in
+    all_ok c.find_returns.result (λ returns same. (let items : entered ≡ returns.entered.items = cc in subst (λ (es : List (Option ℕ)). AreEntered o es (count_of o)) items c.in_ok-flow_of.ensures.entered)) c.find_returns.ensures.entered

@@ -1,8 +1,10 @@
-use Rattle.std.proofs.Common.{◌≡◌, ℕ, ◌<◌, ◌-◌, List, Some, length, refl, sym, ◌∙◌, subst, arith}
+use Rattle.std.proofs.Common.{◌≡◌, ℕ, ◌<◌, ◌-◌, List, Some, length, not, refl, sym, ap, ◌∙◌, subst, arith}
 use Rattle.std.specs.Prelude.{slice_get}
+use Rattle.std.proofs.lemmas.Bool.{false≢true}
 use Rattle.std.proofs.lemmas.Option.{slice_get_read}
 use Rattle.program_graph.specs.declared.parts.Transfer.{Transfer}
 use Rattle.control_flow.proofs.Equal.{same_transfer}
+use Rattle.control_flow.proofs.transfers.number_transfer.Goals.{else-not-is_first, then-not-is_first}
 use Rattle.control_flow.proofs.transfers.number_transfer.Goals as goal
 
 pub number_of-requires-clause-first : goal.number_of-requires-clause-first
@@ -14,8 +16,12 @@ number_of-requires-clause-first c is =
 pub number_of-requires-clause-last : goal.number_of-requires-clause-last
 number_of-requires-clause-last c is =
     let all : List Transfer = c.args.transfers.now.items in
-    let last : c.len.result - 1 ≡ length all - 1 = omega (arith, c.len.ensures) in
-    let inside : c.len.result - 1 < length all = omega (arith, c.len.ensures, c.requires.some) in
-    subst (λ (k : ℕ). slice_get all k ≡ Some c.args.transfer) last
-    (subst (λ (x : Transfer). slice_get all (c.len.result - 1) ≡ Some x) ((same_transfer c.index-2.result.now c.args.transfer).0 (sym c.eq-is_last.ensures ∙ is))
-    (slice_get_read all (length all) (c.len.result - 1) c.index-2.result.now refl inside c.index-2.ensures))
+    elim c.if-not-is_first.branch [
+      | then-not-is_first w ↦
+          let last : w.len.result - 1 ≡ length all - 1 = omega (arith, w.len.ensures) in
+          let inside : w.len.result - 1 < length all = omega (arith, w.len.ensures, c.requires.some) in
+          subst (λ (k : ℕ). slice_get all k ≡ Some c.args.transfer) last
+          (subst (λ (x : Transfer). slice_get all (w.len.result - 1) ≡ Some x) ((same_transfer w.index-then-not-is_first.result.now c.args.transfer).0 (sym w.eq-is_last.ensures ∙ (sym w.is_last-is ∙ is)))
+          (slice_get_read all (length all) (w.len.result - 1) w.index-then-not-is_first.result.now refl inside w.index-then-not-is_first.ensures))
+      | else-not-is_first w ↦ absurd (false≢true (sym (ap not w.if-not-is_first.false) ∙ (sym w.is_last-is ∙ is)))
+    ]

@@ -7,7 +7,7 @@ use Rattle.program_graph.specs.declared.parts.Transfer.{Transfer}
 use Rattle.control_flow.specs.Listed.{count_of}
 use Rattle.control_flow.specs.Numbers.{IsNumbered}
 use Rattle.control_flow.specs.Transfers.{IsTransfer, IsTransferIfBack, IsTransferOf}
-use Rattle.control_flow.proofs.Numbering.{have_numbers, numbered_at, numbered_inside, numbered_otherwise, put_behind, renumbered}
+use Rattle.control_flow.proofs.Numbering.{numbered_at, numbered_inside, numbered_otherwise, put_behind, renumbered}
 use Rattle.control_flow.proofs.Settling.{IsSettled, back_settled, none_settled, one_settled, others_settled}
 use Rattle.control_flow.proofs.transfers.settle_transfers.Goals as goal
 
@@ -16,14 +16,14 @@ loop-k-init c =
     let o : Coded = c.args.points.now in
     let returns = c.args.returns.now in
     numbered_otherwise (IsTransferIfBack o) (IsSettled o returns 0) c.args.list.transfers.items c.args.list.numbers.items (count_of o) (λ q x below is. none_settled o returns q x is)
-    (have_numbers (IsTransferIfBack o) c.args.list.transfers.items c.args.list.numbers.items (count_of o) c.requires.list)
+    c.requires.list.have
 
 pub loop-k-preserved-then-index : goal.loop-k-preserved-then-index
 loop-k-preserved-then-index c =
     let o : Coded = c.args.points.now in
     let returns = c.args.returns.now in
     let k : ℕ = c.loop-k.k in
-    let inside : k < length returns.comes_back.items = omega (arith, c.loop-k-test.true, c.len-k-end.ensures, c.requires.list.long, c.requires.returns.comes_back) in
+    let inside : k < length returns.comes_back.items = omega (arith, c.loop-k-test.true, c.len-k-end.ensures, c.requires.list.have.long, c.requires.returns.comes_back) in
     let back : slice_index_or returns.comes_back.items k false ≡ true = sym (c.index.ensures ∙ get_or_default returns.comes_back.items k _ false inside) ∙ c.if-index.true in
     numbered_otherwise (IsSettled o returns k) (IsSettled o returns (k + 1)) c.loop-k.transfers.items c.loop-k.numbers.items (count_of o) (λ q x below is. back_settled o returns k q x back is) c.loop-k.invariant
 
@@ -32,7 +32,7 @@ index-transfer-requires c =
     let o : Coded = c.args.points.now in
     let k : ℕ = c.loop-k.k in
     let numbers : List ℕ = c.loop-k.numbers.items in
-    let inside : k < count_of o = omega (arith, c.loop-k-test.true, c.len-k-end.ensures, c.requires.list.long) in
+    let inside : k < count_of o = omega (arith, c.loop-k-test.true, c.len-k-end.ensures, c.requires.list.have.long) in
     let own : slice_index numbers k ≡ c.index-in-loop-k.result.now = sym (c.index-in-loop-k.ensures ∙ get_or_default numbers k _ 0 (omega (arith, c.loop-k.invariant.long, inside))) in
     let there = numbered_inside (IsSettled o c.args.returns.now k) c.loop-k.transfers.items numbers (count_of o) k c.index-in-loop-k.result.now c.loop-k.invariant inside own in
     omega (arith, there, c.loop-k.transfers.ok)
@@ -48,7 +48,7 @@ loop-k-preserved c =
     let m : ℕ = c.index-in-loop-k.result.now in
     let x : Transfer = c.index-transfer.result.now in
     let other : Transfer = c.without_back.result in
-    let inside : k < count_of o = omega (arith, c.loop-k-test.true, c.len-k-end.ensures, c.requires.list.long) in
+    let inside : k < count_of o = omega (arith, c.loop-k-test.true, c.len-k-end.ensures, c.requires.list.have.long) in
     let in_comes : k < length returns.comes_back.items = omega (arith, inside, c.requires.returns.comes_back) in
     let never : slice_index_or returns.comes_back.items k false ≡ false = sym (c.index.ensures ∙ get_or_default returns.comes_back.items k _ false in_comes) ∙ c.if-index.false in
     let own : slice_index numbers k ≡ m = sym (c.index-in-loop-k.ensures ∙ get_or_default numbers k _ 0 (omega (arith, c.loop-k.invariant.long, inside))) in
@@ -65,5 +65,5 @@ pub returns : goal.returns
 returns c =
     let o : Coded = c.args.points.now in
     let returned = c.args.returns.now in
-    let whole : count_of o ≤ c.loop-k.k = omega (arith, c.loop-k-test.false, c.len-k-end.ensures, c.requires.list.long) in
+    let whole : count_of o ≤ c.loop-k.k = omega (arith, c.loop-k-test.false, c.len-k-end.ensures, c.requires.list.have.long) in
     numbered_otherwise (IsSettled o returned c.loop-k.k) (IsTransferOf o returned) c.loop-k.transfers.items c.loop-k.numbers.items (count_of o) (λ q x below is. is.below (omega (arith, below, whole))) c.loop-k.invariant
