@@ -1,6 +1,3 @@
-mod Totals
-mod Intervals
-mod Relas
 mod Counted
 pub mod FewEntries
 pub mod FirstFaults

@@ -1,5 +1,6 @@
-mod Totals
+pub mod Totals
 mod Intervals
-mod Relas
+pub mod Relas
 mod Counted
+pub mod Unfaulted
 mod Few
