@@ -64,8 +64,8 @@ fn command<'a>(
         .bin_name(program)
 }
 
-/// `check`.
-pub(crate) fn check<'a>(alloc: Global) -> Result<Command<'a>, AllocError>
+/// The command `check`, with its words and options.
+pub fn check<'a>(alloc: Global) -> Result<Command<'a>, AllocError>
     ensures { IfOk result (λ command. app_of command ≡ check_app) }
 {
     command(alloc, "check", "objtool check", CHECK)?
@@ -112,15 +112,15 @@ pub(crate) fn check<'a>(alloc: Global) -> Result<Command<'a>, AllocError>
         .arg(names_option(alloc))
 }
 
-/// `dump`.
-pub(crate) fn dump<'a>(alloc: Global) -> Result<Command<'a>, AllocError>
+/// The command `dump`, with its word.
+pub fn dump<'a>(alloc: Global) -> Result<Command<'a>, AllocError>
     ensures { IfOk result (λ command. app_of command ≡ dump_app) }
 {
     command(alloc, "dump", "objtool dump", DUMP)?.arg(place(alloc, "FILE", "The object"))
 }
 
-/// `unwind`.
-pub(crate) fn unwind<'a>(alloc: Global) -> Result<Command<'a>, AllocError>
+/// The command `unwind`, with its words.
+pub fn unwind<'a>(alloc: Global) -> Result<Command<'a>, AllocError>
     ensures { IfOk result (λ command. app_of command ≡ unwind_app) }
 {
     command(alloc, "unwind", "objtool unwind", UNWIND)?
@@ -132,8 +132,8 @@ pub(crate) fn unwind<'a>(alloc: Global) -> Result<Command<'a>, AllocError>
         ))
 }
 
-/// `demo`.
-pub(crate) fn demo<'a>(alloc: Global) -> Result<Command<'a>, AllocError>
+/// The command `demo`, with its word.
+pub fn demo<'a>(alloc: Global) -> Result<Command<'a>, AllocError>
     ensures { IfOk result (λ command. app_of command ≡ demo_app) }
 {
     command(alloc, "demo", "objtool demo", DEMO)?.arg(place(
@@ -157,8 +157,8 @@ fn program<'a>(alloc: Global) -> Command<'a>
         .disable_help_subcommand(true)
 }
 
-/// The whole command line.
-pub(crate) fn command_line<'a>(alloc: Global) -> Result<Command<'a>, AllocError>
+/// The whole command line: the program, with its commands and its own options.
+pub fn command_line<'a>(alloc: Global) -> Result<Command<'a>, AllocError>
     ensures { IfOk result (λ command. app_of command ≡ line_app) }
 {
     program(alloc)

@@ -2,12 +2,9 @@
 //! user of it.
 #![tactic(auto)]
 
-mod definition;
+pub mod definition;
 mod reading;
 mod texts;
 
 pub use reading::read_words;
 pub use texts::{help_text, version_text};
-
-#[cfg(test)]
-mod tests;

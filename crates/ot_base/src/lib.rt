@@ -25,6 +25,3 @@ pub use text::{
     Escaped, Hexadecimal, PlaceText, RowLine, RowWords, WarningLine, row_text, warning_text,
 };
 pub use warning::Warning;
-
-#[cfg(test)]
-mod tests;

@@ -9,6 +9,3 @@ mod regs;
 
 pub use moves::{initial, step};
 pub use state_defs::{BpHome, Depth, EndKind, HintState, State};
-
-#[cfg(test)]
-mod tests;

@@ -89,6 +89,3 @@ pub fn whole_extends_base()
 pub fn map_is_exact()
     ensures { MapIsExact }
 {}
-
-#[cfg(test)]
-mod tests;

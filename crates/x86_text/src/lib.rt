@@ -12,6 +12,3 @@ pub use operation_defs::{Insn, Op};
 pub use placed::PlacedInsn;
 pub use text::Text;
 pub use x86_decode::{DecodeFault, Map};
-
-#[cfg(test)]
-mod tests;

@@ -2,8 +2,8 @@
 
 ghost use Rattle.std.specs.Prelude.{◌<◌};
 
-use crate::{DecodeFault, Map, decode};
 use std::process::Abort;
+use x86_decode::{DecodeFault, Map, decode};
 
 /// Each instruction of the table, one behind another, has the length.
 fn have_length(rt: &impl Abort, len: usize, table: &[u8])

@@ -1,12 +1,12 @@
 //! Programs with hints that break no rule.
 
-use super::case::{
+use crate::case::{
     Accepted, CALLED, CALLED_STACK, CALLER, ENTERED, FRAMED, From, How, PUSHED, Run, SAVED,
 };
-use super::expect::expect_accepted;
-use crate::lines::{Table, With};
+use crate::expect::expect_accepted;
 use machine_model::Start;
 use operation_defs::Op;
+use stack_examples::lines::{Table, With};
 use state_defs::HintState;
 use std::test::Fail;
 use walk_defs::Stop;

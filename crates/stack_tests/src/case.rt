@@ -1,10 +1,10 @@
 //! The tables of programs, and what is expected of them. They are data, since each call in a test's body
 //! takes longer to prove; `expect` reads them.
 
-use crate::lines::Table;
 use machine_model::{Frame, Slot, Start, Wreck};
 use ot_base::Options;
 use program_model::Store;
+use stack_examples::lines::Table;
 use state_defs::{BpHome, Depth, State};
 use walk_defs::{Frame as WalkedFrame, Stop};
 

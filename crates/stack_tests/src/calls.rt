@@ -1,11 +1,11 @@
 //! Programs that break no rule, with calls and jumps from function to function.
 
-use super::case::{Accepted, CALLED, CALLER, ENDED, ENTERED, FRAMED, How, PUSHED, RBP, Run, SAVED};
-use super::expect::expect_accepted;
-use crate::lines::{Table, With};
+use crate::case::{Accepted, CALLED, CALLER, ENDED, ENTERED, FRAMED, How, PUSHED, RBP, Run, SAVED};
+use crate::expect::expect_accepted;
 use operation_defs::Op;
 use program_defs::{EdgeKind, Role};
 use program_model::Store;
+use stack_examples::lines::{Table, With};
 use state_defs::{EndKind, HintState, State};
 use std::test::Fail;
 use walk_defs::Frame;

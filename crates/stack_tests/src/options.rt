@@ -1,12 +1,12 @@
 //! What options ask for. By these rules no run's stack goes wrong; runs that break what `--fp` promises of calls are
 //! in `option_examples`.
 
-use super::case::{Broken, End};
-use super::expect::expect_broken;
-use crate::lines::{Table, With};
+use crate::case::{Broken, End};
+use crate::expect::expect_broken;
 use operation_defs::Op;
 use ot_base::{Options, rules};
 use program_defs::Role;
+use stack_examples::lines::{Table, With};
 use std::test::Fail;
 
 /// Unreachable instructions are asked for, frame pointers, or both.

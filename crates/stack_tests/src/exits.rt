@@ -1,13 +1,13 @@
 //! A wrong program for each rule of ways out: exactly that rule warns of it, and a run of it goes wrong.
 
-use super::case::{Broken, CALLED, ENDED, End, How, NO_OPTIONS, Wrong};
-use super::expect::expect_broken;
-use super::targets::JMP;
-use crate::lines::{Table, With};
+use crate::case::{Broken, CALLED, ENDED, End, How, NO_OPTIONS, Wrong};
+use crate::expect::expect_broken;
+use crate::targets::JMP;
 use machine_model::Wreck;
 use operation_defs::Op;
 use ot_base::rules;
 use program_defs::{EdgeKind, Role};
+use stack_examples::lines::{Table, With};
 use state_defs::{EndKind, HintState, State};
 use std::test::Fail;
 use walk_defs::Stop;

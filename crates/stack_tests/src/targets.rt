@@ -1,13 +1,13 @@
 //! A wrong program for each rule of where control goes: exactly that rule warns of it, at this place with
 //! these numbers, and a run of it goes wrong.
 
-use super::case::{Broken, CALLED, End, How, NO_OPTIONS, Wrong};
-use super::expect::expect_broken;
-use crate::lines::{Table, With};
+use crate::case::{Broken, CALLED, End, How, NO_OPTIONS, Wrong};
+use crate::expect::expect_broken;
 use machine_model::Wreck;
 use operation_defs::Op;
 use ot_base::rules;
 use program_defs::{EdgeKind, Marks};
+use stack_examples::lines::{Table, With};
 use std::test::Fail;
 use walk_defs::Stop;
 

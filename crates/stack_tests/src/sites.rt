@@ -1,12 +1,12 @@
 //! Wrong programs of sites and of RESTORE hints, and one of a function without a size.
 
-use super::case::{Broken, CALLED, CALLED_STACK, End, From, How, NO_OPTIONS, Wrong};
-use super::expect::expect_broken;
-use crate::lines::{Table, With};
+use crate::case::{Broken, CALLED, CALLED_STACK, End, From, How, NO_OPTIONS, Wrong};
+use crate::expect::expect_broken;
 use machine_model::Start;
 use operation_defs::Op;
 use ot_base::rules;
 use program_defs::Role;
+use stack_examples::lines::{Table, With};
 use state_defs::HintState;
 use std::test::Fail;
 use walk_defs::Stop;

@@ -1,12 +1,12 @@
 //! Programs of functions that break no rule: the states that are kept, runs with their frames, and the walk
 //! from each state of a run.
 
-use super::case::{Accepted, CALLED, CALLER, DEEPER, ENTERED, FRAMED, How, PUSHED, Run, SAVED};
-use super::expect::expect_accepted;
-use crate::lines::{Table, With};
+use crate::case::{Accepted, CALLED, CALLER, DEEPER, ENTERED, FRAMED, How, PUSHED, Run, SAVED};
+use crate::expect::expect_accepted;
 use operation_defs::Op;
 use program_defs::EdgeKind;
 use program_model::Store;
+use stack_examples::lines::{Table, With};
 use state_defs::{BpHome, Depth, State};
 use std::test::Fail;
 

@@ -1,13 +1,13 @@
 //! Programs that break no rule, with interrupts: in a prologue, in the interrupt's own entry code, and
 //! back; at a gate with an error code; one that came outside; and an iret to itself.
 
-use super::case::{
+use crate::case::{
     Accepted, CALLED, CALLER, ENTERED, FRAMED, From, How, OUTSIDE, PUSHED, RBP, Run, SAVED, Stack,
 };
-use super::expect::expect_accepted;
-use crate::lines::{Table, With};
+use crate::expect::expect_accepted;
 use machine_model::{Frame as ShadowFrame, Slot, Start};
 use operation_defs::Op;
+use stack_examples::lines::{Table, With};
 use state_defs::{BpHome, Depth, HintState, State};
 use std::test::Fail;
 use walk_defs::{Frame, Stop};

@@ -1,7 +1,7 @@
 //! Instructions of the whole map beside `as` and `objdump -d` of GNU binutils 2.40.
 
-use crate::{DecodeFault, Map, Op, decode};
 use std::process::Abort;
+use x86_decode::{DecodeFault, Map, Op, decode};
 
 // What writes a general register, row by row of the extension.
 static WRITING: [(&[u8], Op); 100] = [

@@ -1,8 +1,8 @@
 //! An instruction for each row of the opcode map, with what it does to rsp and rbp and the prefixes that it still stands
 //! with. All are of the Intel SDM, volume 2; the map's cut decides which prefixes are refused that a processor accepts.
 
-use crate::{DecodeFault, Insn, Map, Op, decode};
 use std::process::Abort;
+use x86_decode::{DecodeFault, Insn, Map, Op, decode};
 
 /// Whether the instruction stands with 66, 67, F2 and F3 in front of it.
 type Stands = [bool; 4];

@@ -1,12 +1,10 @@
 //! Bodies of code whose boundaries `objdump -d` tells.
 ghost use Rattle.std.specs.Prelude.{◌≤◌, length};
 
-use crate::fault::TextFault;
-use crate::fault_text::TextFaultText;
-use crate::text::Text;
 use std::alloc::Global;
+use std::process::Abort;
 use std::test::Fail;
-use x86_decode::{DecodeFault, Map};
+use x86_text::{DecodeFault, Map, Text, TextFault, TextFaultText};
 
 /// Three functions: a frame by rbp, a call, and a branch.
 const CODE: [u8; 29] = [
@@ -18,42 +16,58 @@ const CODE: [u8; 29] = [
 
 const OFFSETS: [u64; 15] = [0, 1, 4, 5, 6, 7, 11, 16, 20, 21, 22, 24, 26, 27, 28];
 
+/// The boundaries before and behind an offset are these, and an instruction begins at it where it is one.
+fn expect_boundaries(rt: &impl Abort, text: &Text<'_>, off: u64) {
+    let next = OFFSETS.iter().copied().find(|o| *o > off);
+    let prev = OFFSETS.iter().copied().rfind(|o| *o < off);
+    assert!(rt; text.next(off) == next, "next of {off}");
+    assert!(rt; text.prev(off) == prev, "prev of {off}");
+    assert!(rt;
+        text.insn_at(off).is_some() == OFFSETS.contains(&off),
+        "at {off}"
+    );
+}
+
 #[test]
 fn boundaries_of_a_body(rt: HostRuntime) -> Result<(), Fail> {
     let text = Text::read(rt.alloc(), Map::Base, &CODE)?;
     assert_eq!(rt; text.count(), 15);
     for off in 0u64..32 {
-        let next = OFFSETS.iter().copied().find(|o| *o > off);
-        let prev = OFFSETS.iter().copied().rfind(|o| *o < off);
-        assert!(rt; text.next(off) == next, "next of {off}");
-        assert!(rt; text.prev(off) == prev, "prev of {off}");
-        assert!(rt;
-            text.insn_at(off).is_some() == OFFSETS.contains(&off),
-            "at {off}"
-        );
+        expect_boundaries(&rt, &text, off);
     }
     Ok(())
+}
+
+/// The instruction of this number begins at this offset, and has its own bytes of the body; the offset behind
+/// it.
+fn expect_instruction(rt: &impl Abort, text: &Text<'_>, i: u32, begins: u64) -> u64 {
+    assert!(rt; i < text.count());
+    let (off, insn) = text.insn(i);
+    assert!(rt;
+        off == begins && text.insn_at(off) == Some(insn),
+        "at {off}"
+    );
+    let bytes = text.bytes_of(i);
+    assert!(rt;
+        bytes.len() == usize::from(insn.len) && CODE.get(off as usize) == bytes.first(),
+        "bytes at {off}"
+    );
+    off.saturating_add(u64::from(insn.len))
 }
 
 #[test]
 fn instructions_of_a_body(rt: HostRuntime) -> Result<(), Fail> {
     let text = Text::read(rt.alloc(), Map::Base, &CODE)?;
     let mut end = 0;
-    for i in 0..15u32 {
-        assert!(rt; i < text.count());
-        let (off, insn) = text.insn(i);
-        assert_eq!(rt; off, OFFSETS[i as usize]);
-        assert_eq!(rt; off, end);
-        assert_eq!(rt; text.insn_at(off), Some(insn));
-        let bytes = text.bytes_of(i);
-        assert_eq!(rt; bytes.len(), insn.len as usize);
-        assert!(rt; CODE.get(off as usize) == bytes.first(), "bytes at {off}");
-        end = off.saturating_add(insn.len as u64);
+    for (i, off) in OFFSETS.iter().enumerate() {
+        assert_eq!(rt; *off, end);
+        end = expect_instruction(&rt, &text, i as u32, *off);
     }
     assert_eq!(rt; end, 29);
     Ok(())
 }
 
+/// The bytes of the first instruction of a body.
 fn first_bytes<'a>(alloc: Global, body: &'a [u8]) -> Result<Option<&'a [u8]>, TextFault>
     requires { length body.now ≤ 16_777_216 }
 {
@@ -75,39 +89,30 @@ fn bytes_outlive_the_text(rt: HostRuntime) -> Result<(), Fail> {
     Ok(())
 }
 
+/// At which offset a body of code holds no instruction, and why.
+fn fault_of(alloc: Global, body: &[u8]) -> Result<Option<(u64, DecodeFault)>, TextFault>
+    requires { length body.now ≤ 16_777_216 }
+{
+    match Text::read(alloc, Map::Base, body) {
+        Err(TextFault::At { off, why }) => Ok(Some((off, why))),
+        Err(TextFault::NoMemory) => Err(TextFault::NoMemory),
+        Ok(_) => Ok(None),
+    }
+}
+
 #[test]
 fn faults_of_a_body(rt: HostRuntime) -> Result<(), Fail> {
-    let bodies = [
-        (
-            [0x90u8, 0xC5, 0xF8, 0x77],
-            1,
-            DecodeFault::Outside { seen: 1 },
-        ),
-        (
-            [0x90, 0x90, 0x48, 0x66],
-            2,
-            DecodeFault::Outside { seen: 2 },
-        ),
-        ([0x90, 0xE8, 0x00, 0x00], 1, DecodeFault::Cut { have: 3 }),
-        ([0x66, 0x66, 0x66, 0x66], 0, DecodeFault::Cut { have: 4 }),
+    let bodies: [(&[u8], u64, DecodeFault); 5] = [
+        (b"\x90\xC5\xF8\x77", 1, DecodeFault::Outside { seen: 1 }),
+        (b"\x90\x90\x48\x66", 2, DecodeFault::Outside { seen: 2 }),
+        (b"\x90\xE8\x00\x00", 1, DecodeFault::Cut { have: 3 }),
+        (b"\x66\x66\x66\x66", 0, DecodeFault::Cut { have: 4 }),
+        (&[0x66; 16], 0, DecodeFault::Long),
     ];
-    for (body, at, fault) in bodies {
-        match Text::read(rt.alloc(), Map::Base, &body) {
-            Err(TextFault::At { off, why }) => {
-                assert_eq!(rt; off, at);
-                assert_eq!(rt; why, fault);
-            }
-            Err(TextFault::NoMemory) => return Err(TextFault::NoMemory.into()),
-            Ok(_) => return Err(Fail::from("read")),
-        }
-    }
-    let long = [0x66u8; 16];
-    match Text::read(rt.alloc(), Map::Base, &long) {
-        Err(TextFault::At { off, why }) => {
-            assert_eq!(rt; off, 0);
-            assert_eq!(rt; why, DecodeFault::Long);
-        }
-        _ => return Err(Fail::from("read")),
+    for (body, off, why) in bodies {
+        assert!(rt; body.len() <= 16);
+        let found = fault_of(rt.alloc(), body)?;
+        assert!(rt; found == Some((off, why)), "{body:?}: {found:?}");
     }
     Ok(())
 }

@@ -1,8 +1,8 @@
 //! What lists of words mean, and the texts of the command line.
 
-use crate::definition::{check, command_line, demo, dump, unwind};
-use crate::reading::read_words;
-use crate::texts::{help_text, version_text};
+use clap::Command as Definition;
+use cli_matches::definition::{check, command_line, demo, dump, unwind};
+use cli_matches::{help_text, read_words, version_text};
 use cli_words::{CheckOptions, Command, Map, UsageFault};
 use std::alloc::{AllocError, Global};
 use std::process::Abort;
@@ -20,13 +20,18 @@ fn words(alloc: Global, line: &str) -> Result<Vec<String>, AllocError> {
 /// One letter for each option that is asked for.
 fn letters(alloc: Global, options: CheckOptions) -> Result<String, AllocError> {
     let CheckOptions { map, rules } = options;
+    let asked = [
+        (rules.fp, "f"),
+        (rules.retpoline, "p"),
+        (rules.rethunk, "t"),
+        (rules.uaccess, "a"),
+        (rules.unreachable, "u"),
+        (map == Map::Whole, "o"),
+    ];
     let mut text = String::new(alloc);
-    text.push_str(if rules.fp { "f" } else { "-" })?;
-    text.push_str(if rules.retpoline { "p" } else { "-" })?;
-    text.push_str(if rules.rethunk { "t" } else { "-" })?;
-    text.push_str(if rules.uaccess { "a" } else { "-" })?;
-    text.push_str(if rules.unreachable { "u" } else { "-" })?;
-    text.push_str(if map == Map::Whole { "o" } else { "-" })?;
+    for (is_asked, letter) in asked {
+        text.push_str(if is_asked { letter } else { "-" })?;
+    }
     Ok(text)
 }
 
@@ -195,16 +200,24 @@ fn first_faults_are_told(rt: HostRuntime) -> Result<(), Fail> {
     Ok(())
 }
 
-/// What `clap` renders of the definition: the program, and then each command. An option whose value stands
-/// behind `=` alone is shown so.
+/// What `clap` renders of a command.
+fn help_of(mut command: Definition<'_>) -> Result<String, AllocError> {
+    command.render_help()
+}
+
+/// What it renders of `check`. An option whose value stands behind `=` alone is shown so.
+fn check_help(alloc: Global) -> Result<String, AllocError> {
+    help_of(check(alloc)?.mut_arg("names", |names| Ok(names.require_equals(true)))?)
+}
+
+/// What it renders of the program, and then of each command.
 fn rendered(alloc: Global) -> Result<String, AllocError> {
-    let check = check(alloc)?.mut_arg("names", |names| Ok(names.require_equals(true)))?;
-    let mut text = command_line(alloc)?.render_help()?;
-    for mut command in vec![in alloc; check, dump(alloc)?, unwind(alloc)?, demo(alloc)?]? {
-        text.push_str("\n")?;
-        text.push_str(command.render_help()?.as_str())?;
-    }
-    Ok(text)
+    let program = help_of(command_line(alloc)?)?;
+    let check = check_help(alloc)?;
+    let dump = help_of(dump(alloc)?)?;
+    let unwind = help_of(unwind(alloc)?)?;
+    let demo = help_of(demo(alloc)?)?;
+    format!(in alloc; "{program}\n{check}\n{dump}\n{unwind}\n{demo}")
 }
 
 #[test]
@@ -218,18 +231,31 @@ fn help_is_what_clap_renders(rt: HostRuntime) -> Result<(), Fail> {
     Ok(())
 }
 
+/// What it renders of the version.
+fn version_of(command: Definition<'_>) -> Result<String, AllocError> {
+    command.render_version()
+}
+
 #[test]
 fn version_is_what_clap_renders(rt: HostRuntime) -> Result<(), Fail> {
-    let rendered = command_line(rt.alloc())?.render_version()?;
+    let rendered = version_of(command_line(rt.alloc())?)?;
     assert_eq!(rt; version_text(), rendered.as_str());
     Ok(())
 }
 
+/// Whether the words of a line are a command.
+fn is_command(alloc: Global, line: &str) -> Result<bool, AllocError> {
+    let words = words(alloc, line)?;
+    Ok(read_words(alloc, &words).is_ok())
+}
+
 /// Whether an option stands alone, or with `check`.
 fn is_taken(alloc: Global, option: &str) -> Result<bool, AllocError> {
-    let alone = words(alloc, option)?;
-    let with_check = words(alloc, format!(in alloc; "check a b {option}")?.as_str())?;
-    Ok(read_words(alloc, &alone).is_ok() || read_words(alloc, &with_check).is_ok())
+    if is_command(alloc, option)? {
+        return Ok(true);
+    }
+    let with_check = format!(in alloc; "check a b {option}")?;
+    is_command(alloc, with_check.as_str())
 }
 
 #[test]

@@ -1,7 +1,6 @@
 //! What is expected of a program: its states, its warnings, and how it runs.
 
-use super::case::{Accepted, Broken, End, From, How, LO, NO_OPTIONS, Run, Wrong};
-use crate::builder::program;
+use crate::case::{Accepted, Broken, End, From, How, LO, NO_OPTIONS, Run, Wrong};
 use checker_model::{kept_states, rows, walk, warnings};
 use machine_model::{
     Anything, Choice, Core, InterruptWords, Machine, Standing, next_state, started,
@@ -9,6 +8,7 @@ use machine_model::{
 use ot_base::{Place, PlacedRow, Warning};
 use program_defs::{Edge, EdgeKind};
 use program_model::{Program, Region};
+use stack_examples::builder::program;
 use state_defs::{EndKind, State};
 use std::alloc::{AllocError, Global};
 use std::process::Abort;

@@ -1,12 +1,12 @@
 //! Programs that break no rule, with alternatives sites, in which each variant runs.
 
-use super::case::{
+use crate::case::{
     Accepted, CALLED, CALLER, DEEPER, ENTERED, FRAMED, How, PUSHED, RBP, Run, SAVED,
 };
-use super::expect::expect_accepted;
-use crate::lines::{Table, With};
+use crate::expect::expect_accepted;
 use operation_defs::Op;
 use program_defs::{EdgeKind, Role};
+use stack_examples::lines::{Table, With};
 use state_defs::HintState;
 use std::test::Fail;
 use walk_defs::Frame;

@@ -1,13 +1,13 @@
 //! A wrong program for each rule of operations: exactly that rule warns of it, and a run of it goes wrong.
 
-use super::case::{
+use crate::case::{
     Broken, CALLED, CALLER, End, From, How, NO_OPTIONS, OUTERMOST, OUTSIDE, RBP, Stack, Wrong,
 };
-use super::expect::expect_broken;
-use crate::lines::{Table, With};
+use crate::expect::expect_broken;
 use machine_model::{Frame, Slot, Start};
 use operation_defs::Op;
 use ot_base::rules;
+use stack_examples::lines::{Table, With};
 use state_defs::{BpHome, Depth, HintState, State};
 use std::test::Fail;
 use walk_defs::Stop;

@@ -1,7 +1,7 @@
-//! Worked moves.
+//! Worked moves of stack states.
 
-use crate::{BpHome, Depth, EndKind, State, initial, step};
 use operation_defs::Op;
+use stack_state::{BpHome, Depth, EndKind, State, initial, step};
 
 /// A state without a frame pointer, whose depth is known.
 fn at(depth: i64, bp: BpHome) -> State {

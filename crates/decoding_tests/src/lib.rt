@@ -1,0 +1,14 @@
+//! Tests of `x86_decode` and `x86_text`, which aren't proved again for them: single instructions, and bodies of
+//! code.
+#![tactic(auto)]
+
+#[cfg(test)]
+mod answers;
+#[cfg(test)]
+mod bodies;
+#[cfg(test)]
+mod lengths;
+#[cfg(test)]
+mod rows;
+#[cfg(test)]
+mod whole;

@@ -1,0 +1,31 @@
+//! Programs of a few points, run by the plain reading of the stack machine: one for each feature of the
+//! machine, and one that breaks each rule. The states, frames and warnings are written by hand. And moves of
+//! stack states.
+#![tactic(auto)]
+
+#[cfg(test)]
+mod alternatives;
+#[cfg(test)]
+mod calls;
+#[cfg(test)]
+mod case;
+#[cfg(test)]
+mod exits;
+#[cfg(test)]
+mod expect;
+#[cfg(test)]
+mod functions;
+#[cfg(test)]
+mod hints;
+#[cfg(test)]
+mod interrupts;
+#[cfg(test)]
+mod moves;
+#[cfg(test)]
+mod operations;
+#[cfg(test)]
+mod options;
+#[cfg(test)]
+mod sites;
+#[cfg(test)]
+mod targets;
