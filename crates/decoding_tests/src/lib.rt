@@ -1,5 +1,5 @@
-//! Tests of `x86_decode` and `x86_text`, which aren't proved again for them: single instructions, and bodies of
-//! code.
+//! Tests of `x86_map`, `x86_decode` and `x86_text`, which aren't proved again for them: what the map says of
+//! opcodes, single instructions, and bodies of code.
 #![tactic(auto)]
 
 #[cfg(test)]
@@ -8,6 +8,8 @@ mod answers;
 mod bodies;
 #[cfg(test)]
 mod lengths;
+#[cfg(test)]
+mod maps;
 #[cfg(test)]
 mod rows;
 #[cfg(test)]

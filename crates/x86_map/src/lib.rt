@@ -29,6 +29,3 @@ pub use opcode_map::{accepts_some, forms_are_apart, lookup};
 pub use prefixes::Prefixes;
 pub use shape::{Look, Shape, Write, Written};
 pub use vector::{Vector, evex_number, is_evex_second, vex_number};
-
-#[cfg(test)]
-mod tests;
