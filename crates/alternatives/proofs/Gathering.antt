@@ -1,5 +1,7 @@
 -- The points of an object, the plain ones with those of replacements woven among them.
-use Rattle.std.proofs.Common.{◌≡◌, ℕ, ◌+◌, ◌-◌, ◌<◌, ◌≤◌, ◌⊎◌, List, length, get_or, map, inl, inr, refl, sym, subst, arith}
+use Rattle.std.proofs.Common.{◌≡◌, ℕ, ◌+◌, ◌-◌, ◌<◌, ◌≤◌, ◌⊎◌, true, false, List, length, get_or, map, inl, inr, refl, sym, ap, subst, arith}
+use Rattle.std.specs.Prelude.{filter, not}
+use Rattle.std.proofs.lemmas.Bool.{eq-eqb, ne_eqb}
 use Rattle.std.specs.List.{AllByRecursion, flat_map, range_with_len, sum_by}
 use Rattle.std.specs.List.Sorted.{IsStrictlySortedBy, IsSortedBy, IsPermutation}
 use Rattle.std.specs.Ordering.{is_lt, eq_by_cmp}
@@ -21,12 +23,13 @@ use Rattle.alternatives.specs.declared.point.Point.{Point}
 use Rattle.alternatives.specs.Texts.{text_bytes, AscendBySection}
 use Rattle.alternatives.specs.Originals.{entry_at, counts, counted}
 use Rattle.alternatives.specs.Points.{is_point, points_of, point_cmp, IsPoint}
-use Rattle.alternatives.specs.Gathered.{plain_at, plain_of, plain_points, replaced_at, replaced_of, replacement_points, woven}
+use Rattle.alternatives.specs.Gathered.{is_plain, is_replaced, plain_at, plain_of, plain_points, replaced_at, replaced_of, replacement_points, woven}
 use Rattle.alternatives.proofs.Ascending.{In, every-each, every-filter, every-from_in, every-in, every-flat_map, every-map, every-passes, every-weaker, in_contains, contains_in, in-filter, in-flat_map, in-map, in-range, rising-filter, rising-range, sorted-flat_map, sorted-map}
 use Rattle.alternatives.proofs.Placed.{RiseBySection, rise_by_section, BeginsAt, code_rising, code_short, insn_has_text, listed_begins, begins_listed, text_has_insn}
 use Rattle.alternatives.proofs.Opened.{counts_inside, plain_or_replaced}
 use Rattle.alternatives.proofs.PointOrder.{variant_cmp, variant_total, point_total, same_point, less_from, then_off, variant_first, first_by_off, first_by_sec}
 use Rattle.alternatives.proofs.Listing.{points_are}
+use Rattle.alternatives.proofs.Merging.{plain_pass, others_pass}
 use Rattle.alternatives.proofs.Weaving.{every-woven, in-woven_plain, in-woven_other, woven-sorted}
 
 -- each point of a replacement that is gathered is one
@@ -159,3 +162,20 @@ few_plain texts =
     let whole : length (flat_map plain_of texts) ≡ sum_by (λ t. length (plain_of t)) texts = length-flat_map plain_of texts in
     let most : sum_by (λ t. length (plain_of t)) texts ≤ sum_by (λ (t : SectionText). length t.text.bytes) texts = sum_by-le-sum_by (λ t. length (plain_of t)) (λ (t : SectionText). length t.text.bytes) texts few_of in
     omega arith
+
+-- the plain ones among them, and the others
+module _ (texts : List SectionText) (entries : List AltEntry) (others : List Point) (ascend : AscendBySection texts) (moved : IsPermutation (replacement_points texts entries) others) (sorted : IsSortedBy (λ p q. is_lt (point_cmp p q)) others) where
+  plains_are : AllByRecursion (λ p. is_plain p ≡ true) (plain_points texts)
+  plains_are = every-weaker (λ (p : Point). p.variant ≡ 0) (λ p. is_plain p ≡ true) (λ p is. eq-eqb p.variant 0 is) (plain_points texts) (plain_zero texts entries (rise_by_section texts ascend))
+
+  others_are : AllByRecursion (λ p. is_plain p ≡ false) others
+  others_are = every-weaker (λ (p : Point). 0 < p.variant) (λ p. is_plain p ≡ false) (λ p is. ne_eqb p.variant 0 (λ e. omega (arith, e, is))) others (others_above texts entries (rise_by_section texts ascend) others moved sorted)
+
+  pub plain_ones : filter is_plain (woven (plain_points texts) others) ≡ plain_points texts
+  plain_ones = plain_pass is_plain (plain_points texts) others plains_are others_are
+
+  pub replaced_ones : filter is_replaced (woven (plain_points texts) others) ≡ others
+  replaced_ones =
+      others_pass is_replaced (plain_points texts) others
+      (every-weaker (λ p. is_plain p ≡ true) (λ p. is_replaced p ≡ false) (λ p is. ap not is) (plain_points texts) plains_are)
+      (every-weaker (λ p. is_plain p ≡ false) (λ p. is_replaced p ≡ true) (λ p is. ap not is) others others_are)

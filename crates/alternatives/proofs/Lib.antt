@@ -18,3 +18,4 @@ pub mod Gathering
 pub mod Numbering
 pub mod SiteEntries
 pub mod ListedInsns
+mod Merging

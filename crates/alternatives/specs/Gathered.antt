@@ -1,10 +1,10 @@
 -- The points of an object as they are gathered: the plain ones by place, with those of replacements set among them.
-use Rattle.std.specs.Prelude.{◌≡◌, ℕ, ◌+◌, List, [], ◌∷◌, map, filter, Option, Some, slice_get, if◌then◌else◌}
+use Rattle.std.specs.Prelude.{◌≡◌, ℕ, ◌+◌, ◌==◌, not, Bool, List, [], ◌∷◌, map, filter, Option, Some, slice_get, if◌then◌else◌}
 use Rattle.std.specs.List.{range_with_len, flat_map}
 use Rattle.operation_defs.specs.declared.insn.Insn.{Insn}
 use Rattle.special_sections.specs.declared.entries.AltEntry.{AltEntry}
 use Rattle.x86_text.specs.declared.placed.PlacedInsn.{PlacedInsn}
-use Rattle.x86_text.specs.Code.{code_of}
+use Rattle.x86_text.specs.Code.{code_of, insns_of}
 use Rattle.alternatives.specs.declared.texts.SectionText.{SectionText}
 use Rattle.alternatives.specs.declared.point.Point.{Point}
 use Rattle.alternatives.specs.declared.points.Listed.{Listed}
@@ -47,9 +47,24 @@ abbrev pub woven : List Point → List Point → List Point
 woven [] others = others
 woven (p ∷ plain) others = woven_at p (woven plain) others
 
+-- a point of the code as it is assembled, and one of a replacement
+abbrev pub is_plain : Point → Bool
+is_plain p = p.variant == 0
+
+abbrev pub is_replaced : Point → Bool
+is_replaced p = not (is_plain p)
+
+-- the instructions of texts, in their order
+abbrev pub plain_insns : List SectionText → List Insn
+plain_insns texts = flat_map (λ t. insns_of t.text) texts
+
+-- instructions are those that are told of points
+abbrev pub AreTold : (Point → Option Insn) → List Point → List Insn → Type 0
+AreTold told points insns = map (λ insn. Some insn) insns ≡ map told points
+
 -- the instructions of listed points are those that are told of them
 abbrev pub HaveInsns : (Point → Option Insn) → Listed → Type 0
-HaveInsns told listed = map (λ insn. Some insn) listed.insns.items ≡ map told listed.points.items
+HaveInsns told listed = AreTold told listed.points.items listed.insns.items
 
 -- of the points of a text section, its instructions are told
 abbrev pub TellsPlain : (Point → Option Insn) → SectionText → Type 0

@@ -1,11 +1,11 @@
 //! The points of an object, in their order.
 
-ghost use Rattle.std.specs.Prelude.{◌≡◌, ◌+◌, ◌*◌, ◌≤◌, ◌<◌, ◌++◌, ◌∷◌, [], ℕ, true, false, List, Option, Some, map, drop, length, slice_index_or, All, IfOk, OnOk};
+ghost use Rattle.std.specs.Prelude.{◌≡◌, ◌+◌, ◌*◌, ◌≤◌, ◌<◌, ◌++◌, ◌∷◌, [], ℕ, true, false, List, Option, Some, filter, map, drop, length, slice_index_or, All, IfOk, OnOk};
 ghost use Rattle.std.specs.List.Sorted.{IsPermutation, IsSortedBy};
 ghost use Rattle.std.specs.Ordering.{is_lt};
 ghost use Rattle.operation_defs.specs.declared.insn.Insn.{Insn};
 ghost use Rattle.alternatives.specs.declared.point.Point.{Point};
-ghost use Rattle.alternatives.specs.Gathered.{plain_of, replaced_of, replacement_points, woven, HaveInsns, TellsPlain};
+ghost use Rattle.alternatives.specs.Gathered.{is_plain, is_replaced, plain_insns, plain_of, plain_points, replaced_of, replacement_points, woven, AreTold, HaveInsns};
 ghost use Rattle.alternatives.specs.Originals.{counts as is_counted, entry_at};
 ghost use Rattle.alternatives.specs.Points.{insn_of_point as insn_of_a_point, point_cmp, points_of as points_in_order, IsPoint};
 ghost use Rattle.alternatives.specs.Sites.{is_before as is_before_place};
@@ -26,19 +26,6 @@ use std::alloc::Global;
 pub(crate) struct Listed {
     pub(crate) points: Vec<Point>,
     pub(crate) insns: Vec<Insn>,
-}
-
-impl Listed {
-    /// Adds a point.
-    #[inline(always)]
-    fn push(&mut self, point: Point, insn: Insn) -> Result<(), NoMemory>
-        ensures point { OnOk result (self.new.points.items ≡ self.old.points.items ++ point ∷ []) }
-        ensures insn { OnOk result (self.new.insns.items ≡ self.old.insns.items ++ insn ∷ []) }
-    {
-        self.points.push(point)?;
-        self.insns.push(insn)?;
-        Ok(())
-    }
 }
 
 /// Adds the points of the replacement of an entry.
@@ -134,18 +121,15 @@ fn list_replaced(
     Ok(Listed { points, insns })
 }
 
-/// No points yet, with room for the instructions of texts and so many others.
-fn room_for(alloc: Global, texts: &[SectionText<'_>], others: usize) -> Result<Listed, NoMemory>
-    ensures points { IfOk result (λ l. l.points.items ≡ []) }
-    ensures insns { IfOk result (λ l. l.insns.items ≡ []) }
+/// No points yet, with room for those of texts and so many others.
+fn room_for(alloc: Global, texts: &[SectionText<'_>], others: usize) -> Result<Vec<Point>, NoMemory>
+    ensures { IfOk result (λ points. points.items ≡ []) }
 {
     let mut count = others;
     for text in texts {
         count = count.saturating_add(text.text.count() as usize);
     }
-    let points = Vec::with_capacity(alloc, count)?;
-    let insns = Vec::with_capacity(alloc, count)?;
-    Ok(Listed { points, insns })
+    Ok(Vec::with_capacity(alloc, count)?)
 }
 
 /// Whether there is an other point of this number, at a lower place than a plain point.
@@ -162,20 +146,18 @@ fn comes_first(others: &[Point], n: usize, point: Point) -> bool
 
 /// Adds those of these points, from a number on, that come before a plain point, and tells the number of the next.
 fn push_before(
-    listed: &mut Listed,
-    replaced: &Listed,
+    points: &mut Vec<Point>,
+    others: &[Point],
     from: usize,
     point: Point,
 ) -> Result<usize, NoMemory>
-    requires within { from ≤ length replaced.now.points.items }
-    requires each { length replaced.now.insns.items ≡ length replaced.now.points.items }
-    ensures within { IfOk result (λ next. next ≤ length replaced.now.points.items) }
-    ensures points { IfOk result (λ next. (rest : List Point) → listed.new.points.items ++ point ∷ woven rest (drop next replaced.now.points.items) ≡ listed.old.points.items ++ woven (point ∷ rest) (drop from replaced.now.points.items)) }
-    ensures insns { OnOk result ((told : Point → Option Insn) → HaveInsns told replaced.now → HaveInsns told listed.old → HaveInsns told listed.new) }
+    requires { from ≤ length others.now }
+    ensures within { IfOk result (λ next. next ≤ length others.now) }
+    ensures points { IfOk result (λ next. (rest : List Point) → points.new.items ++ point ∷ woven rest (drop next others.now) ≡ points.old.items ++ woven (point ∷ rest) (drop from others.now)) }
 {
     let mut next = from;
-    while comes_first(&replaced.points, next, point) {
-        listed.push(replaced.points[next], replaced.insns[next])?;
+    while comes_first(others, next, point) {
+        points.push(others[next])?;
         next += 1;
     }
     Ok(next)
@@ -184,50 +166,88 @@ fn push_before(
 /// Adds the points of a text section, and those of these points, from a number on, that come before one of them, and tells
 /// the number of the next.
 fn push_text(
-    listed: &mut Listed,
+    points: &mut Vec<Point>,
     text: &SectionText<'_>,
-    replaced: &Listed,
+    others: &[Point],
     from: usize,
 ) -> Result<usize, NoMemory>
-    requires within { from ≤ length replaced.now.points.items }
-    requires each { length replaced.now.insns.items ≡ length replaced.now.points.items }
-    ensures within { IfOk result (λ next. next ≤ length replaced.now.points.items) }
-    ensures points { IfOk result (λ next. (rest : List Point) → listed.new.points.items ++ woven rest (drop next replaced.now.points.items) ≡ listed.old.points.items ++ woven (plain_of text.now ++ rest) (drop from replaced.now.points.items)) }
-    ensures insns { OnOk result ((told : Point → Option Insn) → TellsPlain told text.now → HaveInsns told replaced.now → HaveInsns told listed.old → HaveInsns told listed.new) }
+    requires { from ≤ length others.now }
+    ensures within { IfOk result (λ next. next ≤ length others.now) }
+    ensures points { IfOk result (λ next. (rest : List Point) → points.new.items ++ woven rest (drop next others.now) ≡ points.old.items ++ woven (plain_of text.now ++ rest) (drop from others.now)) }
 {
     let mut next = from;
-    for i in 0..text.text.count() {
-        let (off, insn) = text.text.insn(i);
+    let offsets = text.text.offsets();
+    for off in offsets {
+        let off = u64::from(*off);
         let place = Place { sec: text.sec, off };
         let point = Point { place, variant: 0 };
-        next = push_before(listed, replaced, next, point)?;
-        listed.push(point, insn)?;
+        next = push_before(points, others, next, point)?;
+        points.push(point)?;
     }
     Ok(next)
 }
 
-/// The points of an object, by place and then by variant.
+/// The points of texts, and other points among them by place and then by variant.
+fn weave_points(
+    alloc: Global,
+    texts: &[SectionText<'_>],
+    others: &[Point],
+) -> Result<Vec<Point>, NoMemory>
+    ensures { IfOk result (λ points. points.items ≡ woven (plain_points texts.now) others.now) }
+{
+    let mut points = room_for(alloc, texts, others.len())?;
+    let mut next = 0;
+    for text in texts {
+        next = push_text(&mut points, text, others, next)?;
+    }
+    for n in next..others.len() {
+        points.push(others[n])?;
+    }
+    Ok(points)
+}
+
+/// Puts the instructions of replaced points among those of the plain ones, in the order of all points: from the last on, so
+/// that none is moved before it is read.
+fn weave_insns(insns: &mut Vec<Insn>, points: &[Point], replaced: &[Insn]) -> Result<(), NoMemory>
+    requires plain { length (filter is_plain points.now) ≡ length insns.now.items }
+    requires all { length points.now ≡ length insns.now.items + length replaced.now }
+    ensures { OnOk result ((told : Point → Option Insn) → AreTold told (filter is_plain points.now) insns.old.items → AreTold told (filter is_replaced points.now) replaced.now → AreTold told points.now insns.new.items) }
+{
+    let mut plain = insns.len();
+    let mut others = replaced.len();
+    insns.extend_from_slice(replaced)?;
+    while others > 0 {
+        let n = plain + others - 1;
+        if points[n].variant == 0 {
+            plain -= 1;
+            insns[n] = insns[plain];
+        } else {
+            others -= 1;
+            insns[n] = replaced[others];
+        }
+    }
+    Ok(())
+}
+
+/// The points of an object, by place and then by variant, where the instructions of its texts are given, in their order.
 pub(crate) fn list_points(
     alloc: Global,
     texts: &[SectionText<'_>],
     entries: &[AltEntry],
+    plain: Vec<Insn>,
 ) -> Result<Listed, NoMemory>
     requires ascending { AscendBySection texts.now }
     requires short { AreShort texts.now }
     requires few { length entries.now ≤ 8388608 }
     requires near { (k : ℕ) → k < length entries.now → is_counted (entry_at entries.now k) ≡ true → (entry_at entries.now k).replacement.off ≤ 16777216 }
+    requires plain { plain.items ≡ plain_insns texts.now }
     ensures all { IfOk result (λ l. l.points.items ≡ points_in_order texts.now entries.now) }
     ensures insns { IfOk result (HaveInsns (insn_of_a_point texts.now entries.now)) }
     ensures few { IfOk result (λ l. length l.points.items ≤ text_bytes texts.now + 256 * length entries.now) }
 {
     let replaced = list_replaced(alloc, texts, entries)?;
-    let mut listed = room_for(alloc, texts, replaced.points.len())?;
-    let mut next = 0;
-    for text in texts {
-        next = push_text(&mut listed, text, &replaced, next)?;
-    }
-    for n in next..replaced.points.len() {
-        listed.push(replaced.points[n], replaced.insns[n])?;
-    }
-    Ok(listed)
+    let points = weave_points(alloc, texts, &replaced.points)?;
+    let mut insns = plain;
+    weave_insns(&mut insns, &points, &replaced.insns)?;
+    Ok(Listed { points, insns })
 }

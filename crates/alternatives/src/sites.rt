@@ -2,6 +2,7 @@
 
 ghost use Rattle.std.specs.Prelude.{◌≡◌, ◌^◌, ◌<◌, ◌≤◌, ℕ, Some, map, true, false, length, slice_get, slice_index_or, IfOk, IfErr, IfSome, OnOk, MatchOption};
 ghost use Rattle.alternatives.specs.Faults.{AreRight, IsFirstFault};
+ghost use Rattle.alternatives.specs.Gathered.{plain_insns};
 ghost use Rattle.alternatives.specs.Numbers.{IsNumberOf, IsRunOf};
 ghost use Rattle.alternatives.specs.Points.{address_of_point, entries_from, first_of, insn_of_point, point_after, points_of};
 ghost use Rattle.alternatives.specs.Sites.{holds, AreSitesOf};
@@ -55,7 +56,7 @@ impl Sites {
     /// The sites of the entries of an object's special sections, where each entry is in order.
     ///
     /// `texts` has each text section once, ascending by section; together they have at most 16,777,216
-    /// bytes. The object has at most 8,388,608 alternatives. So there are fewer than 2^32 points.
+    /// bytes. `insns` has all their instructions, in their order. The object has at most 8,388,608 alternatives. So there are fewer than 2^32 points.
     ///
     /// # Errors
     ///
@@ -65,9 +66,11 @@ impl Sites {
         alloc: Global,
         special: &Special,
         texts: &[SectionText<'_>],
+        insns: Vec<Insn>,
     ) -> Result<Sites, SiteFault>
         requires ascending { AscendBySection texts.now }
         requires bytes { text_bytes texts.now ≤ 16777216 }
+        requires insns { insns.items ≡ plain_insns texts.now }
         requires few { length special.now.alternatives ≤ 8388608 }
         ensures sites { IfOk result (λ s. AreSitesOf special.now.alternatives s.sites s.entry_numbers) }
         ensures points { IfOk result (λ s. s.points ≡ points_of texts.now special.now.alternatives) }
@@ -76,7 +79,7 @@ impl Sites {
         ensures right { OnOk result (AreRight texts.now special.now.alternatives (length special.now.alternatives)) }
         ensures err { IfErr result (IsFirstFault texts.now special.now.alternatives) }
     {
-        build_sites(alloc, special.alternatives(), texts)
+        build_sites(alloc, special.alternatives(), texts, insns)
     }
 
     /// The sites, ascending.
@@ -190,7 +193,9 @@ pub(crate) fn build_sites(
     alloc: Global,
     entries: &[AltEntry],
     texts: &[SectionText<'_>],
+    insns: Vec<Insn>,
 ) -> Result<Sites, SiteFault>
+    requires insns { insns.items ≡ plain_insns texts.now }
     requires ascending { AscendBySection texts.now }
     requires short { AreShort texts.now }
     requires bytes { text_bytes texts.now ≤ 16777216 }
@@ -208,7 +213,7 @@ pub(crate) fn build_sites(
     let sites = group_sites(alloc, originals.as_slice())?;
     let entry_numbers = numbers_of(alloc, originals.as_slice())?;
     let blocks = Blocks::of_sites(alloc, sites.as_slice())?;
-    let table = PointTable::build(alloc, texts, entries)?;
+    let table = PointTable::build(alloc, texts, entries, insns)?;
     Ok(Sites {
         sites,
         entry_numbers,

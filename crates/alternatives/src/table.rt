@@ -2,6 +2,7 @@
 
 ghost use Rattle.std.specs.Prelude.{◌≡◌, ◌^◌, ◌≤◌, ◌<◌, ℕ, Some, map, length, slice_get, IfOk, IfSome};
 ghost use Rattle.alternatives.specs.Faults.{AreRight};
+ghost use Rattle.alternatives.specs.Gathered.{plain_insns};
 ghost use Rattle.alternatives.specs.Numbers.{IsNumberOf, IsRunOf};
 ghost use Rattle.alternatives.specs.Points.{address_of_point, first_of as first_point, insn_of_point as insn_of_a_point, point_after, points_of as points_in_order};
 ghost use Rattle.alternatives.specs.Texts.{text_bytes, AreShort, AscendBySection};
@@ -37,22 +38,24 @@ impl Model for PointTable {
 }
 
 impl PointTable {
-    /// The points of an object whose entries are in order.
+    /// The points of an object whose entries are in order, where the instructions of its texts are given, in their order.
     pub(crate) fn build(
         alloc: Global,
         texts: &[SectionText<'_>],
         entries: &[AltEntry],
+        insns: Vec<Insn>,
     ) -> Result<PointTable, NoMemory>
         requires ascending { AscendBySection texts.now }
         requires short { AreShort texts.now }
         requires bytes { text_bytes texts.now ≤ 16777216 }
         requires few { length entries.now ≤ 8388608 }
         requires right { AreRight texts.now entries.now (length entries.now) }
+        requires insns { insns.items ≡ plain_insns texts.now }
         ensures points { IfOk result (λ t. t.points ≡ points_in_order texts.now entries.now) }
         ensures insns { IfOk result (λ t. map (λ insn. Some insn) t.insns ≡ map (insn_of_a_point texts.now entries.now) t.points) }
         ensures entries { IfOk result (λ t. t.entries ≡ entries.now) }
     {
-        let listed = list_points(alloc, texts, entries)?;
+        let listed = list_points(alloc, texts, entries, insns)?;
         let blocks = Blocks::of_points(alloc, listed.points.as_slice())?;
         let entries = entries.to_vec(alloc)?;
         Ok(PointTable {

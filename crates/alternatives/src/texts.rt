@@ -21,12 +21,7 @@ pub struct SectionText<'a> {
 fn is_end(text: &Text<'_>, off: u64) -> bool
     ensures { result ≡ (off == length text.now.bytes) }
 {
-    let count = text.count();
-    if count == 0 {
-        return off == 0;
-    }
-    let (last, insn) = text.insn(count - 1);
-    off >= last && off - last == u64::from(insn.len)
+    off == text.size()
 }
 
 /// Whether an instruction of a body begins at an offset, or the body ends there.
@@ -34,7 +29,7 @@ fn is_cut_of(text: &Text<'_>, off: u64) -> bool
     ensures value { result ≡ is_a_cut_of text.now off }
     ensures within { result ≡ true → off ≤ length text.now.bytes }
 {
-    is_end(text, off) || text.insn_at(off).is_some()
+    is_end(text, off) || text.is_boundary(off)
 }
 
 /// How many of these are of sections below one.

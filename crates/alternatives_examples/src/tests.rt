@@ -1,6 +1,7 @@
 //! What is built of alternatives.
 
-ghost use Rattle.std.specs.Prelude.{◌+◌, ◌≤◌, IfOk, length};
+ghost use Rattle.std.specs.Prelude.{◌≡◌, ◌+◌, ◌≤◌, [], IfOk, length};
+ghost use Rattle.alternatives.specs.Gathered.{plain_insns};
 ghost use Rattle.alternatives.specs.Texts.{text_bytes, AscendBySection};
 
 use crate::example::{Entry, file_of};
@@ -24,18 +25,21 @@ const CODE: [u8; 10] = [0x55, 0x48, 0x89, 0xE5, 0x48, 0x83, 0xEC, 0x10, 0xC9, 0x
 /// nop; nopl (%rax); nop: boundaries at 0, 1, 4, and the end at 5.
 const REPLACEMENTS: [u8; 5] = [0x90, 0x0F, 0x1F, 0x00, 0x90];
 
-/// The texts of sections 1 and 2.
+/// The texts of sections 1 and 2, whose instructions are added to an empty list.
 fn two_texts<'a>(
     alloc: Global,
     first: &'a [u8],
     second: &'a [u8],
+    insns: &mut Vec<Insn>,
 ) -> Result<Vec<SectionText<'a>>, TextFault>
-    requires { length first.now + length second.now ≤ 16777216 }
+    requires short { length first.now + length second.now ≤ 16777216 }
+    requires none { insns.now.items ≡ [] }
     ensures ascending { IfOk result (λ texts. AscendBySection texts.items) }
     ensures bytes { IfOk result (λ texts. text_bytes texts.items ≤ 16777216) }
+    ensures insns { IfOk result (λ texts. insns.new.items ≡ plain_insns texts.items) }
 {
-    let one = Text::read(alloc, Map::Base, first)?;
-    let two = Text::read(alloc, Map::Base, second)?;
+    let one = Text::read(alloc, Map::Base, first, insns)?;
+    let two = Text::read(alloc, Map::Base, second, insns)?;
     let mut texts = Vec::new(alloc);
     texts.push(SectionText { sec: 1, text: one })?;
     texts.push(SectionText { sec: 2, text: two })?;
@@ -64,8 +68,9 @@ fn sites_of(
     )?;
     let special = special_of(rt, alloc, &file);
     assert!(rt; special.alternatives().len() <= 8388608);
-    let texts = two_texts(alloc, code, replacements)?;
-    Ok(Sites::build(alloc, &special, texts.as_slice()))
+    let mut insns = Vec::new(alloc);
+    let texts = two_texts(alloc, code, replacements, &mut insns)?;
+    Ok(Sites::build(alloc, &special, texts.as_slice(), insns))
 }
 
 /// A point with what is known of it.

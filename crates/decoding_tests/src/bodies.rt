@@ -4,7 +4,7 @@ ghost use Rattle.std.specs.Prelude.{◌≤◌, length};
 use std::alloc::Global;
 use std::process::Abort;
 use std::test::Fail;
-use x86_text::{DecodeFault, Map, Text, TextFault, TextFaultText};
+use x86_text::{DecodeFault, Insn, Map, Op, Text, TextFault, TextFaultText};
 
 /// Three functions: a frame by rbp, a call, and a branch.
 const CODE: [u8; 29] = [
@@ -30,7 +30,7 @@ fn expect_boundaries(rt: &impl Abort, text: &Text<'_>, off: u64) {
 
 #[test]
 fn boundaries_of_a_body(rt: HostRuntime) -> Result<(), Fail> {
-    let text = Text::read(rt.alloc(), Map::Base, &CODE)?;
+    let text = Text::read(rt.alloc(), Map::Base, &CODE, &mut Vec::new(rt.alloc()))?;
     assert_eq!(rt; text.count(), 15);
     for off in 0u64..32 {
         expect_boundaries(&rt, &text, off);
@@ -38,54 +38,44 @@ fn boundaries_of_a_body(rt: HostRuntime) -> Result<(), Fail> {
     Ok(())
 }
 
-/// The instruction of this number begins at this offset, and has its own bytes of the body; the offset behind
-/// it.
-fn expect_instruction(rt: &impl Abort, text: &Text<'_>, i: u32, begins: u64) -> u64 {
-    assert!(rt; i < text.count());
-    let (off, insn) = text.insn(i);
+/// The instruction of this number begins at this offset, and is this one; the offset behind it.
+fn expect_instruction(rt: &impl Abort, text: &Text<'_>, i: usize, begins: u64, insn: Insn) -> u64 {
+    let off = text.offsets().get(i).copied().map(u64::from);
     assert!(rt;
-        off == begins && text.insn_at(off) == Some(insn),
-        "at {off}"
+        off == Some(begins) && text.insn_at(begins) == Some(insn),
+        "at {begins}"
     );
-    let bytes = text.bytes_of(i);
-    assert!(rt;
-        bytes.len() == usize::from(insn.len) && CODE.get(off as usize) == bytes.first(),
-        "bytes at {off}"
-    );
-    off.saturating_add(u64::from(insn.len))
+    begins.saturating_add(u64::from(insn.len))
 }
 
 #[test]
 fn instructions_of_a_body(rt: HostRuntime) -> Result<(), Fail> {
-    let text = Text::read(rt.alloc(), Map::Base, &CODE)?;
+    let mut insns = Vec::new(rt.alloc());
+    let text = Text::read(rt.alloc(), Map::Base, &CODE, &mut insns)?;
+    assert_eq!(rt; insns.len(), OFFSETS.len());
     let mut end = 0;
-    for (i, off) in OFFSETS.iter().enumerate() {
-        assert_eq!(rt; *off, end);
-        end = expect_instruction(&rt, &text, i as u32, *off);
+    for (i, insn) in insns.iter().enumerate() {
+        let off = OFFSETS.get(i).copied();
+        assert_eq!(rt; off, Some(end));
+        end = expect_instruction(&rt, &text, i, end, *insn);
     }
     assert_eq!(rt; end, 29);
+    assert_eq!(rt; text.size(), 29);
     Ok(())
 }
 
-/// The bytes of the first instruction of a body.
-fn first_bytes<'a>(alloc: Global, body: &'a [u8]) -> Result<Option<&'a [u8]>, TextFault>
-    requires { length body.now ≤ 16_777_216 }
-{
-    let text = Text::read(alloc, Map::Base, body)?;
-    Ok(if text.count() == 0 {
-        None
-    } else {
-        Some(text.bytes_of(0))
-    })
-}
-
+// A jump by the table at an address, and one through a register.
 #[test]
-fn bytes_outlive_the_text(rt: HostRuntime) -> Result<(), Fail> {
-    let Some(bytes) = first_bytes(rt.alloc(), &CODE[1..])? else {
-        return Err(Fail::from("no instruction"));
-    };
-    assert!(rt; bytes == [0x48u8, 0x89, 0xE5].as_slice());
-    assert!(rt; first_bytes(rt.alloc(), &[])?.is_none());
+fn jumps_by_a_table(rt: HostRuntime) -> Result<(), Fail> {
+    let body = [0x90u8, 0xFF, 0x24, 0xC5, 0, 0, 0, 0, 0xFF, 0xE0];
+    let text = Text::read(rt.alloc(), Map::Base, &body, &mut Vec::new(rt.alloc()))?;
+    assert_eq!(rt; text.count(), 3);
+    let jumps = text.table_jumps();
+    assert_eq!(rt; jumps.len(), 1);
+    let table = Some(3);
+    let op = Op::JmpInd { table };
+    let jump = jumps.first().map(|placed| (placed.off, placed.insn.op));
+    assert!(rt; jump == Some((1, op)));
     Ok(())
 }
 
@@ -93,7 +83,7 @@ fn bytes_outlive_the_text(rt: HostRuntime) -> Result<(), Fail> {
 fn fault_of(alloc: Global, body: &[u8]) -> Result<Option<(u64, DecodeFault)>, TextFault>
     requires { length body.now ≤ 16_777_216 }
 {
-    match Text::read(alloc, Map::Base, body) {
+    match Text::read(alloc, Map::Base, body, &mut Vec::new(alloc)) {
         Err(TextFault::At { off, why }) => Ok(Some((off, why))),
         Err(TextFault::NoMemory) => Err(TextFault::NoMemory),
         Ok(_) => Ok(None),

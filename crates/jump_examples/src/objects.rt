@@ -105,8 +105,9 @@ fn texts<'a>(
     requires replacements { length replacements.now ≤ 16777216 }
     ensures { IfOk result (λ texts. AscendBySection texts.items) }
 {
-    let one = Text::read(alloc, Map::Base, code)?;
-    let two = Text::read(alloc, Map::Base, replacements)?;
+    let mut insns = Vec::new(alloc);
+    let one = Text::read(alloc, Map::Base, code, &mut insns)?;
+    let two = Text::read(alloc, Map::Base, replacements, &mut insns)?;
     let mut texts = Vec::new(alloc);
     texts.push(SectionText { sec: 1, text: one })?;
     texts.push(SectionText { sec: 3, text: two })?;

@@ -1,5 +1,7 @@
 -- The jumps of all texts, and the one at a place.
-use Rattle.std.proofs.Common.{◌≡◌, ◌≢◌, ℕ, suc, ◌+◌, ◌<◌, Bool, true, false, cond, eqb, ◌&&◌, List, [], ◌∷◌, ◌++◌, length, take, get_or, map, find, Option, Some, None, option_map, option_and_then, arith, refl, ap, ◌∙◌}
+use Rattle.std.proofs.Common.{◌≡◌, ◌≢◌, ℕ, suc, ◌+◌, ◌<◌, ◌⊎◌, inl, inr, Bool, true, false, cond, eqb, ◌&&◌, List, [], ◌∷◌, ◌++◌, length, take, get_or, map, find, Option, Some, None, option_map, option_and_then, arith, refl, sym, ap, ◌∙◌}
+use Rattle.std.specs.Prelude.{filter}
+use Rattle.operation_defs.specs.declared.op.Op.{Op}
 use Rattle.std.specs.List.{cons_option, slice_get}
 use Rattle.std.specs.Option.{option_or}
 use Rattle.std.proofs.lemmas.Bool.{eqb-true, eqb-false}
@@ -12,7 +14,7 @@ use Rattle.std.proofs.lemmas.Option.{get_or_from_slice_get, slice_get_within}
 use Rattle.ot_base.specs.declared.place.Place.{Place}
 use Rattle.operation_defs.specs.declared.insn.Insn.{Insn}
 use Rattle.x86_text.specs.declared.placed.PlacedInsn.{PlacedInsn}
-use Rattle.x86_text.specs.Code.{code_of, insn_listed}
+use Rattle.x86_text.specs.Code.{code_of, insn_listed, is_table_jump}
 use Rattle.elf_objects.specs.Elf.{Elf}
 use Rattle.symbols_relocs.specs.Places.{same_place}
 use Rattle.alternatives.specs.declared.texts.SectionText.{SectionText}
@@ -133,6 +135,29 @@ pub more : (o : Elf) (sec : ℕ) (code : List PlacedInsn) (i : ℕ) (p : PlacedI
 more o sec code i p j here some =
     one_more o sec code i p here
     ∙ ap (λ k. jumps_among o sec (take i code) ++ cons_option k []) some
+
+-- an operation that jumps by no table names none
+no_table : (o : Elf) (place : Place) (op : Op) → is_table_jump op ≡ false → table_by o place op ≡ None
+no_table o place op is = grind (arith, is)
+
+bool_cases : (b : Bool) → (b ≡ true) ⊎ (b ≡ false)
+bool_cases true = inl refl
+bool_cases false = inr refl
+
+-- no other instruction is a jump by a table
+pub those_of_tables : (o : Elf) (sec : ℕ) (code : List PlacedInsn) → jumps_among o sec (filter (λ p. is_table_jump p.insn.op) code) ≡ jumps_among o sec code
+those_of_tables o sec [] = refl
+those_of_tables o sec (p ∷ code) =
+    let rest : List PlacedInsn = filter (λ (q : PlacedInsn). is_table_jump q.insn.op) code in
+    elim (bool_cases (is_table_jump p.insn.op)) [
+      | inl is ↦
+          ap (λ b. jumps_among o sec (cond b (p ∷ rest) rest)) is
+          ∙ ap (λ js. cons_option (jump_by o (placed sec p) p.insn) js) (those_of_tables o sec code)
+      | inr is ↦
+          ap (λ b. jumps_among o sec (cond b (p ∷ rest) rest)) is
+          ∙ those_of_tables o sec code
+          ∙ ap (λ t. cons_option (option_map (jump (placed sec p)) t) (jumps_among o sec code)) (sym (no_table o (placed sec p) p.insn.op is))
+    ]
 
 tables_cons : (here : Place) (table : Option Place) (rest : List Jump) → map (λ (j : Jump). j.table) (cons_option (option_map (jump here) table) rest) ≡ cons_option table (map (λ (j : Jump). j.table) rest)
 tables_cons here None rest = refl

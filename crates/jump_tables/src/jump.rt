@@ -41,10 +41,11 @@ fn add_jumps(
     ensures added { OnOk result (jumps.new.items ≡ jumps.old.items ++ jumps_among index.now.elf text.now.sec (code_of text.now.text)) }
     ensures ascending { OnOk result (IsAscending (code_of text.now.text)) }
 {
-    for i in 0..text.text.count() {
-        let (off, insn) = text.text.insn(i);
+    let table_jumps = text.text.table_jumps();
+    for placed in table_jumps {
+        let off = placed.off;
         let place = Place { sec: text.sec, off };
-        let Some(jump) = jump_at(index, place, insn) else {
+        let Some(jump) = jump_at(index, place, placed.insn) else {
             continue;
         };
         jumps.push(jump)?;

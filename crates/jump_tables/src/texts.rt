@@ -3,10 +3,9 @@
 ghost use Rattle.std.specs.Prelude.{◌≡◌, ◌<◌, ◌≤◌, ◌==◌, ℕ, find, length, slice_index_or};
 ghost use Rattle.alternatives.specs.Texts.{AscendBySection};
 ghost use Rattle.alternatives.specs.declared.texts.SectionText.{SectionText};
-ghost use Rattle.jump_tables.specs.Texts.{insn_at as insn_found, is_boundary as is_a_boundary};
+ghost use Rattle.jump_tables.specs.Texts.{is_boundary as is_a_boundary};
 
 use alternatives::SectionText;
-use operation_defs::Insn;
 use ot_base::Place;
 
 /// How many of these are of sections below one.
@@ -19,26 +18,18 @@ fn count_below(texts: &[SectionText<'_>], sec: u32) -> usize
     texts.partition_point(|text| text.sec < sec)
 }
 
-/// The instruction that begins at a place.
-pub(crate) fn insn_at(texts: &[SectionText<'_>], place: Place) -> Option<Insn>
-    requires { AscendBySection texts.now }
-    ensures { result ≡ insn_found texts.now place }
-{
-    let at = count_below(texts, place.sec);
-    if at >= texts.len() {
-        return None;
-    }
-    let text = &texts[at];
-    if text.sec != place.sec {
-        return None;
-    }
-    text.text.insn_at(place.off)
-}
-
 /// Whether an instruction begins at a place.
 pub(crate) fn is_boundary(texts: &[SectionText<'_>], place: Place) -> bool
     requires { AscendBySection texts.now }
     ensures { result ≡ is_a_boundary texts.now place }
 {
-    insn_at(texts, place).is_some()
+    let at = count_below(texts, place.sec);
+    if at >= texts.len() {
+        return false;
+    }
+    let text = &texts[at];
+    if text.sec != place.sec {
+        return false;
+    }
+    text.text.is_boundary(place.off)
 }

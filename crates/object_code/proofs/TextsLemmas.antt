@@ -4,6 +4,7 @@ use Rattle.std.specs.Prelude.{◌≢◌, filter, map, if◌then◌else◌}
 use Rattle.std.specs.List.{AllByRecursion, range_with_len, sum_by}
 use Rattle.std.proofs.lemmas.Bool.{cases_lt}
 use Rattle.std.proofs.lemmas.Bool.Decides.{nat_tests}
+use Rattle.std.proofs.lemmas.Grind.{flat_map-append}
 use Rattle.std.proofs.lemmas.List.{map-append}
 use Rattle.std.proofs.lemmas.List.Elements.{All-from_recursion, filter-append}
 use Rattle.std.proofs.lemmas.List.FromFn.{get_or-map-range_with_len, length-map-range_with_len}
@@ -25,7 +26,8 @@ use Rattle.special_law.specs.Laws.{AlternativesAreFew}
 use Rattle.alternatives.specs.declared.texts.SectionText.{SectionText}
 use Rattle.alternatives.specs.Texts.{AscendBySection}
 use Rattle.alternatives.proofs.Ascending.{Rising, every-map, every-range, every-weaker, rising-filter, rising-range}
-use Rattle.x86_text.specs.Code.{IsCode}
+use Rattle.x86_text.specs.Code.{IsCode, insns_of}
+use Rattle.alternatives.specs.Gathered.{plain_insns}
 use Rattle.flow_defs.specs.Code.{body_of, text_numbers, texts_of}
 use Rattle.object_code.specs.Linked.{AreCode}
 
@@ -61,6 +63,13 @@ text_below o n text =
     let p = λ (i : ℕ). is_text (section_at o.elf i) in
     ap (map (text_in o)) (passing_more p n text)
     ∙ map-append (text_in o) (filter p (range_with_len 0 n)) (n ∷ [])
+
+-- and their instructions
+pub insns_below : (o : Coded) (n : ℕ) → is_text (section_at o.elf n) ≡ true → plain_insns (texts_below o (n + 1)) ≡ plain_insns (texts_below o n) ++ insns_of (body_of o n)
+insns_below o n text =
+    ap plain_insns (text_below o n text)
+    ∙ flat_map-append (λ (t : SectionText). insns_of t.text) (texts_below o n) (text_in o n ∷ [])
+    ∙ ap (λ is. plain_insns (texts_below o n) ++ is) (append-nil (insns_of (body_of o n)))
 
 pub other_below : (o : Coded) (n : ℕ) → is_text (section_at o.elf n) ≡ false → texts_below o (n + 1) ≡ texts_below o n
 other_below o n other =

@@ -10,7 +10,7 @@ ghost use Rattle.flow_defs.specs.Coded.{coded_by};
 ghost use Rattle.object_code.specs.Linked.{IsLinked, IsLinkFault};
 
 use crate::fault::LinkFault;
-use crate::texts::read_texts;
+use crate::texts::{ObjectTexts, read_texts};
 use alternatives::{SectionText, Sites};
 use elf_objects::Object;
 use special_law::alternatives_are_few;
@@ -60,10 +60,10 @@ impl<'o, 'a> Linked<'o, 'a> {
         ensures err { IfErr result (IsLinkFault (coded_by map object.now)) }
     {
         alternatives_are_few();
-        let texts = read_texts(alloc, map, object)?;
+        let ObjectTexts { texts, insns } = read_texts(alloc, map, object)?;
         let special = Special::read(alloc, object)?;
         let index = Index::build(alloc, object)?;
-        let sites = Sites::build(alloc, &special, &texts)?;
+        let sites = Sites::build(alloc, &special, &texts, insns)?;
         Ok(Linked {
             map,
             texts,

@@ -1,6 +1,8 @@
 -- The instructions of a body of code, without gaps from its first byte on.
-use Rattle.std.specs.Prelude.{◌≡◌, ℕ, zero, suc, ◌+◌, ◌-◌, ◌<◌, ◌≤◌, ◌==◌, List, [], ◌∷◌, length, map, drop, Option, Some, None, Result, Ok, Err, if◌then◌else◌}
+use Rattle.std.specs.Prelude.{◌≡◌, ℕ, zero, suc, ◌+◌, ◌-◌, ◌<◌, ◌≤◌, ◌==◌, Bool, true, false, List, [], ◌∷◌, length, map, filter, drop, Option, Some, None, Result, Ok, Err, if◌then◌else◌}
 use Rattle.operation_defs.specs.declared.insn.Insn.{Insn}
+use Rattle.operation_defs.specs.declared.op.Op.{Op}
+use Rattle.operation_defs.specs.declared.op.Op.TheVariants.{JmpInd}
 use Rattle.x86_map.specs.declared.map.Map.{Map}
 use Rattle.x86_decode.specs.declared.DecodeFault.{DecodeFault}
 use Rattle.x86_decode.specs.Decoding.{StandsInFront, decoded}
@@ -43,6 +45,19 @@ code_of body = code_from body.map 0 0 body.bytes
 -- their offsets
 abbrev pub offsets_of : Body → List ℕ
 offsets_of body = map (λ p. p.off) (code_of body)
+
+-- these instructions without their offsets
+abbrev pub insns_of : Body → List Insn
+insns_of body = map (λ p. p.insn) (code_of body)
+
+-- an operation jumps by a table
+abbrev pub is_table_jump : Op → Bool
+is_table_jump (JmpInd (Some table)) = true
+is_table_jump op = false
+
+-- the instructions that jump by a table
+abbrev pub table_jumps_of : Body → List PlacedInsn
+table_jumps_of body = filter (λ p. is_table_jump p.insn.op) (code_of body)
 
 -- the instruction at an offset among these
 abbrev pub insn_listed : List PlacedInsn → ℕ → Option Insn

@@ -4,7 +4,7 @@ use Rattle.std.specs.List.Sorted.{IsNonDecreasingBy}
 use Rattle.operation_defs.specs.declared.insn.Insn.{Insn}
 use Rattle.x86_decode.specs.Decoding.{StandsInFront}
 use Rattle.x86_text.specs.declared.placed.PlacedInsn.{PlacedInsn}
-use Rattle.x86_text.specs.Code.{Body, IsBoundary, LeadsTo, code_of}
+use Rattle.x86_text.specs.Code.{Body, IsBoundary, LeadsTo, code_of, offsets_of, table_jumps_of}
 
 -- the instruction stands there, and no other one does
 pub record StandsIn (body : Body) (p : PlacedInsn) : Type 0 where
@@ -21,3 +21,9 @@ pub record IsListing (body : Body) (code : List PlacedInsn) : Type 0 where
   pub some : All (λ p. 0 < p.insn.len) code
   pub ascending : IsNonDecreasingBy (λ p. p.off) code
   pub few : length code < 2 ^ 32
+
+-- what is kept of them: where they begin, and those that jump by a table
+pub record IsKept (body : Body) (offsets : List ℕ) (jumps : List PlacedInsn) : Type 0 where
+  pub listing : IsListing body (code_of body)
+  pub all_offsets : offsets ≡ offsets_of body
+  pub all_jumps : jumps ≡ table_jumps_of body

@@ -1,54 +1,63 @@
-ghost use Rattle.std.specs.Prelude.{◌≡◌, ◌+◌, ◌<◌, ◌≤◌, ◌↔◌, ℕ, All, length, drop, slice_get, slice_index_or, slice_range, Contains, IfOk, IfErr, OnOk, IfSome, IfNone, MatchOption};
+ghost use Rattle.std.specs.Prelude.{◌≡◌, ◌++◌, ◌+◌, ◌<◌, ◌≤◌, ◌↔◌, ℕ, true, All, [], ◌∷◌, length, drop, filter, slice_get, slice_index_or, Contains, is_some, IfOk, IfErr, OnOk, IfSome, IfNone, MatchBool, MatchOption};
 ghost use Rattle.std.specs.List.Sorted.{IsNonDecreasingBy};
 ghost use Rattle.x86_decode.specs.Decoding.{StandsInFront};
-ghost use Rattle.x86_text.specs.Code.{read_by, code_of, insn_listed, offsets_of, IsBoundary, IsCode, IsNextBoundary, IsPreviousBoundary, LeadsTo};
-ghost use Rattle.x86_text.specs.declared.placed.PlacedInsn.{PlacedInsn};
+ghost use Rattle.x86_text.specs.Code.{is_table_jump as is_a_table_jump, read_by, code_of, insn_listed, insns_of, offsets_of, table_jumps_of, IsBoundary, IsCode, IsNextBoundary, IsPreviousBoundary, LeadsTo};
 ghost use Rattle.x86_text.specs.Refused.{IsTextFault};
+ghost use Rattle.x86_text.specs.declared.fault.TextFault.TheVariants.{NoMemory};
 
 use crate::fault::TextFault;
 use crate::placed::PlacedInsn;
-use operation_defs::Insn;
+use operation_defs::{Insn, Op};
 use std::alloc::Global;
 use std::marker::Model;
 use x86_decode::{Map, decode};
 
-/// A body of code, with its instructions by an opcode map. Contracts see it as the body and the map.
+/// A body of code, with the offsets of its instructions by an opcode map. Contracts see it as the body and the map.
 #[derive(Drop)]
 pub struct Text<'a> {
     map: Map,
     body: &'a [u8],
-    code: Vec<PlacedInsn>,
+    /// Where its instructions begin, in bytes from the body's start.
+    offsets: Vec<u32>,
+    /// Those of its instructions that jump by a table.
+    table_jumps: Vec<PlacedInsn>,
 }
 
 impl<'a> Model for Text<'a> {
     ghost use Rattle.x86_text.specs.Code.{Body, read_by};
-    ghost use Rattle.x86_text.specs.Listed.{IsListing};
+    ghost use Rattle.x86_text.specs.Listed.{IsKept};
 
     ghost Value = { Body };
 
     ghost view = { λ t. read_by t.map t.body.now };
 
-    ghost invariant = { λ t. IsListing (read_by t.map t.body.now) t.code.items };
+    ghost invariant = { λ t. IsKept (read_by t.map t.body.now) t.offsets.items t.table_jumps.items };
 }
 
 impl<'a> Text<'a> {
-    /// Reads a body of at most 16,777,216 bytes by an opcode map, from its first byte on without gaps.
-    pub fn read(alloc: Global, map: Map, body: &'a [u8]) -> Result<Text<'a>, TextFault>
+    /// Reads a body of at most 16,777,216 bytes by an opcode map, from its first byte on without gaps, and adds its
+    /// instructions to a list. It keeps none of them but those that jump by a table.
+    pub fn read(
+        alloc: Global,
+        map: Map,
+        body: &'a [u8],
+        insns: &mut Vec<Insn>,
+    ) -> Result<Text<'a>, TextFault>
         requires { length body.now ≤ 16_777_216 }
         ensures ok { IfOk result (λ text. text ≡ read_by map body.now) }
         ensures code { OnOk result (IsCode (read_by map body.now)) }
+        ensures insns { OnOk result (insns.new.items ≡ insns.old.items ++ insns_of (read_by map body.now)) }
         ensures fault { IfErr result (IsTextFault (read_by map body.now)) }
     {
-        let mut code = Vec::new(alloc);
+        let mut offsets = Vec::new(alloc);
+        let mut table_jumps = Vec::new(alloc);
         let mut off = 0usize;
         while off < body.len() {
             match decode(map, &body[off..]) {
                 Ok(insn) => {
-                    let placed = PlacedInsn {
-                        off: off as u64,
-                        insn,
-                    };
-                    code.push(placed)?;
+                    offsets.push(off as u32)?;
+                    push_table_jump(&mut table_jumps, off as u64, insn)?;
+                    insns.push(insn)?;
                     off += insn.len as usize;
                 }
                 Err(why) => {
@@ -57,7 +66,19 @@ impl<'a> Text<'a> {
                 }
             }
         }
-        Ok(Text { map, body, code })
+        Ok(Text {
+            map,
+            body,
+            offsets,
+            table_jumps,
+        })
+    }
+
+    /// How many bytes it has.
+    pub fn size(&self) -> u64
+        ensures { result ≡ length self.now.bytes }
+    {
+        self.body.len() as u64
     }
 
     /// How many instructions it has.
@@ -70,17 +91,35 @@ impl<'a> Text<'a> {
         ensures some { All (λ p. 0 < p.insn.len) (code_of self.now) }
         ensures whole { LeadsTo 0 (code_of self.now) (length self.now.bytes) }
     {
-        self.code.len() as u32
+        self.offsets.len() as u32
     }
 
-    /// The instruction with this number, and its offset.
-    pub fn insn(&self, i: u32) -> (u64, Insn)
-        requires { i < length (code_of self.now) }
-        ensures listed { slice_get (code_of self.now) i ≡ Some (record { off = result.0; insn = result.1 }) }
-        ensures stands { StandsInFront self.now.map (drop result.0 self.now.bytes) result.1 }
+    /// Where its instructions begin, ascending.
+    pub fn offsets(&self) -> &[u32]
+        ensures { result.now ≡ offsets_of self.now }
     {
-        let PlacedInsn { off, insn } = self.code[i as usize];
-        (off, insn)
+        &self.offsets
+    }
+
+    /// Those of its instructions that jump by a table, in their order.
+    pub fn table_jumps(&self) -> &[PlacedInsn]
+        ensures jumps { result.now ≡ table_jumps_of self.now }
+        // All its instructions have a byte each at least, and fill the body from its first byte to its last.
+        ensures some { All (λ p. 0 < p.insn.len) (code_of self.now) }
+        ensures whole { LeadsTo 0 (code_of self.now) (length self.now.bytes) }
+    {
+        &self.table_jumps
+    }
+
+    /// Whether an instruction begins at this offset.
+    pub fn is_boundary(&self, off: u64) -> bool
+        ensures value { result ≡ is_some (insn_listed (code_of self.now) off) }
+        ensures boundary { MatchBool result (IsBoundary self.now off) (IsBoundary self.now off → ⊥) }
+        ensures within { result ≡ true → off < length self.now.bytes }
+    {
+        let offsets = self.offsets.as_slice();
+        let place = count_below(offsets, off);
+        place < offsets.len() && u64::from(offsets[place]) == off
     }
 
     /// The instruction that begins at this offset.
@@ -89,33 +128,20 @@ impl<'a> Text<'a> {
         ensures found { IfSome result (λ insn. IsBoundary self.now off × StandsInFront self.now.map (drop off self.now.bytes) insn) }
         ensures absent { IfNone result (IsBoundary self.now off → ⊥) }
     {
-        let code = self.code.as_slice();
-        let place = count_below(code, off);
-        if place < code.len() && code[place].off == off {
-            Some(code[place].insn)
-        } else {
-            None
+        if !self.is_boundary(off) {
+            return None;
         }
-    }
-
-    /// The bytes of the instruction with this number.
-    pub fn bytes_of(&self, i: u32) -> &'a [u8]
-        requires { i < length (code_of self.now) }
-        ensures { IfSome (slice_get (code_of self.now) i) (λ p. result.now ≡ slice_range self.now.bytes p.off (p.off + p.insn.len)) }
-    {
-        let PlacedInsn { off, insn } = self.code[i as usize];
-        let start = off as usize;
-        &self.body[start..start + insn.len as usize]
+        decode(self.map, &self.body[off as usize..]).ok()
     }
 
     /// The least offset above this one at which an instruction begins.
     pub fn next(&self, off: u64) -> Option<u64>
         ensures { MatchOption result ((b : ℕ) → IsBoundary self.now b → b ≤ off) (IsNextBoundary self.now off) }
     {
-        let code = self.code.as_slice();
-        let place = count_to(code, off);
-        if place < code.len() {
-            Some(code[place].off)
+        let offsets = self.offsets.as_slice();
+        let place = count_to(offsets, off);
+        if place < offsets.len() {
+            Some(u64::from(offsets[place]))
         } else {
             None
         }
@@ -125,32 +151,50 @@ impl<'a> Text<'a> {
     pub fn prev(&self, off: u64) -> Option<u64>
         ensures { MatchOption result ((b : ℕ) → IsBoundary self.now b → off ≤ b) (IsPreviousBoundary self.now off) }
     {
-        let code = self.code.as_slice();
-        let place = count_below(code, off);
+        let offsets = self.offsets.as_slice();
+        let place = count_below(offsets, off);
         if place > 0 {
-            Some(code[place - 1].off)
+            Some(u64::from(offsets[place - 1]))
         } else {
             None
         }
     }
 }
 
-/// How many of these begin below an offset.
-fn count_below(code: &[PlacedInsn], off: u64) -> usize
-    requires { IsNonDecreasingBy (λ p. p.off) code.now }
-    ensures within { result ≤ length code.now }
-    ensures below { (k : ℕ) (d : PlacedInsn) → k < result → (slice_index_or code.now k d).off < off }
-    ensures above { (k : ℕ) (d : PlacedInsn) → result ≤ k → k < length code.now → off ≤ (slice_index_or code.now k d).off }
+/// Whether an operation jumps by a table.
+fn is_table_jump(op: Op) -> bool
+    ensures { result ≡ is_a_table_jump op }
 {
-    code.partition_point(|placed| placed.off < off)
+    matches!(op, Op::JmpInd { table: Some(_) })
 }
 
-/// How many of these begin at an offset or below.
-fn count_to(code: &[PlacedInsn], off: u64) -> usize
-    requires { IsNonDecreasingBy (λ p. p.off) code.now }
-    ensures within { result ≤ length code.now }
-    ensures below { (k : ℕ) (d : PlacedInsn) → k < result → (slice_index_or code.now k d).off ≤ off }
-    ensures above { (k : ℕ) (d : PlacedInsn) → result ≤ k → k < length code.now → off < (slice_index_or code.now k d).off }
+/// Adds the instruction at an offset where it jumps by a table.
+fn push_table_jump(jumps: &mut Vec<PlacedInsn>, off: u64, insn: Insn) -> Result<(), TextFault>
+    ensures added { OnOk result (jumps.new.items ≡ jumps.old.items ++ filter (λ p. is_a_table_jump p.insn.op) (record { off = off; insn = insn } ∷ [])) }
+    ensures fault { IfErr result (λ fault. fault ≡ NoMemory) }
 {
-    code.partition_point(|placed| placed.off <= off)
+    if is_table_jump(insn.op) {
+        jumps.push(PlacedInsn { off, insn })?;
+    }
+    Ok(())
+}
+
+/// How many of these are below an offset.
+fn count_below(offsets: &[u32], off: u64) -> usize
+    requires { IsNonDecreasingBy (λ o. o) offsets.now }
+    ensures within { result ≤ length offsets.now }
+    ensures below { (k : ℕ) (d : ℕ) → k < result → slice_index_or offsets.now k d < off }
+    ensures above { (k : ℕ) (d : ℕ) → result ≤ k → k < length offsets.now → off ≤ slice_index_or offsets.now k d }
+{
+    offsets.partition_point(|begin| u64::from(*begin) < off)
+}
+
+/// How many of these are an offset or below it.
+fn count_to(offsets: &[u32], off: u64) -> usize
+    requires { IsNonDecreasingBy (λ o. o) offsets.now }
+    ensures within { result ≤ length offsets.now }
+    ensures below { (k : ℕ) (d : ℕ) → k < result → slice_index_or offsets.now k d ≤ off }
+    ensures above { (k : ℕ) (d : ℕ) → result ≤ k → k < length offsets.now → off < slice_index_or offsets.now k d }
+{
+    offsets.partition_point(|begin| u64::from(*begin) <= off)
 }

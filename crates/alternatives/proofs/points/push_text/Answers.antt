@@ -1,42 +1,41 @@
-use Rattle.std.proofs.Common.{◌≡◌, ◌+◌, ◌<◌, ◌≤◌, ◌++◌, ◌∷◌, [], ℕ, List, Some, map, drop, length, get_or, sym, ap, ◌∙◌, arith, append_assoc}
-use Rattle.std.proofs.lemmas.Option.{get_or_from_slice_get, slice_get_within}
-use Rattle.operation_defs.specs.declared.insn.Insn.{Insn}
-use Rattle.x86_text.specs.declared.placed.PlacedInsn.{PlacedInsn}
-use Rattle.x86_text.specs.Code.{code_of}
+use Rattle.std.proofs.Common.{◌≡◌, ◌+◌, ◌<◌, ◌≤◌, ◌++◌, ◌∷◌, [], ℕ, List, map, drop, length, get_or, sym, ap, ◌∙◌, arith, append_assoc}
+use Rattle.std.proofs.lemmas.List.{get_or_default}
+use Rattle.x86_text.specs.Code.{code_of, offsets_of}
 use Rattle.alternatives.specs.declared.point.Point.{Point}
-use Rattle.alternatives.specs.Gathered.{plain_at, woven}
-use Rattle.alternatives.proofs.Weaving.{all_dropped, dropped, one_more}
+use Rattle.alternatives.specs.Gathered.{woven}
+use Rattle.alternatives.proofs.Merging.{plain_begin, plain_begins}
+use Rattle.alternatives.proofs.Weaving.{all_dropped, dropped}
 use Rattle.alternatives.proofs.points.push_text.Goals as goal
 
-pub loop-i-preserved : goal.loop-i-preserved
-loop-i-preserved c =
-    let code : List PlacedInsn = code_of c.args.text.now.text in
+pub loop-off-init : goal.loop-off-init
+loop-off-init c = record {
+  within = c.requires;
+  points = λ rest. ap (λ ps. c.args.points.now.items ++ woven (ps ++ rest) (drop c.args.from c.args.others.now)) (plain_begins c.args.text.now.sec (code_of c.args.text.now.text));
+}
+
+pub loop-off-preserved : goal.loop-off-preserved
+loop-off-preserved c =
     let sec : ℕ = c.args.text.now.sec in
-    let others : List Point = c.args.replaced.now.points.items in
-    let i : ℕ = c.loop-i.i in
-    let p : PlacedInsn = record { off = c.insn-off.result.0; insn = c.insn-off.result.1 } in
-    let next : ℕ = c.in_ok-next.next in
-    let inside : i < length code = slice_get_within code i p c.insn-off.ensures.listed in
-    let is : p ≡ get_or code i p = sym (get_or_from_slice_get code i p p c.insn-off.ensures.listed) in
-    let left : List Point = map (plain_at sec) (drop (i + 1) code) in
-    let added : List Point = c.push_before.new.listed.points.items in
+    let offsets : List ℕ = offsets_of c.args.text.now.text in
+    let k : ℕ = c.loop-off.off-index in
+    let off : ℕ = c.from-off.result in
+    let same : c.offsets-offsets.result.now ≡ offsets = c.offsets-offsets.ensures in
+    let inside : k < length offsets = omega (arith, c.loop-off-test.true, ap (λ (os : List ℕ). length os) same) in
+    let is : off ≡ get_or offsets k off = c.from-off.ensures ∙ ap (λ os. get_or os k 0) same ∙ get_or_default offsets k 0 off inside in
     record {
       within = c.in_ok-next.ensures.within;
       points = λ rest.
-          ap (λ xs. xs ++ woven (left ++ rest) (drop next others)) c.in_ok-push.ensures.point
-          ∙ append_assoc added (plain_at sec p ∷ []) (woven (left ++ rest) (drop next others))
+          let left : List Point = map (plain_begin sec) (drop (k + 1) offsets) in
+          ap (λ ps. ps ++ woven (left ++ rest) (drop c.in_ok-next.next c.args.others.now)) c.in_ok-push.ensures.items
+          ∙ append_assoc c.push_before.new.points.items (plain_begin sec off ∷ []) (woven (left ++ rest) (drop c.in_ok-next.next c.args.others.now))
           ∙ c.in_ok-next.ensures.points (left ++ rest)
-          ∙ ap (λ xs. c.loop-i.listed.points.items ++ woven (map (plain_at sec) xs ++ rest) (drop c.loop-i.next others)) (sym (dropped code i p inside is))
-          ∙ c.loop-i.invariant.points rest;
-      insns = λ told plain same old.
-          ap (map (λ (insn : Insn). Some insn)) c.in_ok-push.ensures.insn
-          ∙ one_more told added c.push_before.new.listed.insns.items (plain_at sec p) p.insn (c.in_ok-next.ensures.insns told same (c.loop-i.invariant.insns told plain same old)) (plain i p c.insn-off.ensures.listed)
-          ∙ sym (ap (map told) c.in_ok-push.ensures.point);
+          ∙ ap (λ os. c.loop-off.points.items ++ woven (map (plain_begin sec) os ++ rest) (drop c.loop-off.next c.args.others.now)) (sym (dropped offsets k off inside is))
+          ∙ c.loop-off.invariant.points rest;
     }
 
 pub returns-clause-points : goal.returns-clause-points
 returns-clause-points c = λ rest.
-    let code : List PlacedInsn = code_of c.args.text.now.text in
-    let past : length code ≤ c.loop-i.i = omega (arith, c.loop-i-test.false, c.count-i-end.ensures.count) in
-    ap (λ xs. c.loop-i.listed.points.items ++ woven (map (plain_at c.args.text.now.sec) xs ++ rest) (drop c.loop-i.next c.args.replaced.now.points.items)) (sym (all_dropped code c.loop-i.i past))
-    ∙ c.loop-i.invariant.points rest
+    let offsets : List ℕ = offsets_of c.args.text.now.text in
+    let past : length offsets ≤ c.loop-off.off-index = omega (arith, c.loop-off-test.false, ap (λ (os : List ℕ). length os) c.offsets-offsets.ensures) in
+    ap (λ os. c.loop-off.points.items ++ woven (map (plain_begin c.args.text.now.sec) os ++ rest) (drop c.loop-off.next c.args.others.now)) (sym (all_dropped offsets c.loop-off.off-index past))
+    ∙ c.loop-off.invariant.points rest

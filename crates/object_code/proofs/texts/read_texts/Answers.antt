@@ -3,10 +3,11 @@ use Rattle.std.proofs.lemmas.Bool.{false≢true}
 use Rattle.std.proofs.lemmas.Result.{err_from_is_err_and}
 use Rattle.flow_defs.specs.Coded.{Coded, coded_by}
 use Rattle.elf_objects.specs.Contents.{is_text, section_at}
-use Rattle.x86_text.specs.Code.{Body}
+use Rattle.x86_text.specs.Code.{Body, insns_of}
+use Rattle.alternatives.specs.Gathered.{plain_insns}
 use Rattle.flow_defs.specs.Code.{body_of}
 use Rattle.alternatives.specs.declared.texts.SectionText.{SectionText}
-use Rattle.object_code.proofs.TextsLemmas.{all_texts, code_more, other_below, text_below, texts_below}
+use Rattle.object_code.proofs.TextsLemmas.{all_texts, code_more, insns_below, other_below, text_below, texts_below}
 use Rattle.object_code.specs.Linked.{AreCode, IsLinkFault}
 use Rattle.object_code.proofs.texts.read_texts.Goals as goal
 use Rattle.object_code.proofs.texts.read_texts.Goals.{then-is_text+in_ok-text+in_ok-push, else-is_text}
@@ -36,12 +37,14 @@ loop-sec-preserved c =
           let after = ap (λ v. v.items) w.texts-is ∙ w.in_ok-push.ensures.items in
           record {
             read = more o n _ c.loop-sec.texts.items _ text refl w.in_ok-text.ensures.read c.loop-sec.invariant.read after;
+            insns = ap (λ v. v.items) w.insns-is ∙ w.in_ok-text.ensures.insns ∙ ap (λ is. is ++ insns_of (body_of o n)) c.loop-sec.invariant.insns ∙ sym (insns_below o n text);
             code = code_more o n c.loop-sec.invariant.code (λ _. w.in_ok-text.ensures.code);
           }
       | else-is_text w ↦
           let other = sym c.is_text.ensures ∙ w.if-is_text.false in
           record {
             read = ap (λ v. v.items) w.texts-is ∙ c.loop-sec.invariant.read ∙ sym (other_below o n other);
+            insns = ap (λ v. v.items) w.insns-is ∙ c.loop-sec.invariant.insns ∙ sym (ap plain_insns (other_below o n other));
             code = code_more o n c.loop-sec.invariant.code (λ text. absurd (false≢true (sym other ∙ text)));
           }
     ]
@@ -51,6 +54,12 @@ returns-clause-read c =
     let o : Coded = coded_by c.args.map c.args.object.now in
     let whole : c.loop-sec.sec ≡ length o.elf.sections = omega (arith, c.loop-sec-test.false, c.loop-sec.auto.sec-end, c.sections-sec-end.ensures.value) in
     c.loop-sec.invariant.read ∙ ap (texts_below o) whole ∙ all_texts o
+
+pub returns-clause-insns : goal.returns-clause-insns
+returns-clause-insns c =
+    let o : Coded = coded_by c.args.map c.args.object.now in
+    let whole : c.loop-sec.sec ≡ length o.elf.sections = omega (arith, c.loop-sec-test.false, c.loop-sec.auto.sec-end, c.sections-sec-end.ensures.value) in
+    c.loop-sec.invariant.insns ∙ ap (λ n. plain_insns (texts_below o n)) whole ∙ ap plain_insns (all_texts o)
 
 pub returns-clause-code : goal.returns-clause-code
 returns-clause-code c =

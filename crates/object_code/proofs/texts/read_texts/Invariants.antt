@@ -1,4 +1,5 @@
 use Rattle.std.proofs.Common.{◌≡◌}
+use Rattle.alternatives.specs.Gathered.{plain_insns}
 use Rattle.flow_defs.specs.Coded.{coded_by}
 use Rattle.object_code.specs.Linked.{AreCode}
 use Rattle.object_code.proofs.TextsLemmas.{texts_below}
@@ -7,5 +8,6 @@ use Rattle.object_code.proofs.texts.read_texts.Given as goal
 abbrev pub invariant-loop-sec : goal.invariant-loop-sec
 invariant-loop-sec l = record {
   read : l.texts.items ≡ texts_below (coded_by l.map l.object) l.sec;
+  insns : l.insns.items ≡ plain_insns (texts_below (coded_by l.map l.object) l.sec);
   code : AreCode (coded_by l.map l.object) l.sec;
 }

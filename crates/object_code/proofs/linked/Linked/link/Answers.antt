@@ -54,12 +54,12 @@ build-requires-2-clause-few c =
 pub invariant_of-result : goal.invariant_of-result
 invariant_of-result c =
     let o : Coded = coded_by c.args.map c.args.object.now in
-    let texts : c.in_ok-texts.texts.items ≡ texts_of o = c.in_ok-texts.ensures.read in
+    let texts : c.in_ok-texts.field-0.texts.items ≡ texts_of o = c.in_ok-texts.ensures.read in
     let lent : c.deref.result.now ≡ texts_of o = c.deref.ensures.value ∙ texts in
     let special : c.in_ok-special.special ≡ special_of o.elf = c.in_ok-special.ensures.ok in
     let alternatives : c.in_ok-special.special.alternatives ≡ alternatives_of o = ap (λ s. s.alternatives) special in
-    subst (λ (e : Elf). IsKept (coded_by c.args.map e) c.in_ok-texts.texts.items c.in_ok-special.special c.in_ok-sites.sites) (sym c.in_ok-index.ensures.ok)
-    (kept o c.in_ok-texts.texts.items c.deref.result.now c.in_ok-special.special c.in_ok-sites.sites texts lent special
+    subst (λ (e : Elf). IsKept (coded_by c.args.map e) c.in_ok-texts.field-0.texts.items c.in_ok-special.special c.in_ok-sites.sites) (sym c.in_ok-index.ensures.ok)
+    (kept o c.in_ok-texts.field-0.texts.items c.deref.result.now c.in_ok-special.special c.in_ok-sites.sites texts lent special
     (record { before = record { before = record { code = c.in_ok-texts.ensures.code; special = c.in_ok-special.ensures.right }; functions = c.in_ok-index.ensures.right }; sites = subst (λ (ts : List SectionText). AreRight ts (alternatives_of o) (length (alternatives_of o))) lent (subst (λ (list : List AltEntry). AreRight c.deref.result.now list (length list)) alternatives c.in_ok-sites.ensures.right) })
     c.in_ok-texts.ensures.object
     c.in_ok-sites.ensures.sites c.in_ok-sites.ensures.points c.in_ok-sites.ensures.insns c.in_ok-sites.ensures.entries)
