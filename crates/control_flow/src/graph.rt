@@ -94,7 +94,7 @@ fn graph_of(
 /// order.
 ///
 /// Names that never return are those of the lists. Each point is looked at a few times, and each edge. Beside the graph it
-/// takes some 50 bytes a point and up to 24 an edge, most of them to find the returns, and gives them back.
+/// takes some 40 bytes a point and up to 16 an edge, and gives them back.
 ///
 /// # Errors
 ///

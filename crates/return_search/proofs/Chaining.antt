@@ -83,14 +83,6 @@ module _ (heads : List ℕ) (links : List ℕ) (keys : List (Option ℕ)) (are :
   long_push : length (links ++ link ∷ []) ≡ length (keys ++ y ∷ [])
   long_push = omega (arith, length_push links link, length_push keys y, are.long)
 
--- a number without a key
-pub chains_skip : (heads : List ℕ) (links : List ℕ) (keys : List (Option ℕ)) (link : ℕ) → AreChains heads links keys → AreChains heads (links ++ link ∷ []) (keys ++ None ∷ [])
-chains_skip heads links keys link are = record {
-  long = long_push heads links keys are None link;
-  last = λ key l. last_other keys None key (linked no_number (get_or heads key 0)) (λ e. let z : ⊥ = cc in z) (are.last key l);
-  before = before_push heads links keys are None link (λ key e. absurd (let z : ⊥ = cc in z));
-}
-
 -- a number with a key
 pub chains_add : (heads links : List ℕ) (keys : List (Option ℕ)) (key n : ℕ) → n ≡ length links → n < no_number → key < length heads → AreChains heads links keys → AreChains (set heads key n) (links ++ get_or heads key 0 ∷ []) (keys ++ Some key ∷ [])
 chains_add heads links keys key n is few inside are = record {

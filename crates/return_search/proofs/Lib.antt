@@ -3,5 +3,7 @@ pub mod Ranges
 pub mod Least
 pub mod Steps
 pub mod Keeping
+pub mod Dropping
 pub mod Passing
 pub mod Walks
+pub mod Leading

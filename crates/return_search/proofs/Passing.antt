@@ -1,8 +1,9 @@
 -- A point more is passed on.
-use Rattle.std.proofs.Common.{◌≡◌, ◌≢◌, ℕ, zero, suc, ◌+◌, ◌<◌, ◌≤◌, ◌⊎◌, inl, inr, Bool, true, false, not, ◌&&◌, List, [], ◌∷◌, Some, Contains, length, set, refl, sym, ap, ◌∙◌, subst, arith, get_or-set_other}
-use Rattle.std.specs.Prelude.{slice_index}
+use Rattle.std.proofs.Common.{◌≡◌, ◌≢◌, ℕ, zero, suc, ◌+◌, ◌<◌, ◌≤◌, ◌⊎◌, inl, inr, Bool, true, false, not, ◌&&◌, List, [], ◌∷◌, ◌++◌, Some, All, Contains, get_or, length, replicate, set, refl, sym, ap, ◌∙◌, subst, arith, get_or-set_other}
+use Rattle.std.specs.Prelude.{count_by, vec_capacity}
 use Rattle.std.proofs.lemmas.Bool.{cases_eq}
-use Rattle.std.proofs.lemmas.Grind.{get_or_default_zero}
+use Rattle.std.proofs.lemmas.List.{get_or-replicate, get_or_append_left, get_or_push, length_push}
+use Rattle.std.proofs.lemmas.List.Elements.{Contains-append_cases}
 use Rattle.program_defs.specs.declared.flow.EdgeKind.{EdgeKind}
 use Rattle.program_defs.specs.declared.flow.EdgeKind.TheVariants.{Next, Taken, Fixup, Table, Sibling}
 use Rattle.program_defs.specs.Program.{IsPoint}
@@ -13,7 +14,7 @@ use Rattle.return_search.specs.declared.search.Search.{Search}
 use Rattle.return_search.specs.Told.{exit_at, dead_end_at, entered_at}
 use Rattle.return_search.specs.Shape.{points_of}
 use Rattle.return_search.specs.Backward.{IsEdgeOf, edge_at}
-use Rattle.return_search.specs.Search.{holds, target_returns, is_calling, carries, AreListed, AreSound, Extends, FindsAlong, FindsLeaving, IsPassedOn, IsSearch, AreClosed}
+use Rattle.return_search.specs.Search.{holds, target_returns, is_calling, carries, AreListed, AreSound, Extends, FindsAlong, FindsLeaving, IsPassedOn, IsSearch, IsTaken, AreClosed}
 use Rattle.return_search.proofs.Steps.{extends_more, holds_new, holds_still}
 
 pub holds_inside : (tests : List Bool) (q : ℕ) → holds tests q ≡ true → q < length tests
@@ -80,88 +81,124 @@ passed_know flow found after known entry x inside still calls is passed = record
   entry = λ e h. holds_still known entry e inside (passed.entry e h);
 }
 
--- the search stands before the next point
-pub search_next : (flow : Flow) (s t : Search) (i : ℕ) → IsSearch flow s i → i < length s.order.items → AreListed flow t → AreSound flow t.found.items t.known.items → Extends s t
-    → ((k : ℕ) → k < i → IsPassedOn flow t.found.items t.known.items (slice_index s.order.items k)) → IsPassedOn flow t.found.items t.known.items (slice_index s.order.items i) → IsSearch flow t (i + 1)
-search_next flow s t i search inside listed sound extends before here = record {
+-- a point is passed on, and those stay so that were
+pub search_next : (flow : Flow) (s t : Search) (x : ℕ) → IsTaken flow s x → AreListed flow t → AreSound flow t.found.items t.known.items → Extends s t
+    → ((y : ℕ) → holds s.found.items y ≡ true → IsPassedOn flow s.found.items s.known.items y → IsPassedOn flow t.found.items t.known.items y) → IsPassedOn flow t.found.items t.known.items x → IsSearch flow t
+search_next flow s t x taken listed sound extends before here = record {
   listed = listed;
   sound = sound;
-  within = let l : length s.order.items ≤ length t.order.items = extends.longer in omega (arith, inside, l);
-  passed = λ k l. elim (split k l) [
-    | inl less ↦ passed k (omega arith) (before k less)
-    | inr same ↦ passed k (omega arith) (subst (λ (j : ℕ). IsPassedOn flow t.found.items t.known.items (slice_index s.order.items j)) (sym same) here)
+  passed = λ y h. elim (extends.new y h) [
+    | inl was ↦ elim (taken.passed y was) [
+      | inl same ↦ inr (subst (IsPassedOn flow t.found.items t.known.items) (sym same) here)
+      | inr other ↦ elim other [ inl waiting ↦ inl (extends.waiting y waiting) | inr passed ↦ inr (before y was passed) ]
+    ]
+    | inr waiting ↦ inl waiting
   ];
 }
-  where
-    split : (k : ℕ) → k < i + 1 → (k < i) ⊎ (k ≡ i)
-    split k l = grind arith
-
-    passed : (k : ℕ) → k < length s.order.items → IsPassedOn flow t.found.items t.known.items (slice_index s.order.items k) → IsPassedOn flow t.found.items t.known.items (slice_index t.order.items k)
-    passed k l h = subst (IsPassedOn flow t.found.items t.known.items) (sym (extends.order k l)) h
 
 -- where no entry more is known
-pub search_same : (flow : Flow) (s t : Search) (i x : ℕ) → IsSearch flow s i → i < length s.order.items → x ≡ slice_index s.order.items i → AreListed flow t → AreSound flow t.found.items t.known.items → Extends s t → t.known.items ≡ s.known.items
-    → FindsAlong flow t.found.items s.known.items x → ((entry : ℕ) → entered_at flow x ≡ Some entry → holds s.known.items entry ≡ true) → IsSearch flow t (i + 1)
-search_same flow s t i x search inside read listed sound extends same along entry =
-    search_next flow s t i search inside listed sound extends
-    (λ k l. subst (λ (known : List Bool). IsPassedOn flow t.found.items known (slice_index s.order.items k)) (sym same) (passed_more flow s.found.items t.found.items s.known.items (slice_index s.order.items k) extends.found (search.passed k l)))
-    (subst (IsPassedOn flow t.found.items t.known.items) read (subst (λ (known : List Bool). IsPassedOn flow t.found.items known x) (sym same) here))
+pub search_same : (flow : Flow) (s t : Search) (x : ℕ) → IsTaken flow s x → AreListed flow t → AreSound flow t.found.items t.known.items → Extends s t → t.known.items ≡ s.known.items
+    → FindsAlong flow t.found.items s.known.items x → ((entry : ℕ) → entered_at flow x ≡ Some entry → holds s.known.items entry ≡ true) → IsSearch flow t
+search_same flow s t x taken listed sound extends same along entry =
+    search_next flow s t x taken listed sound extends
+    (λ y was passed. subst (λ (known : List Bool). IsPassedOn flow t.found.items known y) (sym same) (passed_more flow s.found.items t.found.items s.known.items y extends.found passed))
+    (subst (λ (known : List Bool). IsPassedOn flow t.found.items known x) (sym same) here)
   where
     here : IsPassedOn flow t.found.items s.known.items x
     here = record { edges = along; entry = entry }
 
 -- where an entry more is known: `one` is the search before its calls are found
-module _ (flow : Flow) (s one t : Search) (i x entry : ℕ) (search : IsSearch flow s i) (inside : i < length s.order.items) (read : x ≡ slice_index s.order.items i) (entered : entered_at flow x ≡ Some entry) (entry_in : entry < length one.known.items) where
+module _ (flow : Flow) (s one t : Search) (x entry : ℕ) (taken : IsTaken flow s x) (entered : entered_at flow x ≡ Some entry) (entry_in : entry < length one.known.items) where
   pub search_entry : AreListed flow t → AreSound flow t.found.items t.known.items → Extends s one → Extends one t → one.known.items ≡ s.known.items → t.known.items ≡ set one.known.items entry true → FindsAlong flow one.found.items s.known.items x
-      → ((q j : ℕ) → exit_at flow q ≡ Calls entry → IsEdgeOf flow q j → holds one.found.items (edge_at flow j).to ≡ true → carries flow (set one.known.items entry true) q (edge_at flow j).kind ≡ true → holds t.found.items q ≡ true) → IsSearch flow t (i + 1)
+      → ((q j : ℕ) → exit_at flow q ≡ Calls entry → IsEdgeOf flow q j → holds one.found.items (edge_at flow j).to ≡ true → carries flow (set one.known.items entry true) q (edge_at flow j).kind ≡ true → holds t.found.items q ≡ true) → IsSearch flow t
   search_entry listed sound first second same known along calls =
-      search_next flow s t i search inside listed sound (extends_more s one t first second)
-      (λ k l.
-      let below : k < length s.order.items = omega (arith, inside, l) in
-      let was : IsPassedOn flow s.found.items one.known.items (slice_index s.order.items k) = subst (λ (ks : List Bool). IsPassedOn flow s.found.items ks (slice_index s.order.items k)) (sym same) (search.passed k l) in
-      subst (λ (ks : List Bool). IsPassedOn flow t.found.items ks (slice_index s.order.items k)) (sym known)
-      (passed_know flow one.found.items t.found.items one.known.items entry (slice_index s.order.items k) entry_in second.found calls (first.found (slice_index s.order.items k) (search.listed.found k 0 below))
-      (passed_more flow s.found.items one.found.items one.known.items (slice_index s.order.items k) first.found was)))
-      (subst (IsPassedOn flow t.found.items t.known.items) read (subst (λ (ks : List Bool). IsPassedOn flow t.found.items ks x) (sym known) here))
+      search_next flow s t x taken listed sound (extends_more s one t first second)
+      (λ y was passed.
+      let before : IsPassedOn flow s.found.items one.known.items y = subst (λ (ks : List Bool). IsPassedOn flow s.found.items ks y) (sym same) passed in
+      subst (λ (ks : List Bool). IsPassedOn flow t.found.items ks y) (sym known)
+      (passed_know flow one.found.items t.found.items one.known.items entry y entry_in second.found calls (first.found y was)
+      (passed_more flow s.found.items one.found.items one.known.items y first.found before)))
+      (subst (λ (ks : List Bool). IsPassedOn flow t.found.items ks x) (sym known) here)
     where
-      is : holds one.found.items x ≡ true
-      is = first.found x (subst (λ (y : ℕ). holds s.found.items y ≡ true) (sym read) (search.listed.found i 0 inside))
-
       entry_known : (e : ℕ) → entered_at flow x ≡ Some e → holds (set one.known.items entry true) e ≡ true
       entry_known e h = let one_entry : entry ≡ e = cc in subst (λ (k : ℕ). holds (set one.known.items entry true) k ≡ true) one_entry (holds_new one.known.items entry entry_in)
 
       here : IsPassedOn flow t.found.items (set one.known.items entry true) x
       here = record {
-        edges = along_know flow one.found.items t.found.items one.known.items entry x second.found calls is (subst (λ (ks : List Bool). FindsAlong flow one.found.items ks x) (sym same) along);
+        edges = along_know flow one.found.items t.found.items one.known.items entry x second.found calls (first.found x taken.found) (subst (λ (ks : List Bool). FindsAlong flow one.found.items ks x) (sym same) along);
         entry = entry_known;
       }
 
--- before the first point none is passed on
-pub search_first : (flow : Flow) (s : Search) → AreListed flow s → AreSound flow s.found.items s.known.items → IsSearch flow s 0
-search_first flow s listed sound = record {
+-- at first nothing is found
+pub search_first : (flow : Flow) (s : Search) → AreListed flow s → AreSound flow s.found.items s.known.items → s.found.items ≡ replicate (points_of flow) false → IsSearch flow s
+search_first flow s listed sound none = record {
   listed = listed;
   sound = sound;
-  within = omega arith;
-  passed = λ k l. absurd (omega arith);
+  passed = λ x h.
+      let inside : x < points_of flow = omega (arith, holds_inside s.found.items x h, listed.long) in
+      let not_found : holds s.found.items x ≡ false = ap (λ (found : List Bool). holds found x) none ∙ get_or-replicate (points_of flow) x false false inside in
+      absurd (let z : ⊥ = cc in z);
 }
 
 -- those that are passed on stay so where more is found
-pub search_found : (flow : Flow) (s t : Search) (i : ℕ) → IsSearch flow s i → AreListed flow t → AreSound flow t.found.items t.known.items → Extends s t → t.known.items ≡ s.known.items → IsSearch flow t i
-search_found flow s t i search listed sound extends same = record {
+pub search_found : (flow : Flow) (s t : Search) → IsSearch flow s → AreListed flow t → AreSound flow t.found.items t.known.items → Extends s t → t.known.items ≡ s.known.items → IsSearch flow t
+search_found flow s t search listed sound extends same = record {
   listed = listed;
   sound = sound;
-  within = longer;
-  passed = λ k l.
-      let x = slice_index s.order.items k in
-      subst (IsPassedOn flow t.found.items t.known.items) (sym (extends.order k (omega (arith, within, l))))
-      (subst (λ (known : List Bool). IsPassedOn flow t.found.items known x) (sym same) (passed_more flow s.found.items t.found.items s.known.items x extends.found (search.passed k l)));
+  passed = λ y h. elim (extends.new y h) [
+    | inl was ↦ elim (search.passed y was) [
+      | inl waiting ↦ inl (extends.waiting y waiting)
+      | inr passed ↦ inr (subst (λ (known : List Bool). IsPassedOn flow t.found.items known y) (sym same) (passed_more flow s.found.items t.found.items s.known.items y extends.found passed))
+    ]
+    | inr waiting ↦ inl waiting
+  ];
+}
+
+-- one that is listed last is taken
+pub search_taken : (flow : Flow) (s t : Search) (x : ℕ) → IsSearch flow s → t.found.items ≡ s.found.items → t.known.items ≡ s.known.items → vec_capacity t.waiting ≡ vec_capacity s.waiting → s.waiting.items ≡ t.waiting.items ++ x ∷ [] → IsTaken flow t x
+search_taken flow s t x search found known room popped = record {
+  listed = record {
+    long = ap length found ∙ search.listed.long;
+    room = omega (arith, room, search.listed.room);
+    once = omega (arith, shorter, ap (count_by (λ b. b)) found, search.listed.once);
+    found = λ k d l. subst (λ (fs : List Bool). holds fs (get_or t.waiting.items k d) ≡ true) (sym found)
+        (subst (λ (y : ℕ). holds s.found.items y ≡ true) (ap (λ (xs : List ℕ). get_or xs k d) popped ∙ get_or_append_left t.waiting.items (x ∷ []) d k l) (search.listed.found k d (omega (arith, l, shorter))));
+    known = ap length known ∙ search.listed.known;
+  };
+  sound = subst (λ (fs : List Bool). AreSound flow fs t.known.items) (sym found) (subst (AreSound flow s.found.items) (sym known) search.sound);
+  found = subst (λ (fs : List Bool). holds fs x ≡ true) (sym found) (subst (λ (y : ℕ). holds s.found.items y ≡ true) (ap (λ (xs : List ℕ). get_or xs (length t.waiting.items) 0) popped ∙ get_or_push t.waiting.items x 0 (length t.waiting.items) refl) (search.listed.found (length t.waiting.items) 0 (omega (arith, shorter))));
+  passed = λ y h. elim (search.passed y (subst (λ (fs : List Bool). holds fs y ≡ true) found h)) [
+    | inl waiting ↦ elim (Contains-append_cases t.waiting.items (x ∷ []) y (subst (λ (xs : List ℕ). Contains xs y) popped waiting)) [
+      | inl still ↦ inr (inl still)
+      | inr last ↦ inl (only last)
+    ]
+    | inr passed ↦ inr (inr (subst (λ (fs : List Bool). IsPassedOn flow fs t.known.items y) (sym found) (subst (λ (ks : List Bool). IsPassedOn flow s.found.items ks y) (sym known) passed)))
+  ];
 }
   where
-    within : i ≤ length s.order.items
-    within = search.within
+    shorter : length s.waiting.items ≡ length t.waiting.items + 1
+    shorter = ap length popped ∙ length_push t.waiting.items x
 
-    longer : i ≤ length t.order.items
-    longer = let l : length s.order.items ≤ length t.order.items = extends.longer in omega (arith, within, l)
+    only : {y : ℕ} → Contains (x ∷ []) y → y ≡ x
+    only (zero, l, is) = sym is
+    only (suc k, l, is) = absurd (omega (arith, l))
+
+-- none is left
+pub search_end : (flow : Flow) (s t : Search) → IsSearch flow s → t.found.items ≡ s.found.items → t.known.items ≡ s.known.items → vec_capacity t.waiting ≡ vec_capacity s.waiting → s.waiting.items ≡ t.waiting.items → IsSearch flow t
+search_end flow s t search found known room same = record {
+  listed = record {
+    long = ap length found ∙ search.listed.long;
+    room = omega (arith, room, search.listed.room);
+    once = omega (arith, ap length same, ap (count_by (λ b. b)) found, search.listed.once);
+    found = subst (λ (fs : List Bool). All (λ q. holds fs q ≡ true) t.waiting.items) (sym found) (subst (All (λ q. holds s.found.items q ≡ true)) same search.listed.found);
+    known = ap length known ∙ search.listed.known;
+  };
+  sound = subst (λ (fs : List Bool). AreSound flow fs t.known.items) (sym found) (subst (AreSound flow s.found.items) (sym known) search.sound);
+  passed = λ y h. elim (search.passed y (subst (λ (fs : List Bool). holds fs y ≡ true) found h)) [
+    | inl waiting ↦ inl (subst (λ (xs : List ℕ). Contains xs y) same waiting)
+    | inr passed ↦ inr (subst (λ (fs : List Bool). IsPassedOn flow fs t.known.items y) (sym found) (subst (λ (ks : List Bool). IsPassedOn flow s.found.items ks y) (sym known) passed))
+  ];
+}
 
 -- those of one point more are found
 pub leaving_next : (flow : Flow) (s t : Search) (n : ℕ) → FindsLeaving flow s.found.items n → Extends s t → (exit_at flow n ≡ Leaves → holds t.found.items n ≡ true) → FindsLeaving flow t.found.items (n + 1)
@@ -174,11 +211,11 @@ leaving_next flow s t n so_far extends here q l e = elim (split q l) [
     split q l = grind arith
 
 -- all points that are found are passed on
-pub closed_at_end : (flow : Flow) (s : Search) (i n : ℕ) → IsSearch flow s i → length s.order.items ≤ i → FindsLeaving flow s.found.items n → points_of flow ≤ n → AreClosed flow s.found.items s.known.items
-closed_at_end flow s i n search end leaving all = record {
+pub closed_at_end : (flow : Flow) (s : Search) (n : ℕ) → IsSearch flow s → length s.waiting.items ≡ 0 → FindsLeaving flow s.found.items n → points_of flow ≤ n → AreClosed flow s.found.items s.known.items
+closed_at_end flow s n search end leaving all = record {
   leaving = λ q l e. leaving q (omega (arith, l, all)) e;
-  passed = λ x h. go x (search.listed.listed x h);
+  passed = λ x h. elim (search.passed x h) [
+    | inl waiting ↦ absurd (omega (arith, waiting.1, end))
+    | inr passed ↦ passed
+  ];
 }
-  where
-    go : (x : ℕ) → Contains s.order.items x → IsPassedOn flow s.found.items s.known.items x
-    go x (k, l, is) = subst (IsPassedOn flow s.found.items s.known.items) (sym (get_or_default_zero s.order.items k x l) ∙ is) (search.passed k (omega (arith, l, end)))

@@ -1,8 +1,8 @@
 -- Steps of a search: what is found by one more edge or call.
-use Rattle.std.proofs.Common.{◌≡◌, ℕ, zero, suc, ◌+◌, ◌<◌, ◌≤◌, ◌⊎◌, inl, inr, Bool, true, false, cond, List, [], ◌∷◌, ◌++◌, Option, Some, None, All, Contains, map, length, get_or, set, take, refl, sym, ap, ◌∙◌, subst, arith, length-set, get_or-set_same, get_or-set_other}
+use Rattle.std.proofs.Common.{◌≡◌, ℕ, zero, suc, ◌+◌, ◌<◌, ◌≤◌, ◌⊎◌, inl, inr, Bool, true, false, cond, List, [], ◌∷◌, ◌++◌, Option, Some, None, All, Contains, map, length, get_or, set, refl, sym, ap, ◌∙◌, subst, arith, length-set, get_or-set_same, get_or-set_other}
 use Rattle.std.specs.Prelude.{count_by}
 use Rattle.std.proofs.lemmas.Bool.{cases_eq, cases_order}
-use Rattle.std.proofs.lemmas.List.{take_more, map-append}
+use Rattle.std.proofs.lemmas.List.{length_push}
 use Rattle.std.proofs.lemmas.List.Elements.{Contains-append_left, Contains-push, All-push}
 use Rattle.std.proofs.lemmas.List.Sums.{sum_by-set, count_by-le-length}
 use Rattle.program_defs.specs.Program.{Program}
@@ -64,10 +64,7 @@ edge_of_one flow shape q r i one other = elim (cases_order q r) [
   ]
 ]
 
--- the key of one more
-pub map_more : {X : Type 0} (f : X → Option ℕ) (xs : List X) (i : ℕ) (d : X) → i < length xs → map f (take (i + 1) xs) ≡ map f (take i xs) ++ f (get_or xs i d) ∷ []
-map_more f xs i d h = ap (map f) (take_more xs i d h) ∙ map-append f (take i xs) (get_or xs i d ∷ [])
-
+-- the key of one of them
 pub key_at : {X : Type 0} (f : X → Option ℕ) (xs : List X) (i : ℕ) (d : X) → i < length xs → get_or (map f xs) i None ≡ f (get_or xs i d)
 key_at f [] i d h = absurd (omega (arith, h))
 key_at f (x ∷ xs) zero d h = refl
@@ -85,12 +82,6 @@ holds_new found q inside = get_or-set_same found q true false inside
 
 pub holds_before : (found : List Bool) (q r : ℕ) → holds (set found q true) r ≡ true → holds found r ≡ true ⊎ (r ≡ q)
 holds_before found q r h = elim (cases_eq r q) [ inl same ↦ inr same | inr other ↦ inl (sym (get_or-set_other found q r true false other) ∙ h) ]
-
-pub listed_push : (found : List Bool) (order : List ℕ) (q : ℕ) → ((r : ℕ) → holds found r ≡ true → Contains order r) → (r : ℕ) → holds (set found q true) r ≡ true → Contains (order ++ q ∷ []) r
-listed_push found order q listed r h = elim (holds_before found q r h) [
-  | inl was ↦ Contains-append_left order (q ∷ []) r (listed r was)
-  | inr new ↦ subst (Contains (order ++ q ∷ [])) (sym new) (Contains-push order q)
-]
 
 pub found_push : (found : List Bool) (order : List ℕ) (q : ℕ) → q < length found → All (λ r. holds found r ≡ true) order → All (λ r. holds (set found q true) r ≡ true) (order ++ q ∷ [])
 found_push found order q inside all = All-push (λ r. holds (set found q true) r ≡ true) order q (λ k d l. holds_still found q (get_or order k d) inside (all k d l)) (holds_new found q inside)
@@ -115,11 +106,32 @@ sound_find flow found known q sound may = record {
 }
 
 pub extends_itself : (s : Search) → Extends s s
-extends_itself s = record { found = λ q h. h; longer = omega arith; order = λ k l. refl }
+extends_itself s = record { found = λ q h. h; waiting = λ q h. h; new = λ q h. inl h; grown = refl; more = omega arith }
 
 pub extends_more : (r s t : Search) → Extends r s → Extends s t → Extends r t
 extends_more r s t one other = record {
   found = λ q h. other.found q (one.found q h);
-  longer = let a : length r.order.items ≤ length s.order.items = one.longer in let b : length s.order.items ≤ length t.order.items = other.longer in omega (arith, a, b);
-  order = λ k l. let a : length r.order.items ≤ length s.order.items = one.longer in other.order k (omega (arith, l, a)) ∙ one.order k l;
+  waiting = λ q h. other.waiting q (one.waiting q h);
+  new = λ q h. elim (other.new q h) [
+    | inl was ↦ elim (one.new q was) [ inl first ↦ inl first | inr listed ↦ inr (other.waiting q listed) ]
+    | inr listed ↦ inr listed
+  ];
+  grown = omega (arith, one.grown, other.grown);
+  more = omega (arith, one.more, other.more);
 }
+
+-- one more is found, and listed
+pub extends_one : (s t : Search) (q : ℕ) → q < length s.found.items → holds s.found.items q ≡ false → t.found.items ≡ set s.found.items q true → t.waiting.items ≡ s.waiting.items ++ q ∷ [] → Extends s t
+extends_one s t q inside new found pushed =
+    let count : count_by (λ b. b) t.found.items ≡ count_by (λ b. b) s.found.items + 1 = ap (count_by (λ b. b)) found ∙ count_push s.found.items q inside new in
+    let long : length t.waiting.items ≡ length s.waiting.items + 1 = ap length pushed ∙ length_push s.waiting.items q in
+    record {
+      found = λ r h. subst (λ (fs : List Bool). holds fs r ≡ true) (sym found) (holds_still s.found.items q r inside h);
+      waiting = λ r h. subst (λ (xs : List ℕ). Contains xs r) (sym pushed) (Contains-append_left s.waiting.items (q ∷ []) r h);
+      new = λ r h. elim (holds_before s.found.items q r (subst (λ (fs : List Bool). holds fs r ≡ true) found h)) [
+        | inl was ↦ inl was
+        | inr same ↦ inr (subst (λ (xs : List ℕ). Contains xs r) (sym pushed) (subst (Contains (s.waiting.items ++ q ∷ [])) (sym same) (Contains-push s.waiting.items q)))
+      ];
+      grown = omega (arith, count, long);
+      more = omega (arith, count);
+    }

@@ -1,5 +1,5 @@
--- The edges of a flow by where they lead, and its calls by entry.
-use Rattle.std.specs.Prelude.{◌≡◌, ℕ, ◌+◌, ◌<◌, ◌≤◌, List, Option, Some, None, map, length, slice_index, slice_index_or}
+-- What leads to the points of a flow: edges by where they lead, and calls by entry.
+use Rattle.std.specs.Prelude.{◌≡◌, ℕ, ◌+◌, ◌<◌, ◌≤◌, ◌⊎◌, List, Option, Some, None, All, Contains, map, length, slice_index_or}
 use Rattle.program_defs.specs.declared.flow.Edge.{Edge}
 use Rattle.program_defs.specs.declared.flow.EdgeKind.TheVariants.{Next}
 use Rattle.program_defs.specs.Program.{edge}
@@ -7,15 +7,13 @@ use Rattle.return_search.specs.declared.flow.Exit.{Exit}
 use Rattle.return_search.specs.declared.flow.Exit.TheVariants.{Leaves, Calls, CallsOut, CallsNever, Passes}
 use Rattle.return_search.specs.declared.flow.Flow.{Flow}
 use Rattle.return_search.specs.declared.backward.Backward.{Backward}
+use Rattle.return_search.specs.declared.backward.Lead.{Lead}
+use Rattle.return_search.specs.declared.backward.Lead.TheVariants as lead
 use Rattle.return_search.specs.Chained.{AreChains}
-use Rattle.return_search.specs.Told.{start_of}
+use Rattle.return_search.specs.Told.{exit_at, start_of}
 use Rattle.return_search.specs.Shape.{points_of}
 
--- the keys of edges: where they lead
-abbrev pub target_of : Edge → Option ℕ
-target_of e = Some e.to
-
--- the keys of points: the entries that they call
+-- the entry that is called
 abbrev pub called : Exit → Option ℕ
 called Leaves = None
 called (Calls entry) = Some entry
@@ -33,17 +31,28 @@ pub record IsEdgeOf (flow : Flow) (q i : ℕ) : Type 0 where
   pub from : start_of flow q ≤ i
   pub to : i < start_of flow (q + 1)
 
--- Each number of an edge is that of an edge of this point.
-pub record AreSources (flow : Flow) (sources : List ℕ) : Type 0 where
-  pub each : (i : ℕ) → i < length sources → IsEdgeOf flow (slice_index sources i) i
+-- where something leads
+abbrev pub key_of : Flow → Lead → Option ℕ
+key_of flow (lead.Edge q i) = Some (edge_at flow i).to
+key_of flow (lead.Call q) = called (exit_at flow q)
 
--- the edges of the flow are backwards
-pub record IsBackward (flow : Flow) (backward : Backward) : Type 0 where
-  pub by_target : AreChains backward.by_target.heads.items backward.by_target.links.items (map target_of flow.edges.items)
-  pub heads : length backward.by_target.heads.items ≡ points_of flow
-  pub links : length backward.by_target.links.items ≡ length flow.edges.items
-  pub sources : AreSources flow backward.sources.items
-  pub all : length backward.sources.items ≡ length flow.edges.items
-  pub by_entry : AreChains backward.by_entry.heads.items backward.by_entry.links.items (map called flow.exits.items)
-  pub entries : length backward.by_entry.heads.items ≡ points_of flow
-  pub calls : length backward.by_entry.links.items ≡ points_of flow
+-- the edge is one of the point, or the point is one that calls
+abbrev pub IsLead : Flow → Lead → Type 0
+IsLead flow (lead.Edge q i) = IsEdgeOf flow q i
+IsLead flow (lead.Call q) = q < points_of flow
+
+-- These are the calls of the first n points, and those of the first m edges that don't lead right behind their points.
+pub record AreLeads (flow : Flow) (leads : List Lead) (n m : ℕ) : Type 0 where
+  pub own : All (IsLead flow) leads
+  pub edges : (q i : ℕ) → i < m → IsEdgeOf flow q i → ((edge_at flow i).to ≡ q + 1) ⊎ Contains leads (lead.Edge q i)
+  pub calls : (q entry : ℕ) → q < n → exit_at flow q ≡ Calls entry → Contains leads (lead.Call q)
+
+-- So many calls and edges of the flow are backwards.
+pub record IsBackwardTo (flow : Flow) (backward : Backward) (n m : ℕ) : Type 0 where
+  pub leads : AreLeads flow backward.leads.items n m
+  pub chains : AreChains backward.chains.heads.items backward.chains.links.items (map (key_of flow) backward.leads.items)
+  pub heads : length backward.chains.heads.items ≡ points_of flow
+
+-- All are.
+abbrev pub IsBackward : Flow → Backward → Type 0
+IsBackward flow backward = IsBackwardTo flow backward (points_of flow) (length flow.edges.items)

@@ -1,5 +1,5 @@
 -- A search for the points from which a return may come.
-use Rattle.std.specs.Prelude.{◌≡◌, ℕ, ◌<◌, ◌≤◌, List, Some, Bool, true, false, not, ◌&&◌, All, Contains, length, count_by, vec_capacity, slice_index, slice_index_or}
+use Rattle.std.specs.Prelude.{◌≡◌, ℕ, ◌+◌, ◌<◌, ◌≤◌, ◌⊎◌, List, Some, Bool, true, false, not, ◌&&◌, All, Contains, length, count_by, vec_capacity, slice_index_or}
 use Rattle.program_defs.specs.declared.flow.EdgeKind.{EdgeKind}
 use Rattle.program_defs.specs.declared.flow.EdgeKind.TheVariants.{Next, Taken, Fixup, Table, Sibling}
 use Rattle.program_defs.specs.declared.flow.Role.TheVariants.{CallIn}
@@ -41,13 +41,12 @@ carries flow known q Fixup = true
 carries flow known q Table = true
 carries flow known q Sibling = true
 
--- Points are found and listed once each, in the order in which they were found.
+-- Points that are found and not passed on yet are listed, each once at most.
 pub record AreListed (flow : Flow) (s : Search) : Type 0 where
   pub long : length s.found.items ≡ points_of flow
-  pub room : points_of flow ≤ vec_capacity s.order
-  pub once : length s.order.items ≡ count_by (λ b. b) s.found.items
-  pub listed : (q : ℕ) → holds s.found.items q ≡ true → Contains s.order.items q
-  pub found : All (λ q. holds s.found.items q ≡ true) s.order.items
+  pub room : points_of flow ≤ vec_capacity s.waiting
+  pub once : length s.waiting.items ≤ count_by (λ b. b) s.found.items
+  pub found : All (λ q. holds s.found.items q ≡ true) s.waiting.items
   pub known : length s.known.items ≡ points_of flow
 
 -- A return may come from the points that are found, and from an entry that is known to return.
@@ -55,11 +54,13 @@ pub record AreSound (flow : Flow) (found known : List Bool) : Type 0 where
   pub points : (p : Program) → TellsFlow p flow → (q : ℕ) → holds found q ≡ true → MayReturn p q
   pub entries : (p : Program) → TellsFlow p flow → (call entry : ℕ) → IsPoint p call → p.role call ≡ CallIn entry → holds known entry ≡ true → (first : ℕ) × Contains (entry_points p entry) first × MayReturn p first
 
--- what is found stays so, and the order of what was found
+-- What is found stays so, and what is listed; all that is found besides is listed, each once.
 pub record Extends (before after : Search) : Type 0 where
   pub found : (q : ℕ) → holds before.found.items q ≡ true → holds after.found.items q ≡ true
-  pub longer : length before.order.items ≤ length after.order.items
-  pub order : (k : ℕ) → k < length before.order.items → slice_index after.order.items k ≡ slice_index before.order.items k
+  pub waiting : (q : ℕ) → Contains before.waiting.items q → Contains after.waiting.items q
+  pub new : (q : ℕ) → holds after.found.items q ≡ true → (holds before.found.items q ≡ true) ⊎ Contains after.waiting.items q
+  pub grown : length after.waiting.items + count_by (λ b. b) before.found.items ≡ length before.waiting.items + count_by (λ b. b) after.found.items
+  pub more : count_by (λ b. b) before.found.items ≤ count_by (λ b. b) after.found.items
 
 -- the points of edges that lead to x are found, as far as a return is carried along them
 abbrev pub FindsAlong : Flow → List Bool → List Bool → ℕ → Type 0
@@ -74,14 +75,31 @@ pub record IsPassedOn (flow : Flow) (found known : List Bool) (x : ℕ) : Type 0
 abbrev pub FindsLeaving : Flow → List Bool → ℕ → Type 0
 FindsLeaving flow found n = (q : ℕ) → q < n → exit_at flow q ≡ Leaves → holds found q ≡ true
 
--- The search stands before the i-th of the points that it has found: those before it are passed on.
-pub record IsSearch (flow : Flow) (s : Search) (i : ℕ) : Type 0 where
+-- Each point that is found is listed, or all is found that a return from it is carried to.
+pub record IsSearch (flow : Flow) (s : Search) : Type 0 where
   pub listed : AreListed flow s
   pub sound : AreSound flow s.found.items s.known.items
-  pub within : i ≤ length s.order.items
-  pub passed : (k : ℕ) → k < i → IsPassedOn flow s.found.items s.known.items (slice_index s.order.items k)
+  pub passed : (x : ℕ) → holds s.found.items x ≡ true → Contains s.waiting.items x ⊎ IsPassedOn flow s.found.items s.known.items x
+
+-- So is each but x, which is found and was taken from the list.
+pub record IsTaken (flow : Flow) (s : Search) (x : ℕ) : Type 0 where
+  pub listed : AreListed flow s
+  pub sound : AreSound flow s.found.items s.known.items
+  pub found : holds s.found.items x ≡ true
+  pub passed : (y : ℕ) → holds s.found.items y ≡ true → (y ≡ x) ⊎ (Contains s.waiting.items y ⊎ IsPassedOn flow s.found.items s.known.items y)
 
 -- what is found and known is closed: no return is carried any further
 pub record AreClosed (flow : Flow) (found known : List Bool) : Type 0 where
   pub leaving : FindsLeaving flow found (points_of flow)
   pub passed : (x : ℕ) → holds found x ≡ true → IsPassedOn flow found known x
+
+-- More is found, and rightly so; what entries are known stays.
+pub record FindsMore (flow : Flow) (before after : Search) : Type 0 where
+  pub listed : AreListed flow after
+  pub extends : Extends before after
+  pub known : after.known.items ≡ before.known.items
+  pub sound : AreSound flow after.found.items after.known.items
+
+-- a return is carried to the point along one of its edges, from a point that is found
+abbrev pub IsCarriedBy : Flow → List Bool → List Bool → ℕ → ℕ → Type 0
+IsCarriedBy flow found known q i = IsEdgeOf flow q i × (holds found (edge_at flow i).to ≡ true) × (carries flow known q (edge_at flow i).kind ≡ true)

@@ -9,7 +9,7 @@ use std::alloc::Global;
 /// The head of a key that no number has. All numbers are less.
 const NONE: u32 = u32::MAX;
 
-/// Numbers from 0 on in chains, one for each key. A number has a key or none, and gets its place as it is added.
+/// Numbers from 0 on in chains, one for each key. A number gets its place as it is added.
 #[derive(Drop)]
 pub(crate) struct Chains {
     /// For each key, the last number that has it, or `NONE`.
@@ -19,34 +19,29 @@ pub(crate) struct Chains {
 }
 
 impl Chains {
-    /// No number has a key yet. There is room for so many.
-    pub(crate) fn new(alloc: Global, keys: u32, numbers: usize) -> Result<Chains, NoMemory>
+    /// No number has a key yet.
+    pub(crate) fn new(alloc: Global, keys: u32) -> Result<Chains, NoMemory>
         ensures none { IfOk result (λ chains. AreChains chains.heads.items chains.links.items []) }
         ensures heads { IfOk result (λ chains. length chains.heads.items ≡ keys) }
-        ensures links { IfOk result (λ chains. length chains.links.items ≡ 0) }
     {
         Ok(Chains {
             heads: vec![in alloc; NONE; keys as usize]?,
-            links: Vec::with_capacity(alloc, numbers)?,
+            links: Vec::new(alloc),
         })
     }
 
-    /// Adds the next number, with its key.
-    pub(crate) fn add(&mut self, key: Option<u32>) -> Result<(), NoMemory>
-        requires few { length self.old.links.items + 1 < 2 ^ 32 }
-        requires key { (k : ℕ) → key ≡ Some k → k < length self.old.heads.items }
-        ensures added { OnOk result ((keys : List (Option ℕ)) → AreChains self.old.heads.items self.old.links.items keys → AreChains self.new.heads.items self.new.links.items (keys ++ key ∷ [])) }
+    /// Adds the next number, with its key. 2^32 numbers, which would take 16 GiB, are too many.
+    pub(crate) fn add(&mut self, key: u32) -> Result<(), NoMemory>
+        requires { key < length self.old.heads.items }
+        ensures added { OnOk result ((keys : List (Option ℕ)) → AreChains self.old.heads.items self.old.links.items keys → AreChains self.new.heads.items self.new.links.items (keys ++ Some key ∷ [])) }
         ensures heads { length self.new.heads.items ≡ length self.old.heads.items }
-        ensures links { OnOk result (length self.new.links.items ≡ length self.old.links.items + 1) }
     {
-        let n = self.links.len() as u32;
-        match key {
-            None => self.links.push(n)?,
-            Some(key) => {
-                self.links.push(self.heads[key as usize])?;
-                self.heads[key as usize] = n;
-            }
+        if self.links.len() >= NONE as usize {
+            return Err(NoMemory);
         }
+        let n = self.links.len() as u32;
+        self.links.push(self.heads[key as usize])?;
+        self.heads[key as usize] = n;
         Ok(())
     }
 

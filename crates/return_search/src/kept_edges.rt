@@ -1,24 +1,11 @@
 //! The edges of a program without the Next of calls that can't come back.
 
-ghost use Rattle.std.specs.Prelude.{◌≡◌, ◌+◌, ◌<◌, ◌≤◌, ℕ, All, ◌++◌, IfOk, OnOk, filter, length, slice_index, slice_range};
-ghost use Rattle.return_search.specs.Told.{edges_from};
+ghost use Rattle.std.specs.Prelude.{◌≡◌, ◌≤◌, ◌++◌, drop, filter, length, slice_range, take};
 ghost use Rattle.return_search.specs.Shape.{HasShape, points_of};
-ghost use Rattle.return_search.specs.Search.{holds};
 ghost use Rattle.return_search.specs.Stays.{stays, AreKept};
 
 use crate::flow::Flow;
-use ot_base::NoMemory;
 use program_defs::{Edge, EdgeKind};
-use std::alloc::Global;
-
-/// Edges of points, as in a flow.
-#[derive(Drop)]
-pub(crate) struct KeptEdges {
-    /// Where the edges of each point begin, and once more where the last end.
-    pub(crate) starts: Vec<u32>,
-    /// The edges of all points.
-    pub(crate) edges: Vec<Edge>,
-}
 
 /// Whether control may go along an edge of this kind, from a point whose target returns or not.
 fn stays_edge(comes_back: bool, kind: EdgeKind) -> bool
@@ -30,34 +17,42 @@ fn stays_edge(comes_back: bool, kind: EdgeKind) -> bool
     }
 }
 
-/// Puts the edges of a point that stay behind others.
-fn keep_edges(edges: &[Edge], comes_back: bool, kept: &mut Vec<Edge>) -> Result<(), NoMemory>
-    ensures { OnOk result (kept.new.items ≡ kept.old.items ++ filter (λ e. stays comes_back e.kind) edges.now) }
+/// Moves the edges from one number to another that stay behind the first `kept`, and tells how many are kept then.
+fn keep_edges(edges: &mut Vec<Edge>, kept: usize, from: usize, to: usize, comes_back: bool) -> usize
+    requires before { kept ≤ from }
+    requires ordered { from ≤ to }
+    requires inside { to ≤ length edges.old.items }
+    ensures kept { take result edges.new.items ≡ take kept edges.old.items ++ filter (λ e. stays comes_back e.kind) (slice_range edges.old.items from to) }
+    ensures rest { drop to edges.new.items ≡ drop to edges.old.items }
+    ensures long { length edges.new.items ≡ length edges.old.items }
+    ensures within { result ≤ to }
 {
-    for edge in edges {
+    let mut end = kept;
+    for i in from..to {
+        let edge = edges[i];
         if stays_edge(comes_back, edge.kind) {
-            kept.push(*edge)?;
+            edges[end] = edge;
+            end += 1;
         }
     }
-    Ok(())
+    end
 }
 
-/// The edges of a flow that stay, where the targets of these points' calls return.
-pub(crate) fn kept_edges(
-    alloc: Global,
-    flow: &Flow,
-    comes_back: &[bool],
-) -> Result<KeptEdges, NoMemory>
-    requires shape { HasShape flow.now }
-    requires comes_back { length comes_back.now ≡ points_of flow.now }
-    ensures { IfOk result (λ kept. AreKept flow.now comes_back.now kept.starts.items kept.edges.items (points_of flow.now)) }
+/// Keeps of the edges of a flow those that stay, where the targets of these points' calls return.
+pub(crate) fn drop_edges(flow: &mut Flow, comes_back: &[bool])
+    requires shape { HasShape flow.old }
+    requires comes_back { length comes_back.now ≡ points_of flow.old }
+    ensures kept { AreKept flow.old comes_back.now flow.new.starts.items flow.new.edges.items (points_of flow.old) }
+    ensures dead_ends { flow.new.dead_ends ≡ flow.old.dead_ends }
+    ensures entered { flow.new.entered ≡ flow.old.entered }
 {
-    let mut edges = Vec::with_capacity(alloc, flow.edges.len())?;
-    let mut starts = Vec::with_capacity(alloc, flow.starts.len())?;
-    starts.push(0)?;
+    let mut kept = 0;
+    let mut from = 0;
     for q in 0..flow.exits.len() {
-        keep_edges(flow.edges_from(q), comes_back[q], &mut edges)?;
-        starts.push(edges.len() as u32)?;
+        let to = flow.starts[q + 1] as usize;
+        kept = keep_edges(&mut flow.edges, kept, from, to, comes_back[q]);
+        flow.starts[q + 1] = kept as u32;
+        from = to;
     }
-    Ok(KeptEdges { starts, edges })
+    flow.edges.truncate(kept);
 }

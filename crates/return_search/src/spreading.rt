@@ -1,13 +1,14 @@
 //! How returns are carried backwards over the edges of a program.
 
-ghost use Rattle.std.specs.Prelude.{◌≡◌, ◌+◌, ◌<◌, ◌&&◌, ◌↔◌, ℕ, true, false, IfOk, IsTrue, length, slice_index, slice_index_or, slice_set};
+ghost use Rattle.std.specs.Prelude.{◌≡◌, ◌+◌, ◌<◌, ◌&&◌, ◌↔◌, ℕ, true, false, IfOk, Contains, IsTrue, length, slice_index, slice_index_or, slice_set};
 ghost use Rattle.return_search.specs.declared.flow.Exit.TheVariants.{Calls, Leaves};
 ghost use Rattle.return_search.specs.Told.{dead_end_at, exit_at};
 ghost use Rattle.return_search.specs.Shape.{HasShape, points_of};
-ghost use Rattle.return_search.specs.Backward.{IsBackward, IsEdgeOf, edge_at};
-ghost use Rattle.return_search.specs.Search.{AreClosed, AreListed, AreSound, Extends, FindsAlong, FindsLeaving, IsSearch, carries as carries_back, holds, target_returns as does_target_return, is_calling};
+ghost use Rattle.return_search.specs.declared.backward.Lead.TheVariants.{Call, Edge};
+ghost use Rattle.return_search.specs.Backward.{IsBackward, IsEdgeOf, IsLead, edge_at};
+ghost use Rattle.return_search.specs.Search.{AreClosed, AreListed, AreSound, Extends, FindsAlong, FindsLeaving, FindsMore, IsCarriedBy, IsSearch, IsTaken, carries as carries_back, holds, target_returns as does_target_return, is_calling};
 
-use crate::backward::Backward;
+use crate::backward::{Backward, Lead};
 use crate::flow::{Exit, Flow};
 use crate::search::Search;
 use ot_base::NoMemory;
@@ -63,30 +64,6 @@ fn carries(flow: &Flow, known: &[bool], q: u32, kind: EdgeKind) -> bool
     }
 }
 
-/// Finds the points of the edges that lead to a point that is found.
-fn find_along(flow: &Flow, backward: &Backward, search: &mut Search, x: u32)
-    requires shape { HasShape flow.now }
-    requires backward { IsBackward flow.now backward.now }
-    requires listed { AreListed flow.now search.old }
-    requires sound { AreSound flow.now search.old.found.items search.old.known.items }
-    requires found { holds search.old.found.items x ≡ true }
-    requires point { x < points_of flow.now }
-    ensures listed { AreListed flow.now search.new }
-    ensures extends { Extends search.old search.new }
-    ensures known { search.new.known.items ≡ search.old.known.items }
-    ensures sound { AreSound flow.now search.new.found.items search.new.known.items }
-    ensures along { FindsAlong flow.now search.new.found.items search.old.known.items x }
-{
-    let mut next = backward.by_target.last(x);
-    'edges: while let Some(i) = next {
-        let q = backward.sources[i as usize];
-        if carries(flow, &search.known, q, flow.edges[i as usize].kind) {
-            search.find(flow, q);
-        }
-        next = backward.by_target.before(i);
-    }
-}
-
 /// Whether a return is carried to a point from one that is found.
 fn is_carried_to(flow: &Flow, search: &Search, q: u32) -> bool
     requires shape { HasShape flow.now }
@@ -104,6 +81,116 @@ fn is_carried_to(flow: &Flow, search: &Search, q: u32) -> bool
     false
 }
 
+/// Finds a point, if a return is carried to it from one that is found.
+fn find_carried(flow: &Flow, search: &mut Search, q: u32)
+    requires shape { HasShape flow.now }
+    requires listed { AreListed flow.now search.old }
+    requires sound { AreSound flow.now search.old.found.items search.old.known.items }
+    requires point { q < points_of flow.now }
+    ensures more { FindsMore flow.now search.old search.new }
+    ensures found { (i : ℕ) → IsCarriedBy flow.now search.old.found.items search.old.known.items q i → holds search.new.found.items q ≡ true }
+{
+    if is_carried_to(flow, search, q) {
+        search.find(flow, q);
+    }
+}
+
+/// Finds a point, if a return is carried to it along this edge, which leads to a point that is found.
+fn find_by_edge(flow: &Flow, search: &mut Search, q: u32, number: u32)
+    requires shape { HasShape flow.now }
+    requires listed { AreListed flow.now search.old }
+    requires sound { AreSound flow.now search.old.found.items search.old.known.items }
+    requires edge { IsEdgeOf flow.now q number }
+    requires found { holds search.old.found.items (edge_at flow.now number).to ≡ true }
+    ensures more { FindsMore flow.now search.old search.new }
+    ensures found { carries_back flow.now search.old.known.items q (edge_at flow.now number).kind ≡ true → holds search.new.found.items q ≡ true }
+{
+    if carries(flow, &search.known, q, flow.edges[number as usize].kind) {
+        search.find(flow, q);
+    }
+}
+
+/// Finds the point of an edge that leads to a point that is found. A call is passed over.
+fn find_edge(flow: &Flow, search: &mut Search, lead: Lead)
+    requires shape { HasShape flow.now }
+    requires listed { AreListed flow.now search.old }
+    requires sound { AreSound flow.now search.old.found.items search.old.known.items }
+    requires own { IsLead flow.now lead }
+    requires found { (q i : ℕ) → lead ≡ Edge q i → holds search.old.found.items (edge_at flow.now i).to ≡ true }
+    ensures more { FindsMore flow.now search.old search.new }
+    ensures found { (q i : ℕ) → lead ≡ Edge q i → carries_back flow.now search.old.known.items q (edge_at flow.now i).kind ≡ true → holds search.new.found.items q ≡ true }
+{
+    match lead {
+        Lead::Edge { from, number } => find_by_edge(flow, search, from, number),
+        Lead::Call { .. } => {}
+    }
+}
+
+/// Finds a call of an entry that is known to return. An edge is passed over.
+fn find_call(flow: &Flow, search: &mut Search, lead: Lead)
+    requires shape { HasShape flow.now }
+    requires listed { AreListed flow.now search.old }
+    requires sound { AreSound flow.now search.old.found.items search.old.known.items }
+    requires own { IsLead flow.now lead }
+    ensures more { FindsMore flow.now search.old search.new }
+    ensures found { (q i : ℕ) → lead ≡ Call q → IsCarriedBy flow.now search.old.found.items search.old.known.items q i → holds search.new.found.items q ≡ true }
+{
+    match lead {
+        Lead::Call { from } => find_carried(flow, search, from),
+        Lead::Edge { .. } => {}
+    }
+}
+
+/// Finds the points of the edges that lead to a point that is found, but for those to which it is the one right behind.
+fn find_along_listed(flow: &Flow, backward: &Backward, search: &mut Search, x: u32)
+    requires shape { HasShape flow.now }
+    requires backward { IsBackward flow.now backward.now }
+    requires listed { AreListed flow.now search.old }
+    requires sound { AreSound flow.now search.old.found.items search.old.known.items }
+    requires found { holds search.old.found.items x ≡ true }
+    requires point { x < points_of flow.now }
+    ensures more { FindsMore flow.now search.old search.new }
+    ensures along { (q i : ℕ) → Contains backward.now.leads.items (Edge q i) → (edge_at flow.now i).to ≡ x → carries_back flow.now search.old.known.items q (edge_at flow.now i).kind ≡ true → holds search.new.found.items q ≡ true }
+{
+    let mut next = backward.chains.last(x);
+    'leads: while let Some(k) = next {
+        find_edge(flow, search, backward.leads[k as usize]);
+        next = backward.chains.before(k);
+    }
+}
+
+/// Finds the point right before a point that is found, if a return is carried to it.
+fn find_before(flow: &Flow, search: &mut Search, x: u32)
+    requires shape { HasShape flow.now }
+    requires listed { AreListed flow.now search.old }
+    requires sound { AreSound flow.now search.old.found.items search.old.known.items }
+    requires point { x < points_of flow.now }
+    ensures more { FindsMore flow.now search.old search.new }
+    ensures before { (q i : ℕ) → q + 1 ≡ x → IsCarriedBy flow.now search.old.found.items search.old.known.items q i → holds search.new.found.items q ≡ true }
+{
+    if x > 0 {
+        find_carried(flow, search, x - 1);
+    }
+}
+
+/// Finds the points of the edges that lead to a point that is found.
+fn find_along(flow: &Flow, backward: &Backward, search: &mut Search, x: u32)
+    requires shape { HasShape flow.now }
+    requires backward { IsBackward flow.now backward.now }
+    requires listed { AreListed flow.now search.old }
+    requires sound { AreSound flow.now search.old.found.items search.old.known.items }
+    requires found { holds search.old.found.items x ≡ true }
+    requires point { x < points_of flow.now }
+    ensures listed { AreListed flow.now search.new }
+    ensures extends { Extends search.old search.new }
+    ensures known { search.new.known.items ≡ search.old.known.items }
+    ensures sound { AreSound flow.now search.new.found.items search.new.known.items }
+    ensures along { FindsAlong flow.now search.new.found.items search.old.known.items x }
+{
+    find_before(flow, search, x);
+    find_along_listed(flow, backward, search, x);
+}
+
 /// Finds the calls of an entry that is known to return.
 fn find_calls(flow: &Flow, backward: &Backward, search: &mut Search, entry: u32)
     requires shape { HasShape flow.now }
@@ -117,25 +204,21 @@ fn find_calls(flow: &Flow, backward: &Backward, search: &mut Search, entry: u32)
     ensures sound { AreSound flow.now search.new.found.items search.new.known.items }
     ensures calls { (q i : ℕ) → exit_at flow.now q ≡ Calls entry → IsEdgeOf flow.now q i → holds search.old.found.items (edge_at flow.now i).to ≡ true → carries_back flow.now search.old.known.items q (edge_at flow.now i).kind ≡ true → holds search.new.found.items q ≡ true }
 {
-    let mut next = backward.by_entry.last(entry);
-    'calls: while let Some(q) = next {
-        if is_carried_to(flow, search, q) {
-            search.find(flow, q);
-        }
-        next = backward.by_entry.before(q);
+    let mut next = backward.chains.last(entry);
+    'leads: while let Some(k) = next {
+        find_call(flow, search, backward.leads[k as usize]);
+        next = backward.chains.before(k);
     }
 }
 
-/// Passes a return on from the point that was found as the i-th.
-fn pass_on(flow: &Flow, backward: &Backward, search: &mut Search, i: usize)
+/// Passes a return on from a point that was taken.
+fn pass_on(flow: &Flow, backward: &Backward, search: &mut Search, x: u32)
     requires shape { HasShape flow.now }
     requires backward { IsBackward flow.now backward.now }
-    requires search { IsSearch flow.now search.old i }
-    requires inside { i < length search.old.order.items }
-    ensures search { IsSearch flow.now search.new (i + 1) }
+    requires taken { IsTaken flow.now search.old x }
+    ensures search { IsSearch flow.now search.new }
     ensures extends { Extends search.old search.new }
 {
-    let x = search.order[i];
     find_along(flow, backward, search, x);
     if let Some(entry) = flow.entered[x as usize] {
         if !search.known[entry as usize] {
@@ -174,12 +257,10 @@ pub(crate) fn spread(alloc: Global, flow: &Flow) -> Result<Search, NoMemory>
 {
     let backward = Backward::new(alloc, flow)?;
     let mut search = Search::new(alloc, flow)?;
-    let mut i = 0;
     for q in 0..flow.exits.len() as u32 {
         find_leaving(flow, &mut search, q);
-        'found: while i < search.order.len() {
-            pass_on(flow, &backward, &mut search, i);
-            i += 1;
+        'waiting: while let Some(x) = search.take(flow) {
+            pass_on(flow, &backward, &mut search, x);
         }
     }
     Ok(search)

@@ -18,8 +18,8 @@ returns-clause-told c p tells is =
     let known : c.deref.result.now ≡ s.known.items = cc in
     let each : (q : ℕ) → q < points_of flow → holds targets q ≡ target_returns s.known.items (exit_at flow q) =
     λ q l. subst (λ (ks : List Bool). holds targets q ≡ target_returns ks (exit_at flow q)) known (c.in_ok-comes_back.ensures.each q l) in
-    let kept : AreKept flow targets c.in_ok-starts.field-0.starts.items c.in_ok-starts.field-0.edges.items (points_of flow) =
-    subst (λ (ts : List Bool). AreKept flow ts c.in_ok-starts.field-0.starts.items c.in_ok-starts.field-0.edges.items (points_of flow)) c.deref-2.ensures.value c.in_ok-starts.ensures in
+    let kept : AreKept flow targets c.drop_edges.new.flow.starts.items c.drop_edges.new.flow.edges.items (points_of flow) =
+    subst (λ (ts : List Bool). AreKept flow ts c.drop_edges.new.flow.starts.items c.drop_edges.new.flow.edges.items (points_of flow)) c.deref-2.ensures.value c.drop_edges.ensures.kept in
     record {
       may_return = λ q point. may_return_is p flow tells c.requires is s.found.items s.known.items found.sound found.closed q point (omega (arith, inside q point, found.listed.long));
       comes_back = λ q point. comes_back_is p flow tells c.requires is s.found.items s.known.items found.sound found.closed targets q point (omega (arith, inside q point, c.in_ok-comes_back.ensures.len)) (each q (inside q point));

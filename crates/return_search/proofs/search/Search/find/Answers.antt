@@ -1,8 +1,8 @@
 -- A point that is found is listed.
-use Rattle.std.proofs.Common.{◌≡◌, ◌<◌, false, length, sym, ◌∙◌, arith, length-set}
+use Rattle.std.proofs.Common.{◌≡◌, ◌<◌, false, length, refl, sym, ◌∙◌, arith, length-set}
 use Rattle.std.proofs.lemmas.List.{get_or_read}
 use Rattle.return_search.specs.Search.{holds}
-use Rattle.return_search.proofs.Steps.{count_push, found_push, listed_push, room_for}
+use Rattle.return_search.proofs.Steps.{count_push, extends_one, found_push, room_for}
 use Rattle.return_search.proofs.search.Search.find.Goals as goal
 
 pub push_reserved-requires : goal.push_reserved-requires
@@ -21,7 +21,13 @@ returns-then-not-index-clause-listed c =
       long = length-set s.found.items c.args.q _ ∙ c.requires.listed.long;
       room = rw c.push_reserved.ensures.capacity c.requires.listed.room;
       once = omega (arith, c.push_reserved.ensures.len, count_push s.found.items c.args.q inside new, c.requires.listed.once);
-      listed = rw c.push_reserved.ensures.items (listed_push s.found.items s.order.items c.args.q c.requires.listed.listed);
-      found = rw c.push_reserved.ensures.items (found_push s.found.items s.order.items c.args.q inside c.requires.listed.found);
+      found = rw c.push_reserved.ensures.items (found_push s.found.items s.waiting.items c.args.q inside c.requires.listed.found);
       known = c.requires.listed.known;
     }
+
+pub returns-then-not-index-clause-extends : goal.returns-then-not-index-clause-extends
+returns-then-not-index-clause-extends c =
+    let s = c.args.self.now in
+    let inside : c.args.q < length s.found.items = omega (arith, c.requires.point, c.requires.listed.long) in
+    let new : holds s.found.items c.args.q ≡ false = sym (get_or_read s.found.items c.args.q (c.index.result).now inside c.index.ensures false) ∙ c.if-not-index.true in
+    extends_one s _ c.args.q inside new refl c.push_reserved.ensures.items
