@@ -1,5 +1,5 @@
 -- What one more point in front gives.
-use Rattle.std.proofs.Common.{◌≡◌, ◌≢◌, ◌↔◌, ℕ, ◌+◌, ◌<◌, Bool, true, false, List, [], ◌∷◌, ◌⊎◌, inl, inr, Option, Some, None, Contains, if◌then◌else◌, length, take, get_or, set, refl, ap, sym, ◌∙◌, subst, arith, length-set}
+use Rattle.std.proofs.Common.{◌≡◌, ◌≢◌, ◌↔◌, ℕ, ◌+◌, ◌<◌, Bool, true, false, ◌||◌, List, [], ◌∷◌, ◌⊎◌, inl, inr, Option, Some, None, Contains, if◌then◌else◌, length, take, get_or, set, refl, ap, sym, ◌∙◌, subst, arith, length-set}
 use Rattle.std.proofs.lemmas.List.{take_more}
 use Rattle.std.proofs.lemmas.List.Elements.{Contains-append_left, Contains-append_right, Contains-append_cases}
 use Rattle.operation_defs.specs.declared.op.Op.{Op}
@@ -12,7 +12,7 @@ use Rattle.unwinding_law.proofs.Lists.{here, there, cases, nowhere}
 use Rattle.unwinding_law.proofs.KeptStates.{brings_along, brings_edge}
 use Rattle.program_graph.specs.Tells.{Means}
 use Rattle.branch_check.specs.Least.{IsLeast, lesser_of}
-use Rattle.branch_check.specs.LevelStates.{at, after_offer}
+use Rattle.branch_check.specs.LevelStates.{Offers, after_offer, at, is_settled, offered}
 use Rattle.branch_check.specs.Gives.{Gives, IsGiven}
 use Rattle.branch_check.specs.Told.{AreLeast, offer_all, given_along, given_to_restore}
 use Rattle.branch_check.proofs.Least.{least_more, least_same}
@@ -29,38 +29,47 @@ more_new : {X : Type 0} (xs : List X) (i : ℕ) (d : X) → i < length xs → Co
 more_new xs i d l = subst (λ ys. Contains ys (get_or xs i d)) (sym (take_more xs i d l)) (Contains-append_right (take i xs) (get_or xs i d ∷ []) (get_or xs i d) (here (get_or xs i d) []))
 
 -- of the same states
-pub least_alike : (kept next : List (Option State)) (P Q : ℕ → State → Type 0) → ((q : ℕ) (u : State) → q < length kept → P q u ↔ Q q u) → AreLeast kept next P → AreLeast kept next Q
-least_alike kept next P Q same h = λ q l vacant. least_same (P q) (Q q) (at next q) (λ u. same q u l) (h q l vacant)
+pub least_alike : (kept : List (Option State)) (next : Offers) (P Q : ℕ → State → Type 0) → ((q : ℕ) (u : State) → q < length kept → P q u ↔ Q q u) → AreLeast kept next P → AreLeast kept next Q
+least_alike kept next P Q same h = record {
+  least = λ q l vacant. least_same (P q) (Q q) (at next.states q) (λ u. same q u l) (h.least q l vacant);
+  unmet = λ e q u l x. h.unmet e q u l ((same q u l).1 x);
+}
 
 module _ (kept : List (Option State)) (n : ℕ) where
   -- one offer
-  one_offer : (next : List (Option State)) (t : State) (P : ℕ → State → Type 0) → n < length next → AreLeast kept next P → AreLeast kept (set next n (after_offer (at kept n) (at next n) t)) (λ q u. P q u ⊎ ((q ≡ n) × (u ≡ t)))
-  one_offer next t P inside h = λ q l vacant. elim (same_or_not n q) [ inl e ↦ same q e l vacant | inr ne ↦ other q ne l vacant ]
+  one_offer : (next : Offers) (t : State) (P : ℕ → State → Type 0) → n < length next.states → AreLeast kept next P → AreLeast kept (offered kept next n t) (λ q u. P q u ⊎ ((q ≡ n) × (u ≡ t)))
+  one_offer next t P inside h = record {
+    least = λ q l vacant. elim (same_or_not n q) [ inl e ↦ same q e l vacant | inr ne ↦ other q ne l vacant ];
+    unmet = λ e q u l x. unmet (next.met) (is_settled next n) refl refl e q u l x;
+  }
     where
-      Q : ℕ → State → Type 0
-      Q = λ q u. P q u ⊎ ((q ≡ n) × (u ≡ t))
+      unmet : (a b : Bool) → next.met ≡ a → is_settled next n ≡ b → (a || b) ≡ false → (q : ℕ) (u : State) → q < length kept → P q u ⊎ ((q ≡ n) × (u ≡ t)) → is_settled next q ≡ false
+      unmet true b x y e q u l k = absurd (let z : ⊥ = cc in z)
+      unmet false true x y e q u l k = absurd (let z : ⊥ = cc in z)
+      unmet false false x y e q u l (inl k) = h.unmet x q u l k
+      unmet false false x y e q u l (inr (k, w)) = subst (λ (r : ℕ). is_settled next r ≡ false) (sym k) y
 
-      at_n : n < length kept → at kept n ≡ None → IsLeast (λ u. P n u ⊎ ((n ≡ n) × (u ≡ t))) (at (set next n (after_offer (at kept n) (at next n) t)) n)
+      at_n : n < length kept → at kept n ≡ None → IsLeast (λ u. P n u ⊎ ((n ≡ n) × (u ≡ t))) (at (set next.states n (after_offer (at kept n) (at next.states n) t)) n)
       at_n l vacant =
-          let e : after_offer (at kept n) (at next n) t ≡ Some (lesser_of (at next n) t) = ap (λ o. after_offer o (at next n) t) vacant in
-          let f : at (set next n (after_offer (at kept n) (at next n) t)) n ≡ Some (lesser_of (at next n) t) = at_same next n (after_offer (at kept n) (at next n) t) inside ∙ e in
-          subst (λ o. IsLeast (λ u. P n u ⊎ ((n ≡ n) × (u ≡ t))) o) (sym f) (least_more (P n) (λ u. P n u ⊎ ((n ≡ n) × (u ≡ t))) (at next n) t (λ u. (λ k. elim k [ inl a ↦ inl a | inr b ↦ inr b.1 ], λ k. elim k [ inl a ↦ inl a | inr b ↦ inr (refl, b) ])) (h n l vacant))
+          let e : after_offer (at kept n) (at next.states n) t ≡ Some (lesser_of (at next.states n) t) = ap (λ o. after_offer o (at next.states n) t) vacant in
+          let f : at (set next.states n (after_offer (at kept n) (at next.states n) t)) n ≡ Some (lesser_of (at next.states n) t) = at_same next.states n (after_offer (at kept n) (at next.states n) t) inside ∙ e in
+          subst (λ o. IsLeast (λ u. P n u ⊎ ((n ≡ n) × (u ≡ t))) o) (sym f) (least_more (P n) (λ u. P n u ⊎ ((n ≡ n) × (u ≡ t))) (at next.states n) t (λ u. (λ k. elim k [ inl a ↦ inl a | inr b ↦ inr b.1 ], λ k. elim k [ inl a ↦ inl a | inr b ↦ inr (refl, b) ])) (h.least n l vacant))
 
-      same : (q : ℕ) → q ≡ n → q < length kept → at kept q ≡ None → IsLeast (λ u. P q u ⊎ ((q ≡ n) × (u ≡ t))) (at (set next n (after_offer (at kept n) (at next n) t)) q)
-      same q e = subst (λ (q : ℕ). q < length kept → at kept q ≡ None → IsLeast (λ u. P q u ⊎ ((q ≡ n) × (u ≡ t))) (at (set next n (after_offer (at kept n) (at next n) t)) q)) (sym e) at_n
+      same : (q : ℕ) → q ≡ n → q < length kept → at kept q ≡ None → IsLeast (λ u. P q u ⊎ ((q ≡ n) × (u ≡ t))) (at (set next.states n (after_offer (at kept n) (at next.states n) t)) q)
+      same q e = subst (λ (q : ℕ). q < length kept → at kept q ≡ None → IsLeast (λ u. P q u ⊎ ((q ≡ n) × (u ≡ t))) (at (set next.states n (after_offer (at kept n) (at next.states n) t)) q)) (sym e) at_n
 
-      other : (q : ℕ) → q ≢ n → q < length kept → at kept q ≡ None → IsLeast (λ u. P q u ⊎ ((q ≡ n) × (u ≡ t))) (at (set next n (after_offer (at kept n) (at next n) t)) q)
+      other : (q : ℕ) → q ≢ n → q < length kept → at kept q ≡ None → IsLeast (λ u. P q u ⊎ ((q ≡ n) × (u ≡ t))) (at (set next.states n (after_offer (at kept n) (at next.states n) t)) q)
       other q ne l vacant =
-          subst (λ o. IsLeast (λ u. P q u ⊎ ((q ≡ n) × (u ≡ t))) o) (sym (at_other next n q (after_offer (at kept n) (at next n) t) ne))
-          (least_same (P q) (λ u. P q u ⊎ ((q ≡ n) × (u ≡ t))) (at next q) (λ u. (λ k. inl k, λ k. elim k [ inl a ↦ a | inr b ↦ absurd (ne b.0) ])) (h q l vacant))
+          subst (λ o. IsLeast (λ u. P q u ⊎ ((q ≡ n) × (u ≡ t))) o) (sym (at_other next.states n q (after_offer (at kept n) (at next.states n) t) ne))
+          (least_same (P q) (λ u. P q u ⊎ ((q ≡ n) × (u ≡ t))) (at next.states q) (λ u. (λ k. inl k, λ k. elim k [ inl a ↦ a | inr b ↦ absurd (ne b.0) ])) (h.least q l vacant))
 
   -- some offers in turn
-  pub offers : (gifts : List State) (next : List (Option State)) (P Q : ℕ → State → Type 0) → n < length next → AreLeast kept next P
+  pub offers : (gifts : List State) (next : Offers) (P Q : ℕ → State → Type 0) → n < length next.states → AreLeast kept next P
       → ((q : ℕ) (u : State) → q < length kept → Q q u ↔ (P q u ⊎ ((q ≡ n) × Contains gifts u))) → AreLeast kept (offer_all kept next n gifts) Q
   offers [] next P Q inside h same = least_alike kept next P Q (λ q u l. (λ k. (same q u l).1 (inl k), λ k. elim ((same q u l).0 k) [ inl a ↦ a | inr b ↦ nowhere u b.1 ])) h
   offers (t ∷ gifts) next P Q inside h same =
-      offers gifts (set next n (after_offer (at kept n) (at next n) t)) (λ q u. P q u ⊎ ((q ≡ n) × (u ≡ t))) Q
-      (let e : length (set next n (after_offer (at kept n) (at next n) t)) ≡ length next = length-set next n (after_offer (at kept n) (at next n) t) in omega (arith, e, inside))
+      offers gifts (offered kept next n t) (λ q u. P q u ⊎ ((q ≡ n) × (u ≡ t))) Q
+      (let e : length (offered kept next n t).states ≡ length next.states = length-set next.states n (after_offer (at kept n) (at next.states n) t) in omega (arith, e, inside))
       (one_offer next t P inside h)
       (λ q u l. (λ k. to q u ((same q u l).0 k), λ k. (same q u l).1 (from q u k)))
     where
@@ -73,9 +82,9 @@ module _ (kept : List (Option State)) (n : ℕ) where
       from q u (inl (inr (e, f))) = inr (e, subst (λ (x : State). Contains (t ∷ gifts) x) (sym f) (here t gifts))
       from q u (inr (e, c)) = inr (e, there t gifts u c)
 
-  pub length-offers : (gifts : List State) (next : List (Option State)) → length (offer_all kept next n gifts) ≡ length next
+  pub length-offers : (gifts : List State) (next : Offers) → length (offer_all kept next n gifts).states ≡ length next.states
   length-offers [] next = refl
-  length-offers (t ∷ gifts) next = length-offers gifts (set next n (after_offer (at kept n) (at next n) t)) ∙ length-set next n (after_offer (at kept n) (at next n) t)
+  length-offers (t ∷ gifts) next = length-offers gifts (offered kept next n t) ∙ length-set next.states n (after_offer (at kept n) (at next.states n) t)
 
 -- what comes along some edges, and to some RESTOREs
 abbrev pub FromEdges : Program → State → Op → List Edge → ℕ → State → Type 0
@@ -91,10 +100,10 @@ abbrev pub WithRestores : (ℕ → State → Type 0) → Program → State → L
 WithRestores A p s restores q u = A q u ⊎ FromRestores p s restores q u
 
 module _ (kept : List (Option State)) (p : Program) (s : State) (A : ℕ → State → Type 0) where
-  pub no_edge : (next : List (Option State)) (op : Op) (edges : List Edge) → AreLeast kept next A → AreLeast kept next (WithEdges A p s op (take 0 edges))
+  pub no_edge : (next : Offers) (op : Op) (edges : List Edge) → AreLeast kept next A → AreLeast kept next (WithEdges A p s op (take 0 edges))
   no_edge next op edges h = least_alike kept next A (WithEdges A p s op (take 0 edges)) (λ q u l. (λ k. inl k, λ k. elim k [ inl a ↦ a | inr b ↦ nowhere b.0 b.1 ])) h
 
-  pub edge_more : (next : List (Option State)) (op : Op) (edges : List Edge) (j : ℕ) (d e : Edge) → j < length edges → e ≡ get_or edges j d → e.to < length next
+  pub edge_more : (next : Offers) (op : Op) (edges : List Edge) (j : ℕ) (d e : Edge) → j < length edges → e ≡ get_or edges j d → e.to < length next.states
       → AreLeast kept next (WithEdges A p s op (take j edges)) → AreLeast kept (offer_all kept next e.to (given_along p s op e)) (WithEdges A p s op (take (j + 1) edges))
   edge_more next op edges j d e l is inside h = offers kept e.to (given_along p s op e) next (WithEdges A p s op (take j edges)) (WithEdges A p s op (take (j + 1) edges)) inside h (λ q u k. (λ x. to q u x, λ x. from q u x))
     where
@@ -107,10 +116,10 @@ module _ (kept : List (Option State)) (p : Program) (s : State) (A : ℕ → Sta
       from q u (inl (inr (f, c, t, g))) = inr (f, more_old edges j d f l c, t, g)
       from q u (inr (t, g)) = inr (e, subst (λ (x : Edge). Contains (take (j + 1) edges) x) (sym is) (more_new edges j d l), sym t, g)
 
-  pub no_restore : (next : List (Option State)) (restores : List ℕ) → AreLeast kept next A → AreLeast kept next (WithRestores A p s (take 0 restores))
+  pub no_restore : (next : Offers) (restores : List ℕ) → AreLeast kept next A → AreLeast kept next (WithRestores A p s (take 0 restores))
   no_restore next restores h = least_alike kept next A (WithRestores A p s (take 0 restores)) (λ q u l. (λ k. inl k, λ k. elim k [ inl a ↦ a | inr b ↦ nowhere q b.0 ])) h
 
-  pub restore_more : (next : List (Option State)) (restores : List ℕ) (j r : ℕ) → j < length restores → r ≡ get_or restores j 0 → r < length next
+  pub restore_more : (next : Offers) (restores : List ℕ) (j r : ℕ) → j < length restores → r ≡ get_or restores j 0 → r < length next.states
       → AreLeast kept next (WithRestores A p s (take j restores)) → AreLeast kept (offer_all kept next r (given_to_restore p s r)) (WithRestores A p s (take (j + 1) restores))
   restore_more next restores j r l is inside h = offers kept r (given_to_restore p s r) next (WithRestores A p s (take j restores)) (WithRestores A p s (take (j + 1) restores)) inside h (λ q u k. (λ x. to q u x, λ x. from q u x))
     where
@@ -162,7 +171,7 @@ module _ (p : Program) (a : ℕ) (s : State) where
 
 module _ (p : Program) (kept : List (Option State)) (front : List ℕ) (i : ℕ) (a : ℕ) (l : i < length front) (is : a ≡ get_or front i 0) (count : p.count ≡ length kept) where
   -- a point without a state gives nothing
-  pub given_none : (next : List (Option State)) → at kept a ≡ None → AreLeast kept next (IsGiven p (at kept) (take i front)) → AreLeast kept next (IsGiven p (at kept) (take (i + 1) front))
+  pub given_none : (next : Offers) → at kept a ≡ None → AreLeast kept next (IsGiven p (at kept) (take i front)) → AreLeast kept next (IsGiven p (at kept) (take (i + 1) front))
   given_none next none h = least_alike kept next (IsGiven p (at kept) (take i front)) (IsGiven p (at kept) (take (i + 1) front)) (λ q u k. (λ x. to q u x, λ x. from q u x)) h
     where
       to : (q : ℕ) (u : State) → IsGiven p (at kept) (take i front) q u → IsGiven p (at kept) (take (i + 1) front) q u
@@ -171,7 +180,7 @@ module _ (p : Program) (kept : List (Option State)) (front : List ℕ) (i : ℕ)
       from : (q : ℕ) (u : State) → IsGiven p (at kept) (take (i + 1) front) q u → IsGiven p (at kept) (take i front) q u
       from q u (b, t, c, e, g) = elim (in_more front i 0 b l c) [ inl d ↦ (b, t, d, e, g) | inr same ↦ absurd (let k : at kept b ≡ None = subst (λ (x : ℕ). at kept x ≡ None) (is ∙ same) none in let z : ⊥ = cc in z) ]
 
-  pub given_more : (next : List (Option State)) (s : State) (restores : List ℕ) → at kept a ≡ Some s → ((r : ℕ) → Contains restores r ↔ Means p a r)
+  pub given_more : (next : Offers) (s : State) (restores : List ℕ) → at kept a ≡ Some s → ((r : ℕ) → Contains restores r ↔ Means p a r)
       → AreLeast kept next (WithRestores (WithEdges (IsGiven p (at kept) (take i front)) p s (p.insn a).op (edges_of p a)) p s restores) → AreLeast kept next (IsGiven p (at kept) (take (i + 1) front))
   given_more next s restores has mean h = least_alike kept next (WithRestores (WithEdges (IsGiven p (at kept) (take i front)) p s (p.insn a).op (edges_of p a)) p s restores) (IsGiven p (at kept) (take (i + 1) front)) (λ q u k. (λ x. to q u (point q k) x, λ x. from q u (point q k) x)) h
     where

@@ -1,14 +1,13 @@
--- From one level to the next, and what stays at the last.
-use Rattle.std.proofs.Common.{◌≡◌, ℕ, zero, suc, ◌+◌, Bool, true, false, List, [], ◌∷◌, ◌⊎◌, inl, inr, Option, Some, None, IsSome, Contains, if◌then◌else◌, option_and_then, refl, ap, sym, ◌∙◌, subst, add_comm, arith}
+-- From one level to the next.
+use Rattle.std.proofs.Common.{◌≡◌, ℕ, suc, Bool, true, false, List, [], ◌∷◌, ◌⊎◌, inl, inr, Option, Some, None, IsSome, Contains, if◌then◌else◌, option_and_then, refl, ap, sym, ◌∙◌, subst, arith}
 use Rattle.state_defs.specs.declared.state.State.{State}
 use Rattle.state_defs.specs.declared.state.HintState.{HintState}
 use Rattle.state_defs.specs.declared.state.HintState.TheVariants.{Set, Save, Restore}
 use Rattle.program_defs.specs.Program.{Program, IsPoint, below}
-use Rattle.program_defs.specs.IsProgram.{IsProgram, HintsStandAtPoints}
-use Rattle.checker_defs.specs.Kept.{Brings, brought, brought_from, is_free, later_state, kept_or, state_at, Kept, AreKeptStates}
-use Rattle.checker_defs.proofs.KeptLemmas.{kept_next, kept_stays}
+use Rattle.program_defs.specs.IsProgram.{IsProgram}
+use Rattle.checker_defs.specs.Kept.{Brings, brought, brought_from, is_free, later_state, kept_or, state_at}
+use Rattle.checker_defs.proofs.KeptLemmas.{kept_next}
 use Rattle.unwinding_law.proofs.Lists.{here, there, cases, nowhere, in_flat_map, from_flat_map, in_below, from_below}
-use Rattle.unwinding_law.proofs.KeptPoints.{kept_are_points}
 use Rattle.branch_check.specs.Least.{IsLeast}
 use Rattle.branch_check.specs.Gives.{Gives, IsGiven, IsLevel}
 use Rattle.branch_check.proofs.Least.{least_of, least_one, least_same, least_is_one}
@@ -27,11 +26,11 @@ is_in (x ∷ xs) a = go (let k : (x ≡ a) ⊎ (x ≡ a → ⊥) = same x a in k
     go (inr ne) (inr isnt) = inr (λ c. elim (cases x xs a c) [ inl e ↦ ne e | inr d ↦ isnt d ])
 
 -- a state that a point has
-some_state : (o : Option State) → (o ≡ None) ⊎ ((s : State) × (o ≡ Some s))
+pub some_state : (o : Option State) → (o ≡ None) ⊎ ((s : State) × (o ≡ Some s))
 some_state None = inl refl
 some_state (Some s) = inr (s, refl)
 
-not_none : {P : Type 0} (o : Option State) → o ≡ None → IsSome o → P
+pub not_none : {P : Type 0} (o : Option State) → o ≡ None → IsSome o → P
 not_none None e h = absurd (let k : ⊥ = cc in k)
 not_none (Some s) e h = absurd (let k : ⊥ = cc in k)
 
@@ -43,7 +42,7 @@ pub state_of_some : (o : Option State) → IsSome o → (s : State) × (o ≡ So
 state_of_some None h = absurd (let k : ⊥ = cc in k)
 state_of_some (Some s) h = (s, refl)
 
-is_some_of : (o : Option State) (s : State) → o ≡ Some s → IsSome o
+pub is_some_of : (o : Option State) (s : State) → o ≡ Some s → IsSome o
 is_some_of None s e = absurd (let k : ⊥ = cc in k)
 is_some_of (Some t) s e = refl
 
@@ -55,12 +54,12 @@ kept_or_later : (o w : Option State) → IsSome w → IsSome (kept_or o w)
 kept_or_later None w h = h
 kept_or_later (Some s) w h = refl
 
-kept_or_none : (o : Option State) → kept_or o None ≡ o
+pub kept_or_none : (o : Option State) → kept_or o None ≡ o
 kept_or_none None = refl
 kept_or_none (Some s) = refl
 
 -- what is given is some state at the next level
-least_some : (P : State → Type 0) (o : Option State) (t : State) → IsLeast P o → P t → IsSome o
+pub least_some : (P : State → Type 0) (o : Option State) (t : State) → IsLeast P o → P t → IsSome o
 least_some P None t h k = absurd (h t k)
 least_some P (Some m) t h k = refl
 
@@ -173,25 +172,3 @@ module _ (p : Program) (is : IsProgram p) (n : ℕ) (states : ℕ → Option Sta
         given a q s t pa pq e isnt g =
             let k : states a ≡ Some s = old a s pa e isnt in
             reach q t pq (states q) refl (λ none. (a, s, in_front a q s t pa pq none k g, k, g))
-
--- the first level
-pub first_level : (p : Program) (states : ℕ → Option State) (front : List ℕ) → ((q : ℕ) → IsPoint p q → states q ≡ state_at p 0 q) → ((q : ℕ) → IsPoint p q → IsSome (states q) → Contains front q) → IsLevel p 0 states front
-first_level p states front same all = record { same = same; given = λ a q s t pa pq e isnt g. absurd (isnt (all a pa (is_some_of (states a) s e))) }
-
--- where nothing is in front, the level is the last
-stays : (p : Program) (is : IsProgram p) (n : ℕ) (states : ℕ → Option State) (more : ℕ) → IsLevel p n states [] → IsLevel p (more + n) states []
-stays p is n states zero level = subst (λ (k : ℕ). IsLevel p k states []) (let e : n ≡ zero + n = omega arith in e) level
-stays p is n states (suc more) level =
-    let k : IsLevel p (suc (more + n)) states [] =
-    next_level p is (more + n) states [] (stays p is n states more level) (λ a c. nowhere a c) (λ q. None) (λ q pq e t g. nowhere g.0 g.2) states [] (λ q pq. sym (kept_or_none (states q))) (λ q pq h. absurd (let z : ⊥ = cc in z)) in
-    subst (λ (k : ℕ). IsLevel p k states []) (let e : suc (more + n) ≡ suc more + n = omega arith in e) k
-
-pub last_level : (p : Program) → IsProgram p → HintsStandAtPoints p → (n : ℕ) (states : ℕ → Option State) → IsLevel p n states [] → ((q : ℕ) (s : State) → states q ≡ Some s → IsPoint p q) → AreKeptStates p states
-last_level p is hints n states level points q s = (λ e. (n, sym (level.same q (points q s e)) ∙ e), λ k. from k)
-  where
-    from : Kept p q s → states q ≡ Some s
-    from (m, e) =
-        let pq : IsPoint p q = kept_are_points p is hints q s (m, e) in
-        let l : IsLevel p (m + n) states [] = stays p is n states m level in
-        let k : state_at p (n + m) q ≡ Some s = kept_stays p m n q s e in
-        l.same q pq ∙ subst (λ (x : ℕ). state_at p x q ≡ Some s) (add_comm n m) k

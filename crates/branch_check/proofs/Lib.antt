@@ -2,8 +2,11 @@ pub mod StateOrder
 pub mod Least
 pub mod LevelSteps
 pub mod Places
+pub mod Firsts
 pub mod Giving
+pub mod Ranks
 pub mod Rounds
 pub mod Numbered
 pub mod Short
+pub mod Slots
 pub mod NeutralMoves

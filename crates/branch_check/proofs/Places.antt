@@ -53,10 +53,10 @@ open_or_some (Some s ∷ xs) = let h : count_open xs + count_some xs ≡ length 
 pub at-map : (f : ℕ → Option State) (places : List ℕ) (q : ℕ) → q < length places → at (map f places) q ≡ f (get_or places q 0)
 at-map f places q h = get_or-map f places q 0 None h
 
-at_past : (f : ℕ → Option State) (places : List ℕ) (q : ℕ) → length places ≤ q → at (map f places) q ≡ None
+pub at_past : (f : ℕ → Option State) (places : List ℕ) (q : ℕ) → length places ≤ q → at (map f places) q ≡ None
 at_past f places q h = let l : length (map f places) ≤ q = rw length-map h in get_or_past (map f places) q None l
 
-within : (q n : ℕ) → (q < n) ⊎ (n ≤ q)
+pub within : (q n : ℕ) → (q < n) ⊎ (n ≤ q)
 within q n = grind arith
 
 -- lists made by the same places are equal where they are at each point
@@ -65,10 +65,10 @@ map_same f g [] h = refl
 map_same f g (p ∷ places) h = ap (λ (o : Option State). o ∷ map f places) (h p) ∙ ap (λ (os : List (Option State)). g p ∷ os) (map_same f g places h)
 
 -- the state at a place below a bound, and at another
-below : (kept : ℕ) (states : List State) (p : ℕ) → p < kept → kept_at kept states p ≡ slice_get states p
+pub below : (kept : ℕ) (states : List State) (p : ℕ) → p < kept → kept_at kept states p ≡ slice_get states p
 below kept states p h = let e : nat_lt p kept ≡ true = grind arith in rw e refl
 
-not_below : (kept : ℕ) (states : List State) (p : ℕ) → kept ≤ p → kept_at kept states p ≡ None
+pub not_below : (kept : ℕ) (states : List State) (p : ℕ) → kept ≤ p → kept_at kept states p ≡ None
 not_below kept states p h = let e : nat_lt p kept ≡ false = grind arith in rw e refl
 
 from_bound : (kept : ℕ) (states : List State) (p : ℕ) → kept ≤ p → offered_at kept states p ≡ slice_get states p
@@ -142,11 +142,12 @@ none_counted (suc n) = let h : count_some (replicate n None) ≡ 0 = none_counte
 pub no_kept : (n : ℕ) → map (kept_at 0 []) (replicate n nowhere) ≡ replicate n None
 no_kept n = map_none (kept_at 0 []) (λ p. not_below 0 [] p (omega arith)) n nowhere
 
-pub none_reached : (n : ℕ) → n < 4294967296 → AreReached (replicate n nowhere) [] [] 0 0
+pub none_reached : (n : ℕ) → n < 4294967296 → AreReached (replicate n nowhere) [] [] 0
 none_reached n few = record {
   few = let l : length (replicate n nowhere) ≡ n = length-replicate n nowhere in omega (arith, l, few);
   long = refl;
-  ordered = (omega arith, omega arith);
+  ordered = omega arith;
+  back = λ i h. absurd (omega (arith, h));
   points = λ k d h. absurd (omega (arith, h));
   placed = λ q h. inl (get_or-replicate n q nowhere 0 (let l : length (replicate n nowhere) ≡ n = length-replicate n nowhere in omega (arith, l, h)));
   kept_count = ap count_some (no_kept n) ∙ none_counted n;
@@ -164,7 +165,7 @@ read_place places n p h e = e ∙ get_or_default_zero places n p h
 pub front_length : (kept : ℕ) (reached : List ℕ) → length (drop kept (take (length reached) reached)) ≡ length reached - kept
 front_length kept reached = length-drop kept (take (length reached) reached) ∙ ap (λ (n : ℕ). n - kept) (length-take-le (length reached) reached (omega arith))
 
-module _ (places reached : List ℕ) (states : List State) (before kept : ℕ) (are : AreReached places reached states before kept) where
+module _ (places reached : List ℕ) (states : List State) (kept : ℕ) (are : AreReached places reached states kept) where
   -- at most all points are reached
   pub reached_few : length reached ≤ length places
   reached_few =
@@ -228,13 +229,14 @@ module _ (places reached : List ℕ) (states : List State) (before kept : ℕ) (
       let b : count_open (map (kept_at (length reached) states) places) + count_some (map (kept_at (length reached) states) places) ≡ length (map (kept_at (length reached) states) places) = open_or_some (map (kept_at (length reached) states) places) in
       let l : length (map (kept_at kept states) places) ≡ length places = length-map places (kept_at kept states) in
       let m : length (map (kept_at (length reached) states) places) ≡ length places = length-map places (kept_at (length reached) states) in
-      omega (arith, a, b, l, m, are.kept_count, kept_count_then, are.ordered.1)
+      omega (arith, a, b, l, m, are.kept_count, kept_count_then, are.ordered)
 
-  pub advanced : AreReached places reached states kept (length reached)
+  pub advanced : AreReached places reached states (length reached)
   advanced = record {
     few = are.few;
     long = are.long;
-    ordered = (are.ordered.1, omega arith);
+    ordered = omega arith;
+    back = are.back;
     points = are.points;
     placed = are.placed;
     kept_count = kept_count_then;
@@ -261,7 +263,7 @@ module _ (places reached : List ℕ) (states : List State) (before kept : ℕ) (
     -- a point that is kept is offered a state
     pub leaves_kept : get_or places n 0 < kept → map (offered_at kept states) places ≡ set (map (offered_at kept states) places) n (after_offer (at (map (kept_at kept states) places) n) (at (map (offered_at kept states) places) n) s)
     leaves_kept h =
-        let l : get_or places n 0 < length states = omega (arith, h, are.long, are.ordered.1) in
+        let l : get_or places n 0 < length states = omega (arith, h, are.long, are.ordered) in
         let a : at (map (kept_at kept states) places) n ≡ Some (get_or states (get_or places n 0) initial) = at-map (kept_at kept states) places n inside ∙ (below kept states (get_or places n 0) h ∙ slice_get-get_or states (get_or places n 0) initial l) in
         rw a (sym (set-get_or (map (offered_at kept states) places) n None))
 
@@ -299,11 +301,12 @@ module _ (places reached : List ℕ) (states : List State) (before kept : ℕ) (
       pub offered_better : t ≡ lesser best s → map (offered_at kept (set states (get_or places n 0) t)) places ≡ set (map (offered_at kept states) places) n (after_offer (at (map (kept_at kept states) places) n) (at (map (offered_at kept states) places) n) s)
       offered_better e = rw (none_kept h, what_was_offered h, was, sym e) offered_same
 
-      pub better_reached : AreReached places reached (set states (get_or places n 0) t) before kept
+      pub better_reached : AreReached places reached (set states (get_or places n 0) t) kept
       better_reached = record {
         few = are.few;
         long = length-set states (get_or places n 0) t ∙ are.long;
         ordered = are.ordered;
+        back = are.back;
         points = are.points;
         placed = are.placed;
         kept_count = ap count_some kept_same ∙ are.kept_count;
@@ -322,8 +325,11 @@ module _ (places reached : List ℕ) (states : List State) (before kept : ℕ) (
 
     -- and one that was offered none
     module _ (h : length states ≤ get_or places n 0) where
+      past_all : length states ≤ get_or places n 0
+      past_all = h
+
       past : kept ≤ get_or places n 0
-      past = omega (arith, h, are.ordered.1, are.long)
+      past = omega (arith, h, are.ordered, are.long)
 
       no_state : at (map (slice_get states) places) n ≡ None
       no_state = at-map (slice_get states) places n inside ∙ slice_get_past states (get_or places n 0) h
@@ -356,7 +362,7 @@ module _ (places reached : List ℕ) (states : List State) (before kept : ℕ) (
       it_too = ap (slice_get (states ++ s ∷ [])) its_place ∙ slice_get-append_new states s
 
       it_past : kept ≤ get_or (set places n (length states)) n 0
-      it_past = omega (arith, its_place, are.ordered.1, are.long)
+      it_past = omega (arith, its_place, are.ordered, are.long)
 
       moved_length : length (set places n (length states)) ≡ length places
       moved_length = length-set places n (length states)
@@ -379,14 +385,31 @@ module _ (places reached : List ℕ) (states : List State) (before kept : ℕ) (
           go r rin ne (inl b) = not_from kept (states ++ s ∷ []) (get_or (set places n (length states)) r 0) (let e : get_or (set places n (length states)) r 0 ≡ get_or places r 0 = other_place r ne in omega (arith, e, b)) ∙ sym (not_from kept states (get_or places r 0) b)
           go r rin ne (inr b) = from_bound kept (states ++ s ∷ []) (get_or (set places n (length states)) r 0) (let e : get_or (set places n (length states)) r 0 ≡ get_or places r 0 = other_place r ne in omega (arith, e, b)) ∙ (others_too r rin ne ∙ sym (from_bound kept states (get_or places r 0) b))
 
-      pub front_too : drop before (take kept (reached ++ n ∷ [])) ≡ drop before (take kept reached)
-      front_too = ap (drop before) (take-append-le kept reached (n ∷ []) are.ordered.1)
+      pub front_too : (from to : ℕ) → to ≤ length reached → drop from (take to (reached ++ n ∷ [])) ≡ drop from (take to reached)
+      front_too from to h = ap (drop from) (take-append-le to reached (n ∷ []) h)
 
-      pub new_reached : AreReached (set places n (length states)) (reached ++ n ∷ []) (states ++ s ∷ []) before kept
+      -- each place has the point behind
+      back : (i : ℕ) → i < length (reached ++ n ∷ []) → get_or (set places n (length states)) (get_or (reached ++ n ∷ []) i 0) 0 ≡ i
+      back i k = elim (within i (length reached)) [ inl h ↦ old h | inr h ↦ new (let e : length (reached ++ n ∷ []) ≡ length reached + 1 = length-append reached (n ∷ []) in omega (arith, h, k, e)) ]
+        where
+          old : i < length reached → get_or (set places n (length states)) (get_or (reached ++ n ∷ []) i 0) 0 ≡ i
+          old h =
+              let r : get_or places (get_or reached i 0) 0 ≡ i = are.back i h in
+              let e : get_or (reached ++ n ∷ []) i 0 ≡ get_or reached i 0 = get_or-append_other reached i n h in
+              let ne : get_or reached i 0 ≢ n = λ same. let x : get_or places n 0 ≡ i = subst (λ (q : ℕ). get_or places q 0 ≡ i) same r in absurd (omega (arith, x, past_all, h, are.long)) in
+              ap (λ (q : ℕ). get_or (set places n (length states)) q 0) e ∙ (other_place (get_or reached i 0) ne ∙ r)
+
+          new : i ≡ length reached → get_or (set places n (length states)) (get_or (reached ++ n ∷ []) i 0) 0 ≡ i
+          new e =
+              let x : get_or (reached ++ n ∷ []) i 0 ≡ n = ap (λ (j : ℕ). get_or (reached ++ n ∷ []) j 0) e ∙ get_or-append_new reached n in
+              ap (λ (q : ℕ). get_or (set places n (length states)) q 0) x ∙ (its_place ∙ (are.long ∙ sym e))
+
+      pub new_reached : AreReached (set places n (length states)) (reached ++ n ∷ []) (states ++ s ∷ []) kept
       new_reached = record {
         few = omega (arith, moved_length, are.few);
         long = length-append states (s ∷ []) ∙ (ap (λ (k : ℕ). k + 1) are.long ∙ sym (length-append reached (n ∷ [])));
-        ordered = (are.ordered.0, let e : length (reached ++ n ∷ []) ≡ length reached + 1 = length-append reached (n ∷ []) in omega (arith, e, are.ordered.1));
+        ordered = let e : length (reached ++ n ∷ []) ≡ length reached + 1 = length-append reached (n ∷ []) in omega (arith, e, are.ordered);
+        back = back;
         points = points;
         placed = placed;
         kept_count = ap count_some kept_too ∙ are.kept_count;

@@ -1,61 +1,70 @@
 -- States whose numbers have 16 bits.
-use Rattle.std.proofs.Common.{◌≡◌, Bool, true, false, Some, None, ℤ, if◌then◌else◌, refl, arith}
-use Rattle.std.specs.Prelude.{neg_ℤ}
-use Rattle.std.proofs.lemmas.Int.{ints}
+use Rattle.std.proofs.Common.{◌≡◌, true, false, None, ℤ, SFits, w16, w64, to_z, of_z, refl, ap, subst, ◌∙◌, arith}
+use Rattle.std.specs.Prelude.{neg_ℤ, int_le, negsuc}
+use Rattle.std.proofs.lemmas.Int.{ints, to_z-of_z}
 use Rattle.state_defs.specs.declared.state.State.{State}
-use Rattle.state_defs.specs.declared.state.Depth.TheVariants.{Known, AtLeast}
-use Rattle.state_defs.specs.declared.state.BpHome.TheVariants.{Same, Saved}
-use Rattle.state_defs.specs.Move.{has_near_numbers, is_fp_near, is_home_near, is_near}
-use Rattle.state_defs.specs.State.{depth_of}
-use Rattle.state_defs.specs.Row.{bp_offset_of, has_16_bits, row_of, sp_offset_of, unfit_offset}
-use Rattle.branch_check.specs.declared.packed.Shape.{Shape}
-use Rattle.branch_check.specs.declared.packed.Shape.TheVariants.{Live, Ended, Regs}
-use Rattle.branch_check.specs.Region.{IsShort, with_numbers}
+use Rattle.state_defs.specs.Move.{has_near_numbers, is_near}
+use Rattle.state_defs.specs.Row.{has_16_bits, row_of, unfit_offset}
+use Rattle.branch_check.specs.declared.parts.Numbers.{Numbers}
+use Rattle.branch_check.specs.declared.parts.Shape.{Shape}
+use Rattle.branch_check.specs.declared.parts.Shape.TheVariants.{Known, KnownSaved, KnownFramed, KnownFramedSaved, AtLeast, AtLeastSaved, AtLeastFramed, AtLeastFramedSaved, Undefined, EndOfStack, Regs, FullRegs}
+use Rattle.branch_check.specs.declared.slot.Slot.{Slot}
+use Rattle.branch_check.specs.Packed.{short_numbers, state_in, with_numbers}
 
-near_of : (n : ℤ) → IsShort n → is_near n ≡ true
-near_of n s = let low = s.0 in let high = s.1 in grind (arith, ints)
+-- what has 16 bits, also turned
+pub in_16_bits : (n : ℤ) → SFits w16 n → has_16_bits n ≡ true
+in_16_bits n fits = grind (arith, ints)
 
-fits_of : (n : ℤ) → IsShort n → has_16_bits n ≡ true
-fits_of n s = let low = s.0 in let high = s.1 in grind (arith, ints)
+fits_16 : (n : ℤ) → has_16_bits n ≡ true → SFits w16 n
+fits_16 n e = grind (arith, ints)
 
-opposite_fits : (n : ℤ) → IsShort n → has_16_bits (neg_ℤ n) ≡ true
-opposite_fits n s = let low = s.0 in let high = s.1 in grind (arith, ints)
+-- what is written in 16 bits and read back
+pub round_trip : (n : ℤ) → SFits w64 n → has_16_bits (to_z w64 (of_z w64 n)) ≡ true → to_z w16 (of_z w16 (to_z w64 (of_z w64 n))) ≡ n
+round_trip n fits e =
+    let same : to_z w64 (of_z w64 n) ≡ n = to_z-of_z w64 n fits in
+    let short : has_16_bits n ≡ true = subst (λ (m : ℤ). has_16_bits m ≡ true) same e in
+    ap (λ (m : ℤ). to_z w16 (of_z w16 m)) same ∙ to_z-of_z w16 n (fits_16 n short)
 
-depth_near : (at_least : Bool) (n : ℤ) → is_near n ≡ true → is_near (depth_of (if at_least then AtLeast n else Known n)) ≡ true
-depth_near true n e = e
-depth_near false n e = e
+pub opposite_fits : (n : ℤ) → SFits w16 n → int_le (negsuc 32766) n ≡ true → has_16_bits (neg_ℤ n) ≡ true
+opposite_fits n fits above = grind (arith, ints)
 
-fp_near : (framed : Bool) (n : ℤ) → is_near n ≡ true → is_fp_near (if framed then Some n else None) ≡ true
-fp_near true n e = e
-fp_near false n e = refl
+near_of : (n : ℤ) → has_16_bits n ≡ true → is_near n ≡ true
+near_of n e = grind (arith, ints)
 
-home_near : (saved : Bool) (n : ℤ) → is_near n ≡ true → is_home_near (if saved then Saved n else Same) ≡ true
-home_near true n e = e
-home_near false n e = refl
-
-pub short_is_near : (shape : Shape) (depth fp home : ℤ) → IsShort depth → IsShort fp → IsShort home → has_near_numbers (with_numbers shape depth fp home) ≡ true
-short_is_near (Live at_least framed saved) depth fp home d f h =
-    let one = depth_near at_least depth (near_of depth d) in
-    let two = fp_near framed fp (near_of fp f) in
-    let three = home_near saved home (near_of home h) in
-    rw (one, two, three) refl
-short_is_near (Ended kind) depth fp home d f h = refl
-short_is_near (Regs full) depth fp home d f h = near_of depth d
+short_is_near : (shape : Shape) (n : Numbers) → is_near n.depth ≡ true → is_near n.fp ≡ true → is_near n.home ≡ true → has_near_numbers (with_numbers shape n) ≡ true
+short_is_near Known n d f h = rw d refl
+short_is_near KnownSaved n d f h = rw (d, h) refl
+short_is_near KnownFramed n d f h = rw (d, f) refl
+short_is_near KnownFramedSaved n d f h = rw (d, f, h) refl
+short_is_near AtLeast n d f h = rw d refl
+short_is_near AtLeastSaved n d f h = rw (d, h) refl
+short_is_near AtLeastFramed n d f h = rw (d, f) refl
+short_is_near AtLeastFramedSaved n d f h = rw (d, f, h) refl
+short_is_near Undefined n d f h = refl
+short_is_near EndOfStack n d f h = refl
+short_is_near Regs n d f h = d
+short_is_near FullRegs n d f h = d
 
 offsets_fit : (s : State) → has_16_bits (row_of s).sp_offset ≡ true → has_16_bits (row_of s).bp_offset ≡ true → unfit_offset s ≡ None
 offsets_fit s e f = rw (e, f) refl
 
-sp_fits : (at_least framed : Bool) (depth fp : ℤ) → has_16_bits depth ≡ true → has_16_bits fp ≡ true → has_16_bits (sp_offset_of (if at_least then AtLeast depth else Known depth) (if framed then Some fp else None)) ≡ true
-sp_fits true true depth fp e f = f
-sp_fits true false depth fp e f = e
-sp_fits false true depth fp e f = f
-sp_fits false false depth fp e f = e
+short_fits : (shape : Shape) (n : Numbers) → has_16_bits n.depth ≡ true → has_16_bits n.fp ≡ true → has_16_bits (neg_ℤ n.home) ≡ true → unfit_offset (with_numbers shape n) ≡ None
+short_fits Known n d f h = offsets_fit (with_numbers Known n) d refl
+short_fits KnownSaved n d f h = offsets_fit (with_numbers KnownSaved n) d h
+short_fits KnownFramed n d f h = offsets_fit (with_numbers KnownFramed n) f refl
+short_fits KnownFramedSaved n d f h = offsets_fit (with_numbers KnownFramedSaved n) f h
+short_fits AtLeast n d f h = offsets_fit (with_numbers AtLeast n) d refl
+short_fits AtLeastSaved n d f h = offsets_fit (with_numbers AtLeastSaved n) d h
+short_fits AtLeastFramed n d f h = offsets_fit (with_numbers AtLeastFramed n) f refl
+short_fits AtLeastFramedSaved n d f h = offsets_fit (with_numbers AtLeastFramedSaved n) f h
+short_fits Undefined n d f h = refl
+short_fits EndOfStack n d f h = refl
+short_fits Regs n d f h = offsets_fit (with_numbers Regs n) d refl
+short_fits FullRegs n d f h = offsets_fit (with_numbers FullRegs n) d refl
 
-bp_fits : (saved : Bool) (home : ℤ) → has_16_bits (neg_ℤ home) ≡ true → has_16_bits (bp_offset_of (if saved then Saved home else Same)) ≡ true
-bp_fits true home e = e
-bp_fits false home e = refl
+-- a state in a slot
+pub slot_is_near : (s : Slot) (wide : Numbers) → s.is_wide ≡ false → has_16_bits s.depth ≡ true → has_16_bits s.fp ≡ true → has_16_bits s.home ≡ true → has_near_numbers (state_in s wide) ≡ true
+slot_is_near s wide short d f h = rw short (short_is_near s.shape (short_numbers s) (near_of s.depth d) (near_of s.fp f) (near_of s.home h))
 
-pub short_fits : (shape : Shape) (depth fp home : ℤ) → IsShort depth → IsShort fp → IsShort home → unfit_offset (with_numbers shape depth fp home) ≡ None
-short_fits (Live at_least framed saved) depth fp home d f h = offsets_fit (with_numbers (Live at_least framed saved) depth fp home) (sp_fits at_least framed depth fp (fits_of depth d) (fits_of fp f)) (bp_fits saved home (opposite_fits home h))
-short_fits (Ended kind) depth fp home d f h = refl
-short_fits (Regs full) depth fp home d f h = offsets_fit (with_numbers (Regs full) depth fp home) (fits_of depth d) refl
+pub slot_fits : (s : Slot) (wide : Numbers) → s.is_wide ≡ false → has_16_bits s.depth ≡ true → has_16_bits s.fp ≡ true → has_16_bits (neg_ℤ s.home) ≡ true → unfit_offset (state_in s wide) ≡ None
+slot_fits s wide short d f h = rw short (short_fits s.shape (short_numbers s) d f h)

@@ -1,8 +1,11 @@
+pub mod Batches
 pub mod Counted
 pub mod Gives
 pub mod Least
 pub mod LevelStates
 pub mod Neutral
+pub mod Packed
+pub mod Ranks
 pub mod Reached
 pub mod Region
 pub mod Told

@@ -6,7 +6,7 @@ ghost use Rattle.state_defs.specs.Move.{move};
 ghost use Rattle.program_defs.specs.Program.{Program};
 ghost use Rattle.checker_defs.specs.Kept.{brought_along, is_free as is_free_hint, moved};
 ghost use Rattle.program_graph.specs.Tells.{Tells};
-ghost use Rattle.branch_check.specs.LevelStates.{at};
+ghost use Rattle.branch_check.specs.LevelStates.{StaysSame, at};
 ghost use Rattle.branch_check.specs.Told.{given_along, given_to_restore, offer_all};
 
 use crate::levels::Levels;
@@ -42,7 +42,8 @@ fn offer_stepped(levels: &mut Levels, from: u32, op: Op, to: u32)
     requires point { to < length levels.old.kept }
     ensures kept { levels.new.kept ≡ levels.old.kept }
     ensures front { levels.new.front ≡ levels.old.front }
-    ensures len { length levels.new.next ≡ length levels.old.next }
+    ensures same { StaysSame levels.old levels.new }
+    ensures len { length levels.new.next.states ≡ length levels.old.next.states }
     ensures next { (s : StateValue) → at levels.old.kept from ≡ Some s → levels.new.next ≡ offer_all levels.old.kept levels.old.next to (moved (move s op)) }
 {
     let Some(state) = levels.state(from) else {
@@ -59,7 +60,8 @@ fn offer_moved(levels: &mut Levels, from: u32, op: Op, to: u32)
     requires point { to < length levels.old.kept }
     ensures kept { levels.new.kept ≡ levels.old.kept }
     ensures front { levels.new.front ≡ levels.old.front }
-    ensures len { length levels.new.next ≡ length levels.old.next }
+    ensures same { StaysSame levels.old levels.new }
+    ensures len { length levels.new.next.states ≡ length levels.old.next.states }
     ensures next { (s : StateValue) → at levels.old.kept from ≡ Some s → levels.new.next ≡ offer_all levels.old.kept levels.old.next to (moved (move s op)) }
 {
     if is_neutral(op) && levels.is_short(from) {
@@ -76,7 +78,8 @@ fn bring_along(levels: &mut Levels, from: u32, op: Op, edge: Edge)
     requires point { edge.to < length levels.old.kept }
     ensures kept { levels.new.kept ≡ levels.old.kept }
     ensures front { levels.new.front ≡ levels.old.front }
-    ensures len { length levels.new.next ≡ length levels.old.next }
+    ensures same { StaysSame levels.old levels.new }
+    ensures len { length levels.new.next.states ≡ length levels.old.next.states }
     ensures next { (s : StateValue) → at levels.old.kept from ≡ Some s → levels.new.next ≡ offer_all levels.old.kept levels.old.next edge.to (brought_along s op edge.kind) }
 {
     match edge.kind {
@@ -95,7 +98,8 @@ pub(crate) fn give_along(graph: &Graph, levels: &mut Levels, from: u32, edge: Ed
     requires point { edge.to < length graph.now.parts.points.items }
     ensures kept { levels.new.kept ≡ levels.old.kept }
     ensures front { levels.new.front ≡ levels.old.front }
-    ensures len { length levels.new.next ≡ length levels.old.next }
+    ensures same { StaysSame levels.old levels.new }
+    ensures len { length levels.new.next.states ≡ length levels.old.next.states }
     ensures next { (p : Program) (s : StateValue) → Tells p graph.now.parts → at levels.old.kept from ≡ Some s → levels.new.next ≡ offer_all levels.old.kept levels.old.next edge.to (given_along p s (p.insn from).op edge) }
 {
     if is_open(graph, edge.to) {
@@ -110,7 +114,8 @@ pub(crate) fn give_to_restore(graph: &Graph, levels: &mut Levels, save: u32, res
     requires point { restore < length graph.now.parts.points.items }
     ensures kept { levels.new.kept ≡ levels.old.kept }
     ensures front { levels.new.front ≡ levels.old.front }
-    ensures len { length levels.new.next ≡ length levels.old.next }
+    ensures same { StaysSame levels.old levels.new }
+    ensures len { length levels.new.next.states ≡ length levels.old.next.states }
     ensures next { (p : Program) (s : StateValue) → Tells p graph.now.parts → at levels.old.kept save ≡ Some s → levels.new.next ≡ offer_all levels.old.kept levels.old.next restore (given_to_restore p s restore) }
 {
     if !graph.unchecked(restore) {

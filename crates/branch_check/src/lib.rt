@@ -1,13 +1,17 @@
 //! The states that a checker keeps for the points of a program.
 #![tactic(auto)]
 
+mod batches;
 mod counting;
 mod gifts;
 mod levels;
 mod neutral;
 mod order;
 mod packed;
+mod parts;
 mod region;
+mod runs;
+mod slot;
 mod spreading;
 
 pub use neutral::is_neutral;

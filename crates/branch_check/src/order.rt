@@ -3,7 +3,7 @@
 
 ghost use Rattle.std.specs.Prelude.{◌≡◌, ◌∷◌, [], false, true, if◌then◌else◌, List, ℤ, int_lt};
 ghost use Rattle.state_defs.specs.Order.{comes_before, depth_key, fp_key, home_key, key_before, lesser as lesser_state};
-ghost use Rattle.branch_check.specs.Region.{state_of};
+ghost use Rattle.branch_check.specs.Packed.{state_of};
 
 use crate::packed::PackedState;
 use state_defs::{BpHome, Depth, EndKind, State};

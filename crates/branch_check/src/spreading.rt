@@ -1,6 +1,11 @@
 //! How states spread over a program, level by level.
+//!
+//! They spread from one batch of points of level 0 after another (`batches`). All points of level 0 are kept first, so that
+//! what is offered to one is left aside. As long as no batch offers a state to a point that an earlier batch kept, beside
+//! those of level 0, no point is reached from two batches; so each has the level and the state that it has where states
+//! spread from all points of level 0 at once. Where one does, they spread from all at once, from the beginning.
 
-ghost use Rattle.std.specs.Prelude.{◌≡◌, ◌≢◌, ◌+◌, ◌<◌, ◌↔◌, ℕ, [], None, Some, All, IfOk, IsSome, IsTrue, length, true};
+ghost use Rattle.std.specs.Prelude.{◌≡◌, ◌≢◌, ◌+◌, ◌<◌, ◌↔◌, ℕ, List, [], None, Some, All, Contains, IfOk, IsSome, IsTrue, length, true};
 ghost use Rattle.state_defs.specs.Move.{has_near_numbers};
 ghost use Rattle.state_defs.specs.Row.{unfit_offset};
 ghost use Rattle.program_defs.specs.Program.{Program, IsPoint};
@@ -8,10 +13,12 @@ ghost use Rattle.program_defs.specs.IsProgram.{IsProgram, HintsStandAtPoints};
 ghost use Rattle.checker_defs.specs.Kept.{AreKeptStates, state_at};
 ghost use Rattle.program_graph.specs.Tells.{Tells};
 ghost use Rattle.branch_check.specs.Counted.{IsStateCount};
-ghost use Rattle.branch_check.specs.Gives.{IsLevel};
-ghost use Rattle.branch_check.specs.LevelStates.{at};
+ghost use Rattle.branch_check.specs.Batches.{AreFirst, InBatch, IsClean};
+ghost use Rattle.branch_check.specs.LevelStates.{StaysSame, at};
+ghost use Rattle.branch_check.specs.Ranks.{AreSpread};
 ghost use Rattle.branch_check.specs.Told.{HaveGiven};
 
+use crate::batches::{offer_mixed_first, spread_batches};
 use crate::counting::count_states;
 use crate::gifts::{give_along, give_to_restore};
 use crate::levels::Levels;
@@ -47,12 +54,13 @@ fn first_state(graph: &Graph, n: u32) -> Option<State>
 /// Gives what the point at a place in front gives to others.
 fn give(graph: &Graph, levels: &mut Levels, i: usize)
     requires points { length levels.old.kept ≡ length graph.now.parts.points.items }
-    requires next { length levels.old.next ≡ length levels.old.kept }
+    requires next { length levels.old.next.states ≡ length levels.old.kept }
     requires inside { i < length levels.old.front }
     requires given { (p : Program) → Tells p graph.now.parts → HaveGiven p levels.old i }
     ensures kept { levels.new.kept ≡ levels.old.kept }
     ensures front { levels.new.front ≡ levels.old.front }
-    ensures next { length levels.new.next ≡ length levels.old.kept }
+    ensures same { StaysSame levels.old levels.new }
+    ensures next { length levels.new.next.states ≡ length levels.old.kept }
     ensures given { (p : Program) → Tells p graph.now.parts → HaveGiven p levels.new (i + 1) }
 {
     let a = levels.front(i);
@@ -70,11 +78,12 @@ fn give(graph: &Graph, levels: &mut Levels, i: usize)
 /// Gives what all points in front give.
 fn give_all(graph: &Graph, levels: &mut Levels)
     requires points { length levels.old.kept ≡ length graph.now.parts.points.items }
-    requires next { length levels.old.next ≡ length levels.old.kept }
-    requires none { (q : ℕ) → at levels.old.next q ≡ None }
+    requires next { length levels.old.next.states ≡ length levels.old.kept }
+    requires none { (q : ℕ) → at levels.old.next.states q ≡ None }
     ensures kept { levels.new.kept ≡ levels.old.kept }
     ensures front { levels.new.front ≡ levels.old.front }
-    ensures next { length levels.new.next ≡ length levels.old.kept }
+    ensures same { StaysSame levels.old levels.new }
+    ensures next { length levels.new.next.states ≡ length levels.old.kept }
     ensures given { (p : Program) → Tells p graph.now.parts → HaveGiven p levels.new (length levels.old.front) }
 {
     for i in 0..levels.front_len() {
@@ -83,48 +92,69 @@ fn give_all(graph: &Graph, levels: &mut Levels)
 }
 
 /// Offers a point its state of level 0.
-fn offer_first(graph: &Graph, levels: &mut Levels, n: u32)
+pub(crate) fn offer_first(graph: &Graph, levels: &mut Levels, n: u32)
     requires points { length levels.old.kept ≡ length graph.now.parts.points.items }
-    requires next { length levels.old.next ≡ length levels.old.kept }
+    requires next { length levels.old.next.states ≡ length levels.old.kept }
     requires point { n < length levels.old.kept }
     requires not_kept { at levels.old.kept n ≡ None }
-    requires not_offered { at levels.old.next n ≡ None }
+    requires not_offered { at levels.old.next.states n ≡ None }
     ensures kept { levels.new.kept ≡ levels.old.kept }
     ensures front { levels.new.front ≡ levels.old.front }
-    ensures next { length levels.new.next ≡ length levels.old.kept }
-    ensures first { (p : Program) → Tells p graph.now.parts → at levels.new.next n ≡ state_at p 0 n }
-    ensures others { (q : ℕ) → q ≢ n → at levels.new.next q ≡ at levels.old.next q }
+    ensures next { length levels.new.next.states ≡ length levels.old.kept }
+    ensures first { (p : Program) → Tells p graph.now.parts → at levels.new.next.states n ≡ state_at p 0 n }
+    ensures others { (q : ℕ) → q ≢ n → at levels.new.next.states q ≡ at levels.old.next.states q }
 {
     if let Some(state) = first_state(graph, n) {
         levels.offer(n, PackedState::new(state));
     }
 }
 
-/// Offers each point its state of level 0.
+/// Offers each point its state of level 0 that was offered none yet.
 fn offer_all_first(graph: &Graph, levels: &mut Levels)
     requires points { length levels.old.kept ≡ length graph.now.parts.points.items }
-    requires next { length levels.old.next ≡ length levels.old.kept }
+    requires next { length levels.old.next.states ≡ length levels.old.kept }
     requires not_kept { (q : ℕ) → at levels.old.kept q ≡ None }
-    requires not_offered { (q : ℕ) → at levels.old.next q ≡ None }
+    requires offered { (p : Program) → Tells p graph.now.parts → (q : ℕ) → IsPoint p q → IsSome (at levels.old.next.states q) → at levels.old.next.states q ≡ state_at p 0 q }
     ensures kept { levels.new.kept ≡ levels.old.kept }
-    ensures next { length levels.new.next ≡ length levels.old.kept }
-    ensures first { (p : Program) → Tells p graph.now.parts → (q : ℕ) → IsPoint p q → at levels.new.next q ≡ state_at p 0 q }
+    ensures next { length levels.new.next.states ≡ length levels.old.kept }
+    ensures first { (p : Program) → Tells p graph.now.parts → (q : ℕ) → IsPoint p q → at levels.new.next.states q ≡ state_at p 0 q }
 {
     for n in 0..graph.points() {
-        offer_first(graph, levels, n);
+        if !levels.is_offered(n) {
+            offer_first(graph, levels, n);
+        }
     }
+}
+
+/// Keeps the states of level 0, of which some may be offered already. All of its points wait for their batch.
+pub(crate) fn keep_first(graph: &Graph, levels: &mut Levels)
+    requires points { length levels.old.kept ≡ length graph.now.parts.points.items }
+    requires next { length levels.old.next.states ≡ length levels.old.kept }
+    requires not_kept { (q : ℕ) → at levels.old.kept q ≡ None }
+    requires offered { (p : Program) → Tells p graph.now.parts → (q : ℕ) → IsPoint p q → IsSome (at levels.old.next.states q) → at levels.old.next.states q ≡ state_at p 0 q }
+    ensures points { length levels.new.kept ≡ length graph.now.parts.points.items }
+    ensures next { length levels.new.next.states ≡ length levels.new.kept }
+    ensures none { (q : ℕ) → at levels.new.next.states q ≡ None }
+    ensures all { (q : ℕ) → IsSome (at levels.new.kept q) → Contains levels.new.firsts q }
+    ensures first { (p : Program) → Tells p graph.now.parts → AreFirst p levels.new.firsts }
+    ensures spread { (p : Program) → Tells p graph.now.parts → AreSpread p (at levels.new.kept) [] levels.new.firsts }
+{
+    offer_all_first(graph, levels);
+    levels.keep_first();
 }
 
 /// Goes from level to level while points are in front.
 #[inline(never)]
-fn spread_levels(graph: &Graph, levels: &mut Levels)
+pub(crate) fn spread_levels(graph: &Graph, levels: &mut Levels)
     requires points { length levels.old.kept ≡ length graph.now.parts.points.items }
-    requires next { length levels.old.next ≡ length levels.old.kept }
-    requires none { (q : ℕ) → at levels.old.next q ≡ None }
+    requires next { length levels.old.next.states ≡ length levels.old.kept }
+    requires none { (q : ℕ) → at levels.old.next.states q ≡ None }
     requires front { All (λ q. q < length levels.old.kept) levels.old.front }
-    requires level { (p : Program) → Tells p graph.now.parts → IsProgram p → (n : ℕ) × IsLevel p n (at levels.old.kept) levels.old.front }
     ensures points { length levels.new.kept ≡ length graph.now.parts.points.items }
-    ensures level { (p : Program) → Tells p graph.now.parts → IsProgram p → (n : ℕ) × IsLevel p n (at levels.new.kept) [] }
+    ensures next { length levels.new.next.states ≡ length levels.new.kept }
+    ensures none { (q : ℕ) → at levels.new.next.states q ≡ None }
+    ensures same { StaysSame levels.old levels.new }
+    ensures spread { (p : Program) (waiting : List ℕ) → Tells p graph.now.parts → IsProgram p → InBatch p levels.old waiting → IsClean levels.new.next → AreSpread p (at levels.new.kept) [] waiting }
 {
     'rounds: loop {
         give_all(graph, levels);
@@ -149,7 +179,7 @@ impl Model for Scratch {
 
     ghost view = { λ s. length s.levels.kept };
 
-    ghost invariant = { λ s. (length s.levels.next ≡ length s.levels.kept) × ((q : ℕ) → at s.levels.kept q ≡ None) × ((q : ℕ) → at s.levels.next q ≡ None) };
+    ghost invariant = { λ s. (length s.levels.next.states ≡ length s.levels.kept) × ((q : ℕ) → at s.levels.kept q ≡ None) × ((q : ℕ) → at s.levels.next.states q ≡ None) };
 }
 
 impl Scratch {
@@ -229,15 +259,16 @@ impl Kept {
 /// The states that a checker keeps for the points of a program, by levels: those that hints set and those at entries,
 /// then for each further point the least state that is brought to it first.
 ///
-/// Each point and each edge is looked at once, when the point is kept. No memory is taken.
+/// Each point and each edge is looked at once when the point is kept, and once before, to choose the batches; where batches
+/// meet, once more. No memory is taken.
 pub fn spread(graph: &Graph, scratch: Scratch) -> Kept
     requires { scratch ≡ length graph.now.parts.points.items }
     ensures points { length result ≡ length graph.now.parts.points.items }
     ensures kept { (p : Program) → Tells p graph.now.parts → IsProgram p → HintsStandAtPoints p → AreKeptStates p (at result) }
 {
     let Scratch { mut levels } = scratch;
-    offer_all_first(graph, &mut levels);
-    levels.advance();
-    spread_levels(graph, &mut levels);
+    let mixed = offer_mixed_first(graph, &mut levels);
+    keep_first(graph, &mut levels);
+    spread_batches(graph, &mut levels, mixed);
     Kept { levels }
 }

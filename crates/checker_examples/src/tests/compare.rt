@@ -55,7 +55,7 @@ fn checked_warnings(
     let mut warnings = Vec::new(alloc);
     push_warnings(graph, kept, &mut warnings)?;
     let points = list_site_points(alloc, graph, kept)?;
-    push_site_warnings(graph, kept, &points, &mut warnings)?;
+    push_site_warnings(alloc, graph, kept, &points, &mut warnings)?;
     if options.unreachable && warnings.is_empty() {
         push_unreachable(graph, kept, &mut warnings)?;
     }

@@ -6,10 +6,11 @@ use Rattle.program_defs.specs.declared.flow.EdgeKind.TheVariants.{Next}
 use Rattle.state_defs.specs.declared.state.State.{State}
 use Rattle.checker_defs.specs.Kept.{edges_of}
 use Rattle.branch_check.specs.Gives.{IsGiven}
-use Rattle.branch_check.specs.LevelStates.{at}
+use Rattle.branch_check.specs.LevelStates.{Offers, at}
 use Rattle.branch_check.specs.Told.{AreLeast, HaveGiven, offer_all, given_along, given_to_restore}
 use Rattle.branch_check.proofs.LevelSteps.{none_of, state_of_some}
 use Rattle.branch_check.proofs.Giving.{WithEdges, WithRestores, no_edge, edge_more, no_restore, restore_more, given_none, given_more}
+use Rattle.branch_check.proofs.Rounds.{same_still}
 use Rattle.branch_check.proofs.spreading.give.Goals as goal
 
 pub returns-then-not-is_kept-clause-given : goal.returns-then-not-is_kept-clause-given
@@ -21,6 +22,7 @@ pub loop-edge-init : goal.loop-edge-init
 loop-edge-init c = record {
   kept = refl;
   front = refl;
+  same = (refl, refl, λ e. e);
   next = c.requires.next;
   given = λ p s t e. no_edge c.args.levels.now.kept p s (IsGiven p (at c.args.levels.now.kept) (take c.args.i c.args.levels.now.front)) c.args.levels.now.next (p.insn c.front-a.result).op c.successors-edge-items.result.now (c.requires.given p t);
 }
@@ -32,11 +34,12 @@ loop-edge-preserved c =
     let e : Edge = get_or items c.loop-edge.edge-index d in
     let kept : List (Option State) = c.args.levels.now.kept in
     let to : e.to < length c.args.graph.now.parts.points.items = c.successors-edge-items.ensures.within c.loop-edge.edge-index d c.loop-edge-test.true in
-    let long : length c.loop-edge.levels.next ≡ length kept = c.loop-edge.invariant.next in
-    let inside : e.to < length c.loop-edge.levels.next = omega (arith, to, long, c.requires.points) in
+    let long : length c.loop-edge.levels.next.states ≡ length kept = c.loop-edge.invariant.next in
+    let inside : e.to < length c.loop-edge.levels.next.states = omega (arith, to, long, c.requires.points) in
     record {
       kept = c.give_along.ensures.kept ∙ c.loop-edge.invariant.kept;
       front = c.give_along.ensures.front ∙ c.loop-edge.invariant.front;
+      same = same_still c.args.levels.now c.loop-edge.levels c.give_along.new.levels c.loop-edge.invariant.same c.give_along.ensures.same;
       next = c.give_along.ensures.len ∙ long;
       given = λ p s t has.
           let gift : List State = given_along p s (p.insn c.front-a.result).op e in
@@ -44,7 +47,7 @@ loop-edge-preserved c =
           let still : at c.loop-edge.levels.kept c.front-a.result ≡ Some s = ap (λ (k : List (Option State)). at k c.front-a.result) c.loop-edge.invariant.kept ∙ has in
           let m : c.give_along.new.levels.next ≡ offer_all kept c.loop-edge.levels.next e.to gift =
           c.give_along.ensures.next p s t still ∙ ap (λ (k : List (Option State)). offer_all k c.loop-edge.levels.next e.to gift) c.loop-edge.invariant.kept in
-          subst (λ (n : List (Option State)). AreLeast kept n (WithEdges A p s (p.insn c.front-a.result).op (take (c.loop-edge.edge-index + 1) items))) (sym m)
+          subst (λ (n : Offers). AreLeast kept n (WithEdges A p s (p.insn c.front-a.result).op (take (c.loop-edge.edge-index + 1) items))) (sym m)
           (edge_more kept p s A c.loop-edge.levels.next (p.insn c.front-a.result).op items c.loop-edge.edge-index d e c.loop-edge-test.true refl inside (c.loop-edge.invariant.given p s t has));
     }
 
@@ -52,6 +55,7 @@ pub loop-restore-init : goal.loop-restore-init
 loop-restore-init c = record {
   kept = c.loop-edge.invariant.kept;
   front = c.loop-edge.invariant.front;
+  same = c.loop-edge.invariant.same;
   next = c.loop-edge.invariant.next;
   given = λ p s t has.
       let kept : List (Option State) = c.args.levels.now.kept in
@@ -69,11 +73,12 @@ loop-restore-preserved c =
     let r : ℕ = get_or items c.loop-restore.restore-index 0 in
     let kept : List (Option State) = c.args.levels.now.kept in
     let to : r < length c.args.graph.now.parts.points.items = c.restores-restore-items.ensures.within c.loop-restore.restore-index 0 c.loop-restore-test.true in
-    let long : length c.loop-restore.levels.next ≡ length kept = c.loop-restore.invariant.next in
-    let inside : r < length c.loop-restore.levels.next = omega (arith, to, long, c.requires.points) in
+    let long : length c.loop-restore.levels.next.states ≡ length kept = c.loop-restore.invariant.next in
+    let inside : r < length c.loop-restore.levels.next.states = omega (arith, to, long, c.requires.points) in
     record {
       kept = c.give_to_restore.ensures.kept ∙ c.loop-restore.invariant.kept;
       front = c.give_to_restore.ensures.front ∙ c.loop-restore.invariant.front;
+      same = same_still c.args.levels.now c.loop-restore.levels c.give_to_restore.new.levels c.loop-restore.invariant.same c.give_to_restore.ensures.same;
       next = c.give_to_restore.ensures.len ∙ long;
       given = λ p s t has.
           let gift : List State = given_to_restore p s r in
@@ -81,7 +86,7 @@ loop-restore-preserved c =
           let still : at c.loop-restore.levels.kept c.front-a.result ≡ Some s = ap (λ (k : List (Option State)). at k c.front-a.result) c.loop-restore.invariant.kept ∙ has in
           let m : c.give_to_restore.new.levels.next ≡ offer_all kept c.loop-restore.levels.next r gift =
           c.give_to_restore.ensures.next p s t still ∙ ap (λ (k : List (Option State)). offer_all k c.loop-restore.levels.next r gift) c.loop-restore.invariant.kept in
-          subst (λ (n : List (Option State)). AreLeast kept n (WithRestores A p s (take (c.loop-restore.restore-index + 1) items))) (sym m)
+          subst (λ (n : Offers). AreLeast kept n (WithRestores A p s (take (c.loop-restore.restore-index + 1) items))) (sym m)
           (restore_more kept p s A c.loop-restore.levels.next items c.loop-restore.restore-index r c.loop-restore-test.true refl inside (c.loop-restore.invariant.given p s t has));
     }
 
@@ -93,7 +98,7 @@ returns-clause-given c p t = all (state_of_some (at c.args.levels.now.kept c.fro
         let items : List ℕ = c.restores-restore-items.result.now in
         let kept : List (Option State) = c.args.levels.now.kept in
         let front : List ℕ = c.args.levels.now.front in
-        let next : List (Option State) = c.loop-restore.levels.next in
+        let next : Offers = c.loop-restore.levels.next in
         let A : ℕ → State → Type 0 = WithEdges (IsGiven p (at kept) (take c.args.i front)) p s (p.insn c.front-a.result).op (edges_of p c.front-a.result) in
         let all : AreLeast kept next (WithRestores A p s items) =
         subst (λ (rs : List ℕ). AreLeast kept next (WithRestores A p s rs)) (take_all c.loop-restore.restore-index items c.loop-restore-test.false) (c.loop-restore.invariant.given p s t has) in

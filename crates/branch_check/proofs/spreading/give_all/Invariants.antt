@@ -1,6 +1,7 @@
 use Rattle.std.proofs.Common.{◌≡◌, length}
 use Rattle.program_defs.specs.Program.{Program}
 use Rattle.program_graph.specs.Tells.{Tells}
+use Rattle.branch_check.specs.LevelStates.{StaysSame}
 use Rattle.branch_check.specs.Told.{HaveGiven}
 use Rattle.branch_check.proofs.spreading.give_all.Given as goal
 
@@ -8,6 +9,7 @@ abbrev pub invariant-loop-i : goal.invariant-loop-i
 invariant-loop-i l = record {
   kept : l.levels.kept ≡ l.fn.levels.kept;
   front : l.levels.front ≡ l.fn.levels.front;
-  next : length l.levels.next ≡ length l.fn.levels.kept;
+  same : StaysSame l.fn.levels l.levels;
+  next : length l.levels.next.states ≡ length l.fn.levels.kept;
   given : (p : Program) → Tells p l.graph.parts → HaveGiven p l.levels l.i;
 }

@@ -1,5 +1,5 @@
-use Rattle.std.proofs.Common.{◌≡◌, ℕ, ◌<◌, ◌≤◌, None, length}
-use Rattle.program_defs.specs.Program.{Program}
+use Rattle.std.proofs.Common.{◌≡◌, ℕ, ◌<◌, IsSome, length}
+use Rattle.program_defs.specs.Program.{Program, IsPoint}
 use Rattle.checker_defs.specs.Kept.{state_at}
 use Rattle.program_graph.specs.Tells.{Tells}
 use Rattle.branch_check.specs.LevelStates.{at}
@@ -8,7 +8,7 @@ use Rattle.branch_check.proofs.spreading.offer_all_first.Given as goal
 abbrev pub invariant-loop-n : goal.invariant-loop-n
 invariant-loop-n l = record {
   kept : l.levels.kept ≡ l.fn.levels.kept;
-  next : length l.levels.next ≡ length l.fn.levels.kept;
-  first : (p : Program) → Tells p l.graph.parts → (q : ℕ) → q < l.n → at l.levels.next q ≡ state_at p 0 q;
-  others : (q : ℕ) → l.n ≤ q → at l.levels.next q ≡ None;
+  next : length l.levels.next.states ≡ length l.fn.levels.kept;
+  first : (p : Program) → Tells p l.graph.parts → (q : ℕ) → q < l.n → at l.levels.next.states q ≡ state_at p 0 q;
+  others : (p : Program) → Tells p l.graph.parts → (q : ℕ) → IsPoint p q → IsSome (at l.levels.next.states q) → at l.levels.next.states q ≡ state_at p 0 q;
 }

@@ -1,18 +1,19 @@
-use Rattle.std.proofs.Common.{◌≡◌, ℕ, ◌<◌, None, All, length}
+use Rattle.std.proofs.Common.{◌≡◌, ℕ, ◌<◌, List, None, All, length}
 use Rattle.program_defs.specs.Program.{Program}
 use Rattle.program_defs.specs.IsProgram.{IsProgram}
 use Rattle.program_graph.specs.Tells.{Tells}
-use Rattle.branch_check.specs.Gives.{IsLevel}
-use Rattle.branch_check.specs.LevelStates.{at, count_open}
+use Rattle.branch_check.specs.Batches.{InBatch, IsClean}
+use Rattle.branch_check.specs.LevelStates.{StaysSame, at, count_open}
 use Rattle.branch_check.proofs.spreading.spread_levels.Given as goal
 
 abbrev pub invariant-rounds : goal.invariant-rounds
 invariant-rounds l = record {
   points : length l.levels.kept ≡ length l.graph.parts.points.items;
-  next : length l.levels.next ≡ length l.levels.kept;
-  none : (q : ℕ) → at l.levels.next q ≡ None;
+  next : length l.levels.next.states ≡ length l.levels.kept;
+  none : (q : ℕ) → at l.levels.next.states q ≡ None;
   front : All (λ q. q < length l.levels.kept) l.levels.front;
-  level : (p : Program) → Tells p l.graph.parts → IsProgram p → (n : ℕ) × IsLevel p n (at l.levels.kept) l.levels.front;
+  same : StaysSame l.fn.levels l.levels;
+  batch : (p : Program) (waiting : List ℕ) → Tells p l.graph.parts → IsProgram p → InBatch p l.fn.levels waiting → IsClean l.levels.next → InBatch p l.levels waiting;
 }
 
 abbrev pub decreases-rounds : goal.decreases-rounds

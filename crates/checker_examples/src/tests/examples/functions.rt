@@ -14,8 +14,15 @@ const PUSHED: State = State::Live {
     bp: BpHome::Same,
 };
 
+/// A call frame as it is entered.
+const CALLED: State = State::Live {
+    depth: Depth::Known(8),
+    fp: None,
+    bp: BpHome::Same,
+};
+
 /// Functions of several parts and ways, and code with hints.
-const FUNCTIONS: [Example; 8] = [
+const FUNCTIONS: [Example; 9] = [
     Example {
         name: "frame pointer",
         table: Table {
@@ -172,6 +179,33 @@ const FUNCTIONS: [Example; 8] = [
                 (2, 1, Op::Ret, &[With::OfNone]),
             ],
             entries: &[],
+            sites: &[],
+        },
+    },
+    Example {
+        name: "code of no function that goes on in a function",
+        table: Table {
+            rows: &[
+                (0, 1, Op::Nop, &[]),
+                (1, 1, Op::Nop, &[]),
+                (2, 1, Op::Ret, &[]),
+                (
+                    3,
+                    1,
+                    Op::Nop,
+                    &[With::OfNone, With::Hint(HintState::Set(CALLED))],
+                ),
+                (
+                    4,
+                    2,
+                    Op::Jmp {
+                        rel: -5,
+                        wide: false,
+                    },
+                    &[With::OfNone, With::To(1, EdgeKind::Taken)],
+                ),
+            ],
+            entries: &[0],
             sites: &[],
         },
     },

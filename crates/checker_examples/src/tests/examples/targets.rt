@@ -1,10 +1,10 @@
-//! Wrong targets, sites and RESTORE hints.
+//! Wrong targets, sites and RESTORE hints, and a wrong state that comes late.
 
 use super::{Example, expect_all};
 use operation_defs::Op;
 use program_defs::{EdgeKind, Marks, Role};
 use stack_examples::lines::{Table, With};
-use state_defs::HintState;
+use state_defs::{BpHome, Depth, HintState, State};
 use std::test::Fail;
 
 /// A jump.
@@ -45,8 +45,15 @@ const INTO_A_FUNCTION: Marks = Marks {
     into_function: true,
 };
 
-/// Wrong targets, sites and RESTORE hints, and a function without a size.
-const TARGETS: [Example; 12] = [
+/// A word was pushed in a call frame.
+const PUSHED: State = State::Live {
+    depth: Depth::Known(16),
+    fp: None,
+    bp: BpHome::Same,
+};
+
+/// Wrong targets, sites and RESTORE hints, a function without a size, and a state that comes late.
+const TARGETS: [Example; 13] = [
     Example {
         name: "a jump to no place to go",
         table: Table {
@@ -204,6 +211,25 @@ const TARGETS: [Example; 12] = [
                     &[With::Hint(HintState::Restore), With::SaveOf(0)],
                 ),
                 (1, 1, Op::Ret, &[]),
+            ],
+            entries: &[0],
+            sites: &[],
+        },
+    },
+    Example {
+        name: "code of no function that comes late into a function, with another state",
+        table: Table {
+            rows: &[
+                (0, 1, Op::Nop, &[]),
+                (1, 1, Op::Nop, &[]),
+                (2, 1, Op::Ret, &[]),
+                (
+                    3,
+                    1,
+                    Op::Nop,
+                    &[With::OfNone, With::Hint(HintState::Set(PUSHED))],
+                ),
+                (4, 2, JMP, &[With::OfNone, With::To(1, EdgeKind::Taken)]),
             ],
             entries: &[0],
             sites: &[],

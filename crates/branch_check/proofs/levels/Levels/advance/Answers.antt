@@ -1,30 +1,37 @@
 -- All that were reached are kept now.
-use Rattle.std.proofs.Common.{◌≡◌, ◌+◌, Contains, IsSome, length, map, take, drop, subst, arith}
+use Rattle.std.proofs.Common.{◌≡◌, ◌+◌, None, Contains, IsSome, length, map, take, drop, subst, arith}
 use Rattle.checker_defs.specs.Kept.{kept_or}
 use Rattle.branch_check.specs.LevelStates.{LevelStates, at, count_open}
 use Rattle.branch_check.specs.Reached.{kept_at}
 use Rattle.branch_check.proofs.Places.{kept_then, none_then, in_front_then, fewer, front_length}
+use Rattle.branch_check.proofs.Firsts.{fresh_then}
 use Rattle.branch_check.proofs.levels.Levels.advance.Goals as goal
 
 pub returns-clause-kept : goal.returns-clause-kept
 returns-clause-kept c q =
     let len : c.len-self-inside.result ≡ length c.self.inside.reached.items = omega (arith, c.len-self-inside.ensures, c.self.inside.reached.ok) in
-    rw len (subst (λ (v : LevelStates). at (map (kept_at (length c.self.inside.reached.items) c.self.inside.states.list) c.self.inside.places.items) q ≡ kept_or (at v.kept q) (at v.next q)) c.self.view_is
-    (kept_then c.self.inside.places.items c.self.inside.reached.items c.self.inside.states.list c.self.inside.before c.self.inside.kept c.self.invariant.2 q))
+    rw len (subst (λ (v : LevelStates). at (map (kept_at (length c.self.inside.reached.items) c.self.inside.states.list) c.self.inside.places.items) q ≡ kept_or (at v.kept q) (at v.next.states q)) c.self.view_is
+    (kept_then c.self.inside.places.items c.self.inside.reached.items c.self.inside.states.list c.self.inside.kept c.self.invariant.2 q))
 
 pub returns-clause-next : goal.returns-clause-next
 returns-clause-next c q =
     let len : c.len-self-inside.result ≡ length c.self.inside.reached.items = omega (arith, c.len-self-inside.ensures, c.self.inside.reached.ok) in
-    rw len (none_then c.self.inside.places.items c.self.inside.reached.items c.self.inside.states.list c.self.inside.before c.self.inside.kept c.self.invariant.2 q)
+    rw len (none_then c.self.inside.places.items c.self.inside.reached.items c.self.inside.states.list c.self.inside.kept c.self.invariant.2 q)
 
 pub returns-clause-front : goal.returns-clause-front
 returns-clause-front c q =
     let len : c.len-self-inside.result ≡ length c.self.inside.reached.items = omega (arith, c.len-self-inside.ensures, c.self.inside.reached.ok) in
-    rw len (subst (λ (v : LevelStates). IsSome (at v.next q) → Contains (drop c.self.inside.kept (take (length c.self.inside.reached.items) c.self.inside.reached.items)) q) c.self.view_is
-    (in_front_then c.self.inside.places.items c.self.inside.reached.items c.self.inside.states.list c.self.inside.before c.self.inside.kept c.self.invariant.2 q))
+    rw len (subst (λ (v : LevelStates). IsSome (at v.next.states q) → Contains (drop c.self.inside.kept (take (length c.self.inside.reached.items) c.self.inside.reached.items)) q) c.self.view_is
+    (in_front_then c.self.inside.places.items c.self.inside.reached.items c.self.inside.states.list c.self.inside.kept c.self.invariant.2 q))
+
+pub returns-clause-fresh : goal.returns-clause-fresh
+returns-clause-fresh c q =
+    let len : c.len-self-inside.result ≡ length c.self.inside.reached.items = omega (arith, c.len-self-inside.ensures, c.self.inside.reached.ok) in
+    rw len (subst (λ (v : LevelStates). Contains (drop c.self.inside.kept (take (length c.self.inside.reached.items) c.self.inside.reached.items)) q → (at v.kept q ≡ None) × IsSome (at (map (kept_at (length c.self.inside.reached.items) c.self.inside.states.list) c.self.inside.places.items) q)) c.self.view_is
+    (fresh_then c.self.inside.places.items c.self.inside.reached.items c.self.inside.states.list c.self.inside.kept c.self.invariant.2 q))
 
 pub returns-clause-fewer : goal.returns-clause-fewer
 returns-clause-fewer c =
     let len : c.len-self-inside.result ≡ length c.self.inside.reached.items = omega (arith, c.len-self-inside.ensures, c.self.inside.reached.ok) in
     rw len (subst (λ (v : LevelStates). count_open (map (kept_at (length c.self.inside.reached.items) c.self.inside.states.list) c.self.inside.places.items) + length (drop c.self.inside.kept (take (length c.self.inside.reached.items) c.self.inside.reached.items)) ≡ count_open v.kept) c.self.view_is
-    (rw (front_length c.self.inside.kept c.self.inside.reached.items) (fewer c.self.inside.places.items c.self.inside.reached.items c.self.inside.states.list c.self.inside.before c.self.inside.kept c.self.invariant.2)))
+    (rw (front_length c.self.inside.kept c.self.inside.reached.items) (fewer c.self.inside.places.items c.self.inside.reached.items c.self.inside.states.list c.self.inside.kept c.self.invariant.2)))

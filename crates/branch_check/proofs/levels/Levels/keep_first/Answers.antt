@@ -1,0 +1,24 @@
+-- All that were reached are of level 0.
+use Rattle.std.proofs.Common.{◌≡◌, length, map, subst, arith}
+use Rattle.checker_defs.specs.Kept.{kept_or}
+use Rattle.branch_check.specs.LevelStates.{LevelStates, at}
+use Rattle.branch_check.specs.Reached.{kept_at}
+use Rattle.branch_check.proofs.Places.{kept_then, none_then}
+use Rattle.branch_check.proofs.Firsts.{firsts_kept}
+use Rattle.branch_check.proofs.levels.Levels.keep_first.Goals as goal
+
+pub returns-clause-kept : goal.returns-clause-kept
+returns-clause-kept c q =
+    let len : c.len-self-inside.result ≡ length c.self.inside.reached.items = omega (arith, c.len-self-inside.ensures, c.self.inside.reached.ok) in
+    rw len (subst (λ (v : LevelStates). at (map (kept_at (length c.self.inside.reached.items) c.self.inside.states.list) c.self.inside.places.items) q ≡ kept_or (at v.kept q) (at v.next.states q)) c.self.view_is
+    (kept_then c.self.inside.places.items c.self.inside.reached.items c.self.inside.states.list c.self.inside.kept c.self.invariant.2 q))
+
+pub returns-clause-next : goal.returns-clause-next
+returns-clause-next c q =
+    let len : c.len-self-inside.result ≡ length c.self.inside.reached.items = omega (arith, c.len-self-inside.ensures, c.self.inside.reached.ok) in
+    rw len (none_then c.self.inside.places.items c.self.inside.reached.items c.self.inside.states.list c.self.inside.kept c.self.invariant.2 q)
+
+pub returns-clause-firsts : goal.returns-clause-firsts
+returns-clause-firsts c q =
+    let len : c.len-self-inside.result ≡ length c.self.inside.reached.items = omega (arith, c.len-self-inside.ensures, c.self.inside.reached.ok) in
+    rw len (firsts_kept c.self.inside.places.items c.self.inside.reached.items c.self.inside.states.list c.self.inside.kept c.self.invariant.2 q)
