@@ -24,13 +24,13 @@ add_all-append rows [] ys = refl
 add_all-append rows (x ∷ xs) ys = add_all-append (after_row rows x) xs ys
 
 -- a range with one more element
-pub slice_more : (xs : List PlacedRow) (from to : ℕ) (d : PlacedRow) → from ≤ to → to < length xs → slice_range xs from (to + 1) ≡ slice_range xs from to ++ get_or xs to d ∷ []
-slice_more xs from to d l inside =
+pub slice_more : {X : Type 0} (xs : List X) (from to : ℕ) (d : X) → from ≤ to → to < length xs → slice_range xs from (to + 1) ≡ slice_range xs from to ++ get_or xs to d ∷ []
+slice_more {X} xs from to d l inside =
     let count : to + 1 - from ≡ to - from + 1 = omega arith in
     let there : from + (to - from) ≡ to = omega arith in
     ap (λ (n : ℕ). take n (drop from xs)) count
     ∙ take_more (drop from xs) (to - from) d (omega (arith, length-drop from xs))
-    ∙ ap (λ (x : PlacedRow). take (to - from) (drop from xs) ++ x ∷ []) (get_or-drop from xs (to - from) d ∙ ap (λ (n : ℕ). get_or xs n d) there)
+    ∙ ap (λ (x : X). take (to - from) (drop from xs) ++ x ∷ []) (get_or-drop from xs (to - from) d ∙ ap (λ (n : ℕ). get_or xs n d) there)
 
 module _ (p : Program) (states : ℕ → Option State) (in_sites : List PlacedRow) where
   -- the row is one of a point that begins one

@@ -1,5 +1,5 @@
 -- The rows that begin in a program, and those of them that differ from the one before.
-use Rattle.std.specs.Prelude.{◌≡◌, ◌⊎◌, ℕ, ◌-◌, ◌==◌, Bool, true, false, List, [], ◌∷◌, ◌++◌, Option, Some, None, Contains, if◌then◌else◌, length, slice_get}
+use Rattle.std.specs.Prelude.{◌≡◌, ◌⊎◌, ℕ, ◌-◌, ◌==◌, Bool, true, false, List, [], ◌∷◌, ◌++◌, Option, Some, None, Contains, AllPairs, if◌then◌else◌, length, map, slice_get}
 use Rattle.ot_base.specs.declared.place.Place.{Place}
 use Rattle.ot_base.specs.declared.row.Row.{Row}
 use Rattle.ot_base.specs.declared.row.PlacedRow.{PlacedRow}
@@ -9,7 +9,7 @@ use Rattle.program_defs.specs.Program.{Program, Site, IsPoint, in_site}
 use Rattle.checker_defs.specs.Broken.{KeptInSite}
 use Rattle.checker_defs.specs.Rows.{placed, row_of_point}
 use Rattle.site_points.specs.Sites.{is_before}
-use Rattle.site_points.specs.declared.points.SitePoint.{SitePoint}
+use Rattle.site_points.specs.Points.{ComesBefore}
 
 -- each row lies before those behind it
 abbrev pub Ascends : List PlacedRow → Type 0
@@ -33,10 +33,18 @@ abbrev pub add_all : List PlacedRow → List PlacedRow → List PlacedRow
 add_all rows [] = rows
 add_all rows (x ∷ xs) = add_all (after_row rows x) xs
 
--- the rows are those of site points: at each address that of a point there
-pub record AreRowsOf (states : ℕ → Option State) (points : List SitePoint) (rows : List PlacedRow) : Type 0 where
-  pub each : (x : PlacedRow) → Contains rows x → (y : SitePoint) × Contains points y × (y.address ≡ x.place) × (x.row ≡ row_of_point states y.point)
-  pub all : (y : SitePoint) → Contains points y → (x : PlacedRow) × Contains rows x × (x.place ≡ y.address)
+-- some points are those of a list, which are by their addresses, but for those that run where one before does
+pub record AreFirstOf (p : Program) (points firsts : List ℕ) : Type 0 where
+  pub each : (q : ℕ) → Contains firsts q → Contains points q
+  pub all : (q : ℕ) → Contains points q → (r : ℕ) × Contains firsts r × (p.address r ≡ p.address q)
+  pub ascend : AllPairs (ComesBefore p) points → AllPairs (λ q r. is_before (p.address q) (p.address r) ≡ true) firsts
+
+-- the row of a point where it runs, and those of some points
+abbrev pub row_in_site : Program → (ℕ → Option State) → ℕ → PlacedRow
+row_in_site p states q = placed (p.address q) (row_of_point states q)
+
+abbrev pub rows_in_sites : Program → (ℕ → Option State) → List ℕ → List PlacedRow
+rows_in_sites p states points = map (row_in_site p states) points
 
 -- a kept point of a site whose original code is kept has this row
 pub record IsRowInSite (p : Program) (states : ℕ → Option State) (x : PlacedRow) : Type 0 where

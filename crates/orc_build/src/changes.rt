@@ -1,6 +1,6 @@
 //! The rows that differ from the one before.
 
-ghost use Rattle.std.specs.Prelude.{◌≡◌, ◌≤◌, ◌<◌, ◌-◌, [], IfOk, IfSome, IsTrue, List, MatchOption, OnOk, Some, length, slice_index_or, slice_range, true, false, ℕ};
+ghost use Rattle.std.specs.Prelude.{◌≡◌, ◌≤◌, ◌<◌, ◌-◌, [], All, IfOk, IfSome, IsTrue, List, MatchOption, OnOk, Some, length, slice_index_or, slice_range, true, false, ℕ};
 ghost use Rattle.ot_base.specs.declared.row.PlacedRow.{PlacedRow};
 ghost use Rattle.program_defs.specs.Program.{Program};
 ghost use Rattle.program_defs.specs.IsProgram.{IsLaidOut};
@@ -8,10 +8,11 @@ ghost use Rattle.checker_defs.specs.Rows.{row_of_point};
 ghost use Rattle.program_graph.specs.Tells.{Tells};
 ghost use Rattle.branch_check.specs.LevelStates.{at};
 ghost use Rattle.site_points.specs.Sites.{IsIndexOf, is_before as is_lower};
-ghost use Rattle.orc_build.specs.Changes.{AreMerged, AreRowsInSites, Ascends, BeginsRow, add_all, after_row, is_held as is_row_held, row_from};
+ghost use Rattle.orc_build.specs.Changes.{AreMerged, AreRowsInSites, BeginsRow, add_all, after_row, is_held as is_row_held, row_from, rows_in_sites};
 ghost use Rattle.orc_build.specs.Checked.{IsCheckedBy};
 ghost use Rattle.orc_build.specs.Fit.{Fit};
 
+use crate::in_sites::site_row;
 use crate::row::{ZERO_ROW, row_or_zero};
 use branch_check::Kept;
 use ot_base::{NoMemory, Place, PlacedRow, Row};
@@ -41,70 +42,90 @@ fn push_change(rows: &mut Vec<PlacedRow>, row: PlacedRow) -> Result<(), NoMemory
     Ok(())
 }
 
-/// Adds rows that begin before a place, from one on, and says where those end.
+/// Adds the rows of kept points of sites that run before a place, from one on, and says where those end.
 fn push_before(
+    graph: &Graph,
+    kept: &Kept,
     rows: &mut Vec<PlacedRow>,
-    more: &[PlacedRow],
+    more: &[u32],
     from: usize,
     place: Place,
 ) -> Result<usize, NoMemory>
-    requires { from ≤ length more.now }
+    requires points { length kept.now ≡ length graph.now.parts.points.items }
+    requires fit { Fit (at kept.now) }
+    requires more { All (λ q. q < length graph.now.parts.points.items) more.now }
+    requires from { from ≤ length more.now }
     ensures behind { IfOk result (λ end. from ≤ end) }
     ensures within { IfOk result (λ end. end ≤ length more.now) }
-    ensures before { IfOk result (λ end. (k : ℕ) (d : PlacedRow) → from ≤ k → k < end → is_lower (slice_index_or more.now k d).place place ≡ true) }
-    ensures other { IfOk result (λ end. (d : PlacedRow) → end < length more.now → is_lower (slice_index_or more.now end d).place place ≡ false) }
-    ensures pushed { IfOk result (λ end. rows.new.items ≡ add_all rows.old.items (slice_range more.now from end)) }
+    ensures before { IfOk result (λ end. (p : Program) → Tells p graph.now.parts → (k d : ℕ) → from ≤ k → k < end → is_lower (p.address (slice_index_or more.now k d)) place ≡ true) }
+    ensures other { IfOk result (λ end. (p : Program) → Tells p graph.now.parts → (d : ℕ) → end < length more.now → is_lower (p.address (slice_index_or more.now end d)) place ≡ false) }
+    ensures pushed { IfOk result (λ end. (p : Program) → Tells p graph.now.parts → rows.new.items ≡ add_all rows.old.items (rows_in_sites p (at kept.now) (slice_range more.now from end))) }
 {
     for end in from..more.len() {
-        if !is_before(more[end].place, place) {
+        let n = more[end];
+        if !is_before(graph.address(n), place) {
             return Ok(end);
         }
-        push_change(rows, more[end])?;
+        push_change(rows, site_row(graph, kept, n))?;
     }
     Ok(more.len())
 }
 
-/// Adds rows.
-fn push_all(rows: &mut Vec<PlacedRow>, more: &[PlacedRow]) -> Result<(), NoMemory>
-    ensures { OnOk result (rows.new.items ≡ add_all rows.old.items more.now) }
+/// Adds the rows of kept points of sites.
+fn push_all(
+    graph: &Graph,
+    kept: &Kept,
+    rows: &mut Vec<PlacedRow>,
+    more: &[u32],
+) -> Result<(), NoMemory>
+    requires points { length kept.now ≡ length graph.now.parts.points.items }
+    requires fit { Fit (at kept.now) }
+    requires more { All (λ q. q < length graph.now.parts.points.items) more.now }
+    ensures { OnOk result ((p : Program) → Tells p graph.now.parts → rows.new.items ≡ add_all rows.old.items (rows_in_sites p (at kept.now) more.now)) }
 {
-    for row in more {
-        push_change(rows, *row)?;
+    for n in more {
+        push_change(rows, site_row(graph, kept, *n))?;
     }
     Ok(())
 }
 
-/// Whether rows have one that begins before a place, from one on.
-fn has_before(rows: &[PlacedRow], from: usize, place: Place) -> bool
-    requires { from ≤ length rows.now }
-    ensures { result ≡ false → (d : PlacedRow) → from < length rows.now → is_lower (slice_index_or rows.now from d).place place ≡ false }
+/// Whether some points, from one on, have one that runs before a place.
+fn has_before(graph: &Graph, more: &[u32], from: usize, place: Place) -> bool
+    requires more { All (λ q. q < length graph.now.parts.points.items) more.now }
+    requires from { from ≤ length more.now }
+    ensures { result ≡ false → (p : Program) → Tells p graph.now.parts → (d : ℕ) → from < length more.now → is_lower (p.address (slice_index_or more.now from d)) place ≡ false }
 {
-    from < rows.len() && is_before(rows[from].place, place)
+    from < more.len() && is_before(graph.address(more[from]), place)
 }
 
-/// Adds rows that begin before another one, from one on, then that one, unless it is known to be held already where none is
-/// before it. Says where those end.
+/// Adds the rows of kept points of sites that run before another row's place, from one on, then that row, unless it is known to be
+/// held already where none is before it. Says where those end.
 #[inline(always)]
 fn push_plain(
+    graph: &Graph,
+    kept: &Kept,
     rows: &mut Vec<PlacedRow>,
-    more: &[PlacedRow],
+    more: &[u32],
     from: usize,
     row: PlacedRow,
     is_held: bool,
 ) -> Result<usize, NoMemory>
+    requires points { length kept.now ≡ length graph.now.parts.points.items }
+    requires fit { Fit (at kept.now) }
+    requires more { All (λ q. q < length graph.now.parts.points.items) more.now }
     requires from { from ≤ length more.now }
     requires held { IsTrue is_held → is_row_held rows.old.items row.place.sec row.row ≡ true }
     ensures behind { IfOk result (λ end. from ≤ end) }
     ensures within { IfOk result (λ end. end ≤ length more.now) }
-    ensures before { IfOk result (λ end. (k : ℕ) (d : PlacedRow) → from ≤ k → k < end → is_lower (slice_index_or more.now k d).place row.place ≡ true) }
-    ensures other { IfOk result (λ end. (d : PlacedRow) → end < length more.now → is_lower (slice_index_or more.now end d).place row.place ≡ false) }
-    ensures pushed { IfOk result (λ end. rows.new.items ≡ after_row (add_all rows.old.items (slice_range more.now from end)) row) }
+    ensures before { IfOk result (λ end. (p : Program) → Tells p graph.now.parts → (k d : ℕ) → from ≤ k → k < end → is_lower (p.address (slice_index_or more.now k d)) row.place ≡ true) }
+    ensures other { IfOk result (λ end. (p : Program) → Tells p graph.now.parts → (d : ℕ) → end < length more.now → is_lower (p.address (slice_index_or more.now end d)) row.place ≡ false) }
+    ensures pushed { IfOk result (λ end. (p : Program) → Tells p graph.now.parts → rows.new.items ≡ after_row (add_all rows.old.items (rows_in_sites p (at kept.now) (slice_range more.now from end))) row) }
     ensures held { OnOk result (is_row_held rows.new.items row.place.sec row.row ≡ true) }
 {
-    if is_held && !has_before(more, from, row.place) {
+    if is_held && !has_before(graph, more, from, row.place) {
         return Ok(from);
     }
-    let end = push_before(rows, more, from, row.place)?;
+    let end = push_before(graph, kept, rows, more, from, row.place)?;
     push_change(rows, row)?;
     Ok(end)
 }
@@ -161,7 +182,7 @@ fn plain_row(
     Some(PlacedRow { place, row })
 }
 
-/// The rows of points of the object's code and those in kept sites, in the order of their places and without those that
+/// The rows of points of the object's code and those of kept points of sites, in the order of their places and without those that
 /// are equal to the one before in their section.
 #[inline(never)]
 pub(crate) fn list_changes(
@@ -169,11 +190,12 @@ pub(crate) fn list_changes(
     graph: &Graph,
     kept: &Kept,
     sites: &SiteIndex,
-    in_sites: &[PlacedRow],
+    in_sites: &[u32],
 ) -> Result<Vec<PlacedRow>, NoMemory>
     requires points { length kept.now ≡ length graph.now.parts.points.items }
     requires fit { Fit (at kept.now) }
-    ensures { IfOk result (λ rows. (p : Program) → IsCheckedBy p graph.now.parts (at kept.now) → IsIndexOf p sites.now → AreRowsInSites p (at kept.now) in_sites.now → (all : List PlacedRow) × AreMerged p (at kept.now) in_sites.now all × (rows.items ≡ add_all [] all)) }
+    requires in_sites { All (λ q. q < length graph.now.parts.points.items) in_sites.now }
+    ensures { IfOk result (λ rows. (p : Program) → IsCheckedBy p graph.now.parts (at kept.now) → IsIndexOf p sites.now → AreRowsInSites p (at kept.now) (rows_in_sites p (at kept.now) in_sites.now) → (all : List PlacedRow) × AreMerged p (at kept.now) (rows_in_sites p (at kept.now) in_sites.now) all × (rows.items ≡ add_all [] all)) }
 {
     let mut rows = Vec::new(alloc);
     let mut next = 0usize;
@@ -187,10 +209,10 @@ pub(crate) fn list_changes(
         if let Some(row) = plain_row(graph, kept, sites, &mut near, n, current.row) {
             let sec = row.place.sec;
             let is_held = current.held == Some(sec);
-            next = push_plain(&mut rows, in_sites, next, row, is_held)?;
+            next = push_plain(graph, kept, &mut rows, in_sites, next, row, is_held)?;
             current.held = Some(sec);
         }
     }
-    push_all(&mut rows, &in_sites[next..])?;
+    push_all(graph, kept, &mut rows, &in_sites[next..])?;
     Ok(rows)
 }

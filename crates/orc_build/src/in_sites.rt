@@ -1,38 +1,59 @@
 //! The rows in sites whose original code is kept.
 
-ghost use Rattle.std.specs.Prelude.{◌≡◌, ◌<◌, All, AllPairs, IfOk, length};
+ghost use Rattle.std.specs.Prelude.{◌≡◌, ◌≢◌, ◌⊎◌, ◌-◌, ◌<◌, false, All, IfOk, IsTrue, length, slice_index_or};
+ghost use Rattle.program_defs.specs.Program.{Program};
+ghost use Rattle.program_graph.specs.Tells.{Tells};
 ghost use Rattle.branch_check.specs.LevelStates.{at};
-ghost use Rattle.site_points.specs.Points.{ComesBefore};
-ghost use Rattle.site_points.specs.declared.points.SitePoint.{SitePoint};
-ghost use Rattle.orc_build.specs.Changes.{AreRowsOf, Ascends};
+ghost use Rattle.orc_build.specs.Changes.{AreFirstOf, row_in_site};
 ghost use Rattle.orc_build.specs.Fit.{Fit};
 
 use crate::row::row_or_zero;
 use branch_check::Kept;
 use ot_base::{NoMemory, PlacedRow};
-use site_points::SitePoint;
+use program_graph::Graph;
 use std::alloc::Global;
 
-/// The rows of kept points of sites: at each address, that of the first of them.
-pub(crate) fn rows_in_sites(
-    alloc: Global,
-    kept: &Kept,
-    points: &[SitePoint],
-) -> Result<Vec<PlacedRow>, NoMemory>
-    requires fit { Fit (at kept.now) }
-    requires points { All (λ x. x.point < length kept.now) points.now }
-    ensures rows { IfOk result (λ rows. AreRowsOf (at kept.now) points.now rows.items) }
-    ensures ascending { IfOk result (λ rows. AllPairs ComesBefore points.now → Ascends rows.items) }
+/// Whether a point of a list runs elsewhere than the one before it.
+fn is_first(graph: &Graph, points: &[u32], i: usize) -> bool
+    requires points { All (λ q. q < length graph.now.parts.points.items) points.now }
+    requires inside { i < length points.now }
+    ensures first { IsTrue result → (p : Program) → Tells p graph.now.parts → (i ≡ 0) ⊎ (p.address (slice_index_or points.now (i - 1) 0) ≢ p.address (slice_index_or points.now i 0)) }
+    ensures other { result ≡ false → (i ≢ 0) × ((p : Program) → Tells p graph.now.parts → p.address (slice_index_or points.now (i - 1) 0) ≡ p.address (slice_index_or points.now i 0)) }
 {
-    let mut rows = Vec::new(alloc);
+    if i == 0 {
+        return true;
+    }
+    graph.address(points[i - 1]) != graph.address(points[i])
+}
+
+/// Of points by their addresses the first at each address.
+pub(crate) fn first_points(
+    alloc: Global,
+    graph: &Graph,
+    points: &[u32],
+) -> Result<Vec<u32>, NoMemory>
+    requires { All (λ q. q < length graph.now.parts.points.items) points.now }
+    ensures within { IfOk result (λ firsts. All (λ q. q < length graph.now.parts.points.items) firsts.items) }
+    ensures first { IfOk result (λ firsts. (p : Program) → Tells p graph.now.parts → AreFirstOf p points.now firsts.items) }
+{
+    let mut firsts = Vec::new(alloc);
     for i in 0..points.len() {
-        let point = points[i];
-        if i == 0 || points[i - 1].address != point.address {
-            rows.push(PlacedRow {
-                place: point.address,
-                row: row_or_zero(kept.state(point.point)),
-            })?;
+        if is_first(graph, points, i) {
+            firsts.push(points[i])?;
         }
     }
-    Ok(rows)
+    Ok(firsts)
+}
+
+/// The row of a kept point of a site.
+pub(crate) fn site_row(graph: &Graph, kept: &Kept, n: u32) -> PlacedRow
+    requires points { length kept.now ≡ length graph.now.parts.points.items }
+    requires inside { n < length graph.now.parts.points.items }
+    requires fit { Fit (at kept.now) }
+    ensures { (p : Program) → Tells p graph.now.parts → result ≡ row_in_site p (at kept.now) n }
+{
+    PlacedRow {
+        place: graph.address(n),
+        row: row_or_zero(kept.state(n)),
+    }
 }

@@ -10,11 +10,11 @@ ghost use Rattle.orc_build.specs.Fit.{Fit};
 
 use crate::changes::list_changes;
 use crate::ends::with_ends;
-use crate::in_sites::rows_in_sites;
+use crate::in_sites::first_points;
 use branch_check::Kept;
 use ot_base::{NoMemory, PlacedRow};
 use program_graph::Graph;
-use site_points::{SiteIndex, SitePoint};
+use site_points::SiteIndex;
 use std::alloc::Global;
 
 /// The rows of a program in which no rule is broken, from its kept states: section by section in ascending order, and in
@@ -31,7 +31,7 @@ pub fn rows(
     alloc: Global,
     graph: &Graph,
     kept: &Kept,
-    points: &[SitePoint],
+    points: &[u32],
 ) -> Result<Vec<PlacedRow>, NoMemory>
     requires points { length kept.now ≡ length graph.now.parts.points.items }
     requires listed { ∥ AreSitePointsOf graph.now.parts kept.now points.now ∥₁ }
@@ -39,7 +39,7 @@ pub fn rows(
     ensures { IfOk result (λ rows. (p : Program) → IsCheckedBy p graph.now.parts (at kept.now) → rows.items ≡ rows_of p (at kept.now)) }
 {
     let sites = SiteIndex::build(alloc, graph)?;
-    let in_sites = rows_in_sites(alloc, kept, points)?;
-    let changes = list_changes(alloc, graph, kept, &sites, in_sites.as_slice())?;
+    let in_sites = first_points(alloc, graph, points)?;
+    let changes = list_changes(alloc, graph, kept, &sites, &in_sites)?;
     with_ends(alloc, graph.texts(), changes.as_slice())
 }

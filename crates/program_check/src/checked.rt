@@ -11,7 +11,6 @@ ghost use Rattle.program_check.specs.Checkable.{AreOfSomeAccepted, IsCheckable};
 use branch_check::Kept;
 use ot_base::{NoMemory, PlacedRow};
 use program_graph::Graph;
-use site_points::SitePoint;
 use state_defs::State;
 use std::alloc::Global;
 
@@ -23,14 +22,14 @@ use std::alloc::Global;
 pub struct Checked {
     graph: Graph,
     kept: Kept,
-    site_points: Vec<SitePoint>,
+    site_points: Vec<u32>,
     pub ghost accepted: { AreOfSomeAccepted graph.parts kept },
     ghost listed: { ∥ AreSitePointsOf graph.parts kept site_points.items ∥₁ },
 }
 
 impl Checked {
     /// What was checked and accepted, with the kept points that run in sites.
-    pub(crate) fn new(graph: Graph, kept: Kept, site_points: Vec<SitePoint>) -> Checked
+    pub(crate) fn new(graph: Graph, kept: Kept, site_points: Vec<u32>) -> Checked
         requires accepted { AreOfSomeAccepted graph.parts kept }
         requires listed { ∥ AreSitePointsOf graph.parts kept site_points.items ∥₁ }
         ensures graph { result.graph.parts ≡ graph.parts }

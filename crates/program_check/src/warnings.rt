@@ -13,7 +13,6 @@ use branch_check::Kept;
 use ot_base::{NoMemory, Options, Warning};
 use program_graph::Graph;
 use rule_check::{push_unreachable, push_warnings, push_without_frame, sort_warnings};
-use site_points::SitePoint;
 use site_rules::push_site_warnings;
 use std::alloc::Global;
 
@@ -22,7 +21,7 @@ fn list_unasked(
     alloc: Global,
     graph: &Graph,
     kept: &Kept,
-    points: &[SitePoint],
+    points: &[u32],
 ) -> Result<Vec<Warning>, NoMemory>
     requires points { length kept.now ≡ length graph.now.parts.points.items }
     requires listed { AreSitePointsOf graph.now.parts kept.now points.now }
@@ -31,7 +30,7 @@ fn list_unasked(
 {
     let mut warnings = Vec::new(alloc);
     push_warnings(graph, kept, &mut warnings)?;
-    push_site_warnings(graph, kept, points, &mut warnings)?;
+    push_site_warnings(alloc, graph, kept, points, &mut warnings)?;
     Ok(warnings)
 }
 
@@ -76,7 +75,7 @@ pub(crate) fn list_warnings(
     alloc: Global,
     graph: &Graph,
     kept: &Kept,
-    points: &[SitePoint],
+    points: &[u32],
     options: Options,
 ) -> Result<Vec<Warning>, NoMemory>
     requires points { length kept.now ≡ length graph.now.parts.points.items }

@@ -1,5 +1,5 @@
 -- Which site holds a place.
-use Rattle.std.proofs.Common.{◌≡◌, ℕ, ◌+◌, ◌<◌, ◌≤◌, true, false, not, ◌&&◌, ◌||◌, eqb, ltb, leb, List, length, get_or, Contains, inl, inr, arith, ap, sym, ◌∙◌, subst}
+use Rattle.std.proofs.Common.{◌≡◌, ℕ, ◌+◌, ◌-◌, ◌<◌, ◌≤◌, true, false, not, ◌&&◌, ◌||◌, eqb, ltb, leb, List, length, get_or, Contains, inl, inr, arith, ap, sym, ◌∙◌, subst}
 use Rattle.std.specs.List.Sorted.{IsPartitionedBy}
 use Rattle.std.proofs.lemmas.Bool.{cases_lt, cases_Bool, both_ways, not-true}
 use Rattle.std.proofs.lemmas.Bool.Decides.{nat_tests}
@@ -85,3 +85,20 @@ none_holds sites place n last indexed apart inside is from behind not_held site 
         let some : 0 < last.len = subst (λ (s : OwnSite). 0 < s.len) (sym is) (All-get_or (λ (s : OwnSite). 0 < s.len) sites n last inside indexed.some) in
         let same : site ≡ last = apart site last last.start (k, l, at) listed there (start_held last some) in
         both_ways (holds last place) not_held (subst (λ (s : OwnSite). holds s place ≡ true) same held)
+
+-- no site holds a place before the one with a number, and behind the one before that
+pub none_between : (sites : List OwnSite) (place : Place) (near : ℕ) (d : OwnSite) → AreIndexed sites → AreApart sites → near ≤ length sites
+    → (0 < near → (is_before place (get_or sites (near - 1) d).start ≡ false) × (holds (get_or sites (near - 1) d) place ≡ false))
+    → (near < length sites → is_before place (get_or sites near d).start ≡ true)
+    → (site : OwnSite) → Contains sites site → holds site place ≡ false
+none_between sites place near d indexed apart within before behind site (k, l, at) = elim (cases_lt k near) [
+  | inr above ↦ before_not_held place site (subst (λ (s : OwnSite). is_before place s.start ≡ true) (get_or_default sites k d site l ∙ at) (from_there k d above l))
+  | inl below ↦
+      let h = before (omega arith) in
+      none_holds sites place (near - 1) (get_or sites (near - 1) d) indexed apart (omega arith) (get_or_default sites (near - 1) d (get_or sites (near - 1) d) (omega arith))
+      h.0 (λ j e up m. from_there j e (omega arith) m) h.1 site (k, l, at)
+]
+  where
+    from_there : (j : ℕ) (e : OwnSite) → near ≤ j → j < length sites → is_before place (get_or sites j e).start ≡ true
+    from_there j e up m =
+        unbegun sites place indexed near j e up m (subst (λ (s : OwnSite). is_before place s.start ≡ true) (get_or_default sites near d e (omega arith)) (behind (omega arith)))

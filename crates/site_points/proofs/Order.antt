@@ -1,19 +1,19 @@
 -- The order of places and of site points.
-use Rattle.std.proofs.Common.{◌≡◌, ◌⊎◌, ℕ, ◌<◌, ◌≤◌, true, false, ◌&&◌, ◌||◌, eqb, ltb, List, length, get_or, inl, inr, arith, refl, ap, sym, ◌∙◌}
+use Rattle.std.proofs.Common.{◌≡◌, ◌⊎◌, ℕ, ◌<◌, ◌≤◌, Bool, true, false, ◌&&◌, ◌||◌, cond, eqb, ltb, List, All, length, get_or, inl, inr, arith, refl, ap, sym, ◌∙◌, subst}
 use Rattle.std.specs.Cmp.{IsTotalOrder}
 use Rattle.std.specs.declared.cmp.Ordering.{Ordering}
 use Rattle.std.specs.List.Sorted.{IsSortedByKey}
 use Rattle.std.specs.Ordering.{nat_cmp, is_lt, ordering_then}
-use Rattle.std.proofs.lemmas.Bool.{cases_order}
+use Rattle.std.proofs.lemmas.Bool.{cases_order, lt-ltb}
 use Rattle.std.proofs.lemmas.Bool.Decides.{nat_tests}
 use Rattle.std.proofs.lemmas.Cmp.{nat_cmp_total, on_total, then_total}
 use Rattle.std.proofs.lemmas.List.MinMax.{ranks_by}
 use Rattle.std.proofs.lemmas.List.Sorted.{sorted_far}
 use Rattle.ot_base.specs.declared.place.Place.{Place}
+use Rattle.program_defs.specs.Program.{Program}
 use Rattle.program_graph.specs.declared.parts.Site.{Site as OwnSite}
 use Rattle.site_points.specs.Sites.{is_before}
-use Rattle.site_points.specs.Points.{ComesBefore, AreInOrder}
-use Rattle.site_points.specs.declared.points.SitePoint.{SitePoint}
+use Rattle.site_points.specs.Points.{ComesBefore, AreInOrder, address_by_number, key_by_number, nowhere}
 
 abbrev pub place_cmp : Place → Place → Ordering
 place_cmp p q = ordering_then (nat_cmp p.sec q.sec) (nat_cmp p.off q.off)
@@ -42,13 +42,24 @@ lower_place a b v c d w h k = grind (arith, nat_tests)
 lower_variant : (a b v c d w : ℕ) → is_lt (ordering_then (ordering_then (nat_cmp a c) (nat_cmp b d)) (nat_cmp v w)) ≡ false → a ≡ c → b ≡ d → v < w → ⊥
 lower_variant a b v c d w h e f l = grind (arith, nat_tests)
 
+-- where a point runs, by its number
+pub address_is : (p : Program) (n : ℕ) → n < p.count → address_by_number p n ≡ p.address n
+address_is p n l = ap (λ (b : Bool). cond b (p.address n) nowhere) (lt-ltb n p.count l)
+
+pub key_is : (p : Program) (n : ℕ) → n < p.count → key_by_number p n ≡ (p.address n, p.variant n)
+key_is p n l = ap (λ (b : Bool). cond b (p.address n, p.variant n) (nowhere, 0)) (lt-ltb n p.count l)
+
 -- points that are sorted by address and variant are in order
-pub points_in_order : (points : List SitePoint) → IsSortedByKey (λ (x : SitePoint). (x.address, x.variant)) key_cmp points → AreInOrder points
-points_in_order points up i j d order inside = go (get_or points j d) (get_or points i d) (sorted_far (λ (x y : SitePoint). is_lt (key_cmp (x.address, x.variant) (y.address, y.variant))) (ranks_by key_total (λ (x : SitePoint). (x.address, x.variant))) points up i j d order inside)
+pub points_in_order : (p : Program) (points : List ℕ) → All (λ q. q < p.count) points → IsSortedByKey (key_by_number p) key_cmp points → AreInOrder p points
+points_in_order p points known up i j d order inside =
+    go (get_or points j d) (get_or points i d) (known j d inside) (known i d (omega arith)) (sorted_far (λ (q r : ℕ). is_lt (key_cmp (key_by_number p q) (key_by_number p r))) (ranks_by key_total (key_by_number p)) points up i j d order inside)
   where
-    go : (x y : SitePoint) → is_lt (ordering_then (ordering_then (nat_cmp x.address.sec y.address.sec) (nat_cmp x.address.off y.address.off)) (nat_cmp x.variant y.variant)) ≡ false → ComesBefore x y → ⊥
-    go x y h (inl k) = lower_place x.address.sec x.address.off x.variant y.address.sec y.address.off y.variant h k
-    go x y h (inr (e, l)) = lower_variant x.address.sec x.address.off x.variant y.address.sec y.address.off y.variant h (ap (λ (z : Place). z.sec) e) (ap (λ (z : Place). z.off) e) l
+    away : (q r : ℕ) → is_lt (ordering_then (ordering_then (nat_cmp (p.address q).sec (p.address r).sec) (nat_cmp (p.address q).off (p.address r).off)) (nat_cmp (p.variant q) (p.variant r))) ≡ false → ComesBefore p q r → ⊥
+    away q r h (inl k) = lower_place (p.address q).sec (p.address q).off (p.variant q) (p.address r).sec (p.address r).off (p.variant r) h k
+    away q r h (inr (e, l)) = lower_variant (p.address q).sec (p.address q).off (p.variant q) (p.address r).sec (p.address r).off (p.variant r) h (ap (λ (z : Place). z.sec) e) (ap (λ (z : Place). z.off) e) l
+
+    go : (q r : ℕ) → q < p.count → r < p.count → is_lt (key_cmp (key_by_number p q) (key_by_number p r)) ≡ false → ComesBefore p q r → ⊥
+    go q r l m h = away q r (subst (λ (k : Place × ℕ). is_lt (key_cmp (p.address q, p.variant q) k) ≡ false) (key_is p r m) (subst (λ (k : Place × ℕ). is_lt (key_cmp k (key_by_number p r)) ≡ false) (key_is p q l) h))
 
 -- a place of these numbers
 spot : ℕ → ℕ → Place
@@ -79,12 +90,12 @@ first_of_places a b = elim (cases_order a.sec b.sec) [
 ]
 
 -- one of two points comes first, or they run at one place in one variant
-pub first_of_points : (x y : SitePoint) → ComesBefore x y ⊎ (ComesBefore y x ⊎ ((x.address ≡ y.address) × (x.variant ≡ y.variant)))
-first_of_points x y = elim (first_of_places x.address y.address) [
+pub first_of_points : (p : Program) (q r : ℕ) → ComesBefore p q r ⊎ (ComesBefore p r q ⊎ ((p.address q ≡ p.address r) × (p.variant q ≡ p.variant r)))
+first_of_points p q r = elim (first_of_places (p.address q) (p.address r)) [
   | inl h ↦ inl (inl h)
   | inr m ↦ elim m [
     | inl h ↦ inr (inl (inl h))
-    | inr e ↦ elim (cases_order x.variant y.variant) [
+    | inr e ↦ elim (cases_order (p.variant q) (p.variant r)) [
       | inl f ↦ inr (inr (e, f))
       | inr k ↦ elim k [ inl l ↦ inl (inr (e, l)) | inr l ↦ inr (inl (inr (sym e, l))) ]
     ]

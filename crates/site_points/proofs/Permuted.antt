@@ -1,12 +1,12 @@
 -- A list in another order has its elements as often.
-use Rattle.std.proofs.Common.{◌≡◌, ◌≢◌, ℕ, suc, ◌<◌, ◌≤◌, Bool, true, false, cond, eqb, List, [], ◌∷◌, length, get_or, take, arith, refl, ap, ◌∙◌}
+use Rattle.std.proofs.Common.{◌≡◌, ◌≢◌, ℕ, suc, ◌<◌, ◌≤◌, Bool, true, false, cond, eqb, List, [], ◌∷◌, ◌++◌, length, get_or, take, arith, refl, ap, ◌∙◌}
 use Rattle.std.specs.Prelude.{sum_by}
 use Rattle.std.specs.List.{AllPairs}
 use Rattle.std.specs.List.Sorted.{IsPermutation}
 use Rattle.std.proofs.lemmas.Bool.{eq-eqb, ne_eqb, eqb-true, eqb-false}
 use Rattle.std.proofs.lemmas.List.{get_or-take, length-take}
 use Rattle.std.proofs.lemmas.List.Sums.{sum_by_more_le, sum_by-cons}
-use Rattle.std.proofs.lemmas.List.Sorted.{sum_by-IsPermutation}
+use Rattle.std.proofs.lemmas.List.Sorted.{IsPermutation-append_comm, IsPermutation-cons, sum_by-IsPermutation}
 
 module _ {X : Type 0} (key : X → ℕ) where
   -- 1 where an element has a key
@@ -62,3 +62,12 @@ module _ {X : Type 0} (key : X → ℕ) where
       let total : sum_by (has k) ys ≡ sum_by (has k) xs = sum_by-IsPermutation (has k) xs ys same in
       let twice : 2 ≤ sum_by (has k) ys = at_least_two ys i j d l inside e in
       omega (arith, once, total, twice)
+
+-- an element behind two lists, and between them
+pub moved_between : {X : Type 0} (xs ys : List X) (x : X) → IsPermutation ((xs ++ ys) ++ x ∷ []) ((xs ++ x ∷ []) ++ ys)
+moved_between [] ys x = IsPermutation-append_comm ys (x ∷ [])
+moved_between (y ∷ xs) ys x = IsPermutation-cons y ((xs ++ ys) ++ x ∷ []) ((xs ++ x ∷ []) ++ ys) (moved_between xs ys x)
+
+pub push_behind : {X : Type 0} (xs ys : List X) (x : X) → (xs ++ ys) ++ x ∷ [] ≡ xs ++ (ys ++ x ∷ [])
+push_behind [] ys x = refl
+push_behind {X} (y ∷ xs) ys x = ap (λ (zs : List X). y ∷ zs) (push_behind xs ys x)

@@ -28,14 +28,14 @@ fn holds(site: &Site, place: Place) -> bool
         && u128::from(place.off) < u128::from(start.off) + u128::from(site.len)
 }
 
-/// Whether a place lies behind a site, in the same section.
+/// Whether a place lies behind a site.
 fn is_behind(site: &Site, place: Place) -> bool
     ensures start { IsTrue result → is_lower place site.now.start ≡ false }
     ensures outside { IsTrue result → is_held site.now place ≡ false }
 {
-    site.start.sec == place.sec
-        && site.start.off <= place.off
-        && place.off - site.start.off >= site.len
+    let start = site.start;
+    start.sec < place.sec
+        || start.sec == place.sec && start.off <= place.off && place.off - start.off >= site.len
 }
 
 /// How many of these begin at a place or before it.
@@ -66,15 +66,29 @@ fn begin_behind(sites: &[Site], place: Place, count: usize) -> bool
     count == sites.len() || is_before(place, sites[count].start)
 }
 
-/// How many of these begin at a place or before it, where one number is tried before they are searched.
+/// Whether so many of these begin at a place or before it.
+fn is_count(sites: &[Site], place: Place, count: usize) -> bool
+    requires { AreIndexed sites.now }
+    ensures within { IsTrue result → count ≤ length sites.now }
+    ensures from { IsTrue result → (k : ℕ) (d : Site) → k < count → is_lower place (slice_index_or sites.now k d).start ≡ false }
+    ensures behind { IsTrue result → (k : ℕ) (d : Site) → count ≤ k → k < length sites.now → is_lower place (slice_index_or sites.now k d).start ≡ true }
+{
+    count <= sites.len() && begin_before(sites, place, count) && begin_behind(sites, place, count)
+}
+
+/// How many of these begin at a place or before it, where one number and the next are tried before they are searched.
 fn count_near(sites: &[Site], place: Place, near: usize) -> usize
     requires { AreIndexed sites.now }
     ensures within { result ≤ length sites.now }
     ensures from { (k : ℕ) (d : Site) → k < result → is_lower place (slice_index_or sites.now k d).start ≡ false }
     ensures behind { (k : ℕ) (d : Site) → result ≤ k → k < length sites.now → is_lower place (slice_index_or sites.now k d).start ≡ true }
 {
-    if near <= sites.len() && begin_before(sites, place, near) && begin_behind(sites, place, near) {
-        near
+    if is_count(sites, place, near) {
+        return near;
+    }
+    let next = near.saturating_add(1);
+    if is_count(sites, place, next) {
+        next
     } else {
         count_to(sites, place)
     }
@@ -100,23 +114,36 @@ fn site_before(sites: &[Site], place: Place, count: usize) -> Option<Site>
     }
 }
 
-/// A quick test whether a place lies between two sites that follow each other, of which the later one has this number: where it
-/// says so, the place is in no site.
+/// A quick test whether a place lies before the site with a number, and behind the one before: where it says so, the place is in no
+/// site. Where the number is that of no site, each is before.
 #[inline(always)]
 fn lies_between(sites: &[Site], place: Place, near: usize) -> bool
     requires { AreIndexed sites.now }
     ensures { IsTrue result → AreApart sites.now → (site : Site) → Contains sites.now site → is_held site place ≡ false }
 {
-    if near == 0 {
+    if near > sites.len() {
         return false;
     }
-    if near >= sites.len() {
+    if near != 0 && !is_behind(&sites[near - 1], place) {
         return false;
     }
-    if !is_behind(&sites[near - 1], place) {
-        return false;
+    near == sites.len() || is_before(place, sites[near].start)
+}
+
+/// A quick test whether the site before the one with a number holds a place.
+#[inline(always)]
+fn site_near(sites: &[Site], place: Place, near: usize) -> Option<Site>
+    ensures { IfSome result (λ site. Contains sites.now site × (is_held site place ≡ true)) }
+{
+    if near == 0 || near > sites.len() {
+        return None;
     }
-    is_before(place, sites[near].start)
+    let site = sites[near - 1];
+    if holds(&site, place) {
+        Some(site)
+    } else {
+        None
+    }
 }
 
 /// Sites by place, for quick look-up. Contracts see it as the list of them.
@@ -174,13 +201,17 @@ impl SiteIndex {
         ensures held { IfSome result (λ site. Contains self.now site × (is_held site place ≡ true)) }
         ensures none { AreApart self.now → IfNone result ((site : Site) → Contains self.now site → is_held site place ≡ false) }
     {
-        if lies_between(self.sites.as_slice(), place, *near) {
+        let sites = self.sites.as_slice();
+        if lies_between(sites, place, *near) {
             return None;
         }
-        self.search(place, near)
+        match site_near(sites, place, *near) {
+            Some(site) => Some(site),
+            None => self.search(place, near),
+        }
     }
 
-    /// The same by a search, but where no site begins between the last one's place and this one.
+    /// The same by a search, but where no site begins between the last one's place and this one, or a single one does.
     #[inline(never)]
     fn search(&self, place: Place, near: &mut usize) -> Option<Site>
         ensures held { IfSome result (λ site. Contains self.now site × (is_held site place ≡ true)) }

@@ -5,4 +5,4 @@ mod index;
 mod points;
 
 pub use index::SiteIndex;
-pub use points::{SitePoint, list_site_points};
+pub use points::{address_by_number, list_site_points};

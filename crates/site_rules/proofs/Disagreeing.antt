@@ -25,8 +25,7 @@ use Rattle.rule_check.proofs.Consistency.{kept_there, has_state, kept_point}
 use Rattle.rule_check.proofs.MoveRules.{refused_otherwise}
 use Rattle.site_points.specs.Sites.{is_before}
 use Rattle.site_points.specs.Points.{AreSitePoints}
-use Rattle.site_points.specs.declared.points.SitePoint.{SitePoint}
-use Rattle.site_rules.specs.Disagree.{ahead_of, disagreement, Disagrees, FitPoint, IsInForceAt, PointDisagrees}
+use Rattle.site_rules.specs.Disagree.{ahead_of, disagreement, Disagrees, FitPoint, IsInForceAt, IsSiteOf, PointDisagrees}
 use Rattle.site_rules.proofs.Places.{before_not_after, equal_not_before}
 use Rattle.site_rules.proofs.OneInForce.{some_in_force}
 
@@ -88,104 +87,88 @@ IsOfSites p w = Warns p w.place w.rule w.a w.b × w.rule ≡ 12
 as_one : (p : Program) (w v : Warning) → w ≡ v → IsOfSites p v → IsOfSites p w
 as_one p w v e h = subst (λ (x : Warning). IsOfSites p x) (sym e) h
 
-module _ (p : Program) (parts : GraphParts) (states : List (Option State)) (c : Checks p parts states) (laid : IsLaidOut p) (points : List SitePoint) (are : AreSitePoints p points) where
+module _ (p : Program) (parts : GraphParts) (states : List (Option State)) (c : Checks p parts states) (laid : IsLaidOut p) (points : List ℕ) (are : AreSitePoints p points) where
   -- what is found
   abbrev pub IsFound : Warning → Type 0
-  IsFound w = (x : SitePoint) × Contains points x × PointDisagrees p (at states) points x w
+  IsFound w = (q : ℕ) × Contains points q × PointDisagrees p (at states) points q w
 
-  -- the state of an element
-  state_is : (x : SitePoint) (l : Contains points x) → at states x.point ≡ Some (are.each x l).state
-  state_is x l = has_state p parts states c x.point (are.each x l).state ((are.each x l).kept).kept
+  -- the state of a point
+  state_is : (q : ℕ) (l : Contains points q) → at states q ≡ Some (are.each q l).state
+  state_is q l = has_state p parts states c q (are.each q l).state ((are.each q l).kept).kept
 
-  kept_with : (x : SitePoint) → Contains points x → (s : State) → at states x.point ≡ Some s → KeptInSite p (site_of x.site) x.point s
-  kept_with x l s e =
-      let k = (are.each x l).kept in
-      record { listed = k.listed; plain = k.plain; start = k.start; start_kept = k.start_kept; inside = k.inside; kept = kept_there p parts states c x.point s e }
+  -- its site
+  own_site : (q : ℕ) (l : Contains points q) → IsSiteOf p q (are.each q l).site
+  own_site q l = (((are.each q l).kept).listed, ((are.each q l).kept).inside)
 
-  address_is : (x : SitePoint) → Contains points x → p.address x.point ≡ x.address
-  address_is x l = (are.each x l).address
+  one_site : (q : ℕ) (one other : Site) → IsSiteOf p q one → IsSiteOf p q other → one ≡ other
+  one_site q one other a b = laid.sites_apart one other (p.address q) a.0 b.0 a.1 b.1
 
-  off_is : (x : SitePoint) → Contains points x → (p.address x.point).off ≡ x.address.off
-  off_is x l = ap (λ (z : Place). z.off) (address_is x l)
+  kept_with : (q : ℕ) → Contains points q → (site : Site) → IsSiteOf p q site → (s : State) → at states q ≡ Some s → KeptInSite p site q s
+  kept_with q l site of s e =
+      let k = (are.each q l).kept in
+      let own : KeptInSite p (are.each q l).site q s = record { listed = k.listed; plain = k.plain; start = k.start; start_kept = k.start_kept; inside = k.inside; kept = kept_there p parts states c q s e } in
+      subst (λ (z : Site). KeptInSite p z q s) (one_site q (are.each q l).site site (own_site q l) of) own
 
-  is_point : (x : SitePoint) → Contains points x → IsPoint p x.point
-  is_point x l = kept_point p parts states c x.point (are.each x l).state ((are.each x l).kept).kept
-
-  inside_of : (x : SitePoint) → Contains points x → IsInside (site_of x.site) x.address
-  inside_of x l = inside_is (site_of x.site) x.address (subst (λ (z : Place). in_site (site_of x.site) z ≡ true) (address_is x l) ((are.each x l).kept).inside)
+  is_point : (q : ℕ) → Contains points q → IsPoint p q
+  is_point q l = kept_point p parts states c q (are.each q l).state ((are.each q l).kept).kept
 
   -- its instruction has a byte, and lies in the site
-  some_long : (x : SitePoint) → Contains points x → 1 ≤ (p.insn x.point).len
-  some_long x l = (laid.in_text).lengths x.point (is_point x l)
+  some_long : (q : ℕ) → Contains points q → 1 ≤ (p.insn q).len
+  some_long q l = (laid.in_text).lengths q (is_point q l)
 
-  ends_inside : (x : SitePoint) → Contains points x → x.address.off + (p.insn x.point).len ≤ x.site.start.off + x.site.len
-  ends_inside x l =
-      let k = (are.each x l).kept in
-      let e : (p.address x.point).off ≡ x.address.off = off_is x l in
-      let end : (p.address x.point).off + (p.insn x.point).len ≤ x.site.start.off + x.site.len = laid.in_sites x.point (site_of x.site) (is_point x l) k.listed k.inside in
-      omega arith
+  ends_inside : (q : ℕ) → Contains points q → (site : Site) → IsSiteOf p q site → (p.address q).off + (p.insn q).len ≤ site.start.off + site.len
+  ends_inside q l site of = laid.in_sites q site (is_point q l) of.0 of.1
 
   -- the offsets of its bytes in the site fit
-  pub fit_points : All (λ (site : OwnSite). site.len < 2 ^ 63) parts.sites.items → (x : SitePoint) → Contains points x → FitPoint p x
-  fit_points short x l =
-      let listed : Contains (map site_of parts.sites.items) (site_of x.site) = subst (λ (xs : List Site). Contains xs (site_of x.site)) (c.tells).sites ((are.each x l).kept).listed in
-      let own = from_map site_of parts.sites.items (site_of x.site) listed in
-      let few : (own.0).len < 2 ^ 63 = All-contains (λ (site : OwnSite). site.len < 2 ^ 63) parts.sites.items own.0 short own.1 in
-      let same : (own.0).len ≡ x.site.len = ap (λ (z : Site). z.len) own.2 in
-      let low : x.site.start.off ≤ x.address.off = (inside_of x l).low in
-      let end : x.address.off + (p.insn x.point).len ≤ x.site.start.off + x.site.len = ends_inside x l in
-      record { some = some_long x l; start = low; fits = short_end x.address.off (p.insn x.point).len x.site.start.off x.site.len (own.0).len (2 ^ 63) end few same }
+  pub fit_points : All (λ (site : OwnSite). site.len < 2 ^ 63) parts.sites.items → (q : ℕ) → Contains points q → FitPoint p q
+  fit_points short q l = record { some = some_long q l; fits = λ site of. fits site of }
     where
       short_end : (off len start size own bound : ℕ) → off + len ≤ start + size → own < bound → own ≡ size → off + len ≤ start + bound
       short_end off len start size own bound h k e = omega arith
 
+      fits : (site : Site) → IsSiteOf p q site → (p.address q).off + (p.insn q).len ≤ site.start.off + 2 ^ 63
+      fits site of =
+          let own = from_map site_of parts.sites.items site (subst (λ (xs : List Site). Contains xs site) (c.tells).sites of.0) in
+          let few : (own.0).len < 2 ^ 63 = All-contains (λ (s : OwnSite). s.len < 2 ^ 63) parts.sites.items own.0 short own.1 in
+          let same : (own.0).len ≡ site.len = ap (λ (z : Site). z.len) own.2 in
+          short_end (p.address q).off (p.insn q).len site.start.off site.len (own.0).len (2 ^ 63) (ends_inside q l site of) few same
+
   -- what is in force at a byte of an instruction lies behind its start
-  behind_start : (x y : SitePoint) → Contains points x → (n : ℕ) → IsInForceAt points (ahead_of x.address n) y → IsBetween x.address n y.address
-  behind_start x y l n f = is_between x.address y.address n f.up_to (elim (f.last x l (reached x.address x.address n refl (omega arith))) [
-    | inl h ↦ before_not_after x.address y.address h
-    | inr e ↦ equal_not_before y.address x.address (sym e.0)
+  behind_start : (q r : ℕ) → Contains points q → (n : ℕ) → IsInForceAt p points (ahead_of (p.address q) n) r → IsBetween (p.address q) n (p.address r)
+  behind_start q r l n f = is_between (p.address q) (p.address r) n f.up_to (elim (f.last q l (reached (p.address q) (p.address q) n refl (omega arith))) [
+    | inl h ↦ before_not_after (p.address q) (p.address r) h
+    | inr e ↦ equal_not_before (p.address r) (p.address q) (sym e.0)
   ])
 
   -- and in the same site
-  same_site : (x y : SitePoint) → Contains points x → (n : ℕ) → n < (p.insn x.point).len → IsInForceAt points (ahead_of x.address n) y → site_of y.site ≡ site_of x.site
-  same_site x y l n short f =
-      let b : IsBetween x.address n y.address = behind_start x y l n f in
-      let i : IsInside (site_of x.site) x.address = inside_of x l in
-      let end : x.address.off + (p.insn x.point).len ≤ x.site.start.off + x.site.len = ends_inside x l in
-      let low : x.address.off ≤ y.address.off = b.low in
-      let high : y.address.off ≤ x.address.off + n = b.high in
-      let start : x.site.start.off ≤ x.address.off = i.low in
-      let there : IsInside (site_of x.site) y.address = record { sec = i.sec ∙ b.sec; low = omega arith; high = omega arith } in
-      laid.sites_apart (site_of y.site) (site_of x.site) y.address ((are.each y f.listed).kept).listed ((are.each x l).kept).listed (is_inside (site_of y.site) y.address (inside_of y f.listed)) (is_inside (site_of x.site) y.address there)
+  same_site : (q r : ℕ) → Contains points q → (n : ℕ) → n < (p.insn q).len → IsInForceAt p points (ahead_of (p.address q) n) r → (site : Site) → IsSiteOf p q site → IsSiteOf p r site
+  same_site q r l n short f site of =
+      let b : IsBetween (p.address q) n (p.address r) = behind_start q r l n f in
+      let i : IsInside site (p.address q) = inside_is site (p.address q) of.1 in
+      let end : (p.address q).off + (p.insn q).len ≤ site.start.off + site.len = ends_inside q l site of in
+      let low : (p.address q).off ≤ (p.address r).off = b.low in
+      let high : (p.address r).off ≤ (p.address q).off + n = b.high in
+      let start : site.start.off ≤ (p.address q).off = i.low in
+      let there : IsInside site (p.address r) = record { sec = i.sec ∙ b.sec; low = omega arith; high = omega arith } in
+      (of.0, is_inside site (p.address r) there)
 
   -- so it is in force in the site
-  in_force : (x y : SitePoint) → Contains points x → (n off : ℕ) → n < (p.insn x.point).len → off ≡ x.address.off + n → (f : IsInForceAt points (ahead_of x.address n) y) → (s : State) → at states y.point ≡ Some s → IsInForce p (site_of x.site) off y.point s
-  in_force x y l n off short is f s e = record {
-    kept = subst (λ (z : Site). KeptInSite p z y.point s) (same_site x y l n short f) (kept_with y f.listed s e);
-    at_or_below = let b : IsBetween x.address n y.address = behind_start x y l n f in let high : y.address.off ≤ x.address.off + n = b.high in let o : (p.address y.point).off ≡ y.address.off = off_is y f.listed in omega arith;
-    last = λ r t k low.
-        let z = are.all (site_of x.site) r t k in
-        later z.0 z.1 r z.2 (inside_is (site_of x.site) (p.address r) k.inside) low;
+  in_force : (q r : ℕ) → Contains points q → (n off : ℕ) → n < (p.insn q).len → off ≡ (p.address q).off + n → (f : IsInForceAt p points (ahead_of (p.address q) n) r) → (site : Site) → IsSiteOf p q site → (s : State) → at states r ≡ Some s → IsInForce p site off r s
+  in_force q r l n off short is f site of s e = record {
+    kept = kept_with r f.listed site (same_site q r l n short f site of) s e;
+    at_or_below = let b : IsBetween (p.address q) n (p.address r) = behind_start q r l n f in let high : (p.address r).off ≤ (p.address q).off + n = b.high in omega arith;
+    last = λ t u k low. later t (are.all site t u k) (inside_is site (p.address t) k.inside) low;
   }
     where
-      later : (z : SitePoint) → Contains points z → (r : ℕ) → z.point ≡ r → IsInside (site_of x.site) (p.address r) → (p.address r).off ≤ off → ((p.address r).off < (p.address y.point).off) ⊎ (((p.address r).off ≡ (p.address y.point).off) × (p.variant y.point ≤ p.variant r))
-      later z m r at_r inside low =
-          let there : p.address r ≡ z.address = ap p.address (sym at_r) ∙ address_is z m in
-          let z_off : (p.address r).off ≡ z.address.off = ap (λ (a : Place). a.off) there in
-          let z_sec : (p.address r).sec ≡ z.address.sec = ap (λ (a : Place). a.sec) there in
-          let y_off : (p.address y.point).off ≡ y.address.off = off_is y f.listed in
-          let x_sec : x.site.start.sec ≡ x.address.sec = (inside_of x l).sec in
-          let own_sec : x.site.start.sec ≡ (p.address r).sec = inside.sec in
-          let y_sec : x.address.sec ≡ y.address.sec = (behind_start x y l n f).sec in
-          let clear : is_before (ahead_of x.address n) z.address ≡ false = reached x.address z.address n (sym x_sec ∙ (own_sec ∙ z_sec)) (omega arith) in
-          elim (f.last z m clear) [
-            | inl before ↦ let less : z.address.off < y.address.off = lower_off z.address.sec z.address.off y.address.sec y.address.off (omega arith) before in inl (omega arith)
-            | inr at_one ↦
-                let same : z.address.off ≡ y.address.off = ap (λ (a : Place). a.off) at_one.0 in
-                let own : p.variant y.point ≡ y.variant = (are.each y f.listed).variant in
-                let other : p.variant r ≡ z.variant = ap p.variant (sym at_r) ∙ (are.each z m).variant in
-                let no_less : y.variant ≤ z.variant = at_one.1 in
-                inr (omega arith, omega arith)
+      later : (t : ℕ) → Contains points t → IsInside site (p.address t) → (p.address t).off ≤ off → ((p.address t).off < (p.address r).off) ⊎ (((p.address t).off ≡ (p.address r).off) × (p.variant r ≤ p.variant t))
+      later t m inside low =
+          let q_sec : site.start.sec ≡ (p.address q).sec = (inside_is site (p.address q) of.1).sec in
+          let t_sec : site.start.sec ≡ (p.address t).sec = inside.sec in
+          let r_sec : (p.address q).sec ≡ (p.address r).sec = (behind_start q r l n f).sec in
+          let clear : is_before (ahead_of (p.address q) n) (p.address t) ≡ false = reached (p.address q) (p.address t) n (sym q_sec ∙ t_sec) (omega arith) in
+          elim (f.last t m clear) [
+            | inl before ↦ inl (lower_off (p.address t).sec (p.address t).off (p.address r).sec (p.address r).off (sym t_sec ∙ (q_sec ∙ r_sec)) before)
+            | inr at_one ↦ inr (ap (λ (a : Place). a.off) at_one.0, at_one.1)
           ]
 
   -- only one point is
@@ -203,34 +186,31 @@ module _ (p : Program) (parts : GraphParts) (states : List (Option State)) (c : 
           laid.apart q r (kept_point p parts states c q s (f.kept).kept) (kept_point p parts states c r t (g.kept).kept) (omega arith) (equal_places (p.address q) (p.address r) sec d)
 
   -- What is found is rule 12.
-  module _ (x : SitePoint) (l : Contains points x) where
-    at_start : (w : Warning) → Disagrees (at states) points x 0 w → IsOfSites p w
-    at_start w ((y, f, rows), e) =
-        let b : IsBetween x.address 0 y.address = behind_start x y l 0 f in
-        let low : x.address.off ≤ y.address.off = b.low in
-        let high : y.address.off ≤ x.address.off + 0 = b.high in
-        let there : x.address ≡ y.address = equal_places x.address y.address b.sec (omega arith) in
-        let one_site : site_of y.site ≡ site_of x.site = same_site x y l 0 (some_long x l) f in
-        let o : (p.address x.point).off ≡ x.address.off = off_is x l in
-        let off : (p.address x.point).off ≡ x.address.off + 0 = omega arith in
-        let told : Warns p x.site.start 12 (pos ((p.address x.point).off - x.site.start.off)) (pos 0) =
-        variants_disagree (site_of x.site) x.point y.point rows.other rows.one (kept_with x l rows.other rows.other_is) (subst (λ (z : Site). KeptInSite p z y.point rows.one) one_site (kept_with y f.listed rows.one rows.one_is))
-        (address_is x l ∙ (there ∙ sym (address_is y f.listed))) (λ same. rows.differ (sym same)) in
-        as_one p w (disagreement x 0) e (subst (λ (n : ℕ). Warns p x.site.start 12 (pos (n - x.site.start.off)) (pos 0)) off told, refl)
+  module _ (q : ℕ) (l : Contains points q) where
+    at_start : (w : Warning) → Disagrees p (at states) points q 0 w → IsOfSites p w
+    at_start w ((r, f, rows), (site, of, e)) =
+        let b : IsBetween (p.address q) 0 (p.address r) = behind_start q r l 0 f in
+        let low : (p.address q).off ≤ (p.address r).off = b.low in
+        let high : (p.address r).off ≤ (p.address q).off + 0 = b.high in
+        let there : p.address q ≡ p.address r = equal_places (p.address q) (p.address r) b.sec (omega arith) in
+        let off : (p.address q).off ≡ (p.address q).off + 0 = omega arith in
+        let own : KeptInSite p site q rows.other = kept_with q l site of rows.other rows.other_is in
+        let other : KeptInSite p site r rows.one = kept_with r f.listed site (same_site q r l 0 (some_long q l) f site of) rows.one rows.one_is in
+        let told : Warns p site.start 12 (pos ((p.address q).off - site.start.off)) (pos 0) = variants_disagree site q r rows.other rows.one own other there (λ same. rows.differ (sym same)) in
+        as_one p w (disagreement p site q 0) e (subst (λ (n : ℕ). Warns p site.start 12 (pos (n - site.start.off)) (pos 0)) off told, refl)
 
-    at_end : (w : Warning) → is_call_op (p.insn x.point).op ≡ true → Disagrees (at states) points x ((p.insn x.point).len - 1) w → IsOfSites p w
-    at_end w call ((y, f, rows), e) =
-        let some : 1 ≤ (p.insn x.point).len = some_long x l in
-        let o : (p.address x.point).off ≡ x.address.off = off_is x l in
-        let off : (p.address x.point).off + (p.insn x.point).len - 1 ≡ x.address.off + ((p.insn x.point).len - 1) = omega arith in
-        let force = in_force x y l ((p.insn x.point).len - 1) ((p.address x.point).off + (p.insn x.point).len - 1) (omega arith) off f rows.one rows.one_is in
-        let told : Warns p x.site.start 12 (pos ((p.address x.point).off + (p.insn x.point).len - 1 - x.site.start.off)) (pos 0) =
-        call_disagrees (site_of x.site) x.point y.point rows.other rows.one (kept_with x l rows.other rows.other_is) call force rows.differ in
-        as_one p w (disagreement x ((p.insn x.point).len - 1)) e (subst (λ (n : ℕ). Warns p x.site.start 12 (pos (n - x.site.start.off)) (pos 0)) off told, refl)
+    at_end : (w : Warning) → is_call_op (p.insn q).op ≡ true → Disagrees p (at states) points q ((p.insn q).len - 1) w → IsOfSites p w
+    at_end w call ((r, f, rows), (site, of, e)) =
+        let some : 1 ≤ (p.insn q).len = some_long q l in
+        let off : (p.address q).off + (p.insn q).len - 1 ≡ (p.address q).off + ((p.insn q).len - 1) = omega arith in
+        let force = in_force q r l ((p.insn q).len - 1) ((p.address q).off + (p.insn q).len - 1) (omega arith) off f site of rows.one rows.one_is in
+        let own : KeptInSite p site q rows.other = kept_with q l site of rows.other rows.other_is in
+        let told : Warns p site.start 12 (pos ((p.address q).off + (p.insn q).len - 1 - site.start.off)) (pos 0) = call_disagrees site q r rows.other rows.one own call force rows.differ in
+        as_one p w (disagreement p site q ((p.insn q).len - 1)) e (subst (λ (n : ℕ). Warns p site.start 12 (pos (n - site.start.off)) (pos 0)) off told, refl)
 
   found_tells : (w : Warning) → IsFound w → IsOfSites p w
-  found_tells w (x, l, inl h) = at_start x l w h
-  found_tells w (x, l, inr (call, h)) = at_end x l w call h
+  found_tells w (q, l, inl h) = at_start q l w h
+  found_tells w (q, l, inr (call, h)) = at_end q l w call h
 
   -- And rule 12 is found.
   abbrev told_at : Site → ℕ → Warning
@@ -240,55 +220,45 @@ module _ (p : Program) (parts : GraphParts) (states : List (Option State)) (c : 
   abbrev end_of : ℕ → ℕ
   end_of q = (p.address q).off + (p.insn q).len - 1
 
-  told_alike : (site : Site) (x : SitePoint) (n off : ℕ) → site_of x.site ≡ site → off ≡ x.address.off + n → told_at site off ≡ disagreement x n
-  told_alike site x n off e f = ap (λ (z : Site). told_at z off) (sym e) ∙ ap (λ (m : ℕ). told_at (site_of x.site) m) f
+  told_alike : (site : Site) (q n off : ℕ) → off ≡ (p.address q).off + n → told_at site off ≡ disagreement p site q n
+  told_alike site q n off e = ap (λ (m : ℕ). told_at site m) e
 
   pair_found : (site : Site) (q r : ℕ) (s t : State) → KeptInSite p site q s → KeptInSite p site r t → p.address q ≡ p.address r → row_of s ≢ row_of t → IsFound (told_at site (p.address q).off)
   pair_found site q r s t k l at_one differ =
-      let a = are.all site q s k in
-      let b = are.all site r t l in
-      go a.0 a.1 a.2 a.3 b.0 b.1 b.2 b.3
-    where
-      go : (x : SitePoint) → Contains points x → x.point ≡ q → site_of x.site ≡ site → (y : SitePoint) → Contains points y → y.point ≡ r → site_of y.site ≡ site → IsFound (told_at site (p.address q).off)
-      go x lx xq xs y ly yr ys =
-          let there : x.address ≡ y.address = sym (address_is x lx) ∙ (ap p.address xq ∙ (at_one ∙ (ap p.address (sym yr) ∙ address_is y ly))) in
-          let f = some_in_force points are.ascend (ahead_of x.address 0) x lx (reached x.address x.address 0 refl (omega arith)) in
-          let u : State = (are.each f.0 (f.1).listed).state in
-          let u_is : at states (f.0).point ≡ Some u = state_is f.0 (f.1).listed in
-          let s_is : at states x.point ≡ Some s = ap (at states) xq ∙ has_state p parts states c q s k.kept in
-          let t_is : at states y.point ≡ Some t = ap (at states) yr ∙ has_state p parts states c r t l.kept in
-          let x_off : (p.address q).off ≡ x.address.off = ap (λ (n : ℕ). (p.address n).off) (sym xq) ∙ off_is x lx in
-          let y_off : x.address.off ≡ y.address.off = ap (λ (z : Place). z.off) there in
-          elim (equal_or_not (row_of u) (row_of s)) [
-            | inr other ↦ (x, lx, inl ((f.0, f.1, record { one = u; other = s; one_is = u_is; other_is = s_is; differ = other }), told_alike site x 0 (p.address q).off xs (omega arith)))
-            | inl same ↦ (
-              y,
-              ly,
-              inl (
-                (f.0, subst (λ (z : Place). IsInForceAt points (ahead_of z 0) f.0) there f.1, record { one = u; other = t; one_is = u_is; other_is = t_is; differ = λ e. differ (sym same ∙ e) }),
-                told_alike site y 0 (p.address q).off ys (omega arith),
-              ),
-            )
-          ]
+      let lq = are.all site q s k in
+      let lr = are.all site r t l in
+      let f = some_in_force p points are.ascend (ahead_of (p.address q) 0) q lq (reached (p.address q) (p.address q) 0 refl (omega arith)) in
+      let u : State = (are.each f.0 (f.1).listed).state in
+      let u_is : at states f.0 ≡ Some u = state_is f.0 (f.1).listed in
+      let s_is : at states q ≡ Some s = has_state p parts states c q s k.kept in
+      let t_is : at states r ≡ Some t = has_state p parts states c r t l.kept in
+      let off : (p.address q).off ≡ (p.address r).off = ap (λ (z : Place). z.off) at_one in
+      elim (equal_or_not (row_of u) (row_of s)) [
+        | inr other ↦ (q, lq, inl ((f.0, f.1, record { one = u; other = s; one_is = u_is; other_is = s_is; differ = other }), (site, (k.listed, k.inside), told_alike site q 0 (p.address q).off (omega arith))))
+        | inl same ↦ (
+          r,
+          lr,
+          inl (
+            (f.0, subst (λ (z : Place). IsInForceAt p points (ahead_of z 0) f.0) at_one f.1, record { one = u; other = t; one_is = u_is; other_is = t_is; differ = λ e. differ (sym same ∙ e) }),
+            (site, (l.listed, l.inside), told_alike site r 0 (p.address q).off (omega arith)),
+          ),
+        )
+      ]
 
   call_found : (site : Site) (q r : ℕ) (s t : State) → KeptInSite p site q s → is_call_op (p.insn q).op ≡ true → IsInForce p site (end_of q) r t → row_of t ≢ row_of s → IsFound (told_at site (end_of q))
-  call_found site q r s t k call force differ = let a = are.all site q s k in go a.0 a.1 a.2 a.3
-    where
-      go : (x : SitePoint) → Contains points x → x.point ≡ q → site_of x.site ≡ site → IsFound (told_at site (end_of q))
-      go x l xq xs =
-          let n : ℕ = (p.insn x.point).len - 1 in
-          let some : 1 ≤ (p.insn x.point).len = some_long x l in
-          let x_end : end_of x.point ≡ x.address.off + ((p.insn x.point).len - 1) = (let o : (p.address x.point).off ≡ x.address.off = off_is x l in omega arith) in
-          let q_end : end_of q ≡ x.address.off + ((p.insn x.point).len - 1) = ap end_of (sym xq) ∙ x_end in
-          let f = some_in_force points are.ascend (ahead_of x.address n) x l (reached x.address x.address n refl (omega arith)) in
-          let u : State = (are.each f.0 (f.1).listed).state in
-          let u_is : at states (f.0).point ≡ Some u = state_is f.0 (f.1).listed in
-          let own : IsInForce p site (end_of q) (f.0).point u = subst (λ (z : Site). IsInForce p z (end_of q) (f.0).point u) xs (in_force x f.0 l n (end_of q) (omega arith) q_end f.1 u u_is) in
-          let same : (f.0).point ≡ r = one_in_force site (end_of q) (f.0).point r u t own force in
-          let t_is : at states (f.0).point ≡ Some t = ap (at states) same ∙ has_state p parts states c r t (force.kept).kept in
-          let s_is : at states x.point ≡ Some s = ap (at states) xq ∙ has_state p parts states c q s k.kept in
-          let is_call : is_call_op (p.insn x.point).op ≡ true = ap (λ (m : ℕ). is_call_op (p.insn m).op) xq ∙ call in
-          (x, l, inr (is_call, ((f.0, f.1, record { one = t; other = s; one_is = t_is; other_is = s_is; differ = differ }), told_alike site x n (end_of q) xs q_end)))
+  call_found site q r s t k call force differ =
+      let l : Contains points q = are.all site q s k in
+      let n : ℕ = (p.insn q).len - 1 in
+      let some : 1 ≤ (p.insn q).len = some_long q l in
+      let end : end_of q ≡ (p.address q).off + ((p.insn q).len - 1) = omega arith in
+      let f = some_in_force p points are.ascend (ahead_of (p.address q) n) q l (reached (p.address q) (p.address q) n refl (omega arith)) in
+      let u : State = (are.each f.0 (f.1).listed).state in
+      let u_is : at states f.0 ≡ Some u = state_is f.0 (f.1).listed in
+      let own : IsInForce p site (end_of q) f.0 u = in_force q f.0 l n (end_of q) (omega arith) end f.1 site (k.listed, k.inside) u u_is in
+      let same : f.0 ≡ r = one_in_force site (end_of q) f.0 r u t own force in
+      let t_is : at states f.0 ≡ Some t = ap (at states) same ∙ has_state p parts states c r t (force.kept).kept in
+      let s_is : at states q ≡ Some s = has_state p parts states c q s k.kept in
+      (q, l, inr (call, ((f.0, f.1, record { one = t; other = s; one_is = t_is; other_is = s_is; differ = differ }), (site, (k.listed, k.inside), told_alike site q n (end_of q) end))))
 
   telling_found : (place : Place) (rule : ℕ) (a b : ℤ) → Warns p place rule a b → rule ≡ 12 → IsFound (numbered_warning place rule a b)
   telling_found place rule a b (bad_target q s k h) e = absurd (omega (arith, e))

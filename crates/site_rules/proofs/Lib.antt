@@ -1,3 +1,4 @@
 pub mod Places
 pub mod OneInForce
 pub mod Disagreeing
+pub mod Pushed

@@ -1,14 +1,15 @@
 -- The order of places, and of points in a list.
-use Rattle.std.proofs.Common.{◌≡◌, ℕ, ◌<◌, ◌≤◌, true, false, not, ◌&&◌, ◌||◌, eqb, ltb, List, length, get_or, inl, inr, arith, ap, sym, subst}
+use Rattle.std.proofs.Common.{◌≡◌, ℕ, ◌+◌, ◌<◌, ◌≤◌, true, false, not, ◌&&◌, ◌||◌, eqb, ltb, List, All, length, get_or, inl, inr, arith, refl, ap, sym, ◌∙◌, subst}
 use Rattle.std.specs.List.{AllPairs}
 use Rattle.std.specs.List.Sorted.{IsPartitionedBy}
 use Rattle.std.proofs.lemmas.Bool.{both_ways, cases_lt, cases_Bool, not-true}
 use Rattle.std.proofs.lemmas.Bool.Decides.{nat_tests}
 use Rattle.ot_base.specs.declared.place.Place.{Place}
 use Rattle.site_points.specs.Sites.{is_before}
-use Rattle.site_points.specs.Points.{ComesBefore}
-use Rattle.site_points.specs.declared.points.SitePoint.{SitePoint}
-use Rattle.site_points.proofs.Order.{first_of_places}
+use Rattle.site_points.specs.Points.{ComesBefore, address_by_number}
+use Rattle.program_defs.specs.Program.{Program}
+use Rattle.site_points.proofs.Order.{address_is, equal_places, first_of_places}
+use Rattle.site_rules.specs.Disagree.{ahead_of}
 
 itself : (a b : ℕ) → (ltb a a || (eqb a a && ltb b b)) ≡ true → ⊥
 itself a b h = grind (arith, nat_tests)
@@ -61,24 +62,36 @@ neither_before a b h k = elim (first_of_places a b) [
   | inr m ↦ elim m [ inl l ↦ absurd (both_ways (is_before b a) k l) | inr e ↦ e ]
 ]
 
--- what comes before another runs no later
-pub comes_no_later : (x y : SitePoint) → ComesBefore x y → is_before y.address x.address ≡ false
-comes_no_later x y (inl h) = before_not_after x.address y.address h
-comes_no_later x y (inr (e, l)) = equal_not_before y.address x.address (sym e)
+-- no byte behind a place it is that place
+pub ahead_none : (a : Place) → a ≡ ahead_of a 0
+ahead_none a = equal_places a (ahead_of a 0) refl (let off : a.off ≡ a.off + 0 = omega arith in off)
 
-module _ (points : List SitePoint) (up : AllPairs ComesBefore points) where
+-- what comes before another runs no later
+pub comes_no_later : (p : Program) (q r : ℕ) → ComesBefore p q r → is_before (p.address r) (p.address q) ≡ false
+comes_no_later p q r (inl h) = before_not_after (p.address q) (p.address r) h
+comes_no_later p q r (inr (e, l)) = equal_not_before (p.address r) (p.address q) (sym e)
+
+module _ (p : Program) (points : List ℕ) (up : AllPairs (ComesBefore p) points) where
   -- a later element runs no earlier
-  pub runs_no_later : (i j : ℕ) (d : SitePoint) → i ≤ j → j < length points → is_before (get_or points j d).address (get_or points i d).address ≡ false
+  pub runs_no_later : (i j d : ℕ) → i ≤ j → j < length points → is_before (p.address (get_or points j d)) (p.address (get_or points i d)) ≡ false
   runs_no_later i j d order inside = elim (cases_lt i j) [
-    | inl l ↦ comes_no_later (get_or points i d) (get_or points j d) (up i j d l inside)
-    | inr l ↦ let e : i ≡ j = omega arith in equal_not_before (get_or points j d).address (get_or points i d).address (ap (λ (k : ℕ). (get_or points k d).address) (sym e))
+    | inl l ↦ comes_no_later p (get_or points i d) (get_or points j d) (up i j d l inside)
+    | inr l ↦ let e : i ≡ j = omega arith in equal_not_before (p.address (get_or points j d)) (p.address (get_or points i d)) (ap (λ (k : ℕ). p.address (get_or points k d)) (sym e))
   ]
 
-  -- those that run at a place or before it stand in front
-  pub up_to_parted : (place : Place) → IsPartitionedBy (λ (x : SitePoint). not (is_before place x.address)) points
-  up_to_parted place i j d order inside h =
-      ap not (not_before_through place (get_or points j d).address (get_or points i d).address (not-true (is_before place (get_or points j d).address) h) (runs_no_later i j d order inside))
+  module _ (known : All (λ q. q < p.count) points) where
+    -- its address is found by its number
+    pub found_at : (i d : ℕ) → i < length points → address_by_number p (get_or points i d) ≡ p.address (get_or points i d)
+    found_at i d inside = address_is p (get_or points i d) (known i d inside)
 
-  -- and those that run before it
-  pub before_parted : (place : Place) → IsPartitionedBy (λ (x : SitePoint). is_before x.address place) points
-  before_parted place i j d order inside h = before_by place (get_or points j d).address (get_or points i d).address h (runs_no_later i j d order inside)
+    -- those that run at a place or before it stand in front
+    pub up_to_parted : (place : Place) → IsPartitionedBy (λ (q : ℕ). not (is_before place (address_by_number p q))) points
+    up_to_parted place i j d order inside h =
+        let later : is_before place (p.address (get_or points j d)) ≡ false = ap (is_before place) (sym (found_at j d inside)) ∙ not-true (is_before place (address_by_number p (get_or points j d))) h in
+        ap not (ap (is_before place) (found_at i d (omega arith)) ∙ not_before_through place (p.address (get_or points j d)) (p.address (get_or points i d)) later (runs_no_later i j d order inside))
+
+    -- and those that run before it
+    pub before_parted : (place : Place) → IsPartitionedBy (λ (q : ℕ). is_before (address_by_number p q) place) points
+    before_parted place i j d order inside h =
+        let later : is_before (p.address (get_or points j d)) place ≡ true = ap (λ (a : Place). is_before a place) (sym (found_at j d inside)) ∙ h in
+        ap (λ (a : Place). is_before a place) (found_at i d (omega arith)) ∙ before_by place (p.address (get_or points j d)) (p.address (get_or points i d)) later (runs_no_later i j d order inside)

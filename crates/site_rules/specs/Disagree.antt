@@ -5,10 +5,9 @@ use Rattle.ot_base.specs.declared.rules.TheConstants.{ALTERNATIVES_DISAGREE}
 use Rattle.ot_base.specs.declared.warning.Warning.{Warning}
 use Rattle.state_defs.specs.declared.state.State.{State}
 use Rattle.state_defs.specs.Row.{row_of}
-use Rattle.program_defs.specs.Program.{Program, is_call_op}
+use Rattle.program_defs.specs.Program.{Program, Site, in_site, is_call_op}
 use Rattle.rule_check.specs.Gains.{numbered_warning}
 use Rattle.site_points.specs.Sites.{is_before}
-use Rattle.site_points.specs.declared.points.SitePoint.{SitePoint}
 
 -- the place that lies so many bytes behind another
 abbrev pub ahead_of : Place → ℕ → Place
@@ -16,11 +15,11 @@ ahead_of place n = record { sec = place.sec; off = place.off + n }
 
 -- The point in force at a place: it is the last of the list that runs at the place or before, of the least variant
 -- among those that run there.
-pub record IsInForceAt (points : List SitePoint) (place : Place) (y : SitePoint) : Type 0 where
-  pub listed : Contains points y
-  pub up_to : is_before place y.address ≡ false
-  pub last : (x : SitePoint) → Contains points x → is_before place x.address ≡ false
-      → (is_before x.address y.address ≡ true) ⊎ ((x.address ≡ y.address) × (y.variant ≤ x.variant))
+pub record IsInForceAt (p : Program) (points : List ℕ) (place : Place) (q : ℕ) : Type 0 where
+  pub listed : Contains points q
+  pub up_to : is_before place (p.address q) ≡ false
+  pub last : (r : ℕ) → Contains points r → is_before place (p.address r) ≡ false
+      → (is_before (p.address r) (p.address q) ≡ true) ⊎ ((p.address r ≡ p.address q) × (p.variant q ≤ p.variant r))
 
 -- two points have states with different rows
 pub record HaveOtherRows (states : ℕ → Option State) (q r : ℕ) : Type 0 where
@@ -31,30 +30,36 @@ pub record HaveOtherRows (states : ℕ → Option State) (q r : ℕ) : Type 0 wh
   pub differ : row_of one ≢ row_of other
 
 -- the row in force so many bytes behind a point's address isn't the point's
-abbrev pub IsOutOfForce : (ℕ → Option State) → List SitePoint → SitePoint → ℕ → Type 0
-IsOutOfForce states points x n = (y : SitePoint) × IsInForceAt points (ahead_of x.address n) y × HaveOtherRows states y.point x.point
+abbrev pub IsOutOfForce : Program → (ℕ → Option State) → List ℕ → ℕ → ℕ → Type 0
+IsOutOfForce p states points q n = (r : ℕ) × IsInForceAt p points (ahead_of (p.address q) n) r × HaveOtherRows states r q
 
--- that byte lies fewer than 2^63 bytes behind the start of the point's site
-pub record FitsOffset (x : SitePoint) (n : ℕ) : Type 0 where
-  pub start : x.site.start.off ≤ x.address.off
-  pub fits : x.address.off + n < x.site.start.off + 2 ^ 63
+-- a point runs in a site
+abbrev pub IsSiteOf : Program → ℕ → Site → Type 0
+IsSiteOf p q site = Contains p.sites site × (in_site site (p.address q) ≡ true)
+
+-- the byte so many behind where a point runs lies fewer than 2^63 bytes behind the start of the point's site
+abbrev pub FitsOffset : Program → ℕ → ℕ → Type 0
+FitsOffset p q n = (site : Site) → IsSiteOf p q site → (p.address q).off + n < site.start.off + 2 ^ 63
 
 -- the warning that variants disagree there
-abbrev pub disagreement : SitePoint → ℕ → Warning
-disagreement x n = numbered_warning x.site.start ALTERNATIVES_DISAGREE (pos (x.address.off + n - x.site.start.off)) (pos 0)
+abbrev pub disagreement : Program → Site → ℕ → ℕ → Warning
+disagreement p site q n = numbered_warning site.start ALTERNATIVES_DISAGREE (pos ((p.address q).off + n - site.start.off)) (pos 0)
 
--- where it isn't, that is the warning
-abbrev pub Disagrees : (ℕ → Option State) → List SitePoint → SitePoint → ℕ → Warning → Type 0
-Disagrees states points x n w = IsOutOfForce states points x n × w ≡ disagreement x n
+-- it is that of a site of the point
+abbrev pub IsOfSite : Program → ℕ → ℕ → Warning → Type 0
+IsOfSite p q n w = (site : Site) × IsSiteOf p q site × (w ≡ disagreement p site q n)
+
+-- where the row in force isn't the point's, that is the warning
+abbrev pub Disagrees : Program → (ℕ → Option State) → List ℕ → ℕ → ℕ → Warning → Type 0
+Disagrees p states points q n w = IsOutOfForce p states points q n × IsOfSite p q n w
 
 -- the point's instruction has a byte, and each byte's offset in the site fits
-pub record FitPoint (p : Program) (x : SitePoint) : Type 0 where
-  pub some : 1 ≤ (p.insn x.point).len
-  pub start : x.site.start.off ≤ x.address.off
-  pub fits : x.address.off + (p.insn x.point).len ≤ x.site.start.off + 2 ^ 63
+pub record FitPoint (p : Program) (q : ℕ) : Type 0 where
+  pub some : 1 ≤ (p.insn q).len
+  pub fits : (site : Site) → IsSiteOf p q site → (p.address q).off + (p.insn q).len ≤ site.start.off + 2 ^ 63
 
 -- the warnings at a point: where it begins, and of a call at its last byte
-abbrev pub PointDisagrees : Program → (ℕ → Option State) → List SitePoint → SitePoint → Warning → Type 0
-PointDisagrees p states points x w =
-    Disagrees states points x 0 w
-    ⊎ (is_call_op (p.insn x.point).op ≡ true × Disagrees states points x ((p.insn x.point).len - 1) w)
+abbrev pub PointDisagrees : Program → (ℕ → Option State) → List ℕ → ℕ → Warning → Type 0
+PointDisagrees p states points q w =
+    Disagrees p states points q 0 w
+    ⊎ (is_call_op (p.insn q).op ≡ true × Disagrees p states points q ((p.insn q).len - 1) w)

@@ -1,6 +1,6 @@
 //! Rule 12 at each kept point of a site.
 
-ghost use Rattle.std.specs.Prelude.{◌≡◌, ◌<◌, ◌⊎◌, ◌↔◌, ◌^◌, true, IsTrue, OnOk, All, AllPairs, Contains, ℕ, length};
+ghost use Rattle.std.specs.Prelude.{◌≡◌, ◌-◌, ◌<◌, ◌⊎◌, ◌↔◌, ◌^◌, ℕ, IsTrue, List, OnOk, All, AllPairs, Contains, length, slice_index_or};
 ghost use Rattle.ot_base.specs.declared.warning.Warning.{Warning as WarningValue};
 ghost use Rattle.ot_base.specs.declared.rules.TheConstants.{ALTERNATIVES_DISAGREE};
 ghost use Rattle.program_defs.specs.Program.{Program, is_call_op};
@@ -11,8 +11,8 @@ ghost use Rattle.branch_check.specs.LevelStates.{at};
 ghost use Rattle.rule_check.specs.Checks.{Checks};
 ghost use Rattle.rule_check.specs.Gains.{Gains};
 ghost use Rattle.site_points.specs.Points.{AreSitePointsOf, ComesBefore};
-ghost use Rattle.site_points.specs.declared.points.SitePoint.{SitePoint as SitePointValue};
-ghost use Rattle.site_rules.specs.Disagree.{Disagrees, FitsOffset, FitPoint, HaveOtherRows, IsOutOfForce, PointDisagrees};
+ghost use Rattle.site_points.specs.Sites.{IsIndexOf};
+ghost use Rattle.site_rules.specs.Disagree.{Disagrees, FitPoint, FitsOffset, HaveOtherRows, IsInForceAt, IsOfSite, PointDisagrees, ahead_of};
 
 use crate::force::in_force;
 use crate::warnings::disagreement;
@@ -21,7 +21,8 @@ use frame_rules::same_row;
 use operation_defs::Op;
 use ot_base::{NoMemory, Warning};
 use program_graph::Graph;
-use site_points::SitePoint;
+use site_points::SiteIndex;
+use std::alloc::Global;
 
 /// Whether two kept points have different rows.
 fn have_other_rows(kept: &Kept, one: u32, other: u32) -> bool
@@ -29,38 +30,51 @@ fn have_other_rows(kept: &Kept, one: u32, other: u32) -> bool
     requires other { other < length kept.now }
     ensures { IsTrue result ↔ HaveOtherRows (at kept.now) one other }
 {
+    if kept.are_alike(one, other) {
+        return false;
+    }
     match (kept.state(one), kept.state(other)) {
         (Some(state), Some(other_state)) => !same_row(state, other_state),
         (Some(_) | None, _) => false,
     }
 }
 
-/// Whether the row in force some bytes behind a point's address isn't the point's.
-fn is_out_of_force(kept: &Kept, points: &[SitePoint], point: &SitePoint, ahead: u8) -> bool
-    requires point { point.now.point < length kept.now }
-    requires points { All (λ x. x.point < length kept.now) points.now }
-    ensures { AllPairs ComesBefore points.now → IsTrue result ↔ IsOutOfForce (at kept.now) points.now point.now ahead }
-{
-    match in_force(points, point.address, ahead) {
-        Some(other) => have_other_rows(kept, other.point, point.point),
-        None => false,
-    }
-}
-
-/// Rule 12 at a byte behind a point's address.
-fn push_disagreement(
-    kept: &Kept,
+/// Adds the warning that variants of a point's site disagree so many bytes behind where the point runs, where it runs in one.
+#[inline(never)]
+fn push_warning(
+    graph: &Graph,
+    sites: &SiteIndex,
     into: &mut Vec<Warning>,
-    points: &[SitePoint],
-    point: &SitePoint,
+    point: u32,
     ahead: u8,
 ) -> Result<(), NoMemory>
-    requires point { point.now.point < length kept.now }
-    requires points { All (λ x. x.point < length kept.now) points.now }
-    ensures { OnOk result (AllPairs ComesBefore points.now → FitsOffset point.now ahead → Gains into.old.items into.new.items (Disagrees (at kept.now) points.now point.now ahead)) }
+    requires { point < length graph.now.parts.points.items }
+    ensures { OnOk result ((p : Program) → Tells p graph.now.parts → IsIndexOf p sites.now → IsLaidOut p → FitsOffset p point ahead → Gains into.old.items into.new.items (IsOfSite p point ahead)) }
 {
-    if is_out_of_force(kept, points, point, ahead) {
-        into.push(disagreement(point, ahead))?;
+    if let Some(warning) = disagreement(graph, sites, point, ahead) {
+        into.push(warning)?;
+    }
+    Ok(())
+}
+
+/// Rule 12 at a byte behind a point's address, where another point is in force.
+#[inline(always)]
+fn push_disagreement(
+    graph: &Graph,
+    kept: &Kept,
+    sites: &SiteIndex,
+    into: &mut Vec<Warning>,
+    point: u32,
+    ahead: u8,
+    other: u32,
+) -> Result<(), NoMemory>
+    requires states { length kept.now ≡ length graph.now.parts.points.items }
+    requires point { point < length kept.now }
+    requires other { other < length kept.now }
+    ensures { OnOk result ((p : Program) (points : List ℕ) → Tells p graph.now.parts → IsIndexOf p sites.now → IsLaidOut p → AllPairs (ComesBefore p) points → FitsOffset p point ahead → IsInForceAt p points (ahead_of (p.address point) ahead) other → Gains into.old.items into.new.items (Disagrees p (at kept.now) points point ahead)) }
+{
+    if have_other_rows(kept, other, point) {
+        push_warning(graph, sites, into, point, ahead)?;
     }
     Ok(())
 }
@@ -72,40 +86,95 @@ fn is_call(op: Op) -> bool
     matches!(op, Op::Call { .. } | Op::CallInd)
 }
 
-/// Rule 12 at a point: where it begins, and of a call also at its last byte.
+/// Rule 12 at the last byte of a call.
+fn push_call(
+    graph: &Graph,
+    kept: &Kept,
+    sites: &SiteIndex,
+    into: &mut Vec<Warning>,
+    points: &[u32],
+    point: u32,
+    ahead: u8,
+) -> Result<(), NoMemory>
+    requires states { length kept.now ≡ length graph.now.parts.points.items }
+    requires point { point < length kept.now }
+    requires points { All (λ q. q < length kept.now) points.now }
+    ensures { OnOk result ((p : Program) → Tells p graph.now.parts → IsIndexOf p sites.now → IsLaidOut p → AllPairs (ComesBefore p) points.now → FitsOffset p point ahead → Gains into.old.items into.new.items (Disagrees p (at kept.now) points.now point ahead)) }
+{
+    match in_force(graph, points, graph.address(point), ahead) {
+        Some(other) => push_disagreement(graph, kept, sites, into, point, ahead, other),
+        None => Ok(()),
+    }
+}
+
+/// Rule 12 at a point: where it begins, and of a call also at its last byte. The first of the points at its address is known.
+#[inline(always)]
 fn push_point(
     graph: &Graph,
     kept: &Kept,
+    sites: &SiteIndex,
     into: &mut Vec<Warning>,
-    points: &[SitePoint],
-    point: &SitePoint,
+    points: &[u32],
+    point: u32,
+    first: u32,
 ) -> Result<(), NoMemory>
     requires states { length kept.now ≡ length graph.now.parts.points.items }
-    requires point { point.now.point < length kept.now }
-    requires points { All (λ x. x.point < length kept.now) points.now }
-    ensures { OnOk result ((p : Program) → Tells p graph.now.parts → AllPairs ComesBefore points.now → FitPoint p point.now → Gains into.old.items into.new.items (PointDisagrees p (at kept.now) points.now point.now)) }
+    requires point { point < length kept.now }
+    requires first { first < length kept.now }
+    requires points { All (λ q. q < length kept.now) points.now }
+    ensures { OnOk result ((p : Program) → Tells p graph.now.parts → IsIndexOf p sites.now → IsLaidOut p → AllPairs (ComesBefore p) points.now → FitPoint p point → IsInForceAt p points.now (p.address point) first → Gains into.old.items into.new.items (PointDisagrees p (at kept.now) points.now point)) }
 {
-    push_disagreement(kept, into, points, point, 0)?;
-    let insn = graph.insn(point.point);
+    push_disagreement(graph, kept, sites, into, point, 0, first)?;
+    let insn = graph.insn(point);
     if is_call(insn.op) {
-        push_disagreement(kept, into, points, point, insn.len.saturating_sub(1))?;
+        push_call(
+            graph,
+            kept,
+            sites,
+            into,
+            points,
+            point,
+            insn.len.saturating_sub(1),
+        )?;
     }
     Ok(())
+}
+
+/// The first of the points at the address of one, where that of those at the address of the one before is known.
+#[inline(always)]
+fn first_there(graph: &Graph, points: &[u32], i: usize, before: u32) -> u32
+    requires inside { i < length points.now }
+    requires points { All (λ q. q < length graph.now.parts.points.items) points.now }
+    requires before { 0 < i → before < length graph.now.parts.points.items }
+    ensures point { result < length graph.now.parts.points.items }
+    ensures force { (p : Program) → Tells p graph.now.parts → AllPairs (ComesBefore p) points.now → (d : ℕ) → (0 < i → IsInForceAt p points.now (p.address (slice_index_or points.now (i - 1) d)) before) → IsInForceAt p points.now (p.address (slice_index_or points.now i d)) result }
+{
+    if i == 0 {
+        return points[i];
+    }
+    if graph.address(points[i - 1]) == graph.address(points[i]) {
+        before
+    } else {
+        points[i]
+    }
 }
 
 /// Rule 12 at each of the points of sites.
 fn push_points(
     graph: &Graph,
     kept: &Kept,
+    sites: &SiteIndex,
     into: &mut Vec<Warning>,
-    points: &[SitePoint],
+    points: &[u32],
 ) -> Result<(), NoMemory>
     requires states { length kept.now ≡ length graph.now.parts.points.items }
-    requires points { All (λ x. x.point < length kept.now) points.now }
-    ensures { OnOk result ((p : Program) → Tells p graph.now.parts → AllPairs ComesBefore points.now → All (FitPoint p) points.now → Gains into.old.items into.new.items (λ w. (x : SitePointValue) × Contains points.now x × PointDisagrees p (at kept.now) points.now x w)) }
+    requires points { All (λ q. q < length kept.now) points.now }
+    ensures { OnOk result ((p : Program) → Tells p graph.now.parts → IsIndexOf p sites.now → IsLaidOut p → AllPairs (ComesBefore p) points.now → All (FitPoint p) points.now → Gains into.old.items into.new.items (λ w. (q : ℕ) × Contains points.now q × PointDisagrees p (at kept.now) points.now q w)) }
 {
-    for point in points {
-        push_point(graph, kept, into, points, point)?;
+    let mut first = 0u32;
+    for i in 0..points.len() {
+        first = first_there(graph, points, i, first);
+        push_point(graph, kept, sites, into, points, points[i], first)?;
     }
     Ok(())
 }
@@ -114,16 +183,17 @@ fn push_points(
 /// have an instruction, or the row in force at the last byte of a call in a site isn't the call's. A warning may be
 /// added more than once.
 ///
-/// Every site has fewer than 2^63 bytes. The kept points that run in sites are listed already. For each of them there are a few
-/// searches among them.
+/// Every site has fewer than 2^63 bytes. The kept points that run in sites are listed already. Each of them is looked at once, and
+/// for a call there are two searches among them.
 ///
 /// # Errors
 ///
 /// [`NoMemory`] may come at any graph.
 pub fn push_site_warnings(
+    alloc: Global,
     graph: &Graph,
     kept: &Kept,
-    points: &[SitePoint],
+    points: &[u32],
     into: &mut Vec<Warning>,
 ) -> Result<(), NoMemory>
     requires points { length kept.now ≡ length graph.now.parts.points.items }
@@ -131,5 +201,6 @@ pub fn push_site_warnings(
     requires sites { All (λ site. site.len < 2 ^ 63) graph.now.parts.sites.items }
     ensures { OnOk result ((p : Program) → Checks p graph.now.parts kept.now → IsLaidOut p → (w : WarningValue) → Contains into.new.items w ↔ (Contains into.old.items w ⊎ Warns p w.place w.rule w.a w.b × w.rule ≡ ALTERNATIVES_DISAGREE)) }
 {
-    push_points(graph, kept, into, points)
+    let sites = SiteIndex::build(alloc, graph)?;
+    push_points(graph, kept, &sites, into, points)
 }

@@ -1,13 +1,15 @@
 //! Which site point is in force at a place.
 
-ghost use Rattle.std.specs.Prelude.{◌≡◌, ◌≤◌, ◌<◌, ℕ, true, false, not, AllPairs, Contains, IfSome, IfNone, length, slice_index_or};
+ghost use Rattle.std.specs.Prelude.{◌≡◌, ◌≤◌, ◌<◌, ℕ, true, false, not, All, AllPairs, Contains, IfSome, IfNone, length, slice_index_or};
+ghost use Rattle.program_defs.specs.Program.{Program};
+ghost use Rattle.program_graph.specs.Tells.{Tells};
 ghost use Rattle.site_points.specs.Sites.{is_before as is_lower};
-ghost use Rattle.site_points.specs.Points.{ComesBefore};
-ghost use Rattle.site_points.specs.declared.points.SitePoint.{SitePoint};
+ghost use Rattle.site_points.specs.Points.{ComesBefore, address_by_number as address_by_number_of};
 ghost use Rattle.site_rules.specs.Disagree.{IsInForceAt, ahead_of};
 
 use ot_base::Place;
-use site_points::SitePoint;
+use program_graph::Graph;
+use site_points::address_by_number;
 
 /// Whether a place is in an earlier section, or in the same one at a lower offset.
 fn is_before(place: Place, other: Place) -> bool
@@ -24,38 +26,55 @@ fn is_up_to(place: Place, address: Place, ahead: u8) -> bool
         || place.sec == address.sec && place.off.saturating_sub(address.off) <= u64::from(ahead)
 }
 
-/// How many of these run up to some bytes behind an address.
-fn count_up_to(points: &[SitePoint], address: Place, ahead: u8) -> usize
-    ensures within { result ≤ length points.now }
-    ensures up_to { AllPairs ComesBefore points.now → (k : ℕ) (d : SitePoint) → k < result → is_lower (ahead_of address ahead) (slice_index_or points.now k d).address ≡ false }
-    ensures behind { AllPairs ComesBefore points.now → (k : ℕ) (d : SitePoint) → result ≤ k → k < length points.now → is_lower (ahead_of address ahead) (slice_index_or points.now k d).address ≡ true }
+/// Whether a point runs at most some bytes behind an address.
+fn runs_up_to(graph: &Graph, n: u32, address: Place, ahead: u8) -> bool
+    ensures { (p : Program) → Tells p graph.now.parts → result ≡ not (is_lower (ahead_of address ahead) (address_by_number_of p n)) }
 {
-    points.partition_point(|point| is_up_to(point.address, address, ahead))
+    is_up_to(address_by_number(graph, n), address, ahead)
+}
+
+/// Whether a point runs before an address.
+fn runs_before(graph: &Graph, n: u32, address: Place) -> bool
+    ensures { (p : Program) → Tells p graph.now.parts → result ≡ is_lower (address_by_number_of p n) address }
+{
+    is_before(address_by_number(graph, n), address)
+}
+
+/// How many of these run up to some bytes behind an address.
+fn count_up_to(graph: &Graph, points: &[u32], address: Place, ahead: u8) -> usize
+    requires { All (λ q. q < length graph.now.parts.points.items) points.now }
+    ensures within { result ≤ length points.now }
+    ensures up_to { (p : Program) → Tells p graph.now.parts → AllPairs (ComesBefore p) points.now → (k d : ℕ) → k < result → is_lower (ahead_of address ahead) (p.address (slice_index_or points.now k d)) ≡ false }
+    ensures behind { (p : Program) → Tells p graph.now.parts → AllPairs (ComesBefore p) points.now → (k d : ℕ) → result ≤ k → k < length points.now → is_lower (ahead_of address ahead) (p.address (slice_index_or points.now k d)) ≡ true }
+{
+    points.partition_point(|n| runs_up_to(graph, *n, address, ahead))
 }
 
 /// How many of these run before an address.
-fn count_before(points: &[SitePoint], address: Place) -> usize
+fn count_before(graph: &Graph, points: &[u32], address: Place) -> usize
+    requires { All (λ q. q < length graph.now.parts.points.items) points.now }
     ensures within { result ≤ length points.now }
-    ensures before { AllPairs ComesBefore points.now → (k : ℕ) (d : SitePoint) → k < result → is_lower (slice_index_or points.now k d).address address ≡ true }
-    ensures from { AllPairs ComesBefore points.now → (k : ℕ) (d : SitePoint) → result ≤ k → k < length points.now → is_lower (slice_index_or points.now k d).address address ≡ false }
+    ensures before { (p : Program) → Tells p graph.now.parts → AllPairs (ComesBefore p) points.now → (k d : ℕ) → k < result → is_lower (p.address (slice_index_or points.now k d)) address ≡ true }
+    ensures from { (p : Program) → Tells p graph.now.parts → AllPairs (ComesBefore p) points.now → (k d : ℕ) → result ≤ k → k < length points.now → is_lower (p.address (slice_index_or points.now k d)) address ≡ false }
 {
-    points.partition_point(|point| is_before(point.address, address))
+    points.partition_point(|n| runs_before(graph, *n, address))
 }
 
 /// The point that is in force some bytes behind an address: of those at the last address up to there the first.
 ///
 /// Two searches by halving.
-pub(crate) fn in_force(points: &[SitePoint], address: Place, ahead: u8) -> Option<SitePoint>
+pub(crate) fn in_force(graph: &Graph, points: &[u32], address: Place, ahead: u8) -> Option<u32>
+    requires { All (λ q. q < length graph.now.parts.points.items) points.now }
     ensures listed { IfSome result (λ y. Contains points.now y) }
-    ensures some { AllPairs ComesBefore points.now → IfSome result (λ y. IsInForceAt points.now (ahead_of address ahead) y) }
-    ensures none { AllPairs ComesBefore points.now → IfNone result ((y : SitePoint) → IsInForceAt points.now (ahead_of address ahead) y → ⊥) }
+    ensures some { (p : Program) → Tells p graph.now.parts → AllPairs (ComesBefore p) points.now → IfSome result (λ y. IsInForceAt p points.now (ahead_of address ahead) y) }
+    ensures none { (p : Program) → Tells p graph.now.parts → AllPairs (ComesBefore p) points.now → IfNone result ((y : ℕ) → IsInForceAt p points.now (ahead_of address ahead) y → ⊥) }
 {
-    let count = count_up_to(points, address, ahead);
+    let count = count_up_to(graph, points, address, ahead);
     if count == 0 {
         return None;
     }
-    let last = points[count - 1];
-    let first = count_before(points, last.address);
+    let last = graph.address(points[count - 1]);
+    let first = count_before(graph, points, last);
     if first < points.len() {
         Some(points[first])
     } else {

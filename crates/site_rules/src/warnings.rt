@@ -1,31 +1,55 @@
 //! The warnings of rule 12.
 
-ghost use Rattle.std.specs.Prelude.{◌≡◌, ◌+◌, ◌-◌, ◌<◌, ◌≤◌, ◌^◌, pos};
+ghost use Rattle.std.specs.Prelude.{◌≡◌, ◌+◌, ◌-◌, ◌<◌, ◌≤◌, ◌^◌, IfNone, IfSome, pos, length};
 ghost use Rattle.ot_base.specs.declared.rules.TheConstants.{ALTERNATIVES_DISAGREE};
-ghost use Rattle.site_points.specs.declared.points.SitePoint.{SitePoint};
-ghost use Rattle.site_rules.specs.Disagree.{FitsOffset, disagreement as disagreement_of};
+ghost use Rattle.program_defs.specs.Program.{Program, Site};
+ghost use Rattle.program_defs.specs.IsProgram.{IsLaidOut};
+ghost use Rattle.program_graph.specs.Tells.{Tells};
+ghost use Rattle.rule_check.specs.Gains.{numbered_warning};
+ghost use Rattle.site_points.specs.Sites.{IsIndexOf};
+ghost use Rattle.site_rules.specs.Disagree.{FitsOffset, IsOfSite, IsSiteOf};
 
-use ot_base::Warning;
 use ot_base::rules::ALTERNATIVES_DISAGREE;
-use site_points::SitePoint;
+use ot_base::{Place, Warning};
+use program_graph::Graph;
+use site_points::SiteIndex;
 
-/// How far it is from the start of a point's site to the byte that lies so many behind where the point runs. Told as
-/// the greatest number where that is more.
-fn offset(point: &SitePoint, ahead: u8) -> i64
-    ensures { FitsOffset point.now ahead → result ≡ pos (point.now.address.off + ahead - point.now.site.start.off) }
+/// How far it is from a place to the byte that lies so many behind another place. Told as the greatest number where that is more.
+fn offset(start: Place, address: Place, ahead: u8) -> i64
+    ensures { start.off ≤ address.off → address.off + ahead < start.off + 2 ^ 63 → result ≡ pos (address.off + ahead - start.off) }
 {
-    let from_start = point.address.off.saturating_sub(point.site.start.off);
+    let from_start = address.off.saturating_sub(start.off);
     i64::try_from(from_start.saturating_add(u64::from(ahead))).unwrap_or(i64::MAX)
 }
 
-/// The warning that variants of a point's site disagree so many bytes behind where the point runs.
-pub(crate) fn disagreement(point: &SitePoint, ahead: u8) -> Warning
-    ensures { FitsOffset point.now ahead → result ≡ disagreement_of point.now ahead }
+/// The warning that variants of a site with this start disagree so many bytes behind an address.
+fn warning_at(start: Place, address: Place, ahead: u8) -> Warning
+    ensures { start.off ≤ address.off → address.off + ahead < start.off + 2 ^ 63 → result ≡ numbered_warning start ALTERNATIVES_DISAGREE (pos (address.off + ahead - start.off)) (pos 0) }
 {
     Warning {
-        place: point.site.start,
+        place: start,
         rule: ALTERNATIVES_DISAGREE,
-        a: offset(point, ahead),
+        a: offset(start, address, ahead),
         b: 0,
+    }
+}
+
+/// The warning that variants of a point's site disagree so many bytes behind where the point runs. A point that runs in no site
+/// has none.
+pub(crate) fn disagreement(
+    graph: &Graph,
+    sites: &SiteIndex,
+    point: u32,
+    ahead: u8,
+) -> Option<Warning>
+    requires { point < length graph.now.parts.points.items }
+    ensures some { (p : Program) → Tells p graph.now.parts → IsIndexOf p sites.now → FitsOffset p point ahead → IfSome result (IsOfSite p point ahead) }
+    ensures none { (p : Program) → Tells p graph.now.parts → IsIndexOf p sites.now → IsLaidOut p → IfNone result ((site : Site) → IsSiteOf p point site → ⊥) }
+{
+    let address = graph.address(point);
+    let mut near = 0usize;
+    match sites.find(address, &mut near) {
+        Some(site) => Some(warning_at(site.start, address, ahead)),
+        None => None,
     }
 }

@@ -1,19 +1,24 @@
-use Rattle.std.proofs.Common.{◌∷◌, [], List, get_or, take, pos, false, sym, ap, ◌∙◌}
-use Rattle.std.proofs.lemmas.List.{take_more}
+use Rattle.std.proofs.Common.{◌≡◌, ℕ, ◌∷◌, [], List, get_or, take, sym, ap, ◌∙◌}
+use Rattle.std.proofs.lemmas.List.{map-append, take_all, take_more}
 use Rattle.ot_base.specs.declared.row.PlacedRow.{PlacedRow}
-use Rattle.orc_build.specs.Changes.{add_all, after_row}
+use Rattle.branch_check.specs.LevelStates.{at}
+use Rattle.orc_build.specs.Changes.{add_all, after_row, row_in_site, rows_in_sites}
 use Rattle.orc_build.proofs.Merging.{add_all-append}
 use Rattle.orc_build.proofs.changes.push_all.Goals as goal
 
-none : PlacedRow
-none = record { place = record { sec = 0; off = 0 }; row = record { sp_offset = pos 0; bp_offset = pos 0; sp_reg = 0; bp_reg = 0; kind = 0; signal = false } }
-
-pub loop-row-preserved : goal.loop-row-preserved
-unfolding none
-loop-row-preserved c =
-    let more : List PlacedRow = c.args.more.now in
-    let x : PlacedRow = get_or more c.loop-row.row-index none in
+pub loop-n-preserved : goal.loop-n-preserved
+loop-n-preserved c p t =
+    let more : List ℕ = c.args.more.now in
+    let states = at c.args.kept.now in
+    let i : ℕ = c.loop-n.n-index in
+    let x : ℕ = get_or more i 0 in
+    let front : List PlacedRow = rows_in_sites p states (take i more) in
     c.in_ok-push_change.ensures
-    ∙ ap (λ (rows : List PlacedRow). after_row rows x) c.loop-row.invariant
-    ∙ sym (add_all-append c.args.rows.now.items (take c.loop-row.row-index more) (x ∷ []))
-    ∙ ap (λ (xs : List PlacedRow). add_all c.args.rows.now.items xs) (sym (take_more more c.loop-row.row-index none c.loop-row-test.true))
+    ∙ ap (λ (rows : List PlacedRow). after_row rows c.site_row.result) (c.loop-n.invariant p t)
+    ∙ ap (λ (row : PlacedRow). after_row (add_all c.args.rows.now.items front) row) (c.site_row.ensures p t)
+    ∙ sym (add_all-append c.args.rows.now.items front (row_in_site p states x ∷ []))
+    ∙ ap (λ (rows : List PlacedRow). add_all c.args.rows.now.items rows) (sym (map-append (row_in_site p states) (take i more) (x ∷ [])))
+    ∙ ap (λ (xs : List ℕ). add_all c.args.rows.now.items (rows_in_sites p states xs)) (sym (take_more more i 0 c.loop-n-test.true))
+
+pub returns : goal.returns
+returns c p t = c.loop-n.invariant p t ∙ ap (λ (xs : List ℕ). add_all c.args.rows.now.items (rows_in_sites p (at c.args.kept.now) xs)) (take_all c.loop-n.n-index c.args.more.now c.loop-n-test.false)

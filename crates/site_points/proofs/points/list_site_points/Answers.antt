@@ -1,39 +1,68 @@
 -- The points that run in the kept sites, in order.
-use Rattle.std.proofs.Common.{◌≡◌, ◌<◌, All, List, IsSome, length, subst, sym, ◌∙◌}
+use Rattle.std.proofs.Common.{◌≡◌, ℕ, ◌<◌, All, Contains, List, Option, IsSome, length, get_or, arith, subst, sym, ◌∙◌}
 use Rattle.std.specs.List.{AllPairs}
-use Rattle.std.proofs.lemmas.List.Elements.{All-weaker}
-use Rattle.std.proofs.lemmas.List.Sorted.{All-permutation}
+use Rattle.std.proofs.lemmas.List.Elements.{All-contains, All-weaker, Contains-get_or}
+use Rattle.std.specs.List.Sorted.{IsPermutation}
+use Rattle.std.proofs.lemmas.List.Sorted.{All-permutation, IsPermutation-trans}
+use Rattle.state_defs.specs.declared.state.State.{State}
 use Rattle.program_graph.specs.declared.parts.Site.{Site}
 use Rattle.branch_check.specs.LevelStates.{at}
 use Rattle.site_points.specs.Sites.{AreApart, IsIndexOf}
 use Rattle.site_points.specs.Points.{AreAmong, ArePointsIn, AreKeptIn}
-use Rattle.site_points.specs.declared.points.SitePoint.{SitePoint}
-use Rattle.site_points.proofs.Listing.{among_kept, among_told, index_apart, some_is_point, starts_apart, starts_listed, site_points}
+use Rattle.site_points.proofs.Listing.{index_apart, some_is_point, starts_apart, site_points}
 use Rattle.site_points.proofs.points.list_site_points.Goals as goal
+
+-- some kept points of a list are kept
+among_kept : (P : ℕ → Type 0) (all points : List ℕ) → All P all → ((q : ℕ) → Contains points q → Contains all q) → All P points
+among_kept P all points each listed k d l = All-contains P all (get_or points k d) each (listed (get_or points k d) (Contains-get_or points k d l))
+
+-- those that run in kept sites are kept
+among_are_kept : (states : List (Option State)) (all among read : List ℕ) → All (λ q. IsSome (at states q)) all → read ≡ all → ((q : ℕ) → Contains among q → Contains read q) → All (λ q. IsSome (at states q)) among
+among_are_kept states all among read kept is listed = among_kept (λ q. IsSome (at states q)) all among kept (λ q k. subst (λ (xs : List ℕ). Contains xs q) is (listed q k))
+
+pub by_site-requires : goal.by_site-requires
+by_site-requires c =
+    let states = c.args.kept.now in
+    let among : List ℕ = c.in_ok-among.among.items in
+    let kept : All (λ q. IsSome (at states q)) among = among_are_kept states c.in_ok-all.all.items among c.deref-2.result.now c.in_ok-all.ensures.kept c.deref-2.ensures.value c.in_ok-among.ensures.listed in
+    subst (All (λ (q : ℕ). q < length c.args.graph.now.parts.points.items)) (sym c.deref-3.ensures.value)
+    (All-weaker (λ (q : ℕ). IsSome (at states q)) (λ (q : ℕ). q < length c.args.graph.now.parts.points.items) (λ q h. omega (arith, some_is_point states q h, c.requires)) among kept)
+
+pub sort-requires : goal.sort-requires
+sort-requires c =
+    let states = c.args.kept.now in
+    let among : List ℕ = c.in_ok-among.among.items in
+    let kept : All (λ q. IsSome (at states q)) among = among_are_kept states c.in_ok-all.all.items among c.deref-2.result.now c.in_ok-all.ensures.kept c.deref-2.ensures.value c.in_ok-among.ensures.listed in
+    let known : All (λ q. q < length c.args.graph.now.parts.points.items) among = All-weaker (λ (q : ℕ). IsSome (at states q)) (λ (q : ℕ). q < length c.args.graph.now.parts.points.items) (λ q h. omega (arith, some_is_point states q h, c.requires)) among kept in
+    All-permutation (λ (q : ℕ). q < length c.args.graph.now.parts.points.items) among c.in_ok-points.points.items (subst (λ (xs : List ℕ). IsPermutation xs c.in_ok-points.points.items) c.deref-3.ensures.value c.in_ok-points.ensures) known
 
 pub returns-clause-kept : goal.returns-clause-kept
 returns-clause-kept c =
-    let all : List SitePoint = c.in_ok-all.all.items in
-    let points : List SitePoint = c.in_ok-points.points.items in
-    let among : AreAmong all c.in_ok-kept_sites.kept_sites points = subst (λ (xs : List SitePoint). AreAmong xs c.in_ok-kept_sites.kept_sites points) c.as_slice-found.ensures.value c.in_ok-points.ensures in
-    All-permutation (λ (x : SitePoint). IsSome (at c.args.kept.now x.point)) points c.sort.new.points.items c.sort.ensures.same (among_kept c.args.kept.now c.in_ok-kept_sites.kept_sites all points c.in_ok-all.ensures.kept among)
+    let states = c.args.kept.now in
+    let among : List ℕ = c.in_ok-among.among.items in
+    let points : List ℕ = c.in_ok-points.points.items in
+    let kept : All (λ q. IsSome (at states q)) among = among_are_kept states c.in_ok-all.all.items among c.deref-2.result.now c.in_ok-all.ensures.kept c.deref-2.ensures.value c.in_ok-among.ensures.listed in
+    let same : IsPermutation among points = subst (λ (xs : List ℕ). IsPermutation xs points) c.deref-3.ensures.value c.in_ok-points.ensures in
+    All-permutation (λ (q : ℕ). IsSome (at states q)) points c.sort.new.points.items c.sort.ensures.same (All-permutation (λ (q : ℕ). IsSome (at states q)) among points same kept)
 
 pub returns-clause-listed : goal.returns-clause-listed
 returns-clause-listed c = record {
-  within = All-weaker (λ (x : SitePoint). IsSome (at c.args.kept.now x.point)) (λ (x : SitePoint). x.point < length c.args.kept.now) (λ x h. some_is_point c.args.kept.now x.point h) c.sort.new.points.items (returns-clause-kept c);
+  within = All-weaker (λ (q : ℕ). IsSome (at c.args.kept.now q)) (λ (q : ℕ). q < length c.args.kept.now) (λ q h. some_is_point c.args.kept.now q h) c.sort.new.points.items (returns-clause-kept c);
   listed = λ p t laid states.
-      let count : p.count ≡ length c.args.kept.now = t.count ∙ sym c.requires in
+      let kept = c.args.kept.now in
+      let count : p.count ≡ length kept = t.count ∙ sym c.requires in
       let index : List Site = c.in_ok-sites.sites in
-      let all : List SitePoint = c.in_ok-all.all.items in
-      let starts : List Site = c.in_ok-kept_sites.kept_sites in
-      let points : List SitePoint = c.in_ok-points.points.items in
+      let all : List ℕ = c.in_ok-all.all.items in
+      let starts : List Site = c.in_ok-starts.starts in
+      let among : List ℕ = c.in_ok-among.among.items in
+      let points : List ℕ = c.in_ok-points.points.items in
       let is : IsIndexOf p index = c.in_ok-sites.ensures p t in
-      let are : ArePointsIn p (at c.args.kept.now) index all = c.in_ok-all.ensures.told p t (index_apart p index laid is) in
-      let kept_in : AreKeptIn all starts = subst (λ (xs : List SitePoint). AreKeptIn xs starts) c.as_slice-found.ensures.value c.in_ok-kept_sites.ensures in
-      let apart : AreApart starts = starts_apart p laid c.args.kept.now states count index is all are c.in_ok-all.ensures.kept starts kept_in in
-      let among : AreAmong all starts points = subst (λ (xs : List SitePoint). AreAmong xs starts points) c.as_slice-found.ensures.value c.in_ok-points.ensures in
-      let told : ArePointsIn p (at c.args.kept.now) starts points = among_told p (at c.args.kept.now) index starts all points are (starts_listed p laid c.args.kept.now states count index is all are c.in_ok-all.ensures.kept starts kept_in) apart among in
-      let kept : All (λ x. IsSome (at c.args.kept.now x.point)) points = among_kept c.args.kept.now starts all points c.in_ok-all.ensures.kept among in
-      let ascending : AllPairs (λ x y. x.point < y.point) points = among.ascend c.in_ok-all.ensures.ascending in
-      site_points p laid c.args.kept.now states count index is all are c.in_ok-all.ensures.kept starts kept_in points c.sort.new.points.items told kept ascending c.sort.ensures.same c.sort.ensures.ordered;
+      let apart : AreApart index = index_apart p index laid is in
+      let are : ArePointsIn p (at kept) index all = c.in_ok-all.ensures.told p t apart in
+      let kept_in : AreKeptIn p all index starts = subst (λ (xs : List ℕ). AreKeptIn p xs index starts) c.deref.ensures.value (c.in_ok-starts.ensures p t apart) in
+      let start_apart : AreApart starts = starts_apart p laid kept states count index is all are c.in_ok-all.ensures.kept starts kept_in in
+      let told : AreAmong p all starts among = subst (λ (xs : List ℕ). AreAmong p xs starts among) c.deref-2.ensures.value (c.in_ok-among.ensures.told p t start_apart) in
+      let ascending : AllPairs (λ q r. q < r) among = c.in_ok-among.ensures.ascending (subst (AllPairs (λ q r. q < r)) (sym c.deref-2.ensures.value) c.in_ok-all.ensures.ascending) in
+      let same : IsPermutation among points = subst (λ (xs : List ℕ). IsPermutation xs points) c.deref-3.ensures.value c.in_ok-points.ensures in
+      site_points p laid kept states count index is all are c.in_ok-all.ensures.kept starts kept_in among c.sort.new.points.items told ascending (IsPermutation-trans among points c.sort.new.points.items same c.sort.ensures.same) (c.in_ok-sort.ensures.ordered p t);
 }

@@ -1,0 +1,11 @@
+use Rattle.std.proofs.Common.{ℕ, ◌<◌, All, length}
+use Rattle.program_defs.specs.Program.{Program}
+use Rattle.program_graph.specs.Tells.{Tells}
+use Rattle.orc_build.proofs.SiteRows.{AreSoFar}
+use Rattle.orc_build.proofs.in_sites.first_points.Given as goal
+
+abbrev pub invariant-loop-i : goal.invariant-loop-i
+invariant-loop-i l = record {
+  within : All (λ (q : ℕ). q < length l.graph.parts.points.items) l.firsts.items;
+  first : (p : Program) → Tells p l.graph.parts → AreSoFar p l.points l.i l.firsts.items;
+}
