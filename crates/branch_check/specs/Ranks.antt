@@ -18,6 +18,6 @@ pub record AreRanked (p : Program) (states : ℕ → Option State) (rank : ℕ �
   pub later : (q : ℕ) (s : State) → IsPoint p q → states q ≡ Some s → state_at p 0 q ≡ None → IsLeast (IsGiven p states (source q) q) (Some s)
   pub closed : (a q : ℕ) (s t : State) → IsPoint p a → IsPoint p q → states a ≡ Some s → (Contains front a → ⊥) → (Contains waiting a → ⊥) → Gives p a s q t → IsSome (states q) × IsEarly p rank source a q
 
--- these points aren't in front, but will be
+-- some ranks and sources show that the points are ranked so
 abbrev pub AreSpread : Program → (ℕ → Option State) → List ℕ → List ℕ → Type 0
 AreSpread p states front waiting = (rank : ℕ → ℕ) × (source : ℕ → List ℕ) × AreRanked p states rank source front waiting

@@ -22,8 +22,8 @@ const NOWHERE: u32 = u32::MAX;
 /// The states of the points of a program, by levels, from one batch of points of level 0 after another.
 ///
 /// The points that are reached stand in the order in which they were: those of level 0, those that were kept in earlier
-/// batches, those that are kept in this one, and those that were offered a state for the next level. A point takes 16 bytes,
-/// and 24 more up to the last one that was offered a wide state.
+/// batches, those that are kept in this one, and those that were offered a state for the next level. A point takes 16
+/// bytes, and 24 more up to the last one that was offered a wide state.
 #[derive(Drop)]
 pub(crate) struct Levels {
     /// By point, its place among those that are reached.

@@ -8,8 +8,8 @@ ghost use Rattle.branch_check.specs.Packed.{short_numbers, state_in};
 
 use crate::parts::{Numbers, Parts, Shape};
 
-/// A state whose numbers have 16 bits each, or a wide one, with a number that has more: its numbers stand elsewhere, and
-/// are 0 here.
+/// A state whose numbers have 16 bits each, or a wide one, with a number that has more: its numbers stand elsewhere,
+/// and are 0 here.
 #[derive(Clone, Copy)]
 pub(crate) struct Slot {
     shape: Shape,
