@@ -64,6 +64,47 @@ fn instructions_of_a_body(rt: HostRuntime) -> Result<(), Fail> {
     Ok(())
 }
 
+#[test]
+fn instructions_by_number(rt: HostRuntime) -> Result<(), Fail> {
+    let instructions: [(u32, u64, &[u8], Op); 5] = [
+        (0, 0, b"\x55", Op::PushBp),
+        (1, 1, b"\x48\x89\xE5", Op::LeaBpSp { by: 0 }),
+        (5, 7, b"\x48\x83\xEC\x10", Op::AddSp { by: -16 }),
+        (6, 11, b"\xE8\xF0\xFF\xFF\xFF", Op::Call { rel: -16 }),
+        (14, 28, b"\xC3", Op::Ret),
+    ];
+    let text = Text::read(rt.alloc(), Map::Base, &CODE, &mut Vec::new(rt.alloc()))?;
+    for (i, begins, bytes, op) in instructions {
+        assert!(rt; i < text.count());
+        let (off, insn) = text.insn(i);
+        assert!(rt; off == begins && insn.op == op, "instruction {i}");
+        assert!(rt; text.bytes_of(i) == bytes, "bytes of instruction {i}");
+    }
+    Ok(())
+}
+
+/// The bytes of the first instruction of a body, lent from it after its text is let go.
+fn first_bytes(alloc: Global, body: &[u8]) -> Result<Option<&[u8]>, TextFault>
+    requires { length body.now ≤ 16_777_216 }
+{
+    let text = Text::read(alloc, Map::Base, body, &mut Vec::new(alloc))?;
+    Ok(if text.count() == 0 {
+        None
+    } else {
+        Some(text.bytes_of(0))
+    })
+}
+
+#[test]
+fn bytes_outlive_the_text(rt: HostRuntime) -> Result<(), Fail> {
+    let Some(bytes) = first_bytes(rt.alloc(), &CODE[1..])? else {
+        return Err(Fail::from("no instruction"));
+    };
+    assert!(rt; bytes == [0x48u8, 0x89, 0xE5].as_slice());
+    assert!(rt; first_bytes(rt.alloc(), &[])?.is_none());
+    Ok(())
+}
+
 // A jump by the table at an address, and one through a register.
 #[test]
 fn jumps_by_a_table(rt: HostRuntime) -> Result<(), Fail> {

@@ -1,4 +1,4 @@
-ghost use Rattle.std.specs.Prelude.{◌≡◌, ◌++◌, ◌+◌, ◌<◌, ◌≤◌, ◌↔◌, ℕ, true, All, [], ◌∷◌, length, drop, filter, slice_get, slice_index_or, Contains, is_some, IfOk, IfErr, OnOk, IfSome, IfNone, MatchBool, MatchOption};
+ghost use Rattle.std.specs.Prelude.{◌≡◌, ◌++◌, ◌+◌, ◌<◌, ◌≤◌, ◌↔◌, ℕ, true, All, [], ◌∷◌, length, drop, filter, slice_get, slice_index_or, slice_range, Contains, is_some, IfOk, IfErr, OnOk, IfSome, IfNone, MatchBool, MatchOption};
 ghost use Rattle.std.specs.List.Sorted.{IsNonDecreasingBy};
 ghost use Rattle.x86_decode.specs.Decoding.{StandsInFront};
 ghost use Rattle.x86_text.specs.Code.{is_table_jump as is_a_table_jump, read_by, code_of, insn_listed, insns_of, offsets_of, table_jumps_of, IsBoundary, IsCode, IsNextBoundary, IsPreviousBoundary, LeadsTo};
@@ -99,6 +99,29 @@ impl<'a> Text<'a> {
         ensures { result.now ≡ offsets_of self.now }
     {
         &self.offsets
+    }
+
+    /// The instruction with this number, and its offset.
+    pub fn insn(&self, i: u32) -> (u64, Insn)
+        requires { i < length (code_of self.now) }
+        ensures listed { slice_get (code_of self.now) i ≡ Some (record { off = result.0; insn = result.1 }) }
+        ensures stands { StandsInFront self.now.map (drop result.0 self.now.bytes) result.1 }
+    {
+        let off = self.offsets[i as usize];
+        match decode(self.map, &self.body[off as usize..]) {
+            Ok(insn) => (u64::from(off), insn),
+            Err(_) => unreachable!(),
+        }
+    }
+
+    /// The bytes of the instruction with this number.
+    pub fn bytes_of(&self, i: u32) -> &'a [u8]
+        requires { i < length (code_of self.now) }
+        ensures { IfSome (slice_get (code_of self.now) i) (λ p. result.now ≡ slice_range self.now.bytes p.off (p.off + p.insn.len)) }
+    {
+        let (off, insn) = self.insn(i);
+        let start = off as usize;
+        &self.body[start..start + insn.len as usize]
     }
 
     /// Those of its instructions that jump by a table, in their order.
