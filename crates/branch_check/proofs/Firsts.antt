@@ -88,7 +88,7 @@ module _ (places reached : List ℕ) (states : List State) (kept : ℕ) (are : A
       let r = place_of i q (omega (arith, i_in, h)) (sym (get_or-take b reached i q i_in) ∙ e) in
       (r.0, let same : get_or places q 0 ≡ i = r.1 in omega (arith, same, i_in))
 
-  has_point : (q : ℕ) → q < length places → get_or places q 0 < length reached → get_or reached (get_or places q 0) 0 ≡ q
+  pub has_point : (q : ℕ) → q < length places → get_or places q 0 < length reached → get_or reached (get_or places q 0) 0 ≡ q
   has_point q h inside = elim (are.placed q h) [ inl e ↦ absurd (omega (arith, e, inside, few, are.few)) | inr r ↦ r.1 ]
     where
       few : length reached ≤ length places

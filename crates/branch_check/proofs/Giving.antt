@@ -11,11 +11,13 @@ use Rattle.checker_defs.specs.Kept.{Brings, brought_along, edges_of, is_free}
 use Rattle.unwinding_law.proofs.Lists.{here, there, cases, nowhere}
 use Rattle.unwinding_law.proofs.KeptStates.{brings_along, brings_edge}
 use Rattle.program_graph.specs.Tells.{Means}
+use Rattle.branch_check.specs.Done.{IsBroughtInVain, IsLeftAside}
 use Rattle.branch_check.specs.Least.{IsLeast, lesser_of}
-use Rattle.branch_check.specs.LevelStates.{Offers, after_offer, at, is_settled, offered}
+use Rattle.branch_check.specs.LevelStates.{LevelStates, Offers, after_offer, at, is_settled, offered}
 use Rattle.branch_check.specs.Gives.{Gives, IsGiven}
 use Rattle.branch_check.specs.Told.{AreLeast, offer_all, given_along, given_to_restore}
 use Rattle.branch_check.proofs.Least.{least_more, least_same}
+use Rattle.branch_check.proofs.LevelSteps.{not_none}
 use Rattle.branch_check.proofs.Places.{at_same, at_other, same_or_not}
 
 -- the elements of a front of a list with one more
@@ -168,6 +170,32 @@ module _ (p : Program) (a : ℕ) (s : State) where
           let k = to_restore q u g in
           let m = (mean q).0 c in
           (k.0, inr (m.hint, m.save, k.1))
+
+-- where what a point brings is brought in vain, its edges give nothing more
+module _ (p : Program) (old : LevelStates) (next : Offers) (i a : ℕ) (s : State) (count : p.count ≡ length old.kept) (has : at old.kept a ≡ Some s) (vain : IsBroughtInVain p old i a) where
+  abbrev So : ℕ → State → Type 0
+  So = IsGiven p (at old.kept) (take i old.front)
+
+  aside : (q : ℕ) (u : State) → q < length old.kept → FromEdges p s (p.insn a).op (edges_of p a) q u → IsLeftAside old q ⊎ So q u
+  aside q u l (e, c, t, g) =
+      let k = along p a s e u g in
+      vain q s u (omega (arith, l, count)) has (subst (λ (x : ℕ). p.unchecked x ≡ false) t k.0) (subst (λ (x : ℕ). is_free (p.hint x) ≡ true) t k.1) (subst (λ (x : ℕ). Brings p a s x u) t (brings_along p a s e u c k.2))
+
+  pub in_vain : next.settled ≡ old.next.settled → (next.met ≡ false → old.next.met ≡ false) → AreLeast old.kept next (WithEdges So p s (p.insn a).op []) → AreLeast old.kept next (WithEdges So p s (p.insn a).op (edges_of p a))
+  in_vain settled met h = record { least = least; unmet = unmet }
+    where
+      same : (q : ℕ) → q < length old.kept → at old.kept q ≡ None → (u : State) → WithEdges So p s (p.insn a).op [] q u ↔ WithEdges So p s (p.insn a).op (edges_of p a) q u
+      same q l vacant u = (λ k. elim k [ inl x ↦ inl x | inr y ↦ nowhere y.0 y.1 ], λ k. elim k [ inl x ↦ inl x | inr y ↦ elim (aside q u l y) [ inl r ↦ not_none (at old.kept q) vacant r.0 | inr g ↦ inl g ] ])
+
+      least : (q : ℕ) → q < length old.kept → at old.kept q ≡ None → IsLeast (WithEdges So p s (p.insn a).op (edges_of p a) q) (at next.states q)
+      least q l vacant = least_same (WithEdges So p s (p.insn a).op [] q) (WithEdges So p s (p.insn a).op (edges_of p a) q) (at next.states q) (same q l vacant) (h.least q l vacant)
+
+      unmet : next.met ≡ false → (q : ℕ) (u : State) → q < length old.kept → WithEdges So p s (p.insn a).op (edges_of p a) q u → is_settled next q ≡ false
+      unmet e q u l (inl x) = h.unmet e q u l (inl x)
+      unmet e q u l (inr y) = elim (aside q u l y) [
+        | inl r ↦ subst (λ (b : List Bool). is_settled (record { states = []; settled = b; met = false }) q ≡ false) (sym settled) (r.1 (met e))
+        | inr g ↦ h.unmet e q u l (inl g)
+      ]
 
 module _ (p : Program) (kept : List (Option State)) (front : List ℕ) (i : ℕ) (a : ℕ) (l : i < length front) (is : a ≡ get_or front i 0) (count : p.count ≡ length kept) where
   -- a point without a state gives nothing

@@ -3,6 +3,7 @@ pub mod Least
 pub mod LevelSteps
 pub mod Places
 pub mod Firsts
+pub mod DonePoints
 pub mod Giving
 pub mod Ranks
 pub mod Rounds

@@ -10,11 +10,13 @@ pub record Offers : Type 0 where
   pub settled : List Bool
   pub met : Bool
 
--- by point, the state that it keeps, and what was offered; the points that give next, and those of level 0 in order
+-- by point, the state that it keeps, and what was offered; the points that give next, those that have given in this batch, and
+-- those of level 0 in order
 pub record LevelStates : Type 0 where
   pub kept : List (Option State)
   pub next : Offers
   pub front : List ℕ
+  pub done : List ℕ
   pub firsts : List ℕ
 
 -- what a list has at a point

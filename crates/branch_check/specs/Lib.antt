@@ -1,5 +1,6 @@
 pub mod Batches
 pub mod Counted
+pub mod Done
 pub mod Gives
 pub mod Least
 pub mod LevelStates

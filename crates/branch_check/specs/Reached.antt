@@ -1,6 +1,7 @@
 -- The points that are reached, in the order in which they were, and their states.
 use Rattle.std.specs.Prelude.{◌≡◌, ℕ, ◌^◌, ◌<◌, ◌≤◌, ◌⊎◌, ◌&&◌, Bool, List, Option, None, All, if◌then◌else◌, nat_le, nat_lt, length, map, slice_get, slice_index}
 use Rattle.state_defs.specs.declared.state.State.{State}
+use Rattle.branch_check.specs.declared.done.Done.{Done}
 use Rattle.branch_check.specs.LevelStates.{count_some}
 
 -- the place of a point that isn't reached
@@ -18,10 +19,11 @@ offered_at kept states place = if nat_lt place kept then None else slice_get sta
 abbrev pub settled_at : ℕ → ℕ → ℕ → Bool
 settled_at first settled place = nat_le first place && nat_lt place settled
 
--- where the points in front begin and end, and how many are of level 0, settled or of level 0, and kept
-pub record AreOrdered (front_from front_to first settled kept : ℕ) : Type 0 where
+-- where the points in front begin and end, which have given, and how many are of level 0, settled or of level 0, and kept
+pub record AreOrdered (front_from front_to : ℕ) (done : Done) (first settled kept : ℕ) : Type 0 where
   pub front_in : front_from ≤ front_to
   pub front_kept : front_to ≤ kept
+  pub done_kept : (done.first_to ≤ kept) × (done.later_to ≤ kept)
   pub first_in : first ≤ settled
   pub settled_in : settled ≤ kept
 

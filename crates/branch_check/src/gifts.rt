@@ -42,6 +42,7 @@ fn offer_stepped(levels: &mut Levels, from: u32, op: Op, to: u32)
     requires point { to < length levels.old.kept }
     ensures kept { levels.new.kept ≡ levels.old.kept }
     ensures front { levels.new.front ≡ levels.old.front }
+    ensures done { levels.new.done ≡ levels.old.done }
     ensures same { StaysSame levels.old levels.new }
     ensures len { length levels.new.next.states ≡ length levels.old.next.states }
     ensures next { (s : StateValue) → at levels.old.kept from ≡ Some s → levels.new.next ≡ offer_all levels.old.kept levels.old.next to (moved (move s op)) }
@@ -60,6 +61,7 @@ fn offer_moved(levels: &mut Levels, from: u32, op: Op, to: u32)
     requires point { to < length levels.old.kept }
     ensures kept { levels.new.kept ≡ levels.old.kept }
     ensures front { levels.new.front ≡ levels.old.front }
+    ensures done { levels.new.done ≡ levels.old.done }
     ensures same { StaysSame levels.old levels.new }
     ensures len { length levels.new.next.states ≡ length levels.old.next.states }
     ensures next { (s : StateValue) → at levels.old.kept from ≡ Some s → levels.new.next ≡ offer_all levels.old.kept levels.old.next to (moved (move s op)) }
@@ -78,6 +80,7 @@ fn bring_along(levels: &mut Levels, from: u32, op: Op, edge: Edge)
     requires point { edge.to < length levels.old.kept }
     ensures kept { levels.new.kept ≡ levels.old.kept }
     ensures front { levels.new.front ≡ levels.old.front }
+    ensures done { levels.new.done ≡ levels.old.done }
     ensures same { StaysSame levels.old levels.new }
     ensures len { length levels.new.next.states ≡ length levels.old.next.states }
     ensures next { (s : StateValue) → at levels.old.kept from ≡ Some s → levels.new.next ≡ offer_all levels.old.kept levels.old.next edge.to (brought_along s op edge.kind) }
@@ -98,6 +101,7 @@ pub(crate) fn give_along(graph: &Graph, levels: &mut Levels, from: u32, edge: Ed
     requires point { edge.to < length graph.now.parts.points.items }
     ensures kept { levels.new.kept ≡ levels.old.kept }
     ensures front { levels.new.front ≡ levels.old.front }
+    ensures done { levels.new.done ≡ levels.old.done }
     ensures same { StaysSame levels.old levels.new }
     ensures len { length levels.new.next.states ≡ length levels.old.next.states }
     ensures next { (p : Program) (s : StateValue) → Tells p graph.now.parts → at levels.old.kept from ≡ Some s → levels.new.next ≡ offer_all levels.old.kept levels.old.next edge.to (given_along p s (p.insn from).op edge) }
@@ -114,6 +118,7 @@ pub(crate) fn give_to_restore(graph: &Graph, levels: &mut Levels, save: u32, res
     requires point { restore < length graph.now.parts.points.items }
     ensures kept { levels.new.kept ≡ levels.old.kept }
     ensures front { levels.new.front ≡ levels.old.front }
+    ensures done { levels.new.done ≡ levels.old.done }
     ensures same { StaysSame levels.old levels.new }
     ensures len { length levels.new.next.states ≡ length levels.old.next.states }
     ensures next { (p : Program) (s : StateValue) → Tells p graph.now.parts → at levels.old.kept save ≡ Some s → levels.new.next ≡ offer_all levels.old.kept levels.old.next restore (given_to_restore p s restore) }

@@ -1,13 +1,15 @@
 //! The states of points, level by level.
 
-ghost use Rattle.std.specs.Prelude.{◌≡◌, ◌+◌, ◌<◌, ◌≤◌, ◌↔◌, ℕ, [], None, Some, All, Contains, IfOk, IsSome, IsTrue, drop, length, option_map, replicate, slice_index, take, true, false};
+ghost use Rattle.std.specs.Prelude.{◌≡◌, ◌+◌, ◌<◌, ◌≤◌, ◌⊎◌, ◌↔◌, ℕ, [], None, Some, All, Contains, IfOk, IsSome, IsTrue, drop, length, option_map, replicate, slice_index, take, true, false};
 ghost use Rattle.state_defs.specs.Move.{has_near_numbers};
 ghost use Rattle.state_defs.specs.Row.{unfit_offset};
 ghost use Rattle.checker_defs.specs.Kept.{kept_or};
+ghost use Rattle.branch_check.specs.Done.{done_of};
 ghost use Rattle.branch_check.specs.LevelStates.{LevelStates, StaysSame, at, count_open, is_settled, offered};
 ghost use Rattle.branch_check.specs.Reached.{AreOrdered, AreReached, kept_at, offered_at, settled_at};
 ghost use Rattle.branch_check.specs.Packed.{state_of};
 
+use crate::done::Done;
 use crate::order::lesser;
 use crate::packed::PackedState;
 use crate::region::Region;
@@ -34,6 +36,8 @@ pub(crate) struct Levels {
     /// The places where the points in front begin, and where they end.
     front_from: usize,
     front_to: usize,
+    /// The places of the points that have given in this batch.
+    done: Done,
     /// How many points are of level 0, how many were kept when the batch began, and how many are kept.
     first: usize,
     settled: usize,
@@ -44,14 +48,15 @@ pub(crate) struct Levels {
 
 impl Model for Levels {
     ghost use Rattle.std.specs.Prelude.{◌≤◌, drop, length, map, take, vec_capacity};
+    ghost use Rattle.branch_check.specs.Done.{done_of};
     ghost use Rattle.branch_check.specs.LevelStates.{LevelStates};
     ghost use Rattle.branch_check.specs.Reached.{AreOrdered, AreReached, kept_at, offered_at, settled_at};
 
     ghost Value = { LevelStates };
 
-    ghost view = { λ l. record { kept = map (kept_at l.kept l.states.list) l.places.items; next = record { states = map (offered_at l.kept l.states.list) l.places.items; settled = map (settled_at l.first l.settled) l.places.items; met = l.met }; front = drop l.front_from (take l.front_to l.reached.items); firsts = take l.first l.reached.items } };
+    ghost view = { λ l. record { kept = map (kept_at l.kept l.states.list) l.places.items; next = record { states = map (offered_at l.kept l.states.list) l.places.items; settled = map (settled_at l.first l.settled) l.places.items; met = l.met }; front = drop l.front_from (take l.front_to l.reached.items); done = done_of l.settled l.done l.reached.items; firsts = take l.first l.reached.items } };
 
-    ghost invariant = { λ l. (length l.places.items ≤ vec_capacity l.reached) × (length l.places.items ≤ l.states.room) × AreReached l.places.items l.reached.items l.states.list l.kept × AreOrdered l.front_from l.front_to l.first l.settled l.kept };
+    ghost invariant = { λ l. (length l.places.items ≤ vec_capacity l.reached) × (length l.places.items ≤ l.states.room) × AreReached l.places.items l.reached.items l.states.list l.kept × AreOrdered l.front_from l.front_to l.done l.first l.settled l.kept };
 }
 
 impl Levels {
@@ -65,6 +70,7 @@ impl Levels {
             states: Region::reserve(alloc, points)?,
             front_from: 0,
             front_to: 0,
+            done: Done::none(0),
             first: 0,
             settled: 0,
             kept: 0,
@@ -152,12 +158,32 @@ impl Levels {
         self.reached[self.front_from + i]
     }
 
+    /// Whether a point is known to have given in this batch.
+    pub(crate) fn has_given(&self, n: u32) -> bool
+        requires { n < length self.now.kept }
+        ensures { IsTrue result → Contains self.now.done n }
+    {
+        let place = self.places[n as usize] as usize;
+        place < self.kept && self.done.has(self.settled, place)
+    }
+
+    /// Whether a point is one of the first ones in front.
+    pub(crate) fn is_before(&self, n: u32, i: usize) -> bool
+        requires point { n < length self.now.kept }
+        requires inside { i ≤ length self.now.front }
+        ensures { IsTrue result → Contains (take i self.now.front) n }
+    {
+        let place = self.places[n as usize] as usize;
+        self.front_from <= place && place - self.front_from < i
+    }
+
     /// Offers a point a state for the next level.
     #[inline(always)]
     pub(crate) fn offer(&mut self, n: u32, state: PackedState)
         requires { n < length self.old.kept }
         ensures kept { self.new.kept ≡ self.old.kept }
         ensures front { self.new.front ≡ self.old.front }
+        ensures done { self.new.done ≡ self.old.done }
         ensures firsts { self.new.firsts ≡ self.old.firsts }
         ensures next { self.new.next ≡ offered self.old.kept self.old.next n (state_of state) }
     {
@@ -182,6 +208,7 @@ impl Levels {
         requires from { from < length self.old.kept }
         ensures kept { self.new.kept ≡ self.old.kept }
         ensures front { self.new.front ≡ self.old.front }
+        ensures done { self.new.done ≡ self.old.done }
         ensures same { StaysSame self.old self.new }
         ensures len { length self.new.next.states ≡ length self.old.next.states }
         ensures next { (s : State) → at self.old.kept from ≡ Some s → self.new.next ≡ offered self.old.kept self.old.next n s }
@@ -211,6 +238,7 @@ impl Levels {
         ensures next { (q : ℕ) → at self.new.next.states q ≡ None }
         ensures front { (q : ℕ) → IsSome (at self.old.next.states q) → Contains self.new.front q }
         ensures fresh { (q : ℕ) → Contains self.new.front q → (at self.old.kept q ≡ None) × IsSome (at self.new.kept q) }
+        ensures done { (q : ℕ) → Contains self.new.done q → Contains self.old.done q ⊎ Contains self.old.front q }
         ensures points { All (λ q. q < length self.new.kept) self.new.front }
         ensures len { length self.new.kept ≡ length self.old.kept }
         ensures next_len { length self.new.next.states ≡ length self.old.next.states }
@@ -219,6 +247,7 @@ impl Levels {
         ensures settled { self.new.next.settled ≡ self.old.next.settled }
         ensures met { self.new.next.met ≡ self.old.next.met }
     {
+        self.done = self.done.with(self.front_from, self.front_to);
         self.front_from = self.kept;
         self.kept = self.reached.len();
         self.front_to = self.kept;
@@ -238,6 +267,7 @@ impl Levels {
         self.kept = self.reached.len();
         self.first = self.kept;
         self.settled = self.kept;
+        self.done = Done::none(self.kept);
     }
 
     /// How many points of level 0 there are.
@@ -264,6 +294,7 @@ impl Levels {
         ensures met { self.new.next.met ≡ self.old.next.met }
         ensures firsts { self.new.firsts ≡ self.old.firsts }
         ensures front { self.new.front ≡ drop from (take to self.old.firsts) }
+        ensures done { self.new.done ≡ [] }
         ensures points { All (λ q. q < length self.new.kept) self.new.front }
         ensures in_front { (q : ℕ) → Contains self.new.front q → IsSome (at self.new.kept q) }
         ensures settled { (q : ℕ) → is_settled self.new.next q ≡ true ↔ (IsSome (at self.old.kept q) × (Contains self.old.firsts q → ⊥)) }
@@ -271,6 +302,7 @@ impl Levels {
         self.front_from = from;
         self.front_to = to;
         self.settled = self.kept;
+        self.done = Done::none(self.kept);
     }
 
     /// Whether a state was offered to a settled point.
@@ -290,6 +322,7 @@ impl Levels {
         self.states.clear();
         self.front_from = 0;
         self.front_to = 0;
+        self.done = Done::none(0);
         self.first = 0;
         self.settled = 0;
         self.kept = 0;

@@ -1,8 +1,10 @@
 //! The states that a checker keeps for the points of a program.
 #![tactic(auto)]
 
+mod alike;
 mod batches;
 mod counting;
+mod done;
 mod gifts;
 mod levels;
 mod neutral;

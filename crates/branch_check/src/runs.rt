@@ -2,6 +2,7 @@
 
 ghost use Rattle.std.specs.Prelude.{◌<◌, ◌≤◌, length};
 
+use crate::alike::FEW_EDGES;
 use ot_base::Place;
 use program_defs::EdgeKind;
 use program_graph::Graph;
@@ -57,11 +58,18 @@ fn owner_end(graph: &Graph, from: u32) -> u32
     graph.points()
 }
 
-/// Whether states go from a point of a run, which has this owner, to code of another.
+/// Whether states go from a point of a run, which has this owner, to code of another. A point that has the edges of
+/// another one of its run isn't asked, as that one is.
 fn leads_away(graph: &Graph, n: u32, from: u32, end: u32, owner: Option<u32>) -> bool
     requires { n < length graph.now.parts.points.items }
 {
-    for edge in graph.successors(n) {
+    let edges = graph.successors(n);
+    if edges.len() > FEW_EDGES
+        && let Some(first) = graph.alike(n)
+    {
+        return first < from || end <= first;
+    }
+    for edge in edges {
         let is_inside = from <= edge.to && edge.to < end;
         if !is_inside && edge.kind != EdgeKind::Sibling && graph.owner(edge.to) != owner {
             return true;

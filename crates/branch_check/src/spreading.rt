@@ -14,10 +14,12 @@ ghost use Rattle.checker_defs.specs.Kept.{AreKeptStates, state_at};
 ghost use Rattle.program_graph.specs.Tells.{Tells};
 ghost use Rattle.branch_check.specs.Counted.{IsStateCount};
 ghost use Rattle.branch_check.specs.Batches.{AreFirst, InBatch, IsClean};
+ghost use Rattle.branch_check.specs.Done.{HaveGivenAll};
 ghost use Rattle.branch_check.specs.LevelStates.{StaysSame, at};
 ghost use Rattle.branch_check.specs.Ranks.{AreSpread};
 ghost use Rattle.branch_check.specs.Told.{HaveGiven};
 
+use crate::alike::giving_edges;
 use crate::batches::{offer_mixed_first, spread_batches};
 use crate::counting::count_states;
 use crate::gifts::{give_along, give_to_restore};
@@ -56,9 +58,11 @@ fn give(graph: &Graph, levels: &mut Levels, i: usize)
     requires points { length levels.old.kept ≡ length graph.now.parts.points.items }
     requires next { length levels.old.next.states ≡ length levels.old.kept }
     requires inside { i < length levels.old.front }
+    requires done { (p : Program) → Tells p graph.now.parts → HaveGivenAll p levels.old }
     requires given { (p : Program) → Tells p graph.now.parts → HaveGiven p levels.old i }
     ensures kept { levels.new.kept ≡ levels.old.kept }
     ensures front { levels.new.front ≡ levels.old.front }
+    ensures done { levels.new.done ≡ levels.old.done }
     ensures same { StaysSame levels.old levels.new }
     ensures next { length levels.new.next.states ≡ length levels.old.kept }
     ensures given { (p : Program) → Tells p graph.now.parts → HaveGiven p levels.new (i + 1) }
@@ -67,7 +71,7 @@ fn give(graph: &Graph, levels: &mut Levels, i: usize)
     if !levels.is_kept(a) {
         return;
     }
-    for edge in graph.successors(a) {
+    for edge in giving_edges(graph, levels, i, a) {
         give_along(graph, levels, a, *edge);
     }
     for restore in graph.restores(a) {
@@ -80,8 +84,10 @@ fn give_all(graph: &Graph, levels: &mut Levels)
     requires points { length levels.old.kept ≡ length graph.now.parts.points.items }
     requires next { length levels.old.next.states ≡ length levels.old.kept }
     requires none { (q : ℕ) → at levels.old.next.states q ≡ None }
+    requires done { (p : Program) → Tells p graph.now.parts → HaveGivenAll p levels.old }
     ensures kept { levels.new.kept ≡ levels.old.kept }
     ensures front { levels.new.front ≡ levels.old.front }
+    ensures done { levels.new.done ≡ levels.old.done }
     ensures same { StaysSame levels.old levels.new }
     ensures next { length levels.new.next.states ≡ length levels.old.kept }
     ensures given { (p : Program) → Tells p graph.now.parts → HaveGiven p levels.new (length levels.old.front) }
@@ -150,6 +156,8 @@ pub(crate) fn spread_levels(graph: &Graph, levels: &mut Levels)
     requires next { length levels.old.next.states ≡ length levels.old.kept }
     requires none { (q : ℕ) → at levels.old.next.states q ≡ None }
     requires front { All (λ q. q < length levels.old.kept) levels.old.front }
+    requires front_kept { (q : ℕ) → Contains levels.old.front q → IsSome (at levels.old.kept q) }
+    requires begins { levels.old.done ≡ [] }
     ensures points { length levels.new.kept ≡ length graph.now.parts.points.items }
     ensures next { length levels.new.next.states ≡ length levels.new.kept }
     ensures none { (q : ℕ) → at levels.new.next.states q ≡ None }
@@ -260,7 +268,7 @@ impl Kept {
 /// then for each further point the least state that is brought to it first.
 ///
 /// Each point and each edge is looked at once when the point is kept, and once before, to choose the batches; where batches
-/// meet, once more. No memory is taken.
+/// meet, once more. The edges of a point that has those of another mostly aren't. No memory is taken.
 pub fn spread(graph: &Graph, scratch: Scratch) -> Kept
     requires { scratch ≡ length graph.now.parts.points.items }
     ensures points { length result ≡ length graph.now.parts.points.items }

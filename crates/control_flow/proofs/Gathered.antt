@@ -1,12 +1,16 @@
 -- Exits, dead ends, entries and edges, of one point more.
-use Rattle.std.proofs.Common.{◌≡◌, ℕ, ◌+◌, ◌^◌, ◌<◌, ◌≤◌, Bool, List, [], ◌∷◌, ◌++◌, Option, Some, None, All, length, get_or, inl, inr, refl, sym, ap, ◌∙◌, subst, arith, length-append}
+use Rattle.std.proofs.Common.{◌≡◌, ℕ, ◌+◌, ◌-◌, ◌^◌, ◌<◌, ◌≤◌, Bool, List, [], ◌∷◌, ◌++◌, Option, Some, None, All, Contains, length, get_or, inl, inr, refl, sym, ap, ◌∙◌, subst, arith, length-append}
 use Rattle.std.specs.Prelude.{◌↔◌, IfSome, slice_index, slice_range}
 use Rattle.std.proofs.lemmas.Bool.{cases_lt}
 use Rattle.std.proofs.lemmas.List.{get_or_append_left, get_or_push, length_push}
-use Rattle.std.proofs.lemmas.List.Elements.{All-append, All-nil, All-push}
+use Rattle.std.specs.List.Sorted.{IsNonDecreasing}
+use Rattle.std.proofs.lemmas.List.Elements.{All-append, All-contains, All-get_or, All-nil, All-push, All-weaker, Contains-append_left, Contains-push, Contains-push_cases}
+use Rattle.std.proofs.lemmas.List.Sorted.{IsNonDecreasingBy-push, IsNonDecreasingBy-short}
 use Rattle.ot_base.specs.NameLists.{NameLists}
 use Rattle.flow_defs.specs.Coded.{Coded}
 use Rattle.program_defs.specs.declared.flow.Edge.{Edge}
+use Rattle.program_defs.specs.declared.flow.EdgeKind.TheVariants.{Table}
+use Rattle.program_defs.specs.Program.{edge}
 use Rattle.flow_defs.specs.Arrival.{is_dead_end}
 use Rattle.flow_defs.specs.Code.{point_at}
 use Rattle.flow_defs.specs.Edges.{goes}
@@ -16,7 +20,8 @@ use Rattle.return_search.specs.declared.flow.Exit.{Exit}
 use Rattle.return_search.specs.Told.{exit_of}
 use Rattle.return_search.proofs.Ranges.{range_new, range_push}
 use Rattle.point_entries.specs.Entered.{IsEnteredAt}
-use Rattle.control_flow.specs.Listed.{AreDeadEnds, AreEdges, AreEntered, AreExits, ExitCallsPoint, IsPointIfAny, count_of}
+use Rattle.control_flow.specs.Listed.{AreDeadEnds, AreEdges, AreEntered, AreExits, ExitCallsPoint, IsAlikeIn, IsPointIfAny, count_of}
+use Rattle.control_flow.specs.Lone.{HasEdgesOf}
 use Rattle.control_flow.proofs.Steps.{each_more}
 
 pub no_exits : (o : Coded) (lists : NameLists) → AreExits o lists [] 0
@@ -64,7 +69,7 @@ entered_more o entered n found are here known = record {
           subst (λ (x : Option ℕ). IsEnteredAt o entry q ↔ (x ≡ Some entry)) (sym at) (subst (λ (k : ℕ). IsEnteredAt o entry k ↔ (found ≡ Some entry)) (sym same) (here entry))
     ]
 
-pub no_edges : (o : Coded) → AreEdges o (0 ∷ []) [] 0
+pub no_edges : (o : Coded) → AreEdges o (0 ∷ []) [] [] 0
 no_edges o = record {
   long = omega arith;
   first = refl;
@@ -72,14 +77,48 @@ no_edges o = record {
   few = omega arith;
   ascending = λ q l. absurd (omega arith);
   within = λ q l. absurd (omega arith);
-  each = λ q l. absurd (omega arith);
+  each = λ q l own. absurd (omega arith);
+  alike_each = λ q l c. absurd (omega arith);
+  alike_below = All-nil (λ (q : ℕ). q < 0);
+  alike_ascend = IsNonDecreasingBy-short (λ (q : ℕ). q) [] (omega arith);
   targets = All-nil (λ (e : Edge). e.to < count_of o);
 }
 
-module _ (o : Coded) (starts : List ℕ) (edges : List Edge) (n : ℕ) (are : AreEdges o starts edges n) where
-  abbrev new : List Edge
-  new = goes o (point_at o n)
+-- what is listed of point n, behind those before it
+pub record IsNext (o : Coded) (alike grown : List ℕ) (n : ℕ) (new : List Edge) : Type 0 where
+  pub own : (Contains grown n → ⊥) → new ≡ goes o (point_at o n)
+  pub other : Contains grown n → (r : ℕ) × HasEdgesOf o grown n r × (new ≡ edge r Table ∷ [])
+  pub kept : (q : ℕ) → q < n → Contains grown q → Contains alike q
+  pub still : (q : ℕ) → Contains alike q → Contains grown q
+  pub below : All (λ q. q < n + 1) grown
+  pub ascend : IsNonDecreasing grown
+  pub inside : All (λ e. e.to < count_of o) new
 
+-- its own edges
+pub next_own : (o : Coded) (alike : List ℕ) (n : ℕ) → All (λ q. q < n) alike → IsNonDecreasing alike → All (λ e. e.to < count_of o) (goes o (point_at o n)) → IsNext o alike alike n (goes o (point_at o n))
+next_own o alike n below ascend inside = record {
+  own = λ own. refl;
+  other = λ c. absurd (let l : n < n = All-contains (λ (q : ℕ). q < n) alike n below c in omega arith);
+  kept = λ q l c. c;
+  still = λ q c. c;
+  below = All-weaker (λ (q : ℕ). q < n) (λ (q : ℕ). q < n + 1) (λ q l. omega arith) alike below;
+  ascend = ascend;
+  inside = inside;
+}
+
+-- the edge to the point whose edges it has
+pub next_alike : (o : Coded) (alike : List ℕ) (n r : ℕ) → All (λ q. q < n) alike → IsNonDecreasing alike → n < count_of o → HasEdgesOf o (alike ++ n ∷ []) n r → IsNext o alike (alike ++ n ∷ []) n (edge r Table ∷ [])
+next_alike o alike n r below ascend here has = record {
+  own = λ own. absurd (own (Contains-push alike n));
+  other = λ c. (r, has, refl);
+  kept = λ q l c. elim (Contains-push_cases alike n q c) [ inl old ↦ old | inr same ↦ absurd (omega arith) ];
+  still = λ q c. Contains-append_left alike (n ∷ []) q c;
+  below = All-push (λ (q : ℕ). q < n + 1) alike n (All-weaker (λ (q : ℕ). q < n) (λ (q : ℕ). q < n + 1) (λ q l. omega arith) alike below) (omega arith);
+  ascend = IsNonDecreasingBy-push (λ (q : ℕ). q) alike n ascend (λ d some. let l : get_or alike (length alike - 1) d < n = All-get_or (λ (q : ℕ). q < n) alike (length alike - 1) d (omega arith) below in omega arith);
+  inside = All-push (λ (e : Edge). e.to < count_of o) [] (edge r Table) (All-nil (λ (e : Edge). e.to < count_of o)) (let l : r < n = has.earlier in omega arith);
+}
+
+module _ (o : Coded) (starts : List ℕ) (edges : List Edge) (alike : List ℕ) (n : ℕ) (are : AreEdges o starts edges alike n) (grown : List ℕ) (new : List Edge) (next : IsNext o alike grown n new) where
   abbrev all_starts : List ℕ
   all_starts = starts ++ length (edges ++ new) ∷ []
 
@@ -114,14 +153,30 @@ module _ (o : Coded) (starts : List ℕ) (edges : List Edge) (n : ℕ) (are : Ar
       ap (λ (a : ℕ). slice_range (edges ++ new) a (slice_index all_starts (n + 1))) (start_old n (omega arith) ∙ are.end)
       ∙ (ap (slice_range (edges ++ new) (length edges)) start_new ∙ range_new edges new)
 
-  each : (q : ℕ) → q < n + 1 → slice_range (edges ++ new) (slice_index all_starts q) (slice_index all_starts (q + 1)) ≡ goes o (point_at o q)
-  each q l = elim (cases_lt q n) [
-    | inl less ↦ range_old q less ∙ are.each q less
-    | inr more ↦ let same : q ≡ n = omega arith in subst (λ (k : ℕ). slice_range (edges ++ new) (slice_index all_starts k) (slice_index all_starts (k + 1)) ≡ goes o (point_at o k)) (sym same) range_last
+  each : (q : ℕ) → q < n + 1 → (Contains grown q → ⊥) → slice_range (edges ++ new) (slice_index all_starts q) (slice_index all_starts (q + 1)) ≡ goes o (point_at o q)
+  each q l own = elim (cases_lt q n) [
+    | inl less ↦ range_old q less ∙ are.each q less (λ c. own (next.still q c))
+    | inr more ↦
+        let same : q ≡ n = omega arith in
+        subst (λ (k : ℕ). (Contains grown k → ⊥) → slice_range (edges ++ new) (slice_index all_starts k) (slice_index all_starts (k + 1)) ≡ goes o (point_at o k)) (sym same) (λ its. range_last ∙ next.own its) own
   ]
 
-  pub edges_more : length (edges ++ new) < 2 ^ 32 → All (λ e. e.to < count_of o) new → AreEdges o (starts ++ length (edges ++ new) ∷ []) (edges ++ new) (n + 1)
-  edges_more few inside = record {
+  later : (q r : ℕ) → q < n → HasEdgesOf o alike q r → HasEdgesOf o grown q r
+  later q r l has = record { earlier = has.earlier; own = λ c. has.own (next.kept r (let less : r < q = has.earlier in omega arith) c); go_alike = has.go_alike }
+
+  alike_each : (q : ℕ) → q < n + 1 → Contains grown q → (r : ℕ) × IsAlikeIn o all_starts (edges ++ new) grown q r
+  alike_each q l c = elim (cases_lt q n) [
+    | inl less ↦
+        let old = are.alike_each q less (next.kept q less c) in
+        (old.0, record { edges_of = later q old.0 less old.1.edges_of; listed = range_old q less ∙ old.1.listed })
+    | inr more ↦
+        let same : q ≡ n = omega arith in
+        subst (λ (k : ℕ). Contains grown k → (r : ℕ) × IsAlikeIn o all_starts (edges ++ new) grown k r) (sym same)
+        (λ its. let found = next.other its in (found.0, record { edges_of = found.1; listed = range_last ∙ found.2 })) c
+  ]
+
+  pub edges_more : length (edges ++ new) < 2 ^ 32 → AreEdges o (starts ++ length (edges ++ new) ∷ []) (edges ++ new) grown (n + 1)
+  edges_more few = record {
     long = omega (arith, length_push starts (length (edges ++ new)), are.long);
     first = start_old 0 (omega arith) ∙ are.first;
     end = start_new;
@@ -129,5 +184,8 @@ module _ (o : Coded) (starts : List ℕ) (edges : List Edge) (n : ℕ) (are : Ar
     ascending = ascending;
     within = within;
     each = each;
-    targets = All-append (λ (e : Edge). e.to < count_of o) edges new are.targets inside;
+    alike_each = alike_each;
+    alike_below = next.below;
+    alike_ascend = next.ascend;
+    targets = All-append (λ (e : Edge). e.to < count_of o) edges new are.targets next.inside;
   }

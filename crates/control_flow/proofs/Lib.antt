@@ -12,4 +12,6 @@ pub mod Meant
 pub mod Making
 pub mod Going
 pub mod Settling
+pub mod Alike
+pub mod Noted
 pub mod Whole

@@ -1,6 +1,11 @@
 -- A flow that has what is listed of the points tells their program.
-use Rattle.std.proofs.Common.{◌≡◌, ℕ, ◌^◌, ◌<◌, Bool, true, false, cond, Some, None, All, Contains, length, get_or, sym, ap, ◌∙◌, subst, arith}
+use Rattle.std.proofs.Common.{◌≡◌, ℕ, ◌^◌, ◌<◌, ◌⊎◌, inl, inr, Bool, true, false, cond, eqb, List, Some, None, All, Contains, length, get_or, refl, sym, ap, ◌∙◌, subst, arith}
 use Rattle.std.specs.Prelude.{◌↔◌, slice_index}
+use Rattle.std.specs.Cmp.{IsEquivalence}
+use Rattle.std.specs.List.{list_any}
+use Rattle.std.proofs.lemmas.Bool.{eq-eqb, eqb-true, false≢true}
+use Rattle.std.proofs.lemmas.Bool.Decides.{nat_tests}
+use Rattle.std.proofs.lemmas.Map.Views.{Contains-from_any, list_any-from_Contains}
 use Rattle.ot_base.specs.NameLists.{NameLists}
 use Rattle.flow_defs.specs.Coded.{Coded}
 use Rattle.program_defs.specs.declared.flow.Edge.{Edge}
@@ -8,6 +13,7 @@ use Rattle.program_defs.specs.declared.flow.Role.{Role}
 use Rattle.program_defs.specs.declared.flow.Role.TheVariants as roles
 use Rattle.program_defs.specs.Program.{IsPoint, Program, entry_points}
 use Rattle.flow_defs.specs.Code.{point_at}
+use Rattle.flow_defs.specs.Edges.{goes}
 use Rattle.flow_defs.specs.Program.{graph_of, program_of, returning_graph}
 use Rattle.flow_defs.specs.Roles.{role_of}
 use Rattle.flow_law.proofs.Entries as of_entries
@@ -15,7 +21,7 @@ use Rattle.return_search.specs.declared.flow.Exit.{Exit}
 use Rattle.return_search.specs.declared.flow.Exit.TheVariants as exits
 use Rattle.return_search.specs.declared.flow.Flow.{Flow}
 use Rattle.return_search.specs.Shape.{HasShape}
-use Rattle.return_search.specs.Told.{TellsFlow, exit_of, exit_at}
+use Rattle.return_search.specs.Told.{SharesEdges, TellsFlow, edges_from, exit_of, exit_at}
 use Rattle.control_flow.specs.Listed.{AreDeadEnds, AreEdges, AreEntered, AreExits, CallsPoint, ExitCallsPoint, IsPointIfAny, count_of}
 use Rattle.control_flow.proofs.Steps.{all_at}
 
@@ -39,8 +45,24 @@ exit_calls p roles.Switch entry e = absurd (let k : ⊥ = cc in k)
 pub exit_calls_point : (o : Coded) (p : Program) (role : Role) (exit : Exit) → exit ≡ exit_of p role → CallsPoint o role → ExitCallsPoint o exit
 exit_calls_point o p role exit is known entry e = known entry (exit_calls p role entry (sym is ∙ e))
 
-module _ (o : Coded) (lists : NameLists) (flow : Flow)
-    (edges : AreEdges o flow.starts.items flow.edges.items (count_of o))
+symmetric : (a b : ℕ) → eqb a b ≡ eqb b a
+symmetric a b = grind (arith, nat_tests)
+
+congruent : (a b c : ℕ) → eqb a b ≡ true → eqb a c ≡ eqb b c
+congruent a b c h = grind (arith, nat_tests)
+
+eqb_equiv : IsEquivalence eqb
+eqb_equiv = record { refl = λ a. eq-eqb a a refl; symm = symmetric; congr = congruent }
+
+-- a number is in a list or not
+is_in : (xs : List ℕ) (q : ℕ) → Contains xs q ⊎ (Contains xs q → ⊥)
+is_in xs q = elim (list_any (eqb q) xs) as (λ b. list_any (eqb q) xs ≡ b → Contains xs q ⊎ (Contains xs q → ⊥)) [
+  | true ↦ λ is. inl (Contains-from_any eqb-true q xs is)
+  | false ↦ λ isnt. inr (λ c. false≢true (sym isnt ∙ list_any-from_Contains eqb_equiv q xs c))
+] refl
+
+module _ (o : Coded) (lists : NameLists) (flow : Flow) (alike : List ℕ)
+    (edges : AreEdges o flow.starts.items flow.edges.items alike (count_of o))
     (leave : AreExits o lists flow.exits.items (count_of o))
     (dead : AreDeadEnds o flow.dead_ends.items (count_of o))
     (entered : AreEntered o flow.entered.items (count_of o)) where
@@ -57,11 +79,33 @@ module _ (o : Coded) (lists : NameLists) (flow : Flow)
     λ e. ((entered.each q entry here).1 e).stands,
   )
 
+  edges_shared : (q : ℕ) → q < count_of o → Contains alike q → (r : ℕ) × SharesEdges (program_of o lists) flow q r
+  unfolding program_of returning_graph graph_of
+  edges_shared q here c =
+      let (r, is) = edges.alike_each q here c in
+      let there : r < count_of o = (let l : r < q = is.edges_of.earlier in omega arith) in (
+        r,
+        record {
+          point = there;
+          own = sym (edges.each r there is.edges_of.own);
+          same = is.edges_of.go_alike.edges;
+          tables = is.edges_of.go_alike.tables;
+          passes = sym (exit_is r there) ∙ ap (exit_of (program_of o lists)) is.edges_of.go_alike.other_role;
+          listed = is.listed;
+        },
+      )
+
+  edges_are : (q : ℕ) → q < count_of o → (goes o (point_at o q) ≡ edges_from flow q) ⊎ ((r : ℕ) × SharesEdges (program_of o lists) flow q r)
+  edges_are q here = elim (is_in alike q) [
+    | inl c ↦ inr (edges_shared q here c)
+    | inr own ↦ inl (sym (edges.each q here own))
+  ]
+
   pub tells_flow : TellsFlow (program_of o lists) flow
   unfolding program_of returning_graph graph_of
   tells_flow = record {
     count = sym flow_count;
-    edges = λ q here. sym (edges.each q here);
+    edges = λ q here. edges_are q here;
     exits = λ q here. exit_is q here;
     dead_ends = λ q here. sym (dead.each q false here);
     entered = λ call entry q at calls here. entered_is call entry q at calls here;

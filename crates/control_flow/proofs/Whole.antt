@@ -1,12 +1,18 @@
 -- The parts of a graph tell the program of an object.
-use Rattle.std.proofs.Common.{◌≡◌, ℕ, ◌+◌, ◌^◌, ◌<◌, ◌≤◌, false, List, Some, All, length, map, sym, ap, ◌∙◌, subst, arith}
+use Rattle.std.proofs.Common.{◌≡◌, ℕ, zero, suc, ◌+◌, ◌-◌, ◌^◌, ◌<◌, ◌≤◌, false, cond, List, [], ◌∷◌, Some, All, Contains, length, get_or, map, filter, take, drop, refl, sym, ap, ◌∙◌, subst, arith}
 use Rattle.std.specs.Prelude.{slice_get, slice_index, slice_index_or, slice_range}
 use Rattle.std.proofs.lemmas.Option.{get_or_from_slice_get, slice_get_within}
+use Rattle.std.proofs.lemmas.List.{get_or-drop}
+use Rattle.std.proofs.lemmas.List.Elements.{All-head, All-tail}
 use Rattle.ot_base.specs.NameLists.{NameLists}
 use Rattle.flow_defs.specs.Coded.{Coded}
 use Rattle.program_defs.specs.declared.flow.Edge.{Edge}
+use Rattle.program_defs.specs.declared.flow.EdgeKind.TheVariants.{Table}
 use Rattle.program_defs.specs.MayReturn.{target_may_return}
+use Rattle.program_defs.specs.Program.{Program, edge}
+use Rattle.checker_defs.specs.Kept.{can_go, edges_of}
 use Rattle.flow_defs.specs.Code.{point_at}
+use Rattle.flow_defs.specs.Edges.{goes}
 use Rattle.flow_defs.specs.Hints.{is_restore}
 use Rattle.flow_defs.specs.Marks.{marks_of}
 use Rattle.flow_defs.specs.Program.{comes_back, graph_of, program_of, returning_graph, text_sections_of, unsized_of}
@@ -18,13 +24,14 @@ use Rattle.program_graph.specs.declared.parts.Owner.{Owner}
 use Rattle.program_graph.specs.declared.parts.Point.{Point}
 use Rattle.program_graph.specs.declared.parts.Rare.{Rare}
 use Rattle.program_graph.specs.declared.parts.Transfer.{Transfer}
-use Rattle.program_graph.specs.Shape.{HaveShape}
+use Rattle.program_graph.specs.Shape.{HaveShape, IsAlike, first_target, listed_of, start_of}
 use Rattle.program_graph.specs.Tells.{Means, Tells, TellsHinted, TellsOwner, TellsPoint, TellsRare, TellsTransfer, TellsUnhinted, site_of, text_of}
 use Rattle.return_search.specs.declared.returns.Returns.{Returns}
 use Rattle.return_search.specs.Shape.{HaveShape as HaveReturnShape}
-use Rattle.return_search.specs.Told.{TellsReturns}
 use Rattle.point_fields.specs.Owners.{IsOwnerBy}
-use Rattle.control_flow.specs.Listed.{count_of}
+use Rattle.control_flow.specs.Listed.{AreEdges, count_of}
+use Rattle.control_flow.specs.Lone.{HasEdgesOf}
+use Rattle.control_flow.specs.Returns.{AreReturns}
 use Rattle.control_flow.specs.Hinted.{IsHinted, IsMeant, IsUnhinted}
 use Rattle.control_flow.specs.Numbers.{HaveNumbers}
 use Rattle.control_flow.specs.Points.{AreMade}
@@ -34,22 +41,39 @@ use Rattle.control_flow.proofs.Fields.{comes_back_is}
 use Rattle.control_flow.proofs.Meant.{meant_has_hint}
 use Rattle.control_flow.proofs.Numbering.{numbered_at, numbered_inside}
 
+-- an edge of a table is none that a call drops
+tables_stay : (p : Program) (q : ℕ) (es : List Edge) → All (λ e. e.kind ≡ Table) es → filter (λ e. can_go p q e.kind) es ≡ es
+tables_stay p q [] tables = refl
+tables_stay p q (e ∷ es) tables =
+    ap (λ kind. cond (can_go p q kind) (e ∷ filter (λ x. can_go p q x.kind) es) (filter (λ x. can_go p q x.kind) es)) (All-head (λ (x : Edge). x.kind ≡ Table) e es tables)
+    ∙ ap (λ xs. e ∷ xs) (tables_stay p q es (All-tail (λ (x : Edge). x.kind ≡ Table) e es tables))
+
+first_taken : {X : Type 0} (n : ℕ) (xs : List X) (x d : X) → take n xs ≡ x ∷ [] → get_or xs 0 d ≡ x
+first_taken zero xs x d is = cc
+first_taken (suc n) [] x d is = cc
+first_taken (suc n) (y ∷ ys) x d is = let own : get_or (take (suc n) (y ∷ ys)) 0 d ≡ x = ap (λ zs. get_or zs 0 d) is in own
+
+-- what stands first in a part of a list
+first_in_range : {X : Type 0} (xs : List X) (a b : ℕ) (x d : X) → slice_range xs a b ≡ x ∷ [] → get_or xs a d ≡ x
+first_in_range xs a b x d is = ap (λ (k : ℕ). get_or xs k d) (let same : a ≡ a + 0 = omega arith in same) ∙ sym (get_or-drop a xs 0 d) ∙ first_taken (b - a) (drop a xs) x d is
+
 -- the parts are what is listed of the object's points
-pub record AreParts (o : Coded) (lists : NameLists) (parts : GraphParts) (returns : Returns) (rare_numbers transfer_numbers : List ℕ) : Type 0 where
+pub record AreParts (o : Coded) (lists : NameLists) (parts : GraphParts) (returns : Returns) (starts : List ℕ) (edges : List Edge) (rare_numbers transfer_numbers : List ℕ) : Type 0 where
   pub few : length parts.points.items < 2 ^ 32
   pub points : AreMade o parts.owners.items returns rare_numbers transfer_numbers parts.points.items (count_of o)
   pub transfers : HaveNumbers (IsTransferOf o returns) parts.transfers.items transfer_numbers (count_of o)
   pub rares : AreRares o parts.restores.items parts.rares.items parts.hinted.items rare_numbers (count_of o)
   pub returns_shape : HaveReturnShape (count_of o) returns
-  pub returns_told : TellsReturns (program_of o lists) returns
-  pub starts : parts.starts.items ≡ returns.starts.items
-  pub edges : parts.edges.items ≡ returns.edges.items
+  pub listed : AreEdges o starts edges parts.alike.items (count_of o)
+  pub returns_told : AreReturns o lists starts edges returns
+  pub parts_starts : parts.starts.items ≡ returns.starts.items
+  pub parts_edges : parts.edges.items ≡ returns.edges.items
   pub restores : All (λ r. r < count_of o) parts.restores.items
   pub sites : map site_of parts.sites.items ≡ sites_of o
   pub texts : map text_of parts.texts.items ≡ text_sections_of o.elf
   pub without_size : parts.without_size.items ≡ unsized_of o.elf
 
-module _ (o : Coded) (lists : NameLists) (parts : GraphParts) (returns : Returns) (rares transfers : List ℕ) (are : AreParts o lists parts returns rares transfers) where
+module _ (o : Coded) (lists : NameLists) (parts : GraphParts) (returns : Returns) (starts : List ℕ) (edges : List Edge) (rares transfers : List ℕ) (are : AreParts o lists parts returns starts edges rares transfers) where
   -- what a point has that few have
   abbrev HasRare : ℕ → Rare → Type 0
   HasRare = IsRareOf o parts.restores.items parts.hinted.items
@@ -97,11 +121,11 @@ module _ (o : Coded) (lists : NameLists) (parts : GraphParts) (returns : Returns
 
   marks_are : (q : ℕ) → q < count_of o → slice_index_or returns.comes_back.items q false ≡ comes_back o lists (point_at o q)
   unfolding program_of returning_graph graph_of
-  marks_are q here = get_or_from_slice_get returns.comes_back.items q (target_may_return (program_of o lists) ((program_of o lists).role q)) false (are.returns_told.comes_back q here) ∙ comes_back_is o lists q
+  marks_are q here = get_or_from_slice_get returns.comes_back.items q (target_may_return (program_of o lists) ((program_of o lists).role q)) false (are.returns_told.told.comes_back q here) ∙ comes_back_is o lists q
 
   returns_are : (q : ℕ) → q < count_of o → slice_index_or returns.may_return.items q false ≡ (program_of o lists).may_return q
   unfolding program_of returning_graph graph_of
-  returns_are q here = get_or_from_slice_get returns.may_return.items q ((program_of o lists).may_return q) false (are.returns_told.may_return q here)
+  returns_are q here = get_or_from_slice_get returns.may_return.items q ((program_of o lists).may_return q) false (are.returns_told.told.may_return q here)
 
   tells_transfer : (q : ℕ) (x : Transfer) → q < count_of o → IsTransferOf o returns q x → TellsTransfer (program_of o lists) q x
   unfolding program_of returning_graph graph_of
@@ -127,21 +151,57 @@ module _ (o : Coded) (lists : NameLists) (parts : GraphParts) (returns : Returns
         rare = λ r own. tells_rare q r (numbered_at HasRare parts.rares.items rares (count_of o) q x.rare r are.rares.numbered.have here is.rare_number own);
       }
 
+  -- the edges of a point in the graph are those that are listed of it, but for the Next of a call that can't come back
+  listed_is : (q : ℕ) → q < count_of o → listed_of parts q ≡ filter (λ e. can_go (program_of o lists) q e.kind) (slice_range edges (slice_index starts q) (slice_index starts (q + 1)))
+  unfolding program_of returning_graph graph_of
+  listed_is q here =
+      ap (λ (ss : List ℕ). slice_range parts.edges.items (slice_index ss q) (slice_index ss (q + 1))) are.parts_starts
+      ∙ ap (λ (es : List Edge). slice_range es (slice_index returns.starts.items q) (slice_index returns.starts.items (q + 1))) are.parts_edges
+      ∙ are.returns_told.told.edges q here
+      ∙ ap (λ (ss : List ℕ). filter (λ e. can_go (program_of o lists) q e.kind) (slice_range are.returns_told.flow.edges.items (slice_index ss q) (slice_index ss (q + 1)))) are.returns_told.flow_starts
+      ∙ ap (λ (es : List Edge). filter (λ e. can_go (program_of o lists) q e.kind) (slice_range es (slice_index starts q) (slice_index starts (q + 1)))) are.returns_told.flow_edges
+
+  own_edges : (q : ℕ) → q < count_of o → (Contains parts.alike.items q → ⊥) → edges_of (program_of o lists) q ≡ listed_of parts q
+  unfolding program_of returning_graph graph_of
+  own_edges q here own = sym (listed_is q here ∙ ap (filter (λ e. can_go (program_of o lists) q e.kind)) (are.listed.each q here own))
+
+  first_of : (q : ℕ) → q < count_of o → Contains parts.alike.items q → (r : ℕ) × HasEdgesOf o parts.alike.items q r × (listed_of parts q ≡ edge r Table ∷ [])
+  first_of q here c =
+      let (r, is) = are.listed.alike_each q here c in
+      (r, is.edges_of, listed_is q here ∙ ap (filter (λ e. can_go (program_of o lists) q e.kind)) is.listed)
+
+  same_edges : (q r : ℕ) → HasEdgesOf o parts.alike.items q r → edges_of (program_of o lists) q ≡ edges_of (program_of o lists) r
+  unfolding program_of returning_graph graph_of
+  same_edges q r has =
+      let go = has.go_alike in
+      ap (filter (λ e. can_go (program_of o lists) q e.kind)) go.edges
+      ∙ tables_stay (program_of o lists) q (goes o (point_at o r)) go.tables
+      ∙ sym (tables_stay (program_of o lists) r (goes o (point_at o r)) go.tables)
+
+  alike_edges : (q r : ℕ) → q < count_of o → Contains parts.alike.items q → IsAlike parts q r → edges_of (program_of o lists) q ≡ edges_of (program_of o lists) r
+  alike_edges q r here c is =
+      let first = first_of q here c in
+      let one : edge first.0 Table ∷ [] ≡ edge r Table ∷ [] = sym first.2 ∙ is.edge in
+      let same : first.0 ≡ r = ap (λ (es : List Edge). (get_or es 0 (edge 0 Table)).to) one in
+      subst (λ (k : ℕ). edges_of (program_of o lists) q ≡ edges_of (program_of o lists) k) same (same_edges q first.0 first.1)
+
+  is_alike : (q : ℕ) → q < count_of o → Contains parts.alike.items q → IsAlike parts q (first_target parts q)
+  is_alike q here c =
+      let first = first_of q here c in
+      let at : first_target parts q ≡ first.0 = ap (λ (e : Edge). e.to) (first_in_range parts.edges.items (start_of parts q) (start_of parts (q + 1)) (edge first.0 Table) (edge 0 Table) first.2) in
+      subst (IsAlike parts q) (sym at) (record { own = first.1.own; edge = first.2 })
+
   pub parts_tell : Tells (program_of o lists) parts
   unfolding program_of returning_graph graph_of
   parts_tell = record {
     count = sym are.points.long;
     points = tells_point;
-    edges = λ q here. are.returns_told.edges q here ∙ same_range q;
+    edges = λ q here own. own_edges q here own;
+    alike = λ q r here c is. alike_edges q r here c is;
     sites = sym are.sites;
     texts = sym are.texts;
     unsized = sym are.without_size;
   }
-    where
-      same_range : (q : ℕ) → slice_range returns.edges.items (slice_index returns.starts.items q) (slice_index returns.starts.items (q + 1)) ≡ slice_range parts.edges.items (slice_index parts.starts.items q) (slice_index parts.starts.items (q + 1))
-      same_range q =
-          ap (λ (starts : List ℕ). slice_range returns.edges.items (slice_index starts q) (slice_index starts (q + 1))) (sym are.starts)
-          ∙ ap (λ es. slice_range es (slice_index parts.starts.items q) (slice_index parts.starts.items (q + 1))) (sym are.edges)
 
   pub parts_have_shape : HaveShape parts
   parts_have_shape = record {
@@ -152,10 +212,12 @@ module _ (o : Coded) (lists : NameLists) (parts : GraphParts) (returns : Returns
     hinted = λ q h x r at own number.
         let is = numbered_at HasRare parts.rares.items rares (count_of o) q x.rare r are.rares.numbered.have (inside q x at) (are.points.each q x at).rare_number own in
         is.known.inside h number;
-    starts = omega (arith, ap length are.starts, are.returns_shape.starts, are.points.long);
-    ascending = λ q l. subst (λ (starts : List ℕ). slice_index starts q ≤ slice_index starts (q + 1)) (sym are.starts) (are.returns_shape.ascending q (omega (arith, are.points.long)));
-    within = λ q l. subst (λ (starts : List ℕ). slice_index starts (q + 1) ≤ length parts.edges.items) (sym are.starts) (omega (arith, are.returns_shape.within q (omega (arith, are.points.long)), ap length are.edges));
+    starts = omega (arith, ap length are.parts_starts, are.returns_shape.starts, are.points.long);
+    ascending = λ q l. subst (λ (starts : List ℕ). slice_index starts q ≤ slice_index starts (q + 1)) (sym are.parts_starts) (are.returns_shape.ascending q (omega (arith, are.points.long)));
+    within = λ q l. subst (λ (starts : List ℕ). slice_index starts (q + 1) ≤ length parts.edges.items) (sym are.parts_starts) (omega (arith, are.returns_shape.within q (omega (arith, are.points.long)), ap length are.parts_edges));
+    alike_ascend = are.listed.alike_ascend;
+    alike = λ q l c. is_alike q (omega (arith, are.points.long)) c;
     restored = are.rares.ranges;
-    targets = subst (λ (n : ℕ). All (λ (e : Edge). e.to < n) parts.edges.items) (sym are.points.long) (subst (All (λ (e : Edge). e.to < count_of o)) (sym are.edges) are.returns_shape.targets);
+    targets = subst (λ (n : ℕ). All (λ (e : Edge). e.to < n) parts.edges.items) (sym are.points.long) (subst (All (λ (e : Edge). e.to < count_of o)) (sym are.parts_edges) are.returns_shape.targets);
     restores = subst (λ (n : ℕ). All (λ r. r < n) parts.restores.items) (sym are.points.long) are.restores;
   }

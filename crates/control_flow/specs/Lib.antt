@@ -1,4 +1,7 @@
 pub mod Listed
+pub mod Lone
+pub mod Found
+pub mod Returns
 pub mod Hinted
 pub mod Numbers
 pub mod Points

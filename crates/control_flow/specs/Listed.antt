@@ -1,10 +1,13 @@
 -- What is listed of the points of an object, by their numbers.
-use Rattle.std.specs.Prelude.{◌≡◌, ◌↔◌, ◌+◌, ◌^◌, ◌<◌, ◌≤◌, ℕ, Bool, List, Option, Some, None, All, length, slice_index, slice_index_or, slice_range}
+use Rattle.std.specs.Prelude.{◌≡◌, ◌↔◌, ◌+◌, ◌^◌, ◌<◌, ◌≤◌, ℕ, Bool, List, [], ◌∷◌, Option, Some, None, All, Contains, length, slice_index, slice_index_or, slice_range}
+use Rattle.std.specs.List.Sorted.{IsNonDecreasing}
 use Rattle.ot_base.specs.NameLists.{NameLists}
 use Rattle.flow_defs.specs.Coded.{Coded}
 use Rattle.program_defs.specs.declared.flow.Edge.{Edge}
+use Rattle.program_defs.specs.declared.flow.EdgeKind.TheVariants.{Table}
 use Rattle.program_defs.specs.declared.flow.Role.{Role}
 use Rattle.program_defs.specs.declared.flow.Role.TheVariants.{CallIn}
+use Rattle.program_defs.specs.Program.{edge}
 use Rattle.flow_defs.specs.Arrival.{is_dead_end}
 use Rattle.flow_defs.specs.Code.{point_at, points_of_object}
 use Rattle.flow_defs.specs.Edges.{goes}
@@ -14,6 +17,7 @@ use Rattle.return_search.specs.declared.flow.Exit.{Exit}
 use Rattle.return_search.specs.declared.flow.Exit.TheVariants.{Calls}
 use Rattle.return_search.specs.Told.{exit_of}
 use Rattle.point_entries.specs.Entered.{IsEnteredAt}
+use Rattle.control_flow.specs.Lone.{HasEdgesOf}
 
 -- how many points an object has
 abbrev pub count_of : Coded → ℕ
@@ -48,13 +52,22 @@ pub record AreEntered (o : Coded) (entered : List (Option ℕ)) (n : ℕ) : Type
   pub each : (q entry : ℕ) → q < n → IsEnteredAt o entry q ↔ (slice_index_or entered q None ≡ Some entry)
   pub known : All (IsPointIfAny o) entered
 
--- the edges of the first n points, one point's behind another's, and where those of each begin and end
-pub record AreEdges (o : Coded) (starts : List ℕ) (edges : List Edge) (n : ℕ) : Type 0 where
+-- What is listed of point q says that it has the edges of another: one edge, which leads there.
+pub record IsAlikeIn (o : Coded) (starts : List ℕ) (edges : List Edge) (alike : List ℕ) (q r : ℕ) : Type 0 where
+  pub edges_of : HasEdgesOf o alike q r
+  pub listed : slice_range edges (slice_index starts q) (slice_index starts (q + 1)) ≡ edge r Table ∷ []
+
+-- The edges of the first n points, one point's behind another's, and where those of each begin and end. Points that are listed
+-- as alike have the edges of others.
+pub record AreEdges (o : Coded) (starts : List ℕ) (edges : List Edge) (alike : List ℕ) (n : ℕ) : Type 0 where
   pub long : length starts ≡ n + 1
   pub first : slice_index starts 0 ≡ 0
   pub end : slice_index starts n ≡ length edges
   pub few : length edges < 2 ^ 32
   pub ascending : (q : ℕ) → q < n → slice_index starts q ≤ slice_index starts (q + 1)
   pub within : (q : ℕ) → q < n → slice_index starts (q + 1) ≤ length edges
-  pub each : (q : ℕ) → q < n → slice_range edges (slice_index starts q) (slice_index starts (q + 1)) ≡ goes o (point_at o q)
+  pub each : (q : ℕ) → q < n → (Contains alike q → ⊥) → slice_range edges (slice_index starts q) (slice_index starts (q + 1)) ≡ goes o (point_at o q)
+  pub alike_each : (q : ℕ) → q < n → Contains alike q → (r : ℕ) × IsAlikeIn o starts edges alike q r
+  pub alike_below : All (λ q. q < n) alike
+  pub alike_ascend : IsNonDecreasing alike
   pub targets : All (λ e. e.to < count_of o) edges

@@ -38,6 +38,7 @@ fn parts_of(
     let object = places.linked().object();
     let Outgoing {
         edges,
+        alike,
         exits,
         transfers,
     } = list_outgoing(alloc, points, lists)?;
@@ -66,6 +67,7 @@ fn parts_of(
         points: made,
         starts: returns.starts,
         edges: returns.edges,
+        alike,
         owners: owners.into_owners(),
         transfers: transfer_list.transfers,
         rares,
@@ -93,8 +95,9 @@ fn graph_of(
 /// The control-flow graph of an object whose code is read, where functions, lists of places and static branches are in
 /// order.
 ///
-/// Names that never return are those of the lists. Each point is looked at a few times, and each edge. Beside the graph it
-/// takes some 40 bytes a point and up to 16 an edge, and gives them back.
+/// Names that never return are those of the lists. Each point is looked at a few times, and each edge. Edges of jumps that
+/// share a table stand once, where the jumps go nowhere else and stand outside of alternatives sites. Beside the graph it takes
+/// some 40 bytes a point and up to 16 an edge, and gives them back.
 ///
 /// # Errors
 ///

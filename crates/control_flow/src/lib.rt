@@ -4,6 +4,7 @@
 mod graph;
 mod hinted;
 mod listed;
+mod lone_jumps;
 mod low;
 mod numbers;
 mod order;

@@ -1,20 +1,25 @@
 //! Where control goes from the points, found by one look at each of them.
 
-ghost use Rattle.std.specs.Prelude.{◌≡◌, ◌<◌, ◌^◌, ◌++◌, All, IfOk, OnOk, true};
+ghost use Rattle.std.specs.Prelude.{◌≡◌, ◌+◌, ◌<◌, ◌^◌, ◌++◌, ℕ, List, All, IfOk, OnOk, true};
+ghost use Rattle.flow_defs.specs.Arrival.{insn_of_object};
 ghost use Rattle.flow_defs.specs.Code.{point_at};
 ghost use Rattle.flow_defs.specs.Edges.{goes};
 ghost use Rattle.flow_defs.specs.Program.{program_of};
 ghost use Rattle.flow_defs.specs.Roles.{role_of};
 ghost use Rattle.return_search.specs.Told.{exit_of};
+ghost use Rattle.control_flow.specs.Found.{IsExit, IsFound, IsKept, IsListed};
 ghost use Rattle.control_flow.specs.Listed.{AreEdges, AreExits, ExitCallsPoint, count_of};
+ghost use Rattle.control_flow.specs.Lone.{AreLoneJumps};
 ghost use Rattle.control_flow.specs.Numbers.{AreNumbered};
 ghost use Rattle.point_arrivals.specs.Straight.{IsStraight};
 ghost use Rattle.control_flow.specs.Transfers.{IsTransfer, IsTransferIfBack};
 
 use crate::listed::{count_points, exit};
+use crate::lone_jumps::LoneJumps;
 use crate::transfers::{TransferList, USUAL, number_transfer, transfer_of};
 use branch_ways::branch_at;
 use flow_points::FlowPoints;
+use operation_defs::Insn;
 use ot_base::{Lists, NoMemory};
 use point_edges::push_edges;
 use point_roles::role;
@@ -28,7 +33,7 @@ use std::alloc::Global;
 pub(crate) struct EdgeList {
     /// Where the edges of each point begin, and once more where the last end.
     pub(crate) starts: Vec<u32>,
-    /// The edges, in the order of the points.
+    /// The edges, in the order of the points. A point that has the edges of another has one, which leads to that.
     pub(crate) edges: Vec<Edge>,
 }
 
@@ -37,6 +42,8 @@ pub(crate) struct EdgeList {
 pub(crate) struct Outgoing {
     /// Their edges.
     pub(crate) edges: EdgeList,
+    /// The points that have the edges of another, ascending.
+    pub(crate) alike: Vec<u32>,
     /// What they are to a return.
     pub(crate) exits: Vec<Exit>,
     /// Their transfers, where every call can come back.
@@ -45,11 +52,11 @@ pub(crate) struct Outgoing {
 
 /// What is found of a point beside its edges.
 #[derive(Clone, Copy)]
-struct Found {
-    /// What it is to a return.
-    exit: Exit,
-    /// Its transfer, where a call there can come back.
-    transfer: Transfer,
+enum Found {
+    /// What it is to a return, and its transfer, where a call there can come back.
+    Own { exit: Exit, transfer: Transfer },
+    /// It goes like this earlier point.
+    Alike { first: u32 },
 }
 
 /// Pushes the edges of a straight point: one to the point with the next number, unless it isn't checked.
@@ -71,30 +78,52 @@ fn push_below(
     Ok(())
 }
 
-/// Pushes the edges of a point of any kind, and finds what else there is of it.
-#[inline(never)]
+/// Pushes the edges of a point of any kind with this instruction, and finds what else there is of it.
 fn look_around(
     alloc: Global,
     points: &FlowPoints<'_, '_, '_>,
     lists: &Lists,
     n: u32,
+    insn: Insn,
     edges: &mut Vec<Edge>,
 ) -> Result<Found, NoMemory>
-    requires { n < count_of points.now }
-    ensures pushed { OnOk result (edges.new.items ≡ edges.old.items ++ goes points.now (point_at points.now n)) }
-    ensures inside { OnOk result (All (λ e. e.to < count_of points.now) (goes points.now (point_at points.now n))) }
-    ensures exit { IfOk result (λ found. found.exit ≡ exit_of (program_of points.now lists.now) (role_of points.now (point_at points.now n))) }
-    ensures known { IfOk result (λ found. ExitCallsPoint points.now found.exit) }
-    ensures transfer { IfOk result (λ found. IsTransfer points.now n true found.transfer) }
+    requires point { n < count_of points.now }
+    requires insn { insn ≡ insn_of_object points.now (point_at points.now n) }
+    ensures listed { IfOk result (λ found. (alike : List ℕ) → IsListed points.now n edges.old.items edges.new.items alike alike found) }
+    ensures found { IfOk result (IsFound points.now lists.now n) }
 {
-    let insn = points.arrivals().insn(alloc, n)?;
     let branch = branch_at(points.places(), n, insn);
     let role = role(points, n, insn, branch);
     push_edges(alloc, points, n, insn, branch, edges)?;
-    Ok(Found {
+    Ok(Found::Own {
         exit: exit(points.places().linked(), lists, role),
         transfer: transfer_of(points, n, insn, branch, role),
     })
+}
+
+/// Pushes the edges of a point of any kind, or one to an earlier one that it goes like, and finds what else there is of it.
+#[inline(never)]
+fn look_for_jumps(
+    alloc: Global,
+    points: &FlowPoints<'_, '_, '_>,
+    lists: &Lists,
+    n: u32,
+    edges: &mut Vec<Edge>,
+    jumps: &mut LoneJumps,
+) -> Result<Found, NoMemory>
+    requires point { n < count_of points.now }
+    requires jumps { AreLoneJumps points.now jumps.old n }
+    ensures jumps { OnOk result (AreLoneJumps points.now jumps.new (n + 1)) }
+    ensures listed { IfOk result (IsListed points.now n edges.old.items edges.new.items jumps.old.alike.items jumps.new.alike.items) }
+    ensures found { IfOk result (IsFound points.now lists.now n) }
+{
+    let insn = points.arrivals().insn(alloc, n)?;
+    let Some(first) = jumps.note(points, n, insn)? else {
+        return look_around(alloc, points, lists, n, insn, edges);
+    };
+    let kind = EdgeKind::Table;
+    edges.push(Edge { to: first, kind })?;
+    Ok(Found::Alike { first })
 }
 
 /// Pushes the edges of a point, and finds what else there is of it.
@@ -104,32 +133,70 @@ fn look(
     lists: &Lists,
     n: u32,
     edges: &mut Vec<Edge>,
+    jumps: &mut LoneJumps,
 ) -> Result<Found, NoMemory>
     requires point { n < count_of points.now }
     requires few { count_of points.now < 2 ^ 32 }
-    ensures pushed { OnOk result (edges.new.items ≡ edges.old.items ++ goes points.now (point_at points.now n)) }
-    ensures inside { OnOk result (All (λ e. e.to < count_of points.now) (goes points.now (point_at points.now n))) }
-    ensures exit { IfOk result (λ found. found.exit ≡ exit_of (program_of points.now lists.now) (role_of points.now (point_at points.now n))) }
-    ensures known { IfOk result (λ found. ExitCallsPoint points.now found.exit) }
-    ensures transfer { IfOk result (λ found. IsTransfer points.now n true found.transfer) }
+    requires jumps { AreLoneJumps points.now jumps.old n }
+    ensures jumps { OnOk result (AreLoneJumps points.now jumps.new (n + 1)) }
+    ensures listed { IfOk result (IsListed points.now n edges.old.items edges.new.items jumps.old.alike.items jumps.new.alike.items) }
+    ensures found { IfOk result (IsFound points.now lists.now n) }
 {
     if !points.arrivals().is_straight(n) {
-        return look_around(alloc, points, lists, n, edges);
+        return look_for_jumps(alloc, points, lists, n, edges, jumps);
     }
     push_below(points, n, edges)?;
-    Ok(Found {
+    Ok(Found::Own {
         exit: Exit::Passes,
         transfer: USUAL,
     })
 }
 
+/// What is kept of a point beside its edges.
+#[derive(Clone, Copy)]
+struct Kept {
+    /// What it is to a return.
+    exit: Exit,
+    /// The number of its transfer.
+    number: u32,
+}
+
+/// What is kept of a point of which this is found, where those before it have these numbers of transfers.
+fn keep(
+    points: &FlowPoints<'_, '_, '_>,
+    lists: &Lists,
+    n: u32,
+    found: Found,
+    transfers: &mut Vec<Transfer>,
+    numbers: &[u32],
+) -> Result<Kept, NoMemory>
+    requires point { n < count_of points.now }
+    requires few { count_of points.now < 2 ^ 32 }
+    requires found { IsFound points.now lists.now n found }
+    requires numbered { AreNumbered (IsTransferIfBack points.now) transfers.old.items numbers.now n }
+    ensures { IfOk result (λ kept. IsKept points.now lists.now n transfers.old.items transfers.new.items kept.exit kept.number) }
+{
+    match found {
+        Found::Own { exit, transfer } => Ok(Kept {
+            exit,
+            number: number_transfer(transfers, transfer)?,
+        }),
+        Found::Alike { first } => Ok(Kept {
+            exit: Exit::Passes,
+            number: numbers[first as usize],
+        }),
+    }
+}
+
 /// Where control goes from all points. 2^32 edges, which would take 32 GiB, are too many.
+///
+/// Jumps that go nowhere but through one table have the edges of the first of them.
 pub(crate) fn list_outgoing(
     alloc: Global,
     points: &FlowPoints<'_, '_, '_>,
     lists: &Lists,
 ) -> Result<Outgoing, NoMemory>
-    ensures edges { IfOk result (λ list. AreEdges points.now list.edges.starts.items list.edges.edges.items (count_of points.now)) }
+    ensures edges { IfOk result (λ list. AreEdges points.now list.edges.starts.items list.edges.edges.items list.alike.items (count_of points.now)) }
     ensures exits { IfOk result (λ list. AreExits points.now lists.now list.exits.items (count_of points.now)) }
     ensures transfers { IfOk result (λ list. AreNumbered (IsTransferIfBack points.now) list.transfers.transfers.items list.transfers.numbers.items (count_of points.now)) }
 
@@ -144,17 +211,20 @@ pub(crate) fn list_outgoing(
     let mut transfers = Vec::new(alloc);
     transfers.push(USUAL)?;
     let mut numbers = Vec::with_capacity(alloc, count as usize)?;
+    let mut jumps = LoneJumps::new(alloc);
     for n in 0..count {
-        let found = look(alloc, points, lists, n, &mut edges)?;
+        let found = look(alloc, points, lists, n, &mut edges, &mut jumps)?;
         if edges.len() > u32::MAX as usize {
             return Err(NoMemory);
         }
         starts.push(edges.len() as u32)?;
-        exits.push(found.exit)?;
-        numbers.push(number_transfer(&mut transfers, found.transfer)?)?;
+        let kept = keep(points, lists, n, found, &mut transfers, &numbers)?;
+        exits.push(kept.exit)?;
+        numbers.push(kept.number)?;
     }
     Ok(Outgoing {
         edges: EdgeList { starts, edges },
+        alike: jumps.alike,
         exits,
         transfers: TransferList { transfers, numbers },
     })

@@ -1,10 +1,11 @@
 //! From which points a return may come.
 
-ghost use Rattle.std.specs.Prelude.{◌≡◌, ◌<◌, ◌^◌, IfOk};
+ghost use Rattle.std.specs.Prelude.{◌≡◌, ◌<◌, ◌^◌, ℕ, List, IfOk};
 ghost use Rattle.flow_defs.specs.Program.{program_of};
 ghost use Rattle.return_search.specs.Shape.{HasShape, HaveShape, points_of};
-ghost use Rattle.return_search.specs.Told.{TellsFlow, TellsReturns};
+ghost use Rattle.return_search.specs.Told.{TellsFlow};
 ghost use Rattle.control_flow.specs.Listed.{AreEdges, AreEntered, AreExits, count_of};
+ghost use Rattle.control_flow.specs.Returns.{AreReturns};
 
 use crate::listed::{list_dead_ends, list_entered};
 use crate::order::object_is_in_order;
@@ -23,10 +24,11 @@ fn flow_of(
     list: EdgeList,
     exits: Vec<Exit>,
 ) -> Result<Flow, NoMemory>
-    requires edges { AreEdges points.now list.starts.items list.edges.items (count_of points.now) }
+    requires edges { (alike : List ℕ) × AreEdges points.now list.starts.items list.edges.items alike (count_of points.now) }
     requires exits { AreExits points.now lists.now exits.items (count_of points.now) }
     requires few { count_of points.now < 2 ^ 32 }
     ensures told { IfOk result (TellsFlow (program_of points.now lists.now)) }
+    ensures listed { IfOk result (λ flow. (flow.starts ≡ list.starts) × (flow.edges ≡ list.edges)) }
     ensures shape { IfOk result HasShape }
     ensures count { IfOk result (λ flow. points_of flow ≡ count_of points.now) }
     ensures entered { IfOk result (λ flow. AreEntered points.now flow.entered.items (count_of points.now)) }
@@ -52,11 +54,11 @@ pub(crate) fn returns_of(
     list: EdgeList,
     exits: Vec<Exit>,
 ) -> Result<Returns, NoMemory>
-    requires edges { AreEdges points.now list.starts.items list.edges.items (count_of points.now) }
+    requires edges { (alike : List ℕ) × AreEdges points.now list.starts.items list.edges.items alike (count_of points.now) }
     requires exits { AreExits points.now lists.now exits.items (count_of points.now) }
     requires few { count_of points.now < 2 ^ 32 }
     ensures shape { IfOk result (HaveShape (count_of points.now)) }
-    ensures told { IfOk result (TellsReturns (program_of points.now lists.now)) }
+    ensures told { IfOk result (AreReturns points.now lists.now list.starts.items list.edges.items) }
     ensures entered { IfOk result (λ returns. AreEntered points.now returns.entered.items (count_of points.now)) }
 {
     program_is_one();

@@ -5,6 +5,7 @@
 ghost use Rattle.std.specs.Prelude.{◌≡◌, ◌<◌, IfOk, length};
 ghost use Rattle.flow_defs.specs.Code.{point_at, points_of_object};
 ghost use Rattle.flow_defs.specs.Roles.{table_of_point};
+ghost use Rattle.flow_points.specs.Tables.{table_start_of};
 
 use jump_tables::JumpTables;
 use ot_base::{NoMemory, Place};
@@ -69,5 +70,13 @@ impl<'l, 'o, 'a> FlowPoints<'l, 'o, 'a> {
     {
         let places = self.places();
         self.tables.of(places.point(n).place, places.owner(n))
+    }
+
+    /// Where the jump table of a point begins; None where it is no jump that names one.
+    pub fn table_start(&self, n: u32) -> Option<Place>
+        requires { n < length (points_of_object self.now) }
+        ensures { result ≡ table_start_of self.now (point_at self.now n) }
+    {
+        self.tables.start_of(self.places().point(n).place)
     }
 }

@@ -11,7 +11,7 @@ use Rattle.jump_tables.specs.declared.jump.Jump.{Jump}
 use Rattle.jump_tables.specs.declared.table.Table.{Table}
 use Rattle.jump_tables.specs.Tables.{entries_by, entries_for, jump_table, table_of, tables_of}
 use Rattle.jump_tables.specs.Jumps.{jump_among, jumps_of, HaveSameJumps, IsAscending}
-use Rattle.jump_tables.specs.Kept.{of_jump, of_table, table_at, table_in, AreStarts, AreTables, IsTableFrom}
+use Rattle.jump_tables.specs.Kept.{of_jump, of_table, start_in, table_at, table_in, AreStarts, AreTables, IsTableFrom}
 use Rattle.jump_tables.proofs.Jumping.{jump, jump_is, tables_are}
 use Rattle.jump_tables.proofs.Order.{is_same, same_is}
 
@@ -53,6 +53,16 @@ whole o texts list jumps starts tables by each is same all are place owner =
     let first : jump_among (jumps_of o texts) place ≡ option_map (jump place) (jump_table o texts place) = jump_is o place texts by each in
     ap (of_jump starts tables owner) (same.same place ∙ ap (λ l. jump_among l place) is ∙ first)
     ∙ by_table o texts starts tables place owner all are first (jump_table o texts place) refl
+
+table_of_jump : (place : Place) (table : Option Place) → option_map (λ (j : Jump). j.table) (option_map (jump place) table) ≡ table
+table_of_jump place None = refl
+table_of_jump place (Some start) = refl
+
+-- and where it begins
+pub start_is : (o : Elf) (texts : List SectionText) (list jumps : List Jump) (starts : List Place) (tables : List Table) → AscendBySection texts → ((k : ℕ) (d : SectionText) → k < length texts → IsAscending (code_of (get_or texts k d).text)) → list ≡ jumps_of o texts → HaveSameJumps list jumps → (place : Place) → start_in (record { jumps = jumps; starts = starts; tables = tables }) place ≡ jump_table o texts place
+start_is o texts list jumps starts tables by each is same place =
+    ap (option_map (λ (j : Jump). j.table)) (same.same place ∙ ap (λ l. jump_among l place) is ∙ jump_is o place texts by each)
+    ∙ table_of_jump place (jump_table o texts place)
 
 -- the places where tables begin
 pub starts_are : (o : Elf) (texts : List SectionText) (list : List Jump) (starts : List Place) → list ≡ jumps_of o texts → ((place : Place) → list_any (same_place place) starts ≡ list_any (same_place place) (map (λ (j : Jump). j.table) list)) → AreStarts o texts starts

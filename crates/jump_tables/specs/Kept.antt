@@ -1,5 +1,5 @@
 -- What is kept of the tables.
-use Rattle.std.specs.Prelude.{◌≡◌, ◌<◌, ◌≤◌, ℕ, true, false, List, [], ◌∷◌, Option, Some, None, length, slice_index_or, option_and_then, MatchOption, if◌then◌else◌}
+use Rattle.std.specs.Prelude.{◌≡◌, ◌<◌, ◌≤◌, ℕ, true, false, List, [], ◌∷◌, Option, Some, None, length, slice_index_or, option_and_then, option_map, MatchOption, if◌then◌else◌}
 use Rattle.std.specs.List.{list_any}
 use Rattle.ot_base.specs.declared.place.Place.{Place}
 use Rattle.elf_objects.specs.Elf.{Elf}
@@ -65,6 +65,10 @@ pub record KeptTables : Type 0 where
 -- the table of the jump at a place for an owner
 abbrev pub table_in : KeptTables → Place → Option ℕ → List Place
 table_in k place owner = of_jump k.starts k.tables owner (jump_among k.jumps place)
+
+-- where the table begins of the jump at a place
+abbrev pub start_in : KeptTables → Place → Option Place
+start_in k place = option_map (λ jump. jump.table) (jump_among k.jumps place)
 
 -- each is what is kept of the table that begins at the place with its index
 pub record AreTables (o : Elf) (texts : List SectionText) (starts : List Place) (tables : List Table) : Type 0 where

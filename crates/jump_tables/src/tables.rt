@@ -3,8 +3,8 @@
 ghost use Rattle.std.specs.Prelude.{◌≡◌, ℕ, Option, IfOk};
 ghost use Rattle.ot_base.specs.declared.place.Place.{Place};
 ghost use Rattle.alternatives.specs.Texts.{AscendBySection};
-ghost use Rattle.jump_tables.specs.Kept.{table_in};
-ghost use Rattle.jump_tables.specs.Tables.{table_of};
+ghost use Rattle.jump_tables.specs.Kept.{start_in, table_in};
+ghost use Rattle.jump_tables.specs.Tables.{jump_table, table_of};
 
 use crate::jump::{Jump, find_jump, list_jumps, sort_jumps};
 use crate::places::find_first;
@@ -47,7 +47,8 @@ impl JumpTables {
         texts: &[SectionText<'_>],
     ) -> Result<JumpTables, NoMemory>
         requires { AscendBySection texts.now }
-        ensures { IfOk result (λ tables. (place : Place) (owner : Option ℕ) → table_in tables place owner ≡ table_of index.now.elf texts.now place owner) }
+        ensures tables { IfOk result (λ tables. (place : Place) (owner : Option ℕ) → table_in tables place owner ≡ table_of index.now.elf texts.now place owner) }
+        ensures starts { IfOk result (λ tables. (place : Place) → start_in tables place ≡ jump_table index.now.elf texts.now place) }
     {
         let mut jumps = list_jumps(alloc, index, texts)?;
         let starts = list_starts(alloc, &jumps)?;
@@ -76,5 +77,13 @@ impl JumpTables {
             return &[];
         };
         self.tables[at].entries_for(owner)
+    }
+
+    /// Where the table begins that the jump at a place names; None where no jump by a table begins there.
+    pub fn start_of(&self, place: Place) -> Option<Place>
+        ensures { result ≡ start_in self.now place }
+    {
+        let jump = find_jump(&self.jumps, place)?;
+        Some(jump.table)
     }
 }

@@ -1,5 +1,9 @@
 -- How the parts of a graph belong together.
-use Rattle.std.specs.Prelude.{◌≡◌, ℕ, ◌+◌, ◌<◌, ◌≤◌, ◌^◌, Some, All, length, slice_get, slice_index}
+use Rattle.std.specs.Prelude.{◌≡◌, ℕ, ◌+◌, ◌<◌, ◌≤◌, ◌^◌, List, [], ◌∷◌, Some, All, Contains, length, slice_get, slice_index, slice_index_or, slice_range}
+use Rattle.std.specs.List.Sorted.{IsNonDecreasing}
+use Rattle.program_defs.specs.declared.flow.Edge.{Edge}
+use Rattle.program_defs.specs.declared.flow.EdgeKind.TheVariants.{Table}
+use Rattle.program_defs.specs.Program.{edge}
 use Rattle.program_graph.specs.declared.parts.GraphParts.{GraphParts}
 use Rattle.program_graph.specs.declared.parts.Hinted.{Hinted}
 use Rattle.program_graph.specs.declared.parts.Point.{Point}
@@ -8,6 +12,19 @@ use Rattle.program_graph.specs.declared.parts.Rare.{Rare}
 -- the place in the list of edges where those of a point begin
 abbrev pub start_of : GraphParts → ℕ → ℕ
 start_of parts q = slice_index parts.starts.items q
+
+-- the edges that are listed of a point
+abbrev pub listed_of : GraphParts → ℕ → List Edge
+listed_of parts q = slice_range parts.edges.items (start_of parts q) (start_of parts (q + 1))
+
+-- where the first of them leads
+abbrev pub first_target : GraphParts → ℕ → ℕ
+first_target parts q = (slice_index_or parts.edges.items (start_of parts q) (edge 0 Table)).to
+
+-- What is listed of point q says that it has the edges of point r, which has its own: one edge, which leads to r.
+pub record IsAlike (parts : GraphParts) (q r : ℕ) : Type 0 where
+  pub own : Contains parts.alike.items r → ⊥
+  pub edge : listed_of parts q ≡ edge r Table ∷ []
 
 -- what the parts name by a number is in their lists
 pub record HaveShape (parts : GraphParts) : Type 0 where
@@ -23,6 +40,9 @@ pub record HaveShape (parts : GraphParts) : Type 0 where
   pub starts : length parts.starts.items ≡ length parts.points.items + 1
   pub ascending : (q : ℕ) → q < length parts.points.items → start_of parts q ≤ start_of parts (q + 1)
   pub within : (q : ℕ) → q < length parts.points.items → start_of parts (q + 1) ≤ length parts.edges.items
+  -- points that have the edges of another ascend
+  pub alike_ascend : IsNonDecreasing parts.alike.items
+  pub alike : (q : ℕ) → q < length parts.points.items → Contains parts.alike.items q → IsAlike parts q (first_target parts q)
   -- so do the RESTOREs of what a point has of hints
   pub restored : (k : ℕ) (x : Hinted) → slice_get parts.hinted.items k ≡ Some x → (x.restores_from ≤ x.restores_to) × (x.restores_to ≤ length parts.restores.items)
   -- edges lead to points, and RESTOREs are points

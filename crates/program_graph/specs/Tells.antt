@@ -1,5 +1,5 @@
 -- When the parts of a graph tell a program.
-use Rattle.std.specs.Prelude.{◌≡◌, ℕ, ◌+◌, ◌-◌, ◌==◌, ◌↔◌, Option, Some, None, Contains, map, length, slice_get, slice_range, if◌then◌else◌}
+use Rattle.std.specs.Prelude.{◌≡◌, ℕ, ◌-◌, ◌==◌, ◌↔◌, Option, Some, None, Contains, map, length, slice_get, slice_range, if◌then◌else◌}
 use Rattle.ot_base.specs.declared.place.Place.{Place}
 use Rattle.operation_defs.specs.declared.insn.Insn.{Insn}
 use Rattle.state_defs.specs.declared.state.HintState.TheVariants.{Restore}
@@ -16,7 +16,7 @@ use Rattle.program_graph.specs.declared.parts.Replaced.{Replaced}
 use Rattle.program_graph.specs.declared.parts.Transfer.{Transfer}
 use Rattle.program_graph.specs.declared.parts.Site.{Site as OwnSite}
 use Rattle.program_graph.specs.declared.parts.TextSection.{TextSection as OwnTextSection}
-use Rattle.program_graph.specs.Shape.{start_of}
+use Rattle.program_graph.specs.Shape.{IsAlike, listed_of}
 
 abbrev pub site_of : OwnSite → Site
 site_of s = record { start = s.start; len = s.len }
@@ -98,7 +98,8 @@ pub record TellsPoint (p : Program) (parts : GraphParts) (q : ℕ) (x : Point) :
 pub record Tells (p : Program) (parts : GraphParts) : Type 0 where
   pub count : p.count ≡ length parts.points.items
   pub points : (q : ℕ) (x : Point) → slice_get parts.points.items q ≡ Some x → TellsPoint p parts q x
-  pub edges : (q : ℕ) → IsPoint p q → edges_of p q ≡ slice_range parts.edges.items (start_of parts q) (start_of parts (q + 1))
+  pub edges : (q : ℕ) → IsPoint p q → (Contains parts.alike.items q → ⊥) → edges_of p q ≡ listed_of parts q
+  pub alike : (q r : ℕ) → IsPoint p q → Contains parts.alike.items q → IsAlike parts q r → edges_of p q ≡ edges_of p r
   pub sites : p.sites ≡ map site_of parts.sites.items
   pub texts : p.texts ≡ map text_of parts.texts.items
   pub unsized : p.unsized ≡ parts.without_size.items

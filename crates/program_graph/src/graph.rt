@@ -1,15 +1,15 @@
 //! A graph and its getters.
 
-ghost use Rattle.std.specs.Prelude.{◌≡◌, ◌+◌, ◌<◌, ◌≤◌, ◌↔◌, Some, ℕ, All, Contains, IfSome, MatchOption, length, map, slice_get, slice_range};
+ghost use Rattle.std.specs.Prelude.{◌≡◌, ◌+◌, ◌<◌, ◌≤◌, ◌↔◌, Some, ℕ, All, Contains, IfSome, IsTrue, MatchOption, length, map, slice_get, slice_range};
 ghost use Rattle.program_defs.specs.Program.{Program};
 ghost use Rattle.checker_defs.specs.Kept.{edges_of, is_entry_point};
-ghost use Rattle.program_graph.specs.Shape.{HaveShape, start_of};
+ghost use Rattle.program_graph.specs.Shape.{HaveShape, IsAlike, listed_of, start_of};
 ghost use Rattle.program_graph.specs.Tells.{Means, Tells, TellsHinted, TellsOwner, TellsRare, TellsTransfer, TellsUnhinted, site_of, text_of};
 
 use crate::parts::{GraphParts, Hinted, Owner, Point, Previous, Rare, Site, TextSection, Transfer};
 use operation_defs::Insn;
 use ot_base::Place;
-use program_defs::{Edge, Marks, Role};
+use program_defs::{Edge, EdgeKind, Marks, Role};
 use state_defs::HintState;
 
 /// The control-flow graph of a program. Points are told by their numbers, from 0 on.
@@ -230,15 +230,50 @@ impl Graph {
         }
     }
 
+    /// The edges that are listed of a point.
+    fn listed(&self, n: u32) -> &[Edge]
+        requires { n < length self.now.parts.points.items }
+        ensures edges { result.now ≡ listed_of self.now.parts n }
+        ensures within { All (λ e. e.to < length self.now.parts.points.items) result.now }
+    {
+        let from = self.start(n as usize);
+        let to = self.start(n as usize + 1);
+        &self.parts.edges[from..to]
+    }
+
+    /// Whether a point is listed as one that has the edges of another.
+    fn is_alike(&self, n: u32) -> bool
+        ensures { IsTrue result ↔ Contains self.now.parts.alike.items n }
+    {
+        self.parts.alike.binary_search(&n).is_ok()
+    }
+
+    /// The point whose edges a point has, where it is listed as one that has those of another: that one has its own.
+    ///
+    /// Of jumps by one table all but the first may be listed so.
+    pub fn alike(&self, n: u32) -> Option<u32>
+        requires { n < length self.now.parts.points.items }
+        ensures listed { MatchOption result (Contains self.now.parts.alike.items n → ⊥) (λ first. Contains self.now.parts.alike.items n × IsAlike self.now.parts n first) }
+        ensures edges { IfSome result (λ first. (p : Program) → Tells p self.now.parts → edges_of p n ≡ edges_of p first) }
+        ensures within { IfSome result (λ first. first < length self.now.parts.points.items) }
+    {
+        let edges = self.listed(n);
+        if edges.len() != 1 || edges[0].kind != EdgeKind::Table || !self.is_alike(n) {
+            return None;
+        }
+        Some(edges[0].to)
+    }
+
     /// Where control goes from a point, without the Next of a call that can't come back.
     pub fn successors(&self, n: u32) -> &[Edge]
         requires { n < length self.now.parts.points.items }
         ensures edges { (p : Program) → Tells p self.now.parts → result.now ≡ edges_of p n }
         ensures within { All (λ e. e.to < length self.now.parts.points.items) result.now }
     {
-        let from = self.start(n as usize);
-        let to = self.start(n as usize + 1);
-        &self.parts.edges[from..to]
+        match self.alike(n) {
+            Some(first) => self.listed(first),
+            None => self.listed(n),
+        }
     }
 
     /// What a point is to its function.

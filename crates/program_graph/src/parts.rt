@@ -138,8 +138,11 @@ pub struct GraphParts {
     /// For each point, and once more behind the last, where in the list of edges its own begin. They end where
     /// those of the next begin.
     pub starts: Vec<u32>,
-    /// The edges of all points, in the order of the points, without the Next of a call that can't come back.
+    /// The edges of all points, in the order of the points, without the Next of a call that can't come back. A point that
+    /// has the edges of another has one here, which leads to that one.
     pub edges: Vec<Edge>,
+    /// The points that have the edges of another, ascending.
+    pub alike: Vec<u32>,
     /// Whose code the points are.
     pub owners: Vec<Owner>,
     /// Where control may go from the points.

@@ -1,11 +1,12 @@
 -- When edges and exits tell a program, and when a result tells from where its returns come.
-use Rattle.std.specs.Prelude.{◌≡◌, ℕ, ◌+◌, ◌↔◌, Option, Some, None, Bool, false, Contains, List, length, slice_get, slice_index, slice_index_or, slice_range, if◌then◌else◌}
+use Rattle.std.specs.Prelude.{◌≡◌, ℕ, ◌+◌, ◌↔◌, ◌⊎◌, Option, Some, None, Bool, false, All, Contains, List, [], ◌∷◌, filter, length, slice_get, slice_index, slice_index_or, slice_range, if◌then◌else◌}
 use Rattle.program_defs.specs.declared.flow.Edge.{Edge}
+use Rattle.program_defs.specs.declared.flow.EdgeKind.TheVariants.{Table}
 use Rattle.program_defs.specs.declared.flow.Role.{Role}
 use Rattle.program_defs.specs.declared.flow.Role.TheVariants.{Plain, CallIn, CallEither, CallOut, CallAny, Return, JumpOut, JumpAny, Switch}
-use Rattle.program_defs.specs.Program.{Program, IsPoint, entry_points}
+use Rattle.program_defs.specs.Program.{Program, IsPoint, entry_points, edge}
 use Rattle.program_defs.specs.MayReturn.{target_may_return}
-use Rattle.checker_defs.specs.Kept.{edges_of}
+use Rattle.checker_defs.specs.Kept.{can_go}
 use Rattle.return_search.specs.declared.flow.Exit.{Exit}
 use Rattle.return_search.specs.declared.flow.Exit.TheVariants.{Leaves, Calls, CallsOut, CallsNever, Passes}
 use Rattle.return_search.specs.declared.flow.Flow.{Flow}
@@ -39,18 +40,29 @@ start_of flow q = slice_index flow.starts.items q
 abbrev pub edges_from : Flow → ℕ → List Edge
 edges_from flow q = slice_range flow.edges.items (start_of flow q) (start_of flow (q + 1))
 
+-- Point q has the edges of point r, all of them of a jump table, and a return comes from r by these alone. The flow has
+-- them at r only; at q it has one edge of a table, which leads to r.
+pub record SharesEdges (p : Program) (flow : Flow) (q r : ℕ) : Type 0 where
+  pub point : IsPoint p r
+  pub own : p.goes r ≡ edges_from flow r
+  pub same : p.goes q ≡ p.goes r
+  pub tables : All (λ e. e.kind ≡ Table) (p.goes r)
+  pub passes : exit_at flow r ≡ Passes
+  pub listed : edges_from flow q ≡ edge r Table ∷ []
+
 -- The flow tells the program, as far as returns ask for it.
 pub record TellsFlow (p : Program) (flow : Flow) : Type 0 where
   pub count : p.count ≡ length flow.exits.items
-  pub edges : (q : ℕ) → IsPoint p q → p.goes q ≡ edges_from flow q
+  -- it has the edges of each point, or one edge in their place where the point shares those of another
+  pub edges : (q : ℕ) → IsPoint p q → (p.goes q ≡ edges_from flow q) ⊎ ((r : ℕ) × SharesEdges p flow q r)
   pub exits : (q : ℕ) → IsPoint p q → exit_of p (p.role q) ≡ exit_at flow q
   pub dead_ends : (q : ℕ) → IsPoint p q → p.dead_end q ≡ dead_end_at flow q
   -- control that comes to an entry that is called may stand at the points that are entered there
   pub entered : (call entry q : ℕ) → IsPoint p call → p.role call ≡ CallIn entry → IsPoint p q → Contains (entry_points p entry) q ↔ (entered_at flow q ≡ Some entry)
 
 -- The result tells of each point of the program whether a return may come from it on, whether the target of its call may
--- return, and its edges without the Next of a call that can't come back.
-pub record TellsReturns (p : Program) (returns : Returns) : Type 0 where
+-- return, and the edges that the flow has for it, without the Next of a call that can't come back.
+pub record TellsReturns (p : Program) (flow : Flow) (returns : Returns) : Type 0 where
   pub may_return : (q : ℕ) → IsPoint p q → slice_get returns.may_return.items q ≡ Some (p.may_return q)
   pub comes_back : (q : ℕ) → IsPoint p q → slice_get returns.comes_back.items q ≡ Some (target_may_return p (p.role q))
-  pub edges : (q : ℕ) → IsPoint p q → edges_of p q ≡ slice_range returns.edges.items (slice_index returns.starts.items q) (slice_index returns.starts.items (q + 1))
+  pub edges : (q : ℕ) → IsPoint p q → slice_range returns.edges.items (slice_index returns.starts.items q) (slice_index returns.starts.items (q + 1)) ≡ filter (λ e. can_go p q e.kind) (edges_from flow q)

@@ -25,7 +25,8 @@ pub struct Flow {
     /// For each point, and once more behind the last, where in the list of edges its own begin. They end where
     /// those of the next begin.
     pub starts: Vec<u32>,
-    /// The edges of all points, in the order of the points, with a Next for every call that isn't a dead end.
+    /// The edges of all points, in the order of the points, with a Next for every call that isn't a dead end. A point
+    /// that has the edges of another's jump table may have one edge of a table in their place, which leads to that point.
     pub edges: Vec<Edge>,
     /// What each point is to a return.
     pub exits: Vec<Exit>,

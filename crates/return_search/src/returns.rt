@@ -26,7 +26,8 @@ pub struct Returns {
     /// For each point, and once more behind the last, where in the list of edges its own begin. They end where
     /// those of the next begin.
     pub starts: Vec<u32>,
-    /// The edges of all points, in the order of the points, without the Next of a call that can't come back.
+    /// The edges of all points, in the order of the points, without the Next of a call that can't come back. Where the
+    /// flow had one edge in place of those of a point, it stands here too.
     pub edges: Vec<Edge>,
     /// Whether execution never passes a point, as the flow told it.
     pub dead_ends: Vec<bool>,
@@ -51,6 +52,9 @@ fn returning_targets(alloc: Global, flow: &Flow, known: &[bool]) -> Result<Vec<b
 /// Finds from which points of a program a return may come, backwards over its edges, and drops the Next of each call that
 /// can't come back.
 ///
+/// Where points share the edges of one jump table, a single one needs to have them in the flow. An edge of a table that
+/// leads there carries the same returns to each other.
+///
 /// Each point is looked at once and each edge a few times. The edges that stay take the place of the flow's. Beside the
 /// result it takes some 10 bytes a point, and 16 for each call of an entry and each edge that doesn't lead right behind its
 /// point, and gives them back.
@@ -59,7 +63,7 @@ pub fn find_returns(alloc: Global, flow: Flow) -> Result<Returns, NoMemory>
     ensures shape { IfOk result (HaveShape (points_of flow)) }
     ensures dead_ends { IfOk result (λ returns. returns.dead_ends ≡ flow.dead_ends) }
     ensures entered { IfOk result (λ returns. returns.entered ≡ flow.entered) }
-    ensures told { (p : Program) → TellsFlow p flow → IsProgram p → IfOk result (TellsReturns p) }
+    ensures told { (p : Program) → TellsFlow p flow → IsProgram p → IfOk result (TellsReturns p flow) }
 {
     let Search { found, known, .. } = spread(alloc, &flow)?;
     let comes_back = returning_targets(alloc, &flow, &known)?;

@@ -1,5 +1,7 @@
 -- Points at which no rule is broken, as their operation moves the state, and the moved one is kept where control goes.
-use Rattle.std.specs.Prelude.{◌≡◌, ◌≢◌, ℕ, Bool, true, false, not, ◌&&◌, List, [], ◌∷◌, Option, Some, None, Ok, IsSome, All}
+use Rattle.std.specs.Prelude.{◌≡◌, ◌≢◌, ℕ, Bool, true, false, not, ◌&&◌, List, [], ◌∷◌, Option, Some, None, Ok, IsSome, IsTrue, All}
+use Rattle.std.specs.BTreeSet.{BTreeSet, contains}
+use Rattle.std.specs.Ordering.{nat_cmp}
 use Rattle.operation_defs.specs.declared.op.Op.{Op}
 use Rattle.operation_defs.specs.declared.op.Op.TheVariants.{Switch, Iret}
 use Rattle.program_defs.specs.declared.flow.Edge.{Edge}
@@ -34,6 +36,10 @@ stays _ = true
 -- the edge stays in the function, and leads to where the same state is kept
 abbrev pub Passes : Program → List (Option State) → ℕ → Edge → Type 0
 Passes p states q e = (e.kind ≢ Sibling) × (e.kind ≡ Next × p.owner e.to ≢ p.owner q → ⊥) × (at states e.to ≡ at states q)
+
+-- all edges pass of each point in the set
+abbrev pub ArePassing : Program → List (Option State) → BTreeSet ℕ → Type 0
+ArePassing p states points = (r : ℕ) → IsTrue (contains nat_cmp points r) → All (Passes p states r) (edges_of p r)
 
 -- the edge of a point with this state stays in the function, and leads to where the state is kept that is brought along it
 abbrev pub Leads : Program → List (Option State) → ℕ → State → Edge → Type 0

@@ -11,6 +11,7 @@ ghost use Rattle.branch_check.specs.LevelStates.{at};
 ghost use Rattle.rule_check.specs.Checks.{Checks};
 ghost use Rattle.rule_check.specs.Gains.{Gains};
 ghost use Rattle.rule_check.specs.PointWarns.{EdgesWarn, KeptWarns, PointWarns, SizesWarn, UnkeptWarns};
+ghost use Rattle.rule_check.specs.Quiet.{ArePassing};
 
 use crate::arrivals::push_edge;
 use crate::exits::{push_marks, push_operation, push_role};
@@ -22,6 +23,7 @@ use ot_base::rules::{FUNCTION_WITHOUT_SIZE, RESTORE_WITHOUT_SAVE};
 use ot_base::{NoMemory, Place, Warning};
 use program_graph::Graph;
 use state_defs::{HintState, State};
+use std::collections::BTreeSet;
 
 /// The rules at the edges of a point.
 fn push_edges(
@@ -79,13 +81,21 @@ fn push_unkept(graph: &Graph, into: &mut Vec<Warning>, n: u32) -> Result<(), NoM
     push_if(into, is_entered_restore(graph, n), warning)
 }
 
-/// The rules at a point.
-fn push_point(graph: &Graph, kept: &Kept, into: &mut Vec<Warning>, n: u32) -> Result<(), NoMemory>
+/// The rules at a point. Points are known all of whose edges pass, of those that others have the edges of.
+fn push_point(
+    graph: &Graph,
+    kept: &Kept,
+    passing: &mut BTreeSet<u32>,
+    into: &mut Vec<Warning>,
+    n: u32,
+) -> Result<(), NoMemory>
     requires points { length kept.now ≡ length graph.now.parts.points.items }
     requires point { n < length graph.now.parts.points.items }
-    ensures { OnOk result ((p : Program) → Checks p graph.now.parts kept.now → Gains into.old.items into.new.items (PointWarns p kept.now n)) }
+    requires passing { (p : Program) → Tells p graph.now.parts → ArePassing p kept.now passing.old }
+    ensures passing { OnOk result ((p : Program) → Tells p graph.now.parts → ArePassing p kept.now passing.new) }
+    ensures warnings { OnOk result ((p : Program) → Checks p graph.now.parts kept.now → Gains into.old.items into.new.items (PointWarns p kept.now n)) }
 {
-    if is_quiet(graph, kept, n) {
+    if is_quiet(graph, kept, passing, n)? {
         return Ok(());
     }
     match kept.state(n) {
@@ -107,13 +117,15 @@ fn push_sizes(into: &mut Vec<Warning>, places: &[Place]) -> Result<(), NoMemory>
 /// Adds a program's warnings of the rules 1 to 11, 13 and 15 to 18, in no certain order. A warning may be added more
 /// than once.
 ///
-/// Each point and each edge is looked at once. An error says that memory ran out.
+/// Each point is looked at once, and so is each edge, but those of a point that has the edges of another mostly aren't. An
+/// error says that memory ran out.
 pub fn push_warnings(graph: &Graph, kept: &Kept, into: &mut Vec<Warning>) -> Result<(), NoMemory>
     requires { length kept.now ≡ length graph.now.parts.points.items }
     ensures { OnOk result ((p : Program) → Checks p graph.now.parts kept.now → (w : WarningValue) → Contains into.new.items w ↔ (Contains into.old.items w ⊎ Warns p w.place w.rule w.a w.b × w.rule ≢ ALTERNATIVES_DISAGREE)) }
 {
+    let mut passing = BTreeSet::new(*into.allocator());
     for n in 0..graph.points() {
-        push_point(graph, kept, into, n)?;
+        push_point(graph, kept, &mut passing, into, n)?;
     }
     push_sizes(into, graph.without_size())
 }

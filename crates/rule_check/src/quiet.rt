@@ -1,22 +1,24 @@
 //! Points at which no rule is broken, by a quick test that most of them pass: the operation moves the state, and whatever
 //! comes next of the function keeps the moved one.
 
-ghost use Rattle.std.specs.Prelude.{◌≡◌, ◌≢◌, ◌<◌, ◌↔◌, ◌∷◌, [], All, IsTrue, Ok, Some, length};
+ghost use Rattle.std.specs.Prelude.{◌≡◌, ◌≢◌, ◌<◌, ◌↔◌, ◌∷◌, [], All, IfOk, IsTrue, Ok, OnOk, Some, length};
 ghost use Rattle.state_defs.specs.Move.{move};
 ghost use Rattle.program_defs.specs.Program.{Program};
 ghost use Rattle.checker_defs.specs.Kept.{brought_along, edges_of};
 ghost use Rattle.program_graph.specs.Tells.{Tells};
 ghost use Rattle.branch_check.specs.LevelStates.{at};
-ghost use Rattle.rule_check.specs.Quiet.{IsQuiet, Leads, Passes, is_exit as is_exit_op, is_unmarked as is_unmarked_by, stays as stays_by};
+ghost use Rattle.rule_check.specs.Quiet.{ArePassing, IsQuiet, Leads, Passes, is_exit as is_exit_op, is_unmarked as is_unmarked_by, stays as stays_by};
 
 use crate::arrivals::falls_out;
 use crate::numbers::is_same;
 use branch_check::{Kept, is_neutral};
 use operation_defs::Op;
+use ot_base::NoMemory;
 use program_defs::{Edge, EdgeKind, Marks, Role};
 use program_graph::Graph;
 use stack_state::step;
 use state_defs::State;
+use std::collections::BTreeSet;
 
 /// Whether an operation is a way out that a state has to allow.
 fn is_exit(op: Op) -> bool
@@ -76,6 +78,47 @@ fn all_pass(graph: &Graph, kept: &Kept, n: u32) -> bool
         }
     }
     true
+}
+
+/// Whether two points have one owner, and keep the same state.
+fn are_alike(graph: &Graph, kept: &Kept, one: u32, other: u32) -> bool
+    requires points { length kept.now ≡ length graph.now.parts.points.items }
+    requires one { one < length graph.now.parts.points.items }
+    requires other { other < length graph.now.parts.points.items }
+    ensures owner { IsTrue result → (p : Program) → Tells p graph.now.parts → p.owner one ≡ p.owner other }
+    ensures state { IsTrue result → at kept.now one ≡ at kept.now other }
+{
+    graph.owner(one) == graph.owner(other) && kept.are_alike(one, other)
+}
+
+/// Whether each edge of a point passes. Where they are those of another point with the same owner and state, they pass
+/// exactly if those of that one do, which is among the passing points from then on.
+fn all_pass_by_table(
+    graph: &Graph,
+    kept: &Kept,
+    passing: &mut BTreeSet<u32>,
+    n: u32,
+) -> Result<bool, NoMemory>
+    requires points { length kept.now ≡ length graph.now.parts.points.items }
+    requires point { n < length graph.now.parts.points.items }
+    requires passing { (p : Program) → Tells p graph.now.parts → ArePassing p kept.now passing.old }
+    ensures passing { OnOk result ((p : Program) → Tells p graph.now.parts → ArePassing p kept.now passing.new) }
+    ensures pass { IfOk result (λ pass. IsTrue pass → (p : Program) → Tells p graph.now.parts → All (Passes p kept.now n) (edges_of p n)) }
+{
+    let Some(first) = graph.alike(n) else {
+        return Ok(all_pass(graph, kept, n));
+    };
+    if !are_alike(graph, kept, n, first) {
+        return Ok(all_pass(graph, kept, n));
+    }
+    if passing.contains(&first) {
+        return Ok(true);
+    }
+    if !all_pass(graph, kept, n) {
+        return Ok(false);
+    }
+    passing.insert(first)?;
+    Ok(true)
 }
 
 /// What comes along an edge in its function, by the states before and after the instruction.
@@ -141,28 +184,43 @@ fn moves_on(graph: &Graph, kept: &Kept, n: u32) -> bool
     }
 }
 
-/// Whether it is quickly seen that no rule is broken at a point.
-pub(crate) fn is_quiet(graph: &Graph, kept: &Kept, n: u32) -> bool
+/// Whether an operation is an indirect jump.
+fn is_indirect_jump(op: Op) -> bool {
+    matches!(op, Op::JmpInd { .. })
+}
+
+/// Whether it is quickly seen that no rule is broken at a point. Points are known all of whose edges pass, of those that
+/// others have the edges of.
+pub(crate) fn is_quiet(
+    graph: &Graph,
+    kept: &Kept,
+    passing: &mut BTreeSet<u32>,
+    n: u32,
+) -> Result<bool, NoMemory>
     requires points { length kept.now ≡ length graph.now.parts.points.items }
     requires point { n < length graph.now.parts.points.items }
-    ensures { IsTrue result → (p : Program) → Tells p graph.now.parts → IsQuiet p kept.now n }
+    requires passing { (p : Program) → Tells p graph.now.parts → ArePassing p kept.now passing.old }
+    ensures passing { OnOk result ((p : Program) → Tells p graph.now.parts → ArePassing p kept.now passing.new) }
+    ensures quiet { IfOk result (λ quiet. IsTrue quiet → (p : Program) → Tells p graph.now.parts → IsQuiet p kept.now n) }
 {
     let op = graph.insn(n).op;
     if is_exit(op) {
-        return false;
+        return Ok(false);
     }
     if !kept.is_short(n) {
-        return false;
+        return Ok(false);
     }
     if !stays(graph.role(n)) {
-        return false;
+        return Ok(false);
     }
     if !is_unmarked(graph.marks(n)) {
-        return false;
+        return Ok(false);
     }
-    if is_neutral(op) {
-        all_pass(graph, kept, n)
-    } else {
-        moves_on(graph, kept, n)
+    if !is_neutral(op) {
+        return Ok(moves_on(graph, kept, n));
     }
+    if is_indirect_jump(op) {
+        return all_pass_by_table(graph, kept, passing, n);
+    }
+    Ok(all_pass(graph, kept, n))
 }

@@ -133,7 +133,56 @@ const JUMP_TABLES: [Worked; 2] = [
     ),
 ];
 
+/// f: je to the second of two jumps by one table; jmp *table(,%rax,8); jmp *table(,%rax,8); ret; ret. In the second, a push
+/// stands before the second jump, so that it brings another depth to the one entry.
+const SHARED_TABLES: [Worked; 2] = [
+    (
+        Example {
+            sections: &[
+                (
+                    b".text",
+                    CODE,
+                    b"\x74\x07\xFF\x24\xC5\0\0\0\0\xFF\x24\xC5\0\0\0\0\xC3\xC3",
+                ),
+                (b".rodata", DATA, &[0; 16]),
+            ],
+            symbols: &[TEXT, SECOND, (b"f", STB_GLOBAL, STT_FUNC, 1, 0, 18)],
+            fields: &[
+                (1, 5, R_X86_64_32S, 2, 0),
+                (1, 12, R_X86_64_32S, 2, 0),
+                (2, 0, R_X86_64_64, 1, 16),
+                (2, 8, R_X86_64_64, 1, 17),
+            ],
+        },
+        Answer::Rows(&[(1, 0, DEPTH_8), (1, 18, ZERO)]),
+    ),
+    (
+        Example {
+            sections: &[
+                (
+                    b".text",
+                    CODE,
+                    b"\x74\x07\xFF\x24\xC5\0\0\0\0\x53\xFF\x24\xC5\0\0\0\0\xC3",
+                ),
+                (b".rodata", DATA, &[0; 8]),
+            ],
+            symbols: &[TEXT, SECOND, (b"f", STB_GLOBAL, STT_FUNC, 1, 0, 18)],
+            fields: &[
+                (1, 5, R_X86_64_32S, 2, 0),
+                (1, 13, R_X86_64_32S, 2, 0),
+                (2, 0, R_X86_64_64, 1, 17),
+            ],
+        },
+        Answer::Warned(".text+0x11: rule 4: stack state mismatch: kept 8, found 16\n"),
+    ),
+];
+
 #[test]
 fn a_jump_goes_by_its_table(rt: HostRuntime) -> Result<(), Fail> {
     expect_worked(&rt, rt.alloc(), &JUMP_TABLES)
+}
+
+#[test]
+fn jumps_share_a_table(rt: HostRuntime) -> Result<(), Fail> {
+    expect_worked(&rt, rt.alloc(), &SHARED_TABLES)
 }

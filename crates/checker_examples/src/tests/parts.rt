@@ -155,6 +155,7 @@ fn without_points(alloc: Global, p: &Program) -> Result<GraphParts, AllocError> 
         points: Vec::new(alloc),
         starts: Vec::new(alloc),
         edges: Vec::new(alloc),
+        alike: Vec::new(alloc),
         owners: Vec::new(alloc),
         transfers: Vec::new(alloc),
         rares: Vec::new(alloc),

@@ -1,7 +1,8 @@
 //! Whether parts make a graph.
 
-ghost use Rattle.std.specs.Prelude.{◌≡◌, ◌+◌, ◌<◌, ◌≤◌, ◌^◌, ℕ, All, IfSome, IsTrue, length};
-ghost use Rattle.program_graph.specs.Shape.{HaveShape, start_of};
+ghost use Rattle.std.specs.Prelude.{◌≡◌, ◌+◌, ◌<◌, ◌≤◌, ◌^◌, ℕ, All, Contains, IfSome, IsTrue, length};
+ghost use Rattle.std.specs.List.Sorted.{IsNonDecreasing};
+ghost use Rattle.program_graph.specs.Shape.{HaveShape, IsAlike, first_target, start_of};
 
 use program_defs::Edge;
 use program_graph::{Graph, GraphParts, Hinted, Point, Rare, Site};
@@ -77,7 +78,44 @@ fn restores_are_points(restores: &[u32], points: usize) -> bool
     restores.iter().all(|restore| (*restore as usize) < points)
 }
 
-/// Whether what the parts name by a number is in their lists.
+/// Whether no point is listed as one that has the edges of another.
+fn none_is_alike(parts: &GraphParts) -> bool
+    ensures ascend { IsTrue result → IsNonDecreasing parts.now.alike.items }
+    ensures alike { IsTrue result → (q : ℕ) → q < length parts.now.points.items → Contains parts.now.alike.items q → IsAlike parts.now q (first_target parts.now q) }
+{
+    parts.alike.is_empty()
+}
+
+/// Whether what the points name by a number is in the lists of the parts.
+fn points_are_whole(parts: &GraphParts) -> bool
+    ensures owners { IsTrue result → All (λ x. x.owner < length parts.now.owners.items) parts.now.points.items }
+    ensures transfers { IsTrue result → All (λ x. x.transfer < length parts.now.transfers.items) parts.now.points.items }
+    ensures rares { IsTrue result → All (λ x. x.rare < length parts.now.rares.items) parts.now.points.items }
+    ensures hinted { IsTrue result → All (λ x. IfSome x.hinted (λ k. k < length parts.now.hinted.items)) parts.now.rares.items }
+{
+    owners_are_there(parts.points.as_slice(), parts.owners.len())
+        && transfers_are_there(parts.points.as_slice(), parts.transfers.len())
+        && rares_are_there(parts.points.as_slice(), parts.rares.len())
+        && hinted_are_there(parts.rares.as_slice(), parts.hinted.len())
+}
+
+/// Whether what the other parts name by a number is in their lists.
+fn lists_are_whole(parts: &GraphParts) -> bool
+    requires { length parts.now.starts.items ≡ length parts.now.points.items + 1 }
+    ensures restored { IsTrue result → All (λ x. (x.restores_from ≤ x.restores_to) × (x.restores_to ≤ length parts.now.restores.items)) parts.now.hinted.items }
+    ensures ascending { IsTrue result → (q : ℕ) → q < length parts.now.points.items → start_of parts.now q ≤ start_of parts.now (q + 1) }
+    ensures within { IsTrue result → (q : ℕ) → q < length parts.now.points.items → start_of parts.now (q + 1) ≤ length parts.now.edges.items }
+    ensures targets { IsTrue result → All (λ e. e.to < length parts.now.points.items) parts.now.edges.items }
+    ensures restores { IsTrue result → All (λ r. r < length parts.now.points.items) parts.now.restores.items }
+{
+    let points = parts.points.len();
+    restores_are_ranges(parts.hinted.as_slice(), parts.restores.len())
+        && starts_ascend(parts)
+        && edges_lead_to_points(parts.edges.as_slice(), points)
+        && restores_are_points(parts.restores.as_slice(), points)
+}
+
+/// Whether what the parts name by a number is in their lists, and each point has edges of its own.
 fn have_shape(parts: &GraphParts) -> bool
     ensures { IsTrue result → HaveShape parts.now }
 {
@@ -85,14 +123,7 @@ fn have_shape(parts: &GraphParts) -> bool
     if points > u32::MAX as usize || parts.starts.len() != points + 1 {
         return false;
     }
-    owners_are_there(parts.points.as_slice(), parts.owners.len())
-        && transfers_are_there(parts.points.as_slice(), parts.transfers.len())
-        && rares_are_there(parts.points.as_slice(), parts.rares.len())
-        && hinted_are_there(parts.rares.as_slice(), parts.hinted.len())
-        && restores_are_ranges(parts.hinted.as_slice(), parts.restores.len())
-        && starts_ascend(parts)
-        && edges_lead_to_points(parts.edges.as_slice(), points)
-        && restores_are_points(parts.restores.as_slice(), points)
+    points_are_whole(parts) && lists_are_whole(parts) && none_is_alike(parts)
 }
 
 /// Whether each site has fewer than 2^63 bytes.

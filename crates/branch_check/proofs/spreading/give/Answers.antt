@@ -1,5 +1,5 @@
 -- The edges of the point, then the RESTOREs that mean it.
-use Rattle.std.proofs.Common.{◌≡◌, ℕ, ◌+◌, ◌<◌, List, Option, Some, length, take, get_or, ap, refl, sym, ◌∙◌, subst, arith}
+use Rattle.std.proofs.Common.{◌≡◌, ℕ, ◌+◌, ◌<◌, inl, inr, List, Option, Some, length, take, get_or, ap, refl, sym, ◌∙◌, subst, arith}
 use Rattle.std.proofs.lemmas.List.{take_all}
 use Rattle.program_defs.specs.declared.flow.Edge.{Edge}
 use Rattle.program_defs.specs.declared.flow.EdgeKind.TheVariants.{Next}
@@ -9,7 +9,7 @@ use Rattle.branch_check.specs.Gives.{IsGiven}
 use Rattle.branch_check.specs.LevelStates.{Offers, at}
 use Rattle.branch_check.specs.Told.{AreLeast, HaveGiven, offer_all, given_along, given_to_restore}
 use Rattle.branch_check.proofs.LevelSteps.{none_of, state_of_some}
-use Rattle.branch_check.proofs.Giving.{WithEdges, WithRestores, no_edge, edge_more, no_restore, restore_more, given_none, given_more}
+use Rattle.branch_check.proofs.Giving.{WithEdges, WithRestores, no_edge, edge_more, no_restore, in_vain, restore_more, given_none, given_more}
 use Rattle.branch_check.proofs.Rounds.{same_still}
 use Rattle.branch_check.proofs.spreading.give.Goals as goal
 
@@ -22,23 +22,25 @@ pub loop-edge-init : goal.loop-edge-init
 loop-edge-init c = record {
   kept = refl;
   front = refl;
+  done = refl;
   same = (refl, refl, λ e. e);
   next = c.requires.next;
-  given = λ p s t e. no_edge c.args.levels.now.kept p s (IsGiven p (at c.args.levels.now.kept) (take c.args.i c.args.levels.now.front)) c.args.levels.now.next (p.insn c.front-a.result).op c.successors-edge-items.result.now (c.requires.given p t);
+  given = λ p s t e. no_edge c.args.levels.now.kept p s (IsGiven p (at c.args.levels.now.kept) (take c.args.i c.args.levels.now.front)) c.args.levels.now.next (p.insn c.front-a.result).op c.giving_edges-edge-items.result.now (c.requires.given p t);
 }
 
 pub loop-edge-preserved : goal.loop-edge-preserved
 loop-edge-preserved c =
     let d : Edge = record { to = 0; kind = Next } in
-    let items : List Edge = c.successors-edge-items.result.now in
+    let items : List Edge = c.giving_edges-edge-items.result.now in
     let e : Edge = get_or items c.loop-edge.edge-index d in
     let kept : List (Option State) = c.args.levels.now.kept in
-    let to : e.to < length c.args.graph.now.parts.points.items = c.successors-edge-items.ensures.within c.loop-edge.edge-index d c.loop-edge-test.true in
+    let to : e.to < length c.args.graph.now.parts.points.items = c.giving_edges-edge-items.ensures.within c.loop-edge.edge-index d c.loop-edge-test.true in
     let long : length c.loop-edge.levels.next.states ≡ length kept = c.loop-edge.invariant.next in
     let inside : e.to < length c.loop-edge.levels.next.states = omega (arith, to, long, c.requires.points) in
     record {
       kept = c.give_along.ensures.kept ∙ c.loop-edge.invariant.kept;
       front = c.give_along.ensures.front ∙ c.loop-edge.invariant.front;
+      done = c.give_along.ensures.done ∙ c.loop-edge.invariant.done;
       same = same_still c.args.levels.now c.loop-edge.levels c.give_along.new.levels c.loop-edge.invariant.same c.give_along.ensures.same;
       next = c.give_along.ensures.len ∙ long;
       given = λ p s t has.
@@ -55,15 +57,20 @@ pub loop-restore-init : goal.loop-restore-init
 loop-restore-init c = record {
   kept = c.loop-edge.invariant.kept;
   front = c.loop-edge.invariant.front;
+  done = c.loop-edge.invariant.done;
   same = c.loop-edge.invariant.same;
   next = c.loop-edge.invariant.next;
   given = λ p s t has.
       let kept : List (Option State) = c.args.levels.now.kept in
-      let items : List Edge = c.successors-edge-items.result.now in
+      let items : List Edge = c.giving_edges-edge-items.result.now in
       let A : ℕ → State → Type 0 = IsGiven p (at kept) (take c.args.i c.args.levels.now.front) in
-      let all : take c.loop-edge.edge-index items ≡ edges_of p c.front-a.result = take_all c.loop-edge.edge-index items c.loop-edge-test.false ∙ c.successors-edge-items.ensures.edges p t in
-      let edges : AreLeast kept c.loop-edge.levels.next (WithEdges A p s (p.insn c.front-a.result).op (edges_of p c.front-a.result)) =
-      subst (λ (es : List Edge). AreLeast kept c.loop-edge.levels.next (WithEdges A p s (p.insn c.front-a.result).op es)) all (c.loop-edge.invariant.given p s t has) in
+      let next : Offers = c.loop-edge.levels.next in
+      let listed : AreLeast kept next (WithEdges A p s (p.insn c.front-a.result).op items) =
+      subst (λ (es : List Edge). AreLeast kept next (WithEdges A p s (p.insn c.front-a.result).op es)) (take_all c.loop-edge.edge-index items c.loop-edge-test.false) (c.loop-edge.invariant.given p s t has) in
+      let edges : AreLeast kept next (WithEdges A p s (p.insn c.front-a.result).op (edges_of p c.front-a.result)) = elim (c.giving_edges-edge-items.ensures.edges p t (c.requires.done p t)) [
+        | inl e ↦ subst (λ (es : List Edge). AreLeast kept next (WithEdges A p s (p.insn c.front-a.result).op es)) e listed
+        | inr r ↦ in_vain p c.args.levels.now next c.args.i c.front-a.result s (t.count ∙ sym c.requires.points) has r.1 c.loop-edge.invariant.same.1 c.loop-edge.invariant.same.2 (subst (λ (es : List Edge). AreLeast kept next (WithEdges A p s (p.insn c.front-a.result).op es)) r.0 listed)
+      ] in
       no_restore kept p s (WithEdges A p s (p.insn c.front-a.result).op (edges_of p c.front-a.result)) c.loop-edge.levels.next c.restores-restore-items.result.now edges;
 }
 
@@ -78,6 +85,7 @@ loop-restore-preserved c =
     record {
       kept = c.give_to_restore.ensures.kept ∙ c.loop-restore.invariant.kept;
       front = c.give_to_restore.ensures.front ∙ c.loop-restore.invariant.front;
+      done = c.give_to_restore.ensures.done ∙ c.loop-restore.invariant.done;
       same = same_still c.args.levels.now c.loop-restore.levels c.give_to_restore.new.levels c.loop-restore.invariant.same c.give_to_restore.ensures.same;
       next = c.give_to_restore.ensures.len ∙ long;
       given = λ p s t has.

@@ -1,8 +1,9 @@
-use Rattle.std.proofs.Common.{◌≡◌, ℕ, ◌<◌, List, None, All, length}
+use Rattle.std.proofs.Common.{◌≡◌, ℕ, ◌<◌, List, None, All, Contains, IsSome, length}
 use Rattle.program_defs.specs.Program.{Program}
 use Rattle.program_defs.specs.IsProgram.{IsProgram}
 use Rattle.program_graph.specs.Tells.{Tells}
 use Rattle.branch_check.specs.Batches.{InBatch, IsClean}
+use Rattle.branch_check.specs.Done.{HaveGivenAll}
 use Rattle.branch_check.specs.LevelStates.{StaysSame, at, count_open}
 use Rattle.branch_check.proofs.spreading.spread_levels.Given as goal
 
@@ -12,6 +13,8 @@ invariant-rounds l = record {
   next : length l.levels.next.states ≡ length l.levels.kept;
   none : (q : ℕ) → at l.levels.next.states q ≡ None;
   front : All (λ q. q < length l.levels.kept) l.levels.front;
+  front_kept : (q : ℕ) → Contains l.levels.front q → IsSome (at l.levels.kept q);
+  done : (p : Program) → Tells p l.graph.parts → HaveGivenAll p l.levels;
   same : StaysSame l.fn.levels l.levels;
   batch : (p : Program) (waiting : List ℕ) → Tells p l.graph.parts → IsProgram p → InBatch p l.fn.levels waiting → IsClean l.levels.next → InBatch p l.levels waiting;
 }

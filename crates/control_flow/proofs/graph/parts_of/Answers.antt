@@ -18,6 +18,7 @@ returns c =
       points = c.in_ok-made.made;
       starts = c.in_ok-returns.returns.starts;
       edges = c.in_ok-returns.returns.edges;
+      alike = c.in_ok-edges.field-0.alike;
       owners = c.into_owners.result;
       transfers = c.in_ok-transfer_list.transfer_list.transfers;
       rares = c.in_ok-rares.field-0.rares;
@@ -40,18 +41,20 @@ returns c =
     subst (λ (ts : List ℕ). AreMade o c.in_ok-owners.owners.owners returned rares ts made (count_of o)) same_transfers
     (subst (λ (rs : List ℕ). AreMade o c.in_ok-owners.owners.owners returned rs c.deref-2.result.now made (count_of o)) same_rares c.in_ok-made.ensures.made) in
     let known : All (λ r. r < count_of o) restores = subst (λ (e : Coded). All (λ r. r < count_of e) restores) (c.in_ok-hints.ensures ∙ places) c.restores_are_points.ensures in
-    let are : AreParts o lists parts returned rares transfers = record {
+    let listed = c.in_ok-edges.field-0.edges in
+    let are : AreParts o lists parts returned listed.starts.items listed.edges.items rares transfers = record {
       few = c.in_ok-made.ensures.few;
       points = subst (λ (ws : List Owner). AreMade o ws returned rares transfers made (count_of o)) (sym c.into_owners.ensures) told;
       transfers = c.in_ok-transfer_list.ensures;
       rares = subst (λ (rs : List ℕ). AreRares o rs parts.rares.items parts.hinted.items rares (count_of o)) (sym c.into_restores.ensures) c.in_ok-rares.ensures;
       returns_shape = c.in_ok-returns.ensures.shape;
+      listed = c.in_ok-edges.ensures.edges;
       returns_told = c.in_ok-returns.ensures.told;
-      starts = refl;
-      edges = refl;
+      parts_starts = refl;
+      parts_edges = refl;
       restores = subst (λ (rs : List ℕ). All (λ r. r < count_of o) rs) (sym c.into_restores.ensures) known;
       sites = c.in_ok-sites.ensures ∙ ap sites_of places;
       texts = c.in_ok-texts.ensures ∙ ap text_sections_of object;
       without_size = c.in_ok-without_size.ensures ∙ ap unsized_of object;
     } in
-    record { tells = parts_tell o lists parts returned rares transfers are; shape = parts_have_shape o lists parts returned rares transfers are }
+    record { tells = parts_tell o lists parts returned listed.starts.items listed.edges.items rares transfers are; shape = parts_have_shape o lists parts returned listed.starts.items listed.edges.items rares transfers are }

@@ -1,4 +1,4 @@
-use Rattle.std.proofs.Common.{subst}
+use Rattle.std.proofs.Common.{refl, subst}
 use Rattle.flow_defs.specs.Coded.{Coded}
 use Rattle.return_search.specs.declared.flow.Flow.{Flow}
 use Rattle.control_flow.specs.Listed.{AreEntered, count_of}
@@ -18,8 +18,9 @@ returns c =
     } in
     let entered : AreEntered o c.in_ok-entered.entered.items (count_of o) = subst (λ (e : Coded). AreEntered e c.in_ok-entered.entered.items (count_of e)) c.places-places.ensures c.in_ok-entered.ensures in
     record {
-      told = tells_flow o lists flow c.requires.edges c.requires.exits c.in_ok-dead_ends.ensures entered;
-      shape = has_shape o lists flow c.requires.edges c.requires.exits c.in_ok-dead_ends.ensures entered c.requires.few;
-      count = flow_count o lists flow c.requires.edges c.requires.exits c.in_ok-dead_ends.ensures entered;
+      listed = (refl, refl);
+      told = tells_flow o lists flow c.requires.edges.0 c.requires.edges.1 c.requires.exits c.in_ok-dead_ends.ensures entered;
+      shape = has_shape o lists flow c.requires.edges.0 c.requires.edges.1 c.requires.exits c.in_ok-dead_ends.ensures entered c.requires.few;
+      count = flow_count o lists flow c.requires.edges.0 c.requires.edges.1 c.requires.exits c.in_ok-dead_ends.ensures entered;
       entered = entered;
     }

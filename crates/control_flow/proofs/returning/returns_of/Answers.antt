@@ -1,4 +1,4 @@
-use Rattle.std.proofs.Common.{◌≡◌, ℕ, List, Option, ◌∙◌, subst}
+use Rattle.std.proofs.Common.{◌≡◌, ℕ, List, Option, ap, ◌∙◌, subst}
 use Rattle.flow_defs.specs.Coded.{Coded}
 use Rattle.flow_defs.specs.Program.{program_of}
 use Rattle.flow_law.specs.Flows.{ObjectIsInOrder}
@@ -11,7 +11,13 @@ returns-clause-told c =
     let o : Coded = c.args.points.now in
     let lists = c.args.lists.now in
     let order : ObjectIsInOrder o = subst ObjectIsInOrder (c.linked.ensures ∙ c.places.ensures) c.object_is_in_order.ensures in
-    c.find_returns.ensures.told (program_of o lists) c.in_ok-flow_of.ensures.told (c.program_is_one.ensures o lists order.bytes order.special)
+    let told = c.find_returns.ensures.told (program_of o lists) c.in_ok-flow_of.ensures.told (c.program_is_one.ensures o lists order.bytes order.special) in
+    all_ok c.find_returns.result (λ returns is. record {
+      flow = c.in_ok-flow_of.field-0;
+      flow_starts = ap (λ starts. starts.items) c.in_ok-flow_of.ensures.listed.0;
+      flow_edges = ap (λ edges. edges.items) c.in_ok-flow_of.ensures.listed.1;
+      told = is;
+    }) told
 
 pub returns-clause-entered : goal.returns-clause-entered
 returns-clause-entered c =

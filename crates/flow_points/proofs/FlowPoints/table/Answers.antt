@@ -14,7 +14,7 @@ returns c =
     let point : c.point.result ≡ point_at o c.args.n = c.point.ensures ∙ ap (λ (e : Coded). point_at e c.args.n) c.places-places.ensures in
     let owner : c.owner.result ≡ owner_of_point o (point_at o c.args.n) = c.owner.ensures ∙ ap (λ (e : Coded). owner_of_point e (point_at e c.args.n)) c.places-places.ensures in
     c.of.ensures
-    ∙ c.self.invariant c.point.result.place c.owner.result
+    ∙ c.self.invariant.entries c.point.result.place c.owner.result
     ∙ ap (λ (e : Coded). table_of e.elf (texts_of e) c.point.result.place c.owner.result) c.self.view_is
     ∙ ap (λ (p : Point). table_of o.elf (texts_of o) p.place c.owner.result) point
     ∙ ap (λ (own : Option ℕ). table_of o.elf (texts_of o) (point_at o c.args.n).place own) owner

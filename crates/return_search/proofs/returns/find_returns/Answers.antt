@@ -1,5 +1,5 @@
 -- What is found, what comes back and the edges that stay are those of each program that the flow tells.
-use Rattle.std.proofs.Common.{◌≡◌, ◌<◌, ℕ, Bool, List, sym, ◌∙◌, subst, arith}
+use Rattle.std.proofs.Common.{◌≡◌, ◌<◌, ℕ, Bool, List, ◌∙◌, subst, arith}
 use Rattle.program_defs.specs.Program.{IsPoint}
 use Rattle.return_search.specs.Told.{exit_at}
 use Rattle.return_search.specs.Shape.{points_of}
@@ -23,5 +23,5 @@ returns-clause-told c p tells is =
     record {
       may_return = λ q point. may_return_is p flow tells c.requires is s.found.items s.known.items found.sound found.closed q point (omega (arith, inside q point, found.listed.long));
       comes_back = λ q point. comes_back_is p flow tells c.requires is s.found.items s.known.items found.sound found.closed targets q point (omega (arith, inside q point, c.in_ok-comes_back.ensures.len)) (each q (inside q point));
-      edges = λ q point. edges_are p flow tells c.requires is s.found.items s.known.items found.sound found.closed targets q point (each q (inside q point)) ∙ sym (kept.each q (inside q point));
+      edges = λ q point. kept.each q (inside q point) ∙ edges_are p flow tells c.requires is s.found.items s.known.items found.sound found.closed targets q point (each q (inside q point));
     }

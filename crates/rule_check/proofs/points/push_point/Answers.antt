@@ -8,16 +8,16 @@ use Rattle.rule_check.proofs.QuietPoints.{quiet_warns_nothing}
 use Rattle.rule_check.proofs.ByState.{point_kept, point_unkept}
 use Rattle.rule_check.proofs.points.push_point.Goals as goal
 
-pub returns-then-is_quiet : goal.returns-then-is_quiet
-returns-then-is_quiet c p ch =
-    gains_none c.args.into.now.items (PointWarns p c.args.kept.now c.args.n) (λ w. quiet_warns_nothing p c.args.kept.now c.args.n w (c.is_quiet.ensures c.if-is_quiet.true p ch.tells))
+pub returns-then-branch-clause-warnings : goal.returns-then-branch-clause-warnings
+returns-then-branch-clause-warnings c p ch =
+    gains_none c.args.into.now.items (PointWarns p c.args.kept.now c.args.n) (λ w. quiet_warns_nothing p c.args.kept.now c.args.n w (c.in_ok-is_quiet.ensures.quiet c.if-branch.true p ch.tells))
 
-pub returns-in-Some : goal.returns-in-Some
-returns-in-Some c = on_ok_weaker c.push_kept.result (λ h p ch.
+pub returns-in-Some-clause-warnings : goal.returns-in-Some-clause-warnings
+returns-in-Some-clause-warnings c = on_ok_weaker c.push_kept.result (λ h p ch.
     let some : at c.args.kept.now c.args.n ≡ Some c.in-Some.state = sym c.state.ensures ∙ c.in-Some.is in
     point_kept p c.args.kept.now c.args.into.now.items c.push_kept.new.into.items c.args.n c.in-Some.state some (h p ch some)) c.push_kept.ensures
 
-pub returns-in-None : goal.returns-in-None
-returns-in-None c = on_ok_weaker c.push_unkept.result (λ h p ch.
+pub returns-in-None-clause-warnings : goal.returns-in-None-clause-warnings
+returns-in-None-clause-warnings c = on_ok_weaker c.push_unkept.result (λ h p ch.
     let none : at c.args.kept.now c.args.n ≡ None = sym c.state.ensures ∙ c.in-None.is in
     point_unkept p c.args.kept.now c.args.into.now.items c.push_unkept.new.into.items c.args.n none (h p ch.tells)) c.push_unkept.ensures

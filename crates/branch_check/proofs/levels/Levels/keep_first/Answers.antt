@@ -3,7 +3,7 @@ use Rattle.std.proofs.Common.{◌≡◌, length, map, subst, arith}
 use Rattle.checker_defs.specs.Kept.{kept_or}
 use Rattle.branch_check.specs.LevelStates.{LevelStates, at}
 use Rattle.branch_check.specs.Reached.{kept_at}
-use Rattle.branch_check.proofs.Places.{kept_then, none_then}
+use Rattle.branch_check.proofs.Places.{advanced, kept_then, none_then}
 use Rattle.branch_check.proofs.Firsts.{firsts_kept}
 use Rattle.branch_check.proofs.levels.Levels.keep_first.Goals as goal
 
@@ -22,3 +22,19 @@ pub returns-clause-firsts : goal.returns-clause-firsts
 returns-clause-firsts c q =
     let len : c.len-self-inside.result ≡ length c.self.inside.reached.items = omega (arith, c.len-self-inside.ensures, c.self.inside.reached.ok) in
     rw len (firsts_kept c.self.inside.places.items c.self.inside.reached.items c.self.inside.states.list c.self.inside.kept c.self.invariant.2 q)
+
+pub invariant_of-self : goal.invariant_of-self
+invariant_of-self c =
+    let len : c.len-self-inside.result ≡ length c.self.inside.reached.items = omega (arith, c.len-self-inside.ensures, c.self.inside.reached.ok) in
+    rw len (
+      c.self.invariant.0,
+      c.self.invariant.1,
+      advanced c.self.inside.places.items c.self.inside.reached.items c.self.inside.states.list c.self.inside.kept c.self.invariant.2,
+      record {
+        front_in = omega arith;
+        front_kept = omega arith;
+        done_kept = c.none-self-inside.ensures.within (length c.self.inside.reached.items) (omega (arith, len));
+        first_in = omega arith;
+        settled_in = omega arith;
+      },
+    )

@@ -1,8 +1,8 @@
--- All edges lead to points, so those of a point do.
+-- All edges lead to points, so those that are listed of a point do.
 use Rattle.std.proofs.Common.{◌<◌, length, All}
 use Rattle.std.proofs.lemmas.List.Elements.{All-take, All-drop}
 use Rattle.program_defs.specs.declared.flow.Edge.{Edge}
-use Rattle.program_graph.proofs.graph.Graph.successors.Goals as goal
+use Rattle.program_graph.proofs.graph.Graph.listed.Goals as goal
 
 pub returns-clause-within : goal.returns-clause-within
 returns-clause-within c =
