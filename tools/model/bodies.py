@@ -282,16 +282,19 @@ class Body:
         self.jcc(self.elsewhere(frame))
 
     def table(self, frame: Frame, budget: int) -> None:
-        """A jump through a table."""
+        """A jump through a table, and perhaps more jumps through the same one where it leads."""
         if self.rng.random() < 0.5:
             self.jcc(self.elsewhere(frame))
         over = Label()
         cases = [Label() for _ in range(self.rng.randint(1, 4))]
-        self.world.table(self, self.emit("ff24c500000000"), cases)
+        table = self.world.table(self, self.emit("ff24c500000000"), cases)
         for case in cases:
             self.bind(case)
             self.block(frame, 0)
-            self.jump(over)
+            if case is not cases[-1] and self.rng.random() < 0.3:
+                self.world.name_table(self, self.emit("ff24c500000000"), table)
+            else:
+                self.jump(over)
         self.bind(over)
 
     def access(self, frame: Frame, budget: int) -> None:

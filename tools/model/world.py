@@ -79,16 +79,21 @@ class World:
         entry = bytes(4) + sp_offset.to_bytes(2, "little") + bytes([5, kind, signal, 0, 0, 0])
         self.asm.entry(".discard.unwind_hints", entry, {0: place})
 
-    def table(self, body: Body, at: int, cases: list[Label]) -> None:
+    def name_table(self, body: Body, at: int, table: Label) -> None:
+        """The jump at that place goes through the table."""
+        self.asm.fields.append(Field(body.sec, at + 3, R_32S, table, 0))
+
+    def table(self, body: Body, at: int, cases: list[Label]) -> Label:
         """The table of the jump at that place: in `.rodata`, behind those of others or a gap."""
         data = self.asm.section(self.rng.choice((".rodata", ".rodata.more")), 2)
         if self.rng.random() < 0.4:
             self.asm.parts[data].body += bytes(8)
         begin = self.asm.here(data)
-        self.asm.fields.append(Field(body.sec, at + 3, R_32S, begin, 0))
+        self.name_table(body, at, begin)
         for case in cases:
             self.asm.fields.append(Field(data, self.asm.end(data), R_64, case, 0))
             self.asm.parts[data].body += bytes(8)
+        return begin
 
     # Sites
 
