@@ -127,6 +127,7 @@ fn look_for_jumps(
 }
 
 /// Pushes the edges of a point, and finds what else there is of it.
+#[inline(always)]
 fn look(
     alloc: Global,
     points: &FlowPoints<'_, '_, '_>,
@@ -162,6 +163,7 @@ struct Kept {
 }
 
 /// What is kept of a point of which this is found, where those before it have these numbers of transfers.
+#[inline(always)]
 fn keep(
     points: &FlowPoints<'_, '_, '_>,
     lists: &Lists,

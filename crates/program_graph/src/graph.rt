@@ -231,6 +231,7 @@ impl Graph {
     }
 
     /// The edges that are listed of a point.
+    #[inline(always)]
     fn listed(&self, n: u32) -> &[Edge]
         requires { n < length self.now.parts.points.items }
         ensures edges { result.now ≡ listed_of self.now.parts n }
@@ -242,6 +243,7 @@ impl Graph {
     }
 
     /// Whether a point is listed as one that has the edges of another.
+    #[inline(never)]
     fn is_alike(&self, n: u32) -> bool
         ensures { IsTrue result ↔ Contains self.now.parts.alike.items n }
     {
@@ -251,6 +253,7 @@ impl Graph {
     /// The point whose edges a point has, where it is listed as one that has those of another: that one has its own.
     ///
     /// Of jumps by one table all but the first may be listed so.
+    #[inline(always)]
     pub fn alike(&self, n: u32) -> Option<u32>
         requires { n < length self.now.parts.points.items }
         ensures listed { MatchOption result (Contains self.now.parts.alike.items n → ⊥) (λ first. Contains self.now.parts.alike.items n × IsAlike self.now.parts n first) }
@@ -265,6 +268,7 @@ impl Graph {
     }
 
     /// Where control goes from a point, without the Next of a call that can't come back.
+    #[inline(always)]
     pub fn successors(&self, n: u32) -> &[Edge]
         requires { n < length self.now.parts.points.items }
         ensures edges { (p : Program) → Tells p self.now.parts → result.now ≡ edges_of p n }
