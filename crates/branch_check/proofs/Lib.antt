@@ -11,3 +11,4 @@ pub mod Numbered
 pub mod Short
 pub mod Slots
 pub mod NeutralMoves
+pub mod PassageLemmas

@@ -6,6 +6,7 @@ pub mod Least
 pub mod LevelStates
 pub mod Neutral
 pub mod Packed
+pub mod Passages
 pub mod Ranks
 pub mod Reached
 pub mod Region

@@ -11,9 +11,11 @@ ghost use Rattle.checker_defs.specs.Kept.{state_at};
 ghost use Rattle.program_graph.specs.Tells.{Tells};
 ghost use Rattle.branch_check.specs.Batches.{AreFirst};
 ghost use Rattle.branch_check.specs.LevelStates.{at};
+ghost use Rattle.branch_check.specs.Passages.{ArePassages};
 ghost use Rattle.branch_check.specs.Ranks.{AreSpread};
 
 use crate::levels::Levels;
+use crate::passages::Passage;
 use crate::runs::{no_run, run_from};
 use crate::spreading::{keep_first, offer_first, spread_levels};
 use program_graph::Graph;
@@ -61,8 +63,10 @@ fn batch_end(graph: &Graph, levels: &Levels, from: usize, mixed: usize) -> usize
 }
 
 /// Spreads states from all points of level 0 at once, from the beginning.
-pub(crate) fn spread_at_once(graph: &Graph, levels: &mut Levels)
+pub(crate) fn spread_at_once(graph: &Graph, passages: &[Passage], levels: &mut Levels)
     requires points { length levels.old.kept ≡ length graph.now.parts.points.items }
+    requires passages { length passages.now ≡ length graph.now.parts.points.items }
+    requires told { (p : Program) → Tells p graph.now.parts → ArePassages p passages.now }
     ensures points { length levels.new.kept ≡ length graph.now.parts.points.items }
     ensures spread { (p : Program) → Tells p graph.now.parts → IsProgram p → AreSpread p (at levels.new.kept) [] [] }
 {
@@ -70,12 +74,14 @@ pub(crate) fn spread_at_once(graph: &Graph, levels: &mut Levels)
     keep_first(graph, levels);
     let end = levels.firsts();
     levels.begin_batch(0, end);
-    spread_levels(graph, levels);
+    spread_levels(graph, passages, levels);
 }
 
 /// Spreads states from one batch after another. Where one meets a settled point, all is done at once instead.
-pub(crate) fn spread_batches(graph: &Graph, levels: &mut Levels, mixed: usize)
+pub(crate) fn spread_batches(graph: &Graph, passages: &[Passage], levels: &mut Levels, mixed: usize)
     requires points { length levels.old.kept ≡ length graph.now.parts.points.items }
+    requires passages { length passages.now ≡ length graph.now.parts.points.items }
+    requires told { (p : Program) → Tells p graph.now.parts → ArePassages p passages.now }
     requires next { length levels.old.next.states ≡ length levels.old.kept }
     requires none { (q : ℕ) → at levels.old.next.states q ≡ None }
     requires first { (p : Program) → Tells p graph.now.parts → AreFirst p levels.old.firsts }
@@ -90,9 +96,9 @@ pub(crate) fn spread_batches(graph: &Graph, levels: &mut Levels, mixed: usize)
         }
         let to = batch_end(graph, levels, from, mixed);
         levels.begin_batch(from, to);
-        spread_levels(graph, levels);
+        spread_levels(graph, passages, levels);
         if levels.is_met() {
-            spread_at_once(graph, levels);
+            spread_at_once(graph, passages, levels);
             return;
         }
         from = to;

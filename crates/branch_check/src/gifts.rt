@@ -1,40 +1,22 @@
 //! What a kept point gives to others.
 
-ghost use Rattle.std.specs.Prelude.{◌≡◌, ◌<◌, ◌&&◌, Some, not, length};
+ghost use Rattle.std.specs.Prelude.{◌≡◌, ◌<◌, Some, length};
 ghost use Rattle.state_defs.specs.declared.state.State.{State as StateValue};
 ghost use Rattle.state_defs.specs.Move.{move};
 ghost use Rattle.program_defs.specs.Program.{Program};
-ghost use Rattle.checker_defs.specs.Kept.{brought_along, is_free as is_free_hint, moved};
+ghost use Rattle.checker_defs.specs.Kept.{brought_along, moved};
 ghost use Rattle.program_graph.specs.Tells.{Tells};
 ghost use Rattle.branch_check.specs.LevelStates.{StaysSame, at};
+ghost use Rattle.branch_check.specs.Passages.{ArePassages};
 ghost use Rattle.branch_check.specs.Told.{given_along, given_to_restore, offer_all};
 
 use crate::levels::Levels;
-use crate::neutral::is_neutral;
 use crate::packed::PackedState;
+use crate::passages::{Passage, passage_at};
 use operation_defs::Op;
 use program_defs::{Edge, EdgeKind};
 use program_graph::Graph;
 use stack_state::step;
-use state_defs::HintState;
-
-/// Whether states come in along edges at a point with this hint.
-fn is_free(hint: Option<HintState>) -> bool
-    ensures { result ≡ is_free_hint hint }
-{
-    match hint {
-        None | Some(HintState::Save) => true,
-        Some(HintState::Set(_) | HintState::Restore) => false,
-    }
-}
-
-/// Whether states come in along edges at a point.
-fn is_open(graph: &Graph, n: u32) -> bool
-    requires { n < length graph.now.parts.points.items }
-    ensures { (p : Program) → Tells p graph.now.parts → result ≡ (not (p.unchecked n) && is_free_hint (p.hint n)) }
-{
-    !graph.unchecked(n) && is_free(graph.hint(n))
-}
 
 /// Offers a point the state that another one keeps, moved by an operation, if that isn't refused.
 fn offer_stepped(levels: &mut Levels, from: u32, op: Op, to: u32)
@@ -55,39 +37,46 @@ fn offer_stepped(levels: &mut Levels, from: u32, op: Op, to: u32)
     }
 }
 
-/// The same. Where the operation leaves the state as it is, it is handed on as it stands.
-fn offer_moved(levels: &mut Levels, from: u32, op: Op, to: u32)
-    requires from { from < length levels.old.kept }
-    requires point { to < length levels.old.kept }
+/// Offers a point the state that another one keeps, moved by its operation, if that isn't refused. Where the operation
+/// leaves the state as it is, it is handed on as it stands.
+fn offer_moved(graph: &Graph, passages: &[Passage], levels: &mut Levels, from: u32, to: u32)
+    requires points { length levels.old.kept ≡ length graph.now.parts.points.items }
+    requires passages { length passages.now ≡ length graph.now.parts.points.items }
+    requires told { (p : Program) → Tells p graph.now.parts → ArePassages p passages.now }
+    requires from { from < length graph.now.parts.points.items }
+    requires point { to < length graph.now.parts.points.items }
     ensures kept { levels.new.kept ≡ levels.old.kept }
     ensures front { levels.new.front ≡ levels.old.front }
     ensures done { levels.new.done ≡ levels.old.done }
     ensures same { StaysSame levels.old levels.new }
     ensures len { length levels.new.next.states ≡ length levels.old.next.states }
-    ensures next { (s : StateValue) → at levels.old.kept from ≡ Some s → levels.new.next ≡ offer_all levels.old.kept levels.old.next to (moved (move s op)) }
+    ensures next { (p : Program) (s : StateValue) → Tells p graph.now.parts → at levels.old.kept from ≡ Some s → levels.new.next ≡ offer_all levels.old.kept levels.old.next to (moved (move s (p.insn from).op)) }
 {
-    if is_neutral(op) && levels.is_short(from) {
+    if passage_at(passages, from).is_neutral && levels.is_short(from) {
         levels.pass_on(to, from);
     } else {
-        offer_stepped(levels, from, op, to);
+        offer_stepped(levels, from, graph.insn(from).op, to);
     }
 }
 
 /// Offers the point at an edge's end what is brought along it: to a fixup the state before the instruction, else the one
 /// after it; to another function none.
-fn bring_along(levels: &mut Levels, from: u32, op: Op, edge: Edge)
-    requires from { from < length levels.old.kept }
-    requires point { edge.to < length levels.old.kept }
+fn bring_along(graph: &Graph, passages: &[Passage], levels: &mut Levels, from: u32, edge: Edge)
+    requires points { length levels.old.kept ≡ length graph.now.parts.points.items }
+    requires passages { length passages.now ≡ length graph.now.parts.points.items }
+    requires told { (p : Program) → Tells p graph.now.parts → ArePassages p passages.now }
+    requires from { from < length graph.now.parts.points.items }
+    requires point { edge.to < length graph.now.parts.points.items }
     ensures kept { levels.new.kept ≡ levels.old.kept }
     ensures front { levels.new.front ≡ levels.old.front }
     ensures done { levels.new.done ≡ levels.old.done }
     ensures same { StaysSame levels.old levels.new }
     ensures len { length levels.new.next.states ≡ length levels.old.next.states }
-    ensures next { (s : StateValue) → at levels.old.kept from ≡ Some s → levels.new.next ≡ offer_all levels.old.kept levels.old.next edge.to (brought_along s op edge.kind) }
+    ensures next { (p : Program) (s : StateValue) → Tells p graph.now.parts → at levels.old.kept from ≡ Some s → levels.new.next ≡ offer_all levels.old.kept levels.old.next edge.to (brought_along s (p.insn from).op edge.kind) }
 {
     match edge.kind {
         EdgeKind::Next | EdgeKind::Taken | EdgeKind::Table => {
-            offer_moved(levels, from, op, edge.to);
+            offer_moved(graph, passages, levels, from, edge.to);
         }
         EdgeKind::Fixup => levels.pass_on(edge.to, from),
         EdgeKind::Sibling => {}
@@ -95,8 +84,16 @@ fn bring_along(levels: &mut Levels, from: u32, op: Op, edge: Edge)
 }
 
 /// Offers the point at an edge's end what a point that is kept gives along it.
-pub(crate) fn give_along(graph: &Graph, levels: &mut Levels, from: u32, edge: Edge)
+pub(crate) fn give_along(
+    graph: &Graph,
+    passages: &[Passage],
+    levels: &mut Levels,
+    from: u32,
+    edge: Edge,
+)
     requires points { length levels.old.kept ≡ length graph.now.parts.points.items }
+    requires passages { length passages.now ≡ length graph.now.parts.points.items }
+    requires told { (p : Program) → Tells p graph.now.parts → ArePassages p passages.now }
     requires from { from < length graph.now.parts.points.items }
     requires point { edge.to < length graph.now.parts.points.items }
     ensures kept { levels.new.kept ≡ levels.old.kept }
@@ -106,8 +103,8 @@ pub(crate) fn give_along(graph: &Graph, levels: &mut Levels, from: u32, edge: Ed
     ensures len { length levels.new.next.states ≡ length levels.old.next.states }
     ensures next { (p : Program) (s : StateValue) → Tells p graph.now.parts → at levels.old.kept from ≡ Some s → levels.new.next ≡ offer_all levels.old.kept levels.old.next edge.to (given_along p s (p.insn from).op edge) }
 {
-    if is_open(graph, edge.to) {
-        bring_along(levels, from, graph.insn(from).op, edge);
+    if passage_at(passages, edge.to).is_open {
+        bring_along(graph, passages, levels, from, edge);
     }
 }
 

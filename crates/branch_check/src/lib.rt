@@ -11,6 +11,7 @@ mod neutral;
 mod order;
 mod packed;
 mod parts;
+mod passages;
 mod region;
 mod runs;
 mod slot;

@@ -16,6 +16,7 @@ ghost use Rattle.branch_check.specs.Counted.{IsStateCount};
 ghost use Rattle.branch_check.specs.Batches.{AreFirst, InBatch, IsClean};
 ghost use Rattle.branch_check.specs.Done.{HaveGivenAll};
 ghost use Rattle.branch_check.specs.LevelStates.{StaysSame, at};
+ghost use Rattle.branch_check.specs.Passages.{ArePassages};
 ghost use Rattle.branch_check.specs.Ranks.{AreSpread};
 ghost use Rattle.branch_check.specs.Told.{HaveGiven};
 
@@ -25,6 +26,7 @@ use crate::counting::count_states;
 use crate::gifts::{give_along, give_to_restore};
 use crate::levels::Levels;
 use crate::packed::PackedState;
+use crate::passages::{Passage, list_passages, no_passages, restores_of};
 use ot_base::NoMemory;
 use program_graph::Graph;
 use stack_state::initial;
@@ -54,8 +56,10 @@ fn first_state(graph: &Graph, n: u32) -> Option<State>
 }
 
 /// Gives what the point at a place in front gives to others.
-fn give(graph: &Graph, levels: &mut Levels, i: usize)
+fn give(graph: &Graph, passages: &[Passage], levels: &mut Levels, i: usize)
     requires points { length levels.old.kept ≡ length graph.now.parts.points.items }
+    requires passages { length passages.now ≡ length graph.now.parts.points.items }
+    requires told { (p : Program) → Tells p graph.now.parts → ArePassages p passages.now }
     requires next { length levels.old.next.states ≡ length levels.old.kept }
     requires inside { i < length levels.old.front }
     requires done { (p : Program) → Tells p graph.now.parts → HaveGivenAll p levels.old }
@@ -72,16 +76,18 @@ fn give(graph: &Graph, levels: &mut Levels, i: usize)
         return;
     }
     for edge in giving_edges(graph, levels, i, a) {
-        give_along(graph, levels, a, *edge);
+        give_along(graph, passages, levels, a, *edge);
     }
-    for restore in graph.restores(a) {
+    for restore in restores_of(graph, passages, a) {
         give_to_restore(graph, levels, a, *restore);
     }
 }
 
 /// Gives what all points in front give.
-fn give_all(graph: &Graph, levels: &mut Levels)
+fn give_all(graph: &Graph, passages: &[Passage], levels: &mut Levels)
     requires points { length levels.old.kept ≡ length graph.now.parts.points.items }
+    requires passages { length passages.now ≡ length graph.now.parts.points.items }
+    requires told { (p : Program) → Tells p graph.now.parts → ArePassages p passages.now }
     requires next { length levels.old.next.states ≡ length levels.old.kept }
     requires none { (q : ℕ) → at levels.old.next.states q ≡ None }
     requires done { (p : Program) → Tells p graph.now.parts → HaveGivenAll p levels.old }
@@ -93,7 +99,7 @@ fn give_all(graph: &Graph, levels: &mut Levels)
     ensures given { (p : Program) → Tells p graph.now.parts → HaveGiven p levels.new (length levels.old.front) }
 {
     for i in 0..levels.front_len() {
-        give(graph, levels, i);
+        give(graph, passages, levels, i);
     }
 }
 
@@ -151,8 +157,10 @@ pub(crate) fn keep_first(graph: &Graph, levels: &mut Levels)
 
 /// Goes from level to level while points are in front.
 #[inline(never)]
-pub(crate) fn spread_levels(graph: &Graph, levels: &mut Levels)
+pub(crate) fn spread_levels(graph: &Graph, passages: &[Passage], levels: &mut Levels)
     requires points { length levels.old.kept ≡ length graph.now.parts.points.items }
+    requires passages { length passages.now ≡ length graph.now.parts.points.items }
+    requires told { (p : Program) → Tells p graph.now.parts → ArePassages p passages.now }
     requires next { length levels.old.next.states ≡ length levels.old.kept }
     requires none { (q : ℕ) → at levels.old.next.states q ≡ None }
     requires front { All (λ q. q < length levels.old.kept) levels.old.front }
@@ -165,7 +173,7 @@ pub(crate) fn spread_levels(graph: &Graph, levels: &mut Levels)
     ensures spread { (p : Program) (waiting : List ℕ) → Tells p graph.now.parts → IsProgram p → InBatch p levels.old waiting → IsClean levels.new.next → AreSpread p (at levels.new.kept) [] waiting }
 {
     'rounds: loop {
-        give_all(graph, levels);
+        give_all(graph, passages, levels);
         levels.advance();
         if levels.front_len() == 0 {
             return;
@@ -177,6 +185,8 @@ pub(crate) fn spread_levels(graph: &Graph, levels: &mut Levels)
 #[derive(Drop)]
 pub struct Scratch {
     levels: Levels,
+    /// How states pass the points, in 3 bytes each.
+    passages: Vec<Passage>,
 }
 
 impl Model for Scratch {
@@ -187,7 +197,7 @@ impl Model for Scratch {
 
     ghost view = { λ s. length s.levels.kept };
 
-    ghost invariant = { λ s. (length s.levels.next.states ≡ length s.levels.kept) × ((q : ℕ) → at s.levels.kept q ≡ None) × ((q : ℕ) → at s.levels.next.states q ≡ None) };
+    ghost invariant = { λ s. (length s.passages.items ≡ length s.levels.kept) × (length s.levels.next.states ≡ length s.levels.kept) × ((q : ℕ) → at s.levels.kept q ≡ None) × ((q : ℕ) → at s.levels.next.states q ≡ None) };
 }
 
 impl Scratch {
@@ -196,7 +206,8 @@ impl Scratch {
         ensures { IfOk result (λ scratch. scratch ≡ points) }
     {
         let levels = Levels::reserve(alloc, points)?;
-        Ok(Scratch { levels })
+        let passages = no_passages(alloc, points)?;
+        Ok(Scratch { levels, passages })
     }
 }
 
@@ -267,16 +278,21 @@ impl Kept {
 /// The states that a checker keeps for the points of a program, by levels: those that hints set and those at entries,
 /// then for each further point the least state that is brought to it first.
 ///
-/// Each point and each edge is looked at once when the point is kept, and once before, to choose the batches; where batches
-/// meet, once more. The edges of a point that has those of another mostly aren't. No memory is taken.
+/// Each edge is looked at once when its point is kept, and once before, to choose the batches; each point before, to tell
+/// how states pass it and to choose them, and when it is kept only where its operation moves the state; where batches meet,
+/// once more. The edges of a point that has those of another mostly aren't. No memory is taken.
 pub fn spread(graph: &Graph, scratch: Scratch) -> Kept
     requires { scratch ≡ length graph.now.parts.points.items }
     ensures points { length result ≡ length graph.now.parts.points.items }
     ensures kept { (p : Program) → Tells p graph.now.parts → IsProgram p → HintsStandAtPoints p → AreKeptStates p (at result) }
 {
-    let Scratch { mut levels } = scratch;
+    let Scratch {
+        mut levels,
+        mut passages,
+    } = scratch;
+    list_passages(graph, &mut passages);
     let mixed = offer_mixed_first(graph, &mut levels);
     keep_first(graph, &mut levels);
-    spread_batches(graph, &mut levels, mixed);
+    spread_batches(graph, &passages, &mut levels, mixed);
     Kept { levels }
 }

@@ -71,15 +71,15 @@ loop-restore-init c = record {
         | inl e ↦ subst (λ (es : List Edge). AreLeast kept next (WithEdges A p s (p.insn c.front-a.result).op es)) e listed
         | inr r ↦ in_vain p c.args.levels.now next c.args.i c.front-a.result s (t.count ∙ sym c.requires.points) has r.1 c.loop-edge.invariant.same.1 c.loop-edge.invariant.same.2 (subst (λ (es : List Edge). AreLeast kept next (WithEdges A p s (p.insn c.front-a.result).op es)) r.0 listed)
       ] in
-      no_restore kept p s (WithEdges A p s (p.insn c.front-a.result).op (edges_of p c.front-a.result)) c.loop-edge.levels.next c.restores-restore-items.result.now edges;
+      no_restore kept p s (WithEdges A p s (p.insn c.front-a.result).op (edges_of p c.front-a.result)) c.loop-edge.levels.next c.restores_of-restore-items.result.now edges;
 }
 
 pub loop-restore-preserved : goal.loop-restore-preserved
 loop-restore-preserved c =
-    let items : List ℕ = c.restores-restore-items.result.now in
+    let items : List ℕ = c.restores_of-restore-items.result.now in
     let r : ℕ = get_or items c.loop-restore.restore-index 0 in
     let kept : List (Option State) = c.args.levels.now.kept in
-    let to : r < length c.args.graph.now.parts.points.items = c.restores-restore-items.ensures.within c.loop-restore.restore-index 0 c.loop-restore-test.true in
+    let to : r < length c.args.graph.now.parts.points.items = c.restores_of-restore-items.ensures.within c.loop-restore.restore-index 0 c.loop-restore-test.true in
     let long : length c.loop-restore.levels.next.states ≡ length kept = c.loop-restore.invariant.next in
     let inside : r < length c.loop-restore.levels.next.states = omega (arith, to, long, c.requires.points) in
     record {
@@ -103,7 +103,7 @@ returns-clause-given c p t = all (state_of_some (at c.args.levels.now.kept c.fro
   where
     all : (s : State) × (at c.args.levels.now.kept c.front-a.result ≡ Some s) → HaveGiven p c.loop-restore.levels (c.args.i + 1)
     all (s, has) =
-        let items : List ℕ = c.restores-restore-items.result.now in
+        let items : List ℕ = c.restores_of-restore-items.result.now in
         let kept : List (Option State) = c.args.levels.now.kept in
         let front : List ℕ = c.args.levels.now.front in
         let next : Offers = c.loop-restore.levels.next in
@@ -111,6 +111,6 @@ returns-clause-given c p t = all (state_of_some (at c.args.levels.now.kept c.fro
         let all : AreLeast kept next (WithRestores A p s items) =
         subst (λ (rs : List ℕ). AreLeast kept next (WithRestores A p s rs)) (take_all c.loop-restore.restore-index items c.loop-restore-test.false) (c.loop-restore.invariant.given p s t has) in
         let more : AreLeast kept next (IsGiven p (at kept) (take (c.args.i + 1) front)) =
-        given_more p kept front c.args.i c.front-a.result c.requires.inside c.front-a.ensures.front (t.count ∙ sym c.requires.points) next s items has (c.restores-restore-items.ensures.restores p t) all in
+        given_more p kept front c.args.i c.front-a.result c.requires.inside c.front-a.ensures.front (t.count ∙ sym c.requires.points) next s items has (c.restores_of-restore-items.ensures.restores p t) all in
         subst (λ (k : List (Option State)). AreLeast k next (IsGiven p (at k) (take (c.args.i + 1) c.loop-restore.levels.front))) (sym c.loop-restore.invariant.kept)
         (subst (λ (f : List ℕ). AreLeast kept next (IsGiven p (at kept) (take (c.args.i + 1) f))) (sym c.loop-restore.invariant.front) more)

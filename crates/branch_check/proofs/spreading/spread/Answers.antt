@@ -1,8 +1,10 @@
 -- All has been given.
-use Rattle.std.proofs.Common.{◌≡◌, ℕ, ◌<◌, List, Option, Some, length, arith}
+use Rattle.std.proofs.Common.{◌≡◌, ℕ, ◌<◌, List, Option, Some, length, sym, subst, arith}
 use Rattle.state_defs.specs.declared.state.State.{State}
 use Rattle.program_defs.specs.Program.{IsPoint}
 use Rattle.branch_check.specs.LevelStates.{at}
+use Rattle.branch_check.specs.declared.passages.Passage.{Passage}
+use Rattle.branch_check.specs.Passages.{ArePassages}
 use Rattle.branch_check.proofs.Ranks.{spread_are_kept}
 use Rattle.branch_check.proofs.Rounds.{at_some}
 use Rattle.branch_check.proofs.spreading.spread.Goals as goal
@@ -13,3 +15,6 @@ returns-clause-kept c p t is hints =
     let point : (q : ℕ) (s : State) → at kept q ≡ Some s → IsPoint p q =
     λ q s e. let l : q < length kept = at_some kept q s e in omega (arith, l, t.count, c.spread_batches.ensures.points) in
     spread_are_kept p is hints (at kept) (c.spread_batches.ensures.spread p t is) point
+
+pub spread_batches-requires-clause-told : goal.spread_batches-requires-clause-told
+spread_batches-requires-clause-told c p t = subst (λ (passages : List Passage). ArePassages p passages) (sym c.deref.ensures.value) (c.list_passages.ensures.told p t)
