@@ -7,7 +7,6 @@ use Rattle.std.proofs.lemmas.List.{drop-map, get_or_default, get_or-map, take-ma
 use Rattle.std.proofs.lemmas.List.Elements.{Contains-append_left, Contains-push, Contains-push_cases, Contains-get_or}
 use Rattle.std.proofs.lemmas.List.Quantifiers.{all_pairs_push}
 use Rattle.ot_base.specs.declared.place.Place.{Place}
-use Rattle.ot_base.specs.declared.row.Row.{Row}
 use Rattle.ot_base.specs.declared.row.PlacedRow.{PlacedRow}
 use Rattle.state_defs.specs.declared.state.State.{State}
 use Rattle.program_defs.specs.Program.{Program}

@@ -1,21 +1,20 @@
 //! The rows that differ from the one before.
 
-ghost use Rattle.std.specs.Prelude.{◌≡◌, ◌≤◌, ◌<◌, ◌-◌, [], All, IfOk, IfSome, IsTrue, List, MatchOption, OnOk, Some, length, slice_index_or, slice_range, true, false, ℕ};
+ghost use Rattle.std.specs.Prelude.{◌≡◌, ◌≤◌, ◌<◌, [], All, IfOk, IfSome, IsTrue, List, MatchOption, OnOk, length, slice_index_or, slice_range, true, false, ℕ};
 ghost use Rattle.ot_base.specs.declared.row.PlacedRow.{PlacedRow};
 ghost use Rattle.program_defs.specs.Program.{Program};
 ghost use Rattle.program_defs.specs.IsProgram.{IsLaidOut};
-ghost use Rattle.checker_defs.specs.Rows.{row_of_point};
+ghost use Rattle.checker_defs.specs.Rows.{placed, row_of_point};
 ghost use Rattle.program_graph.specs.Tells.{Tells};
 ghost use Rattle.branch_check.specs.LevelStates.{at};
 ghost use Rattle.site_points.specs.Sites.{IsIndexOf, is_before as is_lower};
-ghost use Rattle.orc_build.specs.Changes.{AreMerged, AreRowsInSites, BeginsRow, add_all, after_row, is_held as is_row_held, row_from, rows_in_sites};
+ghost use Rattle.orc_build.specs.Changes.{AreMerged, AreRowsInSites, BeginsRow, add_all, after_row, is_held as is_row_held, rows_in_sites};
 ghost use Rattle.orc_build.specs.Checked.{IsCheckedBy};
 ghost use Rattle.orc_build.specs.Fit.{Fit};
 
-use crate::in_sites::site_row;
 use crate::row::{ZERO_ROW, row_or_zero};
 use branch_check::Kept;
-use ot_base::{NoMemory, Place, PlacedRow, Row};
+use ot_base::{NoMemory, Place, PlacedRow};
 use program_graph::Graph;
 use site_points::SiteIndex;
 use std::alloc::Global;
@@ -42,11 +41,63 @@ fn push_change(rows: &mut Vec<PlacedRow>, row: PlacedRow) -> Result<(), NoMemory
     Ok(())
 }
 
+/// A point whose row the rows so far are known to end with, and the section in which they do.
+#[derive(Clone, Copy)]
+struct Held {
+    point: u32,
+    sec: u32,
+}
+
+/// A quick test whether the rows end with a point's row in the section of a place: where it says so they do.
+#[inline(always)]
+fn ends_with(kept: &Kept, held: Option<Held>, point: u32, place: Place) -> bool
+    requires point { point < length kept.now }
+    requires inside { IfSome held (λ h. h.point < length kept.now) }
+    ensures { IsTrue result → (rows : List PlacedRow) → IfSome held (λ h. is_row_held rows h.sec (row_of_point (at kept.now) h.point) ≡ true) → is_row_held rows place.sec (row_of_point (at kept.now) point) ≡ true }
+{
+    match held {
+        Some(before) => before.sec == place.sec && kept.are_alike(before.point, point),
+        None => false,
+    }
+}
+
+/// Adds the row of a point that begins at a place, unless it is equal to the one before in its section. Where the point keeps the
+/// same state as the one whose row is held, its row isn't made.
+#[inline(always)]
+fn push_row(
+    kept: &Kept,
+    rows: &mut Vec<PlacedRow>,
+    held: &mut Option<Held>,
+    point: u32,
+    place: Place,
+) -> Result<(), NoMemory>
+    requires point { point < length kept.now }
+    requires fit { Fit (at kept.now) }
+    requires inside { IfSome held.old (λ h. h.point < length kept.now) }
+    requires held { IfSome held.old (λ h. is_row_held rows.old.items h.sec (row_of_point (at kept.now) h.point) ≡ true) }
+    ensures pushed { OnOk result (rows.new.items ≡ after_row rows.old.items (placed place (row_of_point (at kept.now) point))) }
+    ensures inside { OnOk result (IfSome held.new (λ h. h.point < length kept.now)) }
+    ensures held { OnOk result (IfSome held.new (λ h. is_row_held rows.new.items h.sec (row_of_point (at kept.now) h.point) ≡ true)) }
+{
+    if ends_with(kept, *held, point, place) {
+        return Ok(());
+    }
+    let row = row_or_zero(kept.state(point));
+    push_change(rows, PlacedRow { place, row })?;
+    *held = Some(Held {
+        point,
+        sec: place.sec,
+    });
+    Ok(())
+}
+
 /// Adds the rows of kept points of sites that run before a place, from one on, and says where those end.
+#[inline(always)]
 fn push_before(
     graph: &Graph,
     kept: &Kept,
     rows: &mut Vec<PlacedRow>,
+    held: &mut Option<Held>,
     more: &[u32],
     from: usize,
     place: Place,
@@ -55,18 +106,23 @@ fn push_before(
     requires fit { Fit (at kept.now) }
     requires more { All (λ q. q < length graph.now.parts.points.items) more.now }
     requires from { from ≤ length more.now }
+    requires inside { IfSome held.old (λ h. h.point < length kept.now) }
+    requires held { IfSome held.old (λ h. is_row_held rows.old.items h.sec (row_of_point (at kept.now) h.point) ≡ true) }
     ensures behind { IfOk result (λ end. from ≤ end) }
     ensures within { IfOk result (λ end. end ≤ length more.now) }
     ensures before { IfOk result (λ end. (p : Program) → Tells p graph.now.parts → (k d : ℕ) → from ≤ k → k < end → is_lower (p.address (slice_index_or more.now k d)) place ≡ true) }
     ensures other { IfOk result (λ end. (p : Program) → Tells p graph.now.parts → (d : ℕ) → end < length more.now → is_lower (p.address (slice_index_or more.now end d)) place ≡ false) }
     ensures pushed { IfOk result (λ end. (p : Program) → Tells p graph.now.parts → rows.new.items ≡ add_all rows.old.items (rows_in_sites p (at kept.now) (slice_range more.now from end))) }
+    ensures inside { OnOk result (IfSome held.new (λ h. h.point < length kept.now)) }
+    ensures held { OnOk result (IfSome held.new (λ h. is_row_held rows.new.items h.sec (row_of_point (at kept.now) h.point) ≡ true)) }
 {
     for end in from..more.len() {
         let n = more[end];
-        if !is_before(graph.address(n), place) {
+        let address = graph.address(n);
+        if !is_before(address, place) {
             return Ok(end);
         }
-        push_change(rows, site_row(graph, kept, n))?;
+        push_row(kept, rows, held, n, address)?;
     }
     Ok(more.len())
 }
@@ -76,99 +132,34 @@ fn push_all(
     graph: &Graph,
     kept: &Kept,
     rows: &mut Vec<PlacedRow>,
+    held: &mut Option<Held>,
     more: &[u32],
 ) -> Result<(), NoMemory>
     requires points { length kept.now ≡ length graph.now.parts.points.items }
     requires fit { Fit (at kept.now) }
     requires more { All (λ q. q < length graph.now.parts.points.items) more.now }
+    requires inside { IfSome held.old (λ h. h.point < length kept.now) }
+    requires held { IfSome held.old (λ h. is_row_held rows.old.items h.sec (row_of_point (at kept.now) h.point) ≡ true) }
     ensures { OnOk result ((p : Program) → Tells p graph.now.parts → rows.new.items ≡ add_all rows.old.items (rows_in_sites p (at kept.now) more.now)) }
 {
     for n in more {
-        push_change(rows, site_row(graph, kept, *n))?;
+        push_row(kept, rows, held, *n, graph.address(*n))?;
     }
     Ok(())
 }
 
-/// Whether some points, from one on, have one that runs before a place.
-fn has_before(graph: &Graph, more: &[u32], from: usize, place: Place) -> bool
-    requires more { All (λ q. q < length graph.now.parts.points.items) more.now }
-    requires from { from ≤ length more.now }
-    ensures { result ≡ false → (p : Program) → Tells p graph.now.parts → (d : ℕ) → from < length more.now → is_lower (p.address (slice_index_or more.now from d)) place ≡ false }
-{
-    from < more.len() && is_before(graph.address(more[from]), place)
-}
-
-/// Adds the rows of kept points of sites that run before another row's place, from one on, then that row, unless it is known to be
-/// held already where none is before it. Says where those end.
-#[inline(always)]
-fn push_plain(
-    graph: &Graph,
-    kept: &Kept,
-    rows: &mut Vec<PlacedRow>,
-    more: &[u32],
-    from: usize,
-    row: PlacedRow,
-    is_held: bool,
-) -> Result<usize, NoMemory>
-    requires points { length kept.now ≡ length graph.now.parts.points.items }
-    requires fit { Fit (at kept.now) }
-    requires more { All (λ q. q < length graph.now.parts.points.items) more.now }
-    requires from { from ≤ length more.now }
-    requires held { IsTrue is_held → is_row_held rows.old.items row.place.sec row.row ≡ true }
-    ensures behind { IfOk result (λ end. from ≤ end) }
-    ensures within { IfOk result (λ end. end ≤ length more.now) }
-    ensures before { IfOk result (λ end. (p : Program) → Tells p graph.now.parts → (k d : ℕ) → from ≤ k → k < end → is_lower (p.address (slice_index_or more.now k d)) row.place ≡ true) }
-    ensures other { IfOk result (λ end. (p : Program) → Tells p graph.now.parts → (d : ℕ) → end < length more.now → is_lower (p.address (slice_index_or more.now end d)) row.place ≡ false) }
-    ensures pushed { IfOk result (λ end. (p : Program) → Tells p graph.now.parts → rows.new.items ≡ after_row (add_all rows.old.items (rows_in_sites p (at kept.now) (slice_range more.now from end))) row) }
-    ensures held { OnOk result (is_row_held rows.new.items row.place.sec row.row ≡ true) }
-{
-    if is_held && !has_before(graph, more, from, row.place) {
-        return Ok(from);
-    }
-    let end = push_before(graph, kept, rows, more, from, row.place)?;
-    push_change(rows, row)?;
-    Ok(end)
-}
-
-/// The row of a point, and the section in which the rows so far are known to end with it.
-#[derive(Clone, Copy)]
-struct Current {
-    row: Row,
-    held: Option<u32>,
-}
-
-/// The row of a point, which is mostly that of the one before.
-fn row_at(kept: &Kept, n: u32, before: Current) -> Current
-    requires inside { n < length kept.now }
-    requires fit { Fit (at kept.now) }
-    requires before { 0 < n → before.row ≡ row_of_point (at kept.now) (n - 1) }
-    ensures row { result.row ≡ row_of_point (at kept.now) n }
-    ensures held { (sec : ℕ) → result.held ≡ Some sec → (before.held ≡ Some sec) × (result.row ≡ before.row) }
-{
-    if n != 0 && kept.are_alike(n - 1, n) {
-        return before;
-    }
-    Current {
-        row: row_or_zero(kept.state(n)),
-        held: None,
-    }
-}
-
-/// The row of a point of the object's code that begins one, where the point has this row: outside sites each does, and the
-/// first of a site does where it isn't kept.
-fn plain_row(
+/// Where a point of the object's code begins a row, if it does: outside sites each does, and the first of a site does where it
+/// isn't kept.
+fn plain_place(
     graph: &Graph,
     kept: &Kept,
     sites: &SiteIndex,
     near: &mut usize,
     n: u32,
-    row: Row,
-) -> Option<PlacedRow>
+) -> Option<Place>
     requires points { length kept.now ≡ length graph.now.parts.points.items }
     requires inside { n < length graph.now.parts.points.items }
-    requires row { row ≡ row_of_point (at kept.now) n }
-    ensures row { IfSome result (λ placed. placed.row ≡ row) }
-    ensures begins { (p : Program) → Tells p graph.now.parts → IsIndexOf p sites.now → IsLaidOut p → MatchOption result (BeginsRow p (at kept.now) n → ⊥) (λ row. BeginsRow p (at kept.now) n × (row ≡ row_from p (at kept.now) n)) }
+    ensures { (p : Program) → Tells p graph.now.parts → IsIndexOf p sites.now → IsLaidOut p → MatchOption result (BeginsRow p (at kept.now) n → ⊥) (λ place. BeginsRow p (at kept.now) n × (place ≡ p.place n)) }
 {
     if graph.variant(n) != 0 {
         return None;
@@ -179,7 +170,7 @@ fn plain_row(
             return None;
         }
     }
-    Some(PlacedRow { place, row })
+    Some(place)
 }
 
 /// The rows of points of the object's code and those of kept points of sites, in the order of their places and without those that
@@ -200,19 +191,13 @@ pub(crate) fn list_changes(
     let mut rows = Vec::new(alloc);
     let mut next = 0usize;
     let mut near = 0usize;
-    let mut current = Current {
-        row: ZERO_ROW,
-        held: None,
-    };
+    let mut held: Option<Held> = None;
     for n in 0..graph.points() {
-        current = row_at(kept, n, current);
-        if let Some(row) = plain_row(graph, kept, sites, &mut near, n, current.row) {
-            let sec = row.place.sec;
-            let is_held = current.held == Some(sec);
-            next = push_plain(graph, kept, &mut rows, in_sites, next, row, is_held)?;
-            current.held = Some(sec);
+        if let Some(place) = plain_place(graph, kept, sites, &mut near, n) {
+            next = push_before(graph, kept, &mut rows, &mut held, in_sites, next, place)?;
+            push_row(kept, &mut rows, &mut held, n, place)?;
         }
     }
-    push_all(graph, kept, &mut rows, &in_sites[next..])?;
+    push_all(graph, kept, &mut rows, &mut held, &in_sites[next..])?;
     Ok(rows)
 }

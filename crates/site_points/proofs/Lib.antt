@@ -3,3 +3,4 @@ pub mod Finding
 pub mod Permuted
 pub mod Steps
 pub mod Listing
+pub mod Same

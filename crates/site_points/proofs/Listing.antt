@@ -34,12 +34,11 @@ own_is : (s : OwnSite) → own s.start s.len ≡ s
 unfolding own
 own_is s = refl
 
+pub equal_sites : (one other : OwnSite) → one.start ≡ other.start → one.len ≡ other.len → one ≡ other
+equal_sites one other start len = let k : own one.start one.len ≡ own other.start other.len = cc in sym (own_is one) ∙ (k ∙ own_is other)
+
 pub same_own : (one other : OwnSite) → site_of one ≡ site_of other → one ≡ other
-same_own one other e =
-    let start : one.start ≡ other.start = ap (λ (s : Site). s.start) e in
-    let len : one.len ≡ other.len = ap (λ (s : Site). s.len) e in
-    let k : own one.start one.len ≡ own other.start other.len = cc in
-    sym (own_is one) ∙ (k ∙ own_is other)
+same_own one other e = equal_sites one other (ap (λ (s : Site). s.start) e) (ap (λ (s : Site). s.len) e)
 
 -- what has a state is something
 some_state : (o : Option State) → IsSome o → (s : State) × (o ≡ Some s)

@@ -192,6 +192,13 @@ impl SiteIndex {
         SiteIndex { sites }
     }
 
+    /// Whether these are the same sites as others.
+    pub(crate) fn is_same(&self, other: &SiteIndex) -> bool
+        ensures { IsTrue result → self.now ≡ other.now }
+    {
+        self.sites.as_slice() == other.sites.as_slice()
+    }
+
     /// The site that holds a place, where one does. Of sites that share no byte that is the only one.
     ///
     /// `near` is any number. Where it is the one that the last look-up left there, and no site begins between that one's place and

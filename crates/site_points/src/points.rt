@@ -1,6 +1,6 @@
 //! Kept points that run in sites.
 
-ghost use Rattle.std.specs.Prelude.{◌≡◌, ◌++◌, ℕ, ◌<◌, All, AllPairs, IsPermutation, Contains, IfOk, IfSome, IfNone, IsSome, IsTrue, OnOk, length, map};
+ghost use Rattle.std.specs.Prelude.{◌≡◌, ◌++◌, ◌⊎◌, ℕ, ◌<◌, [], true, All, AllPairs, IsPermutation, Contains, IfOk, IfSome, IfNone, IsSome, IsTrue, OnOk, length, map};
 ghost use Rattle.program_defs.specs.Program.{Program};
 ghost use Rattle.program_graph.specs.declared.parts.Site.{Site};
 ghost use Rattle.program_graph.specs.Tells.{Tells};
@@ -51,65 +51,77 @@ fn runs_in(graph: &Graph, sites: &SiteIndex, near: &mut usize, n: u32) -> bool
     sites.find(graph.address(n), near).is_some()
 }
 
-/// The kept points that run in these sites, by their numbers.
+/// The one of these sites in which a point runs, if it is kept and runs in one.
+#[inline(always)]
+fn site_of_kept(
+    graph: &Graph,
+    kept: &Kept,
+    sites: &SiteIndex,
+    near: &mut usize,
+    n: u32,
+) -> Option<Site>
+    requires points { length kept.now ≡ length graph.now.parts.points.items }
+    requires inside { n < length graph.now.parts.points.items }
+    ensures kept { IfSome result (λ site. IsSome (at kept.now n)) }
+    ensures some { IfSome result (λ site. 0 < site.len) }
+    ensures site { (p : Program) → Tells p graph.now.parts → IfSome result (λ site. Contains sites.now site × (holds site (p.address n) ≡ true)) }
+    ensures none { (p : Program) → Tells p graph.now.parts → AreApart sites.now → IfNone result (IsSome (at kept.now n) → RunsIn p sites.now n → ⊥) }
+{
+    let site = sites.find(graph.address(n), near)?;
+    if kept.is_kept(n) { Some(site) } else { None }
+}
+
+/// Whether a point that runs in a site is a plain one at its start.
+#[inline(always)]
+fn is_start(graph: &Graph, site: &Site, n: u32) -> bool
+    requires { n < length graph.now.parts.points.items }
+    ensures yes { IsTrue result → (p : Program) → Tells p graph.now.parts → holds site.now (p.address n) ≡ true → IsStartOf p site.now n }
+    ensures no { (p : Program) → Tells p graph.now.parts → IsStartOf p site.now n → IsTrue result }
+{
+    graph.variant(n) == 0 && site.start == graph.address(n)
+}
+
+/// Adds the site in which a point runs, if the point is a plain one at its start.
+#[inline(always)]
+fn push_start(graph: &Graph, starts: &mut Vec<Site>, site: Site, n: u32) -> Result<(), NoMemory>
+    requires { n < length graph.now.parts.points.items }
+    ensures stay { OnOk result ((other : Site) → Contains starts.old.items other → Contains starts.new.items other) }
+    ensures some { 0 < site.len → All (λ other. 0 < other.len) starts.old.items → OnOk result (All (λ other. 0 < other.len) starts.new.items) }
+    ensures each { OnOk result ((p : Program) → Tells p graph.now.parts → holds site (p.address n) ≡ true → (other : Site) → Contains starts.new.items other → Contains starts.old.items other ⊎ (site ≡ other × IsStartOf p site n)) }
+    ensures start { OnOk result ((p : Program) → Tells p graph.now.parts → IsStartOf p site n → Contains starts.new.items site) }
+{
+    if is_start(graph, &site, n) {
+        starts.push(site)?;
+    }
+    Ok(())
+}
+
+/// The kept points that run in these sites, by their numbers. Adds the sites at whose starts plain ones of them run.
 fn points_in(
     alloc: Global,
     graph: &Graph,
     kept: &Kept,
     sites: &SiteIndex,
+    starts: &mut Vec<Site>,
 ) -> Result<Vec<u32>, NoMemory>
-    requires { length kept.now ≡ length graph.now.parts.points.items }
+    requires points { length kept.now ≡ length graph.now.parts.points.items }
+    requires none { starts.old.items ≡ [] }
     ensures ascending { IfOk result (λ points. AllPairs (λ q r. q < r) points.items) }
     ensures kept { IfOk result (λ points. All (λ q. IsSome (at kept.now q)) points.items) }
+    ensures each { IfOk result (λ points. (p : Program) → Tells p graph.now.parts → All (RunsIn p sites.now) points.items) }
     ensures told { IfOk result (λ points. (p : Program) → Tells p graph.now.parts → AreApart sites.now → ArePointsIn p (at kept.now) sites.now points.items) }
+    ensures some { OnOk result (All (λ site. 0 < site.len) starts.new.items) }
+    ensures starts { IfOk result (λ points. (p : Program) → Tells p graph.now.parts → AreApart sites.now → AreKeptIn p points.items sites.now starts.new.items) }
 {
     let mut points = Vec::new(alloc);
     let mut near = 0usize;
     for n in 0..graph.points() {
-        if runs_in(graph, sites, &mut near, n) && kept.is_kept(n) {
+        if let Some(site) = site_of_kept(graph, kept, sites, &mut near, n) {
             points.push(n)?;
+            push_start(graph, starts, site, n)?;
         }
     }
     Ok(points)
-}
-
-/// The one of these sites at whose start a plain point runs, if it does at one's.
-fn started_site(graph: &Graph, sites: &SiteIndex, near: &mut usize, n: u32) -> Option<Site>
-    requires { n < length graph.now.parts.points.items }
-    ensures site { (p : Program) → Tells p graph.now.parts → IfSome result (λ site. Contains sites.now site × IsStartOf p site n) }
-    ensures some { IfSome result (λ site. 0 < site.len) }
-    ensures none { (p : Program) → Tells p graph.now.parts → AreApart sites.now → IfNone result ((site : Site) → Contains sites.now site → IsStartOf p site n → ⊥) }
-{
-    if graph.variant(n) != 0 {
-        return None;
-    }
-    let address = graph.address(n);
-    let site = sites.find(address, near)?;
-    if site.start == address {
-        Some(site)
-    } else {
-        None
-    }
-}
-
-/// Those of the sites at whose starts plain ones of these points run.
-fn kept_sites(
-    alloc: Global,
-    graph: &Graph,
-    sites: &SiteIndex,
-    points: &[u32],
-) -> Result<SiteIndex, NoMemory>
-    requires { All (λ q. q < length graph.now.parts.points.items) points.now }
-    ensures { IfOk result (λ starts. (p : Program) → Tells p graph.now.parts → AreApart sites.now → AreKeptIn p points.now sites.now starts) }
-{
-    let mut starts = Vec::new(alloc);
-    let mut near = 0usize;
-    for n in points {
-        if let Some(site) = started_site(graph, sites, &mut near, *n) {
-            starts.push(site)?;
-        }
-    }
-    Ok(SiteIndex::sorted(starts))
 }
 
 /// Those of some points that run in these sites.
@@ -132,6 +144,27 @@ fn points_among(
         }
     }
     Ok(among)
+}
+
+/// Those of some points of sites that run in the started ones. Where all sites are started they are not looked at again.
+fn points_started(
+    alloc: Global,
+    graph: &Graph,
+    sites: &SiteIndex,
+    starts: &SiteIndex,
+    points: Vec<u32>,
+) -> Result<Vec<u32>, NoMemory>
+    requires points { All (λ q. q < length graph.now.parts.points.items) points.items }
+    requires each { (p : Program) → Tells p graph.now.parts → All (RunsIn p sites.now) points.items }
+    ensures listed { IfOk result (λ among. (q : ℕ) → Contains among.items q → Contains points.items q) }
+    ensures ascending { IfOk result (λ among. AllPairs (λ q r. q < r) points.items → AllPairs (λ q r. q < r) among.items) }
+    ensures told { IfOk result (λ among. (p : Program) → Tells p graph.now.parts → AreApart starts.now → AreAmong p points.items starts.now among.items) }
+{
+    if starts.is_same(sites) {
+        Ok(points)
+    } else {
+        points_among(alloc, graph, starts, &points)
+    }
 }
 
 /// A point of a replacement, by its site.
@@ -205,7 +238,8 @@ fn sort(graph: &Graph, points: &mut Vec<u32>) -> Result<(), NoMemory>
 /// The kept points that run in sites whose original code is kept at its start, by address and then by variant.
 ///
 /// Each point is looked at once, with a look-up among the sites that mostly goes on where the last one ended; then those that run
-/// in sites are. A point in a site takes 8 bytes meanwhile, one of a replacement 16, and 4 in the list.
+/// in sites are, and where the original code of a site isn't kept they are once more. A point in a site takes 8 bytes meanwhile, one
+/// of a replacement 16, and 4 in the list.
 ///
 /// # Errors
 ///
@@ -216,10 +250,10 @@ pub fn list_site_points(alloc: Global, graph: &Graph, kept: &Kept) -> Result<Vec
     ensures listed { IfOk result (λ points. AreSitePointsOf graph.now.parts kept.now points.items) }
 {
     let sites = SiteIndex::build(alloc, graph)?;
-    let all = points_in(alloc, graph, kept, &sites)?;
-    let starts = kept_sites(alloc, graph, &sites, &all)?;
-    let among = points_among(alloc, graph, &starts, &all)?;
-    drop(all);
+    let mut started = Vec::new(alloc);
+    let all = points_in(alloc, graph, kept, &sites, &mut started)?;
+    let starts = SiteIndex::sorted(started);
+    let among = points_started(alloc, graph, &sites, &starts, all)?;
     let mut points = by_site(alloc, graph, &starts, &among)?;
     drop(among);
     sort(graph, &mut points)?;

@@ -10,7 +10,7 @@ use Rattle.ot_base.specs.declared.warning.Warning.{Warning}
 use Rattle.ot_base.specs.Rows.{same_row}
 use Rattle.state_defs.specs.declared.state.State.{State}
 use Rattle.state_defs.specs.Row.{row_of}
-use Rattle.program_defs.specs.Program.{Program, Site, IsPoint, in_site, is_call_op}
+use Rattle.program_defs.specs.Program.{Program, Site, IsPoint, is_call_op}
 use Rattle.program_defs.specs.IsProgram.{IsLaidOut}
 use Rattle.checker_defs.specs.Broken.{KeptInSite, IsInForce, offset_in, Warns, bad_target, falls_through, runs_off, mismatch, modified_return, drops_bytes, modified_sibling, refused, unfit, variants_disagree, call_disagrees, into_site, unallowed_return, unallowed_sibling, unallowed_switch, unallowed_iret, into_function, without_size, entered_restore, reached_restore}
 use Rattle.unwinding_law.proofs.Lists.{here, there, cases, nowhere}

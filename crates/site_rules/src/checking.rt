@@ -19,17 +19,20 @@ use crate::warnings::disagreement;
 use branch_check::Kept;
 use frame_rules::same_row;
 use operation_defs::Op;
-use ot_base::{NoMemory, Warning};
+use ot_base::{NoMemory, Place, Warning};
 use program_graph::Graph;
 use site_points::SiteIndex;
 use std::alloc::Global;
 
-/// Whether two kept points have different rows.
+/// Whether two kept points have different rows. Where they are the same point no state is looked at.
 fn have_other_rows(kept: &Kept, one: u32, other: u32) -> bool
     requires one { one < length kept.now }
     requires other { other < length kept.now }
     ensures { IsTrue result ↔ HaveOtherRows (at kept.now) one other }
 {
+    if one == other {
+        return false;
+    }
     if kept.are_alike(one, other) {
         return false;
     }
@@ -140,22 +143,33 @@ fn push_point(
     Ok(())
 }
 
+/// The first of the points at an address.
+#[derive(Clone, Copy)]
+struct First {
+    point: u32,
+    address: Place,
+}
+
 /// The first of the points at the address of one, where that of those at the address of the one before is known.
 #[inline(always)]
-fn first_there(graph: &Graph, points: &[u32], i: usize, before: u32) -> u32
+fn first_there(graph: &Graph, points: &[u32], i: usize, before: First) -> First
     requires inside { i < length points.now }
     requires points { All (λ q. q < length graph.now.parts.points.items) points.now }
-    requires before { 0 < i → before < length graph.now.parts.points.items }
-    ensures point { result < length graph.now.parts.points.items }
-    ensures force { (p : Program) → Tells p graph.now.parts → AllPairs (ComesBefore p) points.now → (d : ℕ) → (0 < i → IsInForceAt p points.now (p.address (slice_index_or points.now (i - 1) d)) before) → IsInForceAt p points.now (p.address (slice_index_or points.now i d)) result }
+    requires before { 0 < i → before.point < length graph.now.parts.points.items }
+    requires address { (p : Program) → Tells p graph.now.parts → (d : ℕ) → 0 < i → before.address ≡ p.address (slice_index_or points.now (i - 1) d) }
+    ensures point { result.point < length graph.now.parts.points.items }
+    ensures address { (p : Program) → Tells p graph.now.parts → (d : ℕ) → result.address ≡ p.address (slice_index_or points.now i d) }
+    ensures force { (p : Program) → Tells p graph.now.parts → AllPairs (ComesBefore p) points.now → (d : ℕ) → (0 < i → IsInForceAt p points.now (p.address (slice_index_or points.now (i - 1) d)) before.point) → IsInForceAt p points.now (p.address (slice_index_or points.now i d)) result.point }
 {
+    let point = points[i];
+    let address = graph.address(point);
     if i == 0 {
-        return points[i];
+        return First { point, address };
     }
-    if graph.address(points[i - 1]) == graph.address(points[i]) {
+    if before.address == address {
         before
     } else {
-        points[i]
+        First { point, address }
     }
 }
 
@@ -171,10 +185,13 @@ fn push_points(
     requires points { All (λ q. q < length kept.now) points.now }
     ensures { OnOk result ((p : Program) → Tells p graph.now.parts → IsIndexOf p sites.now → IsLaidOut p → AllPairs (ComesBefore p) points.now → All (FitPoint p) points.now → Gains into.old.items into.new.items (λ w. (q : ℕ) × Contains points.now q × PointDisagrees p (at kept.now) points.now q w)) }
 {
-    let mut first = 0u32;
+    let mut first = First {
+        point: 0,
+        address: Place { sec: 0, off: 0 },
+    };
     for i in 0..points.len() {
         first = first_there(graph, points, i, first);
-        push_point(graph, kept, sites, into, points, points[i], first)?;
+        push_point(graph, kept, sites, into, points, points[i], first.point)?;
     }
     Ok(())
 }

@@ -1,6 +1,5 @@
 -- One point is in force, or none.
-use Rattle.std.proofs.Common.{◌≡◌, ℕ, List, Contains, subst}
-use Rattle.std.proofs.lemmas.List.Elements.{All-contains}
+use Rattle.std.proofs.Common.{subst}
 use Rattle.std.proofs.lemmas.Result.{on_ok_weaker}
 use Rattle.ot_base.specs.declared.place.Place.{Place}
 use Rattle.branch_check.specs.LevelStates.{at}

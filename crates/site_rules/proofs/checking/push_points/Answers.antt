@@ -1,5 +1,5 @@
 -- One point more.
-use Rattle.std.proofs.Common.{◌≡◌, ◌+◌, ◌-◌, ◌<◌, ℕ, List, get_or, length, arith, sym, subst}
+use Rattle.std.proofs.Common.{◌≡◌, ◌+◌, ◌-◌, ℕ, List, get_or, arith, ap, subst, ◌∙◌}
 use Rattle.std.proofs.lemmas.List.{take_all}
 use Rattle.std.proofs.lemmas.List.Elements.{All-get_or}
 use Rattle.branch_check.specs.LevelStates.{at}
@@ -15,7 +15,8 @@ loop-i-preserved c =
     let here : i ≡ i + 1 - 1 = omega arith in
     record {
       known = λ some. omega (arith, c.first_there-first.ensures.point, c.requires.states);
-      force = λ p t up d some. subst (λ (k : ℕ). IsInForceAt p points (p.address (get_or points k d)) c.first_there-first.result) here (c.first_there-first.ensures.force p t up d (c.loop-i.invariant.force p t up d));
+      force = λ p t up d some. subst (λ (k : ℕ). IsInForceAt p points (p.address (get_or points k d)) c.first_there-first.result.point) here (c.first_there-first.ensures.force p t up d (c.loop-i.invariant.force p t up d));
+      address = λ p t d some. c.first_there-first.ensures.address p t d ∙ ap (λ (k : ℕ). p.address (get_or points k d)) here;
       gains = λ p t index laid up fits.
           gains_element c.args.into.now.items c.loop-i.into.items c.push_point.new.into.items points (PointDisagrees p (at c.args.kept.now) points) i 0 c.loop-i-test.true (c.loop-i.invariant.gains p t index laid up fits)
           (c.in_ok-push_point.ensures p t index laid up (All-get_or (FitPoint p) points i 0 c.loop-i-test.true fits) (c.first_there-first.ensures.force p t up 0 (c.loop-i.invariant.force p t up 0)));

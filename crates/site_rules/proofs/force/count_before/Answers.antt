@@ -1,4 +1,4 @@
-use Rattle.std.proofs.Common.{◌≡◌, ◌<◌, ℕ, All, length, arith, rules, tests, sym, ap, ◌∙◌}
+use Rattle.std.proofs.Common.{◌<◌, ℕ, All, length, arith, rules, tests, sym, ap, ◌∙◌}
 use Rattle.std.proofs.lemmas.List.Elements.{All-weaker}
 use Rattle.std.proofs.lemmas.List.Sorted.{IsPartitionPoint-from_clause}
 use Rattle.ot_base.specs.declared.place.Place.{Place}

@@ -1,5 +1,5 @@
 -- The first at the last address up to the place.
-use Rattle.std.proofs.Common.{◌≡◌, ◌-◌, ◌<◌, ◌≤◌, ℕ, true, false, get_or, length, arith, subst, ap, sym, ◌∙◌}
+use Rattle.std.proofs.Common.{◌≡◌, ◌-◌, ◌<◌, ℕ, true, false, get_or, arith, subst}
 use Rattle.ot_base.specs.declared.place.Place.{Place}
 use Rattle.site_points.specs.Sites.{is_before}
 use Rattle.site_rules.specs.Disagree.{ahead_of}

@@ -1,23 +1,18 @@
 -- Whether the point begins a row, by the site that holds it.
-use Rattle.std.proofs.Common.{◌≡◌, ◌↔◌, ℕ, Bool, false, IsTrue, IsSome, Option, Some, None, sym, ap, refl, ◌∙◌}
-use Rattle.ot_base.specs.declared.place.Place.{Place}
-use Rattle.ot_base.specs.declared.row.Row.{Row}
+use Rattle.std.proofs.Common.{◌≡◌, ◌↔◌, Bool, false, IsTrue, IsSome, Option, Some, None, sym, refl, ◌∙◌}
 use Rattle.state_defs.specs.declared.state.State.{State}
-use Rattle.program_defs.specs.Program.{Program}
-use Rattle.checker_defs.specs.Rows.{placed, row_of_point}
 use Rattle.branch_check.specs.LevelStates.{at}
 use Rattle.site_points.proofs.Listing.{index_apart}
-use Rattle.orc_build.specs.Changes.{row_from}
 use Rattle.orc_build.proofs.Plain.{kept_begins_none, behind_begins_none, start_begins, outside_begins}
-use Rattle.orc_build.proofs.changes.plain_row.Goals as goal
-use Rattle.orc_build.proofs.changes.plain_row.Goals.{then-is_kept-via-then-is_kept, then-is_kept-via-else-is_kept+then-ne}
+use Rattle.orc_build.proofs.changes.plain_place.Goals as goal
+use Rattle.orc_build.proofs.changes.plain_place.Goals.{then-is_kept-via-then-is_kept, then-is_kept-via-else-is_kept+then-ne}
 
 none_of : (o : Option State) (b : Bool) → IsTrue b ↔ IsSome o → b ≡ false → o ≡ None
 none_of None b same h = refl
 none_of (Some s) b same h = let t : IsTrue b = same.1 refl in absurd (let k : ⊥ = cc in k)
 
-pub returns-then-is_kept-clause-begins : goal.returns-then-is_kept-clause-begins
-returns-then-is_kept-clause-begins c p t index laid begins =
+pub returns-then-is_kept : goal.returns-then-is_kept
+returns-then-is_kept c p t index laid begins =
     let place : c.place-place.result ≡ p.place c.args.n = c.place-place.ensures p t in
     elim c.then-is_kept.branch [
       | then-is_kept-via-then-is_kept w ↦
@@ -28,22 +23,19 @@ returns-then-is_kept-clause-begins c p t index laid begins =
           (sym w.ne.ensures ∙ w.if-ne.true) begins
     ]
 
-row_is : (p : Program) (states : ℕ → Option State) (n : ℕ) (place : Place) (row : Row) → place ≡ p.place n → row ≡ row_of_point states n → placed place row ≡ row_from p states n
-row_is p states n place row e f = ap (λ (z : Place). placed z row) e ∙ ap (λ (r : Row). placed (p.place n) r) f
-
-pub returns-else-ne-clause-begins : goal.returns-else-ne-clause-begins
-returns-else-ne-clause-begins c p t index laid =
+pub returns-else-ne : goal.returns-else-ne
+returns-else-ne c p t index laid =
     let place : c.place-place.result ≡ p.place c.args.n = c.place-place.ensures p t in (
       start_begins p (at c.args.kept.now) c.args.n c.place-place.result place c.args.sites.now index laid c.in-Some.site c.in-Some.ensures.held.0 c.in-Some.ensures.held.1
           (none_of (at c.args.kept.now c.args.n) c.is_kept.result c.is_kept.ensures c.if-is_kept.false)
           (sym c.ne.ensures ∙ c.if-ne.false) (sym (c.variant.ensures p t) ∙ c.if-variant-ne0.false),
-      row_is p (at c.args.kept.now) c.args.n c.place-place.result c.args.row place c.requires.row,
+      place,
     )
 
-pub returns-in_default-clause-begins : goal.returns-in_default-clause-begins
-returns-in_default-clause-begins c p t index laid =
+pub returns-in_default : goal.returns-in_default
+returns-in_default c p t index laid =
     let place : c.place-place.result ≡ p.place c.args.n = c.place-place.ensures p t in (
       outside_begins p (at c.args.kept.now) c.args.n c.place-place.result place c.args.sites.now index laid (c.in_default.ensures.none (index_apart p c.args.sites.now laid index))
           (sym (c.variant.ensures p t) ∙ c.if-variant-ne0.false),
-      row_is p (at c.args.kept.now) c.args.n c.place-place.result c.args.row place c.requires.row,
+      place,
     )
