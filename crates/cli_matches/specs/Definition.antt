@@ -1,15 +1,24 @@
 -- What clap reads of the definition of the command line.
-use Rattle.std.specs.Prelude.{Some, codes, true}
-use Rattle.clap.specs.Words.{App, Rule, Text, new_app, new_rule, with_rule, with_subcommand}
+use Rattle.std.specs.Prelude.{◌≡◌, IfOk, Result, Some, codes, true}
+use Rattle.clap.specs.Words.{App, Rule, Text, app_of, new_app, new_rule, with_rule, with_subcommand}
+use Rattle.clap.specs.declared.builder.command.Command.{Command}
+use Rattle.clap.specs.declared.builder.ArgAction.{ArgAction}
 use Rattle.clap.specs.declared.builder.ArgAction.TheVariants.{Help, SetTrue, Version}
+
+-- this command is made, unless memory runs out
+abbrev pub Makes : {Fault : Type 0} → Result Command Fault → App → Type 0
+Makes made app = IfOk made (λ command. app_of command ≡ app)
 
 -- a name or a number that a command asks for
 abbrev pub place_rule : Text → Rule
 place_rule name = record (new_rule name) { required = true }
 
--- an option without a value
+-- an option that has no value
+abbrev pub flag_rule : Text → ArgAction → Rule
+flag_rule name action = record (new_rule name) { long = Some name; action = Some action }
+
 abbrev pub switch_rule : Text → Rule
-switch_rule name = record (new_rule name) { long = Some name; action = Some SetTrue }
+switch_rule name = flag_rule name SetTrue
 
 -- the option `--names=FILE`
 abbrev pub names_rule : Rule
@@ -57,10 +66,10 @@ program_app =
     }
 
 abbrev pub help_rule : Rule
-help_rule = record (new_rule (codes "help")) { long = Some (codes "help"); action = Some Help }
+help_rule = flag_rule (codes "help") Help
 
 abbrev pub version_rule : Rule
-version_rule = record (new_rule (codes "version")) { long = Some (codes "version"); action = Some Version }
+version_rule = flag_rule (codes "version") Version
 
 -- the whole command line
 abbrev pub line_app : App

@@ -1,8 +1,8 @@
 //! The command line as `clap` defines it.
 
-ghost use Rattle.std.specs.Prelude.{◌≡◌, IfOk, false};
-ghost use Rattle.clap.specs.Words.{app_of, rule_of};
-ghost use Rattle.cli_matches.specs.Definition.{check_app, command_app, demo_app, dump_app, line_app, names_rule, place_rule, program_app, switch_rule, unwind_app};
+ghost use Rattle.std.specs.Prelude.{◌≡◌, IfOk, true};
+ghost use Rattle.clap.specs.Words.{App, app_of, with_rule, with_subcommand};
+ghost use Rattle.cli_matches.specs.Definition.{Makes, check_app, command_app, demo_app, dump_app, flag_rule, line_app, names_rule, place_rule, program_app, unwind_app};
 
 use clap::{Arg, ArgAction, Command};
 use std::alloc::{AllocError, Global};
@@ -22,31 +22,49 @@ const UNWIND: &str = "Print the frames of a stack, by an object's ORC tables";
 
 const DEMO: &str = "Make an object of N functions, check it, and print what it has";
 
-/// A word that a command asks for.
-fn place<'a>(alloc: Global, name: &'a str, help: &'a str) -> Arg<'a>
-    ensures { (rule_of result ≡ place_rule name.entry.now) × (result.global ≡ false) }
+/// A command in the making, unless memory ran out. Each step hands that on, so that none is left by `?`
+/// with a command in hand.
+type Making<'a> = Result<Command<'a>, AllocError>;
+
+/// With one more word that the command asks for.
+fn with_place<'a>(alloc: Global, command: Making<'a>, name: &'a str, help: &'a str) -> Making<'a>
+    ensures { (app : App) → Makes command.entry app → Makes result (with_rule app (place_rule name.entry.now)) }
 {
-    Arg::new(alloc, name).required(true).help(help)
+    match command {
+        Ok(command) => command.arg(Arg::new(alloc, name).required(true).help(help)),
+        Err(fault) => Err(fault),
+    }
 }
 
-/// An option without a value.
-fn switch<'a>(alloc: Global, name: &'a str, help: &'a str) -> Arg<'a>
-    ensures { (rule_of result ≡ switch_rule name.entry.now) × (result.global ≡ false) }
+/// With one more option that has no value.
+fn with_flag<'a>(
+    alloc: Global,
+    command: Making<'a>,
+    name: &'a str,
+    action: ArgAction,
+    help: &'a str,
+) -> Making<'a>
+    ensures { (app : App) → Makes command.entry app → Makes result (with_rule app (flag_rule name.entry.now action)) }
 {
-    Arg::new(alloc, name)
-        .long(name)
-        .action(ArgAction::SetTrue)
-        .help(help)
+    match command {
+        Ok(command) => command.arg(Arg::new(alloc, name).long(name).action(action).help(help)),
+        Err(fault) => Err(fault),
+    }
 }
 
-/// The option of `check` with a value.
-fn names_option<'a>(alloc: Global) -> Arg<'a>
-    ensures { (rule_of result ≡ names_rule) × (result.global ≡ false) }
+/// With the option of `check` that has a value.
+fn with_names<'a>(alloc: Global, command: Making<'a>) -> Making<'a>
+    ensures { (app : App) → Makes command.entry app → Makes result (with_rule app names_rule) }
 {
-    Arg::new(alloc, "names")
-        .long("names")
-        .value_name("FILE")
-        .help("Add the function names of FILE to the lists that are built in")
+    match command {
+        Ok(command) => command.arg(
+            Arg::new(alloc, "names")
+                .long("names")
+                .value_name("FILE")
+                .help("Add the function names of FILE to the lists that are built in"),
+        ),
+        Err(fault) => Err(fault),
+    }
 }
 
 /// A command, whose words are `program`, those of the program and of the command, and its own.
@@ -68,79 +86,92 @@ fn command<'a>(
 pub fn check<'a>(alloc: Global) -> Result<Command<'a>, AllocError>
     ensures { IfOk result (λ command. app_of command ≡ check_app) }
 {
-    command(alloc, "check", "objtool check", CHECK)?
-        .arg(place(
-            alloc,
-            "IN",
-            "The object, an ELF64 relocatable file for x86-64",
-        ))?
-        .arg(place(
-            alloc,
-            "OUT",
-            "The file to write, which may have the name IN",
-        ))?
-        .arg(switch(
-            alloc,
-            "fp",
-            "Check that each call is made with a frame pointer set up",
-        ))?
-        .arg(switch(
-            alloc,
-            "retpoline",
-            "Check that no indirect branch is left outside listed places",
-        ))?
-        .arg(switch(
-            alloc,
-            "rethunk",
-            "Check that no return instruction is left outside listed places",
-        ))?
-        .arg(switch(
-            alloc,
-            "uaccess",
-            "Check that user access is off outside of listed functions",
-        ))?
-        .arg(switch(
-            alloc,
-            "no-unreachable",
-            "Don't check that each instruction is reached",
-        ))?
-        .arg(switch(
-            alloc,
-            "all-opcodes",
-            "Read vector, virtualization and newer system instructions too",
-        ))?
-        .arg(names_option(alloc))
+    let check = command(alloc, "check", "objtool check", CHECK);
+    let check = with_place(
+        alloc,
+        check,
+        "IN",
+        "The object, an ELF64 relocatable file for x86-64",
+    );
+    let check = with_place(
+        alloc,
+        check,
+        "OUT",
+        "The file to write, which may have the name IN",
+    );
+    let check = with_flag(
+        alloc,
+        check,
+        "fp",
+        ArgAction::SetTrue,
+        "Check that each call is made with a frame pointer set up",
+    );
+    let check = with_flag(
+        alloc,
+        check,
+        "retpoline",
+        ArgAction::SetTrue,
+        "Check that no indirect branch is left outside listed places",
+    );
+    let check = with_flag(
+        alloc,
+        check,
+        "rethunk",
+        ArgAction::SetTrue,
+        "Check that no return instruction is left outside listed places",
+    );
+    let check = with_flag(
+        alloc,
+        check,
+        "uaccess",
+        ArgAction::SetTrue,
+        "Check that user access is off outside of listed functions",
+    );
+    let check = with_flag(
+        alloc,
+        check,
+        "no-unreachable",
+        ArgAction::SetTrue,
+        "Don't check that each instruction is reached",
+    );
+    let check = with_flag(
+        alloc,
+        check,
+        "all-opcodes",
+        ArgAction::SetTrue,
+        "Read vector, virtualization and newer system instructions too",
+    );
+    with_names(alloc, check)
 }
 
 /// The command `dump`, with its word.
 pub fn dump<'a>(alloc: Global) -> Result<Command<'a>, AllocError>
     ensures { IfOk result (λ command. app_of command ≡ dump_app) }
 {
-    command(alloc, "dump", "objtool dump", DUMP)?.arg(place(alloc, "FILE", "The object"))
+    let dump = command(alloc, "dump", "objtool dump", DUMP);
+    with_place(alloc, dump, "FILE", "The object")
 }
 
 /// The command `unwind`, with its words.
 pub fn unwind<'a>(alloc: Global) -> Result<Command<'a>, AllocError>
     ensures { IfOk result (λ command. app_of command ≡ unwind_app) }
 {
-    command(alloc, "unwind", "objtool unwind", UNWIND)?
-        .arg(place(alloc, "FILE", "The object"))?
-        .arg(place(
-            alloc,
-            "IMAGE",
-            "The text that says the registers, the placement and the memory",
-        ))
+    let unwind = command(alloc, "unwind", "objtool unwind", UNWIND);
+    let unwind = with_place(alloc, unwind, "FILE", "The object");
+    with_place(
+        alloc,
+        unwind,
+        "IMAGE",
+        "The text that says the registers, the placement and the memory",
+    )
 }
 
 /// The command `demo`, with its word.
 pub fn demo<'a>(alloc: Global) -> Result<Command<'a>, AllocError>
     ensures { IfOk result (λ command. app_of command ≡ demo_app) }
 {
-    command(alloc, "demo", "objtool demo", DEMO)?.arg(place(
-        alloc,
-        "N",
-        "A number from 0 to 100000",
-    ))
+    let demo = command(alloc, "demo", "objtool demo", DEMO);
+    with_place(alloc, demo, "N", "A number from 0 to 100000")
 }
 
 /// The program, before its commands and options.
@@ -157,25 +188,28 @@ fn program<'a>(alloc: Global) -> Command<'a>
         .disable_help_subcommand(true)
 }
 
+/// With one more command.
+fn with_command<'a>(program: Making<'a>, command: Making<'a>) -> Making<'a>
+    ensures { (app added : App) → added.top.is_plain ≡ true → Makes program.entry app → Makes command.entry added
+        → Makes result (with_subcommand app added.top) }
+{
+    match command {
+        Ok(command) => match program {
+            Ok(program) => program.subcommand(command),
+            Err(fault) => Err(fault),
+        },
+        Err(fault) => Err(fault),
+    }
+}
+
 /// The whole command line: the program, with its commands and its own options.
 pub fn command_line<'a>(alloc: Global) -> Result<Command<'a>, AllocError>
     ensures { IfOk result (λ command. app_of command ≡ line_app) }
 {
-    program(alloc)
-        .subcommand(check(alloc)?)?
-        .subcommand(dump(alloc)?)?
-        .subcommand(unwind(alloc)?)?
-        .subcommand(demo(alloc)?)?
-        .arg(
-            Arg::new(alloc, "help")
-                .long("help")
-                .action(ArgAction::Help)
-                .help("Print help"),
-        )?
-        .arg(
-            Arg::new(alloc, "version")
-                .long("version")
-                .action(ArgAction::Version)
-                .help("Print version"),
-        )
+    let line = with_command(Ok(program(alloc)), check(alloc));
+    let line = with_command(line, dump(alloc));
+    let line = with_command(line, unwind(alloc));
+    let line = with_command(line, demo(alloc));
+    let line = with_flag(alloc, line, "help", ArgAction::Help, "Print help");
+    with_flag(alloc, line, "version", ArgAction::Version, "Print version")
 }
