@@ -7,15 +7,20 @@ ghost use Rattle.demo_objects.specs.Layout.{bodies_end, file_header, file_of, fi
 
 use crate::bytes::{next_multiple, pad};
 use elf_objects::{SHN_LORESERVE, SHN_XINDEX, SHT_NULL};
-use elf_write::{Header, NewSection, push_bytes, push_header, push_u16, push_u32, push_u64};
+use elf_write::{Header, NewSection, push_bytes, push_header, push_u16, push_u64};
 use ot_base::NoMemory;
 use std::alloc::Global;
 
 /// From this number on a number of sections, or a section's number, stands in header 0.
 const MANY: u32 = SHN_LORESERVE as u32;
 
-/// `e_ident`: the magic number, ELFCLASS64, ELFDATA2LSB, EV_CURRENT, and zeros.
-const IDENTIFICATION: [u8; 16] = *b"\x7FELF\x02\x01\x01\0\0\0\0\0\0\0\0\0";
+/// The file header up to `e_shoff`: `e_ident` (the magic number, ELFCLASS64, ELFDATA2LSB, EV_CURRENT, and
+/// zeros), `e_type` (ET_REL), `e_machine` (EM_X86_64), `e_version`, and no `e_entry` and `e_phoff`.
+const BEFORE_PLACE: [u8; 40] =
+    *b"\x7FELF\x02\x01\x01\0\0\0\0\0\0\0\0\0\x01\0\x3E\0\x01\0\0\0\0\0\0\0\0\0\0\0\0\0\0\0\0\0\0\0";
+
+/// From there up to `e_shnum`: `e_flags`, `e_ehsize` (64), `e_phentsize`, `e_phnum`, and `e_shentsize` (64).
+const BEFORE_COUNT: [u8; 12] = [0, 0, 0, 0, 64, 0, 0, 0, 0, 0, 64, 0];
 
 /// Where the last of the bodies ends.
 fn end_of_bodies(sections: &[NewSection]) -> usize
@@ -133,21 +138,11 @@ fn push_file_header(out: &mut Vec<u8>, headers_at: u64, count: u32) -> Result<()
     requires { 1 ≤ count }
     ensures { OnOk result (out.new.items ≡ out.old.items ++ file_header headers_at count) }
 {
-    push_bytes(out, &IDENTIFICATION)?;
-    push_u16(out, 1)?;
-    push_u16(out, 62)?;
-    push_u32(out, 1)?;
-    push_u64(out, 0)?;
-    push_u64(out, 0)?;
+    push_bytes(out, &BEFORE_PLACE)?;
     push_u64(out, headers_at)?;
-    push_u32(out, 0)?;
-    push_u16(out, 64)?;
-    push_u16(out, 0)?;
-    push_u16(out, 0)?;
-    push_u16(out, 64)?;
+    push_bytes(out, &BEFORE_COUNT)?;
     push_u16(out, short_count(count))?;
-    push_u16(out, short_index(count - 1))?;
-    Ok(())
+    push_u16(out, short_index(count - 1))
 }
 
 /// The file of sections from number 1 on, the last of which is the name table.

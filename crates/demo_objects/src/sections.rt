@@ -229,12 +229,12 @@ fn push_symbols(
     ensures tables { OnOk result (entries all.new.items ≡ entries all.old.items ++ symbol_tables (spec_of spec.now)) }
     ensures numbers { OnOk result (All HasValues (symbols_of spec.now.symbols.items)) }
 {
-    if needs_indices(&spec.symbols) {
-        all.push(symbols_section(alloc, spec, symbols + 2)?)?;
+    let indices = needs_indices(&spec.symbols);
+    let strings = if indices { symbols + 2 } else { symbols + 1 };
+    all.push(symbols_section(alloc, spec, strings)?)?;
+    if indices {
         all.push(indices_section(alloc, spec, symbols)?)?;
-        return Ok(());
     }
-    all.push(symbols_section(alloc, spec, symbols + 1)?)?;
     Ok(())
 }
 

@@ -9,6 +9,9 @@ use Rattle.demo_objects.proofs.Targets.{body-empty, body-some, targets-none, tar
 use Rattle.demo_objects.proofs.sections.targets.Goals as goal
 use Rattle.demo_objects.proofs.sections.targets.Goals.{then-not-is_empty+in_ok-push, else-not-is_empty}
 
+pub bounds-bodies-sec : goal.bounds-bodies-sec
+bounds-bodies-sec c = omega (arith, c.requires.bodies.size, length-map c.args.bodies.now (λ x. x.items))
+
 pub loop-sec-preserved : goal.loop-sec-preserved
 loop-sec-preserved c =
     let relocs = c.args.spec.now.relocs.items in
