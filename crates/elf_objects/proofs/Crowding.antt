@@ -1,6 +1,6 @@
 -- Marking the extents that others meet.
 use Rattle.std.proofs.Common.{◌≡◌, ◌≢◌, ◌<◌, ◌≤◌, ◌+◌, ◌⊎◌, inl, inr, max, ℕ, zero, suc, Bool, true, false, List, [], ◌∷◌, length, get_or, set, replicate, ◌++◌, eqb, leb, refl, ap, sym, ◌∙◌, arith, below_more, get_or-set_same, get_or-set_other}
-use Rattle.std.proofs.lemmas.Bool.Decides.{eqb_tells, leb_tells}
+use Rattle.std.proofs.lemmas.Bool.Decides.{leb_tells}
 use Rattle.std.proofs.lemmas.List.{get_or_default, length-replicate}
 use Rattle.std.proofs.Math.ListN.{length-set}
 use Rattle.std.specs.List.{All, AllPairs, Contains}
@@ -69,6 +69,23 @@ AreExtents-permutation b n xs ys moved known = record {
   each = All-permutation (IsExtent b n) xs ys moved known.each;
   all = λ k h some. Contains-permutation xs ys (extent_of (section_header b k) k) moved (known.all k h some);
 }
+
+-- a section more, with a body that is not empty and without one
+pub AreExtents-more : (b : List ℕ) (n : ℕ) (xs : List Extent) → AreExtents b n xs → has_bytes (section_header b n) ≡ true → AreExtents b (n + 1) (xs ++ extent_of (section_header b n) n ∷ [])
+AreExtents-more b n xs known some = record {
+  each = All-push (IsExtent b (n + 1)) xs _ (λ p d h. (let e = known.each p d h in record { below = omega (arith, e.below); some = e.some; is = e.is })) (record { below = omega arith; some = some; is = refl });
+  all = below_more (λ k. has_bytes (section_header b k) ≡ true → Contains (xs ++ extent_of (section_header b n) n ∷ []) (extent_of (section_header b k) k)) n (λ k h body. Contains-append_left xs _ _ (known.all k h body)) (λ body. Contains-push xs _);
+}
+
+pub AreExtents-skip : (b : List ℕ) (n : ℕ) (xs : List Extent) → AreExtents b n xs → has_bytes (section_header b n) ≡ false → AreExtents b (n + 1) xs
+AreExtents-skip b n xs known none = record {
+  each = λ p d h. (let e = known.each p d h in record { below = omega (arith, e.below); some = e.some; is = e.is });
+  all = below_more (λ k. has_bytes (section_header b k) ≡ true → Contains xs (extent_of (section_header b k) k)) n known.all (λ body. (let no : true ≡ false = sym body ∙ none in cc));
+}
+
+-- the extents keep rising
+pub rising-more : (b : List ℕ) (n : ℕ) (xs : List Extent) → AreExtents b n xs → AllPairs (λ x y. x.sec < y.sec) xs → AllPairs (λ x y. x.sec < y.sec) (xs ++ extent_of (section_header b n) n ∷ [])
+rising-more b n xs known rising = all_pairs_push (λ x y. x.sec < y.sec) xs _ rising (λ k d h. (known.each k d h).below)
 
 same_section : Extent → Extent → Bool
 same_section x y = eqb x.sec y.sec

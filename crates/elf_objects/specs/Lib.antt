@@ -15,3 +15,4 @@ pub mod Kept
 pub mod Extents
 pub mod Steps
 pub mod FaultText
+pub mod FaultParts

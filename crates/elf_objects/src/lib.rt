@@ -21,6 +21,7 @@ mod object;
 mod relocs;
 mod section;
 mod slices;
+mod steps;
 mod strings;
 mod symbol;
 mod symbols;

@@ -3,17 +3,13 @@
 ghost use Rattle.std.specs.Prelude.{◌≡◌, ◌<◌, ◌≤◌, ◌^◌, length, IfOk, IfErr, IsOkUnless};
 ghost use Rattle.elf_objects.specs.Object.{IsObject, IsWellFormed, FirstFault, Refuses};
 
-use crate::bodies::check_bodies;
-use crate::check_symbols::{check_symbol_count, check_symbols};
 use crate::fault::ElfFault;
-use crate::forms::check_forms;
 use crate::header::SectionHeader;
 use crate::headers::Headers;
-use crate::links::check_links;
-use crate::names::{check_names, check_text};
-use crate::relocs::{check_relocs, nth_reloc, rela_header};
+use crate::relocs::{nth_reloc, rela_header};
 use crate::section::Section;
 use crate::slices::slice_body;
+use crate::steps::{check_contents, check_headers, link_sections, link_symbols};
 use crate::strings::{list_ends, tail, text_at, text_begins, text_is, text_of};
 use crate::symbol::{Reloc, Symbol};
 use crate::symbols::{Symbols, find_home};
@@ -75,23 +71,19 @@ impl<'a> Object<'a> {
         ensures ok { IfOk result (IsObject headers.entry.bytes.now) }
         ensures err { IfErr result (Refuses (FirstFault headers.entry.bytes.now)) }
     {
-        check_bodies(alloc, &headers)?;
-        let tables = check_forms(&headers)?;
+        let tables = check_headers(alloc, &headers)?;
         let symbols = Symbols::new(headers, tables);
-        let relas = check_links(alloc, &symbols)?;
-        check_names(&symbols.headers)?;
-        let symbol_count = check_symbol_count(&symbols)?;
-        let section_symbols = check_symbols(alloc, &symbols, symbol_count)?;
-        check_relocs(&symbols)?;
-        check_text(&symbols.headers)?;
+        let relas = link_sections(alloc, &symbols)?;
+        let section_symbols = link_symbols(alloc, &symbols)?;
+        check_contents(&symbols)?;
         let strings = symbols.strings();
         let ends = list_ends(alloc, symbols.headers.bytes, &strings)?;
         Ok(Object {
             names: symbols.headers.get(symbols.headers.names),
             strings,
             ends,
+            symbol_count: symbols.count as u32,
             symbols,
-            symbol_count,
             relas,
             section_symbols,
         })

@@ -7,3 +7,4 @@ pub mod HintPlaces
 pub mod PlaceLists
 pub mod Special
 pub mod FaultText
+pub mod RightTables

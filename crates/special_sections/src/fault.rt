@@ -1,5 +1,8 @@
 //! Why special sections are not read.
 
+ghost use Rattle.std.specs.Prelude.{◌≡◌};
+ghost use Rattle.special_sections.specs.FaultText.{why_text};
+
 use std::alloc::{AllocError, AllocFailed};
 use std::error::Error;
 use std::fmt;
@@ -38,25 +41,31 @@ pub enum SpecialFault {
     NoMemory,
 }
 
+/// The name of the variant.
+fn name(why: Why) -> &'static str
+    ensures { result.now ≡ why_text why }
+{
+    match why {
+        Why::Compressed => "Compressed",
+        Why::Size => "Size",
+        Why::NoReloc => "NoReloc",
+        Why::NotText => "NotText",
+        Why::Length => "Length",
+        Why::HintType => "HintType",
+        Why::HintBase => "HintBase",
+        Why::HintOffset => "HintOffset",
+        Why::HintSignal => "HintSignal",
+        Why::Repeated => "Repeated",
+    }
+}
+
 impl fmt::Display for Why {
     ghost use Rattle.std.specs.Prelude.{Some};
-    ghost use Rattle.special_sections.specs.FaultText.{why_text};
 
     ghost output = { λ why. Some (why_text why) };
 
     fn fmt<W: fmt::Write>(&self, f: &mut fmt::Formatter<W>) -> fmt::Result {
-        match self {
-            Why::Compressed => write!(f, "Compressed"),
-            Why::Size => write!(f, "Size"),
-            Why::NoReloc => write!(f, "NoReloc"),
-            Why::NotText => write!(f, "NotText"),
-            Why::Length => write!(f, "Length"),
-            Why::HintType => write!(f, "HintType"),
-            Why::HintBase => write!(f, "HintBase"),
-            Why::HintOffset => write!(f, "HintOffset"),
-            Why::HintSignal => write!(f, "HintSignal"),
-            Why::Repeated => write!(f, "Repeated"),
-        }
+        write!(f, "{}", name(*self))
     }
 }
 
@@ -67,9 +76,9 @@ impl fmt::Display for SpecialFault {
     ghost output = { λ fault. Some (fault_text fault) };
 
     fn fmt<W: fmt::Write>(&self, f: &mut fmt::Formatter<W>) -> fmt::Result {
-        match self {
+        match *self {
             SpecialFault::At { sec, entry, why } => {
-                write!(f, "section {sec}: entry {entry}: {why}")
+                write!(f, "section {sec}: entry {entry}: {}", name(why))
             }
             SpecialFault::NoMemory => write!(f, "no memory"),
         }
@@ -81,7 +90,6 @@ impl Error for Why {}
 impl Error for SpecialFault {}
 
 impl From<AllocError> for SpecialFault {
-    ghost use Rattle.std.specs.Prelude.{◌≡◌};
     ghost use Rattle.special_sections.specs.declared.fault.SpecialFault.TheVariants.{NoMemory};
 
     ghost from_gives = { λ _ fault. fault ≡ NoMemory };
@@ -92,7 +100,6 @@ impl From<AllocError> for SpecialFault {
 }
 
 impl<T: Drop> From<AllocFailed<T>> for SpecialFault {
-    ghost use Rattle.std.specs.Prelude.{◌≡◌};
     ghost use Rattle.special_sections.specs.declared.fault.SpecialFault.TheVariants.{NoMemory};
 
     ghost from_gives = { λ _ fault. fault ≡ NoMemory };
@@ -103,7 +110,6 @@ impl<T: Drop> From<AllocFailed<T>> for SpecialFault {
 }
 
 impl From<ot_base::NoMemory> for SpecialFault {
-    ghost use Rattle.std.specs.Prelude.{◌≡◌};
     ghost use Rattle.special_sections.specs.declared.fault.SpecialFault.TheVariants.{NoMemory};
 
     ghost from_gives = { λ _ fault. fault ≡ NoMemory };

@@ -158,10 +158,10 @@ fn read_section(
     ensures err { IfErr result (TellsFirst (section_faults hints object.now sec)) }
 {
     let section = EntrySection::open(alloc, object, sec)?;
-    if let Some(why) = section.table_why(SIZE) {
-        return Err(SpecialFault::At { sec, entry: 0, why });
+    match section.table_why(SIZE) {
+        Some(why) => Err(SpecialFault::At { sec, entry: 0, why }),
+        None => read_entries(&section, into, places),
     }
-    read_entries(&section, into, places)
 }
 
 /// The hints of an object, or the first fault of one of them.

@@ -53,10 +53,10 @@ fn read_section<F: Format>(
     ensures err { IfErr result (TellsFirst (section_faults (F.kind format.now) object.now sec)) }
 {
     let section = EntrySection::open(alloc, object, sec)?;
-    if let Some(why) = format.section_why(&section) {
-        return Err(SpecialFault::At { sec, entry: 0, why });
+    match format.section_why(&section) {
+        Some(why) => Err(SpecialFault::At { sec, entry: 0, why }),
+        None => read_entries(format, &section, into),
     }
-    read_entries(format, &section, into)
 }
 
 /// The entries of a kind, or the first fault of one of them.

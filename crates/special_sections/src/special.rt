@@ -4,6 +4,7 @@ ghost use Rattle.std.specs.Prelude.{◌≡◌, [], false, filter, IfOk, IfErr, O
 ghost use Rattle.special_sections.specs.Fields.{is_text_place as is_in_text};
 ghost use Rattle.special_sections.specs.Reasons.{TellsFirst};
 ghost use Rattle.special_sections.specs.Special.{special_of, special_faults};
+ghost use Rattle.special_sections.specs.RightTables.{HasRightTables};
 
 use crate::entries::{AltEntry, BranchEntry, FixEntry, HintEntry};
 use crate::fault::SpecialFault;
@@ -41,18 +42,30 @@ const SAFE_BRANCHES: PlaceList = PlaceList {
     judged: Judged::InText,
 };
 
-/// The entries of the special sections of an object, each kind by section and then by their order in it.
-/// Contracts see it as the lists of them.
+/// The entries of the tables.
 #[derive(Drop)]
-pub struct Special {
+struct Tables {
     alternatives: Vec<AltEntry>,
     branches: Vec<BranchEntry>,
     fixes: Vec<FixEntry>,
     hints: Vec<HintEntry>,
+}
+
+/// The entries of the lists of places.
+#[derive(Drop)]
+struct Places {
     after_reachable: Vec<Place>,
     after_unreachable: Vec<Place>,
     unchecked: Vec<Place>,
     safe_branches: Vec<Place>,
+}
+
+/// The entries of the special sections of an object, each kind by section and then by their order in it.
+/// Contracts see it as the lists of them.
+#[derive(Drop)]
+pub struct Special {
+    tables: Tables,
+    places: Places,
 }
 
 impl Model for Special {
@@ -61,15 +74,62 @@ impl Model for Special {
     ghost Value = { SpecialEntries };
 
     ghost view = { λ s. record {
-      alternatives = s.alternatives.items;
-      branches = s.branches.items;
-      fixes = s.fixes.items;
-      hints = s.hints.items;
-      after_reachable = s.after_reachable.items;
-      after_unreachable = s.after_unreachable.items;
-      unchecked = s.unchecked.items;
-      safe_branches = s.safe_branches.items;
+      alternatives = s.tables.alternatives.items;
+      branches = s.tables.branches.items;
+      fixes = s.tables.fixes.items;
+      hints = s.tables.hints.items;
+      after_reachable = s.places.after_reachable.items;
+      after_unreachable = s.places.after_unreachable.items;
+      unchecked = s.places.unchecked.items;
+      safe_branches = s.places.safe_branches.items;
     } };
+}
+
+impl Tables {
+    /// The entries of the tables of an object, or the first fault of one of them.
+    fn read(alloc: Global, object: &Object<'_>) -> Result<Tables, SpecialFault>
+        ensures alternatives { IfOk result (λ t. t.alternatives.items ≡ (special_of object.now).alternatives) }
+        ensures branches { IfOk result (λ t. t.branches.items ≡ (special_of object.now).branches) }
+        ensures fixes { IfOk result (λ t. t.fixes.items ≡ (special_of object.now).fixes) }
+        ensures hints { IfOk result (λ t. t.hints.items ≡ (special_of object.now).hints) }
+        ensures right { OnOk result (HasRightTables object.now) }
+        ensures err { IfErr result (TellsFirst (special_faults object.now)) }
+    {
+        let alternatives = read_all(alloc, object, &Alternatives)?;
+        let branches = read_all(alloc, object, &Branches)?;
+        let fixes = read_all(alloc, object, &Fixes)?;
+        let hints = read_hints(alloc, object)?;
+        Ok(Tables {
+            alternatives,
+            branches,
+            fixes,
+            hints,
+        })
+    }
+}
+
+impl Places {
+    /// The entries of the lists of an object whose tables have no fault, or the first fault of one of them.
+    fn read(alloc: Global, object: &Object<'_>) -> Result<Places, SpecialFault>
+        requires { HasRightTables object.now }
+        ensures after_reachable { IfOk result (λ p. p.after_reachable.items ≡ (special_of object.now).after_reachable) }
+        ensures after_unreachable { IfOk result (λ p. p.after_unreachable.items ≡ (special_of object.now).after_unreachable) }
+        ensures unchecked { IfOk result (λ p. p.unchecked.items ≡ (special_of object.now).unchecked) }
+        ensures safe_branches { IfOk result (λ p. p.safe_branches.items ≡ (special_of object.now).safe_branches) }
+        ensures right { OnOk result (special_faults object.now ≡ []) }
+        ensures err { IfErr result (TellsFirst (special_faults object.now)) }
+    {
+        let after_reachable = read_all(alloc, object, &REACHABLE)?;
+        let after_unreachable = read_all(alloc, object, &UNREACHABLE)?;
+        let unchecked = read_all(alloc, object, &UNCHECKED)?;
+        let safe_branches = read_all(alloc, object, &SAFE_BRANCHES)?;
+        Ok(Places {
+            after_reachable,
+            after_unreachable,
+            unchecked: text_places(alloc, object, &unchecked)?,
+            safe_branches,
+        })
+    }
 }
 
 impl Special {
@@ -86,66 +146,51 @@ impl Special {
         ensures right { OnOk result (special_faults object.now ≡ []) }
         ensures err { IfErr result (TellsFirst (special_faults object.now)) }
     {
-        let alternatives = read_all(alloc, object, &Alternatives)?;
-        let branches = read_all(alloc, object, &Branches)?;
-        let fixes = read_all(alloc, object, &Fixes)?;
-        let hints = read_hints(alloc, object)?;
-        let after_reachable = read_all(alloc, object, &REACHABLE)?;
-        let after_unreachable = read_all(alloc, object, &UNREACHABLE)?;
-        let unchecked = read_all(alloc, object, &UNCHECKED)?;
-        let safe_branches = read_all(alloc, object, &SAFE_BRANCHES)?;
-        Ok(Special {
-            alternatives,
-            branches,
-            fixes,
-            hints,
-            after_reachable,
-            after_unreachable,
-            unchecked: text_places(alloc, object, &unchecked)?,
-            safe_branches,
-        })
+        let tables = Tables::read(alloc, object)?;
+        let places = Places::read(alloc, object)?;
+        Ok(Special { tables, places })
     }
 
     /// The alternatives, `.altinstructions`.
     pub fn alternatives(&self) -> &[AltEntry]
         ensures { result.now ≡ self.now.alternatives }
     {
-        &self.alternatives
+        &self.tables.alternatives
     }
 
     /// The static branches, `__jump_table`.
     pub fn branches(&self) -> &[BranchEntry]
         ensures { result.now ≡ self.now.branches }
     {
-        &self.branches
+        &self.tables.branches
     }
 
     /// The exception entries, `__ex_table`.
     pub fn fixes(&self) -> &[FixEntry]
         ensures { result.now ≡ self.now.fixes }
     {
-        &self.fixes
+        &self.tables.fixes
     }
 
     /// The hints on the stack, `.discard.unwind_hints`.
     pub fn hints(&self) -> &[HintEntry]
         ensures { result.now ≡ self.now.hints }
     {
-        &self.hints
+        &self.tables.hints
     }
 
     /// The ends of instructions behind which code goes on, `.discard.reachable`.
     pub fn after_reachable(&self) -> &[Place]
         ensures { result.now ≡ self.now.after_reachable }
     {
-        &self.after_reachable
+        &self.places.after_reachable
     }
 
     /// The ends of instructions behind which code doesn't go on, `.discard.unreachable`.
     pub fn after_unreachable(&self) -> &[Place]
         ensures { result.now ≡ self.now.after_unreachable }
     {
-        &self.after_unreachable
+        &self.places.after_unreachable
     }
 
     /// The starts of functions that are not checked, `.discard.func_stack_frame_non_standard`. What isn't
@@ -153,14 +198,14 @@ impl Special {
     pub fn unchecked(&self) -> &[Place]
         ensures { result.now ≡ self.now.unchecked }
     {
-        &self.unchecked
+        &self.places.unchecked
     }
 
     /// The indirect branches and returns that may stay as they are, `.discard.retpoline_safe`.
     pub fn safe_branches(&self) -> &[Place]
         ensures { result.now ≡ self.now.safe_branches }
     {
-        &self.safe_branches
+        &self.places.safe_branches
     }
 }
 

@@ -54,3 +54,15 @@ loop-entry-preserved c =
           ∙ ap (fault_at sec e) none,
       c.in_ok-add_hint.ensures.places,
     )
+
+pub returns : goal.returns
+returns c =
+    let o : Elf = c.args.section.now.object.now in
+    let sec : ℕ = c.args.section.now.sec in
+    let all : c.loop-entry.entry ≡ table_count 12 o sec = omega (arith, c.table_count-entry-end.ensures) in
+    record {
+      ok = c.loop-entry.invariant.0 ∙ ap (λ (n : ℕ). c.args.into.now.items ++ hints_to o sec n) all;
+      places = c.loop-entry.invariant.2;
+      right = ap (λ (n : ℕ). flat_map (λ e. fault_at sec e (hints.why o sec e)) (range_with_len 0 n)) (sym all) ∙ c.loop-entry.invariant.1;
+      err = tt;
+    }

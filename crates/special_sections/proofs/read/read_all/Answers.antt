@@ -4,7 +4,7 @@ use Rattle.std.proofs.lemmas.Result.{err_from_is_err_and}
 use Rattle.elf_objects.specs.Elf.{Elf}
 use Rattle.elf_objects.specs.Contents.{section_at}
 use Rattle.special_sections.specs.declared.fault.SpecialFault.{SpecialFault}
-use Rattle.special_sections.specs.Kinds.{section_entries, section_faults}
+use Rattle.special_sections.specs.Kinds.{named_below, section_entries, section_faults}
 use Rattle.special_sections.proofs.Gathered.{passing_more, passing_same, gathered_more}
 use Rattle.special_sections.proofs.FirstFault.{tells_among_passing}
 use Rattle.special_sections.proofs.read.read_all.Goals as goal
@@ -45,3 +45,14 @@ loop-sec-preserved g c =
           let same = passing_same p sec (is_name ∙ w.if-is_named.false) in
           (ap (λ l. l.items) w.list-is ∙ c.loop-sec.invariant.0 ∙ ap (flat_map f) (sym same), ap (flat_map d) same ∙ c.loop-sec.invariant.1)
     ]
+
+pub returns : goal.returns
+returns g c =
+    let o : Elf = c.args.object.now in
+    let kind = g.F.Format.kind c.args.format.now in
+    let all : c.loop-sec.sec ≡ length o.sections = omega (arith, c.sections-sec-end.ensures.value) in
+    record {
+      ok = c.loop-sec.invariant.0 ∙ ap (λ (n : ℕ). flat_map (section_entries kind o) (named_below o kind.name n)) all;
+      right = ap (λ (n : ℕ). flat_map (section_faults kind o) (named_below o kind.name n)) (sym all) ∙ c.loop-sec.invariant.1;
+      err = tt;
+    }

@@ -38,3 +38,15 @@ loop-entry-preserved g c =
           ∙ ap (λ xs. xs ++ f e) c.loop-entry.invariant.1
           ∙ ap (fault_at sec e) none,
     )
+
+pub returns : goal.returns
+returns g c =
+    let o : Elf = c.args.section.now.object.now in
+    let sec : ℕ = c.args.section.now.sec in
+    let kind = g.F.Format.kind c.args.format.now in
+    let all : c.loop-entry.entry ≡ kind.count o sec = omega (arith, c.count-entry-end.ensures) in
+    record {
+      ok = c.loop-entry.invariant.0 ∙ ap (λ (n : ℕ). c.args.into.now.items ++ map (kind.entry o sec) (range_with_len 0 n)) all;
+      right = ap (λ (n : ℕ). flat_map (λ e. fault_at sec e (kind.why o sec e)) (range_with_len 0 n)) (sym all) ∙ c.loop-entry.invariant.1;
+      err = tt;
+    }

@@ -1,11 +1,19 @@
-use Rattle.std.proofs.Common.{List, ℕ, subst, sym}
-use Rattle.elf_objects.specs.Below.{AllBelow}
-use Rattle.elf_objects.specs.File.{section_count}
-use Rattle.elf_objects.specs.Sections.{HasBody}
+use Rattle.std.proofs.Common.{ap, subst}
+use Rattle.elf_objects.specs.Contents.{elf_of}
+use Rattle.elf_objects.specs.Object.{IsWellFormed}
 use Rattle.elf_objects.proofs.Linked.{strings-inside}
 use Rattle.elf_objects.proofs.object.Object.read.Goals as goal
 
 pub list_ends-requires-clause-inside : goal.list_ends-requires-clause-inside
 list_ends-requires-clause-inside c =
-    let bodies = subst (λ (b : List ℕ). AllBelow (HasBody b) (section_count b)) (sym c.new-symbols.ensures) c.in_ok-check_bodies.ensures.ok in
-    rw c.strings-strings.ensures (strings-inside _ c.new-symbols.result.headers.table bodies c.in_ok-relas.ensures.ok)
+    let formed = c.in_ok-check_contents.ensures.ok in
+    rw c.strings-strings.ensures (strings-inside _ formed.table formed.bodies formed.links)
+
+pub returns : goal.returns
+returns c = record {
+  ok = record {
+    well_formed = subst IsWellFormed c.new-symbols.ensures c.in_ok-check_contents.ensures.ok;
+    says = ap elf_of c.new-symbols.ensures;
+  };
+  err = tt;
+}
