@@ -47,8 +47,10 @@ impl Kept {
     /// Level 0.
     fn first(alloc: Global, p: &Program) -> Result<Kept, AllocError> {
         let mut states = Vec::new(alloc);
-        for (q, point) in (0u32..).zip(&p.points) {
-            states.push(first_state(p, q, point))?;
+        for q in 0..p.count() {
+            if let Some(point) = p.point(q) {
+                states.push(first_state(p, q, point))?;
+            }
         }
         Ok(Kept {
             may_return: may_return(alloc, p)?,
@@ -117,12 +119,11 @@ impl Kept {
         q: u32,
     ) -> Result<Option<State>, AllocError> {
         let mut least: Option<State> = None;
-        for (point, kept) in p.points.iter().zip(&self.states) {
-            let Some(state) = *kept else {
-                continue;
-            };
-            for brought in &self.brought_by(alloc, p, point, state, q)? {
-                least = Some(least.map_or(*brought, |best| best.min(*brought)));
+        for from in 0..p.count() {
+            if let (Some(point), Some(state)) = (p.point(from), self.state(from)) {
+                for brought in &self.brought_by(alloc, p, point, state, q)? {
+                    least = Some(least.map_or(*brought, |best| best.min(*brought)));
+                }
             }
         }
         Ok(least)
@@ -150,12 +151,14 @@ impl Kept {
     /// The states of the next level. What is kept stays.
     fn next_level(&self, alloc: Global, p: &Program) -> Result<Vec<Option<State>>, AllocError> {
         let mut states = Vec::new(alloc);
-        for (q, point) in (0u32..).zip(&p.points) {
-            let state = match self.state(q) {
-                Some(state) => Some(state),
-                None => self.later_state(alloc, p, q, point)?,
-            };
-            states.push(state)?;
+        for q in 0..p.count() {
+            if let Some(point) = p.point(q) {
+                let state = match self.state(q) {
+                    Some(state) => Some(state),
+                    None => self.later_state(alloc, p, q, point)?,
+                };
+                states.push(state)?;
+            }
         }
         Ok(states)
     }

@@ -5,7 +5,7 @@ use crate::state_row::StateRow;
 use crate::state_rules::{iret_rule, return_rule, sibling_rule, switch_rule};
 use operation_defs::Op;
 use ot_base::{Place, Warning, rules};
-use program_defs::{EdgeKind, Role};
+use program_defs::{Edge, EdgeKind, Role};
 use program_model::{Point, Program};
 use stack_state::step;
 use state_defs::{Depth, HintState, State};
@@ -54,9 +54,52 @@ fn is_free(hint: Option<HintState>) -> bool {
     matches!(hint, None | Some(HintState::Save))
 }
 
-/// The warnings of rule 2, that the next instruction is of another function; 4, that an edge brings a
-/// kept point another state than the one that is kept there; and 18, that one leads to a RESTORE that
-/// has no state to restore.
+/// The warnings of rule 4: an edge to a place brings other states than the one that is kept there.
+fn mismatch_warnings(
+    warnings: &mut Vec<Warning>,
+    place: Place,
+    there: State,
+    states: &[State],
+) -> Result<(), AllocError> {
+    for brought in states {
+        if *brought != there {
+            let (a, b) = (depth_number(there), depth_number(*brought));
+            warnings.push(warning(place, rules::STATE_MISMATCH, a, b))?;
+        }
+    }
+    Ok(())
+}
+
+/// The warnings of one edge: of rule 2, that the next instruction is of another function; 4, that it
+/// brings a kept point another state than the one that is kept there; and 18, that it leads to a RESTORE
+/// that has no state to restore.
+fn warnings_along(
+    warnings: &mut Vec<Warning>,
+    alloc: Global,
+    p: &Program,
+    kept: &Kept,
+    point: &Point,
+    state: State,
+    edge: Edge,
+) -> Result<(), AllocError> {
+    let Some(target) = p.point(edge.to) else {
+        return Ok(());
+    };
+    if edge.kind == EdgeKind::Next && target.owner != point.owner {
+        warnings.push(warning(point.place, rules::FALLS_THROUGH, 0, 0))?;
+    }
+    if let Some(there) = kept.state(edge.to) {
+        if is_free(target.hint) {
+            let states = kept.brought_by(alloc, p, point, state, edge.to)?;
+            mismatch_warnings(warnings, target.place, there, states.as_slice())?;
+        }
+    } else if target.hint == Some(HintState::Restore) {
+        warnings.push(warning(target.place, rules::RESTORE_WITHOUT_SAVE, 0, 0))?;
+    }
+    Ok(())
+}
+
+/// The warnings of the rules 2, 4 and 18, edge by edge.
 fn edge_warnings(
     warnings: &mut Vec<Warning>,
     alloc: Global,
@@ -66,24 +109,7 @@ fn edge_warnings(
     state: State,
 ) -> Result<(), AllocError> {
     for edge in &kept.edges_of(alloc, p, point)? {
-        let Some(target) = p.point(edge.to) else {
-            continue;
-        };
-        if edge.kind == EdgeKind::Next && target.owner != point.owner {
-            warnings.push(warning(point.place, rules::FALLS_THROUGH, 0, 0))?;
-        }
-        if let Some(there) = kept.state(edge.to) {
-            if is_free(target.hint) {
-                for brought in &kept.brought_by(alloc, p, point, state, edge.to)? {
-                    if *brought != there {
-                        let (a, b) = (depth_number(there), depth_number(*brought));
-                        warnings.push(warning(target.place, rules::STATE_MISMATCH, a, b))?;
-                    }
-                }
-            }
-        } else if target.hint == Some(HintState::Restore) {
-            warnings.push(warning(target.place, rules::RESTORE_WITHOUT_SAVE, 0, 0))?;
-        }
+        warnings_along(warnings, alloc, p, kept, point, state, *edge)?;
     }
     Ok(())
 }

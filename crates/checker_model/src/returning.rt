@@ -69,8 +69,10 @@ fn joins(p: &Program, set: &[bool], point: &Point) -> bool {
 /// The set after another round.
 fn another_round(alloc: Global, p: &Program, set: &[bool]) -> Result<Vec<bool>, AllocError> {
     let mut next = Vec::new(alloc);
-    for (point, is_member) in p.points.iter().zip(set) {
-        next.push(*is_member || joins(p, set, point))?;
+    for q in 0..p.count() {
+        if let Some(point) = p.point(q) {
+            next.push(is_in(set, q) || joins(p, set, point))?;
+        }
     }
     Ok(next)
 }

@@ -26,25 +26,29 @@ fn entry_warnings(warnings: &mut Vec<Warning>, p: &Program, kept: &Kept) -> Resu
 }
 
 /// The warnings of the rules 1 to 13 and 15 to 18. One may stand there more than once.
-fn stack_warnings(alloc: Global, p: &Program, kept: &Kept) -> Result<Vec<Warning>, AllocError> {
-    let mut warnings = Vec::new(alloc);
+fn stack_warnings(
+    warnings: &mut Vec<Warning>,
+    alloc: Global,
+    p: &Program,
+    kept: &Kept,
+) -> Result<(), AllocError> {
     for q in 0..p.count() {
         if let (Some(point), Some(state)) = (p.point(q), kept.state(q)) {
-            point_warnings(&mut warnings, alloc, p, kept, point, state)?;
+            point_warnings(warnings, alloc, p, kept, point, state)?;
         }
     }
-    site_warnings(&mut warnings, p, kept)?;
+    site_warnings(warnings, p, kept)?;
     for place in &p.without_size {
         warnings.push(warning(*place, FUNCTION_WITHOUT_SIZE, 0, 0))?;
     }
-    entry_warnings(&mut warnings, p, kept)?;
-    Ok(warnings)
+    entry_warnings(warnings, p, kept)
 }
 
 /// The warnings of a check under its options. One may stand there more than once.
 pub fn warnings(alloc: Global, p: &Program, options: &Options) -> Result<Vec<Warning>, AllocError> {
     let kept = Kept::of(alloc, p)?;
-    let mut warnings = stack_warnings(alloc, p, &kept)?;
+    let mut warnings = Vec::new(alloc);
+    stack_warnings(&mut warnings, alloc, p, &kept)?;
     option_warnings(&mut warnings, p, &kept, options)?;
     Ok(warnings)
 }

@@ -16,11 +16,11 @@ use Rattle.machine_model.specs.Frame.{frame_of, frames_of, protected_of, words_o
 use Rattle.program_model.specs.Region.{region_of}
 
 -- one more frame's words behind those of the frames before it
-pub protected_more : (frames : List OwnFrame) (i : ℕ) (f : OwnFrame) (slots words after : List OwnProtected) → i < length frames → f ≡ get_or frames i f
+pub protected_more : (frames : List OwnFrame) (i : ℕ) (f d : OwnFrame) (slots words after : List OwnProtected) → i < length frames → f ≡ get_or frames i d
     → words_of slots ≡ flat_map protected (frames_of (take i frames)) → words_of words ≡ protected (frame_of f) → after ≡ slots ++ words
     → words_of after ≡ flat_map protected (frames_of (take (i + 1) frames))
-protected_more frames i f slots words after lt is before own appended =
-    let more : take (i + 1) frames ≡ take i frames ++ f ∷ [] = take_more frames i f lt ∙ ap (λ (x : OwnFrame). take i frames ++ x ∷ []) (sym is) in
+protected_more frames i f d slots words after lt is before own appended =
+    let more : take (i + 1) frames ≡ take i frames ++ f ∷ [] = take_more frames i d lt ∙ ap (λ (x : OwnFrame). take i frames ++ x ∷ []) (sym is) in
     let left : words_of after ≡ flat_map protected (frames_of (take i frames)) ++ protected (frame_of f) =
     rw (appended, map-append protected_of slots words, before, own) refl in
     let right : flat_map protected (frames_of (take (i + 1) frames)) ≡ flat_map protected (frames_of (take i frames)) ++ (protected (frame_of f) ++ []) =

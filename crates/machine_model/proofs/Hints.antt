@@ -1,5 +1,5 @@
 -- The hint that stands at a point.
-use Rattle.std.proofs.Common.{◌≡◌, ℕ, Bool, List, sym, subst}
+use Rattle.std.proofs.Common.{◌≡◌, Bool, List, sym, subst}
 use Rattle.std.specs.Prelude.{Option, Some, None, slice_get}
 use Rattle.machine_defs.specs.Hint.{Hinted, Lands}
 use Rattle.program_model.specs.declared.program.Program.{Program}

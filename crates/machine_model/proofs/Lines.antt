@@ -1,12 +1,16 @@
 -- Lines of the step, from what the model does.
-use Rattle.std.proofs.Common.{◌≡◌, ℕ, ◌≤◌, ◌^◌, ◌∷◌, sym, subst}
-use Rattle.std.specs.Prelude.{Contains}
+use Rattle.std.proofs.Common.{◌≡◌, ℕ, ◌≤◌, ◌^◌, ◌∷◌, Option, Some, None, Result, Ok, Err, IfOk, sym, subst}
+use Rattle.std.specs.Prelude.{Contains, IfSome}
 use Rattle.program_defs.specs.declared.flow.Role.{Role}
 use Rattle.state_defs.specs.Address.{down}
 use Rattle.state_defs.specs.Region.{hi_of, WritesWord}
 use Rattle.program_defs.specs.Program.{Program, entry_points}
-use Rattle.machine_defs.specs.Machine.{Bases, Standing, return_address}
-use Rattle.machine_defs.specs.Step.{MayCall, CallsIn}
+use Rattle.machine_defs.specs.Machine.{Bases, Standing, At, return_address}
+use Rattle.machine_defs.specs.Hint.{Lands}
+use Rattle.machine_defs.specs.Step.{MayCall, CallsIn, Step}
+use Rattle.machine_model.specs.declared.standing.Standing.{Standing as OwnStanding}
+use Rattle.machine_model.specs.Standing.{standing_of}
+use Rattle.machine_model.specs.Steps.{LeadsTo}
 use Rattle.machine_model.specs.Called.{frame_called, IsCalled}
 
 pub calls_in_holds : (P : Program) (bases : Bases) (s t : Standing) (ra entry at : ℕ) (role : Role) → role ≡ P.role s.point → MayCall P role entry
@@ -20,3 +24,19 @@ calls_in_holds P bases s t ra entry at role is may enters e called high = record
   ended = called.ended;
   mark = called.mark;
 }
+
+-- a step by one line leads to where that line says
+pub leads : {E : Type 0} (High : Type 0) (P : Program) (bases : Bases) (s : Standing) (Line : Standing → Type 0)
+    → ((t u : Standing) → Line t → Lands P t u → Step P bases (At s) (At u)) → (r : Result (Option OwnStanding) E)
+    → IfOk r (λ o. IfSome o (λ t. Line (standing_of t))) → IfOk r (λ o. IfSome o (λ t. High → LeadsTo P bases s (standing_of t)))
+leads High P bases s Line line (Ok (Some t)) h = λ high u lands. line (standing_of t) u h lands
+leads High P bases s Line line (Ok None) h = h
+leads High P bases s Line line (Err e) h = h
+
+-- the same of a line that asks as much
+pub leads_high : {E : Type 0} (High : Type 0) (P : Program) (bases : Bases) (s : Standing) (Line : Standing → Type 0)
+    → ((t u : Standing) → Line t → Lands P t u → Step P bases (At s) (At u)) → (r : Result (Option OwnStanding) E)
+    → IfOk r (λ o. IfSome o (λ t. High → Line (standing_of t))) → IfOk r (λ o. IfSome o (λ t. High → LeadsTo P bases s (standing_of t)))
+leads_high High P bases s Line line (Ok (Some t)) h = λ high u lands. line (standing_of t) u (h high) lands
+leads_high High P bases s Line line (Ok None) h = h
+leads_high High P bases s Line line (Err e) h = h

@@ -4,3 +4,4 @@ pub mod Standing
 pub mod Hint
 pub mod Called
 pub mod Left
+pub mod Steps

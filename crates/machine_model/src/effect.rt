@@ -1,6 +1,6 @@
 //! What an operation does to registers, memory and slots.
 
-ghost use Rattle.std.specs.Prelude.{◌≡◌, ◌≤◌, ◌^◌, IfOk, IfSome, IsTrue, true};
+ghost use Rattle.std.specs.Prelude.{◌≡◌, ◌≤◌, ◌^◌, ◌&&◌, ◌+ℤ◌, pos, int_le, IfOk, IfSome, IsTrue, true};
 ghost use Rattle.state_defs.specs.Region.{hi_of, WritesWord};
 ghost use Rattle.state_defs.specs.Frame.{after_save};
 ghost use Rattle.state_defs.specs.Effect.{Effect, StoresOrdinarily, store_saves};
@@ -48,38 +48,7 @@ fn push(core: Core, word: u64) -> Core
     core
 }
 
-/// rbp is pushed, which saves it for the top frame where it is still the caller's.
-fn push_bp(core: Core) -> Core
-    ensures { hi_of (region_of core.region) ≤ 2 ^ 64 → Effect Op.PushBp (core_of core) (core_of result) }
-{
-    let mut core = core;
-    let rsp = down(core.rsp, 8);
-    let rbp = core.rbp;
-    core.rsp = rsp;
-    core.region.write_word(rsp, rbp);
-    save_bp(core.shadow.as_mut_slice(), rbp, rsp);
-    core
-}
-
-/// Whether a store of rbp at rsp + at saves it for the top frame: rbp is still the caller's and isn't
-/// saved yet, and the slot lies at or above rsp and below the return address. The sum is plain.
-fn store_saves(rsp: u64, rbp: u64, at: i64, frames: &[Frame]) -> bool
-    ensures { result ≡ store_saves rsp rbp at (frames_of frames.now) }
-{
-    match frames {
-        [] => false,
-        [top, ..] => match top.slot {
-            Slot::Unsaved => {
-                rbp == top.bp
-                    && 0 <= at
-                    && i128::from(rsp) + (i128::from(at) + 16) <= i128::from(top.cfa)
-            }
-            _ => false,
-        },
-    }
-}
-
-/// rbp is stored at rsp + at, into its slot.
+/// rbp is stored at an address, into its slot.
 fn save_at(core: Core, address: u64) -> Core
     ensures { SavesAt address (core_of core) (core_of result) }
 {
@@ -88,6 +57,37 @@ fn save_at(core: Core, address: u64) -> Core
     core.region.write_word(address, rbp);
     save_bp(core.shadow.as_mut_slice(), rbp, address);
     core
+}
+
+/// rbp is pushed, which saves it for the top frame where it is still the caller's.
+fn push_bp(core: Core) -> Core
+    ensures { hi_of (region_of core.region) ≤ 2 ^ 64 → Effect Op.PushBp (core_of core) (core_of result) }
+{
+    let mut core = core;
+    let rsp = down(core.rsp, 8);
+    core.rsp = rsp;
+    save_at(core, rsp)
+}
+
+/// Whether a word at rsp + at lies at or above rsp and below the return address. The sum is plain.
+fn is_in_frame(rsp: u64, at: i64, cfa: u64) -> bool
+    ensures { result ≡ (int_le (pos 0) at && int_le (pos rsp +ℤ (at +ℤ pos 16)) (pos cfa)) }
+{
+    0 <= at && i128::from(rsp) + (i128::from(at) + 16) <= i128::from(cfa)
+}
+
+/// Whether a store of rbp at rsp + at saves it for the top frame: rbp is still the caller's and isn't
+/// saved yet, and the slot lies at or above rsp and below the return address.
+fn store_saves(rsp: u64, rbp: u64, at: i64, frames: &[Frame]) -> bool
+    ensures { result ≡ store_saves rsp rbp at (frames_of frames.now) }
+{
+    match frames {
+        [] => false,
+        [top, ..] => match top.slot {
+            Slot::Unsaved => rbp == top.bp && is_in_frame(rsp, at, top.cfa),
+            _ => false,
+        },
+    }
 }
 
 /// rbp is stored at an address, as an ordinary store.

@@ -1,10 +1,11 @@
 //! Unwind hints: when they are true, and what they do.
 
 ghost use Rattle.std.specs.Prelude.{◌≡◌, IfOk, IfSome, IsTrue, List, Bool};
-ghost use Rattle.machine_defs.specs.Hint.{IsInInterrupt, SetsState, Restores, Hinted, Lands};
+ghost use Rattle.machine_defs.specs.Hint.{IsInInterrupt, SetsState, Restores, Hinted, Lands, hinted_slot};
+ghost use Rattle.machine_model.specs.Slot.{slot_of};
 ghost use Rattle.machine_model.specs.Frame.{frames_of};
 ghost use Rattle.machine_model.specs.Standing.{standing_of};
-ghost use Rattle.machine_model.specs.Hint.{IsToldAt, IsKeptAt, IsAtMark};
+ghost use Rattle.machine_model.specs.Hint.{IsToldAt, IsKeptAt, IsAtMark, with_regs};
 ghost use Rattle.program_model.specs.Program.{program_of};
 
 use crate::frame::{Frame, Mark};
@@ -49,11 +50,45 @@ fn told(alloc: Global, state: State, s: Standing) -> Result<Option<Standing>, Al
 }
 
 /// The slot where a hint says that saved registers stand.
-fn hinted_slot(full: bool, address: u64) -> Slot {
+fn hinted_slot(full: bool, address: u64) -> Slot
+    ensures { slot_of result ≡ hinted_slot full address }
+{
     if full {
         Slot::FullAt(address)
     } else {
         Slot::PartialAt(address)
+    }
+}
+
+/// The standing with the top frame's slot set where a hint says that saved registers stand, on a stack that
+/// hasn't ended.
+fn with_regs(s: Standing, full: bool, depth: i64) -> Standing
+    ensures { standing_of result ≡ with_regs full depth (standing_of s) }
+{
+    let mut s = s;
+    let slot = hinted_slot(full, shifted(s.core.rsp, depth));
+    set_top_slot(s.core.shadow.as_mut_slice(), slot);
+    s.ended = None;
+    s
+}
+
+/// A hint sets a state over saved registers, where it is true.
+fn sets_regs(
+    alloc: Global,
+    full: bool,
+    depth: i64,
+    s: Standing,
+) -> Result<Option<Standing>, AllocError>
+    ensures { IfOk result (λ set. IfSome set (λ t. SetsState (State.Regs full depth) (standing_of s) (standing_of t))) }
+{
+    if is_in_interrupt(s.core.shadow.as_slice()) {
+        told(
+            alloc,
+            State::Regs { full, depth },
+            with_regs(s, full, depth),
+        )
+    } else {
+        Ok(None)
     }
 }
 
@@ -72,15 +107,7 @@ fn sets_state(alloc: Global, state: State, s: Standing) -> Result<Option<Standin
             s.ended = Some(kind);
             Ok(Some(s))
         }
-        State::Regs { full, depth } => {
-            if !is_in_interrupt(s.core.shadow.as_slice()) {
-                return Ok(None);
-            }
-            let slot = hinted_slot(full, shifted(s.core.rsp, depth));
-            set_top_slot(s.core.shadow.as_mut_slice(), slot);
-            s.ended = None;
-            told(alloc, state, s)
-        }
+        State::Regs { full, depth } => sets_regs(alloc, full, depth, s),
     }
 }
 

@@ -113,16 +113,33 @@ pub fn next_state(
     let Machine::At(s) = machine else {
         return Ok(None);
     };
+    let s = s.clone()?;
     let stepped = match choice {
-        Choice::IsInterrupted { gate, words } => {
-            interrupt(alloc, p, placement, s.clone()?, *gate, words)?
-        }
-        _ => step(alloc, p, placement, s.clone()?, choice)?,
+        Choice::IsInterrupted { gate, words } => interrupt(alloc, p, placement, s, *gate, words)?,
+        _ => step(alloc, p, placement, s, choice)?,
     };
     match stepped {
         Some(Machine::At(t)) if !t.core.is_in_stack() => Ok(None),
         next => Ok(next),
     }
+}
+
+/// Adds the next state to the last of these, and tells whether there is one.
+fn push_next(
+    alloc: Global,
+    p: &Program,
+    placement: &[Range],
+    states: &mut Vec<Machine>,
+    choice: &Choice<'_>,
+) -> Result<bool, AllocError> {
+    let Some(machine) = states.last() else {
+        return Ok(false);
+    };
+    let Some(next) = next_state(alloc, p, placement, machine, choice)? else {
+        return Ok(false);
+    };
+    states.push(next)?;
+    Ok(true)
 }
 
 /// The states of a run, from its start on, as far as the choices are possible.
@@ -135,17 +152,13 @@ pub fn run(
     choices: &[Choice<'_>],
 ) -> Result<Vec<Machine>, AllocError> {
     let mut states = Vec::new(alloc);
-    let Some(s) = started(alloc, p, placement, start, t)? else {
-        return Ok(states);
-    };
-    let mut machine = Machine::At(s);
-    for choice in choices {
-        let Some(next) = next_state(alloc, p, placement, &machine, choice)? else {
-            break;
-        };
-        states.push(machine)?;
-        machine = next;
+    if let Some(s) = started(alloc, p, placement, start, t)? {
+        states.push(Machine::At(s))?;
     }
-    states.push(machine)?;
+    for choice in choices {
+        if !push_next(alloc, p, placement, &mut states, choice)? {
+            break;
+        }
+    }
     Ok(states)
 }

@@ -23,7 +23,6 @@ pub fn top_slot(frames: &[Frame]) -> Option<Slot>
 }
 
 /// The protected slots of these frames.
-#[tactic(auto, using(crate::proofs::Frames::protected_more))]
 pub fn protected(alloc: Global, frames: &[Frame]) -> Result<Vec<Protected>, AllocError>
     ensures { IfOk result (λ words. words_of words.items ≡ flat_map protected (frames_of frames.now)) }
 {

@@ -2,10 +2,11 @@
 
 ghost use Rattle.std.specs.Prelude.{◌≤◌, ◌^◌, IfOk, IfSome, List, Bool};
 ghost use Rattle.state_defs.specs.Region.{hi_of};
-ghost use Rattle.machine_defs.specs.Machine.{Bases, At};
+ghost use Rattle.machine_defs.specs.Machine.{At};
 ghost use Rattle.machine_defs.specs.Step.{Step};
 ghost use Rattle.program_model.specs.Region.{region_of};
 ghost use Rattle.machine_model.specs.Standing.{standing_of, machine_of};
+ghost use Rattle.machine_model.specs.Steps.{LeadsTo, LandsAs};
 ghost use Rattle.program_model.specs.Program.{program_of};
 ghost use Rattle.program_model.specs.Placement.{bases_of};
 
@@ -21,55 +22,34 @@ use program_model::Program;
 use std::alloc::{AllocError, Global};
 use walk_defs::Range;
 
-/// The chosen step within the instruction's function, to a fixup, outside and back, or to another
-/// function.
-fn step_on(
-    alloc: Global,
-    p: &Program,
-    s: Standing,
-    choice: &Choice<'_>,
-) -> Result<Option<Standing>, AllocError>
-    ensures { (set : List Bool) → IfOk result (λ stepped. IfSome stepped (λ u. (bases : Bases) → hi_of (region_of s.core.region) ≤ 2 ^ 64 → Step (program_of p.now set) bases (At (standing_of s)) (At (standing_of u)))) }
-{
-    match choice {
-        Choice::GoesOn { edge, any } => match goes_on(alloc, p, s, *edge, any)? {
-            None => Ok(None),
-            Some(t) => lands(alloc, p, t),
-        },
-        Choice::Faults { to, stores } => match faults(alloc, p, s, *to, stores)? {
-            None => Ok(None),
-            Some(t) => lands(alloc, p, t),
-        },
-        Choice::CallsOut { to, stores } => match calls_out(alloc, p, s, *to, stores)? {
-            None => Ok(None),
-            Some(t) => lands(alloc, p, t),
-        },
-        Choice::Returns { to, stores } => match returns(alloc, p, s, *to, stores)? {
-            None => Ok(None),
-            Some(t) => lands(alloc, p, t),
-        },
-        Choice::TailCalls { to } => match tail_calls(p, s, *to) {
-            None => Ok(None),
-            Some(t) => lands(alloc, p, t),
-        },
-        _ => Ok(None),
-    }
-}
-
-/// The chosen call of an entry.
-fn step_in(
+/// Where the chosen step leads before the hint there does its work; none where it isn't possible.
+fn moved(
     alloc: Global,
     p: &Program,
     placement: &[Range],
     s: Standing,
-    entry: u32,
-    at: u32,
+    choice: &Choice<'_>,
 ) -> Result<Option<Standing>, AllocError>
-    ensures { (set : List Bool) → IfOk result (λ stepped. IfSome stepped (λ u. hi_of (region_of s.core.region) ≤ 2 ^ 64 → Step (program_of p.now set) (bases_of placement.now) (At (standing_of s)) (At (standing_of u)))) }
+    ensures { (set : List Bool) → IfOk result (λ moved. IfSome moved (λ t. hi_of (region_of s.core.region) ≤ 2 ^ 64 → LeadsTo (program_of p.now set) (bases_of placement.now) (standing_of s) (standing_of t))) }
 {
-    match calls_in(p, placement, s, entry, at)? {
+    match choice {
+        Choice::GoesOn { edge, any } => goes_on(alloc, p, s, *edge, any),
+        Choice::Faults { to, stores } => faults(alloc, p, s, *to, stores),
+        Choice::CallsIn { entry, at } => calls_in(p, placement, s, *entry, *at),
+        Choice::CallsOut { to, stores } => calls_out(alloc, p, s, *to, stores),
+        Choice::Returns { to, stores } => returns(alloc, p, s, *to, stores),
+        Choice::TailCalls { to } => Ok(tail_calls(p, s, *to)),
+        _ => Ok(None),
+    }
+}
+
+/// The machine after the hint where it stands has done its work; none where the hint isn't true.
+fn landed(alloc: Global, p: &Program, t: Standing) -> Result<Option<Machine>, AllocError>
+    ensures { (set : List Bool) → IfOk result (λ landed. IfSome landed (LandsAs (program_of p.now set) (standing_of t))) }
+{
+    match lands(alloc, p, t)? {
         None => Ok(None),
-        Some(t) => lands(alloc, p, t),
+        Some(u) => Ok(Some(Machine::At(u))),
     }
 }
 
@@ -96,13 +76,9 @@ pub fn step(
             None => Ok(None),
             Some(t) => Ok(Some(Machine::At(t))),
         },
-        Choice::CallsIn { entry, at } => match step_in(alloc, p, placement, s, *entry, *at)? {
+        _ => match moved(alloc, p, placement, s, choice)? {
             None => Ok(None),
-            Some(u) => Ok(Some(Machine::At(u))),
-        },
-        _ => match step_on(alloc, p, s, choice)? {
-            None => Ok(None),
-            Some(u) => Ok(Some(Machine::At(u))),
+            Some(t) => landed(alloc, p, t),
         },
     }
 }
@@ -118,9 +94,6 @@ pub fn interrupt(
 ) -> Result<Option<Machine>, AllocError> {
     match is_interrupted(p, placement, s, gate, words)? {
         None => Ok(None),
-        Some(t) => match lands(alloc, p, t)? {
-            None => Ok(None),
-            Some(u) => Ok(Some(Machine::At(u))),
-        },
+        Some(t) => landed(alloc, p, t),
     }
 }

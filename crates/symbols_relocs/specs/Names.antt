@@ -58,3 +58,8 @@ KnowsParents o texts stems first = (i n : ℕ) → slice_index_or stems i None �
 -- by the number of a P, where there is one, the first symbol of a function with this name is found
 abbrev pub IsFound : Elf → List (Option ℕ) → Option ℕ → Option (List ℕ) → Type 0
 IsFound o first number text = MatchOption number (text ≡ None) (λ n. (t : List ℕ) × (text ≡ Some t) × (slice_index_or first n None ≡ first_named o t))
+
+-- so it is for each of these functions, by the number of the P of its name
+pub record AreFound (o : Elf) (fs : List Function) (stems first : List (Option ℕ)) : Type 0 where
+  pub len : length stems ≡ length fs
+  pub each : (i : ℕ) → i < length fs → IsFound o first (slice_index_or stems i None) (part_name (symbol_at o (function fs i).sym).name)

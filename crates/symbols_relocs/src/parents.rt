@@ -4,7 +4,7 @@ ghost use Rattle.std.specs.Prelude.{◌≡◌, ◌<◌, ◌≤◌, List, Option,
 ghost use Rattle.elf_objects.specs.Elf.{Elf as OneElf};
 ghost use Rattle.symbols_relocs.specs.Functions.{start_of as start_of_symbol, starts_at as starts_symbol_at};
 ghost use Rattle.symbols_relocs.specs.Lists.{AreFunctions, AreSame, HaveParents, IsIndexOfSymbol};
-ghost use Rattle.symbols_relocs.specs.Names.{IsFound};
+ghost use Rattle.symbols_relocs.specs.Names.{strings as strings_of, AreFound, IsFound};
 ghost use Rattle.symbols_relocs.specs.Parts.{first_named, function_named};
 
 use crate::function::Function;
@@ -53,6 +53,51 @@ fn parent_of(
     function_of(object, functions, symbol)
 }
 
+/// The same functions with their parents, by the numbers of the P of their names.
+fn add_parents(
+    alloc: Global,
+    object: &Object<'_>,
+    functions: &[Function],
+    stems: &[Option<u32>],
+    first: &[Option<u32>],
+) -> Result<Vec<Function>, NoMemory>
+    requires all { AreFunctions object.now functions.now }
+    requires few { length functions.now ≤ 4194304 }
+    requires found { AreFound object.now functions.now stems.now first.now }
+    ensures same { IfOk result (λ list. AreSame functions.now list.items) }
+    ensures parents { IfOk result (λ list. HaveParents object.now list.items) }
+{
+    let mut list = Vec::with_capacity(alloc, functions.len())?;
+    for (i, function) in functions.iter().enumerate() {
+        let parent = parent_of(object, functions, first, stems[i]);
+        list.push(Function {
+            parent,
+            ..*function
+        })?;
+    }
+    Ok(list)
+}
+
+/// The same functions with their parents, whose names get numbers.
+fn find_parents(
+    alloc: Global,
+    object: &Object<'_>,
+    functions: &[Function],
+    ends: &Ends<'_>,
+    texts: &mut Texts<'_>,
+) -> Result<Vec<Function>, NoMemory>
+    requires all { AreFunctions object.now functions.now }
+    requires few { length functions.now ≤ 4194304 }
+    requires ends { ends.now ≡ strings_of object.now }
+    requires table { texts.old.table ≡ strings_of object.now }
+    ensures same { IfOk result (λ list. AreSame functions.now list.items) }
+    ensures parents { IfOk result (λ list. HaveParents object.now list.items) }
+{
+    let stems = list_stems(alloc, object, functions, ends, texts)?;
+    let first = first_symbols(alloc, object, ends, texts, stems.as_slice())?;
+    add_parents(alloc, object, functions, stems.as_slice(), first.as_slice())
+}
+
 /// The same functions with their parents.
 pub(crate) fn with_parents(
     alloc: Global,
@@ -67,15 +112,5 @@ pub(crate) fn with_parents(
     let table = strings(object);
     let ends = Ends::build(alloc, table)?;
     let mut texts = Texts::new(alloc, table)?;
-    let stems = list_stems(alloc, object, functions, &ends, &mut texts)?;
-    let first = first_symbols(alloc, object, &ends, &mut texts, &stems)?;
-    let mut list = Vec::with_capacity(alloc, functions.len())?;
-    for (i, function) in functions.iter().enumerate() {
-        let parent = parent_of(object, functions, &first, stems[i]);
-        list.push(Function {
-            parent,
-            ..*function
-        })?;
-    }
-    Ok(list)
+    find_parents(alloc, object, functions, &ends, &mut texts)
 }

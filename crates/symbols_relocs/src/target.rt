@@ -1,6 +1,6 @@
 //! The targets of direct calls and branches.
 
-ghost use Rattle.std.specs.Prelude.{◌≡◌, ◌<◌, length, bytes_eq};
+ghost use Rattle.std.specs.Prelude.{◌≡◌, ◌<◌, ◌+ℤ◌, pos, length, bytes_eq};
 ghost use Rattle.elf_objects.specs.Contents.{symbol_at};
 ghost use Rattle.object_places.specs.Places.{offset_of};
 ghost use Rattle.symbols_relocs.specs.Places.{is_in_text as is_in_text_of};
@@ -84,22 +84,37 @@ fn either(object: &Object<'_>, sym: u32, sec: u32, off: Option<u64>) -> Target
     }
 }
 
+/// The offset in its section of what a relocation names.
+fn symbol_offset(object: &Object<'_>, reloc: Reloc) -> Option<u64>
+    requires { reloc.sym < length object.now.symbols }
+    ensures { result ≡ offset_of (pos (symbol_at object.now reloc.sym).value +ℤ reloc.addend +ℤ pos 4) }
+{
+    let symbol = object.symbol(reloc.sym);
+    offset(i128::from(symbol.value) + i128::from(reloc.addend) + 4)
+}
+
+/// The target at the symbol of a relocation, which is defined in a section.
+fn section_target(object: &Object<'_>, reloc: Reloc, sec: u32) -> Target
+    requires { reloc.sym < length object.now.symbols }
+    ensures { result ≡ symbol_target_of object.now reloc (Home.Section sec) }
+{
+    let off = symbol_offset(object, reloc);
+    if object.symbol(reloc.sym).bind == STB_WEAK {
+        either(object, reloc.sym, sec, off)
+    } else {
+        inside(object, sec, off)
+    }
+}
+
 /// The target at the symbol of a relocation.
 fn symbol_target(object: &Object<'_>, reloc: Reloc) -> Target
     requires { reloc.sym < length object.now.symbols }
     ensures { result ≡ symbol_target_of object.now reloc (symbol_at object.now reloc.sym).home }
 {
-    let symbol = object.symbol(reloc.sym);
-    let sec = match symbol.home {
-        Home::Undefined => return Target::Outside(reloc.sym),
-        Home::Section(sec) => sec,
-        Home::Absolute | Home::Common => return Target::Bad,
-    };
-    let off = offset(i128::from(symbol.value) + i128::from(reloc.addend) + 4);
-    if symbol.bind == STB_WEAK {
-        either(object, reloc.sym, sec, off)
-    } else {
-        inside(object, sec, off)
+    match object.symbol(reloc.sym).home {
+        Home::Undefined => Target::Outside(reloc.sym),
+        Home::Section(sec) => section_target(object, reloc, sec),
+        Home::Absolute | Home::Common => Target::Bad,
     }
 }
 

@@ -1,4 +1,4 @@
-use Rattle.std.proofs.Common.{◌≡◌, ◌+◌, ◌<◌, ℕ, List, Some, length, slice_get, true, false, ap, sym, subst, ◌∙◌}
+use Rattle.std.proofs.Common.{◌≡◌, ◌+◌, ℕ, List, Some, slice_get, true, ap, sym, subst, ◌∙◌}
 use Rattle.text_numbers.specs.Texts.{AreKept, Numbered}
 use Rattle.elf_objects.specs.Contents.{symbol_at}
 use Rattle.elf_objects.specs.Elf.{Elf}

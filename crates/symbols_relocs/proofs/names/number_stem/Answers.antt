@@ -1,7 +1,7 @@
-use Rattle.std.proofs.Common.{◌≡◌, List, ℕ, Some, None, slice_get, slice_range, ap, sym, ◌∙◌}
+use Rattle.std.proofs.Common.{◌≡◌, ◌≤◌, List, ℕ, Some, length, slice_range, ap, sym, subst, ◌∙◌, arith}
 use Rattle.text_numbers.specs.Ends.{end_from}
 use Rattle.elf_objects.specs.Contents.{symbol_at}
-use Rattle.symbols_relocs.specs.Names.{strings}
+use Rattle.symbols_relocs.specs.Names.{strings, AreRuns}
 use Rattle.symbols_relocs.specs.Parts.{part_name}
 use Rattle.symbols_relocs.proofs.NamePlaces.{name_range}
 use Rattle.symbols_relocs.proofs.names.number_stem.Goals as goal
@@ -28,3 +28,27 @@ returns-in-None-clause-number c =
     let is : slice_range table start end ≡ name = name_range table start end name (c.end_of-end.ensures.value ∙ ap (λ t. end_from t start) c.requires.ends) c.name_start-start.ensures.name in
     let lent : c.table.result.now ≡ table = c.table.ensures.value ∙ c.requires.ends in
     ap part_name (sym is ∙ ap (λ t. slice_range t start end) (sym lent)) ∙ sym c.in-None.ensures.stem
+
+pub stem_end-requires-clause-runs : goal.stem_end-requires-clause-runs
+stem_end-requires-clause-runs c =
+    subst (λ (t : List ℕ). AreRuns t c.args.runs.now.items) (sym (c.table.ensures.value ∙ c.requires.ends)) c.requires.runs
+
+pub stem_end-requires-clause-inside : goal.stem_end-requires-clause-inside
+stem_end-requires-clause-inside c = subst (λ (t : List ℕ). c.end_of-end.result ≤ length t) (sym c.table.ensures.value) c.end_of-end.ensures.within
+
+pub number-requires-clause-order : goal.number-requires-clause-order
+number-requires-clause-order c = c.in-Some.ensures.from
+
+pub number-requires-clause-inside : goal.number-requires-clause-inside
+number-requires-clause-inside c =
+    let within = subst (λ (t : List ℕ). c.end_of-end.result ≤ length t) (c.requires.ends ∙ sym c.requires.table) c.end_of-end.ensures.within in
+    omega (arith, within, c.in-Some.ensures.to)
+
+pub returns-in_err-number-in-Some-clause-runs : goal.returns-in_err-number-in-Some-clause-runs
+returns-in_err-number-in-Some-clause-runs c = subst (λ (t : List ℕ). AreRuns t c.stem_end.new.runs.items) (c.table.ensures.value ∙ c.requires.ends) c.stem_end.ensures.runs
+
+pub returns-in_ok-number-in-Some-clause-runs : goal.returns-in_ok-number-in-Some-clause-runs
+returns-in_ok-number-in-Some-clause-runs c = subst (λ (t : List ℕ). AreRuns t c.stem_end.new.runs.items) (c.table.ensures.value ∙ c.requires.ends) c.stem_end.ensures.runs
+
+pub returns-in-None-clause-runs : goal.returns-in-None-clause-runs
+returns-in-None-clause-runs c = subst (λ (t : List ℕ). AreRuns t c.stem_end.new.runs.items) (c.table.ensures.value ∙ c.requires.ends) c.stem_end.ensures.runs
