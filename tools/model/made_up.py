@@ -4,14 +4,17 @@ Object after object, the program checks it with the options of its turn, in a fo
 writes are compared with the model's answer, and where the object is accepted, its rows with those that `dump` prints. The
 program must leave all other files alone. Before the made-up objects come the worked ones and those of single features. Objects
 with different answers are kept in the folder KEPT. The objects of FOLDER, as those of a kernel's build, are changed by lot too;
-where they are large, of the changed ones only the form of the answer is asked.
+where they are large, of the changed ones only the form of the answer is asked. The objects are shared out to as many processes as
+JOBS says, one a processor where it isn't given: which objects are made doesn't depend on it.
 """
 
 import hashlib
 import itertools
+import multiprocessing
 import os
 import random
 import sys
+from collections import Counter
 from typing import NamedTuple, Optional
 
 from check import Answer, check, options_of, read_file
@@ -91,8 +94,8 @@ def object_of(name: str, real: list[str]) -> tuple[str, bytes]:
     return ("changed", mutated(made, rng)) if how < 0.5 else ("made", made)
 
 
-def made_cases(count: int, seed: str, real: list[str]):
-    for number in range(count):
+def made_cases(numbers: range, seed: str, real: list[str]):
+    for number in numbers:
         what, data = object_of(f"{seed}/{number}", real)
         compared = not what.startswith("changed ") or len(data) <= LARGE
         yield Case(f"{number} ({what})", data, *turn_of(number), compared)
@@ -110,12 +113,12 @@ def keep(folder: str, name: str, case: Case, run: Run, answer: Optional[Answer])
             print("model:", answer.status, *answer.lines, *answer.rows, sep="\n", file=file)
 
 
-def is_right(program: Program, case: Case, kept: str, statuses: dict[int, int]) -> bool:
+def is_right(program: Program, case: Case, kept: str, statuses: Counter[int]) -> bool:
     """Checks a case, and tells what is different."""
     run = program.check(case.data, case.options, case.names)
     answer = check(case.data, options_of(case.options), case.names) if case.compared else None
     found = differences(run, answer) if answer is not None else [] if is_well_formed(run) else ["form of the answer"]
-    statuses[run.status] = statuses.get(run.status, 0) + 1
+    statuses[run.status] += 1
     if found:
         name = hashlib.sha256(case.data).hexdigest()[:12]
         print(f"object {case.what}, {' '.join(case.options)}: different {', '.join(found)}; kept as {kept}/{name}.o", flush=True)
@@ -123,15 +126,24 @@ def is_right(program: Program, case: Case, kept: str, statuses: dict[int, int]) 
     return not found
 
 
-def main(path: str, count: str, seed: str, kept: str, folder: str = "") -> int:
+def compare(path: str, count: int, seed: str, kept: str, real: list[str], part: int, parts: int) -> tuple[Counter[int], int]:
+    """Checks one of so many parts of the cases, and tells how many had each status, and how many answers are different."""
     program = Program(path)
+    statuses: Counter[int] = Counter()
+    cases = itertools.chain(itertools.islice(worked_cases(), part, None, parts), made_cases(range(part, count, parts), seed, real))
+    different = sum(not is_right(program, case, kept, statuses) for case in cases)
+    return statuses, different
+
+
+def main(path: str, count: str, seed: str, kept: str, folder: str = "") -> int:
     real = sorted(f"{folder}/{name}" for name in os.listdir(folder) if name.endswith(".o")) if folder else []
-    statuses: dict[int, int] = {}
-    cases = itertools.chain(worked_cases(), made_cases(int(count), seed, real))
-    right = [is_right(program, case, kept, statuses) for case in cases]
-    different = right.count(False)
+    parts = int(os.environ.get("JOBS") or os.cpu_count() or 1)
+    with multiprocessing.Pool(parts) as pool:
+        told = pool.starmap(compare, [(path, int(count), seed, kept, real, part, parts) for part in range(parts)], 1)
+    statuses = sum((found for found, _ in told), Counter())
+    different = sum(found for _, found in told)
     print(", ".join(f"status {status}: {number}" for status, number in sorted(statuses.items())))
-    print(f"{len(right)} objects, {different} different")
+    print(f"{sum(statuses.values())} objects, {different} different")
     return 1 if different else 0
 
 
