@@ -5,65 +5,13 @@
 # it needs. Skipped where a tool is missing.
 set -eu
 . "$(dirname "$0")/prepare.sh"
-needs "refused memory" gcc as ld
+needs "refused memory" gcc as ld python3
 program=${OBJTOOL:-$root/crates/objtool/out/objtool}
 [ -x "$program" ] || { echo "refused memory: skipped, the program isn't built"; exit 0; }
 failed() { echo "refused memory: $*"; exit 1; }
 cd "$scratch"
 
-# The C library's allocation, of which the request whose number REFUSED holds gets nothing; nor do those behind it, where
-# ONWARDS isn't empty. How many requests there were is written to the file COUNT, where that is given.
-cat >refuse.c <<'C'
-#define _GNU_SOURCE
-#include <dlfcn.h>
-#include <stdio.h>
-#include <stdlib.h>
-
-static long requests;
-
-static int is_refused(void)
-{
-	static long refused;
-
-	if (!refused) {
-		const char *number = getenv("REFUSED");
-		refused = number ? atol(number) : -1;
-	}
-	requests++;
-	return requests == refused || (refused > 0 && requests > refused && *getenv("ONWARDS"));
-}
-
-void *malloc(size_t size)
-{
-	static void *(*real)(size_t);
-
-	if (!real)
-		real = dlsym(RTLD_NEXT, "malloc");
-	return is_refused() ? NULL : real(size);
-}
-
-void *realloc(void *old, size_t size)
-{
-	static void *(*real)(void *, size_t);
-
-	if (!real)
-		real = dlsym(RTLD_NEXT, "realloc");
-	return is_refused() ? NULL : real(old, size);
-}
-
-__attribute__((destructor)) static void tell(void)
-{
-	const char *name = getenv("COUNT");
-	long made = requests;
-	FILE *file = name ? fopen(name, "w") : NULL;
-
-	if (file) {
-		fprintf(file, "%ld\n", made);
-		fclose(file);
-	}
-}
-C
-gcc -O1 -shared -fPIC -o refuse.so refuse.c -ldl
+gcc -O1 -shared -fPIC -o refuse.so "$root/tools/refused-memory/refuse.c" -ldl
 
 # object NAME: what the assembler makes of its standard input, passed through ld -r, which gives sections a symbol.
 object() { as -o assembled - && ld -r -o "$1.o" assembled; }
@@ -215,6 +163,29 @@ printf 'regs 1005 8000 5\nplace 1 1000\nmem 8008 0210000000000000\n' >in_second
 "$program" check ended.o ended.checked.o || failed "an object isn't accepted"
 cp straight.o itself.o
 
+# The worked objects that together come to every request of `check`, with their tables and an image for each: at the first
+# instruction, unless the walk is longer from another one.
+python3 -B "$root/tools/model/worked.py" .
+at_start='regs 1000 8000 5\nplace 1 1000\nmem 8000 00000081ffffffff\n'
+recursive='regs 1006 8000 0\nplace 1 1000\nmem 8020 11000000000000001710000000000000\nmem 8050 22000000000000001710000000000000\nmem 8080 330000000000000000000081ffffffff\n'
+declare -A images=(
+    [a-frame-pointer]=$at_start
+    [pushes-and-calls]=$recursive
+    [a-site-with-a-padded-replacement]=$at_start
+    [a-static-branch-to-a-part]="${at_start}place 2 2000\n"
+    [a-jump-table]=$at_start
+    [the-end-of-the-stack]='regs 1005 8000 5\nplace 1 1000\nmem 8008 0210000000000000\n'
+    [the-same-of-a-safe-function]=$at_start
+    [a-section-without-a-symbol]=$at_start
+)
+declare -A options=([the-same-of-a-safe-function]=" --uaccess --names=the-same-of-a-safe-function.names")
+worked=()
+for name in "${!images[@]}"; do
+    printf "${images[$name]}" >"$name.image"
+    "$program" check "$name.o" "$name.checked.o" ${options[$name]:-} || failed "$name isn't accepted"
+    worked+=("0 check $name.o out${options[$name]:-}" "0 dump $name.checked.o" "0 unwind $name.checked.o $name.image")
+done
+
 # Status with ample memory, and the words. OUT is `out`, which isn't there, or IN itself.
 commands=(
     "0 --help"
@@ -249,6 +220,10 @@ commands=(
     "2 unwind table.o wraps"
     "2 unwind table.o misplaced"
     "0 demo 3"
+    "1 check a-site-that-pushes.o out"
+    "1 check a-jump-table-that-ends.o out"
+    "1 check a-call-with-user-access-on.o out --uaccess"
+    "${worked[@]}"
 )
 
 # run REFUSED ONWARDS: the text that the command tells, and its status.

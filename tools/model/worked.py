@@ -1,4 +1,5 @@
-"""Worked examples: small objects whose answers are known, and the model's answers beside them: worked.py."""
+"""Worked examples: small objects whose answers are known, and the model's answers beside them: worked.py. With a folder,
+`worked.py FOLDER`, writes the objects there instead, and their names files, as files that are called by what they show."""
 
 import sys
 
@@ -128,6 +129,12 @@ def two_saves() -> bytes:
     return make(sections, symbols, relocs)
 
 
+def without_section_symbol() -> bytes:
+    """f alone, without a symbol of its section, and data that names f."""
+    parts = [NewSection(b".text", flags=CODE, body=b"\xc3"), NewSection(b".data", flags=3, body=bytes(8))]
+    return make(parts, [function("f", 0, 1)], [(2, Reloc(0, 1, 1, 0))])
+
+
 def many_sections() -> bytes:
     text = NewSection(b".text", flags=CODE, body=b"\xc3")
     return make([NewSection(b"d")] * 65_280 + [text], [section_symbol(65_281), function("f", 0, 1, 65_281)], [])
@@ -232,6 +239,7 @@ WORKED = [
         {"uaccess": True, "names": b"uaccess memcpy"},
         ACCEPTED,
     ),
+    ("a section without a symbol", without_section_symbol(), {}, rows(x0=D, x1=Z)),
     ("an indirect branch", code_in_f("FFE0"), {"retpoline": True}, warned(".text+0x0: rule 31: indirect branch")),
     ("a naked return", code_in_f("C3"), {"rethunk": True}, warned(".text+0x0: rule 32: naked return")),
     (
@@ -345,9 +353,7 @@ def written_differently() -> int:
     """How many objects that are written are other than they are to be: their sizes, and what relocations and groups name."""
     sizes = [(demo(1), 504, 1272), (code_in_f("535B90C3"), 504, 1232)]
     found = [len(data) == size and len(check(data).written) == written for data, size, written in sizes]
-    parts = [NewSection(b".text", flags=CODE, body=b"\xc3"), NewSection(b".data", flags=3, body=bytes(8))]
-    without = make(parts, [function("f", 0, 1)], [(2, Reloc(0, 1, 1, 0))])
-    written = parse(check(without).written)
+    written = parse(check(without_section_symbol()).written)
     homes = [(symbol.kind, symbol.home, symbol.name) for symbol in written.symbols[1:]]
     found.append(homes == [(SECTION, 1, b""), (FUNC, 1, b"f")] and written.relocs[2] == [Reloc(0, 1, 2, 0)])
     found.append([section.info for section in written.sections if section.kind == SYMTAB] == [2])
@@ -355,7 +361,21 @@ def written_differently() -> int:
     return found.count(False)
 
 
-def main() -> int:
+def write_all(folder: str) -> None:
+    """Writes the objects, and the names files of those that have one."""
+    for name, data, given, _ in WORKED:
+        path = f"{folder}/{name.replace(' ', '-')}"
+        with open(f"{path}.o", "wb") as file:
+            file.write(data)
+        if "names" in given:
+            with open(f"{path}.names", "wb") as file:
+                file.write(given["names"])
+
+
+def main(folder: str = "") -> int:
+    if folder:
+        write_all(folder)
+        return 0
     different = cut_short() + written_differently()
     for name, data, given, (status, lines, wanted_rows) in WORKED:
         answer, there = answered(data, given)
@@ -367,4 +387,4 @@ def main() -> int:
 
 
 if __name__ == "__main__":
-    sys.exit(main())
+    sys.exit(main(*sys.argv[1:]))
