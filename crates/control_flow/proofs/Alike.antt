@@ -32,7 +32,7 @@ use Rattle.flow_defs.specs.Marks.{calls_into_function, has_bad_target, has_targe
 use Rattle.flow_defs.specs.Owners.{is_unchecked_point, owner_of_point}
 use Rattle.flow_defs.specs.Roles.{jump_by_table, role_by, role_of, table_of_point}
 use Rattle.flow_defs.specs.Sites.{enters_site, is_into_site, is_original_of, site_at, sites_of}
-use Rattle.flow_points.specs.Tables.{table_start_of}
+use Rattle.point_flow.specs.Tables.{table_start_of}
 use Rattle.control_flow.specs.Lone.{GoAlike, is_in_open_code, is_indirect_jump, is_lone_jump, is_unlisted}
 
 bool_cases : (b : Bool) → (b ≡ true) ⊎ (b ≡ false)

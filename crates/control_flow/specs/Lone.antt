@@ -17,7 +17,7 @@ use Rattle.flow_defs.specs.Marks.{marks_of}
 use Rattle.flow_defs.specs.Owners.{is_unchecked_point}
 use Rattle.flow_defs.specs.Roles.{role_of, table_of_point}
 use Rattle.flow_defs.specs.Sites.{site_at}
-use Rattle.flow_points.specs.Tables.{table_start_of}
+use Rattle.point_flow.specs.Tables.{table_start_of}
 use Rattle.control_flow.specs.declared.lone_jumps.LoneJumps.{LoneJumps}
 
 abbrev pub is_indirect_jump : Op → Bool

@@ -5,11 +5,11 @@ ghost use Rattle.flow_defs.specs.Program.{program_of};
 ghost use Rattle.return_search.specs.Told.{exit_of};
 ghost use Rattle.control_flow.specs.Listed.{AreDeadEnds, AreEntered, count_of};
 
-use flow_points::FlowPoints;
 use object_code::Linked;
 use ot_base::{Lists, NoMemory};
 use point_entries::entry_at;
 use point_fields::never_returns;
+use point_flow::FlowPoints;
 use point_places::PointPlaces;
 use program_defs::Role;
 use return_search::Exit;

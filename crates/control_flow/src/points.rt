@@ -10,9 +10,9 @@ ghost use Rattle.control_flow.specs.Points.{AreMade, IsMade};
 
 use crate::listed::count_points;
 use crate::low::point_is_low;
-use flow_points::FlowPoints;
 use ot_base::NoMemory;
 use point_fields::OwnerTable;
+use point_flow::FlowPoints;
 use program_graph::Point;
 use return_search::Returns;
 use std::alloc::Global;

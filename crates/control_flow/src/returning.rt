@@ -11,8 +11,8 @@ use crate::listed::{list_dead_ends, list_entered};
 use crate::order::object_is_in_order;
 use crate::outgoing::EdgeList;
 use flow_law::laws::program_is_one;
-use flow_points::FlowPoints;
 use ot_base::{Lists, NoMemory};
+use point_flow::FlowPoints;
 use return_search::{Exit, Flow, Returns, find_returns};
 use std::alloc::Global;
 

@@ -14,11 +14,10 @@ ghost use Rattle.control_flow.specs.Transfers.{IsTransfer, IsTransferIfBack, IsT
 
 use crate::numbers::number_of;
 use branch_ways::Branch;
-use flow_points::FlowPoints;
 use operation_defs::Insn;
 use ot_base::NoMemory;
 use point_fields::calls_fentry;
-use point_marks::marks;
+use point_flow::{FlowPoints, marks};
 use program_defs::{Marks, Role};
 use program_graph::Transfer;
 use return_search::Returns;

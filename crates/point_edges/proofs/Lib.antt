@@ -1,4 +1,0 @@
-mod Pushing
-mod Going
-mod Within
-pub mod Inside

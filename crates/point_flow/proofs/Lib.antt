@@ -1,0 +1,9 @@
+mod Numbered
+mod Pushing
+mod Going
+mod EdgesWithin
+mod Inside
+mod Within
+mod Entries
+mod MarksWithin
+mod Parts
