@@ -3,7 +3,8 @@
 ghost use Rattle.std.specs.Prelude.{◌≤◌, IfOk, IsTrue};
 ghost use Rattle.ot_files.specs.Memory.{names_of, names_differ};
 
-use objtool_cli::{Status, run};
+use objtool_cli::run;
+pub use objtool_cli::{Status, summary};
 use ot_files::{Files, MemFiles, MemSink, Sink};
 use std::alloc::{AllocError, Global};
 

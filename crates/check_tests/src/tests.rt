@@ -10,8 +10,7 @@ mod straight;
 
 use check_examples::objects::{Example, object};
 use check_examples::rows::{RowBytes, holds_rows};
-use check_examples::running::{OLD, ends};
-use objtool_cli::Status;
+use check_examples::running::{OLD, Status, ends};
 use std::alloc::{AllocError, Global};
 use std::process::Abort;
 use std::test::Fail;

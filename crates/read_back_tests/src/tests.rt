@@ -11,8 +11,7 @@ mod unwinding;
 mod walking;
 mod writing;
 
-use check_examples::running::run_words;
-use objtool_cli::Status;
+use check_examples::running::{Status, run_words};
 use ot_files::{MemFiles, MemSink};
 use std::alloc::{AllocError, Global};
 use std::process::Abort;

@@ -4,10 +4,9 @@ use super::{Answer, expect_answer};
 use check_examples::objects::{CODE, DATA, Example, TEXT, code_in_f, object};
 use check_examples::reading::{header, number, section, section_number, sections};
 use check_examples::rows::{DEPTH_8, RowBytes, ZERO, holds_rows};
-use check_examples::running::ends;
+use check_examples::running::{Status, ends};
 use demo_objects::{Spec, SymSpec, build};
 use elf_objects::{Home, R_X86_64_64, SHF_WRITE, STB_GLOBAL, STB_LOCAL, STT_FUNC, STT_SECTION};
-use objtool_cli::Status;
 use std::alloc::Global;
 use std::test::Fail;
 

@@ -3,7 +3,7 @@
 use super::running::{Ran, expect_printed, run_line};
 use check_examples::objects::code_in_f;
 use check_examples::rows::{RowBytes, holds_rows};
-use objtool_cli::Status;
+use check_examples::running::Status;
 use std::alloc::{AllocError, Global};
 use std::process::Abort;
 use std::test::Fail;

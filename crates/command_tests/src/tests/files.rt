@@ -2,8 +2,7 @@
 
 use super::answers::{Answer, Case, FRAME, UNCHANGED, expect_answer, expect_cases, object_of};
 use super::running::{expect_printed, with_names, words_of};
-use check_examples::running::run_words;
-use objtool_cli::Status;
+use check_examples::running::{Status, run_words};
 use ot_files::{FileError, Files, MemFiles, MemSink, SureSink};
 use std::alloc::{AllocError, Global};
 use std::process::Abort;

@@ -4,7 +4,7 @@ use super::answers::{Answer, UNCHANGED, expect_answer, object_of};
 use super::running::{Run, expect_runs, expect_runs_on, run_line};
 use check_examples::objects::code_with_call;
 use check_examples::rows::{DEPTH_8, ZERO};
-use objtool_cli::Status;
+use check_examples::running::Status;
 use std::alloc::{AllocError, Global};
 use std::process::Abort;
 use std::test::Fail;

@@ -4,8 +4,7 @@ ghost use Rattle.std.specs.Prelude.{IfOk, IsTrue};
 ghost use Rattle.ot_files.specs.Memory.{names_of, names_differ};
 
 use super::answers::{UNCHANGED, object_of};
-use check_examples::running::run_words;
-use objtool_cli::Status;
+use check_examples::running::{Status, run_words};
 use ot_files::{SureFiles, SureSink};
 use std::alloc::{AllocError, Global};
 use std::process::Abort;

@@ -3,8 +3,7 @@
 use super::answers::{UNCHANGED, object_of};
 use super::running::{expect_printed, words_of};
 use check_examples::objects::code_with_call;
-use check_examples::running::run_words;
-use objtool_cli::{Status, summary};
+use check_examples::running::{Status, run_words, summary};
 use ot_files::{MemSink, SureFiles, SureSink};
 use std::alloc::{AllocError, Global};
 use std::process::Abort;

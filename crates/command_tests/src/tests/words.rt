@@ -1,8 +1,7 @@
 //! Words at fault, names files, texts of the program, and statuses.
 
 use super::running::{Run, expect_printed, expect_runs_on, words_of};
-use check_examples::running::run_words;
-use objtool_cli::Status;
+use check_examples::running::{Status, run_words};
 use ot_files::{MemSink, SureFiles};
 use std::process::Abort;
 use std::test::Fail;

@@ -1,8 +1,7 @@
 //! `check` of an object of which one byte is changed.
 
 use super::frame;
-use check_examples::running::{OLD, ends};
-use objtool_cli::Status;
+use check_examples::running::{OLD, Status, ends};
 use std::alloc::Global;
 use std::ops::Range;
 use std::process::Abort;

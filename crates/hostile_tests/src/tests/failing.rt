@@ -1,8 +1,7 @@
 //! Files and outputs whose calls fail.
 
 use check_examples::objects::{code_in_f, code_with_call};
-use check_examples::running::{Command, NEVER, OLD, run_command};
-use objtool_cli::Status;
+use check_examples::running::{Command, NEVER, OLD, Status, run_command};
 use std::alloc::Global;
 use std::process::Abort;
 use std::test::Fail;

@@ -1,8 +1,7 @@
 //! Files and outputs that want memory and get none.
 
 use check_examples::objects::code_in_f;
-use check_examples::running::{run_words, words_of};
-use objtool_cli::Status;
+use check_examples::running::{Status, run_words, words_of};
 use ot_files::{FileError, Files, Sink, SinkError};
 use std::alloc::Global;
 use std::process::Abort;

@@ -3,8 +3,7 @@
 use super::changes::{Change, line_at, turned};
 use super::forms::{IMAGE, ROWS, WALK, are_lines};
 use super::with_tables;
-use check_examples::running::{OLD, Outcome, ends};
-use objtool_cli::Status;
+use check_examples::running::{OLD, Outcome, Status, ends};
 use std::alloc::Global;
 use std::ops::Range;
 use std::process::Abort;

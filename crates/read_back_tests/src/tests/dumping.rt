@@ -3,7 +3,7 @@
 use super::object::{SIZE, changed, without_tables};
 use super::tables::{INTERRUPT_CODE, INTERRUPT_ROWS, with_rows};
 use super::{Command, NEVER, expect};
-use objtool_cli::Status;
+use check_examples::running::Status;
 use std::test::Fail;
 
 /// The rows of the object.

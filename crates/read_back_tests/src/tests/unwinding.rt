@@ -2,7 +2,7 @@
 
 use super::object::{SIZE, changed};
 use super::{Command, NEVER, expect};
-use objtool_cli::Status;
+use check_examples::running::Status;
 use std::test::Fail;
 
 /// `unwind` of these bytes, where nothing fails.

@@ -3,7 +3,7 @@
 use super::expect;
 use super::tables::{DEPTH_8, DEPTH_16, INTERRUPT_CODE, INTERRUPT_ROWS, RowBytes, ZERO, with_rows};
 use super::unwinding::unwind;
-use objtool_cli::Status;
+use check_examples::running::Status;
 use std::alloc::Global;
 use std::process::Abort;
 use std::test::Fail;

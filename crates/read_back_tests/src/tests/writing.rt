@@ -2,8 +2,7 @@
 
 use super::object::{SIZE, changed, without_tables};
 use super::{held, words};
-use check_examples::running::run_words;
-use objtool_cli::Status;
+use check_examples::running::{Status, run_words};
 use ot_files::{SureFiles, SureSink};
 use std::test::Fail;
 
