@@ -8,10 +8,12 @@ set -eu
 needs "real object" as ld readelf awk
 cd "$root"
 
-# The program as it was built last, and anew where that is older than the sources.
+# The program that OBJTOOL names; else as it was built last, and anew where that is older than the sources.
 built=$PWD/crates/objtool/out/objtool
 objtool() {
-    if [ -x "$built" ] && [ -z "$(find crates -path '*/out' -prune -o -name '*.rt' -newer "$built" -print -quit)" ]; then
+    if [ -n "${OBJTOOL:-}" ]; then
+        "$OBJTOOL" "$@"
+    elif [ -x "$built" ] && [ -z "$(find crates -path '*/out' -prune -o -name '*.rt' -newer "$built" -print -quit)" ]; then
         "$built" "$@"
     else
         (cd crates/objtool && rt run -- "$@")

@@ -17,7 +17,8 @@ LEVELS = [
     (r"^core::slice::sort::pivot::median_of_medians", 12, "eighths of a length below 2^33"),
     (r"^core::slice::sort::runs::climb", 65, "the depth of a boundary, of 1 to 65, rises"),
     (r"^std_collections::btree::node::Node::(make_room|destroy|peel_first)", 14, "the height of a tree of fewer than 2^33 keys"),
-    (r"clap\+\+builder\+\+command\+\+Command\+Destruct::drop|^clap::builder::command::", 3, "a command and its commands"),
+    (r"clap\+\+(builder\+\+command\+\+Command|parser\+\+matches\+\+SubCommand)\+Destruct::drop", 3, "a command and its commands"),
+    (r"^clap::(builder::command|parser::(parse|globals))::", 3, "a command and its commands"),
 ]
 
 
