@@ -1,8 +1,6 @@
 -- What no text of another section is.
-use Rattle.std.proofs.Common.{◌≡◌, ◌≢◌, ℕ, zero, suc, ◌+◌, ◌-◌, ◌<◌, ◌≤◌, Bool, false, eqb, leb, ◌&&◌, List, [], ◌∷◌, length, slice_get, Some, inl, inr, arith, sym, ap, ◌∙◌}
-use Rattle.std.proofs.lemmas.Bool.Decides.{eqb_tells, nat_tests}
-use Rattle.x86_text.specs.declared.placed.PlacedInsn.{PlacedInsn}
-use Rattle.x86_text.specs.Code.{LeadsTo}
+use Rattle.std.proofs.Common.{◌≡◌, ◌≢◌, ℕ, Bool, false, eqb, ◌&&◌, inl, inr, ap}
+use Rattle.std.proofs.lemmas.Bool.Decides.{eqb_tells}
 
 pub eqb-ne : (a b : ℕ) → a ≢ b → eqb a b ≡ false
 eqb-ne a b other = elim (eqb_tells a b) [ inl (h, same) ↦ absurd (other same) | inr (h, differ) ↦ h ]

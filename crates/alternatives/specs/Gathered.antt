@@ -64,7 +64,7 @@ AreTold told points insns = map (λ insn. Some insn) insns ≡ map told points
 
 -- the instructions of listed points are those that are told of them
 abbrev pub HaveInsns : (Point → Option Insn) → Listed → Type 0
-HaveInsns told listed = AreTold told listed.points.items listed.insns.items
+HaveInsns told listed = AreTold told listed.points.items listed.insns
 
 -- of the points of a text section, its instructions are told
 abbrev pub TellsPlain : (Point → Option Insn) → SectionText → Type 0

@@ -16,16 +16,16 @@ use crate::original::counts;
 use crate::point::Point;
 use crate::site::is_before;
 use crate::texts::SectionText;
-use operation_defs::Insn;
 use ot_base::{NoMemory, Place};
 use special_sections::AltEntry;
 use std::alloc::Global;
+use x86_text::InsnList;
 
 /// Points with their instructions.
 #[derive(Drop)]
 pub(crate) struct Listed {
     pub(crate) points: Vec<Point>,
-    pub(crate) insns: Vec<Insn>,
+    pub(crate) insns: InsnList,
 }
 
 /// Adds the points of the replacement of an entry.
@@ -85,13 +85,13 @@ fn insns_of(
     texts: &[SectionText<'_>],
     entries: &[AltEntry],
     points: &[Point],
-) -> Result<Vec<Insn>, NoMemory>
+) -> Result<InsnList, NoMemory>
     requires ascending { AscendBySection texts.now }
     requires short { AreShort texts.now }
     requires each { All (IsPoint texts.now entries.now) points.now }
-    ensures { IfOk result (λ insns. map (λ insn. Some insn) insns.items ≡ map (insn_of_a_point texts.now entries.now) points.now) }
+    ensures { IfOk result (λ insns. map (λ insn. Some insn) insns ≡ map (insn_of_a_point texts.now entries.now) points.now) }
 {
-    let mut insns = Vec::with_capacity(alloc, points.len())?;
+    let mut insns = InsnList::new(alloc)?;
     for point in points {
         if let Some(insn) = insn_of_point(texts, entries, *point) {
             insns.push(insn)?;
@@ -206,24 +206,34 @@ fn weave_points(
     Ok(points)
 }
 
+/// Adds instructions behind others.
+fn push_all(insns: &mut InsnList, more: &InsnList) -> Result<(), NoMemory>
+    ensures { OnOk result (insns.new ≡ insns.old ++ more.now) }
+{
+    for n in 0..more.len() {
+        insns.push(more.get(n))?;
+    }
+    Ok(())
+}
+
 /// Puts the instructions of replaced points among those of the plain ones, in the order of all points: from the last on, so
 /// that none is moved before it is read.
-fn weave_insns(insns: &mut Vec<Insn>, points: &[Point], replaced: &[Insn]) -> Result<(), NoMemory>
-    requires plain { length (filter is_plain points.now) ≡ length insns.now.items }
-    requires all { length points.now ≡ length insns.now.items + length replaced.now }
-    ensures { OnOk result ((told : Point → Option Insn) → AreTold told (filter is_plain points.now) insns.old.items → AreTold told (filter is_replaced points.now) replaced.now → AreTold told points.now insns.new.items) }
+fn weave_insns(insns: &mut InsnList, points: &[Point], replaced: &InsnList) -> Result<(), NoMemory>
+    requires plain { length (filter is_plain points.now) ≡ length insns.now }
+    requires all { length points.now ≡ length insns.now + length replaced.now }
+    ensures { OnOk result ((told : Point → Option Insn) → AreTold told (filter is_plain points.now) insns.old → AreTold told (filter is_replaced points.now) replaced.now → AreTold told points.now insns.new) }
 {
     let mut plain = insns.len();
     let mut others = replaced.len();
-    insns.extend_from_slice(replaced)?;
+    push_all(insns, replaced)?;
     while others > 0 {
         let n = plain + others - 1;
         if points[n].variant == 0 {
             plain -= 1;
-            insns[n] = insns[plain];
+            insns.set_from(n, plain);
         } else {
             others -= 1;
-            insns[n] = replaced[others];
+            insns.set(n, replaced.get(others))?;
         }
     }
     Ok(())
@@ -234,13 +244,13 @@ pub(crate) fn list_points(
     alloc: Global,
     texts: &[SectionText<'_>],
     entries: &[AltEntry],
-    plain: Vec<Insn>,
+    plain: InsnList,
 ) -> Result<Listed, NoMemory>
     requires ascending { AscendBySection texts.now }
     requires short { AreShort texts.now }
     requires few { length entries.now ≤ 8388608 }
     requires near { (k : ℕ) → k < length entries.now → is_counted (entry_at entries.now k) ≡ true → (entry_at entries.now k).replacement.off ≤ 16777216 }
-    requires plain { plain.items ≡ plain_insns texts.now }
+    requires plain { plain ≡ plain_insns texts.now }
     ensures all { IfOk result (λ l. l.points.items ≡ points_in_order texts.now entries.now) }
     ensures insns { IfOk result (HaveInsns (insn_of_a_point texts.now entries.now)) }
     ensures few { IfOk result (λ l. length l.points.items ≤ text_bytes texts.now + 256 * length entries.now) }

@@ -24,6 +24,7 @@ use ot_base::{NoMemory, Place};
 use special_sections::{AltEntry, Special};
 use std::alloc::Global;
 use std::marker::Model;
+use x86_text::InsnList;
 
 /// The alternatives sites of an object, and the points of its code. Contracts see them as the lists of the
 /// sites, of the numbers of their entries, of the points with their instructions, and of all entries.
@@ -66,11 +67,11 @@ impl Sites {
         alloc: Global,
         special: &Special,
         texts: &[SectionText<'_>],
-        insns: Vec<Insn>,
+        insns: InsnList,
     ) -> Result<Sites, SiteFault>
         requires ascending { AscendBySection texts.now }
         requires bytes { text_bytes texts.now ≤ 16777216 }
-        requires insns { insns.items ≡ plain_insns texts.now }
+        requires insns { insns ≡ plain_insns texts.now }
         requires few { length special.now.alternatives ≤ 8388608 }
         ensures sites { IfOk result (λ s. AreSitesOf special.now.alternatives s.sites s.entry_numbers) }
         ensures points { IfOk result (λ s. s.points ≡ points_of texts.now special.now.alternatives) }
@@ -193,9 +194,9 @@ pub(crate) fn build_sites(
     alloc: Global,
     entries: &[AltEntry],
     texts: &[SectionText<'_>],
-    insns: Vec<Insn>,
+    insns: InsnList,
 ) -> Result<Sites, SiteFault>
-    requires insns { insns.items ≡ plain_insns texts.now }
+    requires insns { insns ≡ plain_insns texts.now }
     requires ascending { AscendBySection texts.now }
     requires short { AreShort texts.now }
     requires bytes { text_bytes texts.now ≤ 16777216 }

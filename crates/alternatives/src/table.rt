@@ -16,13 +16,14 @@ use ot_base::{NoMemory, Place};
 use special_sections::AltEntry;
 use std::alloc::Global;
 use std::marker::Model;
+use x86_text::InsnList;
 
 /// The points of an object in their order, with their instructions, and its entries. Contracts see it
 /// as these lists.
 #[derive(Drop)]
 pub(crate) struct PointTable {
     points: Vec<Point>,
-    insns: Vec<Insn>,
+    insns: InsnList,
     entries: Vec<AltEntry>,
     blocks: Blocks,
 }
@@ -32,9 +33,9 @@ impl Model for PointTable {
 
     ghost Value = { PointList };
 
-    ghost view = { λ t. record { points = t.points.items; insns = t.insns.items; entries = t.entries.items } };
+    ghost view = { λ t. record { points = t.points.items; insns = t.insns; entries = t.entries.items } };
 
-    ghost invariant = { λ t. AreNumbered t.points.items t.insns.items t.entries.items };
+    ghost invariant = { λ t. AreNumbered t.points.items t.insns t.entries.items };
 }
 
 impl PointTable {
@@ -43,14 +44,14 @@ impl PointTable {
         alloc: Global,
         texts: &[SectionText<'_>],
         entries: &[AltEntry],
-        insns: Vec<Insn>,
+        insns: InsnList,
     ) -> Result<PointTable, NoMemory>
         requires ascending { AscendBySection texts.now }
         requires short { AreShort texts.now }
         requires bytes { text_bytes texts.now ≤ 16777216 }
         requires few { length entries.now ≤ 8388608 }
         requires right { AreRight texts.now entries.now (length entries.now) }
-        requires insns { insns.items ≡ plain_insns texts.now }
+        requires insns { insns ≡ plain_insns texts.now }
         ensures points { IfOk result (λ t. t.points ≡ points_in_order texts.now entries.now) }
         ensures insns { IfOk result (λ t. map (λ insn. Some insn) t.insns ≡ map (insn_of_a_point texts.now entries.now) t.points) }
         ensures entries { IfOk result (λ t. t.entries ≡ entries.now) }
@@ -92,7 +93,7 @@ impl PointTable {
         requires { n < length self.now.points }
         ensures { slice_get self.now.insns n ≡ Some result }
     {
-        self.insns[n as usize]
+        self.insns.get(n as usize)
     }
 
     /// Where a point runs.
@@ -119,7 +120,7 @@ impl PointTable {
         ensures { IfSome (slice_get self.now.points n) (λ p. IfSome (slice_get self.now.insns n) (λ insn. IsNumberOf self.now.points (point_after p insn) result)) }
     {
         let point = self.points[n as usize];
-        let off = point.place.off + u64::from(self.insns[n as usize].len);
+        let off = point.place.off + u64::from(self.insns.get(n as usize).len);
         let place = Place { off, ..point.place };
         self.number_of(Point { place, ..point })
     }

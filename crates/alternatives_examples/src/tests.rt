@@ -13,7 +13,7 @@ use special_sections::Special;
 use std::alloc::Global;
 use std::process::Abort;
 use std::test::Fail;
-use x86_text::{Map, Text, TextFault};
+use x86_text::{InsnList, Map, Text, TextFault};
 
 mod faults;
 mod points;
@@ -30,13 +30,13 @@ fn two_texts<'a>(
     alloc: Global,
     first: &'a [u8],
     second: &'a [u8],
-    insns: &mut Vec<Insn>,
+    insns: &mut InsnList,
 ) -> Result<Vec<SectionText<'a>>, TextFault>
     requires short { length first.now + length second.now ≤ 16777216 }
-    requires none { insns.now.items ≡ [] }
+    requires none { insns.now ≡ [] }
     ensures ascending { IfOk result (λ texts. AscendBySection texts.items) }
     ensures bytes { IfOk result (λ texts. text_bytes texts.items ≤ 16777216) }
-    ensures insns { IfOk result (λ texts. insns.new.items ≡ plain_insns texts.items) }
+    ensures insns { IfOk result (λ texts. insns.new ≡ plain_insns texts.items) }
 {
     let one = Text::read(alloc, Map::Base, first, insns)?;
     let two = Text::read(alloc, Map::Base, second, insns)?;
@@ -68,7 +68,7 @@ fn sites_of(
     )?;
     let special = special_of(rt, alloc, &file);
     assert!(rt; special.alternatives().len() <= 8388608);
-    let mut insns = Vec::new(alloc);
+    let mut insns = InsnList::new(alloc)?;
     let texts = two_texts(alloc, code, replacements, &mut insns)?;
     Ok(Sites::build(alloc, &special, texts.as_slice(), insns))
 }

@@ -4,7 +4,7 @@ ghost use Rattle.std.specs.Prelude.{◌≤◌, length};
 use std::alloc::Global;
 use std::process::Abort;
 use std::test::Fail;
-use x86_text::{DecodeFault, Insn, Map, Op, Text, TextFault, TextFaultText};
+use x86_text::{DecodeFault, Insn, InsnList, Map, Op, Text, TextFault, TextFaultText};
 
 /// Three functions: a frame by rbp, a call, and a branch.
 const CODE: [u8; 29] = [
@@ -30,7 +30,12 @@ fn expect_boundaries(rt: &impl Abort, text: &Text<'_>, off: u64) {
 
 #[test]
 fn boundaries_of_a_body(rt: HostRuntime) -> Result<(), Fail> {
-    let text = Text::read(rt.alloc(), Map::Base, &CODE, &mut Vec::new(rt.alloc()))?;
+    let text = Text::read(
+        rt.alloc(),
+        Map::Base,
+        &CODE,
+        &mut InsnList::new(rt.alloc())?,
+    )?;
     assert_eq!(rt; text.count(), 15);
     for off in 0u64..32 {
         expect_boundaries(&rt, &text, off);
@@ -50,14 +55,14 @@ fn expect_instruction(rt: &impl Abort, text: &Text<'_>, i: usize, begins: u64, i
 
 #[test]
 fn instructions_of_a_body(rt: HostRuntime) -> Result<(), Fail> {
-    let mut insns = Vec::new(rt.alloc());
+    let mut insns = InsnList::new(rt.alloc())?;
     let text = Text::read(rt.alloc(), Map::Base, &CODE, &mut insns)?;
     assert_eq!(rt; insns.len(), OFFSETS.len());
     let mut end = 0;
-    for (i, insn) in insns.iter().enumerate() {
+    for i in 0..insns.len() {
         let off = OFFSETS.get(i).copied();
         assert_eq!(rt; off, Some(end));
-        end = expect_instruction(&rt, &text, i, end, *insn);
+        end = expect_instruction(&rt, &text, i, end, insns.get(i));
     }
     assert_eq!(rt; end, 29);
     assert_eq!(rt; text.size(), 29);
@@ -73,7 +78,12 @@ fn instructions_by_number(rt: HostRuntime) -> Result<(), Fail> {
         (6, 11, b"\xE8\xF0\xFF\xFF\xFF", Op::Call { rel: -16 }),
         (14, 28, b"\xC3", Op::Ret),
     ];
-    let text = Text::read(rt.alloc(), Map::Base, &CODE, &mut Vec::new(rt.alloc()))?;
+    let text = Text::read(
+        rt.alloc(),
+        Map::Base,
+        &CODE,
+        &mut InsnList::new(rt.alloc())?,
+    )?;
     for (i, begins, bytes, op) in instructions {
         assert!(rt; i < text.count());
         let (off, insn) = text.insn(i);
@@ -87,7 +97,7 @@ fn instructions_by_number(rt: HostRuntime) -> Result<(), Fail> {
 fn first_bytes(alloc: Global, body: &[u8]) -> Result<Option<&[u8]>, TextFault>
     requires { length body.now ≤ 16_777_216 }
 {
-    let text = Text::read(alloc, Map::Base, body, &mut Vec::new(alloc))?;
+    let text = Text::read(alloc, Map::Base, body, &mut InsnList::new(alloc)?)?;
     Ok(if text.count() == 0 {
         None
     } else {
@@ -109,7 +119,12 @@ fn bytes_outlive_the_text(rt: HostRuntime) -> Result<(), Fail> {
 #[test]
 fn jumps_by_a_table(rt: HostRuntime) -> Result<(), Fail> {
     let body = [0x90u8, 0xFF, 0x24, 0xC5, 0, 0, 0, 0, 0xFF, 0xE0];
-    let text = Text::read(rt.alloc(), Map::Base, &body, &mut Vec::new(rt.alloc()))?;
+    let text = Text::read(
+        rt.alloc(),
+        Map::Base,
+        &body,
+        &mut InsnList::new(rt.alloc())?,
+    )?;
     assert_eq!(rt; text.count(), 3);
     let jumps = text.table_jumps();
     assert_eq!(rt; jumps.len(), 1);
@@ -124,7 +139,7 @@ fn jumps_by_a_table(rt: HostRuntime) -> Result<(), Fail> {
 fn fault_of(alloc: Global, body: &[u8]) -> Result<Option<(u64, DecodeFault)>, TextFault>
     requires { length body.now ≤ 16_777_216 }
 {
-    match Text::read(alloc, Map::Base, body, &mut Vec::new(alloc)) {
+    match Text::read(alloc, Map::Base, body, &mut InsnList::new(alloc)?) {
         Err(TextFault::At { off, why }) => Ok(Some((off, why))),
         Err(TextFault::NoMemory) => Err(TextFault::NoMemory),
         Ok(_) => Ok(None),

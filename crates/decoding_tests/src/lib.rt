@@ -9,6 +9,8 @@ mod bodies;
 #[cfg(test)]
 mod lengths;
 #[cfg(test)]
+mod lists;
+#[cfg(test)]
 mod maps;
 #[cfg(test)]
 mod rows;

@@ -10,7 +10,7 @@ use jump_tables::{JumpTables, SectionText};
 use ot_base::NoMemory;
 use std::alloc::Global;
 use symbols_relocs::Index;
-use x86_text::{Map, Text, TextFault};
+use x86_text::{InsnList, Map, Text, TextFault};
 
 /// A symbol in section 1 or another: its name, bind, type, section, value and size.
 pub type Row<'n> = (&'n [u8], u8, u8, u32, u64, u64);
@@ -105,7 +105,7 @@ fn texts<'a>(
     requires replacements { length replacements.now ≤ 16777216 }
     ensures { IfOk result (λ texts. AscendBySection texts.items) }
 {
-    let mut insns = Vec::new(alloc);
+    let mut insns = InsnList::new(alloc)?;
     let one = Text::read(alloc, Map::Base, code, &mut insns)?;
     let two = Text::read(alloc, Map::Base, replacements, &mut insns)?;
     let mut texts = Vec::new(alloc);

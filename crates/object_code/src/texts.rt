@@ -13,7 +13,7 @@ use crate::fault::LinkFault;
 use alternatives::SectionText;
 use elf_objects::Object;
 use std::alloc::Global;
-use x86_text::{Insn, Map, Text, TextFault};
+use x86_text::{InsnList, Map, Text, TextFault};
 
 /// The texts of an object, and their instructions.
 #[derive(Drop)]
@@ -21,7 +21,7 @@ pub(crate) struct ObjectTexts<'a> {
     /// The text sections, ascending.
     pub(crate) texts: Vec<SectionText<'a>>,
     /// The instructions of all of them, in their order.
-    pub(crate) insns: Vec<Insn>,
+    pub(crate) insns: InsnList,
 }
 
 /// Decodes a text section by an opcode map, and adds its instructions to a list.
@@ -30,14 +30,14 @@ fn read_text<'a>(
     map: Map,
     object: &Object<'a>,
     sec: u32,
-    insns: &mut Vec<Insn>,
+    insns: &mut InsnList,
 ) -> Result<Text<'a>, LinkFault>
     requires object { IsObject object.now.bytes object.now }
     requires inside { sec < length object.now.sections }
     requires text { is_text (section_at object.now sec) ≡ true }
     ensures read { IfOk result (λ text. text ≡ body_of (coded_by map object.now) sec) }
     ensures code { OnOk result (IsCode (body_of (coded_by map object.now) sec)) }
-    ensures insns { OnOk result (insns.new.items ≡ insns.old.items ++ insns_of (body_of (coded_by map object.now) sec)) }
+    ensures insns { OnOk result (insns.new ≡ insns.old ++ insns_of (body_of (coded_by map object.now) sec)) }
     ensures fault { AreCode (coded_by map object.now) sec → IfErr result (IsLinkFault (coded_by map object.now)) }
 {
     match Text::read(alloc, map, object.section(sec).body, insns) {
@@ -58,13 +58,13 @@ pub(crate) fn read_texts<'a>(
     object: &Object<'a>,
 ) -> Result<ObjectTexts<'a>, LinkFault>
     ensures read { IfOk result (λ r. r.texts.items ≡ texts_of (coded_by map object.now)) }
-    ensures insns { IfOk result (λ r. r.insns.items ≡ plain_insns (texts_of (coded_by map object.now))) }
+    ensures insns { IfOk result (λ r. r.insns ≡ plain_insns (texts_of (coded_by map object.now))) }
     ensures code { OnOk result (AllCode (coded_by map object.now)) }
     ensures object { OnOk result (IsObject object.now.bytes object.now) }
     ensures fault { IfErr result (IsLinkFault (coded_by map object.now)) }
 {
     let mut texts = Vec::new(alloc);
-    let mut insns = Vec::new(alloc);
+    let mut insns = InsnList::new(alloc)?;
     for sec in 0..object.sections() {
         if object.is_text(sec) {
             let text = read_text(alloc, map, object, sec, &mut insns)?;

@@ -1,5 +1,7 @@
 pub mod CodeLemmas
+pub mod InsnListLemmas
 pub mod ListingLemmas
 pub mod NumberLemmas
 pub mod QueryLemmas
 pub mod ReadLemmas
+pub mod SameInsns

@@ -1,4 +1,5 @@
 pub mod Code
 pub mod FaultText
+pub mod InsnLists
 pub mod Listed
 pub mod Refused

@@ -1,3 +1,4 @@
+use ot_base::NoMemory;
 use std::alloc::{AllocError, AllocFailed};
 use x86_decode::DecodeFault;
 
@@ -8,6 +9,17 @@ pub enum TextFault {
     At { off: u64, why: DecodeFault },
     /// Memory was wanted and not there.
     NoMemory,
+}
+
+impl From<NoMemory> for TextFault {
+    ghost use Rattle.std.specs.Prelude.{◌≡◌};
+    ghost use Rattle.x86_text.specs.declared.fault.TextFault.TheVariants.{NoMemory};
+
+    ghost from_gives = { λ _ fault. fault ≡ NoMemory };
+
+    fn from(_want: NoMemory) -> TextFault {
+        TextFault::NoMemory
+    }
 }
 
 impl From<AllocError> for TextFault {

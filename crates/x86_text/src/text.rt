@@ -6,6 +6,7 @@ ghost use Rattle.x86_text.specs.Refused.{IsTextFault};
 ghost use Rattle.x86_text.specs.declared.fault.TextFault.TheVariants.{NoMemory};
 
 use crate::fault::TextFault;
+use crate::insn_list::InsnList;
 use crate::placed::PlacedInsn;
 use operation_defs::{Insn, Op};
 use std::alloc::Global;
@@ -41,12 +42,12 @@ impl<'a> Text<'a> {
         alloc: Global,
         map: Map,
         body: &'a [u8],
-        insns: &mut Vec<Insn>,
+        insns: &mut InsnList,
     ) -> Result<Text<'a>, TextFault>
         requires { length body.now ≤ 16_777_216 }
         ensures ok { IfOk result (λ text. text ≡ read_by map body.now) }
         ensures code { OnOk result (IsCode (read_by map body.now)) }
-        ensures insns { OnOk result (insns.new.items ≡ insns.old.items ++ insns_of (read_by map body.now)) }
+        ensures insns { OnOk result (insns.new ≡ insns.old ++ insns_of (read_by map body.now)) }
         ensures fault { IfErr result (IsTextFault (read_by map body.now)) }
     {
         let mut offsets = Vec::new(alloc);

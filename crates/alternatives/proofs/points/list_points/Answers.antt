@@ -34,10 +34,9 @@ weave_insns-requires-clause-all c =
     let others : List Point = c.in_ok-replaced.replaced.points.items in
     let are : c.deref-2.result.now ≡ woven (plain_points texts) others = c.deref-2.ensures.value ∙ c.in_ok-points.ensures ∙ ap (woven (plain_points texts)) c.deref.ensures.value in
     let plain = same_count (insn_of_point texts entries) (plain_points texts) (plain_insns texts) (told_plain texts entries c.requires.ascending) in
-    let given : length c.args.plain.items ≡ length (plain_insns texts) = ap (λ (is : List Insn). length is) c.requires.plain in
-    let replaced = same_count (insn_of_point texts entries) others c.in_ok-replaced.replaced.insns.items c.in_ok-replaced.ensures.insns in
-    let lent : length c.deref-3.result.now ≡ length c.in_ok-replaced.replaced.insns.items = ap (λ (is : List Insn). length is) c.deref-3.ensures.value in
-    omega (arith, ap (λ (ps : List Point). length ps) are, length-woven (plain_points texts) others, plain, given, replaced, lent)
+    let given : length c.args.plain ≡ length (plain_insns texts) = ap (λ (is : List Insn). length is) c.requires.plain in
+    let replaced = same_count (insn_of_point texts entries) others c.in_ok-replaced.replaced.insns c.in_ok-replaced.ensures.insns in
+    omega (arith, ap (λ (ps : List Point). length ps) are, length-woven (plain_points texts) others, plain, given, replaced)
 
 pub returns-clause-all : goal.returns-clause-all
 returns-clause-all c =
@@ -54,9 +53,9 @@ returns-clause-insns c =
     let are : c.deref-2.result.now ≡ woven (plain_points texts) others = c.deref-2.ensures.value ∙ c.in_ok-points.ensures ∙ ap (woven (plain_points texts)) c.deref.ensures.value in
     let plain : filter is_plain c.deref-2.result.now ≡ plain_points texts = ap (filter is_plain) are ∙ plain_ones texts entries others c.requires.ascending c.in_ok-replaced.ensures.all c.in_ok-replaced.ensures.sorted in
     let replaced : filter is_replaced c.deref-2.result.now ≡ others = ap (filter is_replaced) are ∙ replaced_ones texts entries others c.requires.ascending c.in_ok-replaced.ensures.all c.in_ok-replaced.ensures.sorted in
-    let plain_insns_are : AreTold told (filter is_plain c.deref-2.result.now) c.args.plain.items = subst (λ (ps : List Point). AreTold told ps c.args.plain.items) (sym plain) (subst (AreTold told (plain_points texts)) (sym c.requires.plain) (told_plain texts entries c.requires.ascending)) in
-    let replaced_insns_are : AreTold told (filter is_replaced c.deref-2.result.now) c.deref-3.result.now = subst (λ (ps : List Point). AreTold told ps c.deref-3.result.now) (sym replaced) (subst (AreTold told others) (sym c.deref-3.ensures.value) c.in_ok-replaced.ensures.insns) in
-    subst (λ (ps : List Point). AreTold told ps c.weave_insns.new.insns.items) c.deref-2.ensures.value (c.in_ok-weave_insns.ensures told plain_insns_are replaced_insns_are)
+    let plain_insns_are : AreTold told (filter is_plain c.deref-2.result.now) c.args.plain = subst (λ (ps : List Point). AreTold told ps c.args.plain) (sym plain) (subst (AreTold told (plain_points texts)) (sym c.requires.plain) (told_plain texts entries c.requires.ascending)) in
+    let replaced_insns_are : AreTold told (filter is_replaced c.deref-2.result.now) c.in_ok-replaced.replaced.insns = subst (λ (ps : List Point). AreTold told ps c.in_ok-replaced.replaced.insns) (sym replaced) c.in_ok-replaced.ensures.insns in
+    subst (λ (ps : List Point). AreTold told ps c.weave_insns.new.insns) c.deref-2.ensures.value (c.in_ok-weave_insns.ensures told plain_insns_are replaced_insns_are)
 
 pub returns-clause-few : goal.returns-clause-few
 returns-clause-few c =

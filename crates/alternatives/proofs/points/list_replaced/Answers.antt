@@ -30,4 +30,4 @@ returns-clause-sorted c = c.in_ok-sort_by_key.ensures.sorted (λ (p : Point). (p
 
 pub returns-clause-insns : goal.returns-clause-insns
 returns-clause-insns c =
-    subst (λ (ps : List Point). map (λ (insn : Insn). Some insn) c.in_ok-insns.insns.items ≡ map (insn_of_point c.args.texts.now c.args.entries.now) ps) c.as_slice.ensures.value c.in_ok-insns.ensures
+    subst (λ (ps : List Point). map (λ (insn : Insn). Some insn) c.in_ok-insns.insns ≡ map (insn_of_point c.args.texts.now c.args.entries.now) ps) c.as_slice.ensures.value c.in_ok-insns.ensures

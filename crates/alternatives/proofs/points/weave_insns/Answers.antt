@@ -1,6 +1,9 @@
-use Rattle.std.proofs.Common.{rules, ◌≡◌, ◌-◌, ◌+◌, ◌<◌, ◌≤◌, ℕ, List, length, get_or, arith, sym, refl, subst}
+use Rattle.std.proofs.Common.{◌≡◌, ◌-◌, ◌+◌, ◌<◌, ◌≤◌, ℕ, List, Option, length, get_or, arith, sym, subst}
+use Rattle.std.specs.Prelude.{IfSome}
+use Rattle.std.proofs.Math.ListN.{set}
 use Rattle.std.proofs.lemmas.Bool.{eq-eqb, ne_eqb}
 use Rattle.std.proofs.lemmas.List.{get_or_default}
+use Rattle.std.proofs.lemmas.Option.{get_or_from_slice_get, slice_get-get_or}
 use Rattle.operation_defs.specs.declared.insn.Insn.{Insn}
 use Rattle.operation_defs.specs.declared.op.Op.TheVariants.{Plain}
 use Rattle.alternatives.specs.declared.point.Point.{Point}
@@ -19,24 +22,30 @@ its points plain others some few = get_or_default points (plain + others - 1) no
 
 pub loop-others-init : goal.loop-others-init
 loop-others-init c =
-    subst (λ n. IsMerged c.args.insns.now.items c.args.points.now c.args.replaced.now c.extend_from_slice.new.self.items n (length c.args.replaced.now)) (sym (let is : c.len-plain.result ≡ length c.args.insns.now.items = search rules in is))
-    (merged_none c.args.insns.now.items c.args.points.now c.args.replaced.now c.extend_from_slice.new.self.items c.requires.plain c.requires.all c.in_ok-extend_from_slice.ensures.items)
+    let merged : ℕ → ℕ → Type 0 = λ plain others. IsMerged c.args.insns.now c.args.points.now c.args.replaced.now c.push_all.new.insns plain others in
+    let plain : c.len-plain.result ≡ length c.args.insns.now = c.len-plain.ensures in
+    let others : c.len-others.result ≡ length c.args.replaced.now = c.len-others.ensures in
+    subst (λ n. merged n c.len-others.result) (sym plain) (subst (merged (length c.args.insns.now)) (sym others) (merged_none c.args.insns.now c.args.points.now c.args.replaced.now c.push_all.new.insns c.requires.plain c.requires.all c.in_ok-push_all.ensures))
 
 pub loop-others-smaller-then-points-n-eq0 : goal.loop-others-smaller-then-points-n-eq0
 loop-others-smaller-then-points-n-eq0 c =
-    let one : 0 < c.loop-others.plain = some_plain c.args.insns.now.items c.args.points.now c.args.replaced.now c.loop-others.insns.items c.loop-others.insns.items c.loop-others.plain c.loop-others.others c.loop-others.invariant c.loop-others-test.true (here c.args.points.now (c.loop-others.plain + c.loop-others.others - 1)) (its c.args.points.now c.loop-others.plain c.loop-others.others c.loop-others-test.true c.loop-others.invariant.few) (eq-eqb _ _ c.if-points-n-eq0.true) in
+    let one : 0 < c.loop-others.plain = some_plain c.args.insns.now c.args.points.now c.args.replaced.now c.loop-others.insns c.loop-others.insns c.loop-others.plain c.loop-others.others c.loop-others.invariant c.loop-others-test.true (here c.args.points.now (c.loop-others.plain + c.loop-others.others - 1)) (its c.args.points.now c.loop-others.plain c.loop-others.others c.loop-others-test.true c.loop-others.invariant.few) (eq-eqb _ _ c.if-points-n-eq0.true) in
     omega (arith, one)
 
 pub loop-others-preserved-then-points-n-eq0 : goal.loop-others-preserved-then-points-n-eq0
 loop-others-preserved-then-points-n-eq0 c =
-    merged_plain c.args.insns.now.items c.args.points.now c.args.replaced.now c.loop-others.insns.items _ c.loop-others.plain c.loop-others.others c.loop-others.invariant c.loop-others-test.true (here c.args.points.now (c.loop-others.plain + c.loop-others.others - 1)) (its c.args.points.now c.loop-others.plain c.loop-others.others c.loop-others-test.true c.loop-others.invariant.few)
-    c.index.result.now (eq-eqb _ _ c.if-points-n-eq0.true) c.index.ensures refl
+    let insns : List Insn = c.loop-others.insns in
+    let front : ℕ = c.loop-others.plain - 1 in
+    let inside : front < length insns = omega (arith, c.loop-others-test.true, c.loop-others.invariant.few, c.loop-others.invariant.long) in
+    let moved = subst (λ (o : Option Insn). IfSome o (λ insn. c.set_from.new.self ≡ set insns (c.loop-others.plain + c.loop-others.others - 1) insn)) (slice_get-get_or insns front no_insn inside) c.set_from.ensures in
+    merged_plain c.args.insns.now c.args.points.now c.args.replaced.now insns c.set_from.new.self c.loop-others.plain c.loop-others.others c.loop-others.invariant c.loop-others-test.true (here c.args.points.now (c.loop-others.plain + c.loop-others.others - 1)) (its c.args.points.now c.loop-others.plain c.loop-others.others c.loop-others-test.true c.loop-others.invariant.few)
+    (get_or insns front no_insn) (eq-eqb _ _ c.if-points-n-eq0.true) (get_or_default insns front no_insn (get_or insns front no_insn) inside) moved
 
 pub loop-others-preserved : goal.loop-others-preserved
 loop-others-preserved c =
-    merged_other c.args.insns.now.items c.args.points.now c.args.replaced.now c.loop-others.insns.items _ c.loop-others.plain c.loop-others.others c.loop-others.invariant c.loop-others-test.true (here c.args.points.now (c.loop-others.plain + c.loop-others.others - 1)) (its c.args.points.now c.loop-others.plain c.loop-others.others c.loop-others-test.true c.loop-others.invariant.few)
-    (get_or c.args.replaced.now (c.loop-others.others - 1) no_insn) (ne_eqb _ _ c.if-points-n-eq0.false)
-    (get_or_default c.args.replaced.now (c.loop-others.others - 1) no_insn _ (omega (arith, c.loop-others-test.true, c.loop-others.invariant.upto))) refl
+    merged_other c.args.insns.now c.args.points.now c.args.replaced.now c.loop-others.insns c.set.new.self c.loop-others.plain c.loop-others.others c.loop-others.invariant c.loop-others-test.true (here c.args.points.now (c.loop-others.plain + c.loop-others.others - 1)) (its c.args.points.now c.loop-others.plain c.loop-others.others c.loop-others-test.true c.loop-others.invariant.few)
+    c.get.result (ne_eqb _ _ c.if-points-n-eq0.false)
+    (sym (get_or_from_slice_get c.args.replaced.now (c.loop-others.others - 1) c.get.result c.get.result c.get.ensures)) c.in_ok-set.ensures
 
 pub returns : goal.returns
-returns c = λ told p r. merged_all c.args.insns.now.items c.args.points.now c.args.replaced.now c.loop-others.insns.items c.loop-others.plain c.loop-others.others c.loop-others.invariant c.loop-others-test.false told p r
+returns c = λ told p r. merged_all c.args.insns.now c.args.points.now c.args.replaced.now c.loop-others.insns c.loop-others.plain c.loop-others.others c.loop-others.invariant c.loop-others-test.false told p r

@@ -24,7 +24,7 @@ more o n t before after text sec body read pushed =
 pub returns-in_err-text-clause-fault : goal.returns-in_err-text-clause-fault
 returns-in_err-text-clause-fault c =
     let here : IsLinkFault (coded_by c.args.map c.args.object.now) c.in_err-text.field-0.0 = c.in_err-text.ensures.fault c.loop-sec.invariant.code in
-    let p = err_from_is_err_and c.from_residual.result c.from_residual.ensures.1 in
+    let p = err_from_is_err_and c.from_residual-in_err-text.result c.from_residual-in_err-text.ensures.1 in
     rw (p.1, p.2) here
 
 pub loop-sec-preserved : goal.loop-sec-preserved
@@ -37,14 +37,14 @@ loop-sec-preserved c =
           let after = ap (λ v. v.items) w.texts-is ∙ w.in_ok-push.ensures.items in
           record {
             read = more o n _ c.loop-sec.texts.items _ text refl w.in_ok-text.ensures.read c.loop-sec.invariant.read after;
-            insns = ap (λ v. v.items) w.insns-is ∙ w.in_ok-text.ensures.insns ∙ ap (λ is. is ++ insns_of (body_of o n)) c.loop-sec.invariant.insns ∙ sym (insns_below o n text);
+            insns = w.insns-is ∙ w.in_ok-text.ensures.insns ∙ ap (λ is. is ++ insns_of (body_of o n)) c.loop-sec.invariant.insns ∙ sym (insns_below o n text);
             code = code_more o n c.loop-sec.invariant.code (λ _. w.in_ok-text.ensures.code);
           }
       | else-is_text w ↦
           let other = sym c.is_text.ensures ∙ w.if-is_text.false in
           record {
             read = ap (λ v. v.items) w.texts-is ∙ c.loop-sec.invariant.read ∙ sym (other_below o n other);
-            insns = ap (λ v. v.items) w.insns-is ∙ c.loop-sec.invariant.insns ∙ sym (ap plain_insns (other_below o n other));
+            insns = w.insns-is ∙ c.loop-sec.invariant.insns ∙ sym (ap plain_insns (other_below o n other));
             code = code_more o n c.loop-sec.invariant.code (λ text. absurd (false≢true (sym other ∙ text)));
           }
     ]

@@ -8,6 +8,6 @@ use Rattle.object_code.proofs.texts.read_texts.Given as goal
 abbrev pub invariant-loop-sec : goal.invariant-loop-sec
 invariant-loop-sec l = record {
   read : l.texts.items ≡ texts_below (coded_by l.map l.object) l.sec;
-  insns : l.insns.items ≡ plain_insns (texts_below (coded_by l.map l.object) l.sec);
+  insns : l.insns ≡ plain_insns (texts_below (coded_by l.map l.object) l.sec);
   code : AreCode (coded_by l.map l.object) l.sec;
 }
