@@ -13,6 +13,7 @@ mod point;
 mod points;
 mod site;
 mod sites;
+mod stored;
 mod table;
 mod texts;
 

@@ -4,6 +4,7 @@ ghost use Rattle.std.specs.Prelude.{◌+◌, ◌≡◌, ◌<◌, ◌^◌, Some, 
 
 use crate::point::Point;
 use crate::site::Site;
+use crate::stored::StoredPoint;
 use ot_base::{NoMemory, Place};
 use std::alloc::Global;
 
@@ -37,14 +38,14 @@ impl Blocks {
     }
 
     /// The blocks of points that ascend by place.
-    pub(crate) fn of_points(alloc: Global, points: &[Point]) -> Result<Blocks, NoMemory>
+    pub(crate) fn of_points(alloc: Global, points: &[StoredPoint]) -> Result<Blocks, NoMemory>
         requires { length points.now < 2 ^ 32 }
     {
         let before = Vec::new(alloc);
         let upto = Vec::new(alloc);
         let mut blocks = Blocks { before, upto };
         for n in 0..points.len() {
-            blocks.count(points[n].place, n as u32)?;
+            blocks.count(points[n].place(), n as u32)?;
         }
         Ok(blocks)
     }
@@ -84,12 +85,12 @@ impl Blocks {
     }
 
     /// The number of a point, of those of its block. Where none is told, the point may still be one.
-    pub(crate) fn number_of(&self, points: &[Point], point: Point) -> Option<u32>
+    pub(crate) fn number_of(&self, points: &[StoredPoint], point: Point) -> Option<u32>
         ensures { IfSome result (λ n. slice_get points.now n ≡ Some point) }
     {
         let (first, end) = self.numbers(point.place);
         let n = last_up_to(points, point, first as usize, end as usize)?;
-        if points[n] == point {
+        if points[n].point() == point {
             Some(n as u32)
         } else {
             None
@@ -98,7 +99,7 @@ impl Blocks {
 }
 
 /// The last of these points, of those between two numbers, that isn't behind a point, where they ascend.
-fn last_up_to(points: &[Point], point: Point, first: usize, end: usize) -> Option<usize>
+fn last_up_to(points: &[StoredPoint], point: Point, first: usize, end: usize) -> Option<usize>
     ensures { IfSome result (λ n. (n < length points.now) × (n < end)) }
 {
     if end > points.len() || first >= end {
@@ -108,7 +109,7 @@ fn last_up_to(points: &[Point], point: Point, first: usize, end: usize) -> Optio
     let mut high = end;
     while high - low > 1 {
         let middle = low + (high - low) / 2;
-        if points[middle] <= point {
+        if points[middle].point() <= point {
             low = middle;
         } else {
             high = middle;

@@ -7,6 +7,7 @@ ghost use Rattle.alternatives.specs.Points.{point_cmp};
 ghost use Rattle.alternatives.specs.Sites.{is_before as is_lower};
 
 use crate::site::is_before;
+use crate::stored::StoredPoint;
 use ot_base::Place;
 
 /// A place where control may stand: an instruction of the code, or one of a replacement that may be
@@ -22,21 +23,21 @@ pub struct Point {
 }
 
 /// How many of these stand before a place.
-pub(crate) fn count_before(points: &[Point], place: Place) -> usize
+pub(crate) fn count_before(points: &[StoredPoint], place: Place) -> usize
     requires { IsStrictlySortedBy point_cmp points.now }
     ensures within { result ≤ length points.now }
     ensures before { (k : ℕ) (d : Point) → k < result → is_lower (slice_index_or points.now k d).place place ≡ true }
     ensures others { (k : ℕ) (d : Point) → result ≤ k → k < length points.now → is_lower (slice_index_or points.now k d).place place ≡ false }
 {
-    points.partition_point(|point| is_before(point.place, place))
+    points.partition_point(|point| is_before(point.place(), place))
 }
 
 /// How many of these stand at a place or before it.
-pub(crate) fn count_to(points: &[Point], place: Place) -> usize
+pub(crate) fn count_to(points: &[StoredPoint], place: Place) -> usize
     requires { IsStrictlySortedBy point_cmp points.now }
     ensures within { result ≤ length points.now }
     ensures upto { (k : ℕ) (d : Point) → k < result → is_lower place (slice_index_or points.now k d).place ≡ false }
     ensures behind { (k : ℕ) (d : Point) → result ≤ k → k < length points.now → is_lower place (slice_index_or points.now k d).place ≡ true }
 {
-    points.partition_point(|point| !is_before(place, point.place))
+    points.partition_point(|point| !is_before(place, point.place()))
 }

@@ -15,6 +15,7 @@ use crate::insns::insn_of_point;
 use crate::original::counts;
 use crate::point::Point;
 use crate::site::is_before;
+use crate::stored::StoredPoint;
 use crate::texts::SectionText;
 use ot_base::{NoMemory, Place};
 use special_sections::AltEntry;
@@ -24,13 +25,13 @@ use x86_text::InsnList;
 /// Points with their instructions.
 #[derive(Drop)]
 pub(crate) struct Listed {
-    pub(crate) points: Vec<Point>,
+    pub(crate) points: Vec<StoredPoint>,
     pub(crate) insns: InsnList,
 }
 
 /// Adds the points of the replacement of an entry.
 fn push_replaced(
-    points: &mut Vec<Point>,
+    points: &mut Vec<StoredPoint>,
     texts: &[SectionText<'_>],
     entries: &[AltEntry],
     entry: u32,
@@ -51,7 +52,7 @@ fn push_replaced(
         let variant = entry + 1;
         let point = Point { place, variant };
         if insn_of_point(texts, entries, point).is_some() {
-            points.push(point)?;
+            points.push(StoredPoint::new(point))?;
         }
     }
     Ok(())
@@ -62,7 +63,7 @@ fn gather_replaced(
     alloc: Global,
     texts: &[SectionText<'_>],
     entries: &[AltEntry],
-) -> Result<Vec<Point>, NoMemory>
+) -> Result<Vec<StoredPoint>, NoMemory>
     requires ascending { AscendBySection texts.now }
     requires short { AreShort texts.now }
     requires few { length entries.now ≤ 8388608 }
@@ -84,7 +85,7 @@ fn insns_of(
     alloc: Global,
     texts: &[SectionText<'_>],
     entries: &[AltEntry],
-    points: &[Point],
+    points: &[StoredPoint],
 ) -> Result<InsnList, NoMemory>
     requires ascending { AscendBySection texts.now }
     requires short { AreShort texts.now }
@@ -93,7 +94,7 @@ fn insns_of(
 {
     let mut insns = InsnList::new(alloc)?;
     for point in points {
-        if let Some(insn) = insn_of_point(texts, entries, *point) {
+        if let Some(insn) = insn_of_point(texts, entries, point.point()) {
             insns.push(insn)?;
         }
     }
@@ -116,13 +117,17 @@ fn list_replaced(
     ensures few { IfOk result (λ l. length l.points.items ≤ 256 * length entries.now) }
 {
     let mut points = gather_replaced(alloc, texts, entries)?;
-    points.sort_by_key(|point| (point.place, point.variant))?;
+    points.sort_by_key(|point| (point.place(), point.variant()))?;
     let insns = insns_of(alloc, texts, entries, points.as_slice())?;
     Ok(Listed { points, insns })
 }
 
 /// No points yet, with room for those of texts and so many others.
-fn room_for(alloc: Global, texts: &[SectionText<'_>], others: usize) -> Result<Vec<Point>, NoMemory>
+fn room_for(
+    alloc: Global,
+    texts: &[SectionText<'_>],
+    others: usize,
+) -> Result<Vec<StoredPoint>, NoMemory>
     ensures { IfOk result (λ points. points.items ≡ []) }
 {
     let mut count = others;
@@ -134,20 +139,20 @@ fn room_for(alloc: Global, texts: &[SectionText<'_>], others: usize) -> Result<V
 
 /// Whether there is an other point of this number, at a lower place than a plain point.
 #[inline(always)]
-fn comes_first(others: &[Point], n: usize, point: Point) -> bool
+fn comes_first(others: &[StoredPoint], n: usize, point: Point) -> bool
     ensures other { result ≡ true → (n < length others.now) × ((d : Point) → is_before_place (slice_index_or others.now n d).place point.place ≡ true) }
     ensures plain { result ≡ false → (rest : List Point) → woven (point ∷ rest) (drop n others.now) ≡ point ∷ woven rest (drop n others.now) }
 {
     if n >= others.len() {
         return false;
     }
-    is_before(others[n].place, point.place)
+    is_before(others[n].place(), point.place)
 }
 
 /// Adds those of these points, from a number on, that come before a plain point, and tells the number of the next.
 fn push_before(
-    points: &mut Vec<Point>,
-    others: &[Point],
+    points: &mut Vec<StoredPoint>,
+    others: &[StoredPoint],
     from: usize,
     point: Point,
 ) -> Result<usize, NoMemory>
@@ -166,9 +171,9 @@ fn push_before(
 /// Adds the points of a text section, and those of these points, from a number on, that come before one of them, and tells
 /// the number of the next.
 fn push_text(
-    points: &mut Vec<Point>,
+    points: &mut Vec<StoredPoint>,
     text: &SectionText<'_>,
-    others: &[Point],
+    others: &[StoredPoint],
     from: usize,
 ) -> Result<usize, NoMemory>
     requires { from ≤ length others.now }
@@ -182,7 +187,7 @@ fn push_text(
         let place = Place { sec: text.sec, off };
         let point = Point { place, variant: 0 };
         next = push_before(points, others, next, point)?;
-        points.push(point)?;
+        points.push(StoredPoint::new(point))?;
     }
     Ok(next)
 }
@@ -191,8 +196,8 @@ fn push_text(
 fn weave_points(
     alloc: Global,
     texts: &[SectionText<'_>],
-    others: &[Point],
-) -> Result<Vec<Point>, NoMemory>
+    others: &[StoredPoint],
+) -> Result<Vec<StoredPoint>, NoMemory>
     ensures { IfOk result (λ points. points.items ≡ woven (plain_points texts.now) others.now) }
 {
     let mut points = room_for(alloc, texts, others.len())?;
@@ -218,7 +223,11 @@ fn push_all(insns: &mut InsnList, more: &InsnList) -> Result<(), NoMemory>
 
 /// Puts the instructions of replaced points among those of the plain ones, in the order of all points: from the last on, so
 /// that none is moved before it is read.
-fn weave_insns(insns: &mut InsnList, points: &[Point], replaced: &InsnList) -> Result<(), NoMemory>
+fn weave_insns(
+    insns: &mut InsnList,
+    points: &[StoredPoint],
+    replaced: &InsnList,
+) -> Result<(), NoMemory>
     requires plain { length (filter is_plain points.now) ≡ length insns.now }
     requires all { length points.now ≡ length insns.now + length replaced.now }
     ensures { OnOk result ((told : Point → Option Insn) → AreTold told (filter is_plain points.now) insns.old → AreTold told (filter is_replaced points.now) replaced.now → AreTold told points.now insns.new) }
@@ -228,7 +237,8 @@ fn weave_insns(insns: &mut InsnList, points: &[Point], replaced: &InsnList) -> R
     push_all(insns, replaced)?;
     while others > 0 {
         let n = plain + others - 1;
-        if points[n].variant == 0 {
+        let variant = points[n].variant();
+        if variant == 0 {
             plain -= 1;
             insns.set_from(n, plain);
         } else {

@@ -113,13 +113,20 @@ impl Sites {
         numbers_from(&self.sites, &self.entry_numbers, place, near as usize)
     }
 
-    /// The points of the object's code, by place and then by variant. The number of a point is its index
-    /// here.
-    pub fn points(&self) -> &[Point]
-        ensures list { result.now ≡ self.now.points }
+    /// How many points the object's code has.
+    pub fn point_count(&self) -> u32
+        ensures count { result ≡ length self.now.points }
         ensures few { length self.now.points < 2 ^ 32 }
     {
-        self.table.points()
+        self.table.point_count()
+    }
+
+    /// The point with this number. The numbers go by place and then by variant, from 0 on.
+    pub fn point(&self, n: u32) -> Point
+        requires { n < length self.now.points }
+        ensures { slice_get self.now.points n ≡ Some result }
+    {
+        self.table.point(n)
     }
 
     /// The number of a point.

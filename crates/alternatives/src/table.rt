@@ -10,6 +10,7 @@ ghost use Rattle.alternatives.specs.Texts.{text_bytes, AreShort, AscendBySection
 use crate::near::Blocks;
 use crate::point::{Point, count_before, count_to};
 use crate::points::list_points;
+use crate::stored::StoredPoint;
 use crate::texts::SectionText;
 use operation_defs::Insn;
 use ot_base::{NoMemory, Place};
@@ -22,7 +23,7 @@ use x86_text::InsnList;
 /// as these lists.
 #[derive(Drop)]
 pub(crate) struct PointTable {
-    points: Vec<Point>,
+    points: Vec<StoredPoint>,
     insns: InsnList,
     entries: Vec<AltEntry>,
     blocks: Blocks,
@@ -67,12 +68,20 @@ impl PointTable {
         })
     }
 
-    /// The points, by place and then by variant.
-    pub(crate) fn points(&self) -> &[Point]
-        ensures list { result.now ≡ self.now.points }
+    /// How many points there are.
+    pub(crate) fn point_count(&self) -> u32
+        ensures count { result ≡ length self.now.points }
         ensures few { length self.now.points < 2 ^ 32 }
     {
-        &self.points
+        self.points.len() as u32
+    }
+
+    /// The point with this number.
+    pub(crate) fn point(&self, n: u32) -> Point
+        requires { n < length self.now.points }
+        ensures { slice_get self.now.points n ≡ Some result }
+    {
+        self.points[n as usize].point()
     }
 
     /// The number of a point.
@@ -82,7 +91,10 @@ impl PointTable {
         if let Some(n) = self.blocks.number_of(&self.points, point) {
             return Some(n);
         }
-        match self.points.binary_search(&point) {
+        match self
+            .points
+            .binary_search_by_key(&point, |stored| stored.point())
+        {
             Ok(n) => Some(n as u32),
             Err(_) => None,
         }
@@ -101,7 +113,7 @@ impl PointTable {
         requires { n < length self.now.points }
         ensures { IfSome (slice_get self.now.points n) (λ p. result ≡ address_of_point self.now.entries p) }
     {
-        let point = self.points[n as usize];
+        let point = self.points[n as usize].point();
         if point.variant == 0 {
             return point.place;
         }
@@ -119,7 +131,7 @@ impl PointTable {
         requires { n < length self.now.points }
         ensures { IfSome (slice_get self.now.points n) (λ p. IfSome (slice_get self.now.insns n) (λ insn. IsNumberOf self.now.points (point_after p insn) result)) }
     {
-        let point = self.points[n as usize];
+        let point = self.points[n as usize].point();
         let off = point.place.off + u64::from(self.insns.get(n as usize).len);
         let place = Place { off, ..point.place };
         self.number_of(Point { place, ..point })

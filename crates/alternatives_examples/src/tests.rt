@@ -86,14 +86,14 @@ struct Row {
 
 /// Whether the points are those of the rows, and no others.
 fn are_told(sites: &Sites, rows: &[Row]) -> bool {
-    if sites.points().len() != rows.len() {
+    if sites.point_count() as usize != rows.len() {
         return false;
     }
     for n in 0..rows.len() {
         let row = rows[n];
         let (sec, off, variant) = row.point;
         let place = Place { sec, off };
-        if sites.points()[n] != (Point { place, variant }) {
+        if sites.point(n as u32) != (Point { place, variant }) {
             return false;
         }
         let (len, op) = row.insn;
@@ -110,7 +110,7 @@ fn are_told(sites: &Sites, rows: &[Row]) -> bool {
 
 /// Whether each point has this point right behind it.
 fn are_behind(sites: &Sites, numbers: &[Option<u32>]) -> bool {
-    if sites.points().len() != numbers.len() {
+    if sites.point_count() as usize != numbers.len() {
         return false;
     }
     for n in 0..numbers.len() {

@@ -167,7 +167,7 @@ fn points_of_a_site(rt: HostRuntime) -> Result<(), Fail> {
     let parsed = Object::parse(rt.alloc(), &bytes).expect(&rt, "an object");
     let linked = Linked::link(rt.alloc(), Map::Base, &parsed).expect(&rt, "code");
     assert_eq!(rt; linked.texts().len(), 1);
-    assert_eq!(rt; linked.sites().points().len(), 7);
+    assert_eq!(rt; linked.sites().point_count(), 7);
     assert_eq!(rt; linked.index().functions().len(), 1);
     assert_eq!(rt; linked.special().alternatives().len(), 1);
     Ok(())

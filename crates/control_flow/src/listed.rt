@@ -19,7 +19,7 @@ use std::alloc::Global;
 pub(crate) fn count_points(places: &PointPlaces<'_, '_, '_>) -> u32
     ensures { result ≡ count_of places.now }
 {
-    places.linked().sites().points().len() as u32
+    places.linked().sites().point_count()
 }
 
 /// What a point with this role is to a return.

@@ -58,7 +58,7 @@ pub(crate) fn is_restore(hint: Option<HintState>) -> bool
 fn count_points(places: &PointPlaces<'_, '_, '_>) -> u32
     ensures { result ≡ length (points_of_object places.now) }
 {
-    places.linked().sites().points().len() as u32
+    places.linked().sites().point_count()
 }
 
 /// The SAVEs of an object, and the numbers of its RESTOREs, in the order of points.

@@ -1,12 +1,11 @@
 //! How much code an object has.
 
 ghost use Rattle.std.specs.Prelude.{◌≡◌, ◌≤◌, ◌<◌, ◌^◌, length, count_by};
-ghost use Rattle.alternatives.specs.declared.point.Point.{Point};
 ghost use Rattle.elf_objects.specs.declared.TheConstants.{MAX_FILE_BYTES as most_bytes};
 ghost use Rattle.flow_defs.specs.Code.{is_plain};
 ghost use Rattle.object_check.specs.Counts.{IsCounted, text_bytes};
 
-use alternatives::Point;
+use alternatives::Sites;
 use elf_objects::Object;
 use object_code::Linked;
 
@@ -21,12 +20,17 @@ pub struct CodeCounts {
     pub text_bytes: u64,
 }
 
-/// How many of these points are instructions of the code as it is assembled.
-fn count_plain(points: &[Point]) -> u32
-    requires { length points.now < 2 ^ 32 }
-    ensures { result ≡ count_by is_plain points.now }
+/// How many points are instructions of the code as it is assembled.
+fn count_plain(sites: &Sites) -> u32
+    ensures { result ≡ count_by is_plain sites.now.points }
 {
-    points.iter().filter(|point| point.variant == 0).count() as u32
+    let mut plain = 0;
+    for n in 0..sites.point_count() {
+        if sites.point(n).variant == 0 {
+            plain += 1;
+        }
+    }
+    plain
 }
 
 /// How many bytes the text sections of an object have.
@@ -50,7 +54,7 @@ pub(crate) fn count_code(linked: &Linked<'_, '_>) -> CodeCounts
 {
     CodeCounts {
         functions: linked.index().functions().len() as u32,
-        instructions: count_plain(linked.sites().points()),
+        instructions: count_plain(linked.sites()),
         text_bytes: count_text(linked.object()),
     }
 }

@@ -9,5 +9,5 @@ use point_places::PointPlaces;
 pub(crate) fn count_points(places: &PointPlaces<'_, '_, '_>) -> u32
     ensures { result ≡ length (points_of_object places.now) }
 {
-    places.linked().sites().points().len() as u32
+    places.linked().sites().point_count()
 }

@@ -14,7 +14,7 @@ use std::alloc::Global;
 fn count_points(places: &PointPlaces<'_, '_, '_>) -> u32
     ensures { result ≡ length (points_of_object places.now) }
 {
-    places.linked().sites().points().len() as u32
+    places.linked().sites().point_count()
 }
 
 /// Of which kind a point is.

@@ -47,9 +47,8 @@ fn is_plain_at(point: Point, place: Place) -> bool
 fn is_next_at(places: &PointPlaces<'_, '_, '_>, n: u32, place: Place) -> bool
     ensures { result ≡ is_next_point_at places.now n place }
 {
-    let points = places.linked().sites().points();
-    let next = n as usize + 1;
-    next < points.len() && is_plain_at(points[next], place)
+    let count = places.linked().sites().point_count();
+    n < count && n + 1 < count && is_plain_at(places.point(n + 1), place)
 }
 
 /// Whether a point is plain and its operation is straight.

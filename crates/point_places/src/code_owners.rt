@@ -100,11 +100,11 @@ pub(crate) fn list_numbers(
     requires items { AreItems index.now.elf index.now.functions items.now }
     ensures { IfOk result (λ numbers. TellOwners linked.now items.now numbers.items) }
 {
-    let count = linked.sites().points().len();
-    let mut numbers = Vec::with_capacity(alloc, count)?;
+    let count = linked.sites().point_count();
+    let mut numbers = Vec::with_capacity(alloc, count as usize)?;
     let mut number = 0;
     for n in 0..count {
-        number = number_of(index, items, address_of(linked, n as u32), number);
+        number = number_of(index, items, address_of(linked, n), number);
         numbers.push(number)?;
     }
     Ok(numbers)

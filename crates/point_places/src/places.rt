@@ -12,7 +12,7 @@ use crate::code_owners::{CodeOwner, address_of, list_items, list_numbers};
 use crate::function_starts::list_starts;
 use crate::owner::{is_part, owner_of};
 use crate::unchecked::{is_among, list_unchecked};
-use alternatives::Point;
+use alternatives::{Point, Sites};
 use object_code::Linked;
 use operation_defs::Insn;
 use ot_base::{NoMemory, Place};
@@ -83,7 +83,7 @@ impl<'l, 'o, 'a> PointPlaces<'l, 'o, 'a> {
     pub fn count(&self) -> usize
         ensures { result ≡ length (points_of_object self.now) }
     {
-        self.linked.sites().points().len()
+        self.linked.sites().point_count() as usize
     }
 
     /// The point with a number.
@@ -91,7 +91,7 @@ impl<'l, 'o, 'a> PointPlaces<'l, 'o, 'a> {
         requires { n < length (points_of_object self.now) }
         ensures { result ≡ point_at self.now n }
     {
-        self.linked.sites().points()[n as usize]
+        self.linked.sites().point(n)
     }
 
     /// The number of a point.
@@ -105,8 +105,7 @@ impl<'l, 'o, 'a> PointPlaces<'l, 'o, 'a> {
     pub fn number_by_guess(&self, point: Point, guess: u32) -> Option<u32>
         ensures { result ≡ number_of_point self.now point }
     {
-        let points = self.linked.sites().points();
-        if let Some(n) = guessed(points, point, guess) {
+        if let Some(n) = guessed(self.linked.sites(), point, guess) {
             return Some(n);
         }
         self.number_of(point)
@@ -127,8 +126,8 @@ impl<'l, 'o, 'a> PointPlaces<'l, 'o, 'a> {
         ensures { result ≡ is_a_boundary (texts_of self.now) place }
     {
         let variant = 0;
-        let points = self.linked.sites().points();
-        if let Some(_) = guessed(points, Point { place, variant }, guess) {
+        let point = Point { place, variant };
+        if let Some(_) = guessed(self.linked.sites(), point, guess) {
             return true;
         }
         self.is_boundary(place)
@@ -255,11 +254,10 @@ fn is_behind(start: u64, len: u8, off: u64) -> bool
 }
 
 /// A guessed number, where it is that of a point. Of any other nothing is told.
-fn guessed(points: &[Point], point: Point, guess: u32) -> Option<u32>
-    ensures { IfSome result (λ n. slice_get points.now n ≡ Some point) }
+fn guessed(sites: &Sites, point: Point, guess: u32) -> Option<u32>
+    ensures { IfSome result (λ n. slice_get sites.now.points n ≡ Some point) }
 {
-    let n = guess as usize;
-    if n < points.len() && points[n] == point {
+    if guess < sites.point_count() && sites.point(guess) == point {
         return Some(guess);
     }
     None

@@ -2,8 +2,6 @@ use Rattle.std.proofs.Common.{◌≡◌, ◌+◌, ◌<◌, ◌++◌, ◌∷◌, 
 use Rattle.alternatives.specs.declared.point.Point.{Point}
 use Rattle.alternatives.specs.Gathered.{woven}
 use Rattle.alternatives.specs.Sites.{is_before}
-use Rattle.std.proofs.lemmas.List.{get_or_default}
-use Rattle.alternatives.proofs.Merging.{no_point}
 use Rattle.alternatives.proofs.Weaving.{step_other}
 use Rattle.alternatives.proofs.points.push_before.Goals as goal
 
@@ -12,13 +10,13 @@ loop-point-preserved c =
     let others : List Point = c.args.others.now in
     let p : Point = c.args.point in
     let n : ℕ = c.loop-point.next in
-    let r : Point = get_or others n no_point in
+    let r : Point = c.index-others-next.result in
     let next : (n < length others) × ((d : Point) → is_before (get_or others n d).place p.place ≡ true) = c.comes_first.ensures.other c.loop-point-test.true in
     record {
       within = omega (arith, next.0);
       points = λ rest.
           ap (λ xs. xs ++ woven (p ∷ rest) (drop (n + 1) others)) c.in_ok-push.ensures.items
-          ∙ step_other p rest others c.loop-point.points.items n r next.0 (get_or_default others n no_point r next.0) (next.1 no_point)
+          ∙ step_other p rest others c.loop-point.points.items n r next.0 c.index-others-next.is (ap (λ (q : Point). is_before q.place p.place) c.index-others-next.is ∙ next.1 r)
           ∙ c.loop-point.invariant.points rest;
     }
 

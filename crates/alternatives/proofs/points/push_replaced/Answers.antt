@@ -34,7 +34,7 @@ loop-distance-preserved c =
     elim c.if-is_some.branch [
       | then-is_some+in_ok-push w ↦
           let passes : p (replaced_at entries k n) ≡ true = sym (ap (λ (o : Option Insn). is_some o) c.insn_of_point.ensures) ∙ sym c.is_some.ensures ∙ w.if-is_some.true in
-          let pushed : c.if-is_some.points.items ≡ c.loop-distance.points.items ++ replaced_at entries k n ∷ [] = ap (λ v. v.items) w.points-is ∙ w.in_ok-push.ensures.items in
+          let pushed : c.if-is_some.points.items ≡ c.loop-distance.points.items ++ replaced_at entries k n ∷ [] = ap (λ v. v.items) w.points-is ∙ w.in_ok-push.ensures.items ∙ ap (λ (q : Point). c.loop-distance.points.items ++ q ∷ []) w.new.ensures in
           let longer : length c.if-is_some.points.items ≡ length c.loop-distance.points.items + 1 = ap (λ (xs : List Point). length xs) pushed ∙ length-append c.loop-distance.points.items (replaced_at entries k n ∷ []) in
           (pushed ∙ ap (λ xs. xs ++ replaced_at entries k n ∷ []) c.loop-distance.invariant.0 ∙ one_more p (replaced_at entries k) old n passes, omega (arith, c.loop-distance.invariant.1))
       | else-is_some w ↦

@@ -26,7 +26,7 @@ loop-off-preserved c =
       within = c.in_ok-next.ensures.within;
       points = λ rest.
           let left : List Point = map (plain_begin sec) (drop (k + 1) offsets) in
-          ap (λ ps. ps ++ woven (left ++ rest) (drop c.in_ok-next.next c.args.others.now)) c.in_ok-push.ensures.items
+          ap (λ ps. ps ++ woven (left ++ rest) (drop c.in_ok-next.next c.args.others.now)) (c.in_ok-push.ensures.items ∙ ap (λ (q : Point). c.push_before.new.points.items ++ q ∷ []) c.new.ensures)
           ∙ append_assoc c.push_before.new.points.items (plain_begin sec off ∷ []) (woven (left ++ rest) (drop c.in_ok-next.next c.args.others.now))
           ∙ c.in_ok-next.ensures.points (left ++ rest)
           ∙ ap (λ os. c.loop-off.points.items ++ woven (map (plain_begin sec) os ++ rest) (drop c.loop-off.next c.args.others.now)) (sym (dropped offsets k off inside is))

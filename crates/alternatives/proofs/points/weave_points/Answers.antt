@@ -1,9 +1,7 @@
-use Rattle.std.proofs.Common.{◌≡◌, ◌+◌, ◌≤◌, ◌<◌, ◌++◌, ◌∷◌, [], ℕ, List, drop, length, get_or, sym, ap, ◌∙◌, arith, append_assoc, append-nil}
-use Rattle.std.proofs.lemmas.List.{get_or_default}
+use Rattle.std.proofs.Common.{◌≡◌, ◌+◌, ◌≤◌, ◌<◌, ◌++◌, ◌∷◌, [], ℕ, List, drop, length, sym, ap, ◌∙◌, arith, append_assoc, append-nil}
 use Rattle.alternatives.specs.declared.texts.SectionText.{SectionText}
 use Rattle.alternatives.specs.declared.point.Point.{Point}
 use Rattle.alternatives.specs.Gathered.{plain_points, woven}
-use Rattle.alternatives.proofs.Merging.{no_point}
 use Rattle.alternatives.proofs.Weaving.{all_dropped, dropped}
 use Rattle.alternatives.proofs.points.weave_points.Goals as goal
 
@@ -34,11 +32,11 @@ pub loop-n-preserved : goal.loop-n-preserved
 loop-n-preserved c =
     let others : List Point = c.args.others.now in
     let n : ℕ = c.loop-n.n in
-    let r : Point = get_or others n no_point in
+    let r : Point = c.index-others-n.result in
     let inside : n < length others = omega (arith, c.loop-n-test.true) in
     ap (λ ps. ps ++ drop (n + 1) others) c.in_ok-push.ensures.items
     ∙ append_assoc c.loop-n.points.items (r ∷ []) (drop (n + 1) others)
-    ∙ ap (λ ps. c.loop-n.points.items ++ ps) (sym (dropped others n r inside (get_or_default others n no_point r inside)))
+    ∙ ap (λ ps. c.loop-n.points.items ++ ps) (sym (dropped others n r inside c.index-others-n.is))
     ∙ c.loop-n.invariant
 
 all_listed : (plain added others : List Point) (n : ℕ) → length others ≤ n → added ++ drop n others ≡ woven plain others → added ≡ woven plain others

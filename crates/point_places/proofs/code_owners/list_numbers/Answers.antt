@@ -27,6 +27,6 @@ loop-n-preserved c =
 
 pub returns : goal.returns
 returns c = record {
-  long = omega (arith, c.loop-n.invariant.long, c.loop-n-test.false, c.loop-n.auto.n-end, ap length c.points-count.ensures.list, ap length c.sites.ensures.points);
+  long = omega (arith, c.loop-n.invariant.long, c.loop-n-test.false, c.loop-n.auto.n-end, c.point_count-count.ensures.count, ap length c.sites.ensures.points);
   each = c.loop-n.invariant.each;
 }

@@ -16,7 +16,7 @@ pub returns-in-Some : goal.returns-in-Some
 returns-in-Some c =
     let own : Coded = c.self.inside.linked.now in
     let point : Point = plain_point c.args.place in
-    let points : c.points-points.result.now ≡ points_of (texts_of own) (alternatives_of own) = c.points-points.ensures.list ∙ c.sites.ensures.points ∙ all_points own in
+    let points : c.sites.result.now.points ≡ points_of (texts_of own) (alternatives_of own) = c.sites.ensures.points ∙ all_points own in
     let here : slice_get (points_of (texts_of own) (alternatives_of own)) c.in-Some.field-0 ≡ Some point = subst (λ (ps : List Point). slice_get ps c.in-Some.field-0 ≡ Some point) points c.in-Some.ensures in
     known_point (texts_of own) (alternatives_of own) point (Some c.in-Some.field-0) here
     ∙ ap (λ (e : Coded). is_boundary (texts_of e) c.args.place) c.self.view_is

@@ -16,7 +16,7 @@ sorted_object o = all_sorted (texts_of o) (alternatives_of o) (texts_ascend o)
 pub returns-in-Some : goal.returns-in-Some
 returns-in-Some c =
     let own : Coded = c.self.inside.linked.now in
-    let points : c.points-points.result.now ≡ points_of_object own = c.points-points.ensures.list ∙ c.sites.ensures.points in
+    let points : c.sites.result.now.points ≡ points_of_object own = c.sites.ensures.points in
     let here : slice_get (points_of_object own) c.in-Some.n ≡ Some c.args.point = subst (λ (ps : List Point). slice_get ps c.in-Some.n ≡ Some c.args.point) points c.in-Some.ensures in
     numbered (points_of_object own) c.args.point (Some c.in-Some.n) (sorted_object own) here
     ∙ ap (λ (e : Coded). position (same_point c.args.point) (points_of_object e)) c.self.view_is
