@@ -1,5 +1,6 @@
 pub mod CodeLemmas
 pub mod InsnListLemmas
+pub mod KnownLemmas
 pub mod ListingLemmas
 pub mod NumberLemmas
 pub mod QueryLemmas

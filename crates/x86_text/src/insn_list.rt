@@ -126,8 +126,9 @@ fn guessed(kinds: &[Insn], recent: &[u32], hash: usize, insn: Insn) -> Option<u3
     if kind == insn { Some(number) } else { None }
 }
 
-/// A hash of an instruction. It is the instruction's alone, where its operation has no number and it has at most 15 bytes.
-fn hash_of(insn: Insn) -> usize {
+/// A hash of an instruction, below 1,024. It is the instruction's alone, where its operation has no number and it has at most 15
+/// bytes. No contract says so.
+pub fn hash_of(insn: Insn) -> usize {
     let variant = variant_of(insn.op);
     let shape = variant
         .wrapping_mul(16)

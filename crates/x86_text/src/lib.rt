@@ -4,12 +4,13 @@
 mod fault;
 mod fault_text;
 mod insn_list;
+mod known;
 mod placed;
 mod text;
 
 pub use fault::TextFault;
 pub use fault_text::TextFaultText;
-pub use insn_list::InsnList;
+pub use insn_list::{InsnList, hash_of};
 pub use operation_defs::{Insn, Op};
 pub use placed::PlacedInsn;
 pub use text::Text;

@@ -7,6 +7,7 @@ ghost use Rattle.x86_text.specs.declared.fault.TextFault.TheVariants.{NoMemory};
 
 use crate::fault::TextFault;
 use crate::insn_list::InsnList;
+use crate::known::{decode_known, none_known};
 use crate::placed::PlacedInsn;
 use operation_defs::{Insn, Op};
 use std::alloc::Global;
@@ -52,9 +53,10 @@ impl<'a> Text<'a> {
     {
         let mut offsets = Vec::new(alloc);
         let mut table_jumps = Vec::new(alloc);
+        let mut known = none_known(alloc)?;
         let mut off = 0usize;
         while off < body.len() {
-            match decode(map, &body[off..]) {
+            match decode_known(map, &mut known, &body[off..]) {
                 Ok(insn) => {
                     offsets.push(off as u32)?;
                     push_table_jump(&mut table_jumps, off as u64, insn)?;

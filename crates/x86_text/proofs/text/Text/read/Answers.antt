@@ -24,7 +24,7 @@ same_ok : (a b : Insn) → (let r : Result Insn DecodeFault = Ok b in r ≡ Ok a
 same_ok a b e = cc
 
 pub loop-off-init : goal.loop-off-init
-loop-off-init c = kept_nothing (read_by c.args.map c.args.body.now) c.new-offsets.result.items c.new-table_jumps.result.items c.args.insns.now c.new-offsets.ensures.items c.new-table_jumps.ensures.items
+loop-off-init c = (kept_nothing (read_by c.args.map c.args.body.now) c.new-offsets.result.items c.new-table_jumps.result.items c.args.insns.now c.new-offsets.ensures.items c.new-table_jumps.ensures.items, c.in_ok-known.ensures c.args.map)
 
 pub loop-off-preserved : goal.loop-off-preserved
 loop-off-preserved c =
@@ -33,19 +33,25 @@ loop-off-preserved c =
     let stands : StandsInFront c.args.map (drop c.loop-off.off c.args.body.now) c.in-Ok.insn = subst (λ (bytes : List ℕ). StandsInFront c.args.map bytes c.in-Ok.insn) whole ((c.in-Ok.ensures.ok c.in-Ok.insn).0 refl) in
     let only : (other : Insn) → StandsInFront c.args.map (drop c.loop-off.off c.args.body.now) other → other ≡ c.in-Ok.insn = λ other also.
     same_ok other c.in-Ok.insn ((c.in-Ok.ensures.ok other).1 (subst (λ (bytes : List ℕ). StandsInFront c.args.map bytes other) (sym whole) also)) in
-    let here : decoded c.args.map (drop c.loop-off.off c.args.body.now) ≡ Ok c.in-Ok.insn = subst (λ (bytes : List ℕ). decoded c.args.map bytes ≡ Ok c.in-Ok.insn) whole (sym c.in-Ok.ensures.answer) in
-    kept_more (read_by c.args.map c.args.body.now) c.loop-off.offsets.items c.push.new.self.items c.loop-off.table_jumps.items c.push_table_jump.new.jumps.items c.args.insns.now c.loop-off.insns c.push-in-Ok.new.self c.loop-off.off c.in-Ok.insn c.loop-off.invariant c.loop-off-test.true here stands only c.in-Ok.ensures.within.0 fits
-    c.in_ok-push-in-Ok.ensures.items c.in_ok-push_table_jump-in-Ok.ensures.added c.in_ok-push-in-Ok-2.ensures
+    let here : decoded c.args.map (drop c.loop-off.off c.args.body.now) ≡ Ok c.in-Ok.insn = subst (λ (bytes : List ℕ). decoded c.args.map bytes ≡ Ok c.in-Ok.insn) whole (sym c.in-Ok.ensures.answer) in (
+      kept_more (read_by c.args.map c.args.body.now) c.loop-off.offsets.items c.push.new.self.items c.loop-off.table_jumps.items c.push_table_jump.new.jumps.items c.args.insns.now c.loop-off.insns c.push-in-Ok.new.self c.loop-off.off c.in-Ok.insn c.loop-off.invariant.0 c.loop-off-test.true here stands only c.in-Ok.ensures.within.0 fits
+          c.in_ok-push-in-Ok.ensures.items c.in_ok-push_table_jump-in-Ok.ensures.added c.in_ok-push-in-Ok-2.ensures,
+      c.decode_known.ensures.known,
+    )
 
 -- all is kept
 all : (c : goal.After-loop-off) → IsKept (read_by c.args.map c.args.body.now) c.loop-off.offsets.items c.loop-off.table_jumps.items × (c.loop-off.insns ≡ c.args.insns.now ++ insns_of (read_by c.args.map c.args.body.now))
-all c = kept_all (read_by c.args.map c.args.body.now) c.loop-off.offsets.items c.loop-off.table_jumps.items c.args.insns.now c.loop-off.insns c.loop-off.off c.loop-off.invariant c.loop-off-test.false (omega arith)
+all c = kept_all (read_by c.args.map c.args.body.now) c.loop-off.offsets.items c.loop-off.table_jumps.items c.args.insns.now c.loop-off.insns c.loop-off.off c.loop-off.invariant.0 c.loop-off-test.false (omega arith)
+
+-- and stays so when what is known is gone
+all_read : (c : goal.After-drop-known-2) → IsKept (read_by c.args.map c.args.body.now) c.loop-off.offsets.items c.loop-off.table_jumps.items × (c.loop-off.insns ≡ c.args.insns.now ++ insns_of (read_by c.args.map c.args.body.now))
+all_read c = kept_all (read_by c.args.map c.args.body.now) c.loop-off.offsets.items c.loop-off.table_jumps.items c.args.insns.now c.loop-off.insns c.loop-off.off c.loop-off.invariant.0 c.loop-off-test.false (omega arith)
 
 pub returns-clause-code : goal.returns-clause-code
-returns-clause-code c = listing_is_code (read_by c.args.map c.args.body.now) (code_of (read_by c.args.map c.args.body.now)) (all c).0.listing
+returns-clause-code c = listing_is_code (read_by c.args.map c.args.body.now) (code_of (read_by c.args.map c.args.body.now)) (all_read c).0.listing
 
 pub returns-clause-insns : goal.returns-clause-insns
-returns-clause-insns c = (all c).1
+returns-clause-insns c = (all_read c).1
 
 pub invariant_of-result : goal.invariant_of-result
 invariant_of-result c = (all c).0
@@ -53,4 +59,4 @@ invariant_of-result c = (all c).0
 pub returns-in-Err-clause-fault : goal.returns-in-Err-clause-fault
 returns-in-Err-clause-fault c =
     let whole : take (length c.args.body.now - c.loop-off.off) (drop c.loop-off.off c.args.body.now) ≡ drop c.loop-off.off c.args.body.now = take_all _ _ (simp length-drop (omega arith)) in
-    (c.loop-off.invariant.read.boundary c.loop-off-test.true, subst (λ (bytes : List ℕ). Outcome c.args.map bytes (Err c.in-Err.why)) whole (refusal c.args.map _ c.in-Err.why c.in-Err.ensures.outside c.in-Err.ensures.cut c.in-Err.ensures.long))
+    (c.loop-off.invariant.0.read.boundary c.loop-off-test.true, subst (λ (bytes : List ℕ). Outcome c.args.map bytes (Err c.in-Err.why)) whole (refusal c.args.map _ c.in-Err.why c.in-Err.ensures.outside c.in-Err.ensures.cut c.in-Err.ensures.long))
