@@ -8,6 +8,7 @@ pub mod GoesOn
 pub mod Behind
 pub mod Numbering
 pub mod Equal
+pub mod SameKinds
 pub mod Meant
 pub mod Making
 pub mod Going

@@ -22,10 +22,11 @@ use Rattle.program_graph.specs.declared.parts.GraphParts.{GraphParts}
 use Rattle.program_graph.specs.declared.parts.Hinted.{Hinted}
 use Rattle.program_graph.specs.declared.parts.Owner.{Owner}
 use Rattle.program_graph.specs.declared.parts.Point.{Point}
+use Rattle.program_graph.specs.declared.parts.PointKind.{PointKind}
 use Rattle.program_graph.specs.declared.parts.Rare.{Rare}
 use Rattle.program_graph.specs.declared.parts.Transfer.{Transfer}
-use Rattle.program_graph.specs.Shape.{HaveShape, IsAlike, first_target, listed_of, start_of}
-use Rattle.program_graph.specs.Tells.{Means, Tells, TellsHinted, TellsOwner, TellsPoint, TellsRare, TellsTransfer, TellsUnhinted, site_of, text_of}
+use Rattle.program_graph.specs.Shape.{HaveShape, IsAlike, IsKindOf, first_target, listed_of, start_of}
+use Rattle.program_graph.specs.Tells.{Means, Tells, TellsHinted, TellsKind, TellsOwner, TellsPoint, TellsRare, TellsTransfer, TellsUnhinted, site_of, text_of}
 use Rattle.return_search.specs.declared.returns.Returns.{Returns}
 use Rattle.return_search.specs.Shape.{HaveShape as HaveReturnShape}
 use Rattle.point_fields.specs.Owners.{IsOwnerBy}
@@ -34,7 +35,7 @@ use Rattle.control_flow.specs.Lone.{HasEdgesOf}
 use Rattle.control_flow.specs.Returns.{AreReturns}
 use Rattle.control_flow.specs.Hinted.{IsHinted, IsMeant, IsUnhinted}
 use Rattle.control_flow.specs.Numbers.{HaveNumbers}
-use Rattle.control_flow.specs.Points.{AreMade}
+use Rattle.control_flow.specs.Points.{AreMade, IsKind}
 use Rattle.control_flow.specs.Rares.{AreRares, IsRareOf}
 use Rattle.control_flow.specs.Transfers.{IsTransferOf}
 use Rattle.control_flow.proofs.Fields.{comes_back_is}
@@ -60,7 +61,7 @@ first_in_range xs a b x d is = ap (λ (k : ℕ). get_or xs k d) (let same : a �
 -- the parts are what is listed of the object's points
 pub record AreParts (o : Coded) (lists : NameLists) (parts : GraphParts) (returns : Returns) (starts : List ℕ) (edges : List Edge) (rare_numbers transfer_numbers : List ℕ) : Type 0 where
   pub few : length parts.points.items < 2 ^ 32
-  pub points : AreMade o parts.owners.items returns rare_numbers transfer_numbers parts.points.items (count_of o)
+  pub points : AreMade o parts.owners.items returns rare_numbers transfer_numbers parts.kinds.items parts.points.items (count_of o)
   pub transfers : HaveNumbers (IsTransferOf o returns) parts.transfers.items transfer_numbers (count_of o)
   pub rares : AreRares o parts.restores.items parts.rares.items parts.hinted.items rare_numbers (count_of o)
   pub returns_shape : HaveReturnShape (count_of o) returns
@@ -135,20 +136,37 @@ module _ (o : Coded) (lists : NameLists) (parts : GraphParts) (returns : Returns
     calls_fentry = is.calls_fentry;
   }
 
+  same_some : {X : Type 0} {a b : X} → Some a ≡ Some b → a ≡ b
+  same_some e = cc
+
+  -- the kind that a point names is its own
+  kind_is : (q : ℕ) (x : Point) (k : PointKind) → slice_get parts.points.items q ≡ Some x → slice_get parts.kinds.items x.kind ≡ Some k → IsKind o q (slice_index_or returns.may_return.items q false) (slice_index rares q) (slice_index transfers q) k
+  kind_is q x k at named =
+      let made = are.points.each q x at in
+      subst (IsKind o q (slice_index_or returns.may_return.items q false) (slice_index rares q) (slice_index transfers q)) (same_some (sym made.named ∙ named)) made.is_kind
+
+  kind_of : (q : ℕ) (k : PointKind) → IsKindOf parts q k → IsKind o q (slice_index_or returns.may_return.items q false) (slice_index rares q) (slice_index transfers q) k
+  kind_of q k is = kind_is q is.point k is.at is.named
+
+  tells_kind : (q : ℕ) (k : PointKind) → q < count_of o → IsKind o q (slice_index_or returns.may_return.items q false) (slice_index rares q) (slice_index transfers q) k → TellsKind (program_of o lists) parts q k
+  unfolding program_of returning_graph graph_of
+  tells_kind q k here is = record {
+    insn = is.insn;
+    dead_end = is.dead_end;
+    may_return = sym (returns_are q here) ∙ is.returns;
+    entered = is.entered lists;
+    transfer = λ t own. tells_transfer q t here (numbered_at (IsTransferOf o returns) parts.transfers.items transfers (count_of o) q k.transfer t are.transfers here is.transfer_number own);
+    rare = λ r own. tells_rare q r (numbered_at HasRare parts.rares.items rares (count_of o) q k.rare r are.rares.numbered.have here is.rare_number own);
+  }
+
   tells_point : (q : ℕ) (x : Point) → slice_get parts.points.items q ≡ Some x → TellsPoint (program_of o lists) parts q x
   unfolding program_of returning_graph graph_of
   tells_point q x at =
-      let is = are.points.each q x at in
-      let here = inside q x at in
+      let placed = (are.points.each q x at).placed in
       record {
-        insn = is.insn;
-        place = is.place;
-        dead_end = is.dead_end;
-        may_return = sym (returns_are q here) ∙ is.returns;
-        entered = is.entered lists;
-        owner = λ w own. tells_owner q w (is.owner w own);
-        transfer = λ t own. tells_transfer q t here (numbered_at (IsTransferOf o returns) parts.transfers.items transfers (count_of o) q x.transfer t are.transfers here is.transfer_number own);
-        rare = λ r own. tells_rare q r (numbered_at HasRare parts.rares.items rares (count_of o) q x.rare r are.rares.numbered.have here is.rare_number own);
+        place = placed.place;
+        owner = λ w own. tells_owner q w (placed.owner w own);
+        kind = λ k named. tells_kind q k (inside q x at) (kind_is q x k at named);
       }
 
   -- the edges of a point in the graph are those that are listed of it, but for the Next of a call that can't come back
@@ -206,12 +224,13 @@ module _ (o : Coded) (lists : NameLists) (parts : GraphParts) (returns : Returns
   pub parts_have_shape : HaveShape parts
   parts_have_shape = record {
     few = are.few;
-    owners = λ q x at. (are.points.each q x at).owner_inside;
-    transfers = λ q x at. numbered_inside (IsTransferOf o returns) parts.transfers.items transfers (count_of o) q x.transfer are.transfers (inside q x at) (are.points.each q x at).transfer_number;
-    rares = λ q x at. numbered_inside HasRare parts.rares.items rares (count_of o) q x.rare are.rares.numbered.have (inside q x at) (are.points.each q x at).rare_number;
-    hinted = λ q h x r at own number.
-        let is = numbered_at HasRare parts.rares.items rares (count_of o) q x.rare r are.rares.numbered.have (inside q x at) (are.points.each q x at).rare_number own in
-        is.known.inside h number;
+    owners = λ q x at. (are.points.each q x at).placed.owner_inside;
+    kinds = λ q x at. let made = are.points.each q x at in slice_get_within parts.kinds.items x.kind made.kind made.named;
+    transfers = λ q k is. numbered_inside (IsTransferOf o returns) parts.transfers.items transfers (count_of o) q k.transfer are.transfers (inside q is.point is.at) (kind_of q k is).transfer_number;
+    rares = λ q k is. numbered_inside HasRare parts.rares.items rares (count_of o) q k.rare are.rares.numbered.have (inside q is.point is.at) (kind_of q k is).rare_number;
+    hinted = λ q h k r is own number.
+        let has = numbered_at HasRare parts.rares.items rares (count_of o) q k.rare r are.rares.numbered.have (inside q is.point is.at) (kind_of q k is).rare_number own in
+        has.known.inside h number;
     starts = omega (arith, ap length are.parts_starts, are.returns_shape.starts, are.points.long);
     ascending = λ q l. subst (λ (starts : List ℕ). slice_index starts q ≤ slice_index starts (q + 1)) (sym are.parts_starts) (are.returns_shape.ascending q (omega (arith, are.points.long)));
     within = λ q l. subst (λ (starts : List ℕ). slice_index starts (q + 1) ≤ length parts.edges.items) (sym are.parts_starts) (omega (arith, are.returns_shape.within q (omega (arith, are.points.long)), ap length are.parts_edges));

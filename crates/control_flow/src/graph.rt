@@ -8,7 +8,7 @@ ghost use Rattle.program_graph.specs.Tells.{Tells};
 
 use crate::hinted::restores_are_points;
 use crate::outgoing::{Outgoing, list_outgoing};
-use crate::points::list_points;
+use crate::points::{PointList, list_points};
 use crate::rares::{RareList, list_rares};
 use crate::returning::returns_of;
 use crate::transfers::settle_transfers;
@@ -51,7 +51,10 @@ fn parts_of(
         numbers,
     } = list_rares(alloc, points, &hints)?;
     let owners = OwnerTable::build(alloc, places)?;
-    let made = list_points(
+    let PointList {
+        points: made,
+        kinds,
+    } = list_points(
         alloc,
         points,
         &owners,
@@ -69,6 +72,7 @@ fn parts_of(
         edges: returns.edges,
         alike,
         owners: owners.into_owners(),
+        kinds,
         transfers: transfer_list.transfers,
         rares,
         hinted,

@@ -3,6 +3,7 @@
 
 mod graph;
 mod hinted;
+mod kinds;
 mod listed;
 mod lone_jumps;
 mod low;

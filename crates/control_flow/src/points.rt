@@ -6,14 +6,15 @@ ghost use Rattle.checker_defs.specs.Kept.{is_entry_point};
 ghost use Rattle.flow_defs.specs.Program.{program_of};
 ghost use Rattle.return_search.specs.Shape.{HaveShape};
 ghost use Rattle.control_flow.specs.Listed.{AreEntered, count_of};
-ghost use Rattle.control_flow.specs.Points.{AreMade, IsMade};
+ghost use Rattle.control_flow.specs.Points.{AreMade, IsKind, IsPlaced};
 
+use crate::kinds::KindTable;
 use crate::listed::count_points;
 use crate::low::point_is_low;
 use ot_base::NoMemory;
 use point_fields::OwnerTable;
 use point_flow::FlowPoints;
-use program_graph::Point;
+use program_graph::{Point, PointKind};
 use return_search::Returns;
 use std::alloc::Global;
 
@@ -30,36 +31,57 @@ struct Told {
     transfer: u32,
 }
 
-/// The point with a number, where it is guessed where its owner stands.
-fn point_of(
+/// The kind of the point with a number.
+fn kind_of(
     alloc: Global,
     points: &FlowPoints<'_, '_, '_>,
-    owners: &OwnerTable<'_, '_, '_>,
     n: u32,
-    guess: u32,
     told: Told,
-) -> Result<Point, NoMemory>
+) -> Result<PointKind, NoMemory>
     requires point { n < count_of points.now }
-    requires owners { owners.now.elf ≡ points.now.elf }
     requires entered { (lists : NameLists) → is_entry_point (program_of points.now lists) n ≡ told.is_entered }
-    ensures { IfOk result (IsMade points.now owners.now.owners n told.may_return told.rare told.transfer) }
+    ensures { IfOk result (IsKind points.now n told.may_return told.rare told.transfer) }
 {
-    let places = points.places();
     let insn = points.arrivals().insn(alloc, n)?;
-    let place = places.point(n).place;
-    point_is_low(places, n);
-    Ok(Point {
+    Ok(PointKind {
         op: insn.op,
-        section: place.sec,
-        offset: place.off as u32,
         rare: told.rare,
-        owner: owners.number_by_guess(places, n, guess),
         transfer: told.transfer,
         len: insn.len,
         is_dead_end: points.arrivals().is_dead_end(n),
         may_return: told.may_return,
         is_entered: told.is_entered,
     })
+}
+
+/// The point with a number, whose kind has a number, where it is guessed where its owner stands.
+fn point_of(
+    points: &FlowPoints<'_, '_, '_>,
+    owners: &OwnerTable<'_, '_, '_>,
+    n: u32,
+    guess: u32,
+    kind: u32,
+) -> Point
+    requires point { n < count_of points.now }
+    requires owners { owners.now.elf ≡ points.now.elf }
+    ensures { IsPlaced points.now owners.now.owners n kind result }
+{
+    let places = points.places();
+    let place = places.point(n).place;
+    point_is_low(places, n);
+    Point {
+        section: place.sec,
+        offset: place.off as u32,
+        owner: owners.number_by_guess(places, n, guess),
+        kind,
+    }
+}
+
+/// Points, and what they have besides.
+#[derive(Drop)]
+pub(crate) struct PointList {
+    pub(crate) points: Vec<Point>,
+    pub(crate) kinds: Vec<PointKind>,
 }
 
 /// All points.
@@ -70,16 +92,17 @@ pub(crate) fn list_points(
     returns: &Returns,
     rares: &[u32],
     transfers: &[u32],
-) -> Result<Vec<Point>, NoMemory>
+) -> Result<PointList, NoMemory>
     requires owners { owners.now.elf ≡ points.now.elf }
     requires returns { HaveShape (count_of points.now) returns.now }
     requires entered { AreEntered points.now returns.now.entered.items (count_of points.now) }
     requires rares { length rares.now ≡ count_of points.now }
     requires transfers { length transfers.now ≡ count_of points.now }
-    ensures made { IfOk result (λ made. AreMade points.now owners.now.owners returns.now rares.now transfers.now made.items (count_of points.now)) }
-    ensures few { IfOk result (λ made. length made.items < 2 ^ 32) }
+    ensures made { IfOk result (λ list. AreMade points.now owners.now.owners returns.now rares.now transfers.now list.kinds.items list.points.items (count_of points.now)) }
+    ensures few { IfOk result (λ list. length list.points.items < 2 ^ 32) }
 {
     let count = count_points(points.places());
+    let mut table = KindTable::new(alloc)?;
     let mut made = Vec::with_capacity(alloc, count as usize)?;
     let mut guess = 0;
     for n in 0..count {
@@ -90,9 +113,14 @@ pub(crate) fn list_points(
             rare: rares[k],
             transfer: transfers[k],
         };
-        let point = point_of(alloc, points, owners, n, guess, told)?;
+        let kind = kind_of(alloc, points, n, told)?;
+        let number = table.number_of(kind)?;
+        let point = point_of(points, owners, n, guess, number);
         guess = point.owner;
         made.push(point)?;
     }
-    Ok(made)
+    Ok(PointList {
+        points: made,
+        kinds: table.kinds,
+    })
 }

@@ -7,6 +7,7 @@ use Rattle.program_defs.specs.Program.{edge}
 use Rattle.program_graph.specs.declared.parts.GraphParts.{GraphParts}
 use Rattle.program_graph.specs.declared.parts.Hinted.{Hinted}
 use Rattle.program_graph.specs.declared.parts.Point.{Point}
+use Rattle.program_graph.specs.declared.parts.PointKind.{PointKind}
 use Rattle.program_graph.specs.declared.parts.Rare.{Rare}
 
 -- the place in the list of edges where those of a point begin
@@ -26,16 +27,23 @@ pub record IsAlike (parts : GraphParts) (q r : ℕ) : Type 0 where
   pub own : Contains parts.alike.items r → ⊥
   pub edge : listed_of parts q ≡ edge r Table ∷ []
 
+-- what point q has that others have too
+pub record IsKindOf (parts : GraphParts) (q : ℕ) (k : PointKind) : Type 0 where
+  pub point : Point
+  pub at : slice_get parts.points.items q ≡ Some point
+  pub named : slice_get parts.kinds.items point.kind ≡ Some k
+
 -- what the parts name by a number is in their lists
 pub record HaveShape (parts : GraphParts) : Type 0 where
   -- points have numbers of 32 bits
   pub few : length parts.points.items < 2 ^ 32
-  -- each point has an owner, a transfer, and what may be rare
+  -- each point has an owner and a kind, and each kind a transfer, and what may be rare
   pub owners : (q : ℕ) (x : Point) → slice_get parts.points.items q ≡ Some x → x.owner < length parts.owners.items
-  pub transfers : (q : ℕ) (x : Point) → slice_get parts.points.items q ≡ Some x → x.transfer < length parts.transfers.items
-  pub rares : (q : ℕ) (x : Point) → slice_get parts.points.items q ≡ Some x → x.rare < length parts.rares.items
+  pub kinds : (q : ℕ) (x : Point) → slice_get parts.points.items q ≡ Some x → x.kind < length parts.kinds.items
+  pub transfers : (q : ℕ) (k : PointKind) → IsKindOf parts q k → k.transfer < length parts.transfers.items
+  pub rares : (q : ℕ) (k : PointKind) → IsKindOf parts q k → k.rare < length parts.rares.items
   -- where that names something of hints, it is there
-  pub hinted : (q h : ℕ) (x : Point) (r : Rare) → slice_get parts.points.items q ≡ Some x → slice_get parts.rares.items x.rare ≡ Some r → r.hinted ≡ Some h → h < length parts.hinted.items
+  pub hinted : (q h : ℕ) (k : PointKind) (r : Rare) → IsKindOf parts q k → slice_get parts.rares.items k.rare ≡ Some r → r.hinted ≡ Some h → h < length parts.hinted.items
   -- the edges of a point begin and end in the list of edges
   pub starts : length parts.starts.items ≡ length parts.points.items + 1
   pub ascending : (q : ℕ) → q < length parts.points.items → start_of parts q ≤ start_of parts (q + 1)

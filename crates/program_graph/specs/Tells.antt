@@ -8,6 +8,7 @@ use Rattle.checker_defs.specs.Kept.{edges_of, is_entry_point}
 use Rattle.program_graph.specs.declared.parts.GraphParts.{GraphParts}
 use Rattle.program_graph.specs.declared.parts.Hinted.{Hinted}
 use Rattle.program_graph.specs.declared.parts.Point.{Point}
+use Rattle.program_graph.specs.declared.parts.PointKind.{PointKind}
 use Rattle.program_graph.specs.declared.parts.Owner.{Owner}
 use Rattle.program_graph.specs.declared.parts.Previous.{Previous}
 use Rattle.program_graph.specs.declared.parts.Previous.TheVariants.{Below, Number, Nowhere}
@@ -77,22 +78,26 @@ pub record TellsOwner (p : Program) (q : ℕ) (x : Owner) : Type 0 where
   pub owner : p.owner q ≡ x.owner
   pub unchecked : p.unchecked q ≡ x.is_unchecked
 
-abbrev pub insn_of : Point → Insn
-insn_of x = record { len = x.len; op = x.op }
+abbrev pub insn_of : PointKind → Insn
+insn_of k = record { len = k.len; op = k.op }
 
 abbrev pub place_of : Point → Place
 place_of x = record { sec = x.section; off = x.offset }
 
+-- what point q has in the program beside its place and its owner
+pub record TellsKind (p : Program) (parts : GraphParts) (q : ℕ) (k : PointKind) : Type 0 where
+  pub insn : p.insn q ≡ insn_of k
+  pub dead_end : p.dead_end q ≡ k.is_dead_end
+  pub may_return : p.may_return q ≡ k.may_return
+  pub entered : is_entry_point p q ≡ k.is_entered
+  pub transfer : (t : Transfer) → slice_get parts.transfers.items k.transfer ≡ Some t → TellsTransfer p q t
+  pub rare : (r : Rare) → slice_get parts.rares.items k.rare ≡ Some r → TellsRare p parts q r
+
 -- what point q is in the program
 pub record TellsPoint (p : Program) (parts : GraphParts) (q : ℕ) (x : Point) : Type 0 where
-  pub insn : p.insn q ≡ insn_of x
   pub place : p.place q ≡ place_of x
-  pub dead_end : p.dead_end q ≡ x.is_dead_end
-  pub may_return : p.may_return q ≡ x.may_return
-  pub entered : is_entry_point p q ≡ x.is_entered
   pub owner : (o : Owner) → slice_get parts.owners.items x.owner ≡ Some o → TellsOwner p q o
-  pub transfer : (t : Transfer) → slice_get parts.transfers.items x.transfer ≡ Some t → TellsTransfer p q t
-  pub rare : (r : Rare) → slice_get parts.rares.items x.rare ≡ Some r → TellsRare p parts q r
+  pub kind : (k : PointKind) → slice_get parts.kinds.items x.kind ≡ Some k → TellsKind p parts q k
 
 -- The parts tell the program, as far as a checker looks at it.
 pub record Tells (p : Program) (parts : GraphParts) : Type 0 where

@@ -3,10 +3,12 @@
 ghost use Rattle.std.specs.Prelude.{◌≡◌, ◌+◌, ◌<◌, ◌≤◌, ◌↔◌, Some, ℕ, All, Contains, IfSome, IsTrue, MatchOption, length, map, slice_get, slice_range};
 ghost use Rattle.program_defs.specs.Program.{Program};
 ghost use Rattle.checker_defs.specs.Kept.{edges_of, is_entry_point};
-ghost use Rattle.program_graph.specs.Shape.{HaveShape, IsAlike, listed_of, start_of};
-ghost use Rattle.program_graph.specs.Tells.{Means, Tells, TellsHinted, TellsOwner, TellsRare, TellsTransfer, TellsUnhinted, site_of, text_of};
+ghost use Rattle.program_graph.specs.Shape.{HaveShape, IsAlike, IsKindOf, listed_of, start_of};
+ghost use Rattle.program_graph.specs.Tells.{Means, Tells, TellsHinted, TellsKind, TellsOwner, TellsRare, TellsTransfer, TellsUnhinted, site_of, text_of};
 
-use crate::parts::{GraphParts, Hinted, Owner, Point, Previous, Rare, Site, TextSection, Transfer};
+use crate::parts::{
+    GraphParts, Hinted, Owner, Point, PointKind, Previous, Rare, Site, TextSection, Transfer,
+};
 use operation_defs::Insn;
 use ot_base::Place;
 use program_defs::{Edge, EdgeKind, Marks, Role};
@@ -55,12 +57,21 @@ impl Graph {
         &self.parts.owners[self.point(n).owner as usize]
     }
 
+    /// What a point has that others have too.
+    fn kind(&self, n: u32) -> &PointKind
+        requires { n < length self.now.parts.points.items }
+        ensures told { (p : Program) → Tells p self.now.parts → TellsKind p self.now.parts n result.now }
+        ensures own { IsKindOf self.now.parts n result.now }
+    {
+        &self.parts.kinds[self.point(n).kind as usize]
+    }
+
     /// Where control may go from a point, beside its edges.
     fn transfer(&self, n: u32) -> &Transfer
         requires { n < length self.now.parts.points.items }
         ensures { (p : Program) → Tells p self.now.parts → TellsTransfer p n result.now }
     {
-        &self.parts.transfers[self.point(n).transfer as usize]
+        &self.parts.transfers[self.kind(n).transfer as usize]
     }
 
     /// What few points have otherwise than most, and what a point has of it.
@@ -69,7 +80,7 @@ impl Graph {
         ensures told { (p : Program) → Tells p self.now.parts → TellsRare p self.now.parts n result.now }
         ensures known { IfSome result.now.hinted (λ k. k < length self.now.parts.hinted.items) }
     {
-        &self.parts.rares[self.point(n).rare as usize]
+        &self.parts.rares[self.kind(n).rare as usize]
     }
 
     /// What a point has of hints, by its place in their list.
@@ -115,10 +126,10 @@ impl Graph {
         requires { n < length self.now.parts.points.items }
         ensures { (p : Program) → Tells p self.now.parts → result ≡ p.insn n }
     {
-        let point = self.point(n);
+        let kind = self.kind(n);
         Insn {
-            len: point.len,
-            op: point.op,
+            len: kind.len,
+            op: kind.op,
         }
     }
 
@@ -301,7 +312,7 @@ impl Graph {
         requires { n < length self.now.parts.points.items }
         ensures { (p : Program) → Tells p self.now.parts → result ≡ p.dead_end n }
     {
-        self.point(n).is_dead_end
+        self.kind(n).is_dead_end
     }
 
     /// Whether a return may come from a point on.
@@ -309,7 +320,7 @@ impl Graph {
         requires { n < length self.now.parts.points.items }
         ensures { (p : Program) → Tells p self.now.parts → result ≡ p.may_return n }
     {
-        self.point(n).may_return
+        self.kind(n).may_return
     }
 
     /// Whether control that comes to some entry may stand at a point.
@@ -317,7 +328,7 @@ impl Graph {
         requires { n < length self.now.parts.points.items }
         ensures { (p : Program) → Tells p self.now.parts → result ≡ is_entry_point p n }
     {
-        self.point(n).is_entered
+        self.kind(n).is_entered
     }
 
     /// Whether a point calls `__fentry__`.

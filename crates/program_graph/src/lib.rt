@@ -6,5 +6,6 @@ mod parts;
 
 pub use graph::Graph;
 pub use parts::{
-    GraphParts, Hinted, Owner, Point, Previous, Rare, Replaced, Site, TextSection, Transfer,
+    GraphParts, Hinted, Owner, Point, PointKind, Previous, Rare, Replaced, Site, TextSection,
+    Transfer,
 };

@@ -93,20 +93,14 @@ pub struct Transfer {
     pub calls_fentry: bool,
 }
 
-/// An instruction of the object's code, or one of a replacement. What many points have in common stands in lists of its
-/// own, and a point has the number.
+/// What a point has that others have too: all but where it stands and whose it is. Points of one kind mostly name it by
+/// one number.
 #[derive(Clone, Copy, Debug, PartialEq, Eq)]
-pub struct Point {
+pub struct PointKind {
     /// What its instruction does.
     pub op: Op,
-    /// The section of its bytes, by its number in the section header table.
-    pub section: u32,
-    /// Bytes from that section's start to its own.
-    pub offset: u32,
     /// Where in the list of what few points have its own stands.
     pub rare: u32,
-    /// Where in the list of owners its own stands.
-    pub owner: u32,
     /// Where in the list of transfers its own stands.
     pub transfer: u32,
     /// How many bytes its instruction has.
@@ -119,7 +113,23 @@ pub struct Point {
     pub is_entered: bool,
 }
 
-const _: () = prove!(size_of::<Point>() == 40);
+/// An instruction of the object's code, or one of a replacement. What many points have in common stands in lists of its
+/// own, and a point has the number.
+#[derive(Clone, Copy, Debug, PartialEq, Eq)]
+pub struct Point {
+    /// The section of its bytes, by its number in the section header table.
+    pub section: u32,
+    /// Bytes from that section's start to its own.
+    pub offset: u32,
+    /// Where in the list of owners its own stands.
+    pub owner: u32,
+    /// Where in the list of kinds its own stands.
+    pub kind: u32,
+}
+
+const _: () = prove!(size_of::<Point>() == 16);
+
+const _: () = prove!(size_of::<PointKind>() == 32);
 
 const _: () = prove!(size_of::<Transfer>() == 20);
 
@@ -129,8 +139,8 @@ const _: () = prove!(size_of::<Hinted>() == 88);
 
 /// What a graph is made of.
 ///
-/// A point takes 40 bytes, 4 for where its edges begin, and 8 for each edge. A transfer takes 20 bytes, what is rare 32, and
-/// a hint 88 more.
+/// A point takes 16 bytes, 4 for where its edges begin, and 8 for each edge. A kind takes 32 bytes, a transfer 20, what is
+/// rare 32, and a hint 88 more.
 #[derive(Drop)]
 pub struct GraphParts {
     /// The points by number.
@@ -145,6 +155,8 @@ pub struct GraphParts {
     pub alike: Vec<u32>,
     /// Whose code the points are.
     pub owners: Vec<Owner>,
+    /// What the points have besides.
+    pub kinds: Vec<PointKind>,
     /// Where control may go from the points.
     pub transfers: Vec<Transfer>,
     /// What few points have, and what usual ones have.

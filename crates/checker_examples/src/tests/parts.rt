@@ -4,7 +4,8 @@ use checker_model::may_return;
 use ot_base::{NoMemory, Place};
 use program_defs::{EdgeKind, Role};
 use program_graph::{
-    GraphParts, Hinted, Owner, Point, Previous, Rare, Replaced, Site, TextSection, Transfer,
+    GraphParts, Hinted, Owner, Point, PointKind, Previous, Rare, Replaced, Site, TextSection,
+    Transfer,
 };
 use program_model::{Point as ModelPoint, Program};
 use state_defs::HintState;
@@ -126,17 +127,20 @@ fn add_point(
         previous: previous(q, point),
         hinted,
     })?;
-    parts.points.push(Point {
+    parts.kinds.push(PointKind {
         op: point.insn.op,
-        section: point.place.sec,
-        offset: offset(point.place),
         rare: q,
-        owner: q,
         transfer: q,
         len: point.insn.len,
         is_dead_end: point.is_dead_end,
         may_return: returning.get(q as usize).copied().unwrap_or(false),
         is_entered: p.is_entry_point(q),
+    })?;
+    parts.points.push(Point {
+        section: point.place.sec,
+        offset: offset(point.place),
+        owner: q,
+        kind: q,
     })?;
     Ok(())
 }
@@ -157,6 +161,7 @@ fn without_points(alloc: Global, p: &Program) -> Result<GraphParts, AllocError> 
         edges: Vec::new(alloc),
         alike: Vec::new(alloc),
         owners: Vec::new(alloc),
+        kinds: Vec::new(alloc),
         transfers: Vec::new(alloc),
         rares: Vec::new(alloc),
         hinted: Vec::new(alloc),

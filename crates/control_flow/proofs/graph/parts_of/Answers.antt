@@ -15,11 +15,12 @@ returns c =
     let o : Coded = c.args.points.now in
     let lists = c.args.lists.now in
     let parts : GraphParts = record {
-      points = c.in_ok-made.made;
+      points = c.in_ok-made.field-0.points;
       starts = c.in_ok-returns.returns.starts;
       edges = c.in_ok-returns.returns.edges;
       alike = c.in_ok-edges.field-0.alike;
       owners = c.into_owners.result;
+      kinds = c.in_ok-made.field-0.kinds;
       transfers = c.in_ok-transfer_list.transfer_list.transfers;
       rares = c.in_ok-rares.field-0.rares;
       hinted = c.in_ok-rares.field-0.hinted;
@@ -29,7 +30,8 @@ returns c =
       without_size = c.in_ok-without_size.without_size;
     } in
     let returned = c.in_ok-returns.returns in
-    let made = c.in_ok-made.made.items in
+    let made = c.in_ok-made.field-0.points.items in
+    let kinds = c.in_ok-made.field-0.kinds.items in
     let rares : List ℕ = c.in_ok-rares.field-0.numbers.items in
     let transfers : List ℕ = c.in_ok-transfer_list.transfer_list.numbers.items in
     let restores : List ℕ = c.in_ok-hints.hints.restores in
@@ -37,14 +39,14 @@ returns c =
     let object : c.object-object.result.now ≡ o.elf = c.object-object.ensures ∙ ap (λ (e : Coded). e.elf) (c.linked.ensures ∙ places) in
     let same_rares : c.deref.result.now ≡ rares = cc in
     let same_transfers : c.deref-2.result.now ≡ transfers = cc in
-    let told : AreMade o c.in_ok-owners.owners.owners returned rares transfers made (count_of o) =
-    subst (λ (ts : List ℕ). AreMade o c.in_ok-owners.owners.owners returned rares ts made (count_of o)) same_transfers
-    (subst (λ (rs : List ℕ). AreMade o c.in_ok-owners.owners.owners returned rs c.deref-2.result.now made (count_of o)) same_rares c.in_ok-made.ensures.made) in
+    let told : AreMade o c.in_ok-owners.owners.owners returned rares transfers kinds made (count_of o) =
+    subst (λ (ts : List ℕ). AreMade o c.in_ok-owners.owners.owners returned rares ts kinds made (count_of o)) same_transfers
+    (subst (λ (rs : List ℕ). AreMade o c.in_ok-owners.owners.owners returned rs c.deref-2.result.now kinds made (count_of o)) same_rares c.in_ok-made.ensures.made) in
     let known : All (λ r. r < count_of o) restores = subst (λ (e : Coded). All (λ r. r < count_of e) restores) (c.in_ok-hints.ensures ∙ places) c.restores_are_points.ensures in
     let listed = c.in_ok-edges.field-0.edges in
     let are : AreParts o lists parts returned listed.starts.items listed.edges.items rares transfers = record {
       few = c.in_ok-made.ensures.few;
-      points = subst (λ (ws : List Owner). AreMade o ws returned rares transfers made (count_of o)) (sym c.into_owners.ensures) told;
+      points = subst (λ (ws : List Owner). AreMade o ws returned rares transfers kinds made (count_of o)) (sym c.into_owners.ensures) told;
       transfers = c.in_ok-transfer_list.ensures;
       rares = subst (λ (rs : List ℕ). AreRares o rs parts.rares.items parts.hinted.items rares (count_of o)) (sym c.into_restores.ensures) c.in_ok-rares.ensures;
       returns_shape = c.in_ok-returns.ensures.shape;

@@ -1,14 +1,28 @@
-use Rattle.std.proofs.Common.{◌≡◌, ◌+◌, ◌<◌, ℕ, List, None, Option, Some, length, sym, ap, ◌∙◌, subst, arith}
+use Rattle.std.proofs.Common.{◌≡◌, ◌+◌, ◌<◌, ℕ, List, [], None, Option, Some, length, sym, ap, ◌∙◌, subst, arith}
 use Rattle.std.specs.Prelude.{◌↔◌, slice_index_or}
 use Rattle.std.proofs.lemmas.List.{get_or_default}
 use Rattle.flow_defs.specs.Coded.{Coded}
 use Rattle.program_graph.specs.declared.parts.Point.{Point}
+use Rattle.program_graph.specs.declared.parts.PointKind.{PointKind}
 use Rattle.point_entries.specs.Entered.{IsEnteredAt}
 use Rattle.point_entries.proofs.Standing.{program_enters}
 use Rattle.control_flow.specs.Listed.{count_of}
+use Rattle.control_flow.specs.Numbers.{IsNumbered}
 use Rattle.control_flow.specs.Points.{AreMade}
-use Rattle.control_flow.proofs.Making.{made_at, made_more}
+use Rattle.control_flow.proofs.Making.{IsKindAt, kind_at, made_more, none_made}
 use Rattle.control_flow.proofs.points.list_points.Goals as goal
+
+pub loop-n-init : goal.loop-n-init
+loop-n-init c =
+    let o : Coded = c.args.points.now in
+    let owners = c.args.owners.now.owners in
+    let returns = c.args.returns.now in
+    let rares : List ℕ = c.args.rares.now in
+    let transfers : List ℕ = c.args.transfers.now in (
+      subst (λ (items : List Point). AreMade o owners returns rares transfers c.in_ok-table.table.kinds.items items 0) (sym c.in_ok-made.ensures.items)
+          (subst (λ (kinds : List PointKind). AreMade o owners returns rares transfers kinds [] 0) (sym c.in_ok-table.ensures) (none_made o owners returns rares transfers)),
+      omega (arith, ap length c.in_ok-table.ensures),
+    )
 
 pub loop-n-preserved : goal.loop-n-preserved
 loop-n-preserved c =
@@ -17,18 +31,24 @@ loop-n-preserved c =
     let returns = c.args.returns.now in
     let rares : List ℕ = c.args.rares.now in
     let transfers : List ℕ = c.args.transfers.now in
+    let before : List PointKind = c.loop-n.table.kinds.items in
+    let after : List PointKind = c.number_of.new.self.kinds.items in
     let n : ℕ = c.loop-n.n in
-    let x : Point = c.in_ok-point.point in
+    let k : PointKind = c.in_ok-kind.kind in
+    let x : Point = c.point_of-point.result in
     let inside : n < count_of o = omega (arith, c.count_points-count.ensures, ap count_of c.places.ensures) in
     let in_may : n < length returns.may_return.items = omega (arith, c.requires.returns.may_return) in
     let in_rares : n < length rares = omega (arith, c.requires.rares) in
     let in_transfers : n < length transfers = omega (arith, c.requires.transfers) in
-    subst (λ (items : List Point). AreMade o owners returns rares transfers items (n + 1)) (sym c.in_ok-push.ensures.items)
-    (made_more o owners returns rares transfers c.loop-n.made.items n x c.loop-n.invariant
-    (made_at o owners returns rares transfers n x _ _ _ in_may c.index.ensures (get_or_default rares n _ 0 in_rares) (get_or_default transfers n _ 0 in_transfers) c.in_ok-point.ensures))
+    let kind : IsKindAt o owners returns rares transfers n k = kind_at o owners returns rares transfers n k _ _ _ in_may c.index.ensures (get_or_default rares n _ 0 in_rares) (get_or_default transfers n _ 0 in_transfers) c.in_ok-kind.ensures in
+    let numbered : IsNumbered before after k c.in_ok-number.number = c.in_ok-number.ensures in (
+      subst (λ (items : List Point). AreMade o owners returns rares transfers after items (n + 1)) (sym c.in_ok-push.ensures.items)
+          (made_more o owners returns rares transfers before after k c.in_ok-number.number c.loop-n.made.items n x c.loop-n.invariant.0 numbered kind c.point_of-point.ensures),
+      omega (arith, numbered.short, c.loop-n.invariant.1),
+    )
 
-pub point_of-requires-clause-entered : goal.point_of-requires-clause-entered
-point_of-requires-clause-entered c = λ lists.
+pub kind_of-requires-clause-entered : goal.kind_of-requires-clause-entered
+kind_of-requires-clause-entered c = λ lists.
     let o : Coded = c.args.points.now in
     let n : ℕ = c.loop-n.n in
     let entered : List (Option ℕ) = c.args.returns.now.entered.items in
