@@ -5,7 +5,7 @@ ghost use Rattle.std.specs.List.Sorted.{IsNonDecreasing};
 ghost use Rattle.program_graph.specs.Shape.{HaveShape, IsAlike, first_target, start_of};
 
 use program_defs::Edge;
-use program_graph::{Graph, GraphParts, Hinted, Point, Rare, Site};
+use program_graph::{Graph, GraphParts, Hinted, Point, PointKind, Rare, Site};
 
 /// Whether the owner of each point is one of so many.
 fn owners_are_there(points: &[Point], owners: usize) -> bool
@@ -14,20 +14,27 @@ fn owners_are_there(points: &[Point], owners: usize) -> bool
     points.iter().all(|point| (point.owner as usize) < owners)
 }
 
-/// Whether the transfer of each point is one of so many.
-fn transfers_are_there(points: &[Point], transfers: usize) -> bool
-    ensures { IsTrue result → All (λ x. x.transfer < transfers) points.now }
+/// Whether the kind of each point is one of so many.
+fn kinds_are_there(points: &[Point], kinds: usize) -> bool
+    ensures { IsTrue result → All (λ x. x.kind < kinds) points.now }
 {
-    points
-        .iter()
-        .all(|point| (point.transfer as usize) < transfers)
+    points.iter().all(|point| (point.kind as usize) < kinds)
 }
 
-/// Whether what each point names rare is one of so many.
-fn rares_are_there(points: &[Point], rares: usize) -> bool
-    ensures { IsTrue result → All (λ x. x.rare < rares) points.now }
+/// Whether the transfer of each kind is one of so many.
+fn transfers_are_there(kinds: &[PointKind], transfers: usize) -> bool
+    ensures { IsTrue result → All (λ k. k.transfer < transfers) kinds.now }
 {
-    points.iter().all(|point| (point.rare as usize) < rares)
+    kinds
+        .iter()
+        .all(|kind| (kind.transfer as usize) < transfers)
+}
+
+/// Whether what each kind names rare is one of so many.
+fn rares_are_there(kinds: &[PointKind], rares: usize) -> bool
+    ensures { IsTrue result → All (λ k. k.rare < rares) kinds.now }
+{
+    kinds.iter().all(|kind| (kind.rare as usize) < rares)
 }
 
 /// Whether what each rare one names of hints is one of so many.
@@ -89,13 +96,15 @@ fn none_is_alike(parts: &GraphParts) -> bool
 /// Whether what the points name by a number is in the lists of the parts.
 fn points_are_whole(parts: &GraphParts) -> bool
     ensures owners { IsTrue result → All (λ x. x.owner < length parts.now.owners.items) parts.now.points.items }
-    ensures transfers { IsTrue result → All (λ x. x.transfer < length parts.now.transfers.items) parts.now.points.items }
-    ensures rares { IsTrue result → All (λ x. x.rare < length parts.now.rares.items) parts.now.points.items }
+    ensures kinds { IsTrue result → All (λ x. x.kind < length parts.now.kinds.items) parts.now.points.items }
+    ensures transfers { IsTrue result → All (λ k. k.transfer < length parts.now.transfers.items) parts.now.kinds.items }
+    ensures rares { IsTrue result → All (λ k. k.rare < length parts.now.rares.items) parts.now.kinds.items }
     ensures hinted { IsTrue result → All (λ x. IfSome x.hinted (λ k. k < length parts.now.hinted.items)) parts.now.rares.items }
 {
     owners_are_there(parts.points.as_slice(), parts.owners.len())
-        && transfers_are_there(parts.points.as_slice(), parts.transfers.len())
-        && rares_are_there(parts.points.as_slice(), parts.rares.len())
+        && kinds_are_there(parts.points.as_slice(), parts.kinds.len())
+        && transfers_are_there(parts.kinds.as_slice(), parts.transfers.len())
+        && rares_are_there(parts.kinds.as_slice(), parts.rares.len())
         && hinted_are_there(parts.rares.as_slice(), parts.hinted.len())
 }
 
