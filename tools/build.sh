@@ -20,8 +20,10 @@ if [ ! -x "$program" ] || [ ! -e "$proved" ] || [ "$(sums "$made_of")" != "$(cat
     wait "$prover" || exit 1
     mkdir -p "$out"
     rm -f "$proved"
+    # (Rattle's own compiler may leave a program to LLVM alone)
     for made in objtool objtool.by-rattle; do
-        [ ! -e "$scratch/copy/crates/objtool/out/$made" ] || { cp "$scratch/copy/crates/objtool/out/$made" "$out/$made.new" && mv "$out/$made.new" "$out/$made"; }
+        rm -f "$out/$made"
+        [ ! -e "$scratch/copy/crates/objtool/out/$made" ] || cp "$scratch/copy/crates/objtool/out/$made" "$out/$made"
     done
     sums "$made_of" >"$proved"
 fi

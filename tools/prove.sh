@@ -5,8 +5,9 @@
 #   prove.sh FOLDER NAME [FILE]
 # FOLDER is where the copy is laid, unless it was laid there before; the program then is FOLDER/crates/NAME/out/NAME, and what
 # Rattle's own compiler makes of it stands beside it as NAME.by-rattle. NAME is a program of crates.txt. With FILE it is a program
-# of one file, whose first line says what it uses, `// uses: LIBRARY ..`. With LAY set the copy is only laid, and what is printed is
-# a sum of all that a proof of it reads.
+# of one file, whose first line says what it uses, `// uses: LIBRARY ..`; rt tries it on the words of the file `args` beside it, one a
+# line, and it has to print what the file `stdout` has. With LAY set the copy is only laid, and what is printed is a sum of all that a
+# proof of it reads.
 # Tells each crate on the standard error as it is done. Where anything isn't proved it prints what rt said and ends with status 1.
 set -eu -o pipefail
 root=$(cd "$(dirname "$0")/.." && pwd)
@@ -42,6 +43,10 @@ lay() {
         echo "$name: $uses" >>"$folder/crates.new"
         mkdir -p "$folder/crates/$name/src"
         cp "$file" "$folder/crates/$name/src/main.rt"
+        local beside
+        for beside in args stdout; do
+            [ ! -e "$(dirname "$file")/$beside" ] || cp "$(dirname "$file")/$beside" "$folder/crates/$name/$beside"
+        done
     else
         needed "$name" >"$folder/crates.new"
         libraries=$(sed 's/[ :].*//' "$folder/crates.new")
@@ -71,7 +76,7 @@ told() {
     while IFS= read -r line; do
         crate=${line#rt: }
         case $line in
-            "rt: "*" NOT PROVED"*) echo "prove: $crate" ;;
+            "rt: "*" NOT PROVED"* | "rt: "*": its tests are proved") echo "prove: $crate" ;;
             "rt: "*" proved") number=$((number + 1)) && echo "prove: $number of $number_of: $crate" ;;
             "rt: "*" is kept: "*) number=$((number + 1)) && echo "prove: $number of $number_of: ${crate%% *} was proved by an earlier run" ;;
             "rt: waiting "* | "rt: note: "* | "rt: "*" waiting for it" | "rt: $name ran"*) echo "prove: $crate" ;;
@@ -96,5 +101,5 @@ if [ "$status" -ne 0 ] || [ ! -x "$folder/crates/$name/out/$name" ]; then
         block != "" { if (/^rt: .* proved$/ && !/NOT PROVED$/) block = ""; else { block = block "\n" $0; if (/^rt: .* NOT PROVED$/) { print block; block = "" } } next }
         !/ is kept: / { print }
         END { if (block != "") print block }' "$log" | sed "s|$folder/||g" >&2
-    failed "$name isn't built, since not all of it is proved"
+    failed "$name isn't built: rt said the above"
 fi
