@@ -104,6 +104,7 @@ else
 fi
 mkdir closed && cp in.o closed/same.o && chmod 555 closed && chmod 444 closed/same.o
 refused "a closed folder" unable in.o closed/new.o
+chmod 755 closed
 mkdir open && chmod 777 open && cp in.o open/same.o && chmod 444 open/same.o
 refused "a file that may not be written" unable in.o open/same.o
 cmp -s open/same.o in.o || failed "a file that may not be written was replaced"

@@ -4,6 +4,8 @@
 root=$(cd "$(dirname "${BASH_SOURCE[0]}")/.." && pwd)
 scratch=$(mktemp -d)
 trap 'rm -rf "$scratch"' EXIT
+# (a script may go elsewhere before it asks)
+[ -z "${OBJTOOL:-}" ] || OBJTOOL=$(realpath "$OBJTOOL")
 
 needs() {
     local name=$1 tool missing=
@@ -15,7 +17,7 @@ built() {
     if [ -z "${OBJTOOL:-}" ]; then
         "$root/tools/build.sh"
     elif [ -x "$OBJTOOL" ]; then
-        realpath "$OBJTOOL"
+        echo "$OBJTOOL"
     else
         echo "OBJTOOL names no program: $OBJTOOL" >&2
         return 1
