@@ -16,7 +16,7 @@ findutils find xargs
 diffutils cmp diff
 coreutils basename cut fold head mktemp mkfifo paste sha256sum sort stat tail touch tr wc
 mount mount umount
-util-linux setpriv
+util-linux prlimit setpriv
 "
 # lacking: the packages of which something is missing.
 lacking() {
