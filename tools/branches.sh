@@ -3,7 +3,7 @@
 # and `readelf` tell: each has the role and the edges that its target asks for, and no other.
 #   branches.sh FOLDER..
 # The objects are those below the folders (*.o), as of a kernel's build. GRAPHS names a program that prints the graphs; where it
-# isn't given, tools/graphs is proved and built. Ends with status 1 where a branch is different. Skipped where a tool is missing.
+# isn't given, tools/graphs is proved and built. Ends with status 1 where a branch is different.
 set -eu
 . "$(dirname "$0")/prepare.sh"
 needs "branches" objdump readelf python3

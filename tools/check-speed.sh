@@ -1,7 +1,6 @@
 #!/usr/bin/env bash
 # How fast `check` goes over an object of 16 MB of straight code, in which the depth changes 850,000 times, beside
-# `objdump -d` over the same object: the processor time of each. Run at the top of the repository. Skipped where a tool is
-# missing.
+# `objdump -d` over the same object: the processor time of each. Run at the top of the repository.
 set -eu
 . "$(dirname "$0")/prepare.sh"
 needs "check speed" as ld objdump awk
@@ -17,10 +16,7 @@ cd "$root"
 as -o "$scratch/assembled.o" "$scratch/leaf.s"
 ld -r -o "$scratch/leaf.o" "$scratch/assembled.o"
 
-# The program, built and proved where that was not done.
-(cd crates/objtool && rt run -- check "$scratch/none" "$scratch/none") >/dev/null 2>&1 || true
-program=$root/crates/objtool/out/objtool
-[ -x "$program" ] || { echo "check speed: the program isn't built"; exit 1; }
+program=$(built)
 
 # The processor time of a command in microseconds, the least of three runs.
 TIMEFORMAT='%U %S'

@@ -1,6 +1,6 @@
 #!/usr/bin/env bash
 # How fast 16 MB of code are decoded by each opcode map, beside `objdump -d` over the same bytes. The code is what gcc makes of a few
-# functions, again and again. Run at the top of the repository. Skipped where a tool is missing.
+# functions, again and again. Run at the top of the repository.
 set -eu
 . "$(dirname "$0")/prepare.sh"
 needs "decode speed" gcc objcopy objdump

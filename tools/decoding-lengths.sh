@@ -4,7 +4,7 @@
 # With --all-opcodes the whole opcode map decodes it, else the base map.
 # Tells how many instructions objdump knows, how many are decoded with another length, and which are refused, by their names. DECODING names
 # a program that prints what is decoded; where it isn't given, that of tools/decoding is proved and built. Ends with status 1 where a
-# length is different. Skipped where a tool is missing.
+# length is different.
 set -eu
 . "$(dirname "$0")/prepare.sh"
 needs "decoding lengths" python3 objdump

@@ -4,7 +4,7 @@
 #   decoding.sh [TIMES]
 # TIMES is how many lots of prefixes are drawn, 1 where it isn't given. DECODING and MOVES name programs that print what is decoded, and
 # the moves; where they aren't given, those of tools/decoding and tools/moves are proved and built. Ends with status 1 where something
-# is different. Skipped where a tool is missing.
+# is different.
 set -eu
 . "$(dirname "$0")/prepare.sh"
 needs "decoding" python3

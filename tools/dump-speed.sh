@@ -1,13 +1,13 @@
 #!/usr/bin/env bash
 # How fast `dump` prints the rows of a kernel module, beside Linux's own objtool and `readelf -x` of the same sections: the
 # processor time of each, the least of three runs. dump-speed.sh MODULE OBJTOOL: a module (.ko), and Linux's objtool; as
-# kernel-modules.sh fetches them. Skipped where a tool is missing.
+# kernel-modules.sh fetches them.
 set -eu
 . "$(dirname "$0")/prepare.sh"
 needs "dump speed" readelf awk
-[ $# -ge 2 ] || { echo "dump speed: skipped, it takes a module and Linux's objtool"; exit 0; }
+[ $# -ge 2 ] || { echo "usage: dump-speed.sh MODULE OBJTOOL"; exit 2; }
 cd "$root"
-program=${OBJTOOL:-$(tools/build.sh)}
+program=$(built)
 
 TIMEFORMAT='%U %S'
 least() {

@@ -2,12 +2,10 @@
 # What the built program leaves behind where the disk fails or the program is killed: OUT is what it was, whole, or the new
 # file, whole; IN is as it was; and after a failure no new file is there. Beside that a new file's permissions, and those of a
 # file that is checked in its place, are as after objcopy. output-in-place.sh has what a write does that doesn't fail.
-# Skipped where a tool is missing.
 set -eu
 . "$(dirname "$0")/prepare.sh"
-needs "failing disk" gcc as ld objcopy stat cmp df
-program=${OBJTOOL:-$root/crates/objtool/out/objtool}
-[ -x "$program" ] || { echo "failing disk: skipped, the program isn't built"; exit 0; }
+needs "failing disk" gcc as ld objcopy stat cmp df setpriv
+program=$(built)
 failed() { echo "failing disk: $*"; exit 1; }
 
 # The calls that change files, of which the one whose number CALL holds does what HOW says, and makes the file MARK: `kill`
@@ -277,22 +275,19 @@ echo "failing disk: devices, and no output"
 chmod 711 "$scratch"
 cp "$program" objtool
 nobody="setpriv --reuid 65534 --regid 65534 --clear-groups"
-if [ "$(id -u)" = 0 ] && $nobody ./objtool --version >/dev/null 2>&1; then
-    program=$scratch/objtool
-    for mode in 1777 755; do
-        for case in new old link; do
-            lay "$case"
-            chmod "$mode" place
-            [ -z "$before" ] || chmod 666 "$target"
-            checks $nobody
-            answered "$case, a folder of mode $mode"
-            [ "$status" = 4 ] || [ "$case $mode" = "new 1777" ] || failed "$case, a folder of mode $mode: status $status"
-        done
+[ "$(id -u)" = 0 ] && $nobody ./objtool --version >/dev/null || failed "someone else's folders: only root can try them, and $nobody has to work"
+program=$scratch/objtool
+for mode in 1777 755; do
+    for case in new old link; do
+        lay "$case"
+        chmod "$mode" place
+        [ -z "$before" ] || chmod 666 "$target"
+        checks $nobody
+        answered "$case, a folder of mode $mode"
+        [ "$status" = 4 ] || [ "$case $mode" = "new 1777" ] || failed "$case, a folder of mode $mode: status $status"
     done
-    echo "failing disk: someone else's folders"
-else
-    echo "failing disk: someone else's folders are skipped, no other user can run the program"
-fi
+done
+echo "failing disk: someone else's folders"
 
 # Permissions as after objcopy: of a new file, and of a file in its own place.
 for mask in 022 027 077; do

@@ -1,8 +1,7 @@
 #!/usr/bin/env bash
 # Reads the functions and relocations of objects, and compares the functions and their sizes with those of `nm -S`, and each
 # relocation and the place that it names with those of `readelf -r`. functions.sh [FOLDER..]: besides the objects that gcc
-# and the assembler make, those below the folders (*.o), as of a kernel's build. Run at the top of the repository. Skipped
-# where a tool is missing.
+# and the assembler make, those below the folders (*.o), as of a kernel's build. Run at the top of the repository.
 set -eu
 . "$(dirname "$0")/prepare.sh"
 needs "functions" gcc as nm readelf python3

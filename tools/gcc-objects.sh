@@ -1,12 +1,11 @@
 #!/usr/bin/env bash
 # Checks what gcc compiles from tools/gcc-objects/*.c, as the kernel's code is compiled, once as it is and once with frame
 # pointers: each object is accepted, and at each address of each function the frame's top, and where rbp is saved, are those
-# that gcc tells in its own .eh_frame. Skipped where a tool is missing.
+# that gcc tells in its own .eh_frame.
 set -eu
 . "$(dirname "$0")/prepare.sh"
 needs "gcc objects" gcc readelf python3
-program=${OBJTOOL:-$root/crates/objtool/out/objtool}
-[ -x "$program" ] || { echo "gcc objects: skipped, the program isn't built"; exit 0; }
+program=$(built)
 
 # The kernel's own flags, which leave no padding within functions and no room below rsp; and frames told for every address.
 flags="-O2 -ffreestanding -fno-pic -mcmodel=kernel -mno-red-zone -mpreferred-stack-boundary=3 -mskip-rax-setup"

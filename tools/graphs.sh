@@ -3,7 +3,7 @@
 # written down by hand, one for each feature, and over made-up ones.
 #   graphs.sh [COUNT [SEED]]
 # COUNT is how many are made up, 1000 where it isn't given, and SEED is 1. GRAPHS names a program that prints the graphs; where it
-# isn't given, tools/graphs is proved and built. Ends with status 1 where a graph is different. Skipped where a tool is missing.
+# isn't given, tools/graphs is proved and built. Ends with status 1 where a graph is different.
 set -eu
 . "$(dirname "$0")/prepare.sh"
 needs "graphs" python3

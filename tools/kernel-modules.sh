@@ -3,22 +3,22 @@
 # the same modules.
 #   kernel-modules.sh                 fetches the newest cloud kernel 6.12 of Debian, and its objtool
 #   kernel-modules.sh FOLDER OBJTOOL  takes the modules below a folder (.ko, .ko.xz), and that objtool
-# It isn't part of `.ci/run`. Skipped where a tool is missing.
+# It isn't part of `.ci/run`.
 set -eu
 . "$(dirname "$0")/prepare.sh"
 needs "kernel modules" xz awk sed
 cd "$root"
-program=$(tools/build.sh)
+program=$(built)
 
 if [ $# -ge 2 ]; then
     modules=$1 linux=$2
 else
     needs "kernel modules" apt-get apt-cache dpkg
     image=$(apt-cache search --names-only '^linux-image-6\.12.*-cloud-amd64-unsigned$' | awk '{ print $1 }' | sort -V | tail -n 1)
-    [ -n "$image" ] || { echo "kernel modules: skipped, no package of a kernel 6.12"; exit 0; }
+    [ -n "$image" ] || { echo "kernel modules: FAILED, no package of a kernel 6.12"; exit 1; }
     kbuild=linux-kbuild-${image#linux-image-}
     kbuild=${kbuild%-cloud-amd64-unsigned}
-    (cd "$scratch" && apt-get -q download "$image" "$kbuild" >/dev/null 2>&1) || { echo "kernel modules: skipped, $image can't be fetched"; exit 0; }
+    (cd "$scratch" && apt-get -q download "$image" "$kbuild" >/dev/null 2>&1) || { echo "kernel modules: FAILED, $image can't be fetched"; exit 1; }
     for package in "$scratch"/*.deb; do dpkg -x "$package" "$scratch/root"; done
     modules=$scratch/root/lib/modules
     linux=$(find "$scratch/root" -name objtool.real-x86)

@@ -14,7 +14,7 @@ folder=$(cd "$1" && pwd)
 options=${2-}
 expected=$folder/expected${2:+-all-opcodes}
 cd "$root"
-program=${OBJTOOL:-$(tools/build.sh)}
+program=$(built)
 cd "$scratch"
 
 accepted=0 warned=0 refused=0 as_expected=0 differ=0 same_rows=0 other_rows=0

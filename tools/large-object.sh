@@ -7,8 +7,7 @@
 # FOLDER has the objects, OBJTOOL is Linux's objtool, else none is compared; the sizes of text are 1, 4 and 16 MB where none is
 # given, the last as far as `check` takes it. These are counted by a program of its own, which is proved first and
 # not timed; NO_COUNT=1 leaves it out. OBJTOOL=PROGRAM times that program in place of the one that is built, COUNTER=PROGRAM
-# counts by that one. Each time is the least of three runs. It is a benchmark: nothing is asked of the times. Skipped where a
-# tool is missing.
+# counts by that one. Each time is the least of three runs. It is a benchmark: nothing is asked of the times.
 set -eu
 . "$(dirname "$0")/prepare.sh"
 needs "large object" python3 ld objcopy readelf
@@ -18,7 +17,7 @@ linux=
 if [ $# -ge 2 ] && [ -n "$2" ]; then linux=$(realpath "$2"); fi
 sizes=("${@:3}")
 [ ${#sizes[@]} -gt 0 ] || sizes=(1 4 16)
-program=${OBJTOOL:-$("$root/tools/build.sh")}
+program=$(built)
 counter=
 if [ -z "${NO_COUNT:-}" ] && [ -z "${COUNTER:-}" ]; then
     "$root/tools/with-library.sh" "$scratch" large_object "$root/tools/large-object/main.rt.txt"

@@ -6,7 +6,7 @@
 # PYTHON names the interpreter, python3 where it isn't given: pypy3 is several times as fast. JOBS is how many processes share them,
 # one a processor where it isn't given. KEPT names the folder in which
 # objects with different answers are kept. OBJECTS names a folder of real objects, NAME.o, that are changed by lot too. Ends with
-# status 1 where an answer is different. Skipped where a tool is missing.
+# status 1 where an answer is different.
 set -eu
 . "$(dirname "$0")/prepare.sh"
 python=${PYTHON:-python3}
@@ -14,7 +14,7 @@ needs "made-up objects" "$python"
 count=${1:-1000} seed=${2:-1} program=${3:-}
 kept=${KEPT:-${TMPDIR:-/tmp}/made-up-objects}
 cd "$root"
-[ -n "$program" ] || program=$(tools/build.sh)
+[ -n "$program" ] || program=$(built)
 export PYTHONDONTWRITEBYTECODE=1
 "$python" tools/model/worked.py
 "$python" tools/model/made_up.py "$program" "$count" "$seed" "$kept" ${OBJECTS:+"$OBJECTS"}

@@ -1,7 +1,7 @@
 #!/usr/bin/env bash
 # How long it takes to read the type of each section and symbol, and to compare each name, in an object of about 64 MB
 # whose 5,000 sections and 100,000 symbols share names of megabytes, beside `readelf -SW` over the same file: the least
-# time of five runs of each. Run at the top of the repository. Skipped where a tool is missing.
+# time of five runs of each. Run at the top of the repository.
 set -eu
 . "$(dirname "$0")/prepare.sh"
 needs "name speed" python3 readelf

@@ -3,8 +3,7 @@
 # object of a folder, and on one made of all of them by `ld -r`.
 #   object-speed.sh FOLDER            fetches Linux's objtool (package linux-kbuild-6.12*)
 #   object-speed.sh FOLDER OBJTOOL    takes that one
-# The processor time of each run is the least of three, the memory the most that was held. It isn't part of `.ci/run`. Skipped where
-# a tool is missing.
+# The processor time of each run is the least of three, the memory the most that was held. It isn't part of `.ci/run`.
 set -eu
 . "$(dirname "$0")/prepare.sh"
 needs "object speed" ld python3
@@ -16,12 +15,12 @@ if [ $# -ge 2 ]; then
 else
     needs "object speed" apt-get apt-cache dpkg
     kbuild=$(apt-cache search --names-only '^linux-kbuild-6\.12' | awk '{ print $1 }' | sort -V | tail -n 1)
-    [ -n "$kbuild" ] || { echo "object speed: skipped, no package linux-kbuild-6.12"; exit 0; }
-    (cd "$scratch" && apt-get -q download "$kbuild" >/dev/null 2>&1) || { echo "object speed: skipped, $kbuild can't be fetched"; exit 0; }
+    [ -n "$kbuild" ] || { echo "object speed: FAILED, no package linux-kbuild-6.12"; exit 1; }
+    (cd "$scratch" && apt-get -q download "$kbuild" >/dev/null 2>&1) || { echo "object speed: FAILED, $kbuild can't be fetched"; exit 1; }
     for package in "$scratch"/*.deb; do dpkg -x "$package" "$scratch/root"; done
     linux=$(find "$scratch/root" -name objtool.real-x86)
 fi
-program=${OBJTOOL:-$(tools/build.sh)}
+program=$(built)
 cd "$scratch"
 ld -r -o all.o "$folder"/*.o 2>/dev/null || rm -f all.o
 PROGRAM=$program LINUX=$linux FOLDER=$folder python3 - <<'PYTHON'

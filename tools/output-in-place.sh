@@ -1,15 +1,17 @@
 #!/usr/bin/env bash
 # How the built program puts OUT in its place: in one step, so that a write that fails, also one over IN itself, leaves
 # every file as it was and no other file behind; with the permissions of the file that stood there; to the target of a
-# symbolic link; and where it is, what is no regular file. Skipped where a tool is missing.
+# symbolic link; and where it is, what is no regular file.
 set -eu
 . "$(dirname "$0")/prepare.sh"
-needs "output in place" as ld stat cmp
-program=$root/crates/objtool/out/objtool
-[ -x "$program" ] || { echo "output in place: skipped, the program isn't built"; exit 0; }
+needs "output in place" gcc as ld stat cmp mkfifo setpriv
+made=$(built)
 failed() { echo "output in place: $*"; exit 1; }
 
 cd "$scratch"
+# Where each user can run it.
+cp "$made" objtool && chmod 755 objtool
+program=$scratch/objtool
 printf '\t.text\n\t.type leaf, @function\nleaf:\n\tpush %%rbx\n\tpop %%rbx\n\tret\n\t.size leaf, .-leaf\n' >leaf.s
 as -o assembled.o leaf.s
 ld -r -o in.o assembled.o
@@ -58,34 +60,51 @@ refused "a limit, a new file" limited in.o full/new.o
 nothing_left full
 echo "output in place: a limit on sizes leaves IN as it was"
 
-# A full disk.
+# A full disk: of memory, where one can be mounted, and else each write to a file fails as on one.
 mkdir disk
+cp in.o disk/same.o
 if mount -t tmpfs -o size=8k none disk 2>/dev/null; then
     trap 'umount "$scratch/disk" 2>/dev/null || true; rm -rf "$scratch"' EXIT
     cp in.o disk/same.o
     head -c 8192 /dev/zero >disk/filler 2>/dev/null || true
     refused "a full disk, over IN" "$program" check disk/same.o disk/same.o
-    cmp -s disk/same.o in.o || failed "a full disk lost IN"
-    nothing_left disk
-    umount disk
-    echo "output in place: a full disk leaves IN as it was"
+    how="mounted"
 else
-    echo "output in place: a full disk is skipped, no tmpfs can be mounted"
+    cat >full.c <<'C'
+#define _GNU_SOURCE
+#include <dlfcn.h>
+#include <errno.h>
+#include <unistd.h>
+
+ssize_t write(int file, const void *bytes, size_t count)
+{
+	ssize_t (*real)(int, const void *, size_t) = dlsym(RTLD_NEXT, "write");
+
+	if (file <= 2)
+		return real(file, bytes, count);
+	errno = ENOSPC;
+	return -1;
+}
+C
+    gcc -O1 -shared -fPIC -o full.so full.c -ldl
+    refused "a full disk, over IN" env LD_PRELOAD="$scratch/full.so" "$program" check disk/same.o disk/same.o
+    how="played"
 fi
+cmp -s disk/same.o in.o || failed "a full disk lost IN"
+nothing_left disk
+[ "$how" != mounted ] || umount disk
+echo "output in place: a full disk ($how) leaves IN as it was"
 
 # A user who may not write there.
-if [ "$(id -u)" = 0 ] && command -v setpriv >/dev/null; then
+if [ "$(id -u)" = 0 ]; then
     unable() { setpriv --reuid 65534 --regid 65534 --clear-groups "$program" check "$@"; }
     chmod 755 "$scratch" && chmod 644 in.o
 else
     unable() { "$program" check "$@"; }
 fi
 mkdir closed && cp in.o closed/same.o && chmod 555 closed && chmod 444 closed/same.o
-if unable in.o pipe.o >/dev/null 2>&1 || [ $? != 4 ]; then
-    echo "output in place: a closed folder is skipped, no other user can run the program"
-    exit 0
-fi
 refused "a closed folder" unable in.o closed/new.o
+chmod 755 closed
 mkdir open && chmod 777 open && cp in.o open/same.o && chmod 444 open/same.o
 refused "a file that may not be written" unable in.o open/same.o
 cmp -s open/same.o in.o || failed "a file that may not be written was replaced"

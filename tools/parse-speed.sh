@@ -1,6 +1,6 @@
 #!/usr/bin/env bash
 # How fast an object of about 60 MB with 60,000 sections and 2,000,000 symbols is parsed, beside `readelf -SWs` over the
-# same file: the least time of five runs of each. Run at the top of the repository. Skipped where a tool is missing.
+# same file: the least time of five runs of each. Run at the top of the repository.
 set -eu
 . "$(dirname "$0")/prepare.sh"
 needs "parse speed" python3 readelf

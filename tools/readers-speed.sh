@@ -2,7 +2,7 @@
 # How long it takes to read what an object says of its code, and to look it up for each of its instructions, beside
 # `readelf -SWsr` over the same file: 5 MB of text, 60,000 functions, 400,000 relocations, 20,000 alternatives. And then the
 # same where 1,000 jumps share a table of 1,000,000 entries. Of each the least time of five runs. Run at the top of the
-# repository. Skipped where a tool is missing.
+# repository.
 set -eu
 . "$(dirname "$0")/prepare.sh"
 needs "readers speed" python3 readelf

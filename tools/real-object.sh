@@ -2,23 +2,13 @@
 # Checks real objects with the built program, each passed through `ld -r`, which gives its section a symbol: a leaf
 # function of the system's assembler, whose rows `readelf` reads, and one that gcc compiles from C, whose rows are those
 # that gcc itself tells in `.eh_frame` of the same code.
-# Skipped where a tool is missing.
 set -eu
 . "$(dirname "$0")/prepare.sh"
-needs "real object" as ld readelf awk
+needs "real object" as ld readelf awk gcc
 cd "$root"
 
-# The program that OBJTOOL names; else as it was built last, and anew where that is older than the sources.
-built=$PWD/crates/objtool/out/objtool
-objtool() {
-    if [ -n "${OBJTOOL:-}" ]; then
-        "$OBJTOOL" "$@"
-    elif [ -x "$built" ] && [ -z "$(find crates -path '*/out' -prune -o -name '*.rt' -newer "$built" -print -quit)" ]; then
-        "$built" "$@"
-    else
-        (cd crates/objtool && rt run -- "$@")
-    fi
-}
+program=$(built)
+objtool() { "$program" "$@"; }
 
 # The rows of a checked object, a line each: the offset in hexadecimal, and the row's six bytes.
 rows_of() {
@@ -56,7 +46,6 @@ objtool check --names="$root/share/linux.names" "$scratch/leaf.o" "$scratch/name
 cmp "$scratch/checked.o" "$scratch/named.o" || { echo "real object: the shipped names change a leaf function's rows"; exit 1; }
 echo "real object: the shipped names file is read"
 
-needs "compiled object" gcc
 cat >"$scratch/mix.c" <<'C'
 struct state { unsigned long a, b, c, d, e, f, g; };
 

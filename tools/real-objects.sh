@@ -1,6 +1,6 @@
 #!/usr/bin/env bash
 # Parses objects that gcc and the assembler make, and compares how many sections, symbols and relocations each has with
-# what `readelf` tells. Run at the top of the repository. Skipped where a tool is missing.
+# what `readelf` tells. Run at the top of the repository.
 set -eu
 . "$(dirname "$0")/prepare.sh"
 needs "real objects" gcc as readelf

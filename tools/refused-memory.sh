@@ -2,12 +2,11 @@
 # Runs each command of a table with each of its requests for memory refused in turn, one a run, and then with all behind it
 # refused too: it ends with status 6, what it told is a beginning of the text that it tells with ample memory, and OUT is as
 # it was. Where one alone is refused, all may be done as well: a list that can't grow to twice its length asks again for what
-# it needs. Skipped where a tool is missing.
+# it needs.
 set -eu
 . "$(dirname "$0")/prepare.sh"
 needs "refused memory" gcc as ld python3
-program=${OBJTOOL:-$root/crates/objtool/out/objtool}
-[ -x "$program" ] || { echo "refused memory: skipped, the program isn't built"; exit 0; }
+program=$(built)
 failed() { echo "refused memory: $*"; exit 1; }
 cd "$scratch"
 

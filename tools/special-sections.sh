@@ -1,7 +1,7 @@
 #!/usr/bin/env bash
 # Reads the special sections of objects, and compares how many entries of each kind there are with what `readelf` tells of
 # their sections. special-sections.sh [OBJECT..]: the objects, as those of a kernel's build; with none, one that the
-# assembler makes. Run at the top of the repository. Skipped where a tool is missing.
+# assembler makes. Run at the top of the repository.
 set -eu
 . "$(dirname "$0")/prepare.sh"
 needs "special sections" as readelf python3

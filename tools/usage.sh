@@ -1,21 +1,16 @@
 #!/usr/bin/env bash
 # Compares the options that `--help`, the manual page and README's usage name, and checks the manual page's language.
-# Run at the top of the repository. Skipped where a tool is missing.
+# Run at the top of the repository.
 set -eu
 . "$(dirname "$0")/prepare.sh"
 needs "usage" mandoc col
 cd "$root"
 
-program=crates/objtool/out/objtool
 options() { grep -oE -- '--[a-z]+(-[a-z]+)*' | sort -u; }
 
 mandoc -T lint docs/objtool.1 || { echo "usage: mandoc has warnings of the manual page"; exit 1; }
-# The program as it was built last, and anew where that is older than the sources.
-if [ -x "$program" ] && [ -z "$(find crates -path '*/out' -prune -o -name '*.rt' -newer "$program" -print -quit)" ]; then
-    "$program" --help >"$scratch/help"
-else
-    (cd crates/objtool && rt run -- --help) >"$scratch/help"
-fi
+program=$(built)
+"$program" --help >"$scratch/help"
 grep -q '^Usage: objtool <COMMAND>$' "$scratch/help" || { cat "$scratch/help"; exit 1; }
 options <"$scratch/help" >"$scratch/help.options"
 mandoc -T ascii docs/objtool.1 | col -b | options >"$scratch/page.options"

@@ -1,12 +1,11 @@
 #!/usr/bin/env bash
 # How long `unwind` walks a stack of 100,000 frames, beside reading the same image and walking none of it: the processor time
-# of each, the least of three runs. Each frame is one of a function that has pushed a register, called by itself. Skipped where
-# a tool is missing.
+# of each, the least of three runs. Each frame is one of a function that has pushed a register, called by itself.
 set -eu
 . "$(dirname "$0")/prepare.sh"
 needs "walk speed" as ld awk
 cd "$root"
-program=${OBJTOOL:-$(tools/build.sh)}
+program=$(built)
 frames=100000
 
 cd "$scratch"

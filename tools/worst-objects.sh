@@ -5,12 +5,11 @@
 #   worst-objects.sh [NAME..]    all of them, or those of these names
 # SCALE=N makes all an Nth as large, and the limits an Nth as well, STACK=KIB runs the program with so small a stack,
 # MEMORY=MIB with so much memory at most (5,000), SECONDS_MOST=N with so much time at most (60), KEEP=FOLDER keeps the objects.
-# It isn't part of `.ci/run`. Skipped where a tool is missing.
+# It isn't part of `.ci/run`.
 set -eu
 . "$(dirname "$0")/prepare.sh"
 needs "worst objects" python3
-program=${OBJTOOL:-$root/crates/objtool/out/objtool}
-[ -x "$program" ] || { echo "worst objects: skipped, the program isn't built"; exit 0; }
+program=$(built)
 PROGRAM=$program MAKE=$root/tools/worst-objects/make.py FOLDER=${KEEP:-$scratch} python3 - "$@" <<'PYTHON'
 import os
 import resource

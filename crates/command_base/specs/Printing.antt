@@ -6,8 +6,8 @@ use Rattle.ot_files.specs.declared.output.SinkError.{SinkError}
 use Rattle.ot_files.specs.declared.output.SinkError.TheVariants as sink
 use Rattle.command_base.specs.declared.status.Status.{Status}
 use Rattle.command_base.specs.declared.status.Status.TheVariants.{Done, Warnings, Refused, Usage, FileFault, SinkFault, NoMemory}
-use Rattle.command_base.specs.declared.stop.Stop.{Stop}
-use Rattle.command_base.specs.declared.stop.Stop.TheVariants as stop
+use Rattle.command_base.specs.declared.stop.CommandStop.{CommandStop}
+use Rattle.command_base.specs.declared.stop.CommandStop.TheVariants as stop
 use Rattle.command_base.specs.Stop.{line_of, status_of}
 use Rattle.command_base.specs.Outside.{Output}
 
@@ -46,6 +46,6 @@ ended FileFault (Err sink.Failed) = FileFault
 ended s (Err sink.Failed) = SinkFault
 
 -- The line of a stop was printed; or the stop is want of memory, of which nothing is told.
-pub data Concludes (why : Stop) (before after : Output) : Status → Type 0 where
+pub data Concludes (why : CommandStop) (before after : Output) : Status → Type 0 where
   tells : {s : Status} → why ≢ stop.NoMemory → Prints (status_of why) (line_of why) before after s → Concludes why before after s
   silent : why ≡ stop.NoMemory → after ≡ before → Concludes why before after NoMemory

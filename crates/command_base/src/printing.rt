@@ -5,7 +5,7 @@ ghost use Rattle.command_base.specs.Stop.{line_of, status_of};
 ghost use Rattle.command_base.specs.Printing.{Concludes, FailsToPrint, Prints, ended};
 
 use crate::status::Status;
-use crate::stop::Stop;
+use crate::stop::CommandStop;
 use ot_files::{Sink, SinkError, write_line};
 use std::alloc::Global;
 
@@ -49,13 +49,13 @@ pub fn print_part<S: Sink>(line: &[u8], out: &mut S) -> Result<(), Status>
 }
 
 /// Tells why a command stopped, unless memory ran out, and gives the status that it ends with.
-pub fn conclude<S: Sink>(alloc: Global, stop: Stop<'_>, out: &mut S) -> Status
+pub fn conclude<S: Sink>(alloc: Global, stop: CommandStop<'_>, out: &mut S) -> Status
     ensures concluded { Concludes stop.entry
         (record { written = S.written out.old; faults = S.faults out.old })
         (record { written = S.written out.new; faults = S.faults out.new }) result }
     ensures later { S.faults out.old ≤ S.faults out.new }
 {
-    if let Stop::NoMemory = stop {
+    if let CommandStop::NoMemory = stop {
         return Status::NoMemory;
     }
     match format!(in alloc; "{stop}") {

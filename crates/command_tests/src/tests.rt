@@ -1,10 +1,7 @@
 //! Whole commands over files and an output in memory.
 
-mod answers;
-mod codes;
 mod files;
-mod options;
+mod memory;
+mod objects;
 mod running;
 mod summing;
-mod walking;
-mod words;

@@ -4,7 +4,7 @@ ghost use Rattle.std.specs.Prelude.{◌≤◌, length};
 use std::alloc::Global;
 use std::process::Abort;
 use std::test::Fail;
-use x86_text::{DecodeFault, Insn, InsnList, Map, Op, Text, TextFault, TextFaultText};
+use x86_text::{Insn, InsnList, Map, Op, Text, TextFault};
 
 /// Three functions: a frame by rbp, a call, and a branch.
 const CODE: [u8; 29] = [
@@ -132,60 +132,5 @@ fn jumps_by_a_table(rt: HostRuntime) -> Result<(), Fail> {
     let op = Op::JmpInd { table };
     let jump = jumps.first().map(|placed| (placed.off, placed.insn.op));
     assert!(rt; jump == Some((1, op)));
-    Ok(())
-}
-
-/// At which offset a body of code holds no instruction, and why.
-fn fault_of(alloc: Global, body: &[u8]) -> Result<Option<(u64, DecodeFault)>, TextFault>
-    requires { length body.now ≤ 16_777_216 }
-{
-    match Text::read(alloc, Map::Base, body, &mut InsnList::new(alloc)?) {
-        Err(TextFault::At { off, why }) => Ok(Some((off, why))),
-        Err(TextFault::NoMemory) => Err(TextFault::NoMemory),
-        Ok(_) => Ok(None),
-    }
-}
-
-#[test]
-fn faults_of_a_body(rt: HostRuntime) -> Result<(), Fail> {
-    let bodies: [(&[u8], u64, DecodeFault); 5] = [
-        (b"\x90\xC5\xF8\x77", 1, DecodeFault::Outside { seen: 1 }),
-        (b"\x90\x90\x48\x66", 2, DecodeFault::Outside { seen: 2 }),
-        (b"\x90\xE8\x00\x00", 1, DecodeFault::Cut { have: 3 }),
-        (b"\x66\x66\x66\x66", 0, DecodeFault::Cut { have: 4 }),
-        (&[0x66; 16], 0, DecodeFault::Long),
-    ];
-    for (body, off, why) in bodies {
-        assert!(rt; body.len() <= 16);
-        let found = fault_of(rt.alloc(), body)?;
-        assert!(rt; found == Some((off, why)), "{body:?}: {found:?}");
-    }
-    Ok(())
-}
-
-// The last offset has no instruction, and the section's name a byte that is no plain one.
-#[test]
-fn faults_in_words(rt: HostRuntime) -> Result<(), Fail> {
-    let body = [0x90u8, 0x66, 0xC5, 0xF8, 0x77];
-    let cases = [
-        (
-            DecodeFault::Outside { seen: 2 },
-            ".te\\20xt+0x1: opcode outside the map: 66c5",
-        ),
-        (
-            DecodeFault::Cut { have: 14 },
-            ".te\\20xt+0x1: instruction cut after 14 bytes",
-        ),
-        (DecodeFault::Long, ".te\\20xt+0x1: instruction too long"),
-    ];
-    for (why, words) in cases {
-        let told = TextFaultText {
-            fault: TextFault::At { off: 1, why },
-            section: b".te xt",
-            body: &body,
-        };
-        let text = format!(in rt.alloc(); "{told}")?;
-        assert_eq!(rt; text.as_str(), words);
-    }
     Ok(())
 }

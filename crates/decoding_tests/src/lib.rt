@@ -1,5 +1,5 @@
-//! Tests of `x86_map`, `x86_decode` and `x86_text`, which aren't proved again for them: what the map says of
-//! opcodes, single instructions, and bodies of code.
+//! Tests of `x86_decode` and `x86_text`, which aren't proved again for them: bodies of code, and lists of instructions. What
+//! single instructions are is shown by `tests/commands`.
 #![tactic(auto)]
 
 #[cfg(test)]
@@ -7,12 +7,4 @@ mod answers;
 #[cfg(test)]
 mod bodies;
 #[cfg(test)]
-mod lengths;
-#[cfg(test)]
 mod lists;
-#[cfg(test)]
-mod maps;
-#[cfg(test)]
-mod rows;
-#[cfg(test)]
-mod whole;

@@ -6,8 +6,8 @@ use Rattle.ot_files.specs.Output.{appending}
 use Rattle.command_base.specs.declared.refusal.Refusal.{Refusal}
 use Rattle.command_base.specs.declared.status.Status.{Status}
 use Rattle.command_base.specs.declared.status.Status.TheVariants.{Done, Warnings, Refused, FileFault, SinkFault, NoMemory}
-use Rattle.command_base.specs.declared.stop.Stop.{Stop}
-use Rattle.command_base.specs.declared.stop.Stop.TheVariants as stop
+use Rattle.command_base.specs.declared.stop.CommandStop.{CommandStop}
+use Rattle.command_base.specs.declared.stop.CommandStop.TheVariants as stop
 use Rattle.command_base.specs.Outside.{Output}
 use Rattle.command_base.specs.Printing.{Concludes, Prints, fails, fault_stays, runs_out, silent, tells, whole}
 use Rattle.command_base.specs.Stop.{line_of, status_of}
@@ -58,7 +58,7 @@ done_no_warnings e = cc
 
 -- ---- faults
 
-uncheckable_no_fault : (bytes : List ℕ) (s : Stop) → IsUncheckableStop no_options.map bytes s → status_of s ≢ FileFault
+uncheckable_no_fault : (bytes : List ℕ) (s : CommandStop) → IsUncheckableStop no_options.map bytes s → status_of s ≢ FileFault
 uncheckable_no_fault bytes (stop.Refused refusal) h e = cc
 uncheckable_no_fault bytes stop.NoMemory h e = cc
 uncheckable_no_fault bytes (stop.Usage usage) h e = absurd h
@@ -95,7 +95,7 @@ refusal_told told bytes out out' NoMemory h (silent is same) e = absurd (refused
 no_refusal : (out out' : Output) (x : Status) → Concludes stop.NoMemory out out' x → x ≢ Refused
 no_refusal out out' x t e = refused_plain.memory (sym e ∙ concluded_no_memory out out' x t)
 
-stop_refused : (s : Stop) (bytes : List ℕ) (out out' : Output) (x : Status) → IsUncheckableStop no_options.map bytes s → Concludes s out out' x → x ≡ Refused → PrintsRefusal bytes out.written out'.written
+stop_refused : (s : CommandStop) (bytes : List ℕ) (out out' : Output) (x : Status) → IsUncheckableStop no_options.map bytes s → Concludes s out out' x → x ≡ Refused → PrintsRefusal bytes out.written out'.written
 stop_refused (stop.Refused told) bytes out out' x h t e = refusal_told told bytes out out' x h t e
 stop_refused stop.NoMemory bytes out out' x h t e = absurd (no_refusal out out' x t e)
 stop_refused (stop.Usage usage) bytes out out' x h t e = absurd h

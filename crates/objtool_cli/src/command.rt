@@ -4,8 +4,8 @@ ghost use Rattle.ot_files.specs.Content.{Content, reading};
 ghost use Rattle.ot_base.specs.declared.row.PlacedRow.{PlacedRow};
 ghost use Rattle.elf_objects.specs.Elf.{Elf};
 ghost use Rattle.stack_image.specs.ImageFile.{StackImage};
-ghost use Rattle.read_back.specs.Dump.{HoldsRows, IsAnswered, IsDumped};
-ghost use Rattle.read_back.specs.Unwind.{IsPlaced, IsUnwound};
+ghost use Rattle.command_base.specs.Dump.{HoldsRows, IsAnswered, IsDumped};
+ghost use Rattle.command_base.specs.Unwind.{IsPlaced, IsUnwound};
 ghost use Rattle.objtool_cli.specs.Checked.{Accepts, BreaksRule};
 ghost use Rattle.command_base.specs.Printing.{Prints};
 ghost use Rattle.cli_words.specs.Grammar.{Command as Meant, check, command_in, demo, dump, meaning, unwind};
@@ -24,10 +24,11 @@ use crate::lists::read_names;
 use crate::words::Check;
 use cli_matches::{help_text, read_words, version_text};
 use cli_words::{Command, UsageFault};
-use command_base::{MAX_IMAGE_BYTES, Status, Stop, Usage, conclude, print_line, read_file};
+use command_base::{
+    CommandStop, MAX_IMAGE_BYTES, Status, Usage, conclude, dump, print_line, read_file, unwind,
+};
 use elf_objects::MAX_FILE_BYTES;
 use ot_files::{Files, Sink};
-use read_back::{dump, unwind};
 use std::alloc::Global;
 use x86_decode::one_outcome;
 
@@ -134,9 +135,9 @@ fn dispatch<F: Files, S: Sink>(
     match read_words(alloc, words) {
         Ok(command) => run_command(alloc, &command, files, out),
         Err(UsageFault::At { word, kind }) => {
-            conclude(alloc, Stop::Usage(Usage { word, kind }), out)
+            conclude(alloc, CommandStop::Usage(Usage { word, kind }), out)
         }
-        Err(UsageFault::NoMemory) => conclude(alloc, Stop::NoMemory, out),
+        Err(UsageFault::NoMemory) => conclude(alloc, CommandStop::NoMemory, out),
     }
 }
 

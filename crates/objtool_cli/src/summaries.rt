@@ -16,7 +16,7 @@ use crate::warnings::print_warnings;
 use cli_words::{CheckOptions, Map};
 use command_base::{Status, conclude, parse_stop, print_line};
 use elf_objects::Object;
-use object_check::{CodeCounts, Outcome, check_object};
+use object_check::{CodeCounts, ObjectVerdict, check_object};
 use ot_base::{Lists, NoMemory, Options};
 use ot_files::Sink;
 use std::alloc::Global;
@@ -115,12 +115,12 @@ fn sum_up<S: Sink>(alloc: Global, title: &str, bytes: &[u8], out: &mut S) -> Sta
         Err(fault) => return conclude(alloc, parse_stop(fault), out),
     };
     match check_object(alloc, NO_OPTIONS.map, &object, &lists, NO_OPTIONS.rules) {
-        Ok(Outcome::Accepted { rows, counts }) => {
+        Ok(ObjectVerdict::Accepted { rows, counts }) => {
             let rows = rows.len() as u64;
             let numbers = Numbers { counts, rows };
             print_summary(alloc, SummaryLine { title, numbers }, out)
         }
-        Ok(Outcome::Broken(warnings)) => print_warnings(alloc, &object, &warnings, out),
+        Ok(ObjectVerdict::Broken(warnings)) => print_warnings(alloc, &object, &warnings, out),
         Err(fault) => conclude(alloc, check_stop(&object, fault), out),
     }
 }

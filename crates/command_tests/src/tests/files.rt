@@ -1,105 +1,15 @@
-//! Files that are no objects, are missing, or whose calls fail.
+//! Files that are missing or whose calls fail, an output that fails, and how many calls failed.
 
-use super::answers::{Answer, Case, FRAME, UNCHANGED, expect_answer, expect_cases, object_of};
-use super::running::{expect_printed, with_names, words_of};
-use check_examples::running::{Status, run_words};
-use ot_files::{FileError, Files, MemFiles, MemSink, SureSink};
+ghost use Rattle.std.specs.Prelude.{IfOk, IsTrue};
+ghost use Rattle.ot_files.specs.Memory.{names_of, names_differ};
+
+use super::objects::code_in_f;
+use super::running::{expect_printed, run_words};
+use objtool_cli::Status;
+use ot_files::{MemFiles, MemSink};
 use std::alloc::{AllocError, Global};
 use std::process::Abort;
 use std::test::Fail;
-
-/// The first bytes of an object of 504 are refused.
-fn expect_cut(rt: &impl Abort, alloc: Global, bytes: &[u8]) -> Result<(), AllocError> {
-    let have = bytes.len();
-    let need = if have < 64 { 64 } else { 504 };
-    let line = format!(in alloc; "refused: file needs {need} bytes, has {have}\n")?;
-    expect_answer(
-        rt,
-        alloc,
-        "check IN OUT",
-        bytes,
-        &Answer::Refused(line.as_str()),
-    )
-}
-
-#[test]
-fn a_file_cut_short_is_refused(rt: HostRuntime) -> Result<(), Fail> {
-    let object = object_of(rt.alloc(), FRAME, UNCHANGED)?;
-    assert!(rt; object.len() == 504);
-    for have in 0..504 {
-        expect_cut(&rt, rt.alloc(), &object[..have])?;
-    }
-    Ok(())
-}
-
-const CHANGED: [Case; 6] = [
-    (
-        FRAME,
-        (18, &[3]),
-        Answer::Refused("refused: not an x86-64 relocatable file at byte 18\n"),
-    ),
-    (
-        FRAME,
-        (40, &[0xC0, 255, 255, 255, 255, 255, 255, 255]),
-        Answer::Refused("refused: file needs 18446744073709551615 bytes, has 504\n"),
-    ),
-    (
-        FRAME,
-        (272, &[255; 8]),
-        Answer::Refused("refused: section 1: outside the file\n"),
-    ),
-    (
-        FRAME,
-        (356, &[9, 0, 0, 0]),
-        Answer::Refused("refused: section 2: bad link\n"),
-    ),
-    (
-        FRAME,
-        (96, &[255; 4]),
-        Answer::Refused("refused: symbol 1: bad name\n"),
-    ),
-    (
-        FRAME,
-        (126, &[0, 255]),
-        Answer::Refused("refused: symbol 2: bad symbol\n"),
-    ),
-];
-
-#[test]
-fn a_file_with_changed_bytes_is_refused(rt: HostRuntime) -> Result<(), Fail> {
-    expect_cases(&rt, rt.alloc(), &CHANGED)
-}
-
-/// Files whose every name holds more than any limit.
-#[derive(Drop)]
-struct LongFiles;
-
-impl Files for LongFiles {
-    ghost use Rattle.std.specs.Prelude.{None};
-
-    ghost content = { λ _. None };
-
-    ghost faults = { λ _. 0 };
-
-    fn read(&mut self, _name: &str, limit: u64, into: &mut Vec<u8>) -> Result<(), FileError> {
-        into.clear();
-        Err(FileError::TooLong { limit })
-    }
-
-    fn write(&mut self, _name: &str, _bytes: &[u8]) -> Result<(), FileError> {
-        Err(FileError::NoMemory)
-    }
-}
-
-#[test]
-fn a_file_that_is_too_long_is_refused(rt: HostRuntime) -> Result<(), Fail> {
-    let mut out = SureSink::new(rt.alloc(), 100);
-    let words = words_of(rt.alloc(), "check IN OUT")?;
-    let status = run_words(rt.alloc(), &words, &mut LongFiles, &mut out);
-    let told = "refused: IN is longer than 67108864 bytes\n";
-    expect_printed(&rt, told, (status, out.written()), (Status::Refused, told));
-    Ok(())
-}
 
 /// A run of `check` on an input's name, over the files where IN holds the object of `C3`.
 #[derive(Clone, Copy)]
@@ -118,6 +28,17 @@ struct Faulty {
 
 /// The number of a call that isn't made.
 const NEVER: u64 = 99;
+
+/// IN holds these bytes, and no other name anything.
+fn entries_of(alloc: Global, bytes: &[u8]) -> Result<Vec<(String, Vec<u8>)>, AllocError>
+    ensures { IfOk result (λ entries. IsTrue (names_differ (names_of entries.items))) }
+{
+    let entry = (
+        String::from_str(alloc, "IN")?,
+        Vec::from_slice(alloc, bytes)?,
+    );
+    Ok(vec![in alloc; entry]?)
+}
 
 /// The words of `check` on this input.
 fn words_with(alloc: Global, input: &str) -> Result<Vec<String>, AllocError> {
@@ -138,9 +59,9 @@ fn expect_left(rt: &impl Abort, case: &Faulty, object: &[u8], files: &MemFiles, 
 
 fn expect_faulty(rt: &impl Abort, alloc: Global, case: &Faulty) -> Result<(), Fail> {
     assert!(rt; case.most > 0);
-    let object = object_of(alloc, b"\xC3", UNCHANGED)?;
+    let object = code_in_f(alloc, b"\xC3")?;
     let words = words_with(alloc, case.input)?;
-    let entries = with_names(alloc, &object, "")?;
+    let entries = entries_of(alloc, &object)?;
     let mut files = MemFiles::new(alloc, entries, vec![in alloc; case.file_call]?);
     let mut out = MemSink::new(alloc, case.most, vec![in alloc; case.write]?);
     let status = run_words(alloc, &words, &mut files, &mut out);

@@ -1,71 +1,43 @@
-//! The command `demo N`, and the check of bytes that no file holds.
+//! The check of bytes that no file holds, and an output that takes a byte a write.
 
-use super::answers::{UNCHANGED, object_of};
-use super::running::{expect_printed, words_of};
-use check_examples::objects::code_with_call;
-use check_examples::running::{Status, run_words, summary};
+use super::objects::{code_in_f, code_with_call};
+use super::running::{expect_printed, run_words, words_of};
+use objtool_cli::{Status, summary};
 use ot_files::{MemSink, SureFiles, SureSink};
 use std::alloc::{AllocError, Global};
 use std::process::Abort;
 use std::test::Fail;
 
 /// Words, and the line that they print.
-const DEMOS: [(&str, &str); 3] = [
-    (
-        "demo 0",
-        "demo 0: functions 0, instructions 0, rows 0, text bytes 0\n",
-    ),
-    (
-        "demo 3",
-        "demo 3: functions 3, instructions 15, rows 11, text bytes 29\n",
-    ),
-    (
-        "demo 100000",
-        "demo 100000: functions 100000, instructions 499999, rows 300002, text bytes 966663\n",
-    ),
-];
+const LINE: &str = "demo 3";
 
-fn expect_demo(rt: &impl Abort, alloc: Global, line: &str, text: &str) -> Result<(), AllocError> {
-    let words = words_of(alloc, line)?;
-    let mut files = SureFiles::new(alloc, Vec::new(alloc));
-    let mut out = SureSink::new(alloc, 100);
-    let status = run_words(alloc, &words, &mut files, &mut out);
-    expect_printed(rt, line, (status, out.written()), (Status::Done, text));
-    Ok(())
-}
+const TEXT: &str = "demo 3: functions 3, instructions 15, rows 11, text bytes 29\n";
 
-#[test]
-fn objects_are_made_up_and_checked(rt: HostRuntime) -> Result<(), Fail> {
-    for (line, text) in DEMOS {
-        expect_demo(&rt, rt.alloc(), line, text)?;
-    }
-    Ok(())
-}
-
-/// An output that takes one byte a write and fails at a byte has exactly those before, which are these.
+/// An output that takes one byte a write and fails at one of them has exactly those before it, or all where none fails.
 fn expect_cut(
     rt: &impl Abort,
     alloc: Global,
     words: &[String],
-    before: &[u8],
+    cut: usize,
 ) -> Result<(), AllocError> {
     let mut files = SureFiles::new(alloc, Vec::new(alloc));
-    let mut out = MemSink::new(alloc, 1, vec![in alloc; before.len() as u64]?);
+    let mut out = MemSink::new(alloc, 1, vec![in alloc; cut as u64]?);
     let status = run_words(alloc, words, &mut files, &mut out);
-    let cut = before.len();
-    assert!(rt;
-        status == Status::SinkFault && out.written() == before,
-        "{cut}"
-    );
+    let whole = if cut < TEXT.len() {
+        Status::SinkFault
+    } else {
+        Status::Done
+    };
+    assert!(rt; status == whole, "{cut}: {status:?}");
+    assert!(rt; TEXT.as_bytes().get(..cut) == Some(out.written()), "{cut}");
     Ok(())
 }
 
 #[test]
 fn a_line_is_cut_where_the_output_fails(rt: HostRuntime) -> Result<(), Fail> {
-    let (line, text) = DEMOS[1];
-    let words = words_of(rt.alloc(), line)?;
-    for cut in 0..text.len() {
-        expect_cut(&rt, rt.alloc(), &words, &text.as_bytes()[..cut])?;
+    let words = words_of(rt.alloc(), LINE)?;
+    for cut in 0..=TEXT.len() {
+        expect_cut(&rt, rt.alloc(), &words, cut)?;
     }
     Ok(())
 }
@@ -102,7 +74,7 @@ fn bytes_are_summed_up(rt: HostRuntime) -> Result<(), Fail> {
     let text = "x: functions 1, instructions 12, rows 8, text bytes 30\n";
     expect_summary(&rt, rt.alloc(), &object, (Status::Done, text));
     for (code, status, text) in SUMMED {
-        let object = object_of(rt.alloc(), code, UNCHANGED)?;
+        let object = code_in_f(rt.alloc(), code)?;
         expect_summary(&rt, rt.alloc(), &object, (status, text));
     }
     Ok(())

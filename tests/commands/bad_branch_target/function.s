@@ -1,0 +1,6 @@
+	.text
+	.globl	f
+	.type	f, @function
+f:	.byte	0x74, 0x40
+	ret
+	.size	f, . - f

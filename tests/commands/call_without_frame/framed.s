@@ -1,0 +1,9 @@
+	.text
+	.globl	f
+	.type	f, @function
+f:	push	%rbp
+	mov	%rsp, %rbp
+	call	g
+	pop	%rbp
+	ret
+	.size	f, . - f

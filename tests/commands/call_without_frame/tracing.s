@@ -1,0 +1,6 @@
+	.text
+	.globl	f
+	.type	f, @function
+f:	call	__fentry__
+	ret
+	.size	f, . - f

@@ -1,0 +1,6 @@
+	.text
+	.globl	f
+	.type	f, @function
+f:	call	*%rax
+	ret
+	.size	f, . - f

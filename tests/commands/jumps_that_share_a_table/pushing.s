@@ -1,0 +1,11 @@
+	.text
+	.globl	f
+	.type	f, @function
+f:	je	2f
+	jmp	*table(,%rax,8)
+2:	push	%rbx
+	jmp	*table(,%rax,8)
+3:	ret
+	.size	f, . - f
+	.section .rodata, "a", @progbits
+table:	.quad	3b

@@ -1,0 +1,6 @@
+	.text
+	.globl	f
+	.type	f, @function
+f:	mov	%rax, %rsp
+	ret
+	.size	f, . - f

@@ -1,0 +1,6 @@
+	.text
+	.globl	f
+	.type	f, @function
+f:	ud2
+	.size	f, . - f
+ud2
