@@ -1,5 +1,5 @@
 -- How a command prints its text, and which status it ends with.
-use Rattle.std.specs.Prelude.{◌≡◌, ◌≢◌, ℕ, List, Result, Ok, Err}
+use Rattle.std.specs.Prelude.{◌≡◌, ◌≢◌, ◌⊎◌, ℕ, List, Result, Ok, Err}
 use Rattle.ot_files.specs.Causes.{Rose}
 use Rattle.ot_files.specs.Output.{AppendsPrefix, appending}
 use Rattle.ot_files.specs.declared.output.SinkError.{SinkError}
@@ -37,6 +37,10 @@ FailsToPrint part before after Warnings = ⊥
 FailsToPrint part before after Refused = ⊥
 FailsToPrint part before after Usage = ⊥
 FailsToPrint part before after FileFault = ⊥
+
+-- what is answered where writing to the output failed: that it did; or the fault of a file whose line was being written
+abbrev pub IsOutputFault : Status → Type 0
+IsOutputFault s = (s ≡ SinkFault) ⊎ (s ≡ FileFault)
 
 -- the status of a command whose text was written so
 abbrev pub ended : {U : Type 0} → Status → Result U SinkError → Status

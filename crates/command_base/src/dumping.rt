@@ -1,6 +1,6 @@
 //! The command `dump FILE`.
 
-ghost use Rattle.std.specs.Prelude.{◌≡◌, ◌≤◌, ℕ, List, length, Ok, Some, IfErr, OnOk};
+ghost use Rattle.std.specs.Prelude.{◌≡◌, ◌<◌, ◌≤◌, ℕ, List, length, Ok, Some, IfErr, IsErrOf, OnOk};
 ghost use Rattle.ot_base.specs.declared.row.PlacedRow.{PlacedRow};
 ghost use Rattle.ot_files.specs.Content.{Content, reading};
 ghost use Rattle.elf_objects.specs.Elf.{Elf};
@@ -8,7 +8,7 @@ ghost use Rattle.ot_base.specs.RowText.{row_line};
 ghost use Rattle.ot_files.specs.Output.{appending};
 ghost use Rattle.elf_objects.specs.Contents.{section_at};
 ghost use Rattle.command_base.specs.declared.status.Status.TheVariants as status;
-ghost use Rattle.command_base.specs.Printing.{FailsToPrint, Prints};
+ghost use Rattle.command_base.specs.Printing.{FailsToPrint, IsOutputFault, Prints};
 ghost use Rattle.command_base.specs.Dump.{Dumps, EndsDump, HoldsRows, IsAnswered, IsDumped, rows_text};
 
 use crate::{Status, conclude, orc_stop, parse_stop, print_part, read_file};
@@ -31,6 +31,7 @@ fn print_row<S: Sink>(
         (record { written = S.written out.old; faults = S.faults out.old })
         (record { written = S.written out.new; faults = S.faults out.new })) }
     ensures later { S.faults out.old ≤ S.faults out.new }
+    ensures output_failed { S.faults out.old < S.faults out.new → IsErrOf result Status.SinkFault }
 {
     line.clear();
     match row_text(object, placed, line) {
@@ -50,6 +51,7 @@ fn print_rows<S: Sink>(
         (record { written = S.written out.old; faults = S.faults out.old })
         (record { written = S.written out.new; faults = S.faults out.new }) result }
     ensures later { S.faults out.old ≤ S.faults out.new }
+    ensures output_failed { S.faults out.old < S.faults out.new → IsOutputFault result }
 {
     let mut line = Vec::new(alloc);
     for placed in rows {
@@ -68,6 +70,7 @@ fn dump_bytes<S: Sink>(alloc: Global, bytes: &[u8], out: &mut S) -> Status
         (record { written = S.written out.old; faults = S.faults out.old })
         (record { written = S.written out.new; faults = S.faults out.new }) result }
     ensures later { S.faults out.old ≤ S.faults out.new }
+    ensures output_failed { S.faults out.old < S.faults out.new → IsOutputFault result }
 {
     let object = match Object::parse(alloc, bytes) {
         Ok(object) => object,
@@ -97,6 +100,7 @@ pub fn dump<F: Files, S: Sink>(alloc: Global, file: &str, files: &mut F, out: &m
     ensures unchanged { F.content files.new ≡ F.content files.old }
     ensures files_later { F.faults files.old ≤ F.faults files.new }
     ensures out_later { S.faults out.old ≤ S.faults out.new }
+    ensures output_failed { S.faults out.old < S.faults out.new → IsOutputFault result }
 {
     match read_file(alloc, file, MAX_FILE_BYTES, files) {
         Ok(bytes) => dump_bytes(alloc, bytes.as_slice(), out),

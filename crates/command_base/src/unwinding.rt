@@ -1,6 +1,6 @@
 //! The command `unwind FILE IMAGE`.
 
-ghost use Rattle.std.specs.Prelude.{◌≡◌, ◌≤◌, ℕ, List, Ok, Some, None, length, IfErr, IfOk, OnOk};
+ghost use Rattle.std.specs.Prelude.{◌≡◌, ◌<◌, ◌≤◌, ℕ, List, Ok, Some, None, length, IfErr, IfOk, IsErrOf, OnOk};
 ghost use Rattle.ot_base.specs.declared.row.PlacedRow.{PlacedRow};
 ghost use Rattle.ot_files.specs.Content.{Content, reading};
 ghost use Rattle.ot_files.specs.Output.{appending};
@@ -8,7 +8,7 @@ ghost use Rattle.elf_objects.specs.Elf.{Elf};
 ghost use Rattle.stack_image.specs.ImageFile.{StackImage};
 ghost use Rattle.command_base.specs.Dump.{IsAnswered};
 ghost use Rattle.command_base.specs.declared.status.Status.TheVariants as status;
-ghost use Rattle.command_base.specs.Printing.{FailsToPrint, Prints};
+ghost use Rattle.command_base.specs.Printing.{FailsToPrint, IsOutputFault, Prints};
 ghost use Rattle.command_base.specs.Unwind.{EndsUnwind, HasNoWalk, IsForeign, IsPlaced, IsUnwound, IsWalk, Unwinds, first_foreign, is_text_section, ranges_of};
 ghost use Rattle.command_base.specs.WalkText.{frame_line, stop_line, walk_text};
 
@@ -105,6 +105,7 @@ fn print_frame<S: Sink>(alloc: Global, number: u64, frame: Frame, out: &mut S) -
         (record { written = S.written out.old; faults = S.faults out.old })
         (record { written = S.written out.new; faults = S.faults out.new })) }
     ensures later { S.faults out.old ≤ S.faults out.new }
+    ensures output_failed { S.faults out.old < S.faults out.new → IsErrOf result Status.SinkFault }
 {
     let line = FrameLine { number, frame };
     match format!(in alloc; "{line}") {
@@ -120,6 +121,7 @@ fn print_stop<S: Sink>(alloc: Global, stop: WalkStop, out: &mut S) -> Result<(),
         (record { written = S.written out.old; faults = S.faults out.old })
         (record { written = S.written out.new; faults = S.faults out.new })) }
     ensures later { S.faults out.old ≤ S.faults out.new }
+    ensures output_failed { S.faults out.old < S.faults out.new → IsErrOf result Status.SinkFault }
 {
     let line = StopLine(stop);
     match format!(in alloc; "{line}") {
@@ -134,6 +136,7 @@ fn print_walk<S: Sink>(alloc: Global, walk: &StackWalk, out: &mut S) -> Status
         (record { written = S.written out.old; faults = S.faults out.old })
         (record { written = S.written out.new; faults = S.faults out.new }) result }
     ensures later { S.faults out.old ≤ S.faults out.new }
+    ensures output_failed { S.faults out.old < S.faults out.new → IsOutputFault result }
 {
     for (number, frame) in walk.frames.iter().enumerate() {
         match print_frame(alloc, number as u64, *frame, out) {
@@ -154,6 +157,7 @@ fn unwind_bytes<S: Sink>(alloc: Global, bytes: &[u8], text: &[u8], out: &mut S) 
         (record { written = S.written out.old; faults = S.faults out.old })
         (record { written = S.written out.new; faults = S.faults out.new }) result }
     ensures later { S.faults out.old ≤ S.faults out.new }
+    ensures output_failed { S.faults out.old < S.faults out.new → IsOutputFault result }
 {
     match walk_of(alloc, bytes, text) {
         Ok(walk) => print_walk(alloc, &walk, out),
@@ -186,6 +190,7 @@ pub fn unwind<F: Files, S: Sink>(
     ensures unchanged { F.content files.new ≡ F.content files.old }
     ensures files_later { F.faults files.old ≤ F.faults files.new }
     ensures out_later { S.faults out.old ≤ S.faults out.new }
+    ensures output_failed { S.faults out.old < S.faults out.new → IsOutputFault result }
 {
     let bytes = match read_file(alloc, file, MAX_FILE_BYTES, files) {
         Ok(bytes) => bytes,

@@ -43,10 +43,10 @@ use Rattle.objtool_cli.proofs.SameCommand.{no_fault_and_command, not_told as not
 -- ---- what is known of the bytes
 
 -- the bytes are refused in no way
-abbrev IsUnrefused : List ℕ → NameLists → CheckOptions → Type 0
+abbrev pub IsUnrefused : List ℕ → NameLists → CheckOptions → Type 0
 IsUnrefused bytes lists options = (told : Refusal) → Refuses bytes lists options told → ⊥
 
-accepted_unrefused : OneOutcome → (bytes table : List ℕ) (lists : NameLists) (options : CheckOptions) → Accepts bytes lists options table → IsUnrefused bytes lists options
+pub accepted_unrefused : OneOutcome → (bytes table : List ℕ) (lists : NameLists) (options : CheckOptions) → Accepts bytes lists options table → IsUnrefused bytes lists options
 accepted_unrefused one bytes table lists options accepts told (uncheckable why) = checkable_unrefused one options.map bytes accepts.object told accepts.is accepts.checkable why
 accepted_unrefused one bytes table lists options accepts told (crowded o others is checkable unbroken has many count) =
     let same = one_object bytes o accepts.object is accepts.is in
@@ -60,7 +60,7 @@ breaks_unbroken bytes lists options o breaks is unbroken =
     let same = one_object bytes o breaks.object is breaks.is in
     (subst (λ (x : Elf). IsUnbroken (program_of (coded_by options.map x) lists) (allowances_of (coded_by options.map x) lists) options.rules) same unbroken).clean breaks.place breaks.rule breaks.a breaks.b breaks.broken
 
-broken_unrefused : OneOutcome → (bytes : List ℕ) (lists : NameLists) (options : CheckOptions) → BreaksRule bytes lists options → IsUnrefused bytes lists options
+pub broken_unrefused : OneOutcome → (bytes : List ℕ) (lists : NameLists) (options : CheckOptions) → BreaksRule bytes lists options → IsUnrefused bytes lists options
 broken_unrefused one bytes lists options breaks told (uncheckable why) = checkable_unrefused one options.map bytes breaks.object told breaks.is breaks.checkable why
 broken_unrefused one bytes lists options breaks told (crowded o others is checkable unbroken has many count) = breaks_unbroken bytes lists options o breaks is unbroken
 
@@ -96,7 +96,7 @@ told_read limit content held name r is may = subst (λ (c : Option Content). May
 same_read : (a b : List ℕ) → ◌≡◌ {A = Result (List ℕ) FileError} (Ok a) (Ok b) → a ≡ b
 same_read a b e = cc
 
-same_names : (held : Content) (names : Option (List ℕ)) (one other : NameLists) → HasNames (Some held) names one → HasNames (Some held) names other → one ≡ other
+pub same_names : (held : Content) (names : Option (List ℕ)) (one other : NameLists) → HasNames (Some held) names one → HasNames (Some held) names other → one ≡ other
 same_names held None one other h k = h ∙ sym k
 same_names held (Some file) one other h k =
     let same = same_read h.text k.text (h.may ∙ sym k.may) in
@@ -149,7 +149,7 @@ stopped_unwritten stop.NoMemory name before after out out' x h t = inr (conclude
 -- ---- the names file
 
 -- a names file that is in order has no faulty line
-no_faulty_line : (text : List ℕ) (line : ℕ) (why : ListsWhy) → IsNamesFile text → IsFirstFault text line why → ⊥
+pub no_faulty_line : (text : List ℕ) (line : ℕ) (why : ListsWhy) → IsNamesFile text → IsFirstFault text line why → ⊥
 no_faulty_line text line why right h =
     let inside : line - 1 < length (lines text) = omega (arith, h.counted, h.there) in
     let same : ◌≡◌ {A = Option ListsWhy} None (Some why) = sym (right (line - 1) [] inside) ∙ h.fault in
@@ -173,7 +173,7 @@ stopped_unlisted (stop.Missing told) text out out' x right h t = absurd h
 stopped_unlisted (stop.TooLong told limit) text out out' x right h t = absurd h
 stopped_unlisted (stop.FileFault told) text out out' x right h t = absurd h
 
-given_names : (held : Content) (names : Option (List ℕ)) (file : List ℕ) (lists : NameLists) → names ≡ Some file → HasNames (Some held) names lists → HoldsNames (Some held) file lists
+pub given_names : (held : Content) (names : Option (List ℕ)) (file : List ℕ) (lists : NameLists) → names ≡ Some file → HasNames (Some held) names lists → HoldsNames (Some held) file lists
 given_names held names file lists is h = subst (λ (given : Option (List ℕ)). HasNames (Some held) given lists) is h
 
 stopped_by_names : (s : CommandStop) (names : Option (List ℕ)) (lists : NameLists) (held : Content) (before after : Outside) (out out' : Output) (x : Status) → before.content ≡ Some held → HasNames (Some held) names lists → StopsAtNames names before after s → Concludes s out out' x → Faults x
@@ -197,7 +197,7 @@ stop_faults s input output options names read lists before after out out' x know
 -- ---- how `check` ends
 
 -- words that ask for `check` end as it does, or for want of memory
-ends_as_check : (meaning : Meaning) (input output : List ℕ) (options : CheckOptions) (names : Option (List ℕ)) (before after : Outside) (out out' : Output) (x : Status) → meaning ≡ Ok (check input output options names) → Ends meaning before after out out' x → EndsCheck input output options names before after out out' x ⊎ (x ≡ status.NoMemory)
+pub ends_as_check : (meaning : Meaning) (input output : List ℕ) (options : CheckOptions) (names : Option (List ℕ)) (before after : Outside) (out out' : Output) (x : Status) → meaning ≡ Ok (check input output options names) → Ends meaning before after out out' x → EndsCheck input output options names before after out out' x ⊎ (x ≡ status.NoMemory)
 ends_as_check meaning input output options names before after out out' x n (faulty word kind none same t) = absurd (no_fault_and_command meaning word kind _ none n)
 ends_as_check meaning input output options names before after out out' x n (unfinished same t) = inr (concluded_no_memory out out' x t)
 ends_as_check meaning input output options names before after out out' x n (shown command some shows same t) = absurd (not_text meaning command _ some n shows refl)

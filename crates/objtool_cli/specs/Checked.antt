@@ -29,9 +29,9 @@ use Rattle.command_base.specs.declared.stop.CommandStop.{CommandStop}
 use Rattle.command_base.specs.declared.stop.CommandStop.TheVariants.{Usage, Missing, TooLong, Refused, FileFault, NoMemory}
 use Rattle.objtool_cli.specs.Writing.{IsTable}
 
--- An input of these bytes is accepted under these lists of names and these options, and OUT is to hold the table: they are
--- an object that is checked, and whose program, by the opcode map that is asked for, breaks no rule that is; and the same with the tables of the rows of
--- its program.
+-- An input of these bytes is accepted under these lists of names and these options, and OUT is to hold the bytes `table`: the
+-- bytes are an object that is checked, whose program, read by the opcode map that the options ask for, breaks no rule that they
+-- ask for; and `table` is this object with the tables of the rows of its program.
 pub record Accepts (bytes : List ℕ) (lists : NameLists) (options : CheckOptions) (table : List ℕ) : Type 0 where
   pub object : Elf
   pub is : IsObject bytes object

@@ -1,6 +1,7 @@
 //! The check of the bytes of an input.
 
-ghost use Rattle.std.specs.Prelude.{◌≡◌, ◌≤◌, Ok, length, option_map};
+ghost use Rattle.std.specs.Prelude.{◌≡◌, ◌<◌, ◌≤◌, Ok, length, option_map};
+ghost use Rattle.command_base.specs.Printing.{IsOutputFault};
 ghost use Rattle.flow_defs.specs.Coded.{coded_by};
 ghost use Rattle.x86_map.specs.declared.map.Map.{Map};
 ghost use Rattle.object_check.specs.Order.{IsCheckFault};
@@ -78,6 +79,7 @@ pub fn check<F: Files, S: Sink>(
         (record { written = S.written out.new; faults = S.faults out.new }) result }
     ensures files_later { F.faults files.old ≤ F.faults files.new }
     ensures out_later { S.faults out.old ≤ S.faults out.new }
+    ensures output_failed { S.faults out.old < S.faults out.new → IsOutputFault result }
 {
     let object = match Object::parse(alloc, bytes) {
         Ok(object) => object,

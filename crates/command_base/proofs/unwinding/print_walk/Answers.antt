@@ -8,6 +8,7 @@ use Rattle.command_base.specs.Outside.{Output}
 use Rattle.command_base.specs.Printing.{Prints}
 use Rattle.command_base.specs.WalkText.{walk_text}
 use Rattle.command_base.proofs.UnwindLemmas.{frame_fails, frame_printed, stop_fails, stop_printed}
+use Rattle.command_base.proofs.PrintLemmas.{no_lower, part_failed, stands_still}
 use Rattle.command_base.proofs.unwinding.print_walk.Goals as goal
 
 -- the frames that are gone through are those of the walk
@@ -16,13 +17,25 @@ of_walk one other stop before after s same h = subst (λ (frames : List Frame). 
 
 pub returns-in-Err-clause-printed : goal.returns-in-Err-clause-printed
 returns-in-Err-clause-printed g c =
+    let later = no_lower _ _ c.loop-number.invariant.unfailed in
     of_walk _ _ c.args.walk.now.stop _ _ _ c.deref-frame-items.ensures.value
-    (frame_fails c.deref-frame-items.result.now c.args.walk.now.stop c.loop-number.number _ _ _ _ _ c.loop-number-test.true c.loop-number.invariant.so_far c.loop-number.invariant.later c.in-Err.ensures.err)
+    (frame_fails c.deref-frame-items.result.now c.args.walk.now.stop c.loop-number.number _ _ _ _ _ c.loop-number-test.true c.loop-number.invariant.so_far later c.in-Err.ensures.err)
+
+pub returns-in-Err-clause-output_failed : goal.returns-in-Err-clause-output_failed
+returns-in-Err-clause-output_failed g c risen = part_failed _ _ _ _ c.loop-number.invariant.unfailed c.in-Err.ensures.output_failed risen
+
+pub returns-in-Ok-print_stop-clause-output_failed : goal.returns-in-Ok-print_stop-clause-output_failed
+returns-in-Ok-print_stop-clause-output_failed g c risen =
+    let same = stands_still status.SinkFault _ _ _ c.print_stop.ensures.later c.in-Ok-print_stop.ensures.output_failed in
+    absurd (omega (arith, same, c.loop-number.invariant.unfailed, risen))
+
+pub returns-in-Err-print_stop-clause-output_failed : goal.returns-in-Err-print_stop-clause-output_failed
+returns-in-Err-print_stop-clause-output_failed g c risen = part_failed _ _ _ _ c.loop-number.invariant.unfailed c.in-Err-print_stop.ensures.output_failed risen
 
 pub loop-number-preserved : goal.loop-number-preserved
 loop-number-preserved g c = record {
   so_far = frame_printed c.deref-frame-items.result.now c.loop-number.number _ _ _ _ c.loop-number-test.true c.loop-number.invariant.so_far c.in-Ok.ensures.ok;
-  later = omega (arith, c.loop-number.invariant.later, c.print_frame.ensures.later);
+  unfailed = stands_still status.SinkFault _ _ _ c.print_frame.ensures.later c.in-Ok.ensures.output_failed ∙ c.loop-number.invariant.unfailed;
 }
 
 pub returns-in-Ok-print_stop-clause-printed : goal.returns-in-Ok-print_stop-clause-printed
@@ -32,5 +45,6 @@ returns-in-Ok-print_stop-clause-printed g c =
 
 pub returns-in-Err-print_stop-clause-printed : goal.returns-in-Err-print_stop-clause-printed
 returns-in-Err-print_stop-clause-printed g c =
+    let later = no_lower _ _ c.loop-number.invariant.unfailed in
     of_walk _ _ c.args.walk.now.stop _ _ _ c.deref-frame-items.ensures.value
-    (stop_fails c.deref-frame-items.result.now c.args.walk.now.stop c.loop-number.number _ _ _ _ c.loop-number-test.false c.loop-number.invariant.so_far c.loop-number.invariant.later c.in-Err-print_stop.ensures.err)
+    (stop_fails c.deref-frame-items.result.now c.args.walk.now.stop c.loop-number.number _ _ _ _ c.loop-number-test.false c.loop-number.invariant.so_far later c.in-Err-print_stop.ensures.err)
