@@ -13,7 +13,9 @@ use Rattle.elf_objects.specs.Object.{FirstFault, IsObject}
 use Rattle.elf_objects.specs.declared.TheConstants.{MAX_SYMBOLS}
 use Rattle.x86_map.specs.declared.map.Map.{Map}
 use Rattle.x86_text.specs.declared.fault.TextFault.{TextFault}
-use Rattle.option_defs.specs.Asked.{IsWarned}
+use Rattle.machine_defs.specs.Allowances.{Allowances}
+use Rattle.machine_defs.specs.Asked.{IsWarned}
+use Rattle.machine_defs.specs.Program.{Program}
 use Rattle.flow_defs.specs.Coded.{Coded, coded_by}
 use Rattle.flow_defs.specs.Program.{program_of}
 use Rattle.point_allowances.specs.Allowances.{allowances_of}
@@ -22,23 +24,31 @@ use Rattle.object_code.specs.declared.fault_text.LinkFaultText.{LinkFaultText}
 use Rattle.object_check.specs.Order.{IsCheckable, IsCheckFault}
 use Rattle.object_check.specs.Outcome.{AreWarnings, HasRows, IsUnbroken}
 use Rattle.object_check.specs.declared.fault.CheckFault.TheVariants as fault
-use Rattle.table_output.specs.Tables.{symbols_needed}
+use Rattle.orc_output.specs.Tables.{symbols_needed}
 use Rattle.command_base.specs.declared.refusal.Refusal.{Refusal}
 use Rattle.command_base.specs.declared.refusal.Refusal.TheVariants.{Malformed, Unlinked, Unflowed, HasOrc, TooMany}
-use Rattle.command_base.specs.declared.stop.Stop.{Stop}
-use Rattle.command_base.specs.declared.stop.Stop.TheVariants.{Usage, Missing, TooLong, Refused, FileFault, NoMemory}
+use Rattle.command_base.specs.declared.stop.CommandStop.{CommandStop}
+use Rattle.command_base.specs.declared.stop.CommandStop.TheVariants.{Usage, Missing, TooLong, Refused, FileFault, NoMemory}
 use Rattle.objtool_cli.specs.Writing.{IsTable}
 
--- An input of these bytes is accepted under these lists of names and these options, and OUT is to hold the table: they are
--- an object that is checked, and whose program, by the opcode map that is asked for, breaks no rule that is; and the same with the tables of the rows of
--- its program.
+-- the program of an object, read by the opcode map that the options ask for, under lists of names; and what the object allows
+-- code of it
+abbrev pub program_under : CheckOptions → NameLists → Elf → Program
+program_under options lists object = program_of (coded_by options.map object) lists
+
+abbrev pub allowances_under : CheckOptions → NameLists → Elf → Allowances
+allowances_under options lists object = allowances_of (coded_by options.map object) lists
+
+-- An input of these bytes is accepted under these lists of names and these options, and OUT is to hold the bytes `table`: the
+-- bytes are an object that is checked, whose program, read by the opcode map that the options ask for, breaks no rule that they
+-- ask for; and `table` is this object with the tables of the rows of its program.
 pub record Accepts (bytes : List ℕ) (lists : NameLists) (options : CheckOptions) (table : List ℕ) : Type 0 where
   pub object : Elf
   pub is : IsObject bytes object
   pub checkable : IsCheckable (coded_by options.map object)
-  pub unbroken : IsUnbroken (program_of (coded_by options.map object) lists) (allowances_of (coded_by options.map object) lists) options.rules
+  pub unbroken : IsUnbroken (program_under options lists object) (allowances_under options lists object) options.rules
   pub rows : List PlacedRow
-  pub has_rows : HasRows (program_of (coded_by options.map object) lists) rows
+  pub has_rows : HasRows (program_under options lists object) rows
   pub table_is : IsTable object rows table
 
 -- They are this object, which is checked, and whose program breaks rules that are asked for: these are all warnings, in
@@ -46,7 +56,7 @@ pub record Accepts (bytes : List ℕ) (lists : NameLists) (options : CheckOption
 pub record Warns (bytes : List ℕ) (lists : NameLists) (options : CheckOptions) (o : Elf) (warnings : List Warning) : Type 0 where
   pub is : IsObject bytes o
   pub checkable : IsCheckable (coded_by options.map o)
-  pub are : AreWarnings (program_of (coded_by options.map o) lists) (allowances_of (coded_by options.map o) lists) options.rules warnings
+  pub are : AreWarnings (program_under options lists o) (allowances_under options lists o) options.rules warnings
 
 -- they are an object that is checked, and whose program breaks a rule that is asked for
 pub record BreaksRule (bytes : List ℕ) (lists : NameLists) (options : CheckOptions) : Type 0 where
@@ -57,7 +67,7 @@ pub record BreaksRule (bytes : List ℕ) (lists : NameLists) (options : CheckOpt
   pub rule : ℕ
   pub a : ℤ
   pub b : ℤ
-  pub broken : IsWarned (program_of (coded_by options.map object) lists) (allowances_of (coded_by options.map object) lists) options.rules place rule a b
+  pub broken : IsWarned (program_under options lists object) (allowances_under options lists object) options.rules place rule a b
 
 -- where a text section isn't code, it is told by its name and its body
 pub record NamesText (o : Elf) (told : LinkFaultText) (sec : ℕ) : Type 0 where
@@ -76,7 +86,7 @@ TellsCheckFault o (TooMany Sections count) = IsCheckFault o (fault.TooManySectio
 TellsCheckFault o _ = ⊥
 
 -- the stop tells this, or want of memory
-abbrev pub IsUnchecked : Coded → Stop → Type 0
+abbrev pub IsUnchecked : Coded → CommandStop → Type 0
 IsUnchecked o (Refused refusal) = TellsCheckFault o refusal
 IsUnchecked o NoMemory = Unit {0}
 IsUnchecked o _ = ⊥
@@ -88,7 +98,7 @@ pub data IsUncheckable (map : Map) (bytes : List ℕ) : Refusal → Type 0 where
   unchecked : {refusal : Refusal} (o : Elf) → IsObject bytes o → TellsCheckFault (coded_by map o) refusal → IsUncheckable map bytes refusal
 
 -- the stop tells this, or want of memory
-abbrev pub IsUncheckableStop : Map → List ℕ → Stop → Type 0
+abbrev pub IsUncheckableStop : Map → List ℕ → CommandStop → Type 0
 IsUncheckableStop map bytes (Refused refusal) = IsUncheckable map bytes refusal
 IsUncheckableStop map bytes NoMemory = Unit {0}
 IsUncheckableStop map bytes _ = ⊥
@@ -101,14 +111,14 @@ pub data Refuses (bytes : List ℕ) (lists : NameLists) (options : CheckOptions)
       {count : ℕ} (o : Elf) (rows : List PlacedRow)
       → IsObject bytes o
       → IsCheckable (coded_by options.map o)
-      → IsUnbroken (program_of (coded_by options.map o) lists) (allowances_of (coded_by options.map o) lists) options.rules
-      → HasRows (program_of (coded_by options.map o) lists) rows
+      → IsUnbroken (program_under options lists o) (allowances_under options lists o) options.rules
+      → HasRows (program_under options lists o) rows
       → MAX_SYMBOLS < symbols_needed o rows
       → count ≡ symbols_needed o rows
       → Refuses bytes lists options (TooMany Symbols count)
 
 -- the stop is a refusal of these bytes, or want of memory
-abbrev pub IsRefusal : List ℕ → NameLists → CheckOptions → Stop → Type 0
+abbrev pub IsRefusal : List ℕ → NameLists → CheckOptions → CommandStop → Type 0
 IsRefusal bytes lists options (Refused refusal) = Refuses bytes lists options refusal
 IsRefusal bytes lists options NoMemory = Unit {0}
 IsRefusal bytes lists options (Usage usage) = ⊥
