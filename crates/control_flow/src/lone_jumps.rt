@@ -2,6 +2,7 @@
 
 ghost use Rattle.std.specs.Prelude.{◌≡◌, ◌+◌, ◌<◌, ◌++◌, ◌∷◌, [], true, IfOk, IfSome, MatchOption, OnOk};
 ghost use Rattle.std.specs.BTreeMap.{get};
+ghost use Rattle.ot_base.specs.Places.{place_cmp};
 ghost use Rattle.alternatives.specs.declared.point.Point.{Point};
 ghost use Rattle.flow_defs.specs.Coded.{Coded};
 ghost use Rattle.flow_defs.specs.Arrival.{insn_of_object};
@@ -10,9 +11,9 @@ ghost use Rattle.flow_defs.specs.Edges.{is_some_place};
 ghost use Rattle.flow_defs.specs.Roles.{table_of_point};
 ghost use Rattle.point_edges.specs.Tables.{table_start_of};
 ghost use Rattle.control_flow.specs.Listed.{count_of};
-ghost use Rattle.control_flow.specs.Lone.{AreLoneJumps, GoAlike, HasEdgesOf, is_in_open_code as is_point_in_open_code, is_indirect_jump as is_indirect, is_lone_jump as is_lone, is_unlisted as is_unlisted_point, place_order};
+ghost use Rattle.control_flow.specs.Lone.{AreLoneJumps, GoAlike, HasEdgesOf, is_in_open_code as is_point_in_open_code, is_indirect_jump as is_indirect, is_lone_jump as is_lone, is_unlisted as is_unlisted_point};
 
-use object_points::site_at;
+use object_points::site_holding;
 use operation_defs::{Insn, Op};
 use ot_base::{NoMemory, Place};
 use point_edges::FlowPoints;
@@ -42,7 +43,9 @@ fn is_in_open_code(points: &FlowPoints<'_, '_, '_>, n: u32) -> bool
 {
     let places = points.places();
     let point = places.point(n);
-    point.variant == 0 && site_at(places, point.place).is_none() && !places.is_unchecked_point(n)
+    point.variant == 0
+        && site_holding(places, point.place).is_none()
+        && !places.is_unchecked_point(n)
 }
 
 /// Whether a point has a jump table that has entries.
@@ -95,7 +98,7 @@ impl LoneJumps {
 
     /// The first lone jump through the table that begins at a place.
     fn first(&self, start: Place) -> Option<u32>
-        ensures { result ≡ get place_order self.now.firsts start }
+        ensures { result ≡ get place_cmp self.now.firsts start }
     {
         Some(*self.firsts.get(&start)?)
     }

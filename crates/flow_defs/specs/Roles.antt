@@ -10,10 +10,10 @@ use Rattle.machine_defs.specs.declared.flow.Role.{Role}
 use Rattle.machine_defs.specs.declared.flow.Role.TheVariants.{Plain, CallIn, CallEither, CallOut, CallAny, Return, JumpOut, JumpAny, Switch}
 use Rattle.alternatives.specs.declared.point.Point.{Point}
 use Rattle.jump_tables.specs.Tables.{table_of}
-use Rattle.flow_defs.specs.declared.aim.Destination.{Destination}
-use Rattle.flow_defs.specs.declared.aim.Destination.TheVariants.{ToPlace, ToOwnPoint, ToOutside, ToIndirectThunk, ToReturnThunk, ToNowhere}
-use Rattle.flow_defs.specs.declared.aim.Way.{Way}
-use Rattle.flow_defs.specs.declared.aim.Way.TheVariants as ways
+use Rattle.flow_defs.specs.declared.destination.Destination.{Destination}
+use Rattle.flow_defs.specs.declared.destination.Destination.TheVariants.{ToPlace, ToOwnPoint, ToOutside, ToIndirectThunk, ToReturnThunk, ToNowhere}
+use Rattle.flow_defs.specs.declared.destination.Way.{Way}
+use Rattle.flow_defs.specs.declared.destination.Way.TheVariants as ways
 use Rattle.flow_defs.specs.Code.{texts_of, number_of, plain_point}
 use Rattle.flow_defs.specs.Owners.{owner_of_point, is_entry, unchecked_start}
 use Rattle.flow_defs.specs.Arrival.{insn_of_object, is_padding}
@@ -29,8 +29,11 @@ abbrev pub entry_call : ℕ → Option ℕ → Role
 entry_call entry None = CallIn entry
 entry_call entry (Some sym) = CallEither entry sym
 
+-- What a call of a boundary is, by a WEAK symbol or not, told whether an unchecked function starts there.
 abbrev pub call_by : Coded → Place → Option ℕ → Option ℕ → Role
+-- where one does, a call of code outside, by that function's symbol
 call_by o place weak (Some f) = CallOut f
+-- else a call of the entry that stands there, or of none
 call_by o place weak None = if is_entry o.elf place then entry_call (plain_number o place) weak else Plain
 
 -- a call of a place, by a WEAK symbol or not: of code outside where an unchecked function starts there

@@ -5,8 +5,9 @@
 //! alternatives, jump tables and hints.
 #![tactic(auto)]
 
-mod aim;
+mod destination;
 mod fault;
+pub mod laws;
 
-pub use aim::{Crossing, Destination, Way};
+pub use destination::{Crossing, Destination, Way};
 pub use fault::FlowFault;

@@ -56,20 +56,20 @@ const FIRST: Entry = Entry {
 
 const ENTRIES: [Entry; 5] = [LAST, MIDDLE, NOTHING, MIDDLE_TOO, FIRST];
 
-const SITES: [Site; 3] = [
-    Site {
+const SITES: [AlternativesSite; 3] = [
+    AlternativesSite {
         start: Place { sec: 1, off: 0 },
         len: 1,
         first: 0,
         count: 1,
     },
-    Site {
+    AlternativesSite {
         start: Place { sec: 1, off: 4 },
         len: 4,
         first: 1,
         count: 2,
     },
-    Site {
+    AlternativesSite {
         start: Place { sec: 1, off: 8 },
         len: 2,
         first: 3,
@@ -179,9 +179,9 @@ fn sites_of_entries(rt: HostRuntime) -> Result<(), Fail> {
     let sites = built(&rt, rt.alloc())?;
     assert!(rt; sites.sites() == SITES.as_slice());
     assert!(rt; sites.entry_numbers() == [4u32, 1, 3, 0].as_slice());
-    assert_eq!(rt; sites.site_at(Place { sec: 1, off: 3 }), None);
-    assert_eq!(rt; sites.site_at(Place { sec: 1, off: 7 }), Some(1));
-    assert_eq!(rt; sites.site_at(replacement(0)), None);
+    assert_eq!(rt; sites.site_number_at(Place { sec: 1, off: 3 }), None);
+    assert_eq!(rt; sites.site_number_at(Place { sec: 1, off: 7 }), Some(1));
+    assert_eq!(rt; sites.site_number_at(replacement(0)), None);
     Ok(())
 }
 
