@@ -1,4 +1,5 @@
-"""What the whole opcode map has beside the base map: opcodes behind `0F`, `0F 38` and `0F 3A`, and those behind VEX and EVEX.
+"""What the whole opcode map has beside the base map: opcodes behind `0F`, `0F 38` and `0F 3A`, and those behind VEX and EVEX. Its two
+one-byte opcodes stand in `opcode_map.py`.
 
 A line of a table has: opcodes; what stands behind (E any ModRM, Em one of memory, Er one of a register, with `/` and the values of its
 reg field where it has only some, bytes in hexadecimal where ModRM is one of these, none); `ib` where an immediate byte follows; the
@@ -79,7 +80,7 @@ E8-EF  E          .  .  n6
 F0     Em         .  .  2
 F1-F6  E          .  .  n6
 F7     Er         .  .  n6
-F8-FE  E          .  .  n6
+F8-FF  E          .  .  n6
 """
 
 # Behind 0F 38.
@@ -94,6 +95,8 @@ CF,DB-DF                  E  . . 6
 F5                        Em . . 6
 F6                        Em . . n
 F8                        Em . . 632
+F8                        Er . m 2
+F8                        Er . . 3
 F9                        Em . . n
 """
 
@@ -143,6 +146,13 @@ VEX_2 = """
 00-0F,13,16-19,1C-1E,20-25,28,29,2B        E  . . 6
 1A,2A,2C-2F,5A,8C,8E,90-93                 Em . . 6
 30-41,45-47,58,59,78,79,96-9F,A6-AF,B4-BF  E  . . 6
+49                 Em/0 . . n6
+49                 C0  . .  n
+49                 Er  . .  2
+4B                 Em  . .  632
+5C                 Er  . .  32
+5E                 Er  . .  n632
+6C                 Er  . .  n6
 50-53,D2,D3,DA     E   . .  n632
 72                 E   . .  3
 B0,B1              Em  . .  n632

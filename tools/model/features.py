@@ -10,7 +10,14 @@ COLD, AUX = ".text.unlikely", ".altinstr_aux"
 # The names that are built in, with one that isn't.
 NEVER = (
     "panic do_exit make_task_dead kthread_exit __stack_chk_fail fortify_panic usercopy_abort __ubsan_handle_builtin_unreachable "
-    "stop_this_cpu cpu_startup_entry rewind_stack_and_make_dead printk"
+    "stop_this_cpu cpu_startup_entry rewind_stack_and_make_dead "
+    "__fortify_panic __ia32_sys_exit __ia32_sys_exit_group __kunit_abort __module_put_and_kthread_exit "
+    "__tdx_hypercall_failed __x64_sys_exit __x64_sys_exit_group arch_cpu_idle_dead bch2_trans_in_restart_error "
+    "bch2_trans_restart_error bch2_trans_unlocked_error cpu_bringup_and_idle do_group_exit do_task_dead "
+    "ex_handler_msr_mce hlt_play_dead hv_ghcb_terminate kthread_complete_and_exit kunit_try_catch_throw "
+    "machine_real_restart mpt_halt_firmware nmi_panic_self_stop panic_smp_self_stop rest_init rust_begin_unwind "
+    "rust_helper_BUG sev_es_terminate snp_abort start_kernel x86_64_start_kernel x86_64_start_reservations "
+    "xen_cpu_bringup_again xen_start_kernel printk"
 ).split()
 SAFE = (
     "__fentry__ rep_movs_alternative rep_stos_alternative __copy_user_nocache copy_mc_fragile copy_mc_enhanced_fast_string "
@@ -33,7 +40,7 @@ FEATURES = {
     "calls_out": f("e800000000 e900000000", relocs=[to(1, "g"), to(6, "h")]),
     "conditional_jump_out": f("0f8400000000 c3", relocs=[to(2, "g")]),
     "never_returns": Sketch({".text": "e800000000 90 e8f5ffffff c3"}, [("f", 0, 6), ("g", 6, 6)], relocs=[to(1, "panic")]),
-    "names_that_never_return": f("7405 e800000000" * 12 + "c3", relocs=[to(3 + 7 * i, name) for i, name in enumerate(NEVER)]),
+    "names_that_never_return": f("7405 e800000000" * len(NEVER) + "c3", relocs=[to(3 + 7 * i, name) for i, name in enumerate(NEVER)]),
     "jump_to_what_never_returns": f("7405 e900000000 c3", relocs=[to(3, "do_exit")]),
     "endless": Sketch({".text": "90 ebfd e8f8ffffff c3"}, [("f", 0, 3), ("g", 3, 6)]),
     "recursion": f("e8fbffffff c3"),
@@ -69,6 +76,7 @@ FEATURES = {
         relocs=[to(3, (COLD, 0)), to(2, (COLD, 6), COLD), to(8, 7, COLD)],
     ),
     "no_parts": Sketch({".text": "e301 90 c3 c3 c3 c3"}, [("f", 0, 4), ("f.cold.", 4, 1), ("f.cold.x", 5, 1), (".cold", 6, 1)]),
+    "part_of_itself": Sketch({".text": "53 c3 90"}, [("f.cold", 0, 3), ("f", 0, 3)]),
     "part_of_an_alias": Sketch({".text": "90 c3 eb00 90"}, [("a", 0, 2), ("f", 0, 1), ("f.cold", 2, 3, LOCAL)]),
     "part_that_goes_to_the_start": Sketch({".text": "90 c3 ebfc"}, [("f", 0, 2), ("f.cold", 2, 2, LOCAL)]),
     "without_size": Sketch({".text": "90 c3"}, [("f", 0, 2), ("g", 1, 0), ("h", 0, 0)]),
@@ -144,6 +152,21 @@ FEATURES = {
         relocs=[(".text", 3, R_32S, (".rodata", 0), 0), (".text", 12, R_32S, (".rodata", 8), 0), (".rodata", 0, R_64, 7, 0), (".rodata", 8, R_64, 9, 0)],
     ),
     "table_with_a_gap": f("ff24c500000000 c3 c3", data={".rodata": 24}, relocs=[(".text", 3, R_32S, (".rodata", 0), 0), (".rodata", 0, R_64, 7, 0), (".rodata", 16, R_64, 8, 0)]),
+    # Relocations on numbers of the stack, and beside them
+    "relocated_numbers": f(
+        "55 4889e5 4881ec20000000 48896c2410 488d6500 4883e4f0 488d6500 4881c400000000 488da42400000000 488b6c2400 4883c408 c3",
+        data={".data": 8},
+        relocs=[(".text", at, 14, (".data", 0), 0) for at in (2, 15, 19, 23, 47, 51)]
+        + [(".text", at, 0, (".data", 0), 0) for at in (27, 31)]
+        + [(".text", at, R_32S, (".data", 0), 0) for at in (7, 31, 39)],
+    ),
+    "relocated_number_of_a_replacement": f(
+        "4883ec08 0f1f4000 4883c408 c3",
+        [(REPLACEMENTS, "4883c400")],
+        data={".data": 8},
+        relocs=[(REPLACEMENTS, 3, 14, (".data", 0), 0)],
+        alternatives=[alt(4, 4, 0, 4)],
+    ),
     "table_elsewhere": f("ff24c500000000 c3", data={".data": 8}, relocs=[(".text", 3, R_32S, (".data", 0), 0), (".data", 0, R_64, 7, 0)]),
     "table_into_a_site": f(
         "ff24c500000000 9090 c3", {REPLACEMENTS: "6690"}.items(), data={".rodata": 8},

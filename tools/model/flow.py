@@ -37,6 +37,8 @@ class Role(NamedTuple):
 
 
 PLAIN = Role("Plain")
+# The operations by a number: how far rsp or rbp moves, what rsp is masked with, or where rbp is saved or loaded.
+STACK_OFFSETS = "AddSp", "AndSp", "LeaSpBp", "LeaBpSp", "StoreBp", "LoadBp"
 
 
 def check_places(code: Code, special: Special, functions: Functions, sites: Sites) -> None:
@@ -86,11 +88,12 @@ class Flow:
 
         self.edges: dict[Point, set[Edge]] = {point: set() for point in self.points}
         self.role: dict[Point, Role] = {}
-        # What rules 1, 3, 13 and 16 ask of a kept point.
+        # What rules 1, 3, 13, 16 and 19 ask of a kept point.
         self.bad: set[Point] = set()
         self.past_end: set[Point] = set()
         self.into_site: set[Point] = set()
         self.into_function: set[Point] = set()
+        self.relocated: set[Point] = {point for point in self.points if self._is_relocated(point)}
         for point in self.points:
             self.role[point] = self._follow(point)
         self.may_return: set[Point] = returning(self)
@@ -134,6 +137,12 @@ class Flow:
         owner, after = self.owner[point], self.after[point]
         goes_on = owner is not None and after is not None and all(self.owner[other] == owner for other in after)
         return insn._replace(op="IretNext") if insn.op == "Iret" and goes_on else insn
+
+    def _is_relocated(self, point: Point) -> bool:
+        """Whether a relocation of any type but 0 begins at a byte of an instruction that moves the stack by a number."""
+        insn = self.insn[point]
+        fields = (self.object.relocs_at(Place(point.place.sec, point.place.off + at)) for at in range(insn.length))
+        return insn.op in STACK_OFFSETS and any(reloc.kind != 0 for relocs in fields for reloc in relocs)
 
     def _is_dead_end(self, point: Point) -> bool:
         if self.sites.is_padding(point):

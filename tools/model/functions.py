@@ -8,7 +8,7 @@ from elf import FUNC, R_PC32, R_PLT32, UNDEFINED, WEAK, Object, Place
 from opcodes import Insn
 from texts import Refused
 
-# What a compiler moved out of a function P, which it calls P.cold, or P.cold.1 and so on.
+# What a compiler moved out of a function P, which it calls P.cold, or P.cold.1 and so on. A function that has both names is no part.
 PART = re.compile(rb"(.*)\.cold(\.[0-9]+)?", re.DOTALL)
 
 
@@ -62,6 +62,8 @@ class Functions:
             numbers = by_start[start]
             part = PART.fullmatch(object.symbols[numbers[0]].name)
             parent = named.get(part[1]) if part else None
+            if parent and parent[1] == start:
+                parent = None
             size = max(object.symbols[number].size for number in numbers)
             self.list.append(Function(start, size, numbers[0], self.at_start[parent[1]] if parent else None))
 

@@ -76,6 +76,7 @@ class Graph:
             "past_end": point in flow.past_end,
             "into_site": point in flow.into_site,
             "into_function": point in flow.into_function,
+            "relocated": point in flow.relocated,
             "dead_end": point in flow.dead_ends,
             "unchecked": flow.is_unchecked(owner),
             "may_return": point in flow.may_return,

@@ -4,7 +4,14 @@ from texts import Refused
 
 NEVER_RETURN = (
     b"panic do_exit make_task_dead kthread_exit __stack_chk_fail fortify_panic usercopy_abort "
-    b"__ubsan_handle_builtin_unreachable stop_this_cpu cpu_startup_entry rewind_stack_and_make_dead"
+    b"__ubsan_handle_builtin_unreachable stop_this_cpu cpu_startup_entry rewind_stack_and_make_dead "
+    b"__fortify_panic __ia32_sys_exit __ia32_sys_exit_group __kunit_abort __module_put_and_kthread_exit "
+    b"__tdx_hypercall_failed __x64_sys_exit __x64_sys_exit_group arch_cpu_idle_dead bch2_trans_in_restart_error "
+    b"bch2_trans_restart_error bch2_trans_unlocked_error cpu_bringup_and_idle do_group_exit do_task_dead "
+    b"ex_handler_msr_mce hlt_play_dead hv_ghcb_terminate kthread_complete_and_exit kunit_try_catch_throw "
+    b"machine_real_restart mpt_halt_firmware nmi_panic_self_stop panic_smp_self_stop rest_init rust_begin_unwind "
+    b"rust_helper_BUG sev_es_terminate snp_abort start_kernel x86_64_start_kernel x86_64_start_reservations "
+    b"xen_cpu_bringup_again xen_start_kernel"
 ).split()
 ACCESS_SAFE = (
     b"__fentry__ rep_movs_alternative rep_stos_alternative __copy_user_nocache copy_mc_fragile "

@@ -252,6 +252,10 @@ def base_lookup(prefixes: Prefixes, number: int, opcode: int):
 
 def added_lookup(prefixes: Prefixes, number: int, opcode: int):
     """What the whole map has more, in the form of `lookup`."""
+    if number == 1:
+        # XABORT; XBEGIN, not under 66. Other prefixes may stand, whatever they are.
+        immediates = {0xC6: "ib"} if prefixes.opsize else {0xC6: "ib", 0xC7: "iz"}
+        return {0xF8: Entry("E", immediates[opcode])} if opcode in immediates else None
     standing = {"6": prefixes.opsize, "3": prefixes.rep, "2": prefixes.repne}
     lines = lines_at(number, opcode, frozenset(name for name, there in standing.items() if there))
     for line in lines:

@@ -264,7 +264,7 @@ ONE_BYTE_OPS = {
     0x68: "Push", 0x6A: "Push", 0x9C: "Push", 0x9D: "Popf",
 }  # fmt: skip
 TWO_BYTE_OPS = {
-    0x0B: "Ud2", 0xB9: "Ud2", 0x1F: "Nop", 0x05: "Switch", 0x07: "Switch", 0x34: "Switch", 0x35: "Switch",
+    0x0B: "Ud2", 0xB9: "Ud2", 0xFF: "Ud2", 0x1F: "Nop", 0x05: "Switch", 0x07: "Switch", 0x34: "Switch", 0x35: "Switch",
     0xA0: "Push", 0xA8: "Push", 0xA1: "Pop", 0xA9: "Pop",
 }  # fmt: skip
 
@@ -284,6 +284,8 @@ def flow_operation(s: Spelling) -> Optional[tuple]:
             return "Jmp", s.immediate, s.opcode == 0xE9
         if 0x70 <= s.opcode <= 0x7F or 0xE0 <= s.opcode <= 0xE3:
             return "Jcc", s.immediate, False
+        if s.opcode == 0xC7 and s.modrm == 0xF8:
+            return "Jcc", s.immediate, True
         if s.opcode == 0xFF and s.digit in (2, 3, 4, 5):
             return {2: ("CallInd",), 4: ("JmpInd", table_field(s))}.get(s.digit, ("Switch",))
     if s.map == 2:

@@ -85,6 +85,8 @@ def point_warnings(flow, point, state: State):
         yield 15,
     if point in flow.into_function:
         yield 16,
+    if point in flow.relocated and not isinstance(state, Ended):
+        yield 19,
 
 
 def wrong_switch(op: str, state: State) -> bool:

@@ -1,7 +1,7 @@
 """Abstract states of the stack, how an instruction moves them, and which state is kept for each point.
 
 A state tells of the innermost frame where rsp and rbp are. `cfa` is the value of rsp before the frame's call. docs/DEFINITIONS.md has
-the same under `state_defs`, and the states that are kept under `checker_defs`.
+the same under `state_defs`, and the states that are kept under `machine_defs`.
 """
 
 from typing import NamedTuple, Optional, Union

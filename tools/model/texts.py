@@ -45,6 +45,7 @@ WARNINGS = {
     16: "call into the middle of a function",
     17: "function without size",
     18: "restore without save",
+    19: "relocated stack offset",
     21: "call without frame",
     31: "indirect branch",
     32: "naked return",

@@ -4,7 +4,7 @@
 import sys
 
 from check import DONE, check
-from elf import ALLOC, EXECINSTR, FUNC, GLOBAL, LOCAL, NOTYPE, SECTION, SYMTAB, UNDEFINED, Reloc, Symbol, parse
+from elf import ABSOLUTE, ALLOC, EXECINSTR, FUNC, GLOBAL, LOCAL, NOTYPE, R_32S, SECTION, SYMTAB, UNDEFINED, Reloc, Symbol, parse
 from elf_make import NewSection, make
 from rules import Options
 
@@ -34,6 +34,14 @@ def code_in_f(code: str, *more: Symbol, relocs=(), sections=()) -> bytes:
 
 def plt32(offset: int, sym: int, sec: int = 1, addend: int = -4):
     return sec, Reloc(offset, 4, sym, addend)
+
+
+# A number that is given when objects are linked, and the relocation by which code has it.
+SIZE = Symbol(b"size", GLOBAL, NOTYPE, 0, ABSOLUTE, 64, 0)
+
+
+def imm32(offset: int):
+    return 1, Reloc(offset, R_32S, 3, 0)
 
 
 def table(name: bytes, body: bytes = b"") -> NewSection:
@@ -155,6 +163,7 @@ def rows(**at):
 
 ACCEPTED = 0, [], None
 RULE_15 = "return or context switch not allowed here"
+RULE_19 = "rule 19: relocated stack offset"
 ALL_REGISTERS = "415F415E415D415C5D5B415B415A4159415858595A5E5F4883C40848CF"
 
 # The pop of rbp gives it back; from there on the words that iret takes lie 88 bytes above.
@@ -274,6 +283,10 @@ WORKED = [
     ("a jump into a site", with_site("EB019090C3", 2, 2, "6690"), {}, warned(".text+0x0: rule 13: jump into an alternative site")),
     ("save and restore", hints_of("9090740248CFC3", (1, hint(6)), (4, hint(0)), (6, hint(7))), {}, rows(x0=D, x4=Z, x6=D, x7=Z)),
     ("restore without save", hints_of("90C3", (1, hint(7))), {}, warned(".text+0x1: rule 18: restore without save")),
+    ("a relocated number of a sub", code_in_f("4881EC000000004881C400000000C3", SIZE, relocs=[imm32(3)]), {}, warned(f".text+0x0: {RULE_19}")),
+    ("a relocated number of a lea", code_in_f("488DA42400000000C3", SIZE, relocs=[imm32(4)]), {}, warned(f".text+0x0: {RULE_19}")),
+    ("a relocation of type 0 on a number", code_in_f("4883EC084883C408C3", SIZE, relocs=[(1, Reloc(3, 0, 3, 0))]), {}, rows(x0=D, x4="100000000502", x8=D, x9=Z)),
+    ("a name that never returns", code_in_f("E800000000", outside("machine_real_restart"), relocs=[plt32(1, 3)]), {}, rows(x0=D, x5=Z)),
     ("byte 18", changed(demo(1), 18, "03"), {}, refused("not an x86-64 relocatable file at byte 18")),
     ("headers far away", changed(demo(1), 40, "C0FFFFFFFFFFFFFF"), {}, refused("file needs 18446744073709551615 bytes, has 504")),
     ("a body far away", changed(demo(1), 272, "FF" * 8), {}, refused("section 1: outside the file")),

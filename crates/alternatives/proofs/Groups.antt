@@ -6,32 +6,32 @@ use Rattle.std.proofs.lemmas.List.{get_or_default, get_or_append_left}
 use Rattle.std.proofs.lemmas.List.Elements.{All-push}
 use Rattle.std.proofs.Math.Seq.{get_or-append_seam}
 use Rattle.ot_base.specs.declared.place.Place.{Place}
-use Rattle.special_sections.specs.Hints.{is_place}
+use Rattle.ot_base.specs.Places.{same_place}
 use Rattle.alternatives.specs.declared.original.Original.{Original}
-use Rattle.alternatives.specs.declared.site.Site.{Site}
+use Rattle.alternatives.specs.declared.site.AlternativesSite.{AlternativesSite}
 use Rattle.alternatives.specs.Sites.{EndsBefore, AscendApart, FillFrom}
 use Rattle.alternatives.specs.Sorted.{AreByPlace, NoneMeet, GroupsOf}
 use Rattle.alternatives.proofs.Meets.{earlier, ends, same, ApartTwo, apart_pair}
 
 -- two places that are tested to be one are one
-pub one_place : (p q : Place) → is_place p q ≡ true → p ≡ q
+pub one_place : (p q : Place) → same_place p q ≡ true → p ≡ q
 one_place p q h =
     elim (eqb_tells p.sec q.sec) [
-      | inr (unlike, differ) ↦ let false' : is_place p q ≡ false = ap (λ b. b && eqb p.off q.off) unlike in absurd (let bad : false ≡ true = sym false' ∙ h in cc)
+      | inr (unlike, differ) ↦ let false' : same_place p q ≡ false = ap (λ b. b && eqb p.off q.off) unlike in absurd (let bad : false ≡ true = sym false' ∙ h in cc)
       | inl (alike, secs) ↦ elim (eqb_tells p.off q.off) [
-        | inr (unlike, differ) ↦ let false' : is_place p q ≡ false = ap (λ b. b && eqb p.off q.off) alike ∙ unlike in absurd (let bad : false ≡ true = sym false' ∙ h in cc)
+        | inr (unlike, differ) ↦ let false' : same_place p q ≡ false = ap (λ b. b && eqb p.off q.off) alike ∙ unlike in absurd (let bad : false ≡ true = sym false' ∙ h in cc)
         | inl (alike', offs) ↦
             let first : p ≡ record { sec = q.sec; off = p.off } = ap (λ s. let r : Place = record { sec = s; off = p.off } in r) secs in
             first ∙ ap (λ o. let r : Place = record { sec = q.sec; off = o } in r) offs
       ]
     ]
 
-fill_push : (from first end : ℕ) (sites : List Site) (s : Site) → FillFrom from sites first → s.first ≡ first → s.count ≡ end - first → first < end → FillFrom from (sites ++ s ∷ []) end
+fill_push : (from first end : ℕ) (sites : List AlternativesSite) (s : AlternativesSite) → FillFrom from sites first → s.first ≡ first → s.count ≡ end - first → first < end → FillFrom from (sites ++ s ∷ []) end
 fill_push from first end [] s fill is n some = (is ∙ sym fill, (omega arith, omega arith))
 fill_push from first end (r ∷ sites) s fill is n some = (fill.0, (fill.1.0, fill_push (from + r.count) first end sites s fill.1.1 is n some))
 
-module _ (os : List Original) (order : AreByPlace os) (apart : NoneMeet os) (some : All (λ o. 0 < o.len) os) (first end : ℕ) (inside : first < length os) (behind : first < end) (within : end ≤ length os) (alike : (k : ℕ) (d : Original) → first ≤ k → k < end → is_place (get_or os k d).place (get_or os first d).place ≡ true) (other : end < length os → (d : Original) → is_place (get_or os end d).place (get_or os first d).place ≡ false) (d0 : Original) where
-  abbrev pub site : Site
+module _ (os : List Original) (order : AreByPlace os) (apart : NoneMeet os) (some : All (λ o. 0 < o.len) os) (first end : ℕ) (inside : first < length os) (behind : first < end) (within : end ≤ length os) (alike : (k : ℕ) (d : Original) → first ≤ k → k < end → same_place (get_or os k d).place (get_or os first d).place ≡ true) (other : end < length os → (d : Original) → same_place (get_or os end d).place (get_or os first d).place ≡ false) (d0 : Original) where
+  abbrev pub site : AlternativesSite
   site = record { start = (get_or os first d0).place; len = (get_or os first d0).len; first = first; count = end - first }
 
   start_at : (d : Original) → get_or os first d ≡ get_or os first d0
@@ -54,17 +54,17 @@ module _ (os : List Original) (order : AreByPlace os) (apart : NoneMeet os) (som
       let to' : k < end = omega arith in
       (one_place _ _ (alike k d from to') ∙ ap (λ (o : Original). o.place) (start_at d), same_len k d from to' ∙ ap (λ (o : Original). o.len) (start_at d))
 
-  strictly : (x e y : Original) → 0 < x.len → is_place e.place x.place ≡ false → ApartTwo x e → (ApartTwo e y ⊎ (e ≡ y)) → ApartTwo x y → EndsBefore x.place x.len y.place
+  strictly : (x e y : Original) → 0 < x.len → same_place e.place x.place ≡ false → ApartTwo x e → (ApartTwo e y ⊎ (e ≡ y)) → ApartTwo x y → EndsBefore x.place x.len y.place
   strictly x e y long differ xe ey (earlier h) = inl h
   strictly x e y long differ xe ey (ends h i) = inr (h, i)
   strictly x e y long differ xe ey (same h i j) = absurd (never xe ey)
     where
       differs : x.place.sec ≡ e.place.sec → x.place.off ≡ e.place.off → ⊥
       differs s o =
-          let is : is_place e.place x.place ≡ is_place x.place x.place = ap (λ n. eqb n x.place.sec && eqb e.place.off x.place.off) (sym s) ∙ ap (λ n. eqb x.place.sec x.place.sec && eqb n x.place.off) (sym o) in
+          let is : same_place e.place x.place ≡ same_place x.place x.place = ap (λ n. eqb n x.place.sec && eqb e.place.off x.place.off) (sym s) ∙ ap (λ n. eqb x.place.sec x.place.sec && eqb n x.place.off) (sym o) in
           let bad : false ≡ true = sym differ ∙ is ∙ one x.place in cc
         where
-          one : (p : Place) → is_place p p ≡ true
+          one : (p : Place) → same_place p p ≡ true
           one p = ap (λ b. b && eqb p.off p.off) (eq-eqb p.sec p.sec refl) ∙ eq-eqb p.off p.off refl
 
       never : ApartTwo x e → (ApartTwo e y ⊎ (e ≡ y)) → ⊥
@@ -90,7 +90,7 @@ module _ (os : List Original) (order : AreByPlace os) (apart : NoneMeet os) (som
       subst (λ (o : Original). EndsBefore o.place o.len y.place) (start_at d)
       (strictly x e y (some first d inside) (other (omega arith) d) (apart_pair os order apart some d first end behind (omega arith)) ey (apart_pair os order apart some d first k (omega arith) to))
 
-  module _ (sites : List Site) (groups : GroupsOf os sites first) (before : All (λ s. (k : ℕ) (d : Original) → first ≤ k → k < length os → EndsBefore s.start s.len (get_or os k d).place) sites) where
+  module _ (sites : List AlternativesSite) (groups : GroupsOf os sites first) (before : All (λ s. (k : ℕ) (d : Original) → first ≤ k → k < length os → EndsBefore s.start s.len (get_or os k d).place) sites) where
     more_apart : AscendApart (sites ++ site ∷ [])
     more_apart i j d lower to =
         let len : length (sites ++ site ∷ []) ≡ length sites + 1 = length-append sites (site ∷ []) in

@@ -9,6 +9,7 @@ use Rattle.std.proofs.Math.Seq.{get_or-append_seam}
 use Rattle.std.proofs.lemmas.List.{ext_get_or, get_or_append_left, get_or_default, get_or-map, get_or-set_same, get_or-set_other, get_or-take, length-map, length-set, length-take-le, map-append, take-append-drop, take_all}
 use Rattle.std.proofs.lemmas.List.Elements.{filter-append, filter_more}
 use Rattle.std.proofs.lemmas.List.Filters.{length-filter_both, length-filter_more}
+use Rattle.ot_base.specs.Places.{is_before}
 use Rattle.operation_defs.specs.declared.op.Op.TheVariants.{Plain}
 use Rattle.operation_defs.specs.declared.insn.Insn.{Insn}
 use Rattle.x86_text.specs.declared.placed.PlacedInsn.{PlacedInsn}
@@ -16,7 +17,6 @@ use Rattle.x86_text.specs.Code.{code_of, insns_of}
 use Rattle.alternatives.specs.declared.texts.SectionText.{SectionText}
 use Rattle.alternatives.specs.declared.point.Point.{Point}
 use Rattle.alternatives.specs.Gathered.{is_plain, is_replaced, plain_at, plain_insns, plain_of, plain_points, woven, woven_at, AreTold, TellsPlain}
-use Rattle.alternatives.specs.Sites.{is_before}
 use Rattle.alternatives.proofs.Weaving.{its_insn}
 
 abbrev pub no_point : Point

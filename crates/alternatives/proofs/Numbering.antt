@@ -11,8 +11,8 @@ use Rattle.std.proofs.lemmas.List.Elements.{recursion_from_All}
 use Rattle.std.proofs.lemmas.List.Sorted.{searchable_from_sorted}
 use Rattle.std.proofs.lemmas.Map.Keys.{Less-from_sorted}
 use Rattle.ot_base.specs.declared.place.Place.{Place}
+use Rattle.ot_base.specs.Places.{is_before, place_cmp}
 use Rattle.special_sections.specs.declared.entries.AltEntry.{AltEntry}
-use Rattle.special_sections.specs.HintPlaces.{place_cmp}
 use Rattle.alternatives.specs.declared.fault.SiteWhy.{SiteWhy}
 use Rattle.alternatives.specs.declared.fault.SiteWhy.TheVariants.{NotBoundary, Overlap, Replacement}
 use Rattle.alternatives.specs.declared.texts.SectionText.{SectionText}
@@ -21,7 +21,6 @@ use Rattle.alternatives.specs.Faults.{AreRight}
 use Rattle.alternatives.specs.Texts.{behind, is_cut, is_whole, AreShort}
 use Rattle.alternatives.specs.Originals.{entry_at, counts, overlaps_earlier}
 use Rattle.alternatives.specs.Points.{address_of_point, entry_of, point_cmp, IsPoint}
-use Rattle.alternatives.specs.Sites.{is_before}
 use Rattle.alternatives.specs.Numbers.{IsKept, IsRunOf}
 use Rattle.alternatives.proofs.Ascending.{every-in}
 use Rattle.alternatives.proofs.Placed.{HasText, cut_has_text, and_both}

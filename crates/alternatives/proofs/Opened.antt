@@ -4,13 +4,13 @@ use Rattle.std.proofs.lemmas.Bool.{cases_lt, false≢true}
 use Rattle.std.proofs.lemmas.Bool.Decides.{eqb_tells, nat_tests}
 use Rattle.std.proofs.lemmas.List.{get_or_past}
 use Rattle.ot_base.specs.declared.place.Place.{Place}
+use Rattle.ot_base.specs.Places.{is_within, same_place}
 use Rattle.special_sections.specs.declared.entries.AltEntry.{AltEntry}
-use Rattle.special_sections.specs.Hints.{is_place}
 use Rattle.alternatives.specs.declared.texts.SectionText.{SectionText}
 use Rattle.alternatives.specs.declared.point.Point.{Point}
 use Rattle.alternatives.specs.Texts.{insn_at, is_cut, behind}
 use Rattle.alternatives.specs.Originals.{entry_at, no_entry, counts}
-use Rattle.alternatives.specs.Points.{entry_of, is_within, is_padded, padding_of, replacement_insn, IsPoint}
+use Rattle.alternatives.specs.Points.{entry_of, is_padded, padding_of, replacement_insn, IsPoint}
 use Rattle.alternatives.proofs.Placed.{HasText, insn_within, cut_has_text, and_both}
 
 -- only an entry that is there counts
@@ -67,8 +67,8 @@ replaced_place texts a place (inl (within, some)) =
     }
 replaced_place texts a place (inr padded) =
     let r : Place = a.replacement in
-    let rest = (and_both (ltb a.replacement_len a.original_len) (is_place place (behind r a.replacement_len) && is_cut texts place) padded).1 in
-    let both = and_both (is_place place (behind r a.replacement_len)) (is_cut texts place) rest in
+    let rest = (and_both (ltb a.replacement_len a.original_len) (same_place place (behind r a.replacement_len) && is_cut texts place) padded).1 in
+    let both = and_both (same_place place (behind r a.replacement_len)) (is_cut texts place) rest in
     let there = and_both (eqb place.sec r.sec) (eqb place.off (r.off + a.replacement_len)) both.0 in
     let at : place.off ≡ r.off + a.replacement_len = eqb_same place.off (r.off + a.replacement_len) there.1 in
     record {

@@ -8,7 +8,7 @@ use Rattle.std.proofs.lemmas.Bool.{false≢true}
 use Rattle.std.proofs.lemmas.Bool.Decides.{nat_tests}
 use Rattle.std.proofs.lemmas.Cmp.{then_total, on_total, nat_cmp_total, tied_itself}
 use Rattle.ot_base.specs.declared.place.Place.{Place}
-use Rattle.special_sections.specs.HintPlaces.{place_cmp}
+use Rattle.ot_base.specs.Places.{place_cmp}
 use Rattle.alternatives.specs.declared.point.Point.{Point}
 use Rattle.alternatives.specs.Points.{point_cmp}
 

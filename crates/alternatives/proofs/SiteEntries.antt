@@ -12,24 +12,24 @@ use Rattle.std.proofs.lemmas.List.Kept.{IsStrictlySortedBy-filter}
 use Rattle.std.proofs.lemmas.List.Sorted.{Contains-permutation, IsPermutation-sym}
 use Rattle.std.proofs.lemmas.Map.Keys.{IsDistinct-from_sorted, IsDistinct-IsPermutation, apart_from_distinct, sorted_from_all_adjacent}
 use Rattle.ot_base.specs.declared.place.Place.{Place}
+use Rattle.ot_base.specs.Places.{same_place}
 use Rattle.special_sections.specs.declared.entries.AltEntry.{AltEntry}
-use Rattle.special_sections.specs.Hints.{is_place}
-use Rattle.alternatives.specs.declared.site.Site.{Site}
+use Rattle.alternatives.specs.declared.site.AlternativesSite.{AlternativesSite}
 use Rattle.alternatives.specs.Originals.{entry_at, counts, counted}
 use Rattle.alternatives.specs.Points.{entries_from}
-use Rattle.alternatives.specs.Sites.{holds, AreSitesOf, AscendApart, EndsBefore, FillFrom, IsOriginalOf}
+use Rattle.alternatives.specs.Sites.{in_alternatives_site, AreSitesOf, AscendApart, EndsBefore, FillFrom, IsOriginalOf}
 use Rattle.alternatives.proofs.Ascending.{In, every-in, every-filter, every-from_in, every-passes, every-range, every-weaker, in_contains, contains_in, in-filter, same_elements}
 use Rattle.alternatives.proofs.Opened.{same_sec, from_start, before_end}
 use Rattle.alternatives.proofs.Whole.{fill_within}
 
 -- ---- the site of an index
-record IsWithin (sites : List Site) (i : ℕ) : Type 0 where
+record IsWithin (sites : List AlternativesSite) (i : ℕ) : Type 0 where
   j : ℕ
   inside : j < length sites
-  from : (d : Site) → (get_or sites j d).first ≤ i
-  below : (d : Site) → i < (get_or sites j d).first + (get_or sites j d).count
+  from : (d : AlternativesSite) → (get_or sites j d).first ≤ i
+  below : (d : AlternativesSite) → i < (get_or sites j d).first + (get_or sites j d).count
 
-covered : (from to i : ℕ) (sites : List Site) → FillFrom from sites to → from ≤ i → i < to → IsWithin sites i
+covered : (from to i : ℕ) (sites : List AlternativesSite) → FillFrom from sites to → from ≤ i → i < to → IsWithin sites i
 covered from to i [] fill low high = absurd (omega arith)
 covered from to i (s ∷ sites) fill low high = elim (cases_lt i (from + s.count)) [
   | inl here ↦ record { j = 0; inside = omega arith; from = λ d. omega (arith, fill.0); below = λ d. omega (arith, fill.0) }
@@ -38,7 +38,7 @@ covered from to i (s ∷ sites) fill low high = elim (cases_lt i (from + s.count
       record { j = suc rest.j; inside = omega (arith, rest.inside); from = rest.from; below = rest.below }
 ]
 
--- ---- one site at most holds a place
+-- ---- one site at most in_alternatives_site a place
 never_both : (p q place : Place) (m n : ℕ) → EndsBefore p m q → (eqb p.sec place.sec && (leb p.off place.off && ltb place.off (p.off + m))) ≡ true → (eqb q.sec place.sec && (leb q.off place.off && ltb place.off (q.off + n))) ≡ true → ⊥
 never_both p q place m n (inl less) h k =
     let a : p.sec ≡ place.sec = same_sec p.sec place.sec p.off place.off m h in
@@ -49,7 +49,7 @@ never_both p q place m n (inr (same, less)) h k =
     let b : q.off ≤ place.off = from_start q.sec place.sec q.off place.off n k in
     omega arith
 
-pub one_holds : (sites : List Site) (place : Place) (i j : ℕ) (d : Site) → AscendApart sites → i < length sites → j < length sites → holds (get_or sites i d) place ≡ true → holds (get_or sites j d) place ≡ true → i ≡ j
+pub one_holds : (sites : List AlternativesSite) (place : Place) (i j : ℕ) (d : AlternativesSite) → AscendApart sites → i < length sites → j < length sites → in_alternatives_site (get_or sites i d) place ≡ true → in_alternatives_site (get_or sites j d) place ≡ true → i ≡ j
 one_holds sites place i j d apart in_i in_j h k = elim (cases_order i j) [
   | inl same ↦ same
   | inr (inl less) ↦ absurd (never_both (get_or sites i d).start (get_or sites j d).start place (get_or sites i d).len (get_or sites j d).len (apart i j d less in_j) h k)
@@ -62,8 +62,8 @@ begins_there a b n some = grind (arith, nat_tests)
 some_len : (n : ℕ) → not (eqb n 0) ≡ true → 0 < n
 some_len n h = grind (arith, nat_tests)
 
-same_place : (a b c d : ℕ) → (eqb a b && eqb c d) ≡ true → (a ≡ b) × (c ≡ d)
-same_place a b c d h = (grind (arith, nat_tests), grind (arith, nat_tests))
+same_numbers : (a b c d : ℕ) → (eqb a b && eqb c d) ≡ true → (a ≡ b) × (c ≡ d)
+same_numbers a b c d h = (grind (arith, nat_tests), grind (arith, nat_tests))
 
 place_same : (a b : ℕ) → (eqb a a && eqb b b) ≡ true
 place_same a b = grind (arith, nat_tests)
@@ -89,14 +89,14 @@ nothing_kept p (x ∷ xs) none =
 in_kept : {X : Type 0} (p : X → Bool) (xs : List X) (q : X) → In q (filter p xs) → In q xs
 in_kept p xs q h = every-in (λ x. In x xs) (filter p xs) q (every-filter (λ x. In x xs) p xs (every-from_in (λ x. In x xs) xs (λ x k. k))) h
 
-pub place_is : (p q : Place) → is_place p q ≡ true → p ≡ q
+pub place_is : (p q : Place) → same_place p q ≡ true → p ≡ q
 place_is p q h =
-    let parts = same_place p.sec q.sec p.off q.off h in
+    let parts = same_numbers p.sec q.sec p.off q.off h in
     ap (λ s. let r : Place = record { sec = s; off = p.off } in r) parts.0
     ∙ ap (λ o. let r : Place = record { sec = q.sec; off = o } in r) parts.1
 
-pub is_place_refl : (p q : Place) → p ≡ q → is_place p q ≡ true
-is_place_refl p q same = subst (λ r. is_place p r ≡ true) same (place_same p.sec p.off)
+pub is_place_refl : (p q : Place) → p ≡ q → same_place p q ≡ true
+is_place_refl p q same = subst (λ r. same_place p r ≡ true) same (place_same p.sec p.off)
 
 pub not_false : (b : Bool) → not b ≡ false → b ≡ true
 not_false true h = refl
@@ -109,18 +109,18 @@ level_less : (x y u v a b : ℕ) → is_lt (ordering_then (ordering_then (nat_cm
 level_less x y u v a b h same level differ = grind (arith, nat_tests)
 
 -- the site of an entry that counts
-record IsHome (entries : List AltEntry) (sites : List Site) (numbers : List ℕ) (k : ℕ) : Type 0 where
+record IsHome (entries : List AltEntry) (sites : List AlternativesSite) (numbers : List ℕ) (k : ℕ) : Type 0 where
   j : ℕ
   inside : j < length sites
   i : ℕ
   at_in : i < length numbers
   at : get_or numbers i k ≡ k
-  from : (d : Site) → (get_or sites j d).first ≤ i
-  below : (d : Site) → i < (get_or sites j d).first + (get_or sites j d).count
-  start : (d : Site) → (get_or sites j d).start ≡ (entry_at entries k).original
-  held : (d : Site) → holds (get_or sites j d) (entry_at entries k).original ≡ true
+  from : (d : AlternativesSite) → (get_or sites j d).first ≤ i
+  below : (d : AlternativesSite) → i < (get_or sites j d).first + (get_or sites j d).count
+  start : (d : AlternativesSite) → (get_or sites j d).start ≡ (entry_at entries k).original
+  held : (d : AlternativesSite) → in_alternatives_site (get_or sites j d) (entry_at entries k).original ≡ true
 
-module _ (entries : List AltEntry) (sites : List Site) (numbers : List ℕ) (are : AreSitesOf entries sites numbers) where
+module _ (entries : List AltEntry) (sites : List AlternativesSite) (numbers : List ℕ) (are : AreSitesOf entries sites numbers) where
   home : (k : ℕ) → In k (counted entries) → IsHome entries sites numbers k
   home k h =
       let a : AltEntry = entry_at entries k in
@@ -128,7 +128,7 @@ module _ (entries : List AltEntry) (sites : List Site) (numbers : List ℕ) (are
       let at : Contains numbers k = Contains-permutation (counted entries) numbers k are.all (contains_in (counted entries) k h) in
       let w : IsWithin sites at.0 = covered 0 (length numbers) at.0 sites are.fill (omega arith) at.1 in
       let same : get_or numbers at.0 0 ≡ k = get_or_default numbers at.0 0 k at.1 ∙ at.2 in
-      let original : (d : Site) → IsOriginalOf entries (get_or sites w.j d) k = λ d. subst (IsOriginalOf entries (get_or sites w.j d)) same (are.alike w.j d w.inside at.0 (w.from d) (w.below d)) in
+      let original : (d : AlternativesSite) → IsOriginalOf entries (get_or sites w.j d) k = λ d. subst (IsOriginalOf entries (get_or sites w.j d)) same (are.alike w.j d w.inside at.0 (w.from d) (w.below d)) in
       record {
         j = w.j;
         inside = w.inside;
@@ -139,26 +139,26 @@ module _ (entries : List AltEntry) (sites : List Site) (numbers : List ℕ) (are
         below = w.below;
         start = λ d. sym (original d).start;
         held = λ d.
-            let s : Site = get_or sites w.j d in
-            subst (λ place. holds s place ≡ true) (sym (original d).start) (begins_there s.start.sec s.start.off s.len (subst (λ n. 0 < n) (original d).len (some_len a.original_len some)));
+            let s : AlternativesSite = get_or sites w.j d in
+            subst (λ place. in_alternatives_site s place ≡ true) (sym (original d).start) (begins_there s.start.sec s.start.off s.len (subst (λ n. 0 < n) (original d).len (some_len a.original_len some)));
       }
 
   -- where no site begins, no entry does
-  pub none_from : (place : Place) → ((j : ℕ) (d : Site) → j < length sites → (get_or sites j d).start ≡ place → holds (get_or sites j d) place ≡ true → ⊥) → entries_from entries place ≡ []
+  pub none_from : (place : Place) → ((j : ℕ) (d : AlternativesSite) → j < length sites → (get_or sites j d).start ≡ place → in_alternatives_site (get_or sites j d) place ≡ true → ⊥) → entries_from entries place ≡ []
   none_from place none =
-      let d : Site = record { start = place; len = 0; first = 0; count = 0 } in
-      nothing_kept (λ k. is_place (entry_at entries k).original place) (counted entries) (λ k h. elim (cases_Bool (is_place (entry_at entries k).original place)) [
+      let d : AlternativesSite = record { start = place; len = 0; first = 0; count = 0 } in
+      nothing_kept (λ k. same_place (entry_at entries k).original place) (counted entries) (λ k h. elim (cases_Bool (same_place (entry_at entries k).original place)) [
         | inr other ↦ other
         | inl begins ↦
             let there : (entry_at entries k).original ≡ place = place_is (entry_at entries k).original place begins in
             let s : IsHome entries sites numbers k = home k h in
-            absurd (none s.j d s.inside (s.start d ∙ there) (subst (λ q. holds (get_or sites s.j d) q ≡ true) there (s.held d)))
+            absurd (none s.j d s.inside (s.start d ∙ there) (subst (λ q. in_alternatives_site (get_or sites s.j d) q ≡ true) there (s.held d)))
       ])
 
   -- the entries of a site are those that begin where it does
-  pub all_from : (place : Place) (j : ℕ) (d : Site) → j < length sites → (get_or sites j d).start ≡ place → holds (get_or sites j d) place ≡ true → slice_range numbers (get_or sites j d).first ((get_or sites j d).first + (get_or sites j d).count) ≡ entries_from entries place
+  pub all_from : (place : Place) (j : ℕ) (d : AlternativesSite) → j < length sites → (get_or sites j d).start ≡ place → in_alternatives_site (get_or sites j d) place ≡ true → slice_range numbers (get_or sites j d).first ((get_or sites j d).first + (get_or sites j d).count) ≡ entries_from entries place
   all_from place j d inside starts held =
-      let s : Site = get_or sites j d in
+      let s : AlternativesSite = get_or sites j d in
       let f : ℕ = s.first in
       let c : ℕ = s.count in
       let reach : f + c ≤ length numbers = fill_within 0 (length numbers) sites j d are.fill inside in
@@ -189,16 +189,16 @@ module _ (entries : List AltEntry) (sites : List Site) (numbers : List ℕ) (are
       let zero_is : get_or numbers (f + at.0) 0 ≡ q = get_or_default numbers (f + at.0) 0 q (omega arith) ∙ is in
       let counts_in : In q (counted entries) = in_contains (counted entries) q (Contains-permutation numbers (counted entries) q (IsPermutation-sym (counted entries) numbers are.all) (f + at.0, (omega arith), is)) in
       let there : (entry_at entries q).original ≡ place = subst (λ k. (entry_at entries k).original ≡ s.start) zero_is (original at.0 less).start ∙ starts in
-      in-filter (λ k. is_place (entry_at entries k).original place) (counted entries) q counts_in
-      (subst (λ r. is_place r place ≡ true) (sym there) (place_same place.sec place.off)) in
+      in-filter (λ k. same_place (entry_at entries k).original place) (counted entries) q counts_in
+      (subst (λ r. same_place r place ≡ true) (sym there) (place_same place.sec place.off)) in
       let back : (q : ℕ) → In q (entries_from entries place) → In q xs = λ q h.
-      let counts_in : In q (counted entries) = in_kept (λ k. is_place (entry_at entries k).original place) (counted entries) q h in
-      let there : (entry_at entries q).original ≡ place = place_is (entry_at entries q).original place (every-in (λ k. is_place (entry_at entries k).original place ≡ true) (entries_from entries place) q (every-passes (λ k. is_place (entry_at entries k).original place) (counted entries)) h) in
+      let counts_in : In q (counted entries) = in_kept (λ k. same_place (entry_at entries k).original place) (counted entries) q h in
+      let there : (entry_at entries q).original ≡ place = place_is (entry_at entries q).original place (every-in (λ k. same_place (entry_at entries k).original place ≡ true) (entries_from entries place) q (every-passes (λ k. same_place (entry_at entries k).original place) (counted entries)) h) in
       let o : IsHome entries sites numbers q = home q counts_in in
-      let same : o.j ≡ j = one_holds sites place o.j j d are.apart o.inside inside (subst (λ r. holds (get_or sites o.j d) r ≡ true) there (o.held d)) held in
+      let same : o.j ≡ j = one_holds sites place o.j j d are.apart o.inside inside (subst (λ r. in_alternatives_site (get_or sites o.j d) r ≡ true) there (o.held d)) held in
       let low : f ≤ o.i = subst (λ n. (get_or sites n d).first ≤ o.i) same (o.from d) in
       let high : o.i < f + c = subst (λ n. o.i < (get_or sites n d).first + (get_or sites n d).count) same (o.below d) in
       let less : o.i - f < c = omega arith in
       in_contains xs q (o.i - f, (omega arith), item (o.i - f) q less ∙ ap (λ n. get_or numbers n q) {x = f + (o.i - f)} {y = o.i} (omega arith) ∙ o.at) in
       same_elements nat_cmp nat_cmp_total nat_equal xs (entries_from entries place) sorted
-      (IsStrictlySortedBy-filter nat_cmp (λ k. is_place (entry_at entries k).original place) (counted entries) (counted_sorted entries)) to back
+      (IsStrictlySortedBy-filter nat_cmp (λ k. same_place (entry_at entries k).original place) (counted entries) (counted_sorted entries)) to back

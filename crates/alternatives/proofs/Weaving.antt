@@ -7,11 +7,11 @@ use Rattle.std.specs.Ordering.{nat_cmp, is_lt, ordering_then}
 use Rattle.std.proofs.lemmas.Bool.Decides.{nat_tests}
 use Rattle.std.proofs.Math.Seq.{drop-cons, drop-nil}
 use Rattle.std.proofs.lemmas.List.{get_or-map, length-map, map-append}
+use Rattle.ot_base.specs.Places.{is_before}
 use Rattle.operation_defs.specs.declared.insn.Insn.{Insn}
 use Rattle.alternatives.specs.declared.point.Point.{Point}
 use Rattle.alternatives.specs.Gathered.{woven, woven_at}
 use Rattle.alternatives.specs.Points.{point_cmp}
-use Rattle.alternatives.specs.Sites.{is_before}
 use Rattle.alternatives.proofs.Ascending.{In, every-weaker}
 use Rattle.alternatives.proofs.PointOrder.{point_total}
 

@@ -9,7 +9,7 @@ use Rattle.std.proofs.lemmas.List.FromFn.{length-range_with_len}
 use Rattle.std.proofs.lemmas.List.Sorted.{IsPermutation-map, length_permutation}
 use Rattle.special_sections.specs.declared.entries.AltEntry.{AltEntry}
 use Rattle.alternatives.specs.declared.original.Original.{Original}
-use Rattle.alternatives.specs.declared.site.Site.{Site}
+use Rattle.alternatives.specs.declared.site.AlternativesSite.{AlternativesSite}
 use Rattle.alternatives.specs.declared.texts.SectionText.{SectionText}
 use Rattle.alternatives.specs.Originals.{entry_at, counts, counted, overlaps_earlier}
 use Rattle.alternatives.specs.Texts.{is_whole}
@@ -51,21 +51,21 @@ numbers_back : (entries : List AltEntry) (ks : List ℕ) → map (λ (o : Origin
 numbers_back entries [] = refl
 numbers_back entries (k ∷ ks) = ap (λ xs. k ∷ xs) (numbers_back entries ks)
 
-fill_reaches : (from to : ℕ) (sites : List Site) → FillFrom from sites to → from ≤ to
+fill_reaches : (from to : ℕ) (sites : List AlternativesSite) → FillFrom from sites to → from ≤ to
 fill_reaches from to [] fill = omega arith
 fill_reaches from to (s ∷ sites) fill =
     let rest : from + s.count ≤ to = fill_reaches (from + s.count) to sites fill.1.1 in
     omega arith
 
 -- the entries of a site are within the list
-pub fill_within : (from to : ℕ) (sites : List Site) (k : ℕ) (d : Site) → FillFrom from sites to → k < length sites → (get_or sites k d).first + (get_or sites k d).count ≤ to
+pub fill_within : (from to : ℕ) (sites : List AlternativesSite) (k : ℕ) (d : AlternativesSite) → FillFrom from sites to → k < length sites → (get_or sites k d).first + (get_or sites k d).count ≤ to
 fill_within from to [] k d fill inside = absurd (omega arith)
 fill_within from to (s ∷ sites) zero d fill inside =
     let rest : from + s.count ≤ to = fill_reaches (from + s.count) to sites fill.1.1 in
     omega (arith, fill.0)
 fill_within from to (s ∷ sites) (suc k) d fill inside = fill_within (from + s.count) to sites k d fill.1.1 (omega arith)
 
-pub fill_few : (from to : ℕ) (sites : List Site) → FillFrom from sites to → from + length sites ≤ to
+pub fill_few : (from to : ℕ) (sites : List AlternativesSite) → FillFrom from sites to → from + length sites ≤ to
 fill_few from to [] fill = omega arith
 fill_few from to (s ∷ sites) fill =
     let rest : from + s.count + length sites ≤ to = fill_few (from + s.count) to sites fill.1.1 in
@@ -79,7 +79,7 @@ none_where_right texts entries os (Some k) right is none = absurd (overlap_refus
 none : Original
 none = record { place = record { sec = 0; off = 0 }; len = 0; entry = 0 }
 
-module _ (entries : List AltEntry) (os : List Original) (moved : IsPermutation (originals_of entries) os) (order : AreByPlace os) (sites : List Site) (groups : GroupsOf os sites (length os)) where
+module _ (entries : List AltEntry) (os : List Original) (moved : IsPermutation (originals_of entries) os) (order : AreByPlace os) (sites : List AlternativesSite) (groups : GroupsOf os sites (length os)) where
   abbrev numbers : List ℕ
   numbers = map (λ (o : Original). o.entry) os
 
@@ -101,7 +101,7 @@ module _ (entries : List AltEntry) (os : List Original) (moved : IsPermutation (
 
   of_site : All (λ site. (i : ℕ) → site.first ≤ i → i < site.first + site.count → IsOriginalOf entries site (get_or numbers i 0)) sites
   of_site k d inside i from to =
-      let site : Site = get_or sites k d in
+      let site : AlternativesSite = get_or sites k d in
       let reach : site.first + site.count ≤ length os = fill_within 0 (length os) sites k d groups.fill inside in
       let within : i < length os = omega arith in
       let o : Original = get_or os i none in

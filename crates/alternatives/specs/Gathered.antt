@@ -1,6 +1,7 @@
 -- The points of an object as they are gathered: the plain ones by place, with those of replacements set among them.
 use Rattle.std.specs.Prelude.{◌≡◌, ℕ, ◌+◌, ◌==◌, not, Bool, List, [], ◌∷◌, map, filter, Option, Some, slice_get, if◌then◌else◌}
 use Rattle.std.specs.List.{range_with_len, flat_map}
+use Rattle.ot_base.specs.Places.{is_before}
 use Rattle.operation_defs.specs.declared.insn.Insn.{Insn}
 use Rattle.special_sections.specs.declared.entries.AltEntry.{AltEntry}
 use Rattle.x86_text.specs.declared.placed.PlacedInsn.{PlacedInsn}
@@ -11,7 +12,6 @@ use Rattle.alternatives.specs.declared.points.Listed.{Listed}
 use Rattle.alternatives.specs.Texts.{behind}
 use Rattle.alternatives.specs.Originals.{entry_at, counted}
 use Rattle.alternatives.specs.Points.{is_point}
-use Rattle.alternatives.specs.Sites.{is_before}
 
 -- the point of an instruction of a section's text
 abbrev pub plain_at : ℕ → PlacedInsn → Point

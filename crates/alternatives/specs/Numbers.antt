@@ -2,11 +2,11 @@
 use Rattle.std.specs.Prelude.{◌≡◌, ℕ, ◌<◌, ◌≤◌, ◌^◌, true, List, length, slice_get, slice_index_or, Option, Some, None, All, Contains}
 use Rattle.std.specs.List.Sorted.{IsStrictlySortedBy}
 use Rattle.ot_base.specs.declared.place.Place.{Place}
+use Rattle.ot_base.specs.Places.{is_before}
 use Rattle.operation_defs.specs.declared.insn.Insn.{Insn}
 use Rattle.special_sections.specs.declared.entries.AltEntry.{AltEntry}
 use Rattle.alternatives.specs.declared.point.Point.{Point}
 use Rattle.alternatives.specs.Points.{address_of_point, point_cmp}
-use Rattle.alternatives.specs.Sites.{is_before}
 
 -- the number of a point, or that it isn't among these
 abbrev pub IsNumberOf : List Point → Point → Option ℕ → Type 0

@@ -1,16 +1,15 @@
 -- The points of an object's code: its instructions, and those of the replacements that may be patched over its sites.
 -- Variant 0 is the code as it is assembled, variant k + 1 the replacement of entry k. All of it is told of every
 -- object, also of one whose entries are refused.
-use Rattle.std.specs.Prelude.{◌≡◌, ℕ, ◌+◌, ◌-◌, ◌==◌, ◌&&◌, not, nat_le, nat_lt, Bool, true, List, ◌∷◌, length, map, filter, Option, Some, None, is_some, option_and_then, if◌then◌else◌}
+use Rattle.std.specs.Prelude.{◌≡◌, ℕ, ◌+◌, ◌-◌, ◌==◌, ◌&&◌, not, nat_lt, Bool, true, List, ◌∷◌, length, map, filter, Option, Some, None, is_some, option_and_then, if◌then◌else◌}
 use Rattle.std.specs.List.{range_with_len, flat_map}
 use Rattle.std.specs.declared.cmp.Ordering.{Ordering}
 use Rattle.std.specs.Ordering.{nat_cmp, ordering_then}
 use Rattle.ot_base.specs.declared.place.Place.{Place}
+use Rattle.ot_base.specs.Places.{place_cmp, is_within, same_place}
 use Rattle.operation_defs.specs.declared.insn.Insn.{Insn}
 use Rattle.operation_defs.specs.declared.op.Op.TheVariants.{Nop}
 use Rattle.special_sections.specs.declared.entries.AltEntry.{AltEntry}
-use Rattle.special_sections.specs.Hints.{is_place}
-use Rattle.special_sections.specs.HintPlaces.{place_cmp}
 use Rattle.alternatives.specs.declared.texts.SectionText.{SectionText}
 use Rattle.alternatives.specs.declared.point.Point.{Point}
 use Rattle.alternatives.specs.Texts.{behind, insn_at, is_cut}
@@ -20,14 +19,10 @@ use Rattle.alternatives.specs.Originals.{entry_at, counts, counted}
 abbrev pub entry_of : List AltEntry → ℕ → AltEntry
 entry_of entries variant = entry_at entries (variant - 1)
 
--- a place is one of so many bytes from another on
-abbrev pub is_within : Place → ℕ → Place → Bool
-is_within start len place = (start.sec == place.sec) && (nat_le start.off place.off && nat_lt place.off (start.off + len))
-
 -- Padding stands at a place: there ends, at a boundary of a text section or at that section's end, a replacement that is
 -- shorter than its original.
 abbrev pub is_padded : List SectionText → AltEntry → Place → Bool
-is_padded texts a place = nat_lt a.replacement_len a.original_len && (is_place place (behind a.replacement a.replacement_len) && is_cut texts place)
+is_padded texts a place = nat_lt a.replacement_len a.original_len && (same_place place (behind a.replacement a.replacement_len) && is_cut texts place)
 
 -- the padding: a Nop over the rest of the original
 abbrev pub padding_of : AltEntry → Insn
@@ -87,7 +82,7 @@ first_of entries k = record { place = (entry_at entries k).replacement; variant 
 
 -- the entries whose originals begin at a place, ascending
 abbrev pub entries_from : List AltEntry → Place → List ℕ
-entries_from entries place = filter (λ k. is_place (entry_at entries k).original place) (counted entries)
+entries_from entries place = filter (λ k. same_place (entry_at entries k).original place) (counted entries)
 
 -- The points at which control may stand that comes to a place: the one of the code as it is assembled, and the first of
 -- the replacement of each entry whose original begins there.

@@ -3,10 +3,10 @@ use Rattle.std.specs.Prelude.{◌≡◌, ℕ, ◌+◌, ◌<◌, ◌≤◌, ◌==
 use Rattle.std.specs.List.Sorted.{IsSortedBy}
 use Rattle.std.specs.declared.cmp.Ordering.{Ordering}
 use Rattle.std.specs.Ordering.{nat_cmp, is_lt, ordering_then}
+use Rattle.ot_base.specs.Places.{place_cmp}
 use Rattle.special_sections.specs.declared.entries.AltEntry.{AltEntry}
-use Rattle.special_sections.specs.HintPlaces.{place_cmp}
 use Rattle.alternatives.specs.declared.original.Original.{Original}
-use Rattle.alternatives.specs.declared.site.Site.{Site}
+use Rattle.alternatives.specs.declared.site.AlternativesSite.{AlternativesSite}
 use Rattle.alternatives.specs.Sites.{FillFrom, AscendApart}
 use Rattle.alternatives.specs.Originals.{entry_at, counted, overlaps, overlaps_earlier, counts}
 
@@ -68,7 +68,7 @@ IsOverlap entries None = (j : ℕ) → j < length entries → overlaps_earlier e
 IsOverlap entries (Some k) = IsFirstOverlap entries k
 
 -- sites that are the groups of the first n originals: those that begin at one place
-pub record GroupsOf (originals : List Original) (sites : List Site) (n : ℕ) : Type 0 where
+pub record GroupsOf (originals : List Original) (sites : List AlternativesSite) (n : ℕ) : Type 0 where
   pub fill : FillFrom 0 sites n
   pub alike : All (λ s. (k : ℕ) (d : Original) → s.first ≤ k → k < s.first + s.count → ((slice_index_or originals k d).place ≡ s.start) × ((slice_index_or originals k d).len ≡ s.len)) sites
   pub apart : AscendApart sites

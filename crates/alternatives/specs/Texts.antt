@@ -22,6 +22,10 @@ text_bytes texts = sum_by (λ t. length t.text.bytes) texts
 abbrev pub insn_at : List SectionText → Place → Option Insn
 insn_at texts place = option_and_then (λ t. insn_listed (code_of t.text) place.off) (find (λ t. t.sec == place.sec) texts)
 
+-- a boundary: an instruction begins there
+abbrev pub is_boundary : List SectionText → Place → Bool
+is_boundary texts place = is_some (insn_at texts place)
+
 -- an instruction of a body of code begins at the offset, or the body ends there
 abbrev pub is_cut_of : Body → ℕ → Bool
 is_cut_of body off = off == length body.bytes || is_some (insn_listed (code_of body) off)

@@ -1,7 +1,8 @@
 //! The instructions of points.
 
 ghost use Rattle.std.specs.Prelude.{◌≡◌};
-ghost use Rattle.alternatives.specs.Points.{insn_of_point as insn_of_a_point, is_padded as is_a_padding, is_within as is_in, replacement_insn as insn_of_replacement};
+ghost use Rattle.ot_base.specs.Places.{is_within as is_in};
+ghost use Rattle.alternatives.specs.Points.{insn_of_point as insn_of_a_point, is_padded as is_a_padding, replacement_insn as insn_of_replacement};
 ghost use Rattle.alternatives.specs.Texts.{AreShort, AscendBySection};
 
 use crate::original::counts;

@@ -19,7 +19,7 @@ mod texts;
 
 pub use fault::{SiteFault, SiteWhy};
 pub use point::Point;
-pub use site::Site;
+pub use site::AlternativesSite;
 pub use sites::Sites;
 pub use special_sections::AltEntry;
 pub use texts::SectionText;

@@ -3,7 +3,7 @@
 ghost use Rattle.std.specs.Prelude.{◌+◌, ◌≡◌, ◌<◌, ◌^◌, Some, length, slice_get, IfSome};
 
 use crate::point::Point;
-use crate::site::Site;
+use crate::site::AlternativesSite;
 use crate::stored::StoredPoint;
 use ot_base::{NoMemory, Place};
 use std::alloc::Global;
@@ -51,7 +51,7 @@ impl Blocks {
     }
 
     /// The blocks of the starts of sites that ascend.
-    pub(crate) fn of_sites(alloc: Global, sites: &[Site]) -> Result<Blocks, NoMemory>
+    pub(crate) fn of_sites(alloc: Global, sites: &[AlternativesSite]) -> Result<Blocks, NoMemory>
         requires { length sites.now < 2 ^ 32 }
     {
         let before = Vec::new(alloc);

@@ -2,13 +2,12 @@
 
 ghost use Rattle.std.specs.Prelude.{◌≡◌, ◌<◌, ◌≤◌, ℕ, true, false, length, slice_index_or};
 ghost use Rattle.std.specs.List.Sorted.{IsStrictlySortedBy};
+ghost use Rattle.ot_base.specs.Places.{is_before as is_lower};
 ghost use Rattle.alternatives.specs.declared.point.Point.{Point};
 ghost use Rattle.alternatives.specs.Points.{point_cmp};
-ghost use Rattle.alternatives.specs.Sites.{is_before as is_lower};
 
-use crate::site::is_before;
 use crate::stored::StoredPoint;
-use ot_base::Place;
+use ot_base::{Place, is_before};
 
 /// A place where control may stand: an instruction of the code, or one of a replacement that may be
 /// patched over a site.

@@ -3,21 +3,20 @@
 ghost use Rattle.std.specs.Prelude.{◌≡◌, ◌+◌, ◌*◌, ◌≤◌, ◌<◌, ◌++◌, ◌∷◌, [], ℕ, true, false, List, Option, Some, filter, map, drop, length, slice_index_or, All, IfOk, OnOk};
 ghost use Rattle.std.specs.List.Sorted.{IsPermutation, IsSortedBy};
 ghost use Rattle.std.specs.Ordering.{is_lt};
+ghost use Rattle.ot_base.specs.Places.{is_before as is_before_place};
 ghost use Rattle.operation_defs.specs.declared.insn.Insn.{Insn};
 ghost use Rattle.alternatives.specs.declared.point.Point.{Point};
 ghost use Rattle.alternatives.specs.Gathered.{is_plain, is_replaced, plain_insns, plain_of, plain_points, replaced_of, replacement_points, woven, AreTold, HaveInsns};
 ghost use Rattle.alternatives.specs.Originals.{counts as is_counted, entry_at};
 ghost use Rattle.alternatives.specs.Points.{insn_of_point as insn_of_a_point, point_cmp, points_of as points_in_order, IsPoint};
-ghost use Rattle.alternatives.specs.Sites.{is_before as is_before_place};
 ghost use Rattle.alternatives.specs.Texts.{text_bytes, AreShort, AscendBySection};
 
 use crate::insns::insn_of_point;
 use crate::original::counts;
 use crate::point::Point;
-use crate::site::is_before;
 use crate::stored::StoredPoint;
 use crate::texts::SectionText;
-use ot_base::{NoMemory, Place};
+use ot_base::{NoMemory, Place, is_before};
 use special_sections::AltEntry;
 use std::alloc::Global;
 use x86_text::InsnList;

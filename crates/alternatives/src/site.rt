@@ -1,21 +1,21 @@
 //! Sites: the places of code that may be patched over.
 
 ghost use Rattle.std.specs.Prelude.{◌≡◌, ◌+◌, ◌-◌, ◌<◌, ◌≤◌, ◌^◌, ℕ, true, false, List, length, slice_index_or, IfOk, All, MatchOption};
-ghost use Rattle.special_sections.specs.Hints.{is_place};
+ghost use Rattle.ot_base.specs.Places.{is_before as is_lower, same_place};
 ghost use Rattle.special_sections.specs.declared.entries.AltEntry.{AltEntry};
 ghost use Rattle.alternatives.specs.declared.original.Original.{Original};
-ghost use Rattle.alternatives.specs.declared.site.Site.{Site};
+ghost use Rattle.alternatives.specs.declared.site.AlternativesSite.{AlternativesSite};
 ghost use Rattle.alternatives.specs.Points.{entries_from};
-ghost use Rattle.alternatives.specs.Sites.{holds as site_holds, is_before as is_lower, AreSitesOf, AscendApart, FillFrom};
+ghost use Rattle.alternatives.specs.Sites.{in_alternatives_site as site_holds, AreSitesOf, AscendApart, FillFrom};
 ghost use Rattle.alternatives.specs.Sorted.{AreByPlace, NoneMeet, GroupsOf};
 
 use crate::original::Original;
-use ot_base::{NoMemory, Place};
+use ot_base::{NoMemory, Place, is_before};
 use std::alloc::Global;
 
 /// A place of code that may be patched over by any one of its replacements, or stay.
 #[derive(Clone, Copy, Debug, PartialEq, Eq)]
-pub struct Site {
+pub struct AlternativesSite {
     /// Where it begins.
     pub start: Place,
     /// Its length in bytes, not 0.
@@ -31,8 +31,8 @@ fn end_of_site(originals: &[Original], first: usize) -> usize
     requires { first < length originals.now }
     ensures behind { first < result }
     ensures within { result ≤ length originals.now }
-    ensures alike { (k : ℕ) (d : Original) → first ≤ k → k < result → is_place (slice_index_or originals.now k d).place (slice_index_or originals.now first d).place ≡ true }
-    ensures other { result < length originals.now → (d : Original) → is_place (slice_index_or originals.now result d).place (slice_index_or originals.now first d).place ≡ false }
+    ensures alike { (k : ℕ) (d : Original) → first ≤ k → k < result → same_place (slice_index_or originals.now k d).place (slice_index_or originals.now first d).place ≡ true }
+    ensures other { result < length originals.now → (d : Original) → same_place (slice_index_or originals.now result d).place (slice_index_or originals.now first d).place ≡ false }
 {
     let place = originals[first].place;
     for end in first + 1..originals.len() {
@@ -44,7 +44,10 @@ fn end_of_site(originals: &[Original], first: usize) -> usize
 }
 
 /// The sites of sorted originals of which no two meet.
-pub(crate) fn group_sites(alloc: Global, originals: &[Original]) -> Result<Vec<Site>, NoMemory>
+pub(crate) fn group_sites(
+    alloc: Global,
+    originals: &[Original],
+) -> Result<Vec<AlternativesSite>, NoMemory>
     requires few { length originals.now < 2 ^ 32 }
     requires sorted { AreByPlace originals.now }
     requires apart { NoneMeet originals.now }
@@ -56,7 +59,7 @@ pub(crate) fn group_sites(alloc: Global, originals: &[Original]) -> Result<Vec<S
     while first < originals.len() {
         let end = end_of_site(originals, first);
         let original = originals[first];
-        sites.push(Site {
+        sites.push(AlternativesSite {
             start: original.place,
             len: original.len,
             first: first as u32,
@@ -67,15 +70,8 @@ pub(crate) fn group_sites(alloc: Global, originals: &[Original]) -> Result<Vec<S
     Ok(sites)
 }
 
-/// Whether a place is in an earlier section, or in the same one at a lower offset.
-pub(crate) fn is_before(place: Place, other: Place) -> bool
-    ensures { result ≡ is_lower place other }
-{
-    place.sec < other.sec || place.sec == other.sec && place.off < other.off
-}
-
 /// Whether a place lies in a site.
-fn holds(site: &Site, place: Place) -> bool
+fn in_alternatives_site(site: &AlternativesSite, place: Place) -> bool
     ensures { result ≡ site_holds site.now place }
 {
     let start = site.start;
@@ -85,19 +81,19 @@ fn holds(site: &Site, place: Place) -> bool
 }
 
 /// How many of these begin at a place or before it.
-fn search_to(sites: &[Site], place: Place) -> usize
+fn search_to(sites: &[AlternativesSite], place: Place) -> usize
     requires { AscendApart sites.now }
     ensures within { result ≤ length sites.now }
-    ensures from { (k : ℕ) (d : Site) → k < result → is_lower place (slice_index_or sites.now k d).start ≡ false }
-    ensures behind { (k : ℕ) (d : Site) → result ≤ k → k < length sites.now → is_lower place (slice_index_or sites.now k d).start ≡ true }
+    ensures from { (k : ℕ) (d : AlternativesSite) → k < result → is_lower place (slice_index_or sites.now k d).start ≡ false }
+    ensures behind { (k : ℕ) (d : AlternativesSite) → result ≤ k → k < length sites.now → is_lower place (slice_index_or sites.now k d).start ≡ true }
 {
     sites.partition_point(|site| !is_before(place, site.start))
 }
 
 /// Whether so many of these begin at a place or before it, or more.
-fn are_from(sites: &[Site], place: Place, count: usize) -> bool
+fn are_from(sites: &[AlternativesSite], place: Place, count: usize) -> bool
     ensures within { result ≡ true → count ≤ length sites.now }
-    ensures last { result ≡ true → (d : Site) → 0 < count → is_lower place (slice_index_or sites.now (count - 1) d).start ≡ false }
+    ensures last { result ≡ true → (d : AlternativesSite) → 0 < count → is_lower place (slice_index_or sites.now (count - 1) d).start ≡ false }
 {
     if count > sites.len() {
         return false;
@@ -106,11 +102,11 @@ fn are_from(sites: &[Site], place: Place, count: usize) -> bool
 }
 
 /// How many of these begin at a place or before it, counted on from so many of the first that are thought to.
-fn count_to(sites: &[Site], place: Place, near: usize) -> usize
+fn count_to(sites: &[AlternativesSite], place: Place, near: usize) -> usize
     requires { AscendApart sites.now }
     ensures within { result ≤ length sites.now }
-    ensures from { (k : ℕ) (d : Site) → k < result → is_lower place (slice_index_or sites.now k d).start ≡ false }
-    ensures behind { (k : ℕ) (d : Site) → result ≤ k → k < length sites.now → is_lower place (slice_index_or sites.now k d).start ≡ true }
+    ensures from { (k : ℕ) (d : AlternativesSite) → k < result → is_lower place (slice_index_or sites.now k d).start ≡ false }
+    ensures behind { (k : ℕ) (d : AlternativesSite) → result ≤ k → k < length sites.now → is_lower place (slice_index_or sites.now k d).start ≡ true }
 {
     if !are_from(sites, place, near) {
         return search_to(sites, place);
@@ -124,17 +120,17 @@ fn count_to(sites: &[Site], place: Place, near: usize) -> usize
 }
 
 /// The number of the site that holds a place, looked for near so many.
-pub(crate) fn find_site(sites: &[Site], place: Place, near: usize) -> Option<u32>
+pub(crate) fn find_site(sites: &[AlternativesSite], place: Place, near: usize) -> Option<u32>
     requires few { length sites.now < 2 ^ 32 }
     requires apart { AscendApart sites.now }
-    ensures { MatchOption result ((k : ℕ) (d : Site) → k < length sites.now → site_holds (slice_index_or sites.now k d) place ≡ false) (λ i. (i < length sites.now) × ((d : Site) → site_holds (slice_index_or sites.now i d) place ≡ true)) }
+    ensures { MatchOption result ((k : ℕ) (d : AlternativesSite) → k < length sites.now → site_holds (slice_index_or sites.now k d) place ≡ false) (λ i. (i < length sites.now) × ((d : AlternativesSite) → site_holds (slice_index_or sites.now i d) place ≡ true)) }
 {
     let count = count_to(sites, place, near);
     if count == 0 {
         return None;
     }
     let last = count - 1;
-    if holds(&sites[last], place) {
+    if in_alternatives_site(&sites[last], place) {
         Some(last as u32)
     } else {
         None
@@ -143,7 +139,7 @@ pub(crate) fn find_site(sites: &[Site], place: Place, near: usize) -> Option<u32
 
 /// The numbers of the entries of the site that begins at a place, of those of all sites, looked for near so many.
 pub(crate) fn numbers_from<'n>(
-    sites: &[Site],
+    sites: &[AlternativesSite],
     numbers: &'n [u32],
     place: Place,
     near: usize,

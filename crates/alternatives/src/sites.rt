@@ -5,10 +5,10 @@ ghost use Rattle.alternatives.specs.Faults.{AreRight, IsFirstFault};
 ghost use Rattle.alternatives.specs.Gathered.{plain_insns};
 ghost use Rattle.alternatives.specs.Numbers.{IsNumberOf, IsRunOf};
 ghost use Rattle.alternatives.specs.Points.{address_of_point, entries_from, first_of, insn_of_point, point_after, points_of};
-ghost use Rattle.alternatives.specs.Sites.{holds, AreSitesOf};
+ghost use Rattle.alternatives.specs.Sites.{in_alternatives_site, AreSitesOf};
 ghost use Rattle.alternatives.specs.Texts.{text_bytes, AreShort, AscendBySection};
 ghost use Rattle.alternatives.specs.declared.original.Original.{Original};
-ghost use Rattle.alternatives.specs.declared.site.Site.{Site};
+ghost use Rattle.alternatives.specs.declared.site.AlternativesSite.{AlternativesSite};
 
 use crate::check::check_entries;
 use crate::fault::SiteFault;
@@ -16,7 +16,7 @@ use crate::near::Blocks;
 use crate::original::{Original, sorted_originals};
 use crate::overlap::find_overlap;
 use crate::point::Point;
-use crate::site::{Site, find_site, group_sites, numbers_from};
+use crate::site::{AlternativesSite, find_site, group_sites, numbers_from};
 use crate::table::PointTable;
 use crate::texts::SectionText;
 use operation_defs::Insn;
@@ -30,7 +30,7 @@ use x86_text::InsnList;
 /// sites, of the numbers of their entries, of the points with their instructions, and of all entries.
 #[derive(Drop)]
 pub struct Sites {
-    sites: Vec<Site>,
+    sites: Vec<AlternativesSite>,
     entry_numbers: Vec<u32>,
     blocks: Blocks,
     table: PointTable,
@@ -84,15 +84,15 @@ impl Sites {
     }
 
     /// The sites, ascending.
-    pub fn sites(&self) -> &[Site]
+    pub fn sites(&self) -> &[AlternativesSite]
         ensures { result.now ≡ self.now.sites }
     {
         &self.sites
     }
 
-    /// The number of the site that holds a place.
+    /// The number of the site that in_alternatives_site a place.
     pub fn site_at(&self, place: Place) -> Option<u32>
-        ensures { MatchOption result ((k : ℕ) (d : Site) → k < length self.now.sites → holds (slice_index_or self.now.sites k d) place ≡ false) (λ i. (i < length self.now.sites) × ((d : Site) → holds (slice_index_or self.now.sites i d) place ≡ true)) }
+        ensures { MatchOption result ((k : ℕ) (d : AlternativesSite) → k < length self.now.sites → in_alternatives_site (slice_index_or self.now.sites k d) place ≡ false) (λ i. (i < length self.now.sites) × ((d : AlternativesSite) → in_alternatives_site (slice_index_or self.now.sites i d) place ≡ true)) }
     {
         let (near, _) = self.blocks.numbers(place);
         find_site(self.sites.as_slice(), place, near as usize)

@@ -4,8 +4,8 @@ use Rattle.std.specs.Prelude.{◌≢◌, ◌⊎◌}
 use Rattle.ot_files.specs.Causes.{Rose}
 use Rattle.command_base.specs.declared.status.Status.{Status}
 use Rattle.command_base.specs.declared.status.Status.TheVariants.{Done, Warnings, FileFault, SinkFault, NoMemory}
-use Rattle.command_base.specs.declared.stop.Stop.{Stop}
-use Rattle.command_base.specs.declared.stop.Stop.TheVariants as stop
+use Rattle.command_base.specs.declared.stop.CommandStop.{CommandStop}
+use Rattle.command_base.specs.declared.stop.CommandStop.TheVariants as stop
 use Rattle.command_base.specs.Outside.{Output}
 use Rattle.command_base.specs.Printing.{Concludes, Prints, fails, fault_stays, runs_out, silent, tells, whole}
 use Rattle.command_base.specs.Stop.{line_of, status_of}
@@ -43,7 +43,7 @@ printed_after_fault text before after SinkFault (fails prefix rose other) = absu
 printed_after_fault text before after NoMemory (runs_out prefix) = inr refl
 
 -- the statuses that no stop has
-stop_not_done : (s : Stop) → status_of s ≢ Done
+stop_not_done : (s : CommandStop) → status_of s ≢ Done
 stop_not_done (stop.Usage usage) e = cc
 stop_not_done (stop.Missing file) e = cc
 stop_not_done (stop.TooLong file limit) e = cc
@@ -51,7 +51,7 @@ stop_not_done (stop.Refused refusal) e = cc
 stop_not_done (stop.FileFault file) e = cc
 stop_not_done stop.NoMemory e = cc
 
-stop_no_warnings : (s : Stop) → status_of s ≢ Warnings
+stop_no_warnings : (s : CommandStop) → status_of s ≢ Warnings
 stop_no_warnings (stop.Usage usage) e = cc
 stop_no_warnings (stop.Missing file) e = cc
 stop_no_warnings (stop.TooLong file limit) e = cc
@@ -59,7 +59,7 @@ stop_no_warnings (stop.Refused refusal) e = cc
 stop_no_warnings (stop.FileFault file) e = cc
 stop_no_warnings stop.NoMemory e = cc
 
-stop_no_sink_fault : (s : Stop) → status_of s ≢ SinkFault
+stop_no_sink_fault : (s : CommandStop) → status_of s ≢ SinkFault
 stop_no_sink_fault (stop.Usage usage) e = cc
 stop_no_sink_fault (stop.Missing file) e = cc
 stop_no_sink_fault (stop.TooLong file limit) e = cc
@@ -68,24 +68,24 @@ stop_no_sink_fault (stop.FileFault file) e = cc
 stop_no_sink_fault stop.NoMemory e = cc
 
 -- the same of a stop that was told
-pub concluded_fault : (s : Stop) (before after : Output) (x : Status) → Concludes s before after x → x ≡ FileFault → status_of s ≡ FileFault
+pub concluded_fault : (s : CommandStop) (before after : Output) (x : Status) → Concludes s before after x → x ≡ FileFault → status_of s ≡ FileFault
 concluded_fault s before after x (tells other t) e = printed_fault _ _ before after x t e
 concluded_fault s before after NoMemory (silent none same) e = cc
 
-pub concluded_sink_fault : (s : Stop) (before after : Output) (x : Status) → Concludes s before after x → x ≡ SinkFault → Rose before.faults after.faults
+pub concluded_sink_fault : (s : CommandStop) (before after : Output) (x : Status) → Concludes s before after x → x ≡ SinkFault → Rose before.faults after.faults
 concluded_sink_fault s before after x (tells other t) e = printed_sink_fault _ _ before after x t (stop_no_sink_fault s) e
 concluded_sink_fault s before after NoMemory (silent none same) e = cc
 
-pub concluded_not_done : (s : Stop) (before after : Output) (x : Status) → Concludes s before after x → x ≢ Done
+pub concluded_not_done : (s : CommandStop) (before after : Output) (x : Status) → Concludes s before after x → x ≢ Done
 concluded_not_done s before after x (tells other t) e = stop_not_done s (printed_done _ _ before after x t e)
 concluded_not_done s before after NoMemory (silent none same) e = cc
 
-pub concluded_no_warnings : (s : Stop) (before after : Output) (x : Status) → Concludes s before after x → x ≢ Warnings
+pub concluded_no_warnings : (s : CommandStop) (before after : Output) (x : Status) → Concludes s before after x → x ≢ Warnings
 concluded_no_warnings s before after x (tells other t) e = stop_no_warnings s (printed_warnings _ _ before after x t e)
 concluded_no_warnings s before after NoMemory (silent none same) e = cc
 
 -- what is left where a file's fault or want of memory is told
-pub concluded_after_fault : (file : Stop) (before after : Output) (x : Status) → status_of file ≡ FileFault → Concludes file before after x → (x ≡ FileFault) ⊎ (x ≡ NoMemory)
+pub concluded_after_fault : (file : CommandStop) (before after : Output) (x : Status) → status_of file ≡ FileFault → Concludes file before after x → (x ≡ FileFault) ⊎ (x ≡ NoMemory)
 concluded_after_fault s before after x at (tells other t) = printed_after_fault _ before after x (subst (λ (end : Status). Prints end (line_of s) before after x) at t)
 concluded_after_fault s before after NoMemory at (silent none same) = inr refl
 

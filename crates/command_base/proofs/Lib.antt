@@ -1,2 +1,6 @@
 pub mod ConcludeLemmas
 pub mod PrintLemmas
+pub mod DumpLaws
+pub mod DumpLemmas
+pub mod UnwindLaws
+pub mod UnwindLemmas

@@ -1,5 +1,5 @@
 -- What is printed, from what writing a line ensures.
-use Rattle.std.proofs.Common.{◌≡◌, ℕ, ◌≤◌, List, ◌++◌, refl, sym, ap, ◌∙◌, append-nil, append_assoc, arith, subst, ◌∷◌}
+use Rattle.std.proofs.Common.{◌≡◌, ℕ, ◌<◌, ◌≤◌, List, ◌++◌, refl, sym, ap, ◌∙◌, append-nil, append_assoc, arith, subst, inl, inr, ◌∷◌}
 use Rattle.std.specs.Prelude.{◌≢◌, [], Some, None, Option, Result, Ok, Err, OnOk, OnErr, IsErrOf}
 use Rattle.ot_files.specs.Causes.{Rose}
 use Rattle.ot_files.specs.Output.{AppendsPrefix, appending}
@@ -8,7 +8,7 @@ use Rattle.ot_files.specs.declared.output.SinkError.TheVariants.{Failed, NoMemor
 use Rattle.command_base.specs.declared.status.Status.{Status}
 use Rattle.command_base.specs.declared.status.Status.TheVariants as status
 use Rattle.command_base.specs.Outside.{Output}
-use Rattle.command_base.specs.Printing.{FailsToPrint, Prints, ended, whole, fault_stays, fails, runs_out}
+use Rattle.command_base.specs.Printing.{FailsToPrint, IsOutputFault, Prints, ended, whole, fault_stays, fails, runs_out}
 
 rose_before : (before middle after : ℕ) → before ≤ middle → Rose middle after → Rose before after
 rose_before before middle after later rose = omega arith
@@ -26,6 +26,38 @@ pub prints : (text : List ℕ) (before after : Output) (s : Status) (r : Result 
 prints text before after s (Ok u) all prefix rose = whole refl all
 prints text before after s (Err NoMemory) all prefix rose = runs_out prefix
 prints text before after s (Err Failed) all prefix rose = failed text before after s prefix (rose refl)
+
+-- ---- where the output failed
+
+-- what a command ends with whose text couldn't be written
+pub ended_fault : (s : Status) → IsOutputFault (ended {U = Unit {0}} s (Err Failed))
+ended_fault status.FileFault = inr refl
+ended_fault status.Done = inl refl
+ended_fault status.Warnings = inl refl
+ended_fault status.Refused = inl refl
+ended_fault status.Usage = inl refl
+ended_fault status.SinkFault = inl refl
+ended_fault status.NoMemory = inl refl
+
+-- a count that doesn't fall, and rises only where a failure is answered, stands still where none is
+pub stands_still : {T E : Type 0} (fault : E) (answer : T) (before after : ℕ) → before ≤ after → (before < after → ◌≡◌ {A = Result T E} (Ok answer) (Err fault)) → after ≡ before
+stands_still {T} {E} fault answer before after later only = omega (arith, risen)
+  where
+    risen : before < after → ⊥
+    risen less = let u : ◌≡◌ {A = Result T E} (Ok answer) (Err fault) = only less in cc
+
+pub no_lower : (before middle : ℕ) → middle ≡ before → before ≤ middle
+no_lower before middle same = omega arith
+
+-- where the count rose behind the parts before, the part that fails is answered so
+pub part_failed : (before middle after : ℕ) (s : Status) → middle ≡ before → (middle < after → ◌≡◌ {A = Result (Unit {0}) Status} (Err s) (Err status.SinkFault)) → before < after → IsOutputFault s
+part_failed before middle after s same only risen =
+    let less : middle < after = omega arith in
+    let u : ◌≡◌ {A = Result (Unit {0}) Status} (Err s) (Err status.SinkFault) = only less in
+    let e : s ≡ status.SinkFault = cc in
+    inl e
+
+-- ---- texts
 
 nothing_appended : (told : Option (List ℕ)) → told ≡ appending told []
 nothing_appended None = refl

@@ -5,3 +5,6 @@ pub mod Refusal
 pub mod Status
 pub mod Stop
 pub mod TextSections
+pub mod Dump
+pub mod Unwind
+pub mod WalkText

@@ -1,13 +1,13 @@
 -- How a command prints its text, and which status it ends with.
-use Rattle.std.specs.Prelude.{◌≡◌, ◌≢◌, ℕ, List, Result, Ok, Err}
+use Rattle.std.specs.Prelude.{◌≡◌, ◌≢◌, ◌⊎◌, ℕ, List, Result, Ok, Err}
 use Rattle.ot_files.specs.Causes.{Rose}
 use Rattle.ot_files.specs.Output.{AppendsPrefix, appending}
 use Rattle.ot_files.specs.declared.output.SinkError.{SinkError}
 use Rattle.ot_files.specs.declared.output.SinkError.TheVariants as sink
 use Rattle.command_base.specs.declared.status.Status.{Status}
 use Rattle.command_base.specs.declared.status.Status.TheVariants.{Done, Warnings, Refused, Usage, FileFault, SinkFault, NoMemory}
-use Rattle.command_base.specs.declared.stop.Stop.{Stop}
-use Rattle.command_base.specs.declared.stop.Stop.TheVariants as stop
+use Rattle.command_base.specs.declared.stop.CommandStop.{CommandStop}
+use Rattle.command_base.specs.declared.stop.CommandStop.TheVariants as stop
 use Rattle.command_base.specs.Stop.{line_of, status_of}
 use Rattle.command_base.specs.Outside.{Output}
 
@@ -38,6 +38,10 @@ FailsToPrint part before after Refused = ⊥
 FailsToPrint part before after Usage = ⊥
 FailsToPrint part before after FileFault = ⊥
 
+-- what is answered where writing to the output failed: that it did; or the fault of a file whose line was being written
+abbrev pub IsOutputFault : Status → Type 0
+IsOutputFault s = (s ≡ SinkFault) ⊎ (s ≡ FileFault)
+
 -- the status of a command whose text was written so
 abbrev pub ended : {U : Type 0} → Status → Result U SinkError → Status
 ended s (Ok _) = s
@@ -46,6 +50,6 @@ ended FileFault (Err sink.Failed) = FileFault
 ended s (Err sink.Failed) = SinkFault
 
 -- The line of a stop was printed; or the stop is want of memory, of which nothing is told.
-pub data Concludes (why : Stop) (before after : Output) : Status → Type 0 where
+pub data Concludes (why : CommandStop) (before after : Output) : Status → Type 0 where
   tells : {s : Status} → why ≢ stop.NoMemory → Prints (status_of why) (line_of why) before after s → Concludes why before after s
   silent : why ≡ stop.NoMemory → after ≡ before → Concludes why before after NoMemory

@@ -5,10 +5,10 @@ use Rattle.elf_objects.specs.FaultText as elf
 use Rattle.elf_objects.specs.declared.fault.ElfFault.TheVariants as fault
 use Rattle.ot_base.specs.ListsFault as lists
 use Rattle.orc_bytes.specs.FaultText as orc
-use Rattle.orc_table.specs.FaultText as placed
+use Rattle.orc_walk.specs.FaultText as placed
 use Rattle.stack_image.specs.FaultText as image
 use Rattle.object_code.specs.FaultText as code
-use Rattle.flow_faults.specs.FaultText as flow
+use Rattle.control_flow.specs.FaultText as flow
 use Rattle.command_base.specs.declared.refusal.Refusal.{Refusal}
 use Rattle.command_base.specs.declared.refusal.Refusal.TheVariants.{Malformed, Orc, Lists, Image, NoText, Unplaced, Unlinked, Unflowed, HasOrc, TooMany}
 

@@ -9,8 +9,8 @@ use Rattle.command_base.specs.Refusal.{refusal_text}
 use Rattle.command_base.specs.declared.status.Status.{Status}
 use Rattle.command_base.specs.declared.status.Status.TheVariants as status
 use Rattle.command_base.specs.declared.usage.Usage as declared
-use Rattle.command_base.specs.declared.stop.Stop.{Stop}
-use Rattle.command_base.specs.declared.stop.Stop.TheVariants.{Usage, Missing, TooLong, Refused, FileFault, NoMemory}
+use Rattle.command_base.specs.declared.stop.CommandStop.{CommandStop}
+use Rattle.command_base.specs.declared.stop.CommandStop.TheVariants.{Usage, Missing, TooLong, Refused, FileFault, NoMemory}
 
 abbrev pub longer_text : List ℕ → ℕ → List ℕ
 longer_text file limit = escaped file ++ codes " is longer than " ++ decimal limit ++ codes " bytes"
@@ -23,7 +23,7 @@ usage_text usage = fault_text (At usage.word usage.kind)
 abbrev pub usage_at : ℕ → UsageKind → declared.Usage
 usage_at word kind = record { word = word; kind = kind }
 
-abbrev pub line_of : Stop → List ℕ
+abbrev pub line_of : CommandStop → List ℕ
 line_of (Usage usage) = codes "usage: " ++ usage_text usage ++ codes "\n"
 line_of (Missing file) = codes "refused: " ++ escaped file.now ++ codes " is missing\n"
 line_of (TooLong file limit) = codes "refused: " ++ longer_text file.now limit ++ codes "\n"
@@ -31,7 +31,7 @@ line_of (Refused refusal) = codes "refused: " ++ refusal_text refusal ++ codes "
 line_of (FileFault file) = codes "file fault: " ++ escaped file.now ++ codes "\n"
 line_of NoMemory = []
 
-abbrev pub status_of : Stop → Status
+abbrev pub status_of : CommandStop → Status
 status_of (Usage usage) = status.Usage
 status_of (Missing file) = status.Refused
 status_of (TooLong file limit) = status.Refused

@@ -1,11 +1,11 @@
-ghost use Rattle.std.specs.Prelude.{◌≡◌, ◌≤◌, Some, OnOk, OnErr, IsErrOf, IfErr};
+ghost use Rattle.std.specs.Prelude.{◌≡◌, ◌<◌, ◌≤◌, Some, OnOk, OnErr, IsErrOf, IfErr};
 ghost use Rattle.ot_files.specs.Causes.{Rose};
 ghost use Rattle.ot_files.specs.Output.{appending};
 ghost use Rattle.command_base.specs.Stop.{line_of, status_of};
-ghost use Rattle.command_base.specs.Printing.{Concludes, FailsToPrint, Prints, ended};
+ghost use Rattle.command_base.specs.Printing.{Concludes, FailsToPrint, IsOutputFault, Prints, ended};
 
 use crate::status::Status;
-use crate::stop::Stop;
+use crate::stop::CommandStop;
 use ot_files::{Sink, SinkError, write_line};
 use std::alloc::Global;
 
@@ -28,6 +28,7 @@ pub fn print_line<S: Sink>(status: Status, line: &[u8], out: &mut S) -> Status
         (record { written = S.written out.old; faults = S.faults out.old })
         (record { written = S.written out.new; faults = S.faults out.new }) result }
     ensures later { S.faults out.old ≤ S.faults out.new }
+    ensures output_failed { S.faults out.old < S.faults out.new → IsOutputFault result }
 {
     ended(status, write_line(out, line))
 }
@@ -40,6 +41,7 @@ pub fn print_part<S: Sink>(line: &[u8], out: &mut S) -> Result<(), Status>
         (record { written = S.written out.old; faults = S.faults out.old })
         (record { written = S.written out.new; faults = S.faults out.new })) }
     ensures later { S.faults out.old ≤ S.faults out.new }
+    ensures output_failed { S.faults out.old < S.faults out.new → IsErrOf result Status.SinkFault }
 {
     match write_line(out, line) {
         Ok(()) => Ok(()),
@@ -49,13 +51,14 @@ pub fn print_part<S: Sink>(line: &[u8], out: &mut S) -> Result<(), Status>
 }
 
 /// Tells why a command stopped, unless memory ran out, and gives the status that it ends with.
-pub fn conclude<S: Sink>(alloc: Global, stop: Stop<'_>, out: &mut S) -> Status
+pub fn conclude<S: Sink>(alloc: Global, stop: CommandStop<'_>, out: &mut S) -> Status
     ensures concluded { Concludes stop.entry
         (record { written = S.written out.old; faults = S.faults out.old })
         (record { written = S.written out.new; faults = S.faults out.new }) result }
     ensures later { S.faults out.old ≤ S.faults out.new }
+    ensures output_failed { S.faults out.old < S.faults out.new → IsOutputFault result }
 {
-    if let Stop::NoMemory = stop {
+    if let CommandStop::NoMemory = stop {
         return Status::NoMemory;
     }
     match format!(in alloc; "{stop}") {

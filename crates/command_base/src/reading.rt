@@ -2,10 +2,10 @@ ghost use Rattle.std.specs.Prelude.{◌≡◌, ◌≤◌, Ok, length, IfOk, IfEr
 ghost use Rattle.command_base.specs.Reading.{MayRead, StopsAtRead, image_stop, lists_stop, orc_stop, parse_stop, place_stop};
 
 use crate::refusal::Refusal;
-use crate::stop::Stop;
+use crate::stop::CommandStop;
 use elf_objects::ElfFault;
 use orc_bytes::OrcFault;
-use orc_table::PlaceFault;
+use orc_walk::PlaceFault;
 use ot_base::ListsFault;
 use ot_files::{FileError, Files};
 use stack_image::ImageFault;
@@ -20,7 +20,7 @@ pub fn read_file<'a, F: Files>(
     file: &'a str,
     limit: u64,
     files: &mut F,
-) -> Result<Vec<u8>, Stop<'a>>
+) -> Result<Vec<u8>, CommandStop<'a>>
     ensures ok { IfOk result (λ bytes. MayRead limit (F.content files.old) file.now (Ok bytes.items)) }
     ensures few { IfOk result (λ bytes. length bytes.items ≤ limit) }
     ensures stopped { IfErr result (StopsAtRead limit file.now
@@ -32,59 +32,59 @@ pub fn read_file<'a, F: Files>(
     let mut bytes = Vec::new(alloc);
     match files.read(file, limit, &mut bytes) {
         Ok(()) => Ok(bytes),
-        Err(FileError::Failed) => Err(Stop::FileFault { file }),
-        Err(FileError::Missing) => Err(Stop::Missing { file }),
-        Err(FileError::TooLong { limit }) => Err(Stop::TooLong { file, limit }),
-        Err(FileError::NoMemory) => Err(Stop::NoMemory),
+        Err(FileError::Failed) => Err(CommandStop::FileFault { file }),
+        Err(FileError::Missing) => Err(CommandStop::Missing { file }),
+        Err(FileError::TooLong { limit }) => Err(CommandStop::TooLong { file, limit }),
+        Err(FileError::NoMemory) => Err(CommandStop::NoMemory),
     }
 }
 
 /// Why a command stops whose input is no object.
-pub fn parse_stop<'a>(fault: ElfFault) -> Stop<'a>
+pub fn parse_stop<'a>(fault: ElfFault) -> CommandStop<'a>
     ensures { result ≡ parse_stop fault }
 {
     match fault {
-        ElfFault::NoMemory => Stop::NoMemory,
-        fault => Stop::Refused(Refusal::Malformed(fault)),
+        ElfFault::NoMemory => CommandStop::NoMemory,
+        fault => CommandStop::Refused(Refusal::Malformed(fault)),
     }
 }
 
 /// Why a command stops whose input's ORC sections hold no rows.
-pub fn orc_stop<'a>(fault: OrcFault) -> Stop<'a>
+pub fn orc_stop<'a>(fault: OrcFault) -> CommandStop<'a>
     ensures { result ≡ orc_stop fault }
 {
     match fault {
-        OrcFault::NoMemory => Stop::NoMemory,
-        fault => Stop::Refused(Refusal::Orc(fault)),
+        OrcFault::NoMemory => CommandStop::NoMemory,
+        fault => CommandStop::Refused(Refusal::Orc(fault)),
     }
 }
 
 /// Why a command stops whose names file isn't one.
-pub fn lists_stop<'a>(fault: ListsFault) -> Stop<'a>
+pub fn lists_stop<'a>(fault: ListsFault) -> CommandStop<'a>
     ensures { result ≡ lists_stop fault }
 {
     match fault {
-        ListsFault::NoMemory => Stop::NoMemory,
-        fault => Stop::Refused(Refusal::Lists(fault)),
+        ListsFault::NoMemory => CommandStop::NoMemory,
+        fault => CommandStop::Refused(Refusal::Lists(fault)),
     }
 }
 
 /// Why a command stops whose image isn't one.
-pub fn image_stop<'a>(fault: ImageFault) -> Stop<'a>
+pub fn image_stop<'a>(fault: ImageFault) -> CommandStop<'a>
     ensures { result ≡ image_stop fault }
 {
     match fault {
-        ImageFault::NoMemory => Stop::NoMemory,
-        fault => Stop::Refused(Refusal::Image(fault)),
+        ImageFault::NoMemory => CommandStop::NoMemory,
+        fault => CommandStop::Refused(Refusal::Image(fault)),
     }
 }
 
 /// Why a command stops whose rows can't be placed.
-pub fn place_stop<'a>(fault: PlaceFault) -> Stop<'a>
+pub fn place_stop<'a>(fault: PlaceFault) -> CommandStop<'a>
     ensures { result ≡ place_stop fault }
 {
     match fault {
-        PlaceFault::NoMemory => Stop::NoMemory,
-        fault => Stop::Refused(Refusal::Unplaced(fault)),
+        PlaceFault::NoMemory => CommandStop::NoMemory,
+        fault => CommandStop::Refused(Refusal::Unplaced(fault)),
     }
 }

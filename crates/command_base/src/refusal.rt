@@ -1,8 +1,8 @@
+use control_flow::FlowFaultText;
 use elf_objects::{Counted, ElfFault};
-use flow_faults::FlowFaultText;
 use object_code::LinkFaultText;
 use orc_bytes::OrcFault;
-use orc_table::PlaceFault;
+use orc_walk::PlaceFault;
 use ot_base::ListsFault;
 use stack_image::ImageFault;
 use std::fmt;

@@ -7,7 +7,7 @@ use std::fmt;
 /// Why a command stopped before it was done. Its `Display` is the line that says so, with its line end;
 /// of want of memory nothing is said.
 #[derive(Clone, Copy, Debug, PartialEq, Eq)]
-pub enum Stop<'a> {
+pub enum CommandStop<'a> {
     /// The words ask for nothing that is done.
     Usage(Usage),
     /// No file has an input's name.
@@ -22,7 +22,7 @@ pub enum Stop<'a> {
     NoMemory,
 }
 
-impl Stop<'_> {
+impl CommandStop<'_> {
     ghost use Rattle.std.specs.Prelude.{◌≡◌};
     ghost use Rattle.command_base.specs.Stop.{status_of};
 
@@ -31,10 +31,11 @@ impl Stop<'_> {
         ensures { result ≡ status_of self.entry }
     {
         match self {
-            Stop::Usage(_) => Status::Usage,
-            Stop::Missing { .. } | Stop::TooLong { .. } | Stop::Refused(_) => Status::Refused,
-            Stop::FileFault { .. } => Status::FileFault,
-            Stop::NoMemory => Status::NoMemory,
+            CommandStop::Usage(_) => Status::Usage,
+            CommandStop::Missing { .. } | CommandStop::TooLong { .. } | CommandStop::Refused(_) =>
+                Status::Refused,
+            CommandStop::FileFault { .. } => Status::FileFault,
+            CommandStop::NoMemory => Status::NoMemory,
         }
     }
 }
@@ -57,7 +58,7 @@ impl fmt::Display for Longer<'_> {
     }
 }
 
-impl fmt::Display for Stop<'_> {
+impl fmt::Display for CommandStop<'_> {
     ghost use Rattle.std.specs.Prelude.{Some};
     ghost use Rattle.command_base.specs.Stop.{line_of};
 
@@ -65,21 +66,21 @@ impl fmt::Display for Stop<'_> {
 
     fn fmt<W: fmt::Write>(&self, f: &mut fmt::Formatter<W>) -> fmt::Result {
         match *self {
-            Stop::Usage(usage) => write!(f, "usage: {usage}\n"),
-            Stop::Missing { file } => {
+            CommandStop::Usage(usage) => write!(f, "usage: {usage}\n"),
+            CommandStop::Missing { file } => {
                 let file = Escaped(file.as_bytes());
                 write!(f, "refused: {file} is missing\n")
             }
-            Stop::TooLong { file, limit } => {
+            CommandStop::TooLong { file, limit } => {
                 let file = Escaped(file.as_bytes());
                 write!(f, "refused: {}\n", Longer { file, limit })
             }
-            Stop::Refused(refusal) => write!(f, "refused: {refusal}\n"),
-            Stop::FileFault { file } => {
+            CommandStop::Refused(refusal) => write!(f, "refused: {refusal}\n"),
+            CommandStop::FileFault { file } => {
                 let file = Escaped(file.as_bytes());
                 write!(f, "file fault: {file}\n")
             }
-            Stop::NoMemory => Ok(()),
+            CommandStop::NoMemory => Ok(()),
         }
     }
 }

@@ -7,17 +7,17 @@ use Rattle.ot_files.specs.Content.{Content, reading, reading_of}
 use Rattle.ot_files.specs.Output.{appending}
 use Rattle.ot_files.specs.declared.access.FileError.TheVariants.{TooLong}
 use Rattle.machine_defs.specs.Machine.{frames_end}
-use Rattle.walk_defs.specs.Laws.{WalkIsDetermined}
-use Rattle.walk_defs.specs.Walk.{Walks}
-use Rattle.walk_defs.specs.declared.frame.Frame.{Frame}
-use Rattle.walk_defs.specs.declared.frame.Stop as walk
+use Rattle.table_defs.specs.WalkLaws.{WalkIsDetermined}
+use Rattle.table_defs.specs.Walk.{Walks}
+use Rattle.table_defs.specs.declared.frame.Frame.{Frame}
+use Rattle.table_defs.specs.declared.frame.Stop as walk
 use Rattle.table_defs.specs.Walks.{StopsAs}
 use Rattle.elf_objects.specs.declared.TheConstants.{MAX_FILE_BYTES}
 use Rattle.elf_objects.specs.Elf.{Elf}
-use Rattle.table_output.specs.Tables.{with_symbols, with_tables_object}
+use Rattle.orc_output.specs.Tables.{with_symbols, with_tables_object}
 use Rattle.flow_defs.specs.Program.{program_of}
 use Rattle.ot_base.specs.NameLists.{NameLists}
-use Rattle.orc_unwind.specs.Memory.{word_at}
+use Rattle.orc_walk.specs.Memory.{word_at}
 use Rattle.stack_image.specs.ImageFile.{IsImage}
 use Rattle.stack_image.specs.Laws.{MemoryIsSaid}
 use Rattle.command_base.specs.declared.reading.TheConstants.{MAX_IMAGE_BYTES}
@@ -30,10 +30,10 @@ use Rattle.cli_words.specs.Grammar.{dump, unwind}
 use Rattle.objtool_cli.specs.Words.{Meaning}
 use Rattle.objtool_cli.proofs.FaultEnds.{file_fault, sink_fault}
 use Rattle.objtool_cli.proofs.ReadBackEnds.{dump_answered, rows_dumped, unwind_answered, walk_printed}
-use Rattle.read_back.specs.Dump.{HoldsRows, IsAnswered, IsDumped, rows_text}
-use Rattle.read_back.specs.Unwind.{IsUnwound, ranges_of}
-use Rattle.read_back.specs.WalkText.{walk_text}
-use Rattle.read_back.proofs.DumpLaws.{same_read, told_read}
+use Rattle.command_base.specs.Dump.{HoldsRows, IsAnswered, IsDumped, rows_text}
+use Rattle.command_base.specs.Unwind.{IsUnwound, ranges_of}
+use Rattle.command_base.specs.WalkText.{walk_text}
+use Rattle.command_base.proofs.DumpLaws.{same_read, told_read}
 use Rattle.composition_law.specs.Laws.{DumpIsDone, Holds, NothingFails, UnwindIsDone, shadow_text}
 use Rattle.composition_law.proofs.DumpLaw.{rows_are, text_is}
 use Rattle.composition_law.proofs.UnwindLaw.{placed_law, walk_is}

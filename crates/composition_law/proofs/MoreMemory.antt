@@ -5,13 +5,13 @@ use Rattle.ot_base.specs.Address.{up}
 use Rattle.ot_base.specs.declared.row.Row.{Row}
 use Rattle.ot_base.specs.declared.row.PlacedRow.{PlacedRow}
 use Rattle.ot_base.specs.declared.codes.TheConstants.{REG_UNDEFINED, REG_PREV_SP, REG_BP, REG_SP, KIND_UNDEFINED, KIND_END_OF_STACK, KIND_CALL, KIND_REGS}
-use Rattle.walk_defs.specs.declared.codes.TheConstants.{PT_REGS_BP, PT_REGS_SP, IRET_SP}
-use Rattle.walk_defs.specs.declared.frame.Frame.{Frame}
-use Rattle.walk_defs.specs.declared.frame.Regs.{Regs}
-use Rattle.walk_defs.specs.declared.frame.Stop.{Stop}
-use Rattle.walk_defs.specs.declared.frame.Stop.TheVariants.{Outside, EndOfStack, Undefined, NoRow, BaseUnknown, Unreadable, NotRising, NoMemory}
-use Rattle.walk_defs.specs.declared.range.Range.{Range}
-use Rattle.walk_defs.specs.Walk.{Memory, WalksFrom, outside, no_row, stops, goes_on, ◌>>=◌, word_or_stop, read, offset_by, pointed_to, ra_address, caller_sp, caller_bp, frame_of, unwound}
+use Rattle.table_defs.specs.declared.codes.TheConstants.{PT_REGS_BP, PT_REGS_SP, IRET_SP}
+use Rattle.table_defs.specs.declared.frame.Frame.{Frame}
+use Rattle.table_defs.specs.declared.frame.Regs.{Regs}
+use Rattle.table_defs.specs.declared.frame.Stop.{Stop}
+use Rattle.table_defs.specs.declared.frame.Stop.TheVariants.{Outside, EndOfStack, Undefined, NoRow, BaseUnknown, Unreadable, NotRising, NoMemory}
+use Rattle.table_defs.specs.declared.range.Range.{Range}
+use Rattle.table_defs.specs.Walk.{Memory, WalksFrom, outside, no_row, stops, goes_on, ◌>>=◌, word_or_stop, read, offset_by, pointed_to, ra_address, caller_sp, caller_bp, frame_of, unwound}
 
 -- each word of the one memory stands in the other
 abbrev pub HasAll : Memory → Memory → Type 0
@@ -62,24 +62,23 @@ read_stop memory address s h = go (memory address) h
     go (Some other) h = ok_err h
 
 caller_sp_more : (small large : Memory) → HasAll small large → (row : Row) (at sp : ℕ) → caller_sp small row at ≡ Ok sp → caller_sp large row at ≡ Ok sp
-caller_sp_more small large all row at sp h = go (row.kind == KIND_CALL) h
+caller_sp_more small large all row at sp h = go (row.kind == KIND_CALL) (row.kind == KIND_REGS) h
   where
-    place : ℕ
-    place = cond (row.kind == KIND_REGS) (up at PT_REGS_SP) (up at IRET_SP)
-
-    go : (call : Bool) → cond call (Ok at) (read small place) ≡ Ok sp → cond call (Ok at) (read large place) ≡ Ok sp
-    go true h = h
-    go false h = read_more small large all place sp h
+    go :
+        (call full : Bool)
+        → cond call (Ok at) (cond full (read small (up at PT_REGS_SP)) (read small (up at IRET_SP))) ≡ Ok sp
+        → cond call (Ok at) (cond full (read large (up at PT_REGS_SP)) (read large (up at IRET_SP))) ≡ Ok sp
+    go true full h = h
+    go false true h = read_more small large all (up at PT_REGS_SP) sp h
+    go false false h = read_more small large all (up at IRET_SP) sp h
 
 caller_sp_stop : (memory : Memory) (row : Row) (at : ℕ) (s : Stop) → caller_sp memory row at ≡ Err s → TellsOfWords s
-caller_sp_stop memory row at s h = go (row.kind == KIND_CALL) h
+caller_sp_stop memory row at s h = go (row.kind == KIND_CALL) (row.kind == KIND_REGS) h
   where
-    place : ℕ
-    place = cond (row.kind == KIND_REGS) (up at PT_REGS_SP) (up at IRET_SP)
-
-    go : (call : Bool) → cond call (Ok at) (read memory place) ≡ Err s → TellsOfWords s
-    go true h = ok_err h
-    go false h = read_stop memory place s h
+    go : (call full : Bool) → cond call (Ok at) (cond full (read memory (up at PT_REGS_SP)) (read memory (up at IRET_SP))) ≡ Err s → TellsOfWords s
+    go true full h = ok_err h
+    go false true h = read_stop memory (up at PT_REGS_SP) s h
+    go false false h = read_stop memory (up at IRET_SP) s h
 
 caller_bp_more : (small large : Memory) → HasAll small large → (regs : Regs) (row : Row) (at cfa bp : ℕ) → caller_bp small regs row at cfa ≡ Ok bp → caller_bp large regs row at cfa ≡ Ok bp
 caller_bp_more small large all regs row at cfa bp h = go (row.bp_reg == REG_PREV_SP) (row.bp_reg == REG_BP) (row.kind == KIND_REGS) h

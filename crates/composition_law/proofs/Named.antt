@@ -8,9 +8,9 @@ use Rattle.ot_base.specs.declared.row.PlacedRow.{PlacedRow}
 use Rattle.elf_objects.specs.Contents.{is_text}
 use Rattle.elf_objects.specs.Elf.{Elf, SectionEntry}
 use Rattle.elf_objects.specs.declared.TheConstants.{SHT_GROUP, SHT_PROGBITS, SHT_RELA, SHT_SYMTAB, SHT_SYMTAB_SHNDX}
-use Rattle.elf_symbols.specs.Object.{object_with_symbols, section_with}
-use Rattle.table_output.specs.Needed.{needed_symbols}
-use Rattle.table_output.specs.Tables.{with_symbols}
+use Rattle.elf_write.specs.SymbolObject.{object_with_symbols, section_with}
+use Rattle.orc_output.specs.Needed.{needed_symbols}
+use Rattle.orc_output.specs.Tables.{with_symbols}
 use Rattle.command_base.specs.TextSections.{texts_of}
 use Rattle.objtool_cli.proofs.PlacementLemmas.{entry_first, listed, listed_text}
 

@@ -10,8 +10,8 @@ use Rattle.std.proofs.lemmas.List.Sorted.{All-permutation, IsPermutation-sym}
 use Rattle.std.proofs.lemmas.Option.{get_or_from_slice_get, slice_get_within}
 use Rattle.ot_base.specs.Section.{TextSection}
 use Rattle.ot_base.specs.declared.row.PlacedRow.{PlacedRow}
-use Rattle.walk_defs.specs.declared.range.Range.{Range}
-use Rattle.walk_defs.specs.Placement.{IsPlacement, covers, section_in}
+use Rattle.table_defs.specs.declared.range.Range.{Range}
+use Rattle.table_defs.specs.Placement.{IsPlacement, covers, section_in}
 use Rattle.elf_objects.specs.Contents.{is_text, no_section, section_at}
 use Rattle.elf_objects.specs.Elf.{Elf, SectionEntry}
 use Rattle.elf_write.specs.Added.{new_sections, old_section}
@@ -20,11 +20,11 @@ use Rattle.elf_write.specs.Object.{input_of_object}
 use Rattle.orc_bytes.specs.Sections.{HoldsOrc, IsRowOf}
 use Rattle.orc_output.specs.OrcOutput.{orc_sections, with_orc_object}
 use Rattle.orc_output.proofs.Behind.{length-each}
-use Rattle.orc_table.specs.declared.faults.PlaceFault.TheVariants.{At}
-use Rattle.orc_table.specs.declared.faults.PlaceWhy.TheVariants.{Missing, Wraps, Overlaps}
-use Rattle.orc_table.specs.Faults.{first_faulty, first_missing, is_placed, overlap, place_fault, range_fault}
+use Rattle.orc_walk.specs.declared.faults.PlaceFault.TheVariants.{At}
+use Rattle.orc_walk.specs.declared.faults.PlaceWhy.TheVariants.{Missing, Wraps, Overlaps}
+use Rattle.orc_walk.specs.Faults.{first_faulty, first_missing, is_placed, overlap, place_fault, range_fault}
 use Rattle.command_base.specs.TextSections.{texts_of}
-use Rattle.read_back.specs.Unwind.{first_foreign, is_text_section, range_of, ranges_of}
+use Rattle.command_base.specs.Unwind.{first_foreign, is_text_section, range_of, ranges_of}
 
 -- ---- lists
 

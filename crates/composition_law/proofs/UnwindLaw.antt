@@ -8,32 +8,32 @@ use Rattle.state_defs.specs.declared.state.EndKind.{EndKind}
 use Rattle.state_defs.specs.declared.state.EndKind.TheVariants as kind
 use Rattle.state_defs.specs.Region as region
 use Rattle.machine_defs.specs.Machine.{Standing, At, frames, frames_end}
-use Rattle.walk_defs.specs.declared.frame.Frame.{Frame}
-use Rattle.walk_defs.specs.declared.frame.Regs.{Regs}
-use Rattle.walk_defs.specs.declared.frame.Stop as walk
-use Rattle.walk_defs.specs.Laws.{WalkIsDetermined}
-use Rattle.walk_defs.specs.Walk.{Walks}
+use Rattle.table_defs.specs.declared.frame.Frame.{Frame}
+use Rattle.table_defs.specs.declared.frame.Regs.{Regs}
+use Rattle.table_defs.specs.declared.frame.Stop as walk
+use Rattle.table_defs.specs.WalkLaws.{WalkIsDetermined}
+use Rattle.table_defs.specs.Walk.{Walks}
 use Rattle.table_defs.specs.Walks.{StopsAs, registers_of, walk_frame}
 use Rattle.elf_objects.specs.Elf.{Elf}
-use Rattle.table_output.specs.Tables.{with_symbols, with_tables_object}
+use Rattle.orc_output.specs.Tables.{with_symbols, with_tables_object}
 use Rattle.flow_defs.specs.Coded.{Coded}
 use Rattle.flow_defs.specs.Program.{program_of}
 use Rattle.ot_base.specs.NameLists.{NameLists}
-use Rattle.orc_unwind.specs.Memory.{Piece, byte_at, bytes_at, word_at}
+use Rattle.orc_walk.specs.Memory.{Piece, byte_at, bytes_at, word_at}
 use Rattle.stack_image.specs.ImageFile.{StackImage, IsImage, sayings}
 use Rattle.stack_image.specs.Lines.{lines}
 use Rattle.stack_image.specs.Laws.{MemoryIsSaid}
 use Rattle.command_base.specs.declared.status.Status.TheVariants as status
-use Rattle.command_base.specs.declared.stop.Stop.{Stop}
+use Rattle.command_base.specs.declared.stop.CommandStop.{CommandStop}
 use Rattle.command_base.specs.Printing.{Concludes, Prints}
 use Rattle.objtool_cli.specs.Unwinding.{UnwindsBy}
-use Rattle.read_back.specs.Unwind.{walked, stopped, ranges_of}
-use Rattle.read_back.specs.WalkText.{walk_text}
-use Rattle.read_back.proofs.UnwindLaws.{walk_excluded}
+use Rattle.command_base.specs.Unwind.{walked, stopped, ranges_of}
+use Rattle.command_base.specs.WalkText.{walk_text}
+use Rattle.command_base.proofs.UnwindLaws.{walk_excluded}
 use Rattle.composition_law.specs.Laws.{StatesAreUnwound, TellsState, UnwindTellsTheFrames}
 use Rattle.composition_law.proofs.DumpLaw.{rows_are}
 use Rattle.composition_law.proofs.MoreMemory.{TellsOfWords, walk_more}
-use Rattle.walk_defs.specs.Placement.{IsPlacement}
+use Rattle.table_defs.specs.Placement.{IsPlacement}
 use Rattle.command_base.specs.TextSections.{texts_of}
 use Rattle.composition_law.proofs.Named.{texts_stay}
 use Rattle.composition_law.proofs.Placed.{none_foreign, none_refused}
@@ -107,5 +107,5 @@ unwind_law determined said o lists written text unwinds state told out out' answ
     inl (stop, machine.0, subst (λ (fs : List Frame). Prints status.Done (walk_text fs stop) out out' answer) machine.1 prints)
 unwind_law determined said o lists written text unwinds state told out out' answer (stopped why none concludes) =
     inr
-    (subst (λ (w : Stop). Concludes w out out' answer)
+    (subst (λ (w : CommandStop). Concludes w out out' answer)
     (walk_excluded written text told.image (with_tables_object o.elf unwinds.rows) unwinds.rows why (placed_law o lists written text unwinds state told) none) concludes)

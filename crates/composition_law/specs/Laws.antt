@@ -5,14 +5,14 @@ use Rattle.ot_files.specs.Causes.{Rose}
 use Rattle.ot_files.specs.Content.{Content}
 use Rattle.ot_files.specs.Output.{appending}
 use Rattle.state_defs.specs.Region as region
-use Rattle.program_defs.specs.Program.{Program}
+use Rattle.machine_defs.specs.Program.{Program}
 use Rattle.machine_defs.specs.Machine.{Bases, Standing, At, frames, frames_end}
 use Rattle.machine_defs.specs.Run.{Run}
-use Rattle.walk_defs.specs.declared.frame.Stop as walk
-use Rattle.walk_defs.specs.Placement.{IsPlacement}
+use Rattle.table_defs.specs.declared.frame.Stop as walk
+use Rattle.table_defs.specs.Placement.{IsPlacement}
 use Rattle.table_defs.specs.Placed.{BeginAt}
 use Rattle.table_defs.specs.Walks.{StopsAs, registers_of, walk_frame}
-use Rattle.orc_unwind.specs.Memory.{word_at}
+use Rattle.orc_walk.specs.Memory.{word_at}
 use Rattle.stack_image.specs.ImageFile.{StackImage, IsImage}
 use Rattle.elf_objects.specs.declared.TheConstants.{MAX_FILE_BYTES}
 use Rattle.elf_objects.specs.Elf.{Elf}
@@ -20,23 +20,23 @@ use Rattle.elf_objects.specs.Object.{IsObject}
 use Rattle.ot_base.specs.declared.row.PlacedRow.{PlacedRow}
 use Rattle.orc_bytes.specs.Sections.{HoldsOrc}
 use Rattle.orc_output.specs.OrcOutput.{CanHaveOrc, with_orc_object}
-use Rattle.table_output.specs.Tables.{with_tables_object}
+use Rattle.orc_output.specs.Tables.{with_tables_object}
 use Rattle.flow_defs.specs.Coded.{Coded}
 use Rattle.flow_defs.specs.Program.{program_of}
 use Rattle.ot_base.specs.NameLists.{NameLists}
 use Rattle.command_base.specs.declared.reading.TheConstants.{MAX_IMAGE_BYTES}
 use Rattle.command_base.specs.declared.status.Status.{Status}
 use Rattle.command_base.specs.declared.status.Status.TheVariants as status
-use Rattle.command_base.specs.declared.stop.Stop.TheVariants as stop
+use Rattle.command_base.specs.declared.stop.CommandStop.TheVariants as stop
 use Rattle.command_base.specs.TextSections.{texts_of}
 use Rattle.command_base.specs.Outside.{Outside, Output}
 use Rattle.command_base.specs.Printing.{Concludes, Prints}
 use Rattle.objtool_cli.specs.Command.{Ends}
 use Rattle.objtool_cli.specs.Unwinding.{UnwindsBy}
 use Rattle.cli_words.specs.Grammar.{dump, unwind}
-use Rattle.read_back.specs.Dump.{Dumps, rows_text}
-use Rattle.read_back.specs.Unwind.{IsPlaced, Unwinds, ranges_of}
-use Rattle.read_back.specs.WalkText.{walk_text}
+use Rattle.command_base.specs.Dump.{Dumps, rows_text}
+use Rattle.command_base.specs.Unwind.{IsPlaced, Unwinds, ranges_of}
+use Rattle.command_base.specs.WalkText.{walk_text}
 
 -- ---- over bytes
 

@@ -4,7 +4,7 @@
 ghost use Rattle.composition_law.specs.Laws.{DumpIsDone, DumpTellsTheRows, RowsAreReadBack, StatesAreUnwound, UnwindIsDone, UnwindTellsTheFrames};
 
 use stack_image::memory_is_said;
-use walk_defs::walk_is_determined;
+use table_defs::walk_is_determined;
 
 /// Rows that are encoded and added to an object are the rows that its ORC sections then hold, and the only
 /// ones, so `orc_bytes::decode` of the result gives them.

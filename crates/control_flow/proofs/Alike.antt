@@ -8,17 +8,18 @@ use Rattle.std.proofs.lemmas.List.{append-nil}
 use Rattle.std.proofs.lemmas.List.Sums.{take_while-cons}
 use Rattle.std.proofs.lemmas.List.Elements.{All-append, All-cons, All-nil}
 use Rattle.ot_base.specs.declared.place.Place.{Place}
+use Rattle.ot_base.specs.Places.{same_place}
 use Rattle.operation_defs.specs.declared.insn.Insn.{Insn}
 use Rattle.operation_defs.specs.declared.op.Op.{Op}
 use Rattle.operation_defs.specs.declared.op.Op.TheVariants as ops
-use Rattle.program_defs.specs.Program.{Site, edge, in_site}
-use Rattle.program_defs.specs.declared.flow.Edge.{Edge}
-use Rattle.program_defs.specs.declared.flow.EdgeKind.TheVariants.{Fixup, Next, Table, Taken}
-use Rattle.program_defs.specs.declared.flow.Marks.{Marks}
-use Rattle.program_defs.specs.declared.flow.Role.TheVariants.{Plain}
+use Rattle.machine_defs.specs.Program.{Site, edge, in_site}
+use Rattle.machine_defs.specs.declared.flow.Edge.{Edge}
+use Rattle.machine_defs.specs.declared.flow.EdgeKind.TheVariants.{Fixup, Next, Table, Taken}
+use Rattle.machine_defs.specs.declared.flow.Marks.{Marks}
+use Rattle.machine_defs.specs.declared.flow.Role.TheVariants.{Plain}
 use Rattle.elf_objects.specs.Elf.{Elf}
+use Rattle.symbols_relocs.specs.NamedPlaces.{is_relocated}
 use Rattle.symbols_relocs.specs.Parts.{owner_at}
-use Rattle.symbols_relocs.specs.Places.{same_place}
 use Rattle.alternatives.specs.declared.point.Point.{Point}
 use Rattle.alternatives.specs.declared.texts.SectionText.{SectionText}
 use Rattle.jump_tables.specs.Tables.{entries_by, entries_of, jump_table, same_owner}
@@ -28,11 +29,11 @@ use Rattle.flow_defs.specs.Arrival.{after, arrive, insn_of_object, is_at_end, is
 use Rattle.flow_defs.specs.Code.{is_plain, texts_of}
 use Rattle.flow_defs.specs.Edges.{branch_edges, branch_edges_by, edges_to, ends_flow, fixups, goes, goes_on, is_some_place, listed_edges, next_edges, static_targets, table_edges, table_edges_by, way_edges}
 use Rattle.flow_defs.specs.Faults.{is_past_start}
-use Rattle.flow_defs.specs.Marks.{calls_into_function, has_bad_target, has_target_in_site, is_bad_by, is_bad_listed, is_inner_call_by, listed_places, marks_of, places_by, target_places}
+use Rattle.flow_defs.specs.Marks.{calls_into_function, has_bad_target, has_relocated_offset, has_stack_offset, has_target_in_site, is_bad_by, is_bad_listed, is_inner_call_by, listed_places, marks_of, places_by, target_places}
 use Rattle.flow_defs.specs.Owners.{is_unchecked_point, owner_of_point}
 use Rattle.flow_defs.specs.Roles.{jump_by_table, role_by, role_of, table_of_point}
-use Rattle.flow_defs.specs.Sites.{enters_site, is_into_site, is_original_of, site_at, sites_of}
-use Rattle.point_flow.specs.Tables.{table_start_of}
+use Rattle.flow_defs.specs.Sites.{enters_site, is_into_site, is_original_of, site_holding, sites_of}
+use Rattle.point_edges.specs.Tables.{table_start_of}
 use Rattle.control_flow.specs.Lone.{GoAlike, is_in_open_code, is_indirect_jump, is_lone_jump, is_unlisted}
 
 bool_cases : (b : Bool) → (b ≡ true) ⊎ (b ≡ false)
@@ -90,9 +91,10 @@ record ByTable (o : Coded) (p : Point) (insn : Insn) (op : Op) : Type 0 where
   bad : is_bad_by o p insn op ≡ false
   places : places_by o p insn op ≡ table_of_point o p
   inner : is_inner_call_by o p insn op ≡ false
+  numberless : has_stack_offset op ≡ false
 
 by_table : (o : Coded) (p : Point) (insn : Insn) (op : Op) → is_indirect_jump op ≡ true → ByTable o p insn op
-by_table o p insn (ops.JmpInd table) h = record { ends = refl; role = refl; branch = refl; table = refl; bad = refl; places = refl; inner = refl }
+by_table o p insn (ops.JmpInd table) h = record { ends = refl; role = refl; branch = refl; table = refl; bad = refl; places = refl; inner = refl; numberless = refl }
 by_table o p insn _ h = absurd (false≢true h)
 
 -- the table of an owner is that of its first entry's
@@ -124,7 +126,7 @@ module _ (o : Elf) where
 
 -- the edges to the entries of a table, but for those past the start of a site
 abbrev along : Coded → Place → List Edge
-along o place = cond (is_past_start place (site_at o place)) [] (edges_to Table (arrive o place))
+along o place = cond (is_past_start place (site_holding o place)) [] (edges_to Table (arrive o place))
 
 to_table : (points : List ℕ) → All (λ e. e.kind ≡ Table) (edges_to Table points)
 to_table [] = All-nil (λ (e : Edge). e.kind ≡ Table)
@@ -137,15 +139,15 @@ along_table false points = to_table points
 all_along : (o : Coded) (places : List Place) → All (λ e. e.kind ≡ Table) (flat_map (along o) places)
 all_along o [] = All-nil (λ (e : Edge). e.kind ≡ Table)
 all_along o (place ∷ places) =
-    All-append (λ (e : Edge). e.kind ≡ Table) (along o place) (flat_map (along o) places) (along_table (is_past_start place (site_at o place)) (arrive o place)) (all_along o places)
+    All-append (λ (e : Edge). e.kind ≡ Table) (along o place) (flat_map (along o) places) (along_table (is_past_start place (site_holding o place)) (arrive o place)) (all_along o places)
 
 enters : (p : Point) (place : Place) (at : Option Site) → ((s : Site) → at ≡ Some s → is_original_of s p ≡ false) → enters_site at p place ≡ is_past_start place at
 enters p place None outside = refl
 enters p place (Some s) outside = ap (λ b. not (same_place s.start place) && not b) (outside s refl) ∙ and_true (not (same_place s.start place))
 
 -- nothing is wrong but what one field tells
-marked : (a b c d e : Bool) → a ≡ false → b ≡ false → c ≡ e → d ≡ false → (let m : Marks = record { bad = a; past_end = b; into_site = c; into_function = d } in m) ≡ (let m : Marks = record { bad = false; past_end = false; into_site = e; into_function = false } in m)
-marked a b c d e no_a no_b is_c no_d = cc
+marked : (a b c d f e : Bool) → a ≡ false → b ≡ false → c ≡ e → d ≡ false → f ≡ false → (let m : Marks = record { bad = a; past_end = b; into_site = c; into_function = d; relocated = f } in m) ≡ (let m : Marks = record { bad = false; past_end = false; into_site = e; into_function = false; relocated = false } in m)
+marked a b c d f e no_a no_b is_c no_d no_f = cc
 
 some_plain : (places : List Place) → is_some_place places ≡ true → jump_by_table places ≡ Plain
 some_plain [] some = absurd (false≢true some)
@@ -177,21 +179,21 @@ module _ (o : Coded) (p : Point) (lone : is_lone_jump o p ≡ true) where
   no_fixups : fixups o p ≡ []
   no_fixups = no_place (fixups o p) (not_true (is_some_place (fixups o p)) (both (not (is_some_place (static_targets o p))) (not (is_some_place (fixups o p))) unlisted.0).1)
 
-  open_code : (is_none (site_at o p.place) ≡ true) × (not (is_unchecked_point o p) ≡ true)
-  open_code = both (is_none (site_at o p.place)) (not (is_unchecked_point o p)) (both (is_plain p) (is_none (site_at o p.place) && not (is_unchecked_point o p)) unlisted.1).1
+  open_code : (is_none (site_holding o p.place) ≡ true) × (not (is_unchecked_point o p) ≡ true)
+  open_code = both (is_none (site_holding o p.place)) (not (is_unchecked_point o p)) (both (is_plain p) (is_none (site_holding o p.place) && not (is_unchecked_point o p)) unlisted.1).1
 
-  outside : site_at o p.place ≡ None
-  outside = none_is (site_at o p.place) open_code.0
+  outside : site_holding o p.place ≡ None
+  outside = none_is (site_holding o p.place) open_code.0
 
   checked : is_unchecked_point o p ≡ false
   checked = not_true (is_unchecked_point o p) open_code.1
 
-  not_original : (place : Place) (s : Site) → site_at o place ≡ Some s → is_original_of s p ≡ false
-  unfolding site_at
+  not_original : (place : Place) (s : Site) → site_holding o place ≡ Some s → is_original_of s p ≡ false
+  unfolding site_holding
   not_original place s at = ap (λ b. is_plain p && b) (none_passes (λ (site : Site). in_site site p.place) (λ (site : Site). in_site site place) (sites_of o) s outside at) ∙ and-false (is_plain p)
 
-  into : (place : Place) → is_into_site o p place ≡ is_past_start place (site_at o place)
-  into place = enters p place (site_at o place) (not_original place)
+  into : (place : Place) → is_into_site o p place ≡ is_past_start place (site_holding o place)
+  into place = enters p place (site_holding o place) (not_original place)
 
   ends : goes_on o p ≡ false
   unfolding goes_on
@@ -234,18 +236,21 @@ module _ (o : Coded) (p : Point) (lone : is_lone_jump o p ≡ true) where
       ∙ (ap (λ places. table_of_point o p ++ (listed_places o Taken p places ++ listed_places o Fixup p (fixups o p))) no_targets
       ∙ (ap (λ places. table_of_point o p ++ listed_places o Fixup p places) no_fixups ∙ append-nil (table_of_point o p)))
 
-  into_site : has_target_in_site o p ≡ list_any (λ place. is_past_start place (site_at o place)) (table_of_point o p)
+  into_site : has_target_in_site o p ≡ list_any (λ place. is_past_start place (site_holding o place)) (table_of_point o p)
   unfolding has_target_in_site
-  into_site = ap (list_any (is_into_site o p)) its_places ∙ any_same (is_into_site o p) (λ place. is_past_start place (site_at o place)) into (table_of_point o p)
+  into_site = ap (list_any (is_into_site o p)) its_places ∙ any_same (is_into_site o p) (λ place. is_past_start place (site_holding o place)) into (table_of_point o p)
 
   not_into_function : calls_into_function o p ≡ false
   unfolding calls_into_function
   not_into_function = by.inner
 
-  pub lone_marks : (comes_back : Bool) → marks_of o p comes_back ≡ (let m : Marks = record { bad = false; past_end = false; into_site = list_any (λ place. is_past_start place (site_at o place)) (table_of_point o p); into_function = false } in m)
+  not_relocated : has_relocated_offset o p insn ≡ false
+  not_relocated = ap (λ b. b && is_relocated o.elf p.place insn.len) by.numberless
+
+  pub lone_marks : (comes_back : Bool) → marks_of o p comes_back ≡ (let m : Marks = record { bad = false; past_end = false; into_site = list_any (λ place. is_past_start place (site_holding o place)) (table_of_point o p); into_function = false; relocated = false } in m)
   lone_marks comes_back =
-      marked (has_bad_target o p) (is_at_end o p && (goes_on o p && comes_back)) (has_target_in_site o p) (calls_into_function o p) (list_any (λ place. is_past_start place (site_at o place)) (table_of_point o p))
-      not_bad (not_past_end comes_back) into_site not_into_function
+      marked (has_bad_target o p) (is_at_end o p && (goes_on o p && comes_back)) (has_target_in_site o p) (calls_into_function o p) (has_relocated_offset o p insn) (list_any (λ place. is_past_start place (site_holding o place)) (table_of_point o p))
+      not_bad (not_past_end comes_back) into_site not_into_function not_relocated
 
 same_tables : (o : Coded) (p r : Point) → is_some_place (table_of_point o p) ≡ true → is_some_place (table_of_point o r) ≡ true → table_start_of o p ≡ table_start_of o r → table_of_point o p ≡ table_of_point o r
 unfolding table_of_point table_start_of
@@ -264,6 +269,6 @@ go_alike o p r lone other start =
       other_role = lone_role o r other;
       marks = λ comes_back.
           lone_marks o p lone comes_back
-          ∙ ap (λ places. let m : Marks = record { bad = false; past_end = false; into_site = list_any (λ place. is_past_start place (site_at o place)) places; into_function = false } in m) same
+          ∙ ap (λ places. let m : Marks = record { bad = false; past_end = false; into_site = list_any (λ place. is_past_start place (site_holding o place)) places; into_function = false; relocated = false } in m) same
           ∙ sym (lone_marks o r other comes_back);
     }

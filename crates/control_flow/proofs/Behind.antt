@@ -5,25 +5,25 @@ use Rattle.std.proofs.lemmas.Bool.{cases_lt, eqb-true, ne_eqb}
 use Rattle.std.proofs.lemmas.List.{get_or_default}
 use Rattle.std.proofs.lemmas.List.Elements.{Contains-get_or}
 use Rattle.ot_base.specs.declared.place.Place.{Place}
+use Rattle.ot_base.specs.Places.{same_place}
 use Rattle.flow_defs.specs.Coded.{Coded}
-use Rattle.symbols_relocs.specs.Places.{same_place}
 use Rattle.alternatives.specs.declared.point.Point.{Point}
 use Rattle.alternatives.specs.Texts.{behind}
-use Rattle.rows_law.proofs.Equal.{equal_places, is_same_place, same_place_is}
-use Rattle.rows_law.proofs.Lists.{finds_one}
+use Rattle.table_law.proofs.Equal.{equal_places, is_same_place, same_place_is}
+use Rattle.table_law.proofs.Lists.{finds_one}
 use Rattle.flow_defs.specs.Arrival.{decoded_insn, site_end}
 use Rattle.flow_defs.specs.Code.{is_plain, no_point, number_of, plain_point, point_at, points_of_object}
 use Rattle.flow_defs.specs.Program.{is_right_before, previous_of}
-use Rattle.flow_law.specs.Flows.{HasBytes}
-use Rattle.flow_law.proofs.Bodies.{IsAt, at_lies, before_other}
-use Rattle.flow_law.proofs.Levels.{and_true}
-use Rattle.flow_law.proofs.Overlays.{address_plain, plain_at}
-use Rattle.flow_law.proofs.PointKinds.{PointIs, point_is}
-use Rattle.point_entries.proofs.Standing.{own_number, plain_is}
+use Rattle.object_law.specs.Flows.{HasBytes}
+use Rattle.object_law.proofs.Bodies.{IsAt, at_lies, before_other}
+use Rattle.object_law.proofs.Levels.{and_true}
+use Rattle.object_law.proofs.Overlays.{address_plain, plain_at}
+use Rattle.object_law.proofs.PointKinds.{PointIs, point_is}
+use Rattle.control_flow.proofs.Standing.{own_number, plain_is}
 use Rattle.program_graph.specs.Tells.{previous_by}
 use Rattle.program_graph.specs.declared.parts.Previous.TheVariants.{Below}
 use Rattle.control_flow.specs.Rares.{IsRare}
-use Rattle.point_arrivals.specs.Straight.{IsStraight}
+use Rattle.point_edges.specs.Straight.{IsStraight}
 use Rattle.control_flow.specs.declared.rares.TheConstants.{USUAL}
 
 -- a plain point with its instruction, which ends at a place

@@ -12,8 +12,8 @@ use Rattle.elf_objects.specs.declared.TheConstants.{SHT_NOBITS, SHT_NULL}
 use Rattle.elf_objects.proofs.Read.{IsSlice-entry, length-sections}
 use Rattle.alternatives.proofs.Ascending.{every-in, every-range, in_contains}
 use Rattle.unwinding_law.proofs.Lists.{from_filter}
-use Rattle.flow_law.specs.Flows.{HasBytes}
-use Rattle.flow_law.proofs.Bodies.{text_of}
+use Rattle.object_law.specs.Flows.{HasBytes}
+use Rattle.object_law.proofs.Bodies.{text_of}
 
 abbrev IsLow : ℕ → Type 0
 IsLow byte = byte < 256

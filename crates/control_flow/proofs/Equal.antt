@@ -2,10 +2,10 @@
 use Rattle.std.proofs.Common.{◌≡◌, rules}
 use Rattle.std.specs.Bool.{Decides}
 use Rattle.std.specs.Cmp.Rules.{hashing}
-use Rattle.program_defs.specs.contracts.flow.RolePartialEq.TheImpl as role_impl
-use Rattle.program_defs.specs.contracts.flow.MarksPartialEq.TheImpl as marks_impl
-use Rattle.program_defs.specs.declared.flow.Marks.{Marks}
-use Rattle.program_defs.specs.declared.flow.Role.{Role}
+use Rattle.machine_defs.specs.contracts.flow.RolePartialEq.TheImpl as role_impl
+use Rattle.machine_defs.specs.contracts.flow.MarksPartialEq.TheImpl as marks_impl
+use Rattle.machine_defs.specs.declared.flow.Marks.{Marks}
+use Rattle.machine_defs.specs.declared.flow.Role.{Role}
 use Rattle.program_graph.specs.contracts.parts.RarePartialEq.TheImpl as rare_impl
 use Rattle.program_graph.specs.contracts.parts.TransferPartialEq.TheImpl as transfer_impl
 use Rattle.program_graph.specs.declared.parts.Rare.{Rare}

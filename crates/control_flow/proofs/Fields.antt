@@ -2,13 +2,13 @@
 use Rattle.std.proofs.Common.{◌≡◌, ℕ, Bool, cond, refl, sym, ap, ◌∙◌}
 use Rattle.ot_base.specs.NameLists.{NameLists}
 use Rattle.flow_defs.specs.Coded.{Coded}
-use Rattle.program_defs.specs.declared.flow.Role.{Role}
-use Rattle.program_defs.specs.declared.flow.Role.TheVariants as roles
-use Rattle.program_defs.specs.MayReturn.{target_may_return}
+use Rattle.machine_defs.specs.declared.flow.Role.{Role}
+use Rattle.machine_defs.specs.declared.flow.Role.TheVariants as roles
+use Rattle.machine_defs.specs.MayReturn.{target_may_return}
 use Rattle.flow_defs.specs.Code.{point_at}
 use Rattle.flow_defs.specs.Program.{comes_back, graph_of, never_returns_by, program_of, returning_graph}
-use Rattle.return_search.specs.declared.flow.Exit.TheVariants as exits
-use Rattle.return_search.specs.Told.{exit_of}
+use Rattle.control_flow.specs.declared.searched_flow.Exit.TheVariants as exits
+use Rattle.control_flow.specs.Told.{exit_of}
 
 pub never_returns_is : (o : Coded) (lists : NameLists) (sym : ℕ) → (program_of o lists).never_returns sym ≡ never_returns_by o.elf lists sym
 unfolding program_of returning_graph graph_of

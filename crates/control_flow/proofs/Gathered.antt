@@ -8,18 +8,18 @@ use Rattle.std.proofs.lemmas.List.Elements.{All-append, All-contains, All-get_or
 use Rattle.std.proofs.lemmas.List.Sorted.{IsNonDecreasingBy-push, IsNonDecreasingBy-short}
 use Rattle.ot_base.specs.NameLists.{NameLists}
 use Rattle.flow_defs.specs.Coded.{Coded}
-use Rattle.program_defs.specs.declared.flow.Edge.{Edge}
-use Rattle.program_defs.specs.declared.flow.EdgeKind.TheVariants.{Table}
-use Rattle.program_defs.specs.Program.{edge}
+use Rattle.machine_defs.specs.declared.flow.Edge.{Edge}
+use Rattle.machine_defs.specs.declared.flow.EdgeKind.TheVariants.{Table}
+use Rattle.machine_defs.specs.Program.{edge}
 use Rattle.flow_defs.specs.Arrival.{is_dead_end}
 use Rattle.flow_defs.specs.Code.{point_at}
 use Rattle.flow_defs.specs.Edges.{goes}
 use Rattle.flow_defs.specs.Program.{program_of}
 use Rattle.flow_defs.specs.Roles.{role_of}
-use Rattle.return_search.specs.declared.flow.Exit.{Exit}
-use Rattle.return_search.specs.Told.{exit_of}
-use Rattle.return_search.proofs.Ranges.{range_new, range_push}
-use Rattle.point_entries.specs.Entered.{IsEnteredAt}
+use Rattle.control_flow.specs.declared.searched_flow.Exit.{Exit}
+use Rattle.control_flow.specs.Told.{exit_of}
+use Rattle.control_flow.proofs.Ranges.{range_new, range_push}
+use Rattle.control_flow.specs.Entered.{IsEnteredAt}
 use Rattle.control_flow.specs.Listed.{AreDeadEnds, AreEdges, AreEntered, AreExits, ExitCallsPoint, IsAlikeIn, IsPointIfAny, count_of}
 use Rattle.control_flow.specs.Lone.{HasEdgesOf}
 use Rattle.control_flow.proofs.Steps.{each_more}

@@ -8,25 +8,26 @@ use Rattle.ot_base.specs.declared.place.Place.{Place}
 use Rattle.operation_defs.specs.declared.insn.Insn.{Insn}
 use Rattle.operation_defs.specs.declared.op.Op.{Op}
 use Rattle.operation_defs.specs.declared.op.Op.TheVariants as ops
-use Rattle.program_defs.specs.declared.flow.Edge.{Edge}
-use Rattle.program_defs.specs.declared.flow.EdgeKind.TheVariants.{Fixup, Next, Taken}
-use Rattle.program_defs.specs.declared.flow.Marks.{Marks}
-use Rattle.program_defs.specs.declared.flow.Role.TheVariants.{Plain}
-use Rattle.program_defs.specs.Program.{edge}
+use Rattle.machine_defs.specs.declared.flow.Edge.{Edge}
+use Rattle.machine_defs.specs.declared.flow.EdgeKind.TheVariants.{Fixup, Next, Taken}
+use Rattle.machine_defs.specs.declared.flow.Marks.{Marks}
+use Rattle.machine_defs.specs.declared.flow.Role.TheVariants.{Plain}
+use Rattle.machine_defs.specs.Program.{edge, no_marks}
 use Rattle.flow_defs.specs.Coded.{Coded}
 use Rattle.alternatives.specs.declared.point.Point.{Point}
 use Rattle.flow_defs.specs.Arrival.{after, decoded_insn, insn_of_object, is_at_end, is_dead_end, op_of}
 use Rattle.flow_defs.specs.Code.{point_at}
 use Rattle.flow_defs.specs.Edges.{branch_edges, branch_edges_by, edges_to, ends_flow, fixups, goes, goes_on, is_some_place, listed_edges, next_edges, static_targets, table_edges, table_edges_by}
-use Rattle.flow_defs.specs.Marks.{calls_into_function, has_bad_target, has_target_in_site, is_bad_by, is_bad_listed, is_inner_call_by, listed_places, places_by, target_places}
+use Rattle.flow_defs.specs.Marks.{calls_into_function, has_bad_target, has_relocated_offset, has_stack_offset, has_target_in_site, is_bad_by, is_bad_listed, is_inner_call_by, listed_places, places_by, target_places}
 use Rattle.flow_defs.specs.Owners.{is_unchecked_point}
-use Rattle.flow_defs.specs.Program.{calls_fentry_by, no_marks, program_of}
+use Rattle.flow_defs.specs.Program.{calls_fentry_by, program_of}
 use Rattle.flow_defs.specs.Roles.{role_by, role_of}
 use Rattle.flow_defs.specs.Sites.{is_into_site}
-use Rattle.return_search.specs.declared.flow.Exit.TheVariants.{Passes}
-use Rattle.return_search.specs.Told.{exit_of}
+use Rattle.symbols_relocs.specs.NamedPlaces.{is_relocated}
+use Rattle.control_flow.specs.declared.searched_flow.Exit.TheVariants.{Passes}
+use Rattle.control_flow.specs.Told.{exit_of}
 use Rattle.control_flow.specs.Listed.{ExitCallsPoint, count_of}
-use Rattle.point_arrivals.specs.Straight.{IsStraight, is_straight_op}
+use Rattle.point_edges.specs.Straight.{IsStraight, is_straight_op}
 use Rattle.control_flow.specs.Transfers.{IsTransfer}
 use Rattle.control_flow.specs.declared.transfers.TheConstants.{USUAL}
 
@@ -72,8 +73,8 @@ first_only a b c d e x is no_b no_c no_d no_e =
     ∙ ap (λ (l : List Edge). x ∷ l) no_e)))
 
 -- nothing is wrong where no field tells so
-unmarked : (a b c d : Bool) → a ≡ false → b ≡ false → c ≡ false → d ≡ false → (let m : Marks = record { bad = a; past_end = b; into_site = c; into_function = d } in m) ≡ no_marks
-unmarked a b c d no_a no_b no_c no_d = cc
+unmarked : (a b c d e : Bool) → a ≡ false → b ≡ false → c ≡ false → d ≡ false → e ≡ false → (let m : Marks = record { bad = a; past_end = b; into_site = c; into_function = d; relocated = e } in m) ≡ no_marks
+unmarked a b c d e no_a no_b no_c no_d no_e = cc
 
 module _ (o : Coded) (n : ℕ) (is : IsStraight o n) where
   abbrev p : Point
@@ -146,13 +147,17 @@ module _ (o : Coded) (n : ℕ) (is : IsStraight o n) where
   unfolding calls_into_function
   not_into_function = on.inner
 
+  not_relocated : has_relocated_offset o p insn ≡ false
+  unfolding insn_of_object
+  not_relocated = ap (λ (op : Op). has_stack_offset op && is_relocated o.elf p.place (decoded_insn o p).len) own.same ∙ is.unrelocated
+
   not_past_end : (is_at_end o p && (goes_on o p && true)) ≡ false
   not_past_end = ap (λ b. b && (goes_on o p && true)) is.goes_on
 
   pub straight_transfer : IsTransfer o n true USUAL
   straight_transfer = record {
     role = straight_role;
-    marks = unmarked (has_bad_target o p) (is_at_end o p && (goes_on o p && true)) (has_target_in_site o p) (calls_into_function o p) not_bad not_past_end not_into_site not_into_function;
+    marks = unmarked (has_bad_target o p) (is_at_end o p && (goes_on o p && true)) (has_target_in_site o p) (calls_into_function o p) (has_relocated_offset o p insn) not_bad not_past_end not_into_site not_into_function not_relocated;
     calls_fentry = ap (calls_fentry_by o) straight_role;
   }
 

@@ -3,17 +3,17 @@ use Rattle.std.proofs.Common.{◌≡◌, ℕ, ◌+◌, ◌^◌, ◌<◌, List, [
 use Rattle.std.specs.Prelude.{slice_index}
 use Rattle.ot_base.specs.NameLists.{NameLists}
 use Rattle.flow_defs.specs.Coded.{Coded}
-use Rattle.program_defs.specs.declared.flow.Edge.{Edge}
-use Rattle.program_defs.specs.declared.flow.EdgeKind.TheVariants.{Table}
-use Rattle.program_defs.specs.Program.{edge}
+use Rattle.machine_defs.specs.declared.flow.Edge.{Edge}
+use Rattle.machine_defs.specs.declared.flow.EdgeKind.TheVariants.{Table}
+use Rattle.machine_defs.specs.Program.{edge}
 use Rattle.flow_defs.specs.Code.{point_at}
 use Rattle.flow_defs.specs.Edges.{goes}
 use Rattle.flow_defs.specs.Program.{calls_fentry_by, program_of}
 use Rattle.flow_defs.specs.Roles.{role_of}
 use Rattle.program_graph.specs.declared.parts.Transfer.{Transfer}
-use Rattle.return_search.specs.declared.flow.Exit.{Exit}
-use Rattle.return_search.specs.declared.flow.Exit.TheVariants.{Passes}
-use Rattle.return_search.specs.Told.{exit_of}
+use Rattle.control_flow.specs.declared.searched_flow.Exit.{Exit}
+use Rattle.control_flow.specs.declared.searched_flow.Exit.TheVariants.{Passes}
+use Rattle.control_flow.specs.Told.{exit_of}
 use Rattle.control_flow.specs.Found.{IsExit, IsKept, IsListed}
 use Rattle.control_flow.specs.Listed.{AreEdges, AreExits, count_of}
 use Rattle.control_flow.specs.Lone.{AreLoneJumps, GoAlike, HasEdgesOf}

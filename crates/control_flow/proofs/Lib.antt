@@ -1,3 +1,23 @@
+pub mod Chaining
+pub mod Ranges
+pub mod Least
+pub mod SearchSteps
+pub mod Keeping
+pub mod Dropping
+pub mod Passing
+pub mod Walks
+pub mod Leading
+pub mod Standing
+pub mod Apart
+pub mod RightBefore
+mod Counted
+pub mod FewEntries
+pub mod FirstFaults
+pub mod StartPlaces
+pub mod Ends
+pub mod Branches
+pub mod ToldFaults
+pub mod InOrder
 pub mod Steps
 pub mod Gathered
 pub mod Bytes

@@ -4,15 +4,15 @@ use Rattle.std.specs.Prelude.{slice_get}
 use Rattle.std.proofs.lemmas.List.{get_or_default, length_push}
 use Rattle.flow_defs.specs.Coded.{Coded}
 use Rattle.program_graph.specs.declared.parts.Owner.{Owner}
-use Rattle.program_graph.specs.declared.parts.Point.{Point}
+use Rattle.program_graph.specs.declared.parts.GraphPoint.{GraphPoint}
 use Rattle.program_graph.specs.declared.parts.PointKind.{PointKind}
-use Rattle.return_search.specs.declared.returns.Returns.{Returns}
+use Rattle.control_flow.specs.declared.found_returns.Returns.{Returns}
 use Rattle.control_flow.specs.Numbers.{IsNumbered}
 use Rattle.control_flow.specs.Points.{AreMade, IsKind, IsMade, IsPlaced}
 use Rattle.control_flow.proofs.Steps.{items_more}
 
 module _ (o : Coded) (owners : List Owner) (returns : Returns) (rares transfers : List ℕ) where
-  abbrev pub IsMadeAt : List PointKind → ℕ → Point → Type 0
+  abbrev pub IsMadeAt : List PointKind → ℕ → GraphPoint → Type 0
   IsMadeAt kinds q x = IsMade o owners kinds q (get_or returns.may_return.items q false) (get_or rares q 0) (get_or transfers q 0) x
 
   abbrev pub IsKindAt : ℕ → PointKind → Type 0
@@ -22,7 +22,7 @@ module _ (o : Coded) (owners : List Owner) (returns : Returns) (rares transfers 
   none_made = record { long = refl; each = λ q x at. absurd (let z : ⊥ = cc in z) }
 
   -- points keep their kinds where one is numbered
-  still_made : (before after : List PointKind) (k : PointKind) (number q : ℕ) (x : Point) → IsNumbered before after k number → IsMadeAt before q x → IsMadeAt after q x
+  still_made : (before after : List PointKind) (k : PointKind) (number q : ℕ) (x : GraphPoint) → IsNumbered before after k number → IsMadeAt before q x → IsMadeAt after q x
   still_made before after k number q x is made = record {
     placed = made.placed;
     kind = made.kind;
@@ -30,7 +30,7 @@ module _ (o : Coded) (owners : List Owner) (returns : Returns) (rares transfers 
     is_kind = made.is_kind;
   }
 
-  pub made_more : (before after : List PointKind) (k : PointKind) (number : ℕ) (made : List Point) (n : ℕ) (x : Point) → AreMade o owners returns rares transfers before made n → IsNumbered before after k number → IsKindAt n k → IsPlaced o owners n number x → AreMade o owners returns rares transfers after (made ++ x ∷ []) (n + 1)
+  pub made_more : (before after : List PointKind) (k : PointKind) (number : ℕ) (made : List GraphPoint) (n : ℕ) (x : GraphPoint) → AreMade o owners returns rares transfers before made n → IsNumbered before after k number → IsKindAt n k → IsPlaced o owners n number x → AreMade o owners returns rares transfers after (made ++ x ∷ []) (n + 1)
   made_more before after k number made n x are is kind placed = record {
     long = omega (arith, length_push made x, are.long);
     each = items_more (IsMadeAt after) made x (λ q y at. still_made before after k number q y is (are.each q y at)) (subst (λ (m : ℕ). IsMadeAt after m x) (sym are.long) own);

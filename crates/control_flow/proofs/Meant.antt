@@ -7,9 +7,9 @@ use Rattle.flow_defs.specs.Coded.{Coded}
 use Rattle.alternatives.specs.declared.point.Point.{Point}
 use Rattle.flow_defs.specs.Code.{number_of, point_at, points_of_object}
 use Rattle.flow_defs.specs.Hints.{hint_of, is_nearer, is_restore, is_save, is_save_before, nearest, save_of, saves_before}
-use Rattle.flow_law.proofs.Levels.{and_true}
-use Rattle.flow_law.proofs.Numbers.{numbered}
-use Rattle.rows_law.proofs.Lists.{finds}
+use Rattle.object_law.proofs.Levels.{and_true}
+use Rattle.object_law.proofs.Numbers.{numbered}
+use Rattle.table_law.proofs.Lists.{finds}
 use Rattle.unwinding_law.proofs.Lists.{from_filter}
 
 -- the nearest SAVE is one

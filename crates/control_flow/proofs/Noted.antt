@@ -8,7 +8,7 @@ use Rattle.ot_base.specs.declared.place.Place.{Place}
 use Rattle.alternatives.specs.declared.point.Point.{Point}
 use Rattle.flow_defs.specs.Coded.{Coded}
 use Rattle.flow_defs.specs.Code.{point_at}
-use Rattle.point_flow.specs.Tables.{table_start_of}
+use Rattle.point_edges.specs.Tables.{table_start_of}
 use Rattle.control_flow.specs.Lone.{AreLoneJumps, GoAlike, HasEdgesOf, IsFirstJump, is_lone_jump, place_order}
 use Rattle.control_flow.specs.declared.lone_jumps.LoneJumps.{LoneJumps}
 

@@ -3,9 +3,9 @@ use Rattle.std.proofs.Common.{◌≡◌, ℕ, ◌+◌, ◌<◌, ◌≤◌, ◌&&
 use Rattle.std.specs.Prelude.{slice_index_or}
 use Rattle.std.proofs.lemmas.Bool.{cases_lt}
 use Rattle.flow_defs.specs.Coded.{Coded}
-use Rattle.program_defs.specs.declared.flow.Marks.{Marks}
+use Rattle.machine_defs.specs.declared.flow.Marks.{Marks}
 use Rattle.program_graph.specs.declared.parts.Transfer.{Transfer}
-use Rattle.return_search.specs.declared.returns.Returns.{Returns}
+use Rattle.control_flow.specs.declared.found_returns.Returns.{Returns}
 use Rattle.flow_defs.specs.Arrival.{is_at_end}
 use Rattle.flow_defs.specs.Code.{point_at}
 use Rattle.flow_defs.specs.Edges.{goes_on}
@@ -14,7 +14,7 @@ use Rattle.control_flow.specs.Transfers.{IsTransfer, IsTransferIfBack, IsTransfe
 
 -- marks, where execution doesn't run past an end
 abbrev pub within_end : Marks → Marks
-within_end m = record { bad = m.bad; past_end = false; into_site = m.into_site; into_function = m.into_function }
+within_end m = record { bad = m.bad; past_end = false; into_site = m.into_site; into_function = m.into_function; relocated = m.relocated }
 
 abbrev pub without_back : Transfer → Transfer
 without_back x = record { role = x.role; marks = within_end x.marks; calls_fentry = x.calls_fentry }
@@ -28,7 +28,7 @@ pub is_without_back : (o : Coded) (q : ℕ) (x : Transfer) → IsTransfer o q tr
 is_without_back o q x is = record {
   role = is.role;
   marks =
-      ap (λ (b : Bool). let m : Marks = record { bad = (marks_of o (point_at o q) false).bad; past_end = b; into_site = (marks_of o (point_at o q) false).into_site; into_function = (marks_of o (point_at o q) false).into_function } in m) (never (is_at_end o (point_at o q)) (goes_on o (point_at o q)))
+      ap (λ (b : Bool). let m : Marks = record { bad = (marks_of o (point_at o q) false).bad; past_end = b; into_site = (marks_of o (point_at o q) false).into_site; into_function = (marks_of o (point_at o q) false).into_function; relocated = (marks_of o (point_at o q) false).relocated } in m) (never (is_at_end o (point_at o q)) (goes_on o (point_at o q)))
       ∙ ap within_end is.marks;
   calls_fentry = is.calls_fentry;
 }

@@ -8,20 +8,20 @@ use Rattle.std.proofs.lemmas.Bool.Decides.{nat_tests}
 use Rattle.std.proofs.lemmas.Map.Views.{Contains-from_any, list_any-from_Contains}
 use Rattle.ot_base.specs.NameLists.{NameLists}
 use Rattle.flow_defs.specs.Coded.{Coded}
-use Rattle.program_defs.specs.declared.flow.Edge.{Edge}
-use Rattle.program_defs.specs.declared.flow.Role.{Role}
-use Rattle.program_defs.specs.declared.flow.Role.TheVariants as roles
-use Rattle.program_defs.specs.Program.{IsPoint, Program, entry_points}
+use Rattle.machine_defs.specs.declared.flow.Edge.{Edge}
+use Rattle.machine_defs.specs.declared.flow.Role.{Role}
+use Rattle.machine_defs.specs.declared.flow.Role.TheVariants as roles
+use Rattle.machine_defs.specs.Program.{IsPoint, Program, entry_points}
 use Rattle.flow_defs.specs.Code.{point_at}
 use Rattle.flow_defs.specs.Edges.{goes}
 use Rattle.flow_defs.specs.Program.{graph_of, program_of, returning_graph}
 use Rattle.flow_defs.specs.Roles.{role_of}
-use Rattle.flow_law.proofs.Entries as of_entries
-use Rattle.return_search.specs.declared.flow.Exit.{Exit}
-use Rattle.return_search.specs.declared.flow.Exit.TheVariants as exits
-use Rattle.return_search.specs.declared.flow.Flow.{Flow}
-use Rattle.return_search.specs.Shape.{HasShape}
-use Rattle.return_search.specs.Told.{SharesEdges, TellsFlow, edges_from, exit_of, exit_at}
+use Rattle.object_law.proofs.Entries as of_entries
+use Rattle.control_flow.specs.declared.searched_flow.Exit.{Exit}
+use Rattle.control_flow.specs.declared.searched_flow.Exit.TheVariants as exits
+use Rattle.control_flow.specs.declared.searched_flow.Flow.{Flow}
+use Rattle.control_flow.specs.Shape.{HasShape}
+use Rattle.control_flow.specs.Told.{SharesEdges, TellsFlow, edges_from, exit_of, exit_at}
 use Rattle.control_flow.specs.Listed.{AreDeadEnds, AreEdges, AreEntered, AreExits, CallsPoint, ExitCallsPoint, IsPointIfAny, count_of}
 use Rattle.control_flow.proofs.Steps.{all_at}
 

@@ -6,30 +6,30 @@ use Rattle.std.proofs.lemmas.List.{get_or-drop}
 use Rattle.std.proofs.lemmas.List.Elements.{All-head, All-tail}
 use Rattle.ot_base.specs.NameLists.{NameLists}
 use Rattle.flow_defs.specs.Coded.{Coded}
-use Rattle.program_defs.specs.declared.flow.Edge.{Edge}
-use Rattle.program_defs.specs.declared.flow.EdgeKind.TheVariants.{Table}
-use Rattle.program_defs.specs.MayReturn.{target_may_return}
-use Rattle.program_defs.specs.Program.{Program, edge}
-use Rattle.checker_defs.specs.Kept.{can_go, edges_of}
+use Rattle.machine_defs.specs.declared.flow.Edge.{Edge}
+use Rattle.machine_defs.specs.declared.flow.EdgeKind.TheVariants.{Table}
+use Rattle.machine_defs.specs.MayReturn.{target_may_return}
+use Rattle.machine_defs.specs.Program.{Program, edge}
+use Rattle.machine_defs.specs.Kept.{can_go, edges_of}
 use Rattle.flow_defs.specs.Code.{point_at}
 use Rattle.flow_defs.specs.Edges.{goes}
 use Rattle.flow_defs.specs.Hints.{is_restore}
 use Rattle.flow_defs.specs.Marks.{marks_of}
 use Rattle.flow_defs.specs.Program.{comes_back, graph_of, program_of, returning_graph, text_sections_of, unsized_of}
 use Rattle.flow_defs.specs.Sites.{sites_of}
-use Rattle.hint_points.proofs.Meant.{other_means}
+use Rattle.object_points.proofs.Meant.{other_means}
 use Rattle.program_graph.specs.declared.parts.GraphParts.{GraphParts}
 use Rattle.program_graph.specs.declared.parts.Hinted.{Hinted}
 use Rattle.program_graph.specs.declared.parts.Owner.{Owner}
-use Rattle.program_graph.specs.declared.parts.Point.{Point}
+use Rattle.program_graph.specs.declared.parts.GraphPoint.{GraphPoint}
 use Rattle.program_graph.specs.declared.parts.PointKind.{PointKind}
 use Rattle.program_graph.specs.declared.parts.Rare.{Rare}
 use Rattle.program_graph.specs.declared.parts.Transfer.{Transfer}
 use Rattle.program_graph.specs.Shape.{HaveShape, IsAlike, IsKindOf, first_target, listed_of, start_of}
 use Rattle.program_graph.specs.Tells.{Means, Tells, TellsHinted, TellsKind, TellsOwner, TellsPoint, TellsRare, TellsTransfer, TellsUnhinted, site_of, text_of}
-use Rattle.return_search.specs.declared.returns.Returns.{Returns}
-use Rattle.return_search.specs.Shape.{HaveShape as HaveReturnShape}
-use Rattle.point_fields.specs.Owners.{IsOwnerBy}
+use Rattle.control_flow.specs.declared.found_returns.Returns.{Returns}
+use Rattle.control_flow.specs.Shape.{HaveShape as HaveReturnShape}
+use Rattle.object_points.specs.Owners.{IsOwnerBy}
 use Rattle.control_flow.specs.Listed.{AreEdges, count_of}
 use Rattle.control_flow.specs.Lone.{HasEdgesOf}
 use Rattle.control_flow.specs.Returns.{AreReturns}
@@ -79,7 +79,7 @@ module _ (o : Coded) (lists : NameLists) (parts : GraphParts) (returns : Returns
   abbrev HasRare : ℕ → Rare → Type 0
   HasRare = IsRareOf o parts.restores.items parts.hinted.items
 
-  inside : (q : ℕ) (x : Point) → slice_get parts.points.items q ≡ Some x → q < count_of o
+  inside : (q : ℕ) (x : GraphPoint) → slice_get parts.points.items q ≡ Some x → q < count_of o
   inside q x at = omega (arith, slice_get_within parts.points.items q x at, are.points.long)
 
   tells_owner : (q : ℕ) (w : Owner) → IsOwnerBy o.elf ((program_of o lists).function q) ((program_of o lists).owner q) w → TellsOwner (program_of o lists) q w
@@ -140,7 +140,7 @@ module _ (o : Coded) (lists : NameLists) (parts : GraphParts) (returns : Returns
   same_some e = cc
 
   -- the kind that a point names is its own
-  kind_is : (q : ℕ) (x : Point) (k : PointKind) → slice_get parts.points.items q ≡ Some x → slice_get parts.kinds.items x.kind ≡ Some k → IsKind o q (slice_index_or returns.may_return.items q false) (slice_index rares q) (slice_index transfers q) k
+  kind_is : (q : ℕ) (x : GraphPoint) (k : PointKind) → slice_get parts.points.items q ≡ Some x → slice_get parts.kinds.items x.kind ≡ Some k → IsKind o q (slice_index_or returns.may_return.items q false) (slice_index rares q) (slice_index transfers q) k
   kind_is q x k at named =
       let made = are.points.each q x at in
       subst (IsKind o q (slice_index_or returns.may_return.items q false) (slice_index rares q) (slice_index transfers q)) (same_some (sym made.named ∙ named)) made.is_kind
@@ -159,7 +159,7 @@ module _ (o : Coded) (lists : NameLists) (parts : GraphParts) (returns : Returns
     rare = λ r own. tells_rare q r (numbered_at HasRare parts.rares.items rares (count_of o) q k.rare r are.rares.numbered.have here is.rare_number own);
   }
 
-  tells_point : (q : ℕ) (x : Point) → slice_get parts.points.items q ≡ Some x → TellsPoint (program_of o lists) parts q x
+  tells_point : (q : ℕ) (x : GraphPoint) → slice_get parts.points.items q ≡ Some x → TellsPoint (program_of o lists) parts q x
   unfolding program_of returning_graph graph_of
   tells_point q x at =
       let placed = (are.points.each q x at).placed in

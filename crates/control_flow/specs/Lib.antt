@@ -1,3 +1,14 @@
+pub mod Chained
+pub mod Told
+pub mod Shape
+pub mod Backward
+pub mod Search
+pub mod Stays
+pub mod Entered
+pub mod Gapless
+pub mod FaultText
+pub mod Few
+pub mod Judged
 pub mod Listed
 pub mod Lone
 pub mod Found

@@ -3,20 +3,20 @@ use Rattle.std.specs.Prelude.{◌≡◌, ◌↔◌, ◌+◌, ◌^◌, ◌<◌, �
 use Rattle.std.specs.List.Sorted.{IsNonDecreasing}
 use Rattle.ot_base.specs.NameLists.{NameLists}
 use Rattle.flow_defs.specs.Coded.{Coded}
-use Rattle.program_defs.specs.declared.flow.Edge.{Edge}
-use Rattle.program_defs.specs.declared.flow.EdgeKind.TheVariants.{Table}
-use Rattle.program_defs.specs.declared.flow.Role.{Role}
-use Rattle.program_defs.specs.declared.flow.Role.TheVariants.{CallIn}
-use Rattle.program_defs.specs.Program.{edge}
+use Rattle.machine_defs.specs.declared.flow.Edge.{Edge}
+use Rattle.machine_defs.specs.declared.flow.EdgeKind.TheVariants.{Table}
+use Rattle.machine_defs.specs.declared.flow.Role.{Role}
+use Rattle.machine_defs.specs.declared.flow.Role.TheVariants.{CallIn}
+use Rattle.machine_defs.specs.Program.{edge}
 use Rattle.flow_defs.specs.Arrival.{is_dead_end}
 use Rattle.flow_defs.specs.Code.{point_at, points_of_object}
 use Rattle.flow_defs.specs.Edges.{goes}
 use Rattle.flow_defs.specs.Program.{program_of}
 use Rattle.flow_defs.specs.Roles.{role_of}
-use Rattle.return_search.specs.declared.flow.Exit.{Exit}
-use Rattle.return_search.specs.declared.flow.Exit.TheVariants.{Calls}
-use Rattle.return_search.specs.Told.{exit_of}
-use Rattle.point_entries.specs.Entered.{IsEnteredAt}
+use Rattle.control_flow.specs.declared.searched_flow.Exit.{Exit}
+use Rattle.control_flow.specs.declared.searched_flow.Exit.TheVariants.{Calls}
+use Rattle.control_flow.specs.Told.{exit_of}
+use Rattle.control_flow.specs.Entered.{IsEnteredAt}
 use Rattle.control_flow.specs.Lone.{HasEdgesOf}
 
 -- how many points an object has

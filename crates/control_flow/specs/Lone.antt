@@ -6,8 +6,8 @@ use Rattle.std.specs.declared.cmp.Ordering.{Ordering}
 use Rattle.ot_base.specs.declared.place.Place.{Place}
 use Rattle.operation_defs.specs.declared.op.Op.{Op}
 use Rattle.operation_defs.specs.declared.op.Op.TheVariants.{JmpInd}
-use Rattle.program_defs.specs.declared.flow.EdgeKind.TheVariants.{Table}
-use Rattle.program_defs.specs.declared.flow.Role.TheVariants.{Plain}
+use Rattle.machine_defs.specs.declared.flow.EdgeKind.TheVariants.{Table}
+use Rattle.machine_defs.specs.declared.flow.Role.TheVariants.{Plain}
 use Rattle.alternatives.specs.declared.point.Point.{Point}
 use Rattle.flow_defs.specs.Coded.{Coded}
 use Rattle.flow_defs.specs.Arrival.{insn_of_object}
@@ -16,8 +16,8 @@ use Rattle.flow_defs.specs.Edges.{fixups, goes, is_some_place, static_targets}
 use Rattle.flow_defs.specs.Marks.{marks_of}
 use Rattle.flow_defs.specs.Owners.{is_unchecked_point}
 use Rattle.flow_defs.specs.Roles.{role_of, table_of_point}
-use Rattle.flow_defs.specs.Sites.{site_at}
-use Rattle.point_flow.specs.Tables.{table_start_of}
+use Rattle.flow_defs.specs.Sites.{site_holding}
+use Rattle.point_edges.specs.Tables.{table_start_of}
 use Rattle.control_flow.specs.declared.lone_jumps.LoneJumps.{LoneJumps}
 
 abbrev pub is_indirect_jump : Op → Bool
@@ -30,7 +30,7 @@ is_unlisted o point = not (is_some_place (static_targets o point)) && not (is_so
 
 -- a point of the object's own code, outside of all sites, that is checked
 abbrev pub is_in_open_code : Coded → Point → Bool
-is_in_open_code o point = is_plain point && (is_none (site_at o point.place) && not (is_unchecked_point o point))
+is_in_open_code o point = is_plain point && (is_none (site_holding o point.place) && not (is_unchecked_point o point))
 
 -- A lone jump: an indirect jump in open code through a table that has entries, which goes nowhere else.
 unfoldable pub is_lone_jump : Coded → Point → Bool

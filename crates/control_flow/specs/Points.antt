@@ -2,17 +2,17 @@
 use Rattle.std.specs.Prelude.{◌≡◌, ◌<◌, ℕ, Bool, List, Some, false, length, slice_get, slice_index, slice_index_or}
 use Rattle.ot_base.specs.NameLists.{NameLists}
 use Rattle.flow_defs.specs.Coded.{Coded}
-use Rattle.checker_defs.specs.Kept.{is_entry_point}
+use Rattle.machine_defs.specs.Kept.{is_at_entry}
 use Rattle.flow_defs.specs.Arrival.{insn_of_object, is_dead_end}
 use Rattle.flow_defs.specs.Code.{point_at}
 use Rattle.flow_defs.specs.Owners.{function_of_point, owner_of_point}
 use Rattle.flow_defs.specs.Program.{program_of}
-use Rattle.point_fields.specs.Owners.{IsOwnerBy}
+use Rattle.object_points.specs.Owners.{IsOwnerBy}
 use Rattle.program_graph.specs.Tells.{insn_of, place_of}
 use Rattle.program_graph.specs.declared.parts.Owner.{Owner}
-use Rattle.program_graph.specs.declared.parts.Point.{Point}
+use Rattle.program_graph.specs.declared.parts.GraphPoint.{GraphPoint}
 use Rattle.program_graph.specs.declared.parts.PointKind.{PointKind}
-use Rattle.return_search.specs.declared.returns.Returns.{Returns}
+use Rattle.control_flow.specs.declared.found_returns.Returns.{Returns}
 
 -- it is the kind of point q, where it is told whether a return may come from it on, and where what few points have and its
 -- transfer stand for it
@@ -22,23 +22,23 @@ pub record IsKind (o : Coded) (q : ℕ) (may_return : Bool) (rare transfer : ℕ
   pub transfer_number : transfer ≡ k.transfer
   pub dead_end : is_dead_end o (point_at o q) ≡ k.is_dead_end
   pub returns : may_return ≡ k.may_return
-  pub entered : (lists : NameLists) → is_entry_point (program_of o lists) q ≡ k.is_entered
+  pub entered : (lists : NameLists) → is_at_entry (program_of o lists) q ≡ k.is_entered
 
 -- it is point q, where it is told where its kind stands
-pub record IsPlaced (o : Coded) (owners : List Owner) (q kind : ℕ) (x : Point) : Type 0 where
+pub record IsPlaced (o : Coded) (owners : List Owner) (q kind : ℕ) (x : GraphPoint) : Type 0 where
   pub place : (point_at o q).place ≡ place_of x
   pub kind_number : kind ≡ x.kind
   pub owner_inside : x.owner < length owners
   pub owner : (w : Owner) → slice_get owners x.owner ≡ Some w → IsOwnerBy o.elf (function_of_point o (point_at o q)) (owner_of_point o (point_at o q)) w
 
 -- and its kind is among these
-pub record IsMade (o : Coded) (owners : List Owner) (kinds : List PointKind) (q : ℕ) (may_return : Bool) (rare transfer : ℕ) (x : Point) : Type 0 where
+pub record IsMade (o : Coded) (owners : List Owner) (kinds : List PointKind) (q : ℕ) (may_return : Bool) (rare transfer : ℕ) (x : GraphPoint) : Type 0 where
   pub placed : IsPlaced o owners q x.kind x
   pub kind : PointKind
   pub named : slice_get kinds x.kind ≡ Some kind
   pub is_kind : IsKind o q may_return rare transfer kind
 
 -- the first n points, as it is told of returns, of what few points have, and of transfers
-pub record AreMade (o : Coded) (owners : List Owner) (returns : Returns) (rares transfers : List ℕ) (kinds : List PointKind) (made : List Point) (n : ℕ) : Type 0 where
+pub record AreMade (o : Coded) (owners : List Owner) (returns : Returns) (rares transfers : List ℕ) (kinds : List PointKind) (made : List GraphPoint) (n : ℕ) : Type 0 where
   pub long : length made ≡ n
-  pub each : (q : ℕ) (x : Point) → slice_get made q ≡ Some x → IsMade o owners kinds q (slice_index_or returns.may_return.items q false) (slice_index rares q) (slice_index transfers q) x
+  pub each : (q : ℕ) (x : GraphPoint) → slice_get made q ≡ Some x → IsMade o owners kinds q (slice_index_or returns.may_return.items q false) (slice_index rares q) (slice_index transfers q) x

@@ -2,11 +2,11 @@
 use Rattle.std.specs.Prelude.{◌≡◌, ℕ, List}
 use Rattle.ot_base.specs.NameLists.{NameLists}
 use Rattle.flow_defs.specs.Coded.{Coded}
-use Rattle.program_defs.specs.declared.flow.Edge.{Edge}
+use Rattle.machine_defs.specs.declared.flow.Edge.{Edge}
 use Rattle.flow_defs.specs.Program.{program_of}
-use Rattle.return_search.specs.declared.flow.Flow.{Flow}
-use Rattle.return_search.specs.declared.returns.Returns.{Returns}
-use Rattle.return_search.specs.Told.{TellsReturns}
+use Rattle.control_flow.specs.declared.searched_flow.Flow.{Flow}
+use Rattle.control_flow.specs.declared.found_returns.Returns.{Returns}
+use Rattle.control_flow.specs.Told.{TellsReturns}
 
 -- The result tells of the object's program what a search finds in a flow with these edges.
 pub record AreReturns (o : Coded) (lists : NameLists) (starts : List ℕ) (edges : List Edge) (returns : Returns) : Type 0 where

@@ -6,6 +6,7 @@ ghost use Rattle.flow_defs.specs.Program.{program_of};
 ghost use Rattle.program_graph.specs.Shape.{HaveShape};
 ghost use Rattle.program_graph.specs.Tells.{Tells};
 
+use crate::check_flow;
 use crate::hinted::restores_are_points;
 use crate::outgoing::{Outgoing, list_outgoing};
 use crate::points::{PointList, list_points};
@@ -13,16 +14,13 @@ use crate::rares::{RareList, list_rares};
 use crate::returning::returns_of;
 use crate::transfers::settle_transfers;
 use flow_defs::FlowFault;
-use flow_faults::check_flow;
-use hint_points::HintPoints;
 use object_code::Linked;
+use object_points::{
+    HintPoints, OwnerTable, PointPlaces, list_sites, list_texts, list_without_size,
+};
 use ot_base::{Lists, NoMemory};
-use point_arrivals::PointArrivals;
-use point_fields::{OwnerTable, list_texts, list_without_size};
-use point_flow::FlowPoints;
-use point_places::PointPlaces;
+use point_edges::{FlowPoints, PointArrivals};
 use program_graph::{Graph, GraphParts};
-use site_places::list_sites;
 use std::alloc::Global;
 
 /// The parts of the graph of the points of an object.

@@ -4,7 +4,7 @@ ghost use Rattle.std.specs.Prelude.{◌≡◌, ◌<◌, ◌^◌, ◌++◌, ◌�
 ghost use Rattle.control_flow.specs.Hinted.{IsHinted, IsUnhinted};
 ghost use Rattle.control_flow.specs.Listed.{count_of};
 
-use hint_points::HintPoints;
+use object_points::HintPoints;
 use ot_base::NoMemory;
 use program_graph::Hinted;
 

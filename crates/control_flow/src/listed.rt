@@ -2,17 +2,15 @@
 
 ghost use Rattle.std.specs.Prelude.{◌≡◌, IfOk};
 ghost use Rattle.flow_defs.specs.Program.{program_of};
-ghost use Rattle.return_search.specs.Told.{exit_of};
+ghost use Rattle.control_flow.specs.Told.{exit_of};
 ghost use Rattle.control_flow.specs.Listed.{AreDeadEnds, AreEntered, count_of};
 
+use crate::{Exit, entry_at};
+use machine_defs::Role;
 use object_code::Linked;
+use object_points::{PointPlaces, never_returns};
 use ot_base::{Lists, NoMemory};
-use point_entries::entry_at;
-use point_fields::never_returns;
-use point_flow::FlowPoints;
-use point_places::PointPlaces;
-use program_defs::Role;
-use return_search::Exit;
+use point_edges::FlowPoints;
 use std::alloc::Global;
 
 /// How many points there are.

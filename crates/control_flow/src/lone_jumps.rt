@@ -8,14 +8,14 @@ ghost use Rattle.flow_defs.specs.Arrival.{insn_of_object};
 ghost use Rattle.flow_defs.specs.Code.{point_at};
 ghost use Rattle.flow_defs.specs.Edges.{is_some_place};
 ghost use Rattle.flow_defs.specs.Roles.{table_of_point};
-ghost use Rattle.point_flow.specs.Tables.{table_start_of};
+ghost use Rattle.point_edges.specs.Tables.{table_start_of};
 ghost use Rattle.control_flow.specs.Listed.{count_of};
 ghost use Rattle.control_flow.specs.Lone.{AreLoneJumps, GoAlike, HasEdgesOf, is_in_open_code as is_point_in_open_code, is_indirect_jump as is_indirect, is_lone_jump as is_lone, is_unlisted as is_unlisted_point, place_order};
 
+use object_points::site_at;
 use operation_defs::{Insn, Op};
 use ot_base::{NoMemory, Place};
-use point_flow::FlowPoints;
-use site_places::site_at;
+use point_edges::FlowPoints;
 use std::alloc::Global;
 use std::collections::BTreeMap;
 

@@ -5,7 +5,7 @@ ghost use Rattle.alternatives.specs.Numbers.{IsKept};
 ghost use Rattle.flow_defs.specs.Code.{alternatives_of, point_at};
 ghost use Rattle.control_flow.specs.Listed.{count_of};
 
-use point_places::PointPlaces;
+use object_points::PointPlaces;
 
 /// The law that the offset of a point has 32 bits, and so has that where it runs: both lie in texts, which have at most
 /// 16 MiB together.

@@ -1,7 +1,7 @@
 //! That an object whose code is read is in order.
 
 ghost use Rattle.std.specs.Prelude.{◌<◌, All};
-ghost use Rattle.flow_law.specs.Flows.{ObjectIsInOrder};
+ghost use Rattle.object_law.specs.Flows.{ObjectIsInOrder};
 
 use object_code::Linked;
 

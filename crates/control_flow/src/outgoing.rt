@@ -6,24 +6,23 @@ ghost use Rattle.flow_defs.specs.Code.{point_at};
 ghost use Rattle.flow_defs.specs.Edges.{goes};
 ghost use Rattle.flow_defs.specs.Program.{program_of};
 ghost use Rattle.flow_defs.specs.Roles.{role_of};
-ghost use Rattle.return_search.specs.Told.{exit_of};
+ghost use Rattle.control_flow.specs.Told.{exit_of};
 ghost use Rattle.control_flow.specs.Found.{IsExit, IsFound, IsKept, IsListed};
 ghost use Rattle.control_flow.specs.Listed.{AreEdges, AreExits, ExitCallsPoint, count_of};
 ghost use Rattle.control_flow.specs.Lone.{AreLoneJumps};
 ghost use Rattle.control_flow.specs.Numbers.{AreNumbered};
-ghost use Rattle.point_arrivals.specs.Straight.{IsStraight};
+ghost use Rattle.point_edges.specs.Straight.{IsStraight};
 ghost use Rattle.control_flow.specs.Transfers.{IsTransfer, IsTransferIfBack};
 
+use crate::Exit;
 use crate::listed::{count_points, exit};
 use crate::lone_jumps::LoneJumps;
 use crate::transfers::{TransferList, USUAL, number_transfer, transfer_of};
-use branch_ways::branch_at;
+use machine_defs::{Edge, EdgeKind};
 use operation_defs::Insn;
 use ot_base::{Lists, NoMemory};
-use point_flow::{FlowPoints, push_edges, role};
-use program_defs::{Edge, EdgeKind};
+use point_edges::{FlowPoints, branch_at, push_edges, role};
 use program_graph::Transfer;
-use return_search::Exit;
 use std::alloc::Global;
 
 /// The edges of all points, as in a flow.

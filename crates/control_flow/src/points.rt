@@ -2,20 +2,20 @@
 
 ghost use Rattle.std.specs.Prelude.{◌≡◌, ◌<◌, ◌^◌, IfOk, length};
 ghost use Rattle.ot_base.specs.NameLists.{NameLists};
-ghost use Rattle.checker_defs.specs.Kept.{is_entry_point};
+ghost use Rattle.machine_defs.specs.Kept.{is_at_entry};
 ghost use Rattle.flow_defs.specs.Program.{program_of};
-ghost use Rattle.return_search.specs.Shape.{HaveShape};
+ghost use Rattle.control_flow.specs.Shape.{HaveShape};
 ghost use Rattle.control_flow.specs.Listed.{AreEntered, count_of};
 ghost use Rattle.control_flow.specs.Points.{AreMade, IsKind, IsPlaced};
 
+use crate::Returns;
 use crate::kinds::KindTable;
 use crate::listed::count_points;
 use crate::low::point_is_low;
+use object_points::OwnerTable;
 use ot_base::NoMemory;
-use point_fields::OwnerTable;
-use point_flow::FlowPoints;
-use program_graph::{Point, PointKind};
-use return_search::Returns;
+use point_edges::FlowPoints;
+use program_graph::{GraphPoint, PointKind};
 use std::alloc::Global;
 
 /// What is told of a point by lists of all points.
@@ -39,7 +39,7 @@ fn kind_of(
     told: Told,
 ) -> Result<PointKind, NoMemory>
     requires point { n < count_of points.now }
-    requires entered { (lists : NameLists) → is_entry_point (program_of points.now lists) n ≡ told.is_entered }
+    requires entered { (lists : NameLists) → is_at_entry (program_of points.now lists) n ≡ told.is_entered }
     ensures { IfOk result (IsKind points.now n told.may_return told.rare told.transfer) }
 {
     let insn = points.arrivals().insn(alloc, n)?;
@@ -61,7 +61,7 @@ fn point_of(
     n: u32,
     guess: u32,
     kind: u32,
-) -> Point
+) -> GraphPoint
     requires point { n < count_of points.now }
     requires owners { owners.now.elf ≡ points.now.elf }
     ensures { IsPlaced points.now owners.now.owners n kind result }
@@ -69,7 +69,7 @@ fn point_of(
     let places = points.places();
     let place = places.point(n).place;
     point_is_low(places, n);
-    Point {
+    GraphPoint {
         section: place.sec,
         offset: place.off as u32,
         owner: owners.number_by_guess(places, n, guess),
@@ -80,7 +80,7 @@ fn point_of(
 /// Points, and what they have besides.
 #[derive(Drop)]
 pub(crate) struct PointList {
-    pub(crate) points: Vec<Point>,
+    pub(crate) points: Vec<GraphPoint>,
     pub(crate) kinds: Vec<PointKind>,
 }
 

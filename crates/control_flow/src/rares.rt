@@ -14,11 +14,10 @@ use crate::listed::count_points;
 use crate::low::point_is_low;
 use crate::numbers::number_of;
 use crate::order::object_is_in_order;
-use hint_points::HintPoints;
+use crate::previous;
+use object_points::{HintPoints, PointPlaces};
 use ot_base::NoMemory;
-use point_entries::previous;
-use point_flow::FlowPoints;
-use point_places::PointPlaces;
+use point_edges::FlowPoints;
 use program_graph::{Hinted, Previous, Rare, Replaced};
 use std::alloc::Global;
 

@@ -2,18 +2,18 @@
 
 ghost use Rattle.std.specs.Prelude.{◌≡◌, ◌<◌, ◌^◌, ℕ, List, IfOk};
 ghost use Rattle.flow_defs.specs.Program.{program_of};
-ghost use Rattle.return_search.specs.Shape.{HasShape, HaveShape, points_of};
-ghost use Rattle.return_search.specs.Told.{TellsFlow};
+ghost use Rattle.control_flow.specs.Shape.{HasShape, HaveShape, points_of};
+ghost use Rattle.control_flow.specs.Told.{TellsFlow};
 ghost use Rattle.control_flow.specs.Listed.{AreEdges, AreEntered, AreExits, count_of};
 ghost use Rattle.control_flow.specs.Returns.{AreReturns};
 
 use crate::listed::{list_dead_ends, list_entered};
 use crate::order::object_is_in_order;
 use crate::outgoing::EdgeList;
-use flow_law::laws::program_is_one;
+use crate::{Exit, Flow, Returns, find_returns};
+use object_law::flow_laws::program_is_one;
 use ot_base::{Lists, NoMemory};
-use point_flow::FlowPoints;
-use return_search::{Exit, Flow, Returns, find_returns};
+use point_edges::FlowPoints;
 use std::alloc::Global;
 
 /// The edges of the points, and what they are to a return.

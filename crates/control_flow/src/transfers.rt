@@ -5,22 +5,21 @@ ghost use Rattle.flow_defs.specs.Coded.{Coded};
 ghost use Rattle.flow_defs.specs.Arrival.{insn_of_object};
 ghost use Rattle.flow_defs.specs.Code.{point_at};
 ghost use Rattle.flow_defs.specs.Roles.{role_of};
-ghost use Rattle.flow_defs.specs.Targets.{aim as aim_of};
-ghost use Rattle.return_search.specs.Shape.{HaveShape};
-ghost use Rattle.branch_ways.specs.Jumps.{way_by};
+ghost use Rattle.flow_defs.specs.Targets.{destination};
+ghost use Rattle.control_flow.specs.Shape.{HaveShape};
+ghost use Rattle.point_edges.specs.Jumps.{way_by};
 ghost use Rattle.control_flow.specs.Listed.{CallsPoint, count_of};
 ghost use Rattle.control_flow.specs.Numbers.{AreNumbered, HaveNumbers, IsNumbered};
 ghost use Rattle.control_flow.specs.Transfers.{IsTransfer, IsTransferIfBack, IsTransferOf};
 
+use crate::Returns;
 use crate::numbers::number_of;
-use branch_ways::Branch;
+use machine_defs::{Marks, Role};
+use object_points::calls_fentry;
 use operation_defs::Insn;
 use ot_base::NoMemory;
-use point_fields::calls_fentry;
-use point_flow::{FlowPoints, marks};
-use program_defs::{Marks, Role};
+use point_edges::{Branch, FlowPoints, marks};
 use program_graph::Transfer;
-use return_search::Returns;
 
 /// That of most points: they neither call nor leave their function, and nothing is wrong with where they go.
 pub(crate) const USUAL: Transfer = Transfer {
@@ -30,6 +29,7 @@ pub(crate) const USUAL: Transfer = Transfer {
         past_end: false,
         into_site: false,
         into_function: false,
+        relocated: false,
     },
     calls_fentry: false,
 };
@@ -45,7 +45,7 @@ pub(crate) fn transfer_of(
 ) -> Transfer
     requires point { n < count_of points.now }
     requires insn { insn ≡ insn_of_object points.now (point_at points.now n) }
-    requires aim { branch.to ≡ aim_of points.now (point_at points.now n) insn }
+    requires to { branch.to ≡ destination points.now (point_at points.now n) insn }
     requires way { branch.way ≡ way_by points.now (point_at points.now n) insn insn.op }
     requires role { role ≡ role_of points.now (point_at points.now n) }
     requires known { CallsPoint points.now role }

@@ -12,7 +12,7 @@ use Rattle.std.proofs.lemmas.List.FromFn.{get_or-map-range_with_len, length-map-
 use Rattle.elf_objects.specs.Below.{AllBelow}
 use Rattle.elf_objects.specs.File.{name_table, section_count, section_header}
 use Rattle.elf_objects.specs.Header.{is_text_header}
-use Rattle.elf_objects.specs.Sections.{HasForm, HasLinks, HasLittleText, IsPlain, IsStringTable, text_bytes, text_size}
+use Rattle.elf_objects.specs.Sections.{HasForm, HasLinks, HasLittleText, IsPlain, IsStringTable, file_text_bytes, text_size}
 use Rattle.elf_objects.specs.Symbols.{IsSymbol}
 use Rattle.elf_objects.specs.Symbols.HasHome.{plain}
 use Rattle.elf_objects.specs.Table.{raw_symbol, string_header, symbol_count, symbol_header}
@@ -407,7 +407,7 @@ symbols-demo n few b o r can (suc (suc k)) h =
     (omega arith) (omega arith) o.count (λ e. absurd (omega arith), λ e. absurd (omega arith))
 
 little-text : (n : ℕ) → n ≤ 100000 → (b : List ℕ) → ReadsDemo n b → HasLittleText b
-unfolding text_bytes
+unfolding file_text_bytes
 little-text n h b o =
     let t = text-short n in
     let t0 : text_size (section_header b 0) ≡ 0 = ap text_size o.first in

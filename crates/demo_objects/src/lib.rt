@@ -1,5 +1,5 @@
-//! Makes relocatable ELF-64 objects for x86-64 of what they are to say: sections, symbols and
-//! relocations. The tables that go with them, and the places of all, are this crate's.
+//! Makes relocatable ELF-64 objects of given sections, symbols and relocations, and the object of N functions that `demo
+//! N` checks. The tables that go with them, and the places of all, are this crate's.
 #![tactic(auto)]
 
 mod bytes;

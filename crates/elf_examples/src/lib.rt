@@ -1,6 +1,7 @@
-//! Tests of objects that are read, made, and added to: of `elf_objects`, `demo_objects` and `elf_write`. They
-//! stand apart from these, so that none of them is proved again for its tests.
+//! Tests of `elf_objects`, `elf_write` and `demo_objects`: objects that are made, read and changed.
 #![tactic(auto)]
 
+#[cfg(test)]
+mod insertion;
 #[cfg(test)]
 mod tests;

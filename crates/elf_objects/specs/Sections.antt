@@ -150,12 +150,12 @@ abbrev pub text_size : SectionHeader → ℕ
 text_size h = if is_text_header h then h.size else 0
 
 -- and in all sections
-unfoldable pub text_bytes : List ℕ → ℕ
-text_bytes b = sum_by text_size (map (section_header b) (range_with_len 0 (section_count b)))
+unfoldable pub file_text_bytes : List ℕ → ℕ
+file_text_bytes b = sum_by text_size (map (section_header b) (range_with_len 0 (section_count b)))
 
 abbrev pub HasLittleText : List ℕ → Type 0
-HasLittleText b = text_bytes b ≤ MAX_TEXT_BYTES
+HasLittleText b = file_text_bytes b ≤ MAX_TEXT_BYTES
 
 pub record IsMuchText (b : List ℕ) (e : ElfFault) : Type 0 where
   pub fails : ¬ HasLittleText b
-  pub is : e ≡ TooMany TextBytes (text_bytes b)
+  pub is : e ≡ TooMany TextBytes (file_text_bytes b)

@@ -1,4 +1,5 @@
-//! Reads ELF-64 relocatable objects for x86-64.
+//! Reads ELF-64 relocatable objects for x86-64: one that is well-formed, or the first fault of any other file; and the
+//! numbers of the format by name.
 //!
 //! The format is that of the ELF-64 gABI with the x86-64 psABI: a file header, the bodies of the
 //! sections, and a table of section headers. Everything that an object lends is a slice of its input.

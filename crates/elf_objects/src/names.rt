@@ -2,7 +2,7 @@
 
 ghost use Rattle.std.specs.Prelude.{◌≡◌, MatchResult, IfErr, OnOk};
 ghost use Rattle.elf_objects.specs.Steps.{EachSection, FirstSection, file};
-ghost use Rattle.elf_objects.specs.Sections.{HasBody, HasName, NameFault, HasLittleText, IsMuchText, text_bytes, text_size};
+ghost use Rattle.elf_objects.specs.Sections.{HasBody, HasName, NameFault, HasLittleText, IsMuchText, file_text_bytes, text_size};
 
 use crate::MAX_TEXT_BYTES;
 use crate::fault::{Counted, ElfFault, NameOf};
@@ -34,10 +34,10 @@ fn size_of_text(h: &SectionHeader) -> u64
 }
 
 /// The bytes of text in all sections.
-#[tactic(auto, unfolding(crate::specs::Sections::text_bytes))]
+#[tactic(auto, unfolding(crate::specs::Sections::file_text_bytes))]
 fn count_text(headers: &Headers) -> u64
     requires { EachSection HasBody (file headers.now) }
-    ensures { result ≡ text_bytes (file headers.now) }
+    ensures { result ≡ file_text_bytes (file headers.now) }
 {
     let mut total = 0;
     for i in 0..headers.count {

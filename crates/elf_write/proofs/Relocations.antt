@@ -12,7 +12,7 @@ use Rattle.elf_objects.specs.File.{name_table, section_count, section_header}
 use Rattle.elf_objects.specs.Header.{is_text_header}
 use Rattle.elf_objects.specs.declared.TheConstants.{SHT_NULL, SHT_PROGBITS, SHT_STRTAB, SHT_RELA}
 use Rattle.elf_objects.specs.Object.{IsWellFormed}
-use Rattle.elf_objects.specs.Sections.{text_bytes, text_size}
+use Rattle.elf_objects.specs.Sections.{file_text_bytes, text_size}
 use Rattle.elf_objects.specs.Symbols.{HasRelocs, IsReloc, IsRelocOf}
 use Rattle.elf_objects.specs.Table.{reloc_at, reloc_of, symbol_count}
 use Rattle.elf_objects.specs.declared.header.SectionHeader.{SectionHeader}
@@ -195,8 +195,8 @@ text_of b new q hp np nm place name o w k h =
     ]
 
 pub text-output : (b : List ℕ) (new : List NewEntry) (q : List ℕ) (hp np : ℕ) (nm : List ℕ) (place name : ℕ → ℕ)
-    → Output b new q hp np nm place name → IsWellFormed b → All (IsAddable (elf_of b) new) new → text_bytes q ≡ text_bytes b
-unfolding text_bytes
+    → Output b new q hp np nm place name → IsWellFormed b → All (IsAddable (elf_of b) new) new → file_text_bytes q ≡ file_text_bytes b
+unfolding file_text_bytes
 text-output b new q hp np nm place name o w ok =
     ap (λ (n : ℕ). sum_by text_size (map (section_header q) (range_with_len 0 n))) o.count
     ∙ sum_further (section_header b) (section_header q) text_size (section_count b) (length new)

@@ -3,3 +3,8 @@ pub mod New
 pub mod Object
 pub mod Added
 pub mod Appended
+pub mod SymbolLayout
+pub mod SymbolObject
+pub mod Taken
+pub mod Room
+pub mod AddedSymbols

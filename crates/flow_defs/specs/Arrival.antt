@@ -2,16 +2,15 @@
 use Rattle.std.specs.Prelude.{ℕ, ◌+◌, ◌-◌, ◌==◌, ◌&&◌, ◌||◌, not, Bool, true, false, List, [], ◌∷◌, Option, Some, None, is_none, if◌then◌else◌, unwrap_or, length}
 use Rattle.std.specs.List.{list_any, list_all}
 use Rattle.ot_base.specs.declared.place.Place.{Place}
+use Rattle.ot_base.specs.Places.{same_place}
 use Rattle.operation_defs.specs.declared.insn.Insn.{Insn}
 use Rattle.operation_defs.specs.declared.op.Op.{Op}
 use Rattle.operation_defs.specs.declared.op.Op.TheVariants.{Plain, Iret, IretNext, Ud2}
 use Rattle.flow_defs.specs.Coded.{Coded}
-use Rattle.symbols_relocs.specs.Places.{same_place}
 use Rattle.special_sections.specs.Special.{special_of}
 use Rattle.alternatives.specs.declared.point.Point.{Point}
-use Rattle.alternatives.specs.Texts.{behind}
+use Rattle.alternatives.specs.Texts.{behind, is_boundary}
 use Rattle.alternatives.specs.Points.{end_of_site, entry_of, first_points, insn_of_point, is_padding_point, next_point}
-use Rattle.jump_tables.specs.Texts.{is_boundary}
 use Rattle.jump_tables.specs.Tables.{same_owner}
 use Rattle.flow_defs.specs.Code.{texts_of, alternatives_of, numbers_of, point_at, is_plain}
 use Rattle.flow_defs.specs.Owners.{owner_of_point}
@@ -68,8 +67,8 @@ abbrev pub is_ud2 : Op → Bool
 is_ud2 Ud2 = true
 is_ud2 _ = false
 
--- execution never passes it: a Ud2, or an instruction that ends at a place of `.discard.unreachable`, where no place
--- of `.discard.reachable` is that end
+-- Execution doesn't go on behind it, unless it is the code of a static branch: a Ud2, or an instruction that ends at a
+-- place of `.discard.unreachable`, where no place of `.discard.reachable` is that end.
 unfoldable pub is_dead_end : Coded → Point → Bool
 is_dead_end o point =
     not (is_padding o point)

@@ -2,32 +2,30 @@
 use Rattle.std.specs.Prelude.{ℕ, ◌&&◌, ◌||◌, not, Bool, true, false, List, [], ◌∷◌, ◌++◌, map, filter, flat_map, Option, if◌then◌else◌}
 use Rattle.std.specs.List.{list_any}
 use Rattle.ot_base.specs.declared.place.Place.{Place}
+use Rattle.ot_base.specs.Places.{same_place}
 use Rattle.operation_defs.specs.declared.insn.Insn.{Insn}
 use Rattle.operation_defs.specs.declared.op.Op.{Op}
 use Rattle.operation_defs.specs.declared.op.Op.TheVariants.{Jmp, Jcc, JmpInd, Ret, RetImm, Iret, Switch}
 use Rattle.flow_defs.specs.Coded.{Coded}
-use Rattle.program_defs.specs.declared.flow.Edge.{Edge}
-use Rattle.program_defs.specs.declared.flow.EdgeKind.{EdgeKind}
-use Rattle.program_defs.specs.declared.flow.EdgeKind.TheVariants.{Next, Taken, Fixup, Table}
-use Rattle.program_defs.specs.Program.{edge}
-use Rattle.symbols_relocs.specs.Places.{same_place}
-use Rattle.symbols_relocs.specs.declared.target.Target.{Target}
-use Rattle.symbols_relocs.specs.declared.target.Target.TheVariants.{Inside, Either}
+use Rattle.machine_defs.specs.declared.flow.Edge.{Edge}
+use Rattle.machine_defs.specs.declared.flow.EdgeKind.{EdgeKind}
+use Rattle.machine_defs.specs.declared.flow.EdgeKind.TheVariants.{Next, Taken, Fixup, Table}
+use Rattle.machine_defs.specs.Program.{edge}
 use Rattle.special_sections.specs.declared.entries.BranchEntry.{BranchEntry}
 use Rattle.special_sections.specs.declared.entries.FixEntry.{FixEntry}
 use Rattle.special_sections.specs.Special.{special_of}
 use Rattle.alternatives.specs.declared.point.Point.{Point}
 use Rattle.jump_tables.specs.Tables.{same_owner}
-use Rattle.flow_defs.specs.declared.aim.Aim.{Aim}
-use Rattle.flow_defs.specs.declared.aim.Aim.TheVariants.{At, Within, Behind}
+use Rattle.flow_defs.specs.declared.aim.Destination.{Destination}
+use Rattle.flow_defs.specs.declared.aim.Destination.TheVariants.{ToPlace, ToOwnPoint}
 use Rattle.flow_defs.specs.declared.aim.Way.{Way}
 use Rattle.flow_defs.specs.declared.aim.Way.TheVariants.{Along}
 use Rattle.flow_defs.specs.Code.{numbers_of}
 use Rattle.flow_defs.specs.Owners.{owner_of_point, is_unchecked_point}
 use Rattle.flow_defs.specs.Sites.{is_into_site}
 use Rattle.flow_defs.specs.Arrival.{arrive, after, insn_of_object, is_dead_end, is_padding}
-use Rattle.flow_defs.specs.Targets.{aim}
-use Rattle.flow_defs.specs.Ways.{branch_way, listed_way}
+use Rattle.flow_defs.specs.Targets.{destination}
+use Rattle.flow_defs.specs.Ways.{jump_way, listed_way}
 use Rattle.flow_defs.specs.Roles.{table_of_point}
 
 -- edges of a kind to points
@@ -66,32 +64,24 @@ ends_flow Switch = true
 ends_flow _ = false
 
 -- Execution goes on behind the point: always behind the code of a static branch, which may be a jump or none, and else
--- where the operation lets it and the point is no dead end.
+-- where the operation lets it and the point is no dead end. So it does behind each call: of one that can't come back
+-- `edges_of` of the checker leaves out the edge, and `comes_back` the mark `past_end`.
 unfoldable pub goes_on : Coded → Point → Bool
 goes_on o point = is_some_place (static_targets o point) || (not (ends_flow (insn_of_object o point).op) && not (is_dead_end o point))
 
 abbrev pub next_edges : Coded → Point → List Edge
 next_edges o point = if goes_on o point then edges_to Next (after o point) else []
 
--- the edges of a direct jump to a place
-abbrev pub jump_edges : Coded → Bool → Point → Place → List Edge
-jump_edges o crosses point place = way_edges o point place (branch_way o crosses Taken (owner_of_point o point) place)
-
-abbrev pub target_edges : Coded → Point → Target → List Edge
-target_edges o point (Inside place) = jump_edges o true point place
-target_edges o point (Either place sym) = jump_edges o true point place
-target_edges o point _ = []
-
 -- the edges of a direct jump by where it goes; inside a replacement it stays with its owner
-abbrev pub aim_edges : Coded → Point → Aim → List Edge
-aim_edges o point (At target) = target_edges o point target
-aim_edges o point (Within other) =
+abbrev pub jump_edges : Coded → Point → Destination → List Edge
+jump_edges o point (ToPlace place weak crossing) = way_edges o point place (jump_way o point crossing place)
+jump_edges o point (ToOwnPoint other) =
     if same_owner (owner_of_point o point) (owner_of_point o other) then edges_to Taken (numbers_of o (other ∷ [])) else []
-aim_edges o point (Behind place) = jump_edges o false point place
+jump_edges o point _ = []
 
 abbrev pub branch_edges_by : Coded → Point → Insn → Op → List Edge
-branch_edges_by o point insn (Jmp rel wide) = aim_edges o point (aim o point insn)
-branch_edges_by o point insn (Jcc rel wide) = aim_edges o point (aim o point insn)
+branch_edges_by o point insn (Jmp rel wide) = jump_edges o point (destination o point insn)
+branch_edges_by o point insn (Jcc rel wide) = jump_edges o point (destination o point insn)
 branch_edges_by o point insn _ = []
 
 abbrev pub branch_edges : Coded → Point → List Edge

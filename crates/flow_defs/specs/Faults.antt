@@ -2,20 +2,19 @@
 use Rattle.std.specs.Prelude.{◌≡◌, ℕ, ◌==◌, ◌&&◌, ◌||◌, not, Bool, true, false, List, [], ◌∷◌, ◌++◌, map, filter, filter_map, flat_map, length, slice_get, Option, Some, None, option_map, is_some, is_none, if◌then◌else◌}
 use Rattle.std.specs.List.{range_with_len, enumerate_from}
 use Rattle.ot_base.specs.declared.place.Place.{Place}
+use Rattle.ot_base.specs.Places.{same_place}
 use Rattle.operation_defs.specs.declared.insn.Insn.{Insn}
 use Rattle.operation_defs.specs.declared.op.Op.{Op}
 use Rattle.operation_defs.specs.declared.op.Op.TheVariants.{Nop, Jmp}
 use Rattle.flow_defs.specs.Coded.{Coded}
 use Rattle.symbols_relocs.specs.Functions.{starts_at}
-use Rattle.symbols_relocs.specs.Places.{same_place}
 use Rattle.special_sections.specs.Special.{special_of}
-use Rattle.alternatives.specs.Texts.{is_cut}
-use Rattle.jump_tables.specs.Texts.{insn_at, is_boundary}
-use Rattle.program_defs.specs.Program.{Site}
+use Rattle.alternatives.specs.Texts.{is_cut, insn_at, is_boundary}
+use Rattle.machine_defs.specs.Program.{Site}
 use Rattle.flow_defs.specs.declared.fault.FlowFault.{FlowFault}
 use Rattle.flow_defs.specs.declared.fault.FlowFault.TheVariants.{FuncStart, NotBoundary, StaticSite, NotFunction, NoMemory}
 use Rattle.flow_defs.specs.Code.{texts_of}
-use Rattle.flow_defs.specs.Sites.{places_of, site_at}
+use Rattle.flow_defs.specs.Sites.{places_of, site_holding}
 
 -- a place is in a site, past its start
 abbrev pub is_past_start : Place → Option Site → Bool
@@ -24,7 +23,7 @@ is_past_start place (Some site) = not (same_place site.start place)
 
 -- a function can't start there: at no boundary, or inside a site
 abbrev pub is_no_start : Coded → Place → Bool
-is_no_start o place = not (is_boundary (texts_of o) place) || is_past_start place (site_at o place)
+is_no_start o place = not (is_boundary (texts_of o) place) || is_past_start place (site_holding o place)
 
 -- the functions that start there, in the order of their starts
 abbrev pub start_faults : Coded → List FlowFault

@@ -7,7 +7,7 @@ use Rattle.state_defs.specs.declared.state.HintState.TheVariants.{Set, Save, Res
 use Rattle.special_sections.specs.Special.{special_of}
 use Rattle.alternatives.specs.declared.point.Point.{Point}
 use Rattle.alternatives.specs.Points.{address_of_point}
-use Rattle.unwind_hints.specs.HintStates.{hint_at}
+use Rattle.special_sections.specs.HintStates.{hint_at}
 use Rattle.jump_tables.specs.Tables.{same_owner}
 use Rattle.flow_defs.specs.Code.{alternatives_of, points_of_object, number_of}
 use Rattle.flow_defs.specs.Owners.{owner_of_point}

@@ -1,20 +1,19 @@
 -- The program of an object.
-use Rattle.std.specs.Prelude.{ℕ, ◌==◌, ◌&&◌, Bool, true, false, List, map, filter, find, filter_map, length, Option, Some, None, option_and_then, bytes_eq, codes, if◌then◌else◌}
+use Rattle.std.specs.Prelude.{ℕ, ◌==◌, ◌&&◌, Bool, false, List, map, filter, find, length, Option, Some, None, option_and_then, bytes_eq, codes, if◌then◌else◌}
 use Rattle.std.specs.List.{range_with_len}
 use Rattle.std.specs.FinSet as set
 use Rattle.ot_base.specs.declared.place.Place.{Place}
 use Rattle.ot_base.specs.Section.{TextSection}
 use Rattle.ot_base.specs.NameLists.{NameLists}
+use Rattle.ot_base.specs.Places.{same_place}
 use Rattle.elf_objects.specs.Elf.{Elf}
 use Rattle.flow_defs.specs.Coded.{Coded}
 use Rattle.elf_objects.specs.Contents.{section_at, symbol_at}
-use Rattle.program_defs.specs.declared.flow.Marks.{Marks}
-use Rattle.program_defs.specs.declared.flow.Role.{Role}
-use Rattle.program_defs.specs.declared.flow.Role.TheVariants.{Plain, CallIn, CallEither, CallOut, CallAny, Return, JumpOut, JumpAny, Switch}
-use Rattle.program_defs.specs.Program.{Program}
-use Rattle.program_defs.specs.MayReturn.{target_may_return}
+use Rattle.machine_defs.specs.declared.flow.Role.{Role}
+use Rattle.machine_defs.specs.declared.flow.Role.TheVariants.{CallIn, CallEither, CallOut}
+use Rattle.machine_defs.specs.Program.{Program, no_marks}
+use Rattle.machine_defs.specs.MayReturn.{target_may_return}
 use Rattle.symbols_relocs.specs.Functions.{is_code, start_of, starts_at}
-use Rattle.symbols_relocs.specs.Places.{same_place}
 use Rattle.alternatives.specs.declared.point.Point.{Point}
 use Rattle.alternatives.specs.Texts.{behind}
 use Rattle.alternatives.specs.Points.{address_of_point}
@@ -71,9 +70,6 @@ is_unsized o k = is_code o k && ((symbol_at o k).size == 0)
 
 unfoldable pub unsized_of : Elf → List Place
 unsized_of o = map (start_of o) (filter (is_unsized o) (range_with_len 0 (length o.symbols)))
-
-abbrev pub no_marks : Marks
-no_marks = record { bad = false; past_end = false; into_site = false; into_function = false }
 
 -- the points of an object and how control goes between them, before it is asked from where a return may come
 unfoldable pub graph_of : Coded → NameLists → Program

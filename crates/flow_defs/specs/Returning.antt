@@ -1,13 +1,14 @@
 -- From which points of a program a return may come, by levels.
 use Rattle.std.specs.Prelude.{ℕ, zero, suc, ◌&&◌, ◌||◌, not, Bool, true, false}
 use Rattle.std.specs.List.{list_any}
-use Rattle.program_defs.specs.declared.flow.Edge.{Edge}
-use Rattle.program_defs.specs.declared.flow.EdgeKind.{EdgeKind}
-use Rattle.program_defs.specs.declared.flow.EdgeKind.TheVariants.{Next, Taken, Fixup, Table, Sibling}
-use Rattle.program_defs.specs.declared.flow.Role.{Role}
-use Rattle.program_defs.specs.declared.flow.Role.TheVariants.{CallIn, Return, JumpOut, JumpAny}
-use Rattle.program_defs.specs.Program.{Program, entry_points, is_call}
-use Rattle.program_defs.specs.MayReturn.{may_call_out}
+use Rattle.machine_defs.specs.Step.{may_leave}
+use Rattle.machine_defs.specs.declared.flow.Edge.{Edge}
+use Rattle.machine_defs.specs.declared.flow.EdgeKind.{EdgeKind}
+use Rattle.machine_defs.specs.declared.flow.EdgeKind.TheVariants.{Next, Taken, Fixup, Table, Sibling}
+use Rattle.machine_defs.specs.declared.flow.Role.{Role}
+use Rattle.machine_defs.specs.declared.flow.Role.TheVariants.{CallIn}
+use Rattle.machine_defs.specs.Program.{Program, entry_points, is_call}
+use Rattle.machine_defs.specs.MayReturn.{may_call_out}
 
 abbrev pub is_next : EdgeKind → Bool
 is_next Next = true
@@ -15,13 +16,6 @@ is_next Taken = false
 is_next Fixup = false
 is_next Table = false
 is_next Sibling = false
-
--- it returns itself, or jumps to where a return may come from
-abbrev pub leaves : Program → Role → Bool
-leaves p Return = true
-leaves p JumpAny = true
-leaves p (JumpOut sym) = not (p.never_returns sym)
-leaves p _ = false
 
 -- the target of a call may return, where some points are known from which a return may come
 abbrev pub call_returns : Program → (ℕ → Bool) → Role → Bool
@@ -38,9 +32,9 @@ leads_to_return p known q e =
     || (not (p.dead_end q) && call_returns p known (p.role q))))
 
 abbrev pub returns_by : Program → (ℕ → Bool) → ℕ → Bool
-returns_by p known q = leaves p (p.role q) || list_any (leads_to_return p known q) (p.goes q)
+returns_by p known q = may_leave p (p.role q) || list_any (leads_to_return p known q) (p.goes q)
 
--- within this many levels: at first none; then each point that leaves, or leads to one of the level before
+-- within this many levels: at first none; then each point that may_leave, or leads to one of the level before
 abbrev pub returns_within : Program → ℕ → ℕ → Bool
 returns_within p zero q = false
 returns_within p (suc n) q = returns_by p (returns_within p n) q

@@ -1,27 +1,24 @@
 -- What an instruction is to its function.
-use Rattle.std.specs.Prelude.{ℕ, Bool, List, [], ◌∷◌, Option, Some, None, unwrap_or, if◌then◌else◌, true, false}
+use Rattle.std.specs.Prelude.{ℕ, List, [], ◌∷◌, Option, Some, None, unwrap_or, if◌then◌else◌}
 use Rattle.ot_base.specs.declared.place.Place.{Place}
+use Rattle.alternatives.specs.Texts.{is_boundary}
 use Rattle.operation_defs.specs.declared.insn.Insn.{Insn}
 use Rattle.operation_defs.specs.declared.op.Op.{Op}
 use Rattle.operation_defs.specs.declared.op.Op.TheVariants as ops
 use Rattle.flow_defs.specs.Coded.{Coded}
-use Rattle.program_defs.specs.declared.flow.EdgeKind.TheVariants.{Taken}
-use Rattle.program_defs.specs.declared.flow.Role.{Role}
-use Rattle.program_defs.specs.declared.flow.Role.TheVariants.{Plain, CallIn, CallEither, CallOut, CallAny, Return, JumpOut, JumpAny, Switch}
-use Rattle.symbols_relocs.specs.declared.target.Target.{Target}
-use Rattle.symbols_relocs.specs.declared.target.Target.TheVariants.{Inside, Either, Outside, ThunkIndirect, ThunkReturn, Bad}
+use Rattle.machine_defs.specs.declared.flow.Role.{Role}
+use Rattle.machine_defs.specs.declared.flow.Role.TheVariants.{Plain, CallIn, CallEither, CallOut, CallAny, Return, JumpOut, JumpAny, Switch}
 use Rattle.alternatives.specs.declared.point.Point.{Point}
-use Rattle.jump_tables.specs.Texts.{is_boundary}
 use Rattle.jump_tables.specs.Tables.{table_of}
-use Rattle.flow_defs.specs.declared.aim.Aim.{Aim}
-use Rattle.flow_defs.specs.declared.aim.Aim.TheVariants.{At, Within, Behind}
+use Rattle.flow_defs.specs.declared.aim.Destination.{Destination}
+use Rattle.flow_defs.specs.declared.aim.Destination.TheVariants.{ToPlace, ToOwnPoint, ToOutside, ToIndirectThunk, ToReturnThunk, ToNowhere}
 use Rattle.flow_defs.specs.declared.aim.Way.{Way}
 use Rattle.flow_defs.specs.declared.aim.Way.TheVariants as ways
 use Rattle.flow_defs.specs.Code.{texts_of, number_of, plain_point}
 use Rattle.flow_defs.specs.Owners.{owner_of_point, is_entry, unchecked_start}
 use Rattle.flow_defs.specs.Arrival.{insn_of_object, is_padding}
-use Rattle.flow_defs.specs.Targets.{aim}
-use Rattle.flow_defs.specs.Ways.{branch_way}
+use Rattle.flow_defs.specs.Targets.{destination}
+use Rattle.flow_defs.specs.Ways.{jump_way}
 
 -- the number of the plain point at a place
 abbrev pub plain_number : Coded → Place → ℕ
@@ -40,20 +37,14 @@ call_by o place weak None = if is_entry o.elf place then entry_call (plain_numbe
 abbrev pub place_call : Coded → Place → Option ℕ → Role
 place_call o place weak = if is_boundary (texts_of o) place then call_by o place weak (unchecked_start o.elf place) else Plain
 
--- what a direct call is by the target of its place
-abbrev pub call_of_target : Coded → Target → Role
-call_of_target o (Inside place) = place_call o place None
-call_of_target o (Either place sym) = place_call o place (Some sym)
-call_of_target o (Outside sym) = CallOut sym
-call_of_target o ThunkIndirect = CallAny
-call_of_target o ThunkReturn = Plain
-call_of_target o Bad = Plain
-
 -- what a direct call is by where it goes; padding is no place to call
-abbrev pub call_role : Coded → Aim → Role
-call_role o (At target) = call_of_target o target
-call_role o (Within point) = if is_padding o point then Plain else place_call o point.place None
-call_role o (Behind place) = place_call o place None
+abbrev pub call_role : Coded → Destination → Role
+call_role o (ToPlace place weak crossing) = place_call o place weak
+call_role o (ToOwnPoint point) = if is_padding o point then Plain else place_call o point.place None
+call_role o (ToOutside sym) = CallOut sym
+call_role o ToIndirectThunk = CallAny
+call_role o ToReturnThunk = Plain
+call_role o ToNowhere = Plain
 
 -- what a jump to a place is: one to code outside where an unchecked function starts there, or where a WEAK symbol is named
 -- and the place is one to go to
@@ -63,23 +54,14 @@ jump_by_way (ways.Outside f) weak = JumpOut f
 jump_by_way (ways.Along kind) None = Plain
 jump_by_way (ways.Along kind) (Some sym) = JumpOut sym
 
-abbrev pub place_jump : Coded → Bool → Point → Place → Option ℕ → Role
-place_jump o crosses point place weak = jump_by_way (branch_way o crosses Taken (owner_of_point o point) place) weak
-
--- what a direct jump is by the target of its place
-abbrev pub jump_of_target : Coded → Point → Target → Role
-jump_of_target o point (Inside place) = place_jump o true point place None
-jump_of_target o point (Either place sym) = place_jump o true point place (Some sym)
-jump_of_target o point (Outside sym) = JumpOut sym
-jump_of_target o point ThunkIndirect = JumpAny
-jump_of_target o point ThunkReturn = Return
-jump_of_target o point Bad = Plain
-
 -- what a direct jump is by where it goes
-abbrev pub jump_role : Coded → Point → Aim → Role
-jump_role o point (At target) = jump_of_target o point target
-jump_role o point (Within other) = Plain
-jump_role o point (Behind place) = place_jump o false point place None
+abbrev pub jump_role : Coded → Point → Destination → Role
+jump_role o point (ToPlace place weak crossing) = jump_by_way (jump_way o point crossing place) weak
+jump_role o point (ToOwnPoint other) = Plain
+jump_role o point (ToOutside sym) = JumpOut sym
+jump_role o point ToIndirectThunk = JumpAny
+jump_role o point ToReturnThunk = Return
+jump_role o point ToNowhere = Plain
 
 -- the entries of the jump table of a point
 unfoldable pub table_of_point : Coded → Point → List Place
@@ -91,10 +73,10 @@ jump_by_table [] = JumpAny
 jump_by_table (place ∷ places) = Plain
 
 abbrev pub role_by : Coded → Point → Insn → Op → Role
-role_by o point insn (ops.Call rel) = call_role o (aim o point insn)
+role_by o point insn (ops.Call rel) = call_role o (destination o point insn)
 role_by o point insn ops.CallInd = CallAny
-role_by o point insn (ops.Jmp rel wide) = jump_role o point (aim o point insn)
-role_by o point insn (ops.Jcc rel wide) = jump_role o point (aim o point insn)
+role_by o point insn (ops.Jmp rel wide) = jump_role o point (destination o point insn)
+role_by o point insn (ops.Jcc rel wide) = jump_role o point (destination o point insn)
 role_by o point insn (ops.JmpInd table) = jump_by_table (table_of_point o point)
 role_by o point insn ops.Ret = Return
 role_by o point insn ops.RetImm = Return

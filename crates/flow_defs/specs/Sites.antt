@@ -1,13 +1,13 @@
 -- The alternatives sites of an object, as a program has them.
 use Rattle.std.specs.Prelude.{ℕ, ◌==◌, ◌&&◌, not, Bool, false, List, find, filter_map, flat_map, map, length, Option, Some, None, option_map}
 use Rattle.ot_base.specs.declared.place.Place.{Place}
+use Rattle.ot_base.specs.Places.{same_place}
 use Rattle.flow_defs.specs.Coded.{Coded}
-use Rattle.symbols_relocs.specs.Places.{same_place}
 use Rattle.special_sections.specs.declared.entries.AltEntry.{AltEntry}
 use Rattle.alternatives.specs.declared.texts.SectionText.{SectionText}
 use Rattle.alternatives.specs.declared.point.Point.{Point}
 use Rattle.alternatives.specs.Originals.{counts}
-use Rattle.program_defs.specs.Program.{Site, below, in_site}
+use Rattle.machine_defs.specs.Program.{Site, below, in_site}
 use Rattle.flow_defs.specs.Code.{alternatives_of, texts_of, is_plain}
 
 -- the places of a text, and of all
@@ -33,8 +33,8 @@ unfoldable pub sites_of : Coded → List Site
 sites_of o = filter_map (site_starting_at o) (places_of o)
 
 -- the site that holds a place
-unfoldable pub site_at : Coded → Place → Option Site
-site_at o place = find (λ site. in_site site place) (sites_of o)
+unfoldable pub site_holding : Coded → Place → Option Site
+site_holding o place = find (λ site. in_site site place) (sites_of o)
 
 -- a point is one of the original code of a site
 abbrev pub is_original_of : Site → Point → Bool
@@ -47,4 +47,4 @@ enters_site (Some site) point place = not (same_place site.start place) && not (
 
 -- control would come from a point into a site, past its start
 abbrev pub is_into_site : Coded → Point → Place → Bool
-is_into_site o point place = enters_site (site_at o place) point place
+is_into_site o point place = enters_site (site_holding o place) point place

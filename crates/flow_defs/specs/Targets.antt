@@ -1,19 +1,21 @@
 -- Where direct calls and branches go, from the code of an object and from its replacements.
 use Rattle.std.specs.Prelude.{ℕ, ℤ, pos, ◌+ℤ◌, ◌+◌, ◌&&◌, not, Bool, Option, Some, None, is_none, is_some, option_map, if◌then◌else◌, ◌==◌}
 use Rattle.ot_base.specs.declared.place.Place.{Place}
+use Rattle.ot_base.specs.Places.{same_place}
 use Rattle.operation_defs.specs.declared.insn.Insn.{Insn}
 use Rattle.operation_defs.specs.declared.op.Op.{Op}
 use Rattle.operation_defs.specs.declared.op.Op.TheVariants.{Call, Jmp, Jcc}
 use Rattle.elf_objects.specs.Elf.{Elf}
 use Rattle.flow_defs.specs.Coded.{Coded}
-use Rattle.object_places.specs.Places.{offset_of, reloc_at}
-use Rattle.symbols_relocs.specs.declared.target.Target.TheVariants.{Bad}
-use Rattle.symbols_relocs.specs.Places.{same_place}
+use Rattle.symbols_relocs.specs.NamedPlaces.{offset_of, reloc_at}
+use Rattle.symbols_relocs.specs.declared.target.Target.{Target}
+use Rattle.symbols_relocs.specs.declared.target.Target.TheVariants.{Inside, Either, Outside, ThunkIndirect, ThunkReturn, Bad}
 use Rattle.symbols_relocs.specs.Targets.{branch_target, last_bytes}
 use Rattle.alternatives.specs.declared.point.Point.{Point}
 use Rattle.alternatives.specs.Points.{is_point}
-use Rattle.flow_defs.specs.declared.aim.Aim.{Aim}
-use Rattle.flow_defs.specs.declared.aim.Aim.TheVariants.{At, Within, Behind}
+use Rattle.flow_defs.specs.declared.aim.Crossing.TheVariants.{MayCross, MayNotCross}
+use Rattle.flow_defs.specs.declared.aim.Destination.{Destination}
+use Rattle.flow_defs.specs.declared.aim.Destination.TheVariants.{ToPlace, ToOwnPoint, ToOutside, ToIndirectThunk, ToReturnThunk, ToNowhere}
 use Rattle.flow_defs.specs.Code.{texts_of, alternatives_of, is_plain}
 use Rattle.flow_defs.specs.Arrival.{site_end, replacement_end}
 
@@ -40,22 +42,32 @@ lacks_reloc o place len d = is_none (reloc_at o (last_bytes place len d.bytes))
 abbrev pub relative_place : Place → ℕ → Displacement → Option Place
 relative_place place len d = option_map (λ off. record { sec = place.sec; off = off }) (offset_of (pos (place.off + len) +ℤ d.value))
 
+-- the destination that a relocation names, or that a displacement of the object's own code leads to
+abbrev pub named_destination : Target → Destination
+named_destination (Inside place) = ToPlace place None MayCross
+named_destination (Either place sym) = ToPlace place (Some sym) MayCross
+named_destination (Outside sym) = ToOutside sym
+named_destination ThunkIndirect = ToIndirectThunk
+named_destination ThunkReturn = ToReturnThunk
+named_destination Bad = ToNowhere
+
 -- Without a relocation a replacement's code can only mean itself, since it runs elsewhere than it stands: a point of
--- the same replacement, or its end, which is its padding, or without padding the end of its site.
-abbrev pub own_aim : Coded → Point → Option Place → Aim
-own_aim o point None = At Bad
-own_aim o point (Some place) =
+-- the same replacement, or its end, which is its padding, or without padding the end of its site. A branch to there
+-- doesn't cross into code without an owner.
+abbrev pub own_destination : Coded → Point → Option Place → Destination
+own_destination o point None = ToNowhere
+own_destination o point (Some place) =
     let other : Point = record { place = place; variant = point.variant } in
-    if is_point (texts_of o) (alternatives_of o) other then Within other
-    else if same_place place (replacement_end o point) then Behind (site_end o point)
-    else At Bad
+    if is_point (texts_of o) (alternatives_of o) other then ToOwnPoint other
+    else if same_place place (replacement_end o point) then ToPlace (site_end o point) None MayNotCross
+    else ToNowhere
 
-abbrev pub aim_by : Coded → Point → Insn → Option Displacement → Aim
-aim_by o point insn None = At Bad
-aim_by o point insn (Some d) =
-    if not (is_plain point) && lacks_reloc o.elf point.place insn.len d then own_aim o point (relative_place point.place insn.len d)
-    else At (branch_target o.elf point.place insn)
+abbrev pub destination_by : Coded → Point → Insn → Option Displacement → Destination
+destination_by o point insn None = ToNowhere
+destination_by o point insn (Some d) =
+    if not (is_plain point) && lacks_reloc o.elf point.place insn.len d then own_destination o point (relative_place point.place insn.len d)
+    else named_destination (branch_target o.elf point.place insn)
 
--- where a direct call or branch at a point goes
-unfoldable pub aim : Coded → Point → Insn → Aim
-aim o point insn = aim_by o point insn (displacement_of insn.op)
+-- where a direct call or branch at a point goes; its edges, its role and its marks are told by this alone
+unfoldable pub destination : Coded → Point → Insn → Destination
+destination o point insn = destination_by o point insn (displacement_of insn.op)

@@ -1,20 +1,39 @@
-//! Where branches go, and how control comes there.
+//! Where direct calls and branches go, and how control comes there.
 
 use alternatives::Point;
+use machine_defs::EdgeKind;
 use ot_base::Place;
-use program_defs::EdgeKind;
-use symbols_relocs::Target;
 
-/// Where a direct call or branch goes.
+/// Whether a branch may cross between a checked function and code of no function.
 #[derive(Clone, Copy, Debug, PartialEq, Eq)]
-pub enum Aim {
-    /// To the target that its relocation and its displacement have.
-    At(Target),
+pub enum Crossing {
+    /// It may.
+    MayCross,
+    /// It may not.
+    MayNotCross,
+}
+
+/// Where a direct call or branch goes, by its relocation and its displacement.
+#[derive(Clone, Copy, Debug, PartialEq, Eq)]
+pub enum Destination {
+    /// To this place of the object.
+    ToPlace {
+        place: Place,
+        /// The WEAK symbol by which it is named, whose definition may be another object's; none where no such symbol names it.
+        weak: Option<u32>,
+        /// Whether a branch may cross on its way there.
+        crossing: Crossing,
+    },
     /// From a replacement, without a relocation, to this point of the same replacement.
-    Within(Point),
-    /// From a replacement without padding, without a relocation, to the replacement's end. That is the end of
-    /// its site, which is this place.
-    Behind(Place),
+    ToOwnPoint(Point),
+    /// To code outside the object, by this symbol.
+    ToOutside(u32),
+    /// To a thunk that goes on to where a register points.
+    ToIndirectThunk,
+    /// To the thunk that returns.
+    ToReturnThunk,
+    /// To no code that could be meant.
+    ToNowhere,
 }
 
 /// How control comes to a place that a branch, a static branch or an exception entry leads to.

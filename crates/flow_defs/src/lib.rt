@@ -8,5 +8,5 @@
 mod aim;
 mod fault;
 
-pub use aim::{Aim, Way};
+pub use aim::{Crossing, Destination, Way};
 pub use fault::FlowFault;

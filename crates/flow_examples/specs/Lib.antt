@@ -4,3 +4,4 @@ pub mod Listed
 pub mod Calls
 pub mod Returning
 pub mod Owners
+pub mod Fields

@@ -6,10 +6,10 @@ use Rattle.elf_objects.specs.Elf.{SectionEntry, SymbolEntry}
 use Rattle.flow_defs.specs.Coded.{Coded, coded_by}
 use Rattle.x86_map.specs.declared.map.Map.TheVariants.{Base}
 use Rattle.elf_objects.specs.Contents.{no_section, no_symbol}
-use Rattle.program_defs.specs.declared.flow.Edge.{Edge}
-use Rattle.program_defs.specs.declared.flow.Role.{Role}
-use Rattle.program_defs.specs.declared.flow.Marks.{Marks}
-use Rattle.program_defs.specs.Program.{Program, below}
+use Rattle.machine_defs.specs.declared.flow.Edge.{Edge}
+use Rattle.machine_defs.specs.declared.flow.Role.{Role}
+use Rattle.machine_defs.specs.declared.flow.Marks.{Marks}
+use Rattle.machine_defs.specs.Program.{Program, below}
 
 -- a section of code, and one of data
 abbrev pub code_section : List ℕ → ℕ → List ℕ → SectionEntry
@@ -50,7 +50,7 @@ returning_points p = map p.may_return (below p.count)
 
 -- nothing is wrong with a point
 abbrev pub fine : Marks
-fine = record { bad = false; past_end = false; into_site = false; into_function = false }
+fine = record { bad = false; past_end = false; into_site = false; into_function = false; relocated = false }
 
 -- where the parts of an entry are put by relocations, at an offset and 4 bytes behind it
 abbrev pub pair_at : ℕ → ℕ → ℕ → ℕ → ℕ → List Reloc

@@ -3,6 +3,7 @@
 ghost use Rattle.ot_base.specs.NameLists.{NameLists};
 ghost use Rattle.flow_examples.specs.Alternatives.{HasPatchedCall, HasPatchedJumps, HasSaves};
 ghost use Rattle.flow_examples.specs.Calls.{HasCalls};
+ghost use Rattle.flow_examples.specs.Fields.{HasFields};
 ghost use Rattle.flow_examples.specs.Listed.{HasExceptionEntry, HasJumpTable, HasStaticBranch};
 ghost use Rattle.flow_examples.specs.Owners.{HasCodeWithoutOwner, HasDeadEnds, HasIrets, HasUnchecked};
 ghost use Rattle.flow_examples.specs.Returning.{HasLastCall, HasNeverReturning};
@@ -70,4 +71,9 @@ pub fn patched_jumps()
 /// Two SAVEs at one address, and the RESTORE behind them.
 pub fn saves()
     ensures { (lists : NameLists) → HasSaves lists }
+{}
+
+/// An object with each field of its program.
+pub fn fields()
+    ensures { (lists : NameLists) → HasFields lists }
 {}

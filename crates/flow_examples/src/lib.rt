@@ -1,4 +1,11 @@
-//! Worked objects: what the definitions say of them, computed, is what is written down by hand.
+//! Worked objects with the edges, roles and marks of their points, computed and written down by hand, and tests of
+//! `object_code`.
 #![tactic(auto)]
 
+#[cfg(test)]
+mod code_objects;
 pub mod laws;
+#[cfg(test)]
+mod states;
+#[cfg(test)]
+mod tests;

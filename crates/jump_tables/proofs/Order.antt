@@ -5,7 +5,7 @@ use Rattle.std.specs.Ordering.{nat_cmp, is_lt, ordering_then}
 use Rattle.std.proofs.lemmas.Bool.Decides.{nat_tests}
 use Rattle.std.proofs.lemmas.List.Folds.{list_any_at}
 use Rattle.ot_base.specs.declared.place.Place.{Place}
-use Rattle.symbols_relocs.specs.Places.{is_before, same_place}
+use Rattle.ot_base.specs.Places.{is_before, same_place}
 use Rattle.jump_tables.specs.Kept.{AreByPlace, IsFirstOf}
 use Rattle.jump_tables.proofs.Listed.{none_any}
 

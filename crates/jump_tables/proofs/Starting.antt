@@ -12,9 +12,9 @@ use Rattle.std.proofs.lemmas.List.Sorted.{Contains-permutation, IsPermutation-sy
 use Rattle.std.proofs.lemmas.Map.Keys.{sorted_head, sorted_tail}
 use Rattle.std.proofs.lemmas.Map.Views.{list_any-from_Contains, Contains-from_any}
 use Rattle.ot_base.specs.declared.place.Place.{Place}
-use Rattle.symbols_relocs.specs.Places.{is_before, same_place}
+use Rattle.ot_base.specs.Places.{is_before, same_place, place_cmp}
 use Rattle.jump_tables.specs.Kept.{AreByPlace, AreRising}
-use Rattle.jump_tables.proofs.JumpOrder.{place_cmp, place_total}
+use Rattle.jump_tables.proofs.JumpOrder.{place_total}
 use Rattle.jump_tables.proofs.Order.{same_is}
 
 reflexive : (a b : ℕ) → (eqb a a && eqb b b) ≡ true

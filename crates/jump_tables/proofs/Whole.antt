@@ -2,9 +2,9 @@
 use Rattle.std.proofs.Common.{◌≡◌, ℕ, zero, suc, ◌<◌, Bool, true, false, cond, ◌||◌, List, [], ◌∷◌, length, get_or, map, Option, Some, None, option_map, arith, refl, sym, ap, ◌∙◌}
 use Rattle.std.specs.List.{list_any}
 use Rattle.ot_base.specs.declared.place.Place.{Place}
+use Rattle.ot_base.specs.Places.{same_place}
 use Rattle.x86_text.specs.Code.{code_of}
 use Rattle.elf_objects.specs.Elf.{Elf}
-use Rattle.symbols_relocs.specs.Places.{same_place}
 use Rattle.alternatives.specs.declared.texts.SectionText.{SectionText}
 use Rattle.alternatives.specs.Texts.{AscendBySection}
 use Rattle.jump_tables.specs.declared.jump.Jump.{Jump}

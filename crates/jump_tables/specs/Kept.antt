@@ -2,8 +2,8 @@
 use Rattle.std.specs.Prelude.{◌≡◌, ◌<◌, ◌≤◌, ℕ, true, false, List, [], ◌∷◌, Option, Some, None, length, slice_index_or, option_and_then, option_map, MatchOption, if◌then◌else◌}
 use Rattle.std.specs.List.{list_any}
 use Rattle.ot_base.specs.declared.place.Place.{Place}
+use Rattle.ot_base.specs.Places.{is_before, same_place}
 use Rattle.elf_objects.specs.Elf.{Elf}
-use Rattle.symbols_relocs.specs.Places.{is_before, same_place}
 use Rattle.symbols_relocs.specs.Parts.{owner_at}
 use Rattle.alternatives.specs.declared.texts.SectionText.{SectionText}
 use Rattle.jump_tables.specs.declared.jump.Jump.{Jump}

@@ -1,4 +1,3 @@
-pub mod Texts
 pub mod Tables
 pub mod Jumps
 pub mod Kept

@@ -4,6 +4,8 @@
 use Rattle.std.specs.Prelude.{ℕ, pos, ◌+ℤ◌, ◌*◌, ◌==◌, ◌&&◌, nat_lt, Bool, true, false, List, [], ◌∷◌, length, map, take, find, take_while, bytes_eq, codes, Option, Some, None, option_map, option_and_then, if◌then◌else◌}
 use Rattle.std.specs.List.{filter_map, flat_map, list_any, range_with_len}
 use Rattle.ot_base.specs.declared.place.Place.{Place}
+use Rattle.ot_base.specs.Places.{same_place}
+use Rattle.alternatives.specs.Texts.{insn_at, is_boundary}
 use Rattle.operation_defs.specs.declared.op.Op.{Op}
 use Rattle.operation_defs.specs.declared.op.Op.TheVariants.{JmpInd}
 use Rattle.x86_text.specs.declared.placed.PlacedInsn.{PlacedInsn}
@@ -12,12 +14,10 @@ use Rattle.elf_objects.specs.declared.symbol.Reloc.{Reloc}
 use Rattle.elf_objects.specs.declared.TheConstants.{R_X86_64_64, R_X86_64_32S}
 use Rattle.elf_objects.specs.Elf.{Elf}
 use Rattle.elf_objects.specs.Contents.{relocs_at, section_at}
-use Rattle.object_places.specs.Relocs.{at_offset}
-use Rattle.object_places.specs.Places.{offset_of, place_named}
-use Rattle.symbols_relocs.specs.Places.{same_place}
+use Rattle.symbols_relocs.specs.Relocs.{at_offset}
+use Rattle.symbols_relocs.specs.NamedPlaces.{offset_of, place_named}
 use Rattle.symbols_relocs.specs.Parts.{owner_at}
 use Rattle.alternatives.specs.declared.texts.SectionText.{SectionText}
-use Rattle.jump_tables.specs.Texts.{insn_at, is_boundary}
 
 -- the first relocation of a type whose field begins at a place, in the order of the file
 abbrev pub reloc_of_kind : Elf → ℕ → Place → Option Reloc
@@ -39,13 +39,13 @@ is_read_only o place = bytes_eq (take (length rodata) (section_at o place.sec).n
 abbrev pub table_named : Elf → Place → Option Place
 table_named o field = option_and_then (λ table. if is_read_only o table then Some table else None) (named_by o R_X86_64_32S field)
 
--- the place so many bytes behind another, where 64 bits hold the offset
-abbrev pub behind : Place → ℕ → Option Place
-behind place n = option_map (λ off. record { sec = place.sec; off = off }) (offset_of (pos place.off +ℤ pos n))
+-- the place so many bytes checked_behind another, where 64 bits hold the offset
+abbrev pub checked_behind : Place → ℕ → Option Place
+checked_behind place n = option_map (λ off. record { sec = place.sec; off = off }) (offset_of (pos place.off +ℤ pos n))
 
 -- where the table begins that an operation at a place jumps by
 abbrev pub table_by : Elf → Place → Op → Option Place
-table_by o place (JmpInd (Some n)) = option_and_then (table_named o) (behind place n)
+table_by o place (JmpInd (Some n)) = option_and_then (table_named o) (checked_behind place n)
 table_by o place _ = None
 
 -- where the tables begin of the jumps among a section's instructions
@@ -66,8 +66,8 @@ boundary_named o texts field = option_and_then (λ place. if is_boundary texts p
 
 -- entry i of the table that begins at a place: the boundary that its field names. There is none where i is above 0 and the
 -- table of a jump begins at that field.
-abbrev pub entry_at : Elf → List SectionText → Place → ℕ → Option Place
-entry_at o texts table i = option_and_then (λ field. if nat_lt 0 i && is_table o texts field then None else boundary_named o texts field) (behind table (8 * i))
+abbrev pub table_entry_at : Elf → List SectionText → Place → ℕ → Option Place
+table_entry_at o texts table i = option_and_then (λ field. if nat_lt 0 i && is_table o texts field then None else boundary_named o texts field) (checked_behind table (8 * i))
 
 -- those up to the first that is none
 abbrev pub up_to_none : List (Option Place) → List Place
@@ -78,7 +78,7 @@ up_to_none (Some place ∷ rest) = place ∷ up_to_none rest
 -- the entries of a table up to the first that is none. It has no more than its section has relocations, since each has one
 -- of its own.
 abbrev pub entries_of : Elf → List SectionText → Place → List Place
-entries_of o texts table = up_to_none (map (entry_at o texts table) (range_with_len 0 (length (relocs_at o table.sec))))
+entries_of o texts table = up_to_none (map (table_entry_at o texts table) (range_with_len 0 (length (relocs_at o table.sec))))
 
 abbrev pub same_owner : Option ℕ → Option ℕ → Bool
 same_owner (Some a) (Some b) = a == b

@@ -2,10 +2,10 @@
 
 ghost use Rattle.std.specs.Prelude.{◌≡◌, ◌&&◌, nat_lt};
 ghost use Rattle.std.specs.List.{list_any};
-ghost use Rattle.symbols_relocs.specs.Places.{same_place};
+ghost use Rattle.ot_base.specs.Places.{same_place};
 ghost use Rattle.alternatives.specs.Texts.{AscendBySection};
 ghost use Rattle.jump_tables.specs.Kept.{AreByPlace, AreStarts};
-ghost use Rattle.jump_tables.specs.Tables.{boundary_named as boundary_named_by, entry_at as entry_of_table};
+ghost use Rattle.jump_tables.specs.Tables.{boundary_named as boundary_named_by, table_entry_at as entry_of_table};
 
 use crate::field::{behind, named_by};
 use crate::places::contains;

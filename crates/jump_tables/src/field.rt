@@ -1,13 +1,12 @@
 //! What the relocations of a field name.
 
 ghost use Rattle.std.specs.Prelude.{◌≡◌, ◌==◌, find};
-ghost use Rattle.jump_tables.specs.Tables.{behind as place_behind, is_read_only as is_in_rodata, named_by as named_by_reloc, table_by as table_of_op, table_named as table_of_field};
+ghost use Rattle.jump_tables.specs.Tables.{checked_behind as place_behind, is_read_only as is_in_rodata, named_by as named_by_reloc, table_by as table_of_op, table_named as table_of_field};
 
 use elf_objects::{R_X86_64_32S, Reloc};
-use object_places::named_place;
 use operation_defs::Op;
 use ot_base::Place;
-use symbols_relocs::Index;
+use symbols_relocs::{Index, named_place};
 
 /// What the names of sections with read-only data begin with.
 const RODATA: &[u8] = b".rodata";

@@ -1,17 +1,17 @@
 //! The jumps by a table.
 
 ghost use Rattle.std.specs.Prelude.{◌≡◌, ◌<◌, ◌≤◌, ◌++◌, ℕ, true, false, length, slice_index_or, IfOk, OnOk};
+ghost use Rattle.ot_base.specs.Places.{is_before as is_lower};
 ghost use Rattle.x86_text.specs.Code.{code_of};
 ghost use Rattle.alternatives.specs.declared.texts.SectionText.{SectionText};
-ghost use Rattle.symbols_relocs.specs.Places.{is_before as is_lower};
 ghost use Rattle.jump_tables.specs.declared.jump.Jump.{Jump};
 ghost use Rattle.jump_tables.specs.Jumps.{jump_by, jump_among, jumps_among, jumps_of, AreByJump, HaveSameJumps, IsAscending};
 
 use crate::field::table_by;
-use crate::places::{is_before, is_same};
+use crate::places::is_same;
 use alternatives::SectionText;
 use operation_defs::Insn;
-use ot_base::{NoMemory, Place};
+use ot_base::{NoMemory, Place, is_before};
 use std::alloc::Global;
 use symbols_relocs::Index;
 

@@ -3,17 +3,10 @@
 ghost use Rattle.std.specs.Prelude.{◌≡◌, ◌<◌, ◌≤◌, ℕ, true, false, length, slice_index_or, is_some};
 ghost use Rattle.ot_base.specs.declared.place.Place.{Place};
 ghost use Rattle.std.specs.List.{list_any};
-ghost use Rattle.symbols_relocs.specs.Places.{is_before as is_lower, same_place};
+ghost use Rattle.ot_base.specs.Places.{is_before as is_lower, same_place};
 ghost use Rattle.jump_tables.specs.Kept.{AreByPlace, IsFirstOf};
 
-use ot_base::Place;
-
-/// Whether a place is in an earlier section, or in the same one at a lower offset.
-pub(crate) fn is_before(place: Place, other: Place) -> bool
-    ensures { result ≡ is_lower place other }
-{
-    place.sec < other.sec || place.sec == other.sec && place.off < other.off
-}
+use ot_base::{Place, is_before};
 
 /// Whether two places are one.
 pub(crate) fn is_same(place: Place, other: Place) -> bool

@@ -3,7 +3,7 @@
 ghost use Rattle.std.specs.Prelude.{◌≡◌, IfOk, OnOk, map};
 ghost use Rattle.std.specs.List.{list_any};
 ghost use Rattle.ot_base.specs.declared.place.Place.{Place};
-ghost use Rattle.symbols_relocs.specs.Places.{same_place};
+ghost use Rattle.ot_base.specs.Places.{same_place};
 ghost use Rattle.jump_tables.specs.Kept.{AreRising};
 
 use crate::jump::Jump;

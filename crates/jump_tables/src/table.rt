@@ -3,7 +3,7 @@
 ghost use Rattle.std.specs.Prelude.{◌≡◌, length, IfOk};
 ghost use Rattle.elf_objects.specs.Contents.{relocs_at};
 ghost use Rattle.alternatives.specs.Texts.{AscendBySection};
-ghost use Rattle.jump_tables.specs.Tables.{entries_for as entries_of_table_for, entry_at as entry_of_table};
+ghost use Rattle.jump_tables.specs.Tables.{entries_for as entries_of_table_for, table_entry_at as entry_of_table};
 ghost use Rattle.jump_tables.specs.Kept.{entry_for, kept_for, AreByPlace, AreStarts, AreTables, IsTableFrom};
 
 use crate::entry::entry_at;

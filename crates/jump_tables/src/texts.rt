@@ -1,9 +1,8 @@
 //! The instructions of an object's text sections, by their places.
 
 ghost use Rattle.std.specs.Prelude.{◌≡◌, ◌<◌, ◌≤◌, ◌==◌, ℕ, find, length, slice_index_or};
-ghost use Rattle.alternatives.specs.Texts.{AscendBySection};
+ghost use Rattle.alternatives.specs.Texts.{AscendBySection, is_boundary as is_a_boundary};
 ghost use Rattle.alternatives.specs.declared.texts.SectionText.{SectionText};
-ghost use Rattle.jump_tables.specs.Texts.{is_boundary as is_a_boundary};
 
 use alternatives::SectionText;
 use ot_base::Place;

@@ -7,7 +7,7 @@ use Rattle.state_defs.specs.declared.state.HintState.TheVariants.{Set, Save, Res
 use Rattle.state_defs.specs.Address.{shifted}
 use Rattle.state_defs.specs.Frame.{Slot, PartialAt, FullAt, is_of_call, Frame, Mark, top_slot, listed, AreKept, with_top_slot}
 use Rattle.state_defs.specs.State.{MeansTop}
-use Rattle.program_defs.specs.Program.{Program}
+use Rattle.machine_defs.specs.Program.{Program}
 use Rattle.machine_defs.specs.Machine.{Standing}
 
 -- the frames that a walk is to find keep their protected slots

@@ -5,13 +5,13 @@ use Rattle.state_defs.specs.Address.{down}
 use Rattle.state_defs.specs.Region.{hi_of}
 use Rattle.state_defs.specs.Frame.{Slot, is_of_call, Frame, Mark, listed, AreKept, LieAbove, with_top_slot}
 use Rattle.state_defs.specs.State.{ended_by, MeansTop}
-use Rattle.program_defs.specs.Program.{Program, IsPoint, is_call}
+use Rattle.machine_defs.specs.Program.{Program, IsPoint, is_call}
 use Rattle.machine_defs.specs.Machine.{Bases, IsPlacement, IsOutside, Standing, Machine, Wrecked, At, point_address, return_address}
 use Rattle.machine_defs.specs.Run.{Run}
-use Rattle.program_defs.specs.MayReturn.{target_may_return}
-use Rattle.checker_defs.specs.Kept.{Kept}
-use Rattle.checker_defs.specs.Broken.{IsAccepted}
-use Rattle.program_defs.specs.IsProgram.{IsProgram}
+use Rattle.machine_defs.specs.MayReturn.{target_may_return}
+use Rattle.machine_defs.specs.Kept.{Kept}
+use Rattle.machine_defs.specs.Broken.{IsAccepted}
+use Rattle.machine_defs.specs.IsProgram.{IsProgram}
 
 -- The run invariant. The point is kept; the stack has ended exactly where its state says so; a live
 -- state, or one over saved registers, means rsp, rbp and the top frame; and the frames that a walk is
@@ -78,11 +78,11 @@ pub record IsOutermostFrame (p : Program) (bases : Bases) (f : Frame) (fs : List
   pub goes_out : GoesOut p bases f.slot f.ra
 
 -- each frame is in order; the top one stands at this point, any other at the call of the one above it
-abbrev pub AreFrames : Program → Bases → ℕ → List Frame → Type 0
-AreFrames p bases standing [] = Unit {0}
-AreFrames p bases standing (f ∷ fs) =
-    (IsOutermostFrame p bases f fs × (f.call ≡ None))
-    ⊎ ((call : ℕ) × (f.call ≡ Some call) × IsInnerFrame p bases standing call f fs × AreFrames p bases call fs)
+pub data AreFrames (p : Program) (bases : Bases) : ℕ → List Frame → Type 0 where
+  none : (standing : ℕ) → AreFrames p bases standing []
+  outermost : (standing : ℕ) (f : Frame) (fs : List Frame) → f.call ≡ None → IsOutermostFrame p bases f fs → AreFrames p bases standing (f ∷ fs)
+  inner : (standing call : ℕ) (f : Frame) (fs : List Frame) → f.call ≡ Some call → IsInnerFrame p bases standing call f fs → AreFrames p bases call fs
+      → AreFrames p bases standing (f ∷ fs)
 
 -- the frames and the mark are in order, and no frame ends above the stack
 pub record HasFrameInvariant (p : Program) (bases : Bases) (s : Standing) : Type 0 where

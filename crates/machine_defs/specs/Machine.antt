@@ -4,7 +4,7 @@ use Rattle.ot_base.specs.declared.place.Place.{Place}
 use Rattle.state_defs.specs.declared.state.EndKind.{EndKind}
 use Rattle.state_defs.specs.Frame.{Frame, Mark, listed, end_of}
 use Rattle.state_defs.specs.Effect.{Core}
-use Rattle.program_defs.specs.Program.{Program, TextSection}
+use Rattle.machine_defs.specs.Program.{Program, TextSection}
 
 -- a placement: the address at which each section begins
 abbrev pub Bases : Type 0

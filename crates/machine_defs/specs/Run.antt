@@ -9,7 +9,7 @@ use Rattle.state_defs.specs.Address.{up, down}
 use Rattle.state_defs.specs.Region.{hi_of, Reads}
 use Rattle.state_defs.specs.Frame.{Slot, Unsaved, is_of_call, Frame}
 use Rattle.state_defs.specs.Effect.{Core, IsInStack}
-use Rattle.program_defs.specs.Program.{Program, IsPoint, Site, in_site, entry_points}
+use Rattle.machine_defs.specs.Program.{Program, IsPoint, Site, in_site, entry_points}
 use Rattle.machine_defs.specs.Machine.{Bases, IsOutside, Standing, Machine, Wrecked, At}
 use Rattle.machine_defs.specs.Hint.{Lands}
 use Rattle.machine_defs.specs.Step.{Step}

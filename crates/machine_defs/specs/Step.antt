@@ -3,18 +3,18 @@
 -- or not, an indirect branch may go to any of its targets, and an interrupt may come anywhere.
 use Rattle.std.specs.Prelude.{◌≡◌, ◌≢◌, ℕ, ◌+◌, ◌-◌, ◌%◌, ◌⊎◌, Bool, true, false, not, List, [], ◌∷◌, Some, None, Contains, IsTrue, pos}
 use Rattle.operation_defs.specs.declared.op.Op.TheVariants.{RetImm, Iret}
-use Rattle.program_defs.specs.declared.flow.EdgeKind.{EdgeKind}
-use Rattle.program_defs.specs.declared.flow.EdgeKind.TheVariants.{Fixup, Sibling}
-use Rattle.program_defs.specs.declared.flow.Role.{Role}
-use Rattle.program_defs.specs.declared.flow.Role.TheVariants.{CallIn, CallEither, CallAny, Return, JumpOut, JumpAny}
+use Rattle.machine_defs.specs.declared.flow.EdgeKind.{EdgeKind}
+use Rattle.machine_defs.specs.declared.flow.EdgeKind.TheVariants.{Fixup, Sibling}
+use Rattle.machine_defs.specs.declared.flow.Role.{Role}
+use Rattle.machine_defs.specs.declared.flow.Role.TheVariants.{CallIn, CallEither, CallAny, Return, JumpOut, JumpAny}
 use Rattle.state_defs.specs.declared.state.State.TheVariants.{Regs}
 use Rattle.state_defs.specs.declared.state.HintState.TheVariants.{Set}
 use Rattle.state_defs.specs.Address.{up, down}
 use Rattle.state_defs.specs.Region.{Region, Reads, WritesOnly, WritesWord, Stores}
 use Rattle.state_defs.specs.Frame.{Unsaved, PartialAt, is_of_call, Frame, protected_addresses}
 use Rattle.state_defs.specs.Effect.{Core, StoresOrdinarily, Effect}
-use Rattle.program_defs.specs.Program.{Program, IsPoint, Site, in_site, entry_points, edge, is_local}
-use Rattle.program_defs.specs.MayReturn.{may_call_out}
+use Rattle.machine_defs.specs.Program.{Program, IsPoint, Site, in_site, entry_points, edge, is_local}
+use Rattle.machine_defs.specs.MayReturn.{may_call_out}
 use Rattle.machine_defs.specs.Machine.{Bases, Standing, Machine, Wrecked, At, point_address, return_address}
 use Rattle.machine_defs.specs.Hint.{Lands}
 
@@ -93,14 +93,13 @@ pub record IsAtReturn (core : Core) (f : Frame) : Type 0 where
   pub cfa : core.rsp ≡ down f.cfa 8
   pub bp : core.rbp ≡ f.bp
 
--- it may be otherwise
-abbrev pub MissesReturn : Core → List Frame → Type 0
-MissesReturn core [] = Unit {0}
-MissesReturn core (f ∷ fs) =
-    (is_of_call f.slot ≡ false)
-    ⊎ (((word : ℕ) × Reads core.region core.rsp word × (word ≢ f.ra))
-    ⊎ ((core.rsp ≢ down f.cfa 8)
-    ⊎ (core.rbp ≢ f.bp)))
+-- it may be otherwise: there is no frame, or it is an interrupt's, or the return address, rsp or rbp is another
+pub data MissesReturn (core : Core) : List Frame → Type 0 where
+  no_return : MissesReturn core []
+  return_in_interrupt : (f : Frame) (fs : List Frame) → is_of_call f.slot ≡ false → MissesReturn core (f ∷ fs)
+  other_return : (f : Frame) (fs : List Frame) (word : ℕ) → Reads core.region core.rsp word → word ≢ f.ra → MissesReturn core (f ∷ fs)
+  other_depth : (f : Frame) (fs : List Frame) → core.rsp ≢ down f.cfa 8 → MissesReturn core (f ∷ fs)
+  other_rbp : (f : Frame) (fs : List Frame) → core.rbp ≢ f.bp → MissesReturn core (f ∷ fs)
 
 -- memory before and after: code outside that was jumped to may store, but spares the slots of the
 -- frames that are left
@@ -143,14 +142,13 @@ pub record IsAtIret (core : Core) (f : Frame) : Type 0 where
   pub cfa : Reads core.region (up core.rsp 24) f.cfa
   pub bp : core.rbp ≡ f.bp
 
--- it may be otherwise
-abbrev pub MissesIret : Core → List Frame → Type 0
-MissesIret core [] = Unit {0}
-MissesIret core (f ∷ fs) =
-    (is_of_call f.slot ≡ true)
-    ⊎ (((word : ℕ) × Reads core.region core.rsp word × (word ≢ f.ra))
-    ⊎ (((word : ℕ) × Reads core.region (up core.rsp 24) word × (word ≢ f.cfa))
-    ⊎ (core.rbp ≢ f.bp)))
+-- it may be otherwise: there is no frame, or it is a call's, or the saved address, the saved rsp or rbp is another
+pub data MissesIret (core : Core) : List Frame → Type 0 where
+  no_interrupt : MissesIret core []
+  iret_in_call : (f : Frame) (fs : List Frame) → is_of_call f.slot ≡ true → MissesIret core (f ∷ fs)
+  other_address : (f : Frame) (fs : List Frame) (word : ℕ) → Reads core.region core.rsp word → word ≢ f.ra → MissesIret core (f ∷ fs)
+  other_rsp : (f : Frame) (fs : List Frame) (word : ℕ) → Reads core.region (up core.rsp 24) word → word ≢ f.cfa → MissesIret core (f ∷ fs)
+  other_interrupted_rbp : (f : Frame) (fs : List Frame) → core.rbp ≢ f.bp → MissesIret core (f ∷ fs)
 
 -- 7. Its stack is wrecked: it returns with a wrong stack, or goes where its marks say that there is nothing to go to.
 pub data Wrecks (p : Program) (s : Standing) : Type 0 where

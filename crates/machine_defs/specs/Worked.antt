@@ -2,11 +2,12 @@
 --   point 0 at 0: push rbp;  point 1 at 1: mov rsp to rbp;  point 2 at 4: pop rbp;  point 3 at 5: ret
 use Rattle.std.specs.Prelude.{◌≡◌, ℕ, true, false, List, [], ◌∷◌, Option, Some, None, slice_index_or, filter, replicate, pos}
 use Rattle.ot_base.specs.declared.place.Place.{Place}
+use Rattle.ot_base.specs.Places.{same_place}
 use Rattle.operation_defs.specs.declared.op.Op.{Op}
 use Rattle.operation_defs.specs.declared.op.Op.TheVariants.{PushBp, LeaBpSp, PopBp, Ret}
 use Rattle.operation_defs.specs.declared.insn.Insn.{Insn}
-use Rattle.program_defs.specs.declared.flow.EdgeKind.TheVariants.{Next}
-use Rattle.program_defs.specs.declared.flow.Role.TheVariants.{Plain, Return}
+use Rattle.machine_defs.specs.declared.flow.EdgeKind.TheVariants.{Next}
+use Rattle.machine_defs.specs.declared.flow.Role.TheVariants.{Plain, Return}
 use Rattle.state_defs.specs.declared.state.Depth.TheVariants.{Known}
 use Rattle.state_defs.specs.declared.state.BpHome.TheVariants.{Saved}
 use Rattle.state_defs.specs.declared.state.EndKind.{EndKind}
@@ -16,11 +17,11 @@ use Rattle.state_defs.specs.Region.{Region, word_at}
 use Rattle.state_defs.specs.Frame.{Slot, Unsaved, SavedAt, FullAt, PartialAt, Frame, listed, end_of, protected, popped_slot}
 use Rattle.state_defs.specs.State.{initial}
 use Rattle.state_defs.specs.Row.{zero_row, row_of}
-use Rattle.program_defs.specs.Program.{Program, edge, same_place}
+use Rattle.machine_defs.specs.Program.{Program, edge}
 use Rattle.machine_defs.specs.Machine.{Standing, At}
 use Rattle.machine_defs.specs.Run.{outermost, Run}
-use Rattle.checker_defs.specs.Kept.{state_at}
-use Rattle.checker_defs.specs.Rows.{rows_of, placed}
+use Rattle.machine_defs.specs.Kept.{state_at}
+use Rattle.machine_defs.specs.Rows.{rows_of, placed}
 
 -- the place at an offset of section 1
 abbrev pub at : ℕ → Place
@@ -55,7 +56,7 @@ framed = record {
   goes = λ q. slice_index_or ((edge 1 Next ∷ []) ∷ (edge 2 Next ∷ []) ∷ (edge 3 Next ∷ []) ∷ []) q [];
   role = λ q. slice_index_or (Plain ∷ Plain ∷ Plain ∷ []) q Return;
   dead_end = λ _. false;
-  marks = λ _. record { bad = false; past_end = false; into_site = false; into_function = false };
+  marks = λ _. record { bad = false; past_end = false; into_site = false; into_function = false; relocated = false };
   after = λ q. slice_index_or ((1 ∷ []) ∷ (2 ∷ []) ∷ (3 ∷ []) ∷ []) q [];
   arrive = λ place. arrive_at place;
   entries = 0 ∷ [];

@@ -2,3 +2,4 @@ pub mod Chosen
 pub mod Frames
 pub mod Hints
 pub mod Lines
+pub mod Misses

@@ -1,10 +1,10 @@
 -- Lines of the step, from what the model does.
 use Rattle.std.proofs.Common.{◌≡◌, ℕ, ◌≤◌, ◌^◌, ◌∷◌, Option, Some, None, Result, Ok, Err, IfOk, sym, subst}
 use Rattle.std.specs.Prelude.{Contains, IfSome}
-use Rattle.program_defs.specs.declared.flow.Role.{Role}
+use Rattle.machine_defs.specs.declared.flow.Role.{Role}
 use Rattle.state_defs.specs.Address.{down}
 use Rattle.state_defs.specs.Region.{hi_of, WritesWord}
-use Rattle.program_defs.specs.Program.{Program, entry_points}
+use Rattle.machine_defs.specs.Program.{Program, entry_points}
 use Rattle.machine_defs.specs.Machine.{Bases, Standing, At, return_address}
 use Rattle.machine_defs.specs.Hint.{Lands}
 use Rattle.machine_defs.specs.Step.{MayCall, CallsIn, Step}

@@ -3,7 +3,7 @@ use Rattle.std.specs.Prelude.{◌≡◌}
 use Rattle.machine_defs.specs.Machine.{Bases, Standing, At}
 use Rattle.machine_defs.specs.Hint.{Lands}
 use Rattle.machine_defs.specs.Step.{Step}
-use Rattle.program_defs.specs.Program.{Program}
+use Rattle.machine_defs.specs.Program.{Program}
 use Rattle.machine_model.specs.declared.standing.Machine.{Machine as OwnMachine}
 use Rattle.machine_model.specs.Standing.{machine_of}
 

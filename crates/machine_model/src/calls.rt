@@ -3,7 +3,7 @@
 ghost use Rattle.std.specs.Prelude.{◌≡◌, ◌≤◌, ◌^◌, not, IfOk, IfSome, IsTrue, List, Bool};
 ghost use Rattle.state_defs.specs.Region.{hi_of};
 ghost use Rattle.machine_defs.specs.Step.{MayCall, CallsIn, CallsOut};
-ghost use Rattle.program_defs.specs.MayReturn.{may_call_out};
+ghost use Rattle.machine_defs.specs.MayReturn.{may_call_out};
 ghost use Rattle.program_model.specs.Region.{region_of};
 ghost use Rattle.machine_model.specs.Standing.{standing_of};
 ghost use Rattle.program_model.specs.Program.{program_of};
@@ -15,10 +15,10 @@ use crate::effect::store_ordinarily;
 use crate::frame::Frame;
 use crate::slot::Slot;
 use crate::standing::Standing;
-use program_defs::Role;
+use machine_defs::Role;
 use program_model::{Program, Store, down, return_address};
 use std::alloc::{AllocError, Global};
-use walk_defs::Range;
+use table_defs::Range;
 
 /// Whether a call may go to this entry.
 fn may_call(p: &Program, role: Role, target: u32) -> bool

@@ -1,4 +1,4 @@
-use program_defs::Edge;
+use machine_defs::Edge;
 use program_model::Store;
 
 /// What a definition lets be anything: a run chooses it.

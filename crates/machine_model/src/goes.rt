@@ -2,7 +2,7 @@
 
 ghost use Rattle.std.specs.Prelude.{◌≡◌, ◌≤◌, ◌^◌, IfOk, IfSome, IsTrue, List, Bool};
 ghost use Rattle.state_defs.specs.Region.{hi_of};
-ghost use Rattle.program_defs.specs.Program.{is_local};
+ghost use Rattle.machine_defs.specs.Program.{is_local};
 ghost use Rattle.machine_defs.specs.Step.{GoesOn, Faults, JumpsTo, TailCalls};
 ghost use Rattle.program_model.specs.Region.{region_of};
 ghost use Rattle.machine_model.specs.Standing.{standing_of};
@@ -11,7 +11,7 @@ ghost use Rattle.program_model.specs.Program.{program_of};
 use crate::choice::Anything;
 use crate::effect::{effect, store_ordinarily};
 use crate::standing::Standing;
-use program_defs::{Edge, EdgeKind, Role};
+use machine_defs::{Edge, EdgeKind, Role};
 use program_model::{Program, Store};
 use std::alloc::{AllocError, Global};
 

@@ -17,7 +17,7 @@ use operation_defs::Op;
 use program_model::{Program, down, point_address, up};
 use state_defs::{HintState, State};
 use std::alloc::AllocError;
-use walk_defs::Range;
+use table_defs::Range;
 
 /// How many bytes the processor pushes below the five words at a gate: those of an error code, 8, or
 /// none. A gate is a plain point without owner and outside sites, whose hint says so.

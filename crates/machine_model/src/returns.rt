@@ -13,7 +13,7 @@ ghost use Rattle.machine_model.specs.Left.{IsPopped, IsBack};
 use crate::frame::Frame;
 use crate::shadow::protected_addresses;
 use crate::standing::{Core, Standing};
-use program_defs::Role;
+use machine_defs::Role;
 use program_model::{Program, Region, Store, down, up};
 use std::alloc::{AllocError, Global};
 

@@ -5,10 +5,10 @@ use crate::frame::Frame;
 use crate::hint::lands;
 use crate::standing::{Core, Machine, Standing};
 use crate::steps::{interrupt, step};
-use program_model::{Point, Program, down, is_inside, up};
+use program_model::{ModelPoint, Program, down, is_inside, up};
 use state_defs::{HintState, State};
 use std::alloc::{AllocError, Global};
-use walk_defs::Range;
+use table_defs::Range;
 
 /// Where a run starts.
 #[derive(Clone, Copy)]
@@ -50,7 +50,7 @@ fn was_interrupted(placement: &[Range], core: &Core) -> bool {
 
 /// Whether a run may start at a point by its hint: a plain point of checked code, not inside a site, but
 /// for its first instruction.
-fn may_start(p: &Program, point: &Point) -> bool {
+fn may_start(p: &Program, point: &ModelPoint) -> bool {
     point.variant == 0
         && !point.is_unchecked
         && p.sites.iter().all(|site| !site.contains(point.place) || site.start == point.place)

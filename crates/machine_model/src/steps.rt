@@ -20,7 +20,7 @@ use crate::standing::{Machine, Standing};
 use crate::wrecks::may_wreck;
 use program_model::Program;
 use std::alloc::{AllocError, Global};
-use walk_defs::Range;
+use table_defs::Range;
 
 /// Where the chosen step leads before the hint there does its work; none where it isn't possible.
 fn moved(

@@ -7,23 +7,23 @@ use Rattle.ot_base.specs.declared.row.PlacedRow.{PlacedRow}
 use Rattle.ot_base.specs.NameLists.{NameLists}
 use Rattle.flow_defs.specs.Coded.{Coded}
 use Rattle.elf_objects.specs.declared.TheConstants.{MAX_FILE_BYTES}
-use Rattle.checker_defs.specs.Rows.{rows_of}
+use Rattle.machine_defs.specs.Rows.{rows_of}
 use Rattle.table_defs.specs.Walks.{WalksToFrames}
 use Rattle.program_graph.specs.declared.parts.GraphParts.{GraphParts}
 use Rattle.unwinding_law.proofs.Lists.{all_of}
-use Rattle.allowances.specs.declared.table.AllowanceTable.{AllowanceTable}
+use Rattle.option_rules.specs.declared.table.AllowanceTable.{AllowanceTable}
 use Rattle.flow_defs.specs.Program.{program_of}
-use Rattle.function_law.specs.Laws.{ProgramHasFunctions}
+use Rattle.object_law.specs.EntryLaws.{ProgramHasFunctions}
 use Rattle.option_law.specs.Access.{AccessLaw}
 use Rattle.option_law.specs.Branches.{BranchLaw}
 use Rattle.option_law.specs.Frames.{FrameLaw}
 use Rattle.point_allowances.specs.Allowances.{allowances_of}
-use Rattle.flow_law.specs.Flows.{ObjectIsInOrder, ProgramIsLaidOut, ProgramIsOne}
-use Rattle.object_law.specs.Laws.{ObjectUnwinds, PointsAscend}
+use Rattle.object_law.specs.Flows.{ObjectIsInOrder, ProgramIsLaidOut, ProgramIsOne}
+use Rattle.object_law.specs.ObjectLaws.{ObjectUnwinds, PointsAscend}
 use Rattle.object_law.specs.Rows.{IsPlacedRow, RowsAreFew, RowsArePlaced}
-use Rattle.named_law.specs.Laws.{RowsAreNamed}
-use Rattle.named_law.specs.Named.{IsNamed}
-use Rattle.table_output.specs.Tables.{CanHaveTables, IsRowIn}
+use Rattle.object_law.specs.SymbolLaws.{RowsAreNamed}
+use Rattle.object_law.specs.Named.{IsNamed}
+use Rattle.orc_output.specs.Tables.{CanHaveTables, IsRowIn}
 use Rattle.object_check.specs.Counts.{IsCounted}
 use Rattle.object_check.specs.Order.{IsCheckable}
 use Rattle.object_check.specs.Outcome.{IsOutcome, OnAccepted}
@@ -31,8 +31,8 @@ use Rattle.object_check.specs.Promises.{KeepsPromises}
 use Rattle.object_check.specs.Ready.{IsGraphOf, IsOutcomeOf, IsReady, IsTableOf}
 use Rattle.object_check.specs.Unwinding.{RowsUnwind}
 use Rattle.object_check.specs.declared.counts.CodeCounts.{CodeCounts}
-use Rattle.object_check.specs.declared.outcome.Outcome.{Outcome}
-use Rattle.object_check.specs.declared.outcome.Outcome.TheVariants.{Accepted, Broken}
+use Rattle.object_check.specs.declared.outcome.ObjectVerdict.{ObjectVerdict}
+use Rattle.object_check.specs.declared.outcome.ObjectVerdict.TheVariants.{Accepted, Broken}
 use Rattle.object_check.proofs.OrcSections.{all_other}
 
 pub ready : (o : Coded) (lists : NameLists) (parts : GraphParts) → ProgramIsOne → ProgramIsLaidOut → PointsAscend → ProgramHasFunctions → IsGraphOf o lists parts → IsReady (program_of o lists) parts
@@ -49,7 +49,7 @@ pub lent_table : (o : Coded) (lists : NameLists) (table : Option AllowanceTable)
 lent_table o lists table lent same is = subst (IsTableOf (program_of o lists) (allowances_of o lists)) (sym same) is
 
 -- what was found of the program of an object that can be checked is the outcome
-pub is_outcome : (o : Coded) (lists : NameLists) (options : Options) (counts : CodeCounts) (outcome : Outcome)
+pub is_outcome : (o : Coded) (lists : NameLists) (options : Options) (counts : CodeCounts) (outcome : ObjectVerdict)
     → IsCheckable o → IsCounted o counts → IsOutcomeOf (program_of o lists) (allowances_of o lists) options counts outcome → IsOutcome o lists options outcome
 is_outcome o lists options counts (Accepted rows told) can counted found = (can, found.0, found.1, subst (IsCounted o) (sym found.2) counted)
 is_outcome o lists options counts (Broken warnings) can counted found = (can, found)
@@ -65,7 +65,7 @@ row_in o x is named = record {
   row = is.row;
 }
 
-pub can_have_tables : (o : Coded) (lists : NameLists) (options : Options) (counts : CodeCounts) (outcome : Outcome)
+pub can_have_tables : (o : Coded) (lists : NameLists) (options : Options) (counts : CodeCounts) (outcome : ObjectVerdict)
     → length o.elf.bytes ≤ MAX_FILE_BYTES → RowsArePlaced → RowsAreFew → RowsAreNamed → ObjectIsInOrder o → IsCheckable o → IsOutcomeOf (program_of o lists) (allowances_of o lists) options counts outcome
     → OnAccepted outcome (CanHaveTables o.elf)
 can_have_tables o lists options counts (Accepted rows told) short are_placed are_few are_named order can found =
@@ -84,7 +84,7 @@ can_have_tables o lists options counts (Accepted rows told) short are_placed are
     }
 can_have_tables o lists options counts (Broken warnings) short are_placed are_few are_named order can found = tt
 
-pub rows_unwind : (o : Coded) (lists : NameLists) (options : Options) (counts : CodeCounts) (outcome : Outcome)
+pub rows_unwind : (o : Coded) (lists : NameLists) (options : Options) (counts : CodeCounts) (outcome : ObjectVerdict)
     → ObjectUnwinds → ObjectIsInOrder o → IsCheckable o → IsOutcomeOf (program_of o lists) (allowances_of o lists) options counts outcome
     → OnAccepted outcome (RowsUnwind o lists)
 rows_unwind o lists options counts (Accepted rows told) unwinds order can found = λ bases ranges placed m run.
@@ -94,7 +94,7 @@ rows_unwind o lists options counts (Accepted rows told) unwinds order can found 
 rows_unwind o lists options counts (Broken warnings) unwinds order can found = tt
 
 -- what the options promise of its runs
-pub keeps_promises : (o : Coded) (lists : NameLists) (options : Options) (counts : CodeCounts) (outcome : Outcome)
+pub keeps_promises : (o : Coded) (lists : NameLists) (options : Options) (counts : CodeCounts) (outcome : ObjectVerdict)
     → FrameLaw → BranchLaw → AccessLaw → ProgramIsOne → ProgramHasFunctions → ObjectIsInOrder o
     → IsOutcomeOf (program_of o lists) (allowances_of o lists) options counts outcome
     → OnAccepted outcome (λ rows. KeepsPromises o lists options)

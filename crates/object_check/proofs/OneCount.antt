@@ -5,12 +5,12 @@ use Rattle.std.specs.Ordering.{nat_cmp, is_lt, ordering_then}
 use Rattle.std.proofs.lemmas.Bool.{cases_lt}
 use Rattle.std.proofs.lemmas.Bool.Decides.{nat_tests}
 use Rattle.ot_base.specs.declared.place.Place.{Place}
+use Rattle.ot_base.specs.Places.{is_before, same_place}
 use Rattle.elf_objects.specs.Elf.{Elf}
 use Rattle.flow_defs.specs.Coded.{Coded}
 use Rattle.symbols_relocs.specs.declared.function.Function.{Function}
 use Rattle.symbols_relocs.specs.Functions.{is_function, start_of}
 use Rattle.symbols_relocs.specs.Lists.{AreFunctions, function}
-use Rattle.symbols_relocs.specs.Places.{is_before, same_place}
 use Rattle.object_check.specs.Counts.{IsCounted}
 use Rattle.object_check.specs.declared.counts.CodeCounts.{CodeCounts}
 use Rattle.indexmap.proofs.IndexTableLemmas.Probe.{Into, OneToOne, pigeonhole}

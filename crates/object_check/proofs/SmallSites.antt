@@ -14,17 +14,17 @@ use Rattle.alternatives.specs.Originals.{entry_at}
 use Rattle.alternatives.specs.Texts.{behind}
 use Rattle.alternatives.proofs.Ascending.{every-in, every-range, in_contains}
 use Rattle.unwinding_law.proofs.Lists.{all_of, from_filter, in_map}
-use Rattle.program_defs.specs.Program.{Site}
+use Rattle.machine_defs.specs.Program.{Site}
 use Rattle.program_graph.specs.declared.parts.GraphParts.{GraphParts}
 use Rattle.program_graph.specs.Tells.{site_of}
 use Rattle.flow_defs.specs.Code.{alternatives_of, body_of, text_numbers}
 use Rattle.flow_defs.specs.Program.{graph_of, program_of, returning_graph}
 use Rattle.flow_defs.specs.Sites.{sites_of}
-use Rattle.flow_law.specs.Flows.{ObjectIsInOrder}
-use Rattle.flow_law.proofs.Bodies.{cut_within}
-use Rattle.flow_law.proofs.EntryFacts.{entry_is}
-use Rattle.flow_law.proofs.InText.{text_size}
-use Rattle.flow_law.proofs.Sites.{site_is}
+use Rattle.object_law.specs.Flows.{ObjectIsInOrder}
+use Rattle.object_law.proofs.Bodies.{cut_within}
+use Rattle.object_law.proofs.EntryFacts.{entry_is}
+use Rattle.object_law.proofs.InText.{text_size}
+use Rattle.object_law.proofs.Sites.{site_is}
 use Rattle.object_check.specs.Ready.{HasSmallSites, IsGraphOf}
 
 is_progbits : (s : SectionEntry) → is_text s ≡ true → s.kind ≡ 1

@@ -5,16 +5,16 @@ use Rattle.ot_base.specs.declared.options.Options.{Options}
 use Rattle.ot_base.specs.declared.row.PlacedRow.{PlacedRow}
 use Rattle.ot_base.specs.declared.warning.Warning.{Warning}
 use Rattle.state_defs.specs.declared.state.State.{State}
-use Rattle.program_defs.specs.Program.{Program}
-use Rattle.checker_defs.specs.Broken.{IsAccepted}
-use Rattle.option_defs.specs.Allowances.{Allowances}
-use Rattle.checker_defs.specs.Kept.{AreKeptStates}
-use Rattle.checker_defs.specs.Rows.{rows_of}
+use Rattle.machine_defs.specs.Program.{Program}
+use Rattle.machine_defs.specs.Broken.{IsAccepted}
+use Rattle.machine_defs.specs.Allowances.{Allowances}
+use Rattle.machine_defs.specs.Kept.{AreKeptStates}
+use Rattle.machine_defs.specs.Rows.{rows_of}
 use Rattle.program_graph.specs.declared.parts.GraphParts.{GraphParts}
-use Rattle.branch_check.specs.LevelStates.{at}
+use Rattle.kept_states.specs.LevelStates.{at}
 use Rattle.program_check.specs.Checkable.{IsCheckable}
-use Rattle.allowances.specs.declared.table.AllowanceTable.{AllowanceTable}
-use Rattle.option_check.specs.Verdict.{IsAskable, IsFoundBroken, IsFoundClean}
+use Rattle.option_rules.specs.declared.table.AllowanceTable.{AllowanceTable}
+use Rattle.option_rules.specs.Verdict.{IsAskable, IsFoundBroken, IsFoundClean}
 use Rattle.object_check.specs.Outcome.{AreWarnings, HasRows, IsUnbroken}
 use Rattle.object_check.specs.Ready.{IsReady, IsTableOf}
 

@@ -10,7 +10,7 @@ use Rattle.flow_defs.specs.Code.{is_plain, points_of_object}
 use Rattle.object_check.specs.declared.counts.CodeCounts.{CodeCounts}
 
 -- the object has so many functions, parts included
-pub record HasFunctions (o : Elf) (count : ℕ) : Type 0 where
+pub record CountsFunctions (o : Elf) (count : ℕ) : Type 0 where
   pub functions : List Function
   pub are : AreFunctions o functions
   pub counted : count ≡ length functions
@@ -20,11 +20,11 @@ abbrev pub instructions_of : Coded → ℕ
 instructions_of o = count_by is_plain (points_of_object o)
 
 -- the sum of the sizes of the text sections
-abbrev pub text_bytes : Elf → ℕ
-text_bytes o = sum_by (λ s. s.size) (filter is_text o.sections)
+abbrev pub object_text_bytes : Elf → ℕ
+object_text_bytes o = sum_by (λ s. s.size) (filter is_text o.sections)
 
 -- the object has so much code
 pub record IsCounted (o : Coded) (counts : CodeCounts) : Type 0 where
-  pub functions : HasFunctions o.elf counts.functions
+  pub functions : CountsFunctions o.elf counts.functions
   pub instructions : counts.instructions ≡ instructions_of o
-  pub text : counts.text_bytes ≡ text_bytes o.elf
+  pub text : counts.text_bytes ≡ object_text_bytes o.elf

@@ -6,19 +6,19 @@ use Rattle.ot_base.specs.declared.warning.Warning.{Warning}
 use Rattle.ot_base.specs.NameLists.{NameLists}
 use Rattle.flow_defs.specs.Coded.{Coded}
 use Rattle.state_defs.specs.declared.state.State.{State}
-use Rattle.program_defs.specs.Program.{Program}
-use Rattle.checker_defs.specs.Kept.{AreKeptStates}
-use Rattle.checker_defs.specs.Broken.{IsAccepted}
-use Rattle.option_defs.specs.Allowances.{Allowances}
-use Rattle.option_defs.specs.Asked.{IsClean, IsWarned}
-use Rattle.checker_defs.specs.Rows.{rows_of}
+use Rattle.machine_defs.specs.Program.{Program}
+use Rattle.machine_defs.specs.Kept.{AreKeptStates}
+use Rattle.machine_defs.specs.Broken.{IsAccepted}
+use Rattle.machine_defs.specs.Allowances.{Allowances}
+use Rattle.machine_defs.specs.Asked.{IsClean, IsWarned}
+use Rattle.machine_defs.specs.Rows.{rows_of}
 use Rattle.flow_defs.specs.Program.{program_of}
 use Rattle.point_allowances.specs.Allowances.{allowances_of}
-use Rattle.rule_check.specs.Before.{ComesBefore}
+use Rattle.stack_rules.specs.Before.{ComesBefore}
 use Rattle.object_check.specs.Counts.{IsCounted}
 use Rattle.object_check.specs.Order.{IsCheckable}
-use Rattle.object_check.specs.declared.outcome.Outcome.{Outcome}
-use Rattle.object_check.specs.declared.outcome.Outcome.TheVariants.{Accepted, Broken}
+use Rattle.object_check.specs.declared.outcome.ObjectVerdict.{ObjectVerdict}
+use Rattle.object_check.specs.declared.outcome.ObjectVerdict.TheVariants.{Accepted, Broken}
 
 -- no rule is broken, of those that are always asked for and of those that the options ask for
 pub record IsUnbroken (p : Program) (allowed : Allowances) (options : Options) : Type 0 where
@@ -39,11 +39,11 @@ pub record AreWarnings (p : Program) (allowed : Allowances) (options : Options) 
 
 -- The object is checked. Its program, under the lists of names, breaks no rule that is asked for, the rows are the
 -- program's, and the object has so much code; or the program breaks some, and the warnings are exactly these.
-abbrev pub IsOutcome : Coded → NameLists → Options → Outcome → Type 0
+abbrev pub IsOutcome : Coded → NameLists → Options → ObjectVerdict → Type 0
 IsOutcome o lists options (Accepted rows counts) = IsCheckable o × IsUnbroken (program_of o lists) (allowances_of o lists) options × HasRows (program_of o lists) rows.items × IsCounted o counts
 IsOutcome o lists options (Broken warnings) = IsCheckable o × AreWarnings (program_of o lists) (allowances_of o lists) options warnings.items
 
 -- what holds of the rows, where it is accepted
-abbrev pub OnAccepted : Outcome → (List PlacedRow → Type 0) → Type 0
+abbrev pub OnAccepted : ObjectVerdict → (List PlacedRow → Type 0) → Type 0
 OnAccepted (Accepted rows counts) P = P rows.items
 OnAccepted (Broken warnings) P = Unit {0}

@@ -3,21 +3,21 @@ use Rattle.std.specs.Prelude.{◌≡◌, ◌^◌, ◌<◌, Option, All, IfSome}
 use Rattle.ot_base.specs.declared.options.Options.{Options}
 use Rattle.ot_base.specs.NameLists.{NameLists}
 use Rattle.flow_defs.specs.Coded.{Coded}
-use Rattle.program_defs.specs.Program.{Program}
-use Rattle.program_defs.specs.IsProgram.{IsLaidOut, IsProgram}
+use Rattle.machine_defs.specs.Program.{Program}
+use Rattle.machine_defs.specs.IsProgram.{IsLaidOut, IsProgram}
 use Rattle.table_defs.specs.Order.{PlainPointsAscend}
-use Rattle.option_defs.specs.Allowances.{Allowances, HasFunctions}
-use Rattle.allowances.specs.declared.table.AllowanceTable.{AllowanceTable}
-use Rattle.allowances.specs.Allows.{Allows}
+use Rattle.machine_defs.specs.Allowances.{Allowances, EntersFunctions}
+use Rattle.option_rules.specs.declared.table.AllowanceTable.{AllowanceTable}
+use Rattle.option_rules.specs.Allows.{Allows}
 use Rattle.program_graph.specs.declared.parts.GraphParts.{GraphParts}
 use Rattle.program_graph.specs.Tells.{Tells}
 use Rattle.flow_defs.specs.Program.{program_of}
-use Rattle.flow_law.specs.Flows.{ObjectIsInOrder}
+use Rattle.object_law.specs.Flows.{ObjectIsInOrder}
 use Rattle.object_check.specs.Order.{IsInOrder}
 use Rattle.object_check.specs.Outcome.{AreWarnings, HasRows, IsUnbroken}
 use Rattle.object_check.specs.declared.counts.CodeCounts.{CodeCounts}
-use Rattle.object_check.specs.declared.outcome.Outcome.{Outcome}
-use Rattle.object_check.specs.declared.outcome.Outcome.TheVariants.{Accepted, Broken}
+use Rattle.object_check.specs.declared.outcome.ObjectVerdict.{ObjectVerdict}
+use Rattle.object_check.specs.declared.outcome.ObjectVerdict.TheVariants.{Accepted, Broken}
 
 -- The graph is that of the object's program, and the object is in order.
 pub record IsGraphOf (o : Coded) (lists : NameLists) (parts : GraphParts) : Type 0 where
@@ -31,7 +31,7 @@ pub record IsReady (p : Program) (parts : GraphParts) : Type 0 where
   pub is_program : IsProgram p
   pub laid : IsLaidOut p
   pub ascending : PlainPointsAscend p
-  pub functions : HasFunctions p
+  pub functions : EntersFunctions p
 
 -- the table, if there is one, tells what is allowed at the program's points
 abbrev pub IsTableOf : Program → Allowances → Option AllowanceTable → Type 0
@@ -42,6 +42,6 @@ abbrev pub HasSmallSites : GraphParts → Type 0
 HasSmallSites parts = All (λ site. site.len < 2 ^ 63) parts.sites.items
 
 -- what the check of a program comes to, whose object has so much code
-abbrev pub IsOutcomeOf : Program → Allowances → Options → CodeCounts → Outcome → Type 0
+abbrev pub IsOutcomeOf : Program → Allowances → Options → CodeCounts → ObjectVerdict → Type 0
 IsOutcomeOf p allowed options counts (Accepted rows told) = IsUnbroken p allowed options × HasRows p rows.items × (told ≡ counts)
 IsOutcomeOf p allowed options counts (Broken warnings) = AreWarnings p allowed options warnings.items

@@ -5,7 +5,7 @@ use Rattle.ot_base.specs.NameLists.{NameLists}
 use Rattle.flow_defs.specs.Coded.{Coded}
 use Rattle.machine_defs.specs.Machine.{Bases, Machine}
 use Rattle.machine_defs.specs.Run.{Run}
-use Rattle.walk_defs.specs.declared.range.Range.{Range}
+use Rattle.table_defs.specs.declared.range.Range.{Range}
 use Rattle.table_defs.specs.Placed.{IsPlacedBy}
 use Rattle.table_defs.specs.Walks.{WalksToFrames}
 use Rattle.flow_defs.specs.Program.{program_of}

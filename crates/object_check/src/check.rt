@@ -3,31 +3,30 @@
 ghost use Rattle.std.specs.Prelude.{◌≤◌, IfOk, IfErr, length, option_copied};
 ghost use Rattle.elf_objects.specs.declared.TheConstants.{MAX_FILE_BYTES as most_bytes};
 ghost use Rattle.flow_defs.specs.Coded.{coded_by};
-ghost use Rattle.program_defs.specs.Program.{Program};
-ghost use Rattle.option_defs.specs.Allowances.{Allowances};
-ghost use Rattle.option_check.specs.Asked.{IsEnough};
+ghost use Rattle.machine_defs.specs.Program.{Program};
+ghost use Rattle.machine_defs.specs.Allowances.{Allowances};
+ghost use Rattle.option_rules.specs.AskedRules.{IsEnough};
 ghost use Rattle.object_check.specs.Order.{IsCheckFault};
 ghost use Rattle.object_check.specs.Outcome.{IsOutcome, OnAccepted};
 ghost use Rattle.object_check.specs.Promises.{KeepsPromises};
 ghost use Rattle.object_check.specs.Ready.{HasSmallSites, IsOutcomeOf, IsReady, IsTableOf};
 ghost use Rattle.object_check.specs.Unwinding.{RowsUnwind};
-ghost use Rattle.table_output.specs.Tables.{CanHaveTables};
+ghost use Rattle.orc_output.specs.Tables.{CanHaveTables};
 
 use crate::counts::CodeCounts;
 use crate::fault::CheckFault;
 use crate::graph::{ReadCode, read_code};
-use crate::outcome::Outcome;
+use crate::outcome::ObjectVerdict;
 use crate::room::check_room;
-use allowances::AllowanceTable;
-use branch_check::{Scratch, spread};
 use elf_objects::Object;
-use flow_law::laws::{program_is_laid_out, program_is_one};
-use function_law::laws::program_has_functions;
-use named_law::laws::rows_are_named;
+use kept_states::{Scratch, spread};
 use object_code::Map;
-use object_law::laws::{object_unwinds, plain_points_ascend, rows_are_rows_of};
-use option_check::{Verdict, check};
+use object_law::entry_laws::program_has_functions;
+use object_law::flow_laws::{program_is_laid_out, program_is_one};
+use object_law::object_laws::{object_unwinds, plain_points_ascend, rows_are_rows_of};
+use object_law::symbol_laws::rows_are_named;
 use option_law::laws::{access_is_kept, branches_are_safe, calls_have_frames};
+use option_rules::{AllowanceTable, OptionVerdict, check};
 use ot_base::{Lists, NoMemory, Options};
 use program_graph::Graph;
 use std::alloc::Global;
@@ -39,7 +38,7 @@ fn outcome_of(
     table: Option<&AllowanceTable>,
     counts: CodeCounts,
     options: Options,
-) -> Result<Outcome, NoMemory>
+) -> Result<ObjectVerdict, NoMemory>
     requires program { (p : Program) × (allowed : Allowances) × IsReady p graph.parts × IsTableOf p allowed (option_copied table) }
     requires enough { IsEnough options (option_copied table) }
     requires sites { HasSmallSites graph.parts }
@@ -48,15 +47,15 @@ fn outcome_of(
     let scratch = Scratch::reserve(alloc, graph.points())?;
     let kept = spread(&graph, scratch);
     match check(alloc, graph, kept, table, options)? {
-        Verdict::Clean(checked) => Ok(Outcome::Accepted {
+        OptionVerdict::Clean(checked) => Ok(ObjectVerdict::Accepted {
             rows: checked.rows(alloc)?,
             counts,
         }),
-        Verdict::Warned(warnings) => Ok(Outcome::Broken(warnings)),
+        OptionVerdict::Warned(warnings) => Ok(ObjectVerdict::Broken(warnings)),
     }
 }
 
-/// Checks an object of at most 67,108,864 bytes (64 MiB), whose code is read by an opcode map, under lists of function names: the rules 1 to 13 and 15 to 18, and 14
+/// Checks an object of at most 67,108,864 bytes (64 MiB), whose code is read by an opcode map, under lists of function names: the rules 1 to 13 and 15 to 19, and 14
 /// (`unreachable`), 21 (`fp`), 31 (`retpoline`), 32 (`rethunk`) and 41 to 47 (`uaccess`) where the options ask for them.
 ///
 /// # Errors
@@ -70,7 +69,7 @@ pub fn check_object(
     object: &Object<'_>,
     lists: &Lists,
     options: Options,
-) -> Result<Outcome, CheckFault>
+) -> Result<ObjectVerdict, CheckFault>
     requires { length object.now.bytes ≤ most_bytes }
     ensures ok { IfOk result (IsOutcome (coded_by map object.now) lists.now options) }
     // The rows can be added to the object, and unwind its program.

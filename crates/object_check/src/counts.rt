@@ -3,7 +3,7 @@
 ghost use Rattle.std.specs.Prelude.{◌≡◌, ◌≤◌, ◌<◌, ◌^◌, length, count_by};
 ghost use Rattle.elf_objects.specs.declared.TheConstants.{MAX_FILE_BYTES as most_bytes};
 ghost use Rattle.flow_defs.specs.Code.{is_plain};
-ghost use Rattle.object_check.specs.Counts.{IsCounted, text_bytes};
+ghost use Rattle.object_check.specs.Counts.{IsCounted, object_text_bytes};
 
 use alternatives::Sites;
 use elf_objects::Object;
@@ -36,7 +36,7 @@ fn count_plain(sites: &Sites) -> u32
 /// How many bytes the text sections of an object have.
 fn count_text(object: &Object<'_>) -> u64
     requires { length object.now.bytes ≤ most_bytes }
-    ensures { result ≡ text_bytes object.now }
+    ensures { result ≡ object_text_bytes object.now }
 {
     let mut total = 0;
     for sec in 0..object.sections() {

@@ -13,4 +13,4 @@ pub use check::check_object;
 pub use counts::CodeCounts;
 pub use fault::CheckFault;
 pub use object_code::Map;
-pub use outcome::Outcome;
+pub use outcome::ObjectVerdict;

@@ -5,7 +5,7 @@ use ot_base::{PlacedRow, Warning};
 
 /// What the check of an object comes to.
 #[derive(Debug, Drop)]
-pub enum Outcome {
+pub enum ObjectVerdict {
     /// No rule is broken that is asked for.
     Accepted {
         /// The rows of the ORC table, section by section in ascending order, and ascending by offset.

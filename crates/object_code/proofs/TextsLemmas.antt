@@ -17,12 +17,12 @@ use Rattle.elf_objects.specs.File.{section_count, section_header}
 use Rattle.elf_objects.specs.Header.{is_text_header}
 use Rattle.elf_objects.specs.Lent.{IsSlice}
 use Rattle.elf_objects.specs.Object.{IsObject}
-use Rattle.elf_objects.specs.Sections.{text_bytes, text_size}
+use Rattle.elf_objects.specs.Sections.{file_text_bytes, text_size}
 use Rattle.elf_objects.proofs.Read.{length-sections, section_at-entry, IsSlice-entry}
 use Rattle.special_sections.specs.Kinds.{faults}
 use Rattle.special_sections.specs.Special.{special_of, special_faults}
 use Rattle.special_sections.specs.Tables.{alternatives}
-use Rattle.special_law.specs.Laws.{AlternativesAreFew}
+use Rattle.special_sections.specs.Laws.{AlternativesAreFew}
 use Rattle.alternatives.specs.declared.texts.SectionText.{SectionText}
 use Rattle.alternatives.specs.Texts.{AscendBySection}
 use Rattle.alternatives.proofs.Ascending.{Rising, every-map, every-range, every-weaker, rising-filter, rising-range}
@@ -100,7 +100,7 @@ body_size bytes s text slice =
 
 -- it has at most 16 MiB
 pub text_small : (bytes : List ℕ) (o : Coded) (i : ℕ) → IsObject bytes o.elf → i < length o.elf.sections → is_text (section_at o.elf i) ≡ true → (section_at o.elf i).size ≤ 16777216
-unfolding text_bytes section_entry
+unfolding file_text_bytes section_entry
 text_small bytes o i is inside text =
     let known : i < section_count bytes = omega (arith, length-sections bytes o.elf (sym is.says), inside) in
     let entry = section_at-entry bytes o.elf i (sym is.says) known in
@@ -160,7 +160,7 @@ module _ (bytes : List ℕ) (o : Coded) (is : IsObject bytes o.elf) (own : bytes
 
 -- all together have at most 16 MiB
 pub little_text : (o : Coded) → IsObject o.elf.bytes o.elf → sum_by length_of (texts_of o) ≤ 16777216
-unfolding text_bytes texts_of
+unfolding file_text_bytes texts_of
 little_text o is =
     let count : length o.elf.sections ≡ section_count o.elf.bytes = length-sections o.elf.bytes o.elf (sym is.says) in
     let all : AllByRecursion (λ k. k < section_count o.elf.bytes) (range_with_len 0 (length o.elf.sections)) =

@@ -31,13 +31,13 @@ pub record HasSpecial (o : Coded) : Type 0 where
   pub code : AllCode o
   pub special : special_faults o.elf ≡ []
 
-pub record HasFunctions (o : Coded) : Type 0 where
+pub record HasSoundFunctions (o : Coded) : Type 0 where
   pub before : HasSpecial o
   pub functions : first_bad o.elf ≡ None
 
 -- all of them are
 pub record IsLinked (o : Coded) : Type 0 where
-  pub before : HasFunctions o
+  pub before : HasSoundFunctions o
   pub sites : AreRight (texts_of o) (alternatives_of o) (length (alternatives_of o))
 
 -- the first text section that isn't code, and where and why
@@ -68,7 +68,7 @@ abbrev pub IsLinkFault : Coded → LinkFault → Type 0
 IsLinkFault o (Text sec fault) = TellsText o sec fault
 IsLinkFault o (Special fault) = AllCode o × TellsSpecial o fault
 IsLinkFault o (Index fault) = HasSpecial o × TellsIndex o fault
-IsLinkFault o (Site fault) = HasFunctions o × TellsSite o fault
+IsLinkFault o (Site fault) = HasSoundFunctions o × TellsSite o fault
 IsLinkFault o NoMemory = Unit {0}
 
 -- what a lower fault is told as

@@ -1,5 +1,5 @@
-//! The code of an object, read: its instructions, what its special sections say, its functions, and its
-//! alternatives sites.
+//! An object with its code read, from which the graph is made: texts, special sections, functions and alternatives sites,
+//! or the first fault.
 #![tactic(auto)]
 
 mod fault;

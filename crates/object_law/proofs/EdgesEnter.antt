@@ -7,33 +7,31 @@ use Rattle.operation_defs.specs.declared.insn.Insn.{Insn}
 use Rattle.operation_defs.specs.declared.op.Op.{Op}
 use Rattle.operation_defs.specs.declared.op.Op.TheVariants as ops
 use Rattle.flow_defs.specs.Coded.{Coded}
-use Rattle.program_defs.specs.declared.flow.Edge.{Edge}
-use Rattle.program_defs.specs.declared.flow.EdgeKind.{EdgeKind}
-use Rattle.program_defs.specs.declared.flow.EdgeKind.TheVariants.{Next, Taken, Fixup, Table}
-use Rattle.program_defs.specs.Program.{Site, edge, in_site}
+use Rattle.machine_defs.specs.declared.flow.Edge.{Edge}
+use Rattle.machine_defs.specs.declared.flow.EdgeKind.{EdgeKind}
+use Rattle.machine_defs.specs.declared.flow.EdgeKind.TheVariants.{Next, Taken, Fixup, Table}
+use Rattle.machine_defs.specs.Program.{Site, edge, in_site}
 use Rattle.table_defs.specs.Enters.{IsSiteStart}
-use Rattle.symbols_relocs.specs.declared.target.Target.{Target}
-use Rattle.symbols_relocs.specs.declared.target.Target.TheVariants as targets
 use Rattle.alternatives.specs.declared.point.Point.{Point}
 use Rattle.jump_tables.specs.Tables.{same_owner}
 use Rattle.unwinding_law.proofs.Lists.{cases, in_map, nowhere}
-use Rattle.flow_defs.specs.declared.aim.Aim.{Aim}
-use Rattle.flow_defs.specs.declared.aim.Aim.TheVariants as aims
+use Rattle.flow_defs.specs.declared.aim.Destination.{Destination}
+use Rattle.flow_defs.specs.declared.aim.Destination.TheVariants as destinations
 use Rattle.flow_defs.specs.declared.aim.Way.{Way}
 use Rattle.flow_defs.specs.declared.aim.Way.TheVariants as ways
 use Rattle.flow_defs.specs.Code.{numbers_of, point_at}
 use Rattle.flow_defs.specs.Owners.{is_unchecked_point, owner_of_point}
 use Rattle.flow_defs.specs.Sites.{is_into_site, sites_of}
 use Rattle.flow_defs.specs.Arrival.{after, after_by, arrive, insn_of_object, next_of_replacement, place_behind}
-use Rattle.flow_defs.specs.Targets.{aim}
-use Rattle.flow_defs.specs.Ways.{branch_way, listed_way}
+use Rattle.flow_defs.specs.Targets.{destination}
+use Rattle.flow_defs.specs.Ways.{jump_way, listed_way}
 use Rattle.flow_defs.specs.Roles.{table_of_point}
-use Rattle.flow_defs.specs.Edges.{aim_edges, branch_edges, branch_edges_by, edges_to, fixups, goes, goes_on, jump_edges, listed_edges, next_edges, static_targets, table_edges, table_edges_by, target_edges, way_edges}
+use Rattle.flow_defs.specs.Edges.{branch_edges, branch_edges_by, edges_to, fixups, goes, goes_on, jump_edges, listed_edges, next_edges, static_targets, table_edges, table_edges_by, way_edges}
 use Rattle.flow_defs.specs.Program.{program_of}
-use Rattle.flow_law.specs.Flows.{ObjectIsInOrder}
-use Rattle.flow_law.proofs.Numbers.{edges_lead, numbers_are, point_count}
-use Rattle.flow_law.proofs.Owners.{arrives_at}
-use Rattle.object_law.proofs.Replaced.{IsOfSame, aims_within, comes_behind, next_within, same_replacement}
+use Rattle.object_law.specs.Flows.{ObjectIsInOrder}
+use Rattle.object_law.proofs.Numbers.{edges_lead, numbers_are, point_count}
+use Rattle.object_law.proofs.Owners.{arrives_at}
+use Rattle.object_law.proofs.Replaced.{IsOfSame, destination_within, comes_behind, next_within, same_replacement}
 use Rattle.object_law.proofs.Starts.{address_at, address_of, arrives_at_start, comes_in}
 
 -- one of some edges comes into a site from within it, or another of its kind among them leads to the site's start
@@ -89,17 +87,6 @@ module _ (o : Coded) (lists : NameLists) (point : Point) where
             let lead = edges_lead kind (arrive o place) e c in
             arriving_enter kind place e site lead.1 listed (comes_in o lists order point place e.to site is lead.0 listed inside)
 
-    jump_enters : (crosses : Bool) (place : Place) → Enters o lists point (jump_edges o crosses point place)
-    jump_enters crosses place = way_enters place (branch_way o crosses Taken (owner_of_point o point) place)
-
-    target_enters : (t : Target) → Enters o lists point (target_edges o point t)
-    target_enters (targets.Inside place) = jump_enters true place
-    target_enters (targets.Either place sym) = jump_enters true place
-    target_enters (targets.Outside sym) = none_enter
-    target_enters targets.ThunkIndirect = none_enter
-    target_enters targets.ThunkReturn = none_enter
-    target_enters targets.Bad = none_enter
-
     listed_enter : (kind : EdgeKind) (places : List Place) → Enters o lists point (listed_edges o kind point places)
     listed_enter kind places = all_enter (λ place. way_edges o point place (listed_way o kind (owner_of_point o point) place)) (λ place. way_enters place (listed_way o kind (owner_of_point o point) place)) places
 
@@ -118,18 +105,18 @@ module _ (o : Coded) (lists : NameLists) (order : ObjectIsInOrder o) (q : ℕ) (
       only : (x y : Point) → Contains (x ∷ []) y → x ≡ y
       only x y c = elim (cases x [] y c) [ inl e ↦ e | inr d ↦ nowhere y d ]
 
-  aim_enters : (insn : Insn) (a : Aim) → aim o (point_at o q) insn ≡ a → Enters o lists (point_at o q) (aim_edges o (point_at o q) a)
-  aim_enters insn (aims.At t) is = target_enters o lists (point_at o q) order t
-  aim_enters insn (aims.Behind place) is = jump_enters o lists (point_at o q) order false place
-  aim_enters insn (aims.Within other) is = go (same_owner (owner_of_point o (point_at o q)) (owner_of_point o other))
+  jump_enters : (insn : Insn) (to : Destination) → destination o (point_at o q) insn ≡ to → Enters o lists (point_at o q) (jump_edges o (point_at o q) to)
+  jump_enters insn (destinations.ToPlace place weak crossing) is = way_enters o lists (point_at o q) order place (jump_way o (point_at o q) crossing place)
+  jump_enters insn (destinations.ToOwnPoint other) is = go (same_owner (owner_of_point o (point_at o q)) (owner_of_point o other))
     where
       go : (b : Bool) → Enters o lists (point_at o q) (cond b (edges_to Taken (numbers_of o (other ∷ []))) [])
-      go true = same_enters Taken other (aims_within o (point_at o q) insn other is)
+      go true = same_enters Taken other (destination_within o (point_at o q) insn other is)
       go false = none_enter o lists (point_at o q)
+  jump_enters insn _ is = none_enter o lists (point_at o q)
 
   branch_enters : (insn : Insn) (op : Op) → Enters o lists (point_at o q) (branch_edges_by o (point_at o q) insn op)
-  branch_enters insn (ops.Jmp rel wide) = aim_enters insn (aim o (point_at o q) insn) refl
-  branch_enters insn (ops.Jcc rel wide) = aim_enters insn (aim o (point_at o q) insn) refl
+  branch_enters insn (ops.Jmp rel wide) = jump_enters insn (destination o (point_at o q) insn) refl
+  branch_enters insn (ops.Jcc rel wide) = jump_enters insn (destination o (point_at o q) insn) refl
   branch_enters insn _ = none_enter o lists (point_at o q)
 
   after_enters : Enters o lists (point_at o q) (edges_to Next (after o (point_at o q)))

@@ -4,31 +4,31 @@ use Rattle.std.specs.Prelude.{filter, option_map}
 use Rattle.std.proofs.lemmas.Bool.{eqb-true, not-false, or_parts}
 use Rattle.ot_base.specs.NameLists.{NameLists}
 use Rattle.ot_base.specs.declared.place.Place.{Place}
+use Rattle.ot_base.specs.Places.{same_place}
+use Rattle.alternatives.specs.Texts.{is_boundary}
 use Rattle.flow_defs.specs.Coded.{Coded}
-use Rattle.program_defs.specs.Program.{Site, edge, in_site}
+use Rattle.machine_defs.specs.Program.{Site, edge, in_site}
 use Rattle.table_defs.specs.Enters.{EntersSites, IsSiteStart}
 use Rattle.symbols_relocs.specs.Functions.{starts_at}
-use Rattle.symbols_relocs.specs.Places.{same_place}
 use Rattle.alternatives.specs.declared.texts.SectionText.{SectionText}
-use Rattle.jump_tables.specs.Texts.{is_boundary}
 use Rattle.unwinding_law.proofs.Lists.{from_filter, in_below, in_flat_map, in_map, nowhere}
-use Rattle.rows_law.proofs.Equal.{same_place_is}
-use Rattle.rows_law.proofs.Lists.{in_filter_map}
+use Rattle.table_law.proofs.Equal.{same_place_is}
+use Rattle.table_law.proofs.Lists.{in_filter_map}
 use Rattle.flow_defs.specs.declared.fault.FlowFault.TheVariants.{FuncStart}
 use Rattle.flow_defs.specs.Code.{body_of, is_plain, point_at, points_of_object, text_numbers, texts_of}
 use Rattle.flow_defs.specs.Owners.{is_entry}
 use Rattle.flow_defs.specs.Arrival.{arrive, decoded_insn}
 use Rattle.flow_defs.specs.Faults.{flow_faults, is_no_start, is_past_start, start_faults}
 use Rattle.flow_defs.specs.Program.{entries_of, graph_of, is_entry_point, program_of, returning_graph}
-use Rattle.flow_defs.specs.Sites.{places_of, places_of_text, site_at, sites_of}
-use Rattle.flow_law.specs.Flows.{ObjectIsInOrder}
-use Rattle.flow_law.proofs.Bodies.{at_lies}
-use Rattle.flow_law.proofs.HintStates.{parts_none}
-use Rattle.flow_law.proofs.Levels.{and_true}
-use Rattle.flow_law.proofs.Numbers.{numbers_are, point_count}
-use Rattle.flow_law.proofs.Overlays.{plain_at}
-use Rattle.flow_law.proofs.Owners.{arrives_at, entry_is}
-use Rattle.flow_law.proofs.PointKinds.{point_is}
+use Rattle.flow_defs.specs.Sites.{places_of, places_of_text, site_holding, sites_of}
+use Rattle.object_law.specs.Flows.{ObjectIsInOrder}
+use Rattle.object_law.proofs.Bodies.{at_lies}
+use Rattle.object_law.proofs.HintStates.{parts_none}
+use Rattle.object_law.proofs.Levels.{and_true}
+use Rattle.object_law.proofs.Numbers.{numbers_are, point_count}
+use Rattle.object_law.proofs.Overlays.{plain_at}
+use Rattle.object_law.proofs.Owners.{arrives_at, entry_is}
+use Rattle.object_law.proofs.PointKinds.{point_is}
 use Rattle.object_law.proofs.EdgesEnter.{edges_enter}
 use Rattle.object_law.proofs.Starts.{address_at, arrives_at_start, site_found}
 
@@ -42,9 +42,9 @@ place_listed o place listed below =
     (in_map (λ off. let p : Place = record { sec = place.sec; off = off } in p) _ place.off (in_below (length (body_of o place.sec).bytes) place.off below))
 
 -- where no function starts that is refused, one that starts in a site starts with it
-starts_first : (o : Coded) (place : Place) (f : ℕ) → flow_faults o ≡ [] → Contains (places_of o) place → starts_at o.elf place ≡ Some f → is_past_start place (site_at o place) ≡ false
+starts_first : (o : Coded) (place : Place) (f : ℕ) → flow_faults o ≡ [] → Contains (places_of o) place → starts_at o.elf place ≡ Some f → is_past_start place (site_holding o place) ≡ false
 unfolding flow_faults
-starts_first o place f none listed starts = (or_parts (not (is_boundary (texts_of o) place)) (is_past_start place (site_at o place)) (by_test (is_no_start o place) refl)).1
+starts_first o place f none listed starts = (or_parts (not (is_boundary (texts_of o) place)) (is_past_start place (site_holding o place)) (by_test (is_no_start o place) refl)).1
   where
     by_test : (b : Bool) → is_no_start o place ≡ b → b ≡ false
     by_test false e = refl

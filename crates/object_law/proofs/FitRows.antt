@@ -5,18 +5,19 @@ use Rattle.std.specs.Int.{w16}
 use Rattle.std.proofs.lemmas.Int.{ints}
 use Rattle.ot_base.specs.declared.place.Place.{Place}
 use Rattle.ot_base.specs.declared.row.Row.{Row}
+use Rattle.ot_base.specs.Places.{same_place}
 use Rattle.state_defs.specs.declared.state.BpHome.TheVariants.{Same, Saved}
 use Rattle.state_defs.specs.declared.state.EndKind.TheVariants.{Undefined, EndOfStack}
 use Rattle.state_defs.specs.declared.state.State.{State}
 use Rattle.state_defs.specs.declared.state.State.TheVariants.{Live, Ended, Regs}
 use Rattle.state_defs.specs.Row.{has_16_bits, row_of, unfit_offset, zero_row}
-use Rattle.program_defs.specs.Program.{Program, Site, same_place}
-use Rattle.checker_defs.specs.Broken.{IsAccepted, unfit}
-use Rattle.checker_defs.specs.Kept.{AreKeptStates, Kept}
-use Rattle.checker_defs.specs.Rows.{is_kept_site, kept_at, plain_at, row_at, row_by, row_in_site, row_of_point, row_or_zero, site_at}
-use Rattle.walk_defs.specs.Fields.{HasKnownFields}
-use Rattle.walk_law.proofs.Numbers.{fits}
-use Rattle.rows_law.proofs.Lists.{some_is}
+use Rattle.machine_defs.specs.Program.{Program, Site}
+use Rattle.machine_defs.specs.Broken.{IsAccepted, unfit}
+use Rattle.machine_defs.specs.Kept.{AreKeptStates, Kept}
+use Rattle.machine_defs.specs.Rows.{is_kept_site, kept_at, plain_at, row_at, row_by, row_in_site, row_of_point, row_or_zero, site_at}
+use Rattle.table_defs.specs.Fields.{HasKnownFields}
+use Rattle.table_law.proofs.Numbers.{fits}
+use Rattle.table_law.proofs.Lists.{some_is}
 use Rattle.orc_bytes.specs.RowBytes.{IsRow}
 
 -- numbers of 16 bits

@@ -21,19 +21,19 @@ use Rattle.elf_objects.specs.Contents.{is_text, no_section, section_at, section_
 use Rattle.elf_objects.specs.File.{section_count, section_header}
 use Rattle.elf_objects.specs.Header.{is_text_header}
 use Rattle.elf_objects.specs.Object.{IsObject}
-use Rattle.elf_objects.specs.Sections.{text_bytes, text_size}
+use Rattle.elf_objects.specs.Sections.{file_text_bytes, text_size}
 use Rattle.elf_objects.proofs.Read.{length-sections, section_at-entry}
-use Rattle.program_defs.specs.Program.{Program, below}
-use Rattle.checker_defs.specs.Broken.{IsAccepted}
-use Rattle.checker_defs.specs.Kept.{AreKeptStates}
-use Rattle.checker_defs.specs.Rows.{all_rows, placed, place_in, row_at, rows_of, section_rows, with_end, without_repeats}
+use Rattle.machine_defs.specs.Program.{Program, below}
+use Rattle.machine_defs.specs.Broken.{IsAccepted}
+use Rattle.machine_defs.specs.Kept.{AreKeptStates}
+use Rattle.machine_defs.specs.Rows.{all_rows, placed, place_in, row_at, rows_of, section_rows, with_end, without_repeats}
 use Rattle.alternatives.proofs.Ascending.{In, every-in, every-range, in_contains}
 use Rattle.unwinding_law.proofs.Lists.{all_of, from_filter, from_flat_map}
-use Rattle.rows_law.proofs.Sections.{end_row, from_ended, left_is_row, rows_left}
+use Rattle.table_law.proofs.Sections.{end_row, from_ended, left_is_row, rows_left}
 use Rattle.orc_bytes.specs.RowBytes.{IsRow}
 use Rattle.flow_defs.specs.Code.{text_numbers}
 use Rattle.flow_defs.specs.Program.{graph_of, program_of, returning_graph, text_sections_of}
-use Rattle.flow_law.proofs.Owners.{from_map}
+use Rattle.object_law.proofs.Owners.{from_map}
 use Rattle.object_law.specs.Rows.{IsPlacedRow}
 use Rattle.object_law.proofs.FitRows.{row_fits, zero_fits}
 
@@ -51,7 +51,7 @@ text_of_header o i is known text =
 
 -- no more than all have together
 text_small : (o : Elf) (i : ℕ) → IsObject o.bytes o → i < section_count o.bytes → is_text (section_at o i) ≡ true → (section_at o i).size ≤ MAX_TEXT_BYTES
-unfolding text_bytes
+unfolding file_text_bytes
 text_small o i is known text =
     let bytes = o.bytes in
     let whole = get_or-le-sum_by text_size (map (section_header bytes) (range_with_len 0 (section_count bytes))) i (section_header bytes i) (simp length-map-range_with_len known) in
@@ -155,7 +155,7 @@ module _ (o : Coded) (p : Program) (states : ℕ → Option State) where
       go false text h = omega (arith, h, sum_by-cons text_size (section_header o.elf.bytes i) (map (section_header o.elf.bytes) xs))
 
 pub rows_few : (o : Coded) (lists : NameLists) (states : ℕ → Option State) → IsObject o.elf.bytes o.elf → length (rows_of (program_of o lists) states) ≤ MAX_TEXT_BYTES + MAX_SECTIONS
-unfolding program_of returning_graph graph_of text_sections_of text_bytes
+unfolding program_of returning_graph graph_of text_sections_of file_text_bytes
 rows_few o lists states is =
     let n = length o.elf.sections in
     let known : n ≡ section_count o.elf.bytes = length-sections o.elf.bytes o.elf (sym is.says) in

@@ -4,35 +4,37 @@ use Rattle.std.specs.Prelude.{option_and_then, ◌==◌}
 use Rattle.std.proofs.lemmas.Bool.{cases_lt, eqb-true}
 use Rattle.ot_base.specs.NameLists.{NameLists}
 use Rattle.ot_base.specs.declared.place.Place.{Place}
+use Rattle.ot_base.specs.Places.{same_place}
 use Rattle.operation_defs.specs.declared.insn.Insn.{Insn}
 use Rattle.flow_defs.specs.Coded.{Coded}
-use Rattle.program_defs.specs.Program.{Site, in_site}
-use Rattle.symbols_relocs.specs.Places.{same_place}
+use Rattle.machine_defs.specs.Program.{Site, in_site}
 use Rattle.symbols_relocs.specs.Targets.{branch_target}
-use Rattle.symbols_relocs.specs.declared.target.Target.TheVariants.{Bad}
+use Rattle.symbols_relocs.specs.declared.target.Target.{Target}
+use Rattle.symbols_relocs.specs.declared.target.Target.TheVariants as targets
 use Rattle.alternatives.specs.declared.point.Point.{Point}
 use Rattle.alternatives.specs.Originals.{entry_at}
 use Rattle.alternatives.specs.Points.{entry_of, insn_of_point, is_point, next_point, point_after, point_behind}
 use Rattle.alternatives.specs.Texts.{behind}
-use Rattle.rows_law.proofs.Equal.{equal_places}
-use Rattle.rows_law.proofs.Lists.{some_is}
-use Rattle.flow_defs.specs.declared.aim.Aim.{Aim}
-use Rattle.flow_defs.specs.declared.aim.Aim.TheVariants as aims
+use Rattle.table_law.proofs.Equal.{equal_places}
+use Rattle.table_law.proofs.Lists.{some_is}
+use Rattle.flow_defs.specs.declared.aim.Crossing.TheVariants.{MayNotCross}
+use Rattle.flow_defs.specs.declared.aim.Destination.{Destination}
+use Rattle.flow_defs.specs.declared.aim.Destination.TheVariants as destinations
 use Rattle.flow_defs.specs.Code.{alternatives_of, is_plain, point_at, texts_of}
 use Rattle.flow_defs.specs.Arrival.{decoded_insn, next_of_replacement, place_behind, replacement_end, site_end}
 use Rattle.flow_defs.specs.Sites.{site_of_entry, sites_of}
-use Rattle.flow_defs.specs.Targets.{Displacement, aim, aim_by, displacement_of, lacks_reloc, own_aim, relative_place}
-use Rattle.flow_law.specs.Flows.{ObjectIsInOrder}
-use Rattle.flow_law.proofs.Bodies.{before_cut}
-use Rattle.flow_law.proofs.EntryFacts.{entry_is}
-use Rattle.flow_law.proofs.Levels.{and_true, not_true}
-use Rattle.flow_law.proofs.Numbers.{point_count}
-use Rattle.flow_law.proofs.Overlays.{Overlays, address_plain, overlays, own_entry, plain_at}
-use Rattle.flow_law.proofs.PointKinds.{point_is}
-use Rattle.flow_law.proofs.Sites.{InSite, has_site, in_site_is, is_in_site, one_site, site_is, some_len}
+use Rattle.flow_defs.specs.Targets.{Displacement, destination, destination_by, displacement_of, lacks_reloc, named_destination, own_destination, relative_place}
+use Rattle.object_law.specs.Flows.{ObjectIsInOrder}
+use Rattle.object_law.proofs.Bodies.{before_cut}
+use Rattle.object_law.proofs.EntryFacts.{entry_is}
+use Rattle.object_law.proofs.Levels.{and_true, not_true}
+use Rattle.object_law.proofs.Numbers.{point_count}
+use Rattle.object_law.proofs.Overlays.{Overlays, address_plain, overlays, own_entry, plain_at}
+use Rattle.object_law.proofs.PointKinds.{point_is}
+use Rattle.object_law.proofs.Sites.{InSite, has_site, in_site_is, is_in_site, one_site, site_is, some_len}
 use Rattle.object_law.proofs.Starts.{address_at, sites_apart}
 
-same_within : {a b : Point} → ◌≡◌ {A = Aim} (aims.Within a) (aims.Within b) → a ≡ b
+same_within : {a b : Point} → ◌≡◌ {A = Destination} (destinations.ToOwnPoint a) (destinations.ToOwnPoint b) → a ≡ b
 same_within is = cc
 
 -- a point of a replacement, and one of the same
@@ -41,25 +43,33 @@ pub record IsOfSame (point other : Point) : Type 0 where
   pub same : other.variant ≡ point.variant
 
 -- a jump inside a replacement stays in it
-pub aims_within : (o : Coded) (point : Point) (insn : Insn) (other : Point) → aim o point insn ≡ aims.Within other → IsOfSame point other
-unfolding aim
-aims_within o point insn other is = by_displacement (displacement_of insn.op) is
+pub destination_within : (o : Coded) (point : Point) (insn : Insn) (other : Point) → destination o point insn ≡ destinations.ToOwnPoint other → IsOfSame point other
+unfolding destination
+destination_within o point insn other is = by_displacement (displacement_of insn.op) is
   where
-    by_point : (b c : Bool) (place : Place) → cond b (aims.Within (record { place = place; variant = point.variant })) (cond c (aims.Behind (site_end o point)) (aims.At Bad)) ≡ aims.Within other → other.variant ≡ point.variant
+    by_point : (b c : Bool) (place : Place) → cond b (destinations.ToOwnPoint (record { place = place; variant = point.variant })) (cond c (destinations.ToPlace (site_end o point) None MayNotCross) destinations.ToNowhere) ≡ destinations.ToOwnPoint other → other.variant ≡ point.variant
     by_point true c place is = ap (λ (p : Point). p.variant) (sym (same_within is))
     by_point false true place is = absurd (let k : ⊥ = cc in k)
     by_point false false place is = absurd (let k : ⊥ = cc in k)
 
-    by_place : (place : Option Place) → own_aim o point place ≡ aims.Within other → other.variant ≡ point.variant
+    by_place : (place : Option Place) → own_destination o point place ≡ destinations.ToOwnPoint other → other.variant ≡ point.variant
     by_place None is = absurd (let k : ⊥ = cc in k)
     by_place (Some place) is = by_point (is_point (texts_of o) (alternatives_of o) (record { place = place; variant = point.variant })) (same_place place (replacement_end o point)) place is
 
-    by_reloc : (b : Bool) (d : Displacement) → (not (is_plain point) && lacks_reloc o.elf point.place insn.len d) ≡ b
-        → cond b (own_aim o point (relative_place point.place insn.len d)) (aims.At (branch_target o.elf point.place insn)) ≡ aims.Within other → IsOfSame point other
-    by_reloc true d e is = record { replaced = not_true (is_plain point) (and_true (not (is_plain point)) (lacks_reloc o.elf point.place insn.len d) e).0; same = by_place (relative_place point.place insn.len d) is }
-    by_reloc false d e is = absurd (let k : ⊥ = cc in k)
+    by_target : (t : Target) → named_destination t ≡ destinations.ToOwnPoint other → IsOfSame point other
+    by_target (targets.Inside place) is = absurd (let k : ⊥ = cc in k)
+    by_target (targets.Either place sym) is = absurd (let k : ⊥ = cc in k)
+    by_target (targets.Outside sym) is = absurd (let k : ⊥ = cc in k)
+    by_target targets.ThunkIndirect is = absurd (let k : ⊥ = cc in k)
+    by_target targets.ThunkReturn is = absurd (let k : ⊥ = cc in k)
+    by_target targets.Bad is = absurd (let k : ⊥ = cc in k)
 
-    by_displacement : (d : Option Displacement) → aim_by o point insn d ≡ aims.Within other → IsOfSame point other
+    by_reloc : (b : Bool) (d : Displacement) → (not (is_plain point) && lacks_reloc o.elf point.place insn.len d) ≡ b
+        → cond b (own_destination o point (relative_place point.place insn.len d)) (named_destination (branch_target o.elf point.place insn)) ≡ destinations.ToOwnPoint other → IsOfSame point other
+    by_reloc true d e is = record { replaced = not_true (is_plain point) (and_true (not (is_plain point)) (lacks_reloc o.elf point.place insn.len d) e).0; same = by_place (relative_place point.place insn.len d) is }
+    by_reloc false d e is = by_target (branch_target o.elf point.place insn) is
+
+    by_displacement : (d : Option Displacement) → destination_by o point insn d ≡ destinations.ToOwnPoint other → IsOfSame point other
     by_displacement None is = absurd (let k : ⊥ = cc in k)
     by_displacement (Some d) is = by_reloc (not (is_plain point) && lacks_reloc o.elf point.place insn.len d) d refl is
 

@@ -4,29 +4,29 @@ use Rattle.std.proofs.lemmas.Bool.{not-false}
 use Rattle.ot_base.specs.NameLists.{NameLists}
 use Rattle.ot_base.specs.declared.place.Place.{Place}
 use Rattle.flow_defs.specs.Coded.{Coded}
-use Rattle.program_defs.specs.Program.{Site, in_site}
+use Rattle.machine_defs.specs.Program.{Site, in_site}
 use Rattle.table_defs.specs.Enters.{IsSiteStart}
-use Rattle.symbols_relocs.specs.Places.{same_place}
 use Rattle.alternatives.specs.declared.point.Point.{Point}
 use Rattle.alternatives.specs.Points.{IsPoint, address_of_point, entries_from, first_of, first_points, is_point}
-use Rattle.jump_tables.specs.Texts.{is_boundary}
 use Rattle.unwinding_law.proofs.Lists.{here, in_filter}
-use Rattle.rows_law.proofs.Equal.{same_place_is}
-use Rattle.rows_law.proofs.Lists.{in_filter_map}
-use Rattle.rows_law.proofs.RowAt as rows
+use Rattle.table_law.proofs.Equal.{same_place_is}
+use Rattle.table_law.proofs.Lists.{in_filter_map}
+use Rattle.table_law.proofs.RowAt as rows
 use Rattle.flow_defs.specs.Code.{alternatives_of, is_plain, number_of, plain_point, point_at, texts_of}
 use Rattle.flow_defs.specs.Arrival.{arrive}
 use Rattle.flow_defs.specs.Program.{graph_of, program_of, returning_graph}
-use Rattle.flow_defs.specs.Sites.{enters_site, is_into_site, is_original_of, site_at, sites_of}
+use Rattle.flow_defs.specs.Sites.{enters_site, is_into_site, is_original_of, site_holding, sites_of}
 use Rattle.std.proofs.lemmas.Bool.{eqb-true}
-use Rattle.flow_law.specs.Flows.{ObjectIsInOrder}
-use Rattle.flow_law.proofs.Entries.{has_number, plain_listed}
-use Rattle.flow_law.proofs.LaidOut.{laid_out}
-use Rattle.flow_law.proofs.Levels.{and_true}
-use Rattle.flow_law.proofs.Numbers.{numbered, point_count}
-use Rattle.flow_law.proofs.Overlays.{address_plain}
-use Rattle.flow_law.proofs.Owners.{arrives_at}
-use Rattle.flow_law.proofs.PointKinds.{point_listed}
+use Rattle.ot_base.specs.Places.{same_place}
+use Rattle.alternatives.specs.Texts.{is_boundary}
+use Rattle.object_law.specs.Flows.{ObjectIsInOrder}
+use Rattle.object_law.proofs.Entries.{has_number, plain_listed}
+use Rattle.object_law.proofs.LaidOut.{laid_out}
+use Rattle.object_law.proofs.Levels.{and_true}
+use Rattle.object_law.proofs.Numbers.{numbered, point_count}
+use Rattle.object_law.proofs.Overlays.{address_plain}
+use Rattle.object_law.proofs.Owners.{arrives_at}
+use Rattle.object_law.proofs.PointKinds.{point_listed}
 
 -- where a point runs, and one by its number
 abbrev pub address_of : Coded → Point → Place
@@ -62,8 +62,8 @@ module _ (o : Coded) (lists : NameLists) (order : ObjectIsInOrder o) where
   sites_apart one other place of-one of-other in-one in-other = (laid_out o lists order).sites_apart one other place of-one of-other in-one in-other
 
   -- a site of a place is the one that is found
-  pub site_found : (site : Site) (place : Place) → Contains (sites_of o) site → in_site site place ≡ true → site_at o place ≡ Some site
-  unfolding program_of returning_graph graph_of site_at
+  pub site_found : (site : Site) (place : Place) → Contains (sites_of o) site → in_site site place ≡ true → site_holding o place ≡ Some site
+  unfolding program_of returning_graph graph_of site_holding
   site_found site place listed inside = rows.site_found (program_of o lists) (laid_out o lists order) place site listed inside
 
   -- a site begins at a boundary

@@ -1,2 +1,7 @@
-pub mod Laws
+pub mod Returning
+pub mod Flows
+pub mod ObjectLaws
 pub mod Rows
+pub mod EntryLaws
+pub mod Named
+pub mod SymbolLaws

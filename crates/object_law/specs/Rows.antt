@@ -8,9 +8,9 @@ use Rattle.elf_objects.specs.Elf.{SectionEntry}
 use Rattle.flow_defs.specs.Coded.{Coded}
 use Rattle.elf_objects.specs.Contents.{is_text}
 use Rattle.elf_objects.specs.Object.{IsObject}
-use Rattle.checker_defs.specs.Broken.{IsAccepted}
-use Rattle.checker_defs.specs.Kept.{AreKeptStates}
-use Rattle.checker_defs.specs.Rows.{rows_of}
+use Rattle.machine_defs.specs.Broken.{IsAccepted}
+use Rattle.machine_defs.specs.Kept.{AreKeptStates}
+use Rattle.machine_defs.specs.Rows.{rows_of}
 use Rattle.orc_bytes.specs.RowBytes.{IsRow}
 use Rattle.flow_defs.specs.Program.{program_of}
 

@@ -1,5 +1,8 @@
-//! What holds of the program of every object in order: how control comes into its sites, how its points are numbered,
-//! and that its rows unwind it.
+//! What holds of the program of every object: that it is one, how control comes into its sites and entries, that it is known
+//! by symbols, and that its rows unwind it.
 #![tactic(auto)]
 
-pub mod laws;
+pub mod entry_laws;
+pub mod flow_laws;
+pub mod object_laws;
+pub mod symbol_laws;

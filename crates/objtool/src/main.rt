@@ -1,4 +1,4 @@
-//! objtool: checks how compiled kernel code uses the stack, and adds ORC unwind tables.
+//! The program: the command of its words over the system's files and output, and the exit status.
 #![tactic(auto)]
 
 ghost use Rattle.std.specs.Prelude.{◌≡◌};

@@ -10,8 +10,8 @@ use Rattle.ot_files.specs.declared.access.FileError.TheVariants as file
 use Rattle.command_base.specs.declared.status.Status.{Status}
 use Rattle.command_base.specs.declared.status.Status.TheVariants as status
 use Rattle.command_base.specs.declared.refusal.Refusal.{Refusal}
-use Rattle.command_base.specs.declared.stop.Stop.{Stop}
-use Rattle.command_base.specs.declared.stop.Stop.TheVariants as stop
+use Rattle.command_base.specs.declared.stop.CommandStop.{CommandStop}
+use Rattle.command_base.specs.declared.stop.CommandStop.TheVariants as stop
 use Rattle.command_base.specs.Outside.{Outside, Output}
 use Rattle.command_base.specs.Printing.{Concludes, Prints, fails, fault_stays, runs_out, whole}
 use Rattle.command_base.specs.Reading.{MayRead, StopsAtRead}
@@ -35,7 +35,7 @@ use Rattle.flow_defs.specs.Coded.{coded_by}
 use Rattle.flow_defs.specs.Program.{program_of}
 use Rattle.point_allowances.specs.Allowances.{allowances_of}
 use Rattle.object_check.specs.Outcome.{HasRows, IsUnbroken}
-use Rattle.table_output.specs.Tables.{symbols_needed}
+use Rattle.orc_output.specs.Tables.{symbols_needed}
 use Rattle.objtool_cli.proofs.CheckableLemmas.{checkable_unrefused, one_object, one_rows}
 use Rattle.objtool_cli.proofs.CheckEnds.{ChecksAs}
 use Rattle.objtool_cli.proofs.SameCommand.{no_fault_and_command, not_told as not_text, same_command}
@@ -43,10 +43,10 @@ use Rattle.objtool_cli.proofs.SameCommand.{no_fault_and_command, not_told as not
 -- ---- what is known of the bytes
 
 -- the bytes are refused in no way
-abbrev IsUnrefused : List ℕ → NameLists → CheckOptions → Type 0
+abbrev pub IsUnrefused : List ℕ → NameLists → CheckOptions → Type 0
 IsUnrefused bytes lists options = (told : Refusal) → Refuses bytes lists options told → ⊥
 
-accepted_unrefused : OneOutcome → (bytes table : List ℕ) (lists : NameLists) (options : CheckOptions) → Accepts bytes lists options table → IsUnrefused bytes lists options
+pub accepted_unrefused : OneOutcome → (bytes table : List ℕ) (lists : NameLists) (options : CheckOptions) → Accepts bytes lists options table → IsUnrefused bytes lists options
 accepted_unrefused one bytes table lists options accepts told (uncheckable why) = checkable_unrefused one options.map bytes accepts.object told accepts.is accepts.checkable why
 accepted_unrefused one bytes table lists options accepts told (crowded o others is checkable unbroken has many count) =
     let same = one_object bytes o accepts.object is accepts.is in
@@ -60,7 +60,7 @@ breaks_unbroken bytes lists options o breaks is unbroken =
     let same = one_object bytes o breaks.object is breaks.is in
     (subst (λ (x : Elf). IsUnbroken (program_of (coded_by options.map x) lists) (allowances_of (coded_by options.map x) lists) options.rules) same unbroken).clean breaks.place breaks.rule breaks.a breaks.b breaks.broken
 
-broken_unrefused : OneOutcome → (bytes : List ℕ) (lists : NameLists) (options : CheckOptions) → BreaksRule bytes lists options → IsUnrefused bytes lists options
+pub broken_unrefused : OneOutcome → (bytes : List ℕ) (lists : NameLists) (options : CheckOptions) → BreaksRule bytes lists options → IsUnrefused bytes lists options
 broken_unrefused one bytes lists options breaks told (uncheckable why) = checkable_unrefused one options.map bytes breaks.object told breaks.is breaks.checkable why
 broken_unrefused one bytes lists options breaks told (crowded o others is checkable unbroken has many count) = breaks_unbroken bytes lists options o breaks is unbroken
 
@@ -96,7 +96,7 @@ told_read limit content held name r is may = subst (λ (c : Option Content). May
 same_read : (a b : List ℕ) → ◌≡◌ {A = Result (List ℕ) FileError} (Ok a) (Ok b) → a ≡ b
 same_read a b e = cc
 
-same_names : (held : Content) (names : Option (List ℕ)) (one other : NameLists) → HasNames (Some held) names one → HasNames (Some held) names other → one ≡ other
+pub same_names : (held : Content) (names : Option (List ℕ)) (one other : NameLists) → HasNames (Some held) names one → HasNames (Some held) names other → one ≡ other
 same_names held None one other h k = h ∙ sym k
 same_names held (Some file) one other h k =
     let same = same_read h.text k.text (h.may ∙ sym k.may) in
@@ -122,7 +122,7 @@ one_reading P before input names read other lists others known is h =
 abbrev Faults : Status → Type 0
 Faults x = (x ≡ status.FileFault) ⊎ (x ≡ status.NoMemory)
 
-stopped_unread : (s : Stop) (name read : List ℕ) (held : Content) (before after : Outside) (out out' : Output) (x : Status) → before.content ≡ Some held → reading held name MAX_FILE_BYTES ≡ Ok read → StopsAtRead MAX_FILE_BYTES name before after s → Concludes s out out' x → Faults x
+stopped_unread : (s : CommandStop) (name read : List ℕ) (held : Content) (before after : Outside) (out out' : Output) (x : Status) → before.content ≡ Some held → reading held name MAX_FILE_BYTES ≡ Ok read → StopsAtRead MAX_FILE_BYTES name before after s → Concludes s out out' x → Faults x
 stopped_unread (stop.Usage usage) name read held before after out out' x c is h t = absurd h
 stopped_unread (stop.Missing told) name read held before after out out' x c is h t = let u : ◌≡◌ {A = Result (List ℕ) FileError} (Err file.Missing) (Ok read) = told_read MAX_FILE_BYTES before.content held name _ c h.1 ∙ is in cc
 stopped_unread (stop.TooLong told limit) name read held before after out out' x c is h t = let u : ◌≡◌ {A = Result (List ℕ) FileError} (Err (file.TooLong MAX_FILE_BYTES)) (Ok read) = told_read MAX_FILE_BYTES before.content held name _ c h.1.1 ∙ is in cc
@@ -130,7 +130,7 @@ stopped_unread (stop.Refused refusal) name read held before after out out' x c i
 stopped_unread (stop.FileFault told) name read held before after out out' x c is h t = concluded_after_fault (stop.FileFault told) out out' x refl t
 stopped_unread stop.NoMemory name read held before after out out' x c is h t = inr (concluded_no_memory out out' x t)
 
-stopped_refused : (s : Stop) (read : List ℕ) (lists : NameLists) (options : CheckOptions) (out out' : Output) (x : Status) → IsUnrefused read lists options → IsRefusal read lists options s → Concludes s out out' x → Faults x
+stopped_refused : (s : CommandStop) (read : List ℕ) (lists : NameLists) (options : CheckOptions) (out out' : Output) (x : Status) → IsUnrefused read lists options → IsRefusal read lists options s → Concludes s out out' x → Faults x
 stopped_refused (stop.Refused told) read lists options out out' x never h t = absurd (never told h)
 stopped_refused (stop.Usage usage) read lists options out out' x never h t = absurd h
 stopped_refused (stop.Missing told) read lists options out out' x never h t = absurd h
@@ -138,7 +138,7 @@ stopped_refused (stop.TooLong told limit) read lists options out out' x never h 
 stopped_refused (stop.FileFault told) read lists options out out' x never h t = absurd h
 stopped_refused stop.NoMemory read lists options out out' x never h t = inr (concluded_no_memory out out' x t)
 
-stopped_unwritten : (s : Stop) (name : List ℕ) (before after : Outside) (out out' : Output) (x : Status) → StopsAtWrite name before after s → Concludes s out out' x → Faults x
+stopped_unwritten : (s : CommandStop) (name : List ℕ) (before after : Outside) (out out' : Output) (x : Status) → StopsAtWrite name before after s → Concludes s out out' x → Faults x
 stopped_unwritten (stop.Usage usage) name before after out out' x h t = absurd h
 stopped_unwritten (stop.Missing told) name before after out out' x h t = absurd h
 stopped_unwritten (stop.TooLong told limit) name before after out out' x h t = absurd h
@@ -149,13 +149,13 @@ stopped_unwritten stop.NoMemory name before after out out' x h t = inr (conclude
 -- ---- the names file
 
 -- a names file that is in order has no faulty line
-no_faulty_line : (text : List ℕ) (line : ℕ) (why : ListsWhy) → IsNamesFile text → IsFirstFault text line why → ⊥
+pub no_faulty_line : (text : List ℕ) (line : ℕ) (why : ListsWhy) → IsNamesFile text → IsFirstFault text line why → ⊥
 no_faulty_line text line why right h =
     let inside : line - 1 < length (lines text) = omega (arith, h.counted, h.there) in
     let same : ◌≡◌ {A = Option ListsWhy} None (Some why) = sym (right (line - 1) [] inside) ∙ h.fault in
     cc
 
-stopped_unlisted : (s : Stop) (text : List ℕ) (out out' : Output) (x : Status) → IsNamesFile text → IsListsStop text s → Concludes s out out' x → Faults x
+stopped_unlisted : (s : CommandStop) (text : List ℕ) (out out' : Output) (x : Status) → IsNamesFile text → IsListsStop text s → Concludes s out out' x → Faults x
 stopped_unlisted (stop.Refused (refusal.Lists (lists_fault.Line line why))) text out out' x right h t = absurd (no_faulty_line text line why right h)
 stopped_unlisted (stop.Refused (refusal.Lists lists_fault.NoMemory)) text out out' x right h t = absurd h
 stopped_unlisted (stop.Refused (refusal.Malformed fault)) text out out' x right h t = absurd h
@@ -173,10 +173,10 @@ stopped_unlisted (stop.Missing told) text out out' x right h t = absurd h
 stopped_unlisted (stop.TooLong told limit) text out out' x right h t = absurd h
 stopped_unlisted (stop.FileFault told) text out out' x right h t = absurd h
 
-given_names : (held : Content) (names : Option (List ℕ)) (file : List ℕ) (lists : NameLists) → names ≡ Some file → HasNames (Some held) names lists → HoldsNames (Some held) file lists
+pub given_names : (held : Content) (names : Option (List ℕ)) (file : List ℕ) (lists : NameLists) → names ≡ Some file → HasNames (Some held) names lists → HoldsNames (Some held) file lists
 given_names held names file lists is h = subst (λ (given : Option (List ℕ)). HasNames (Some held) given lists) is h
 
-stopped_by_names : (s : Stop) (names : Option (List ℕ)) (lists : NameLists) (held : Content) (before after : Outside) (out out' : Output) (x : Status) → before.content ≡ Some held → HasNames (Some held) names lists → StopsAtNames names before after s → Concludes s out out' x → Faults x
+stopped_by_names : (s : CommandStop) (names : Option (List ℕ)) (lists : NameLists) (held : Content) (before after : Outside) (out out' : Output) (x : Status) → before.content ≡ Some held → HasNames (Some held) names lists → StopsAtNames names before after s → Concludes s out out' x → Faults x
 stopped_by_names s names lists held before after out out' x c has (names_unread file is h) t =
     let given = given_names held names file lists is has in
     stopped_unread s file given.text held before after out out' x c (sym given.may) h t
@@ -187,7 +187,7 @@ stopped_by_names s names lists held before after out out' x c has (no_names file
 stopped_by_names stop.NoMemory names lists held before after out out' x c has no_lists t = inr (concluded_no_memory out out' x t)
 
 -- where the bytes are refused in no way, only faults and want of memory stop the command
-stop_faults : (s : Stop) (input output : List ℕ) (options : CheckOptions) (names : Option (List ℕ)) (read : List ℕ) (lists : NameLists) (before after : Outside) (out out' : Output) (x : Status) → IsKnown before input names read lists → IsUnrefused read lists options → Stops input output options names before after s → Concludes s out out' x → Faults x
+stop_faults : (s : CommandStop) (input output : List ℕ) (options : CheckOptions) (names : Option (List ℕ)) (read : List ℕ) (lists : NameLists) (before after : Outside) (out out' : Output) (x : Status) → IsKnown before input names read lists → IsUnrefused read lists options → Stops input output options names before after s → Concludes s out out' x → Faults x
 stop_faults s input output options names read lists before after out out' x known never (unread h kept) t = stopped_unread s input read known.held before after out out' x known.told known.is h t
 stop_faults s input output options names read lists before after out out' x known never (without_names other may h kept) t = stopped_by_names s names lists known.held before after out out' x known.told known.named h t
 stop_faults s input output options names read lists before after out out' x known never (refused other others is h kept) t =
@@ -197,7 +197,7 @@ stop_faults s input output options names read lists before after out out' x know
 -- ---- how `check` ends
 
 -- words that ask for `check` end as it does, or for want of memory
-ends_as_check : (meaning : Meaning) (input output : List ℕ) (options : CheckOptions) (names : Option (List ℕ)) (before after : Outside) (out out' : Output) (x : Status) → meaning ≡ Ok (check input output options names) → Ends meaning before after out out' x → EndsCheck input output options names before after out out' x ⊎ (x ≡ status.NoMemory)
+pub ends_as_check : (meaning : Meaning) (input output : List ℕ) (options : CheckOptions) (names : Option (List ℕ)) (before after : Outside) (out out' : Output) (x : Status) → meaning ≡ Ok (check input output options names) → Ends meaning before after out out' x → EndsCheck input output options names before after out out' x ⊎ (x ≡ status.NoMemory)
 ends_as_check meaning input output options names before after out out' x n (faulty word kind none same t) = absurd (no_fault_and_command meaning word kind _ none n)
 ends_as_check meaning input output options names before after out out' x n (unfinished same t) = inr (concluded_no_memory out out' x t)
 ends_as_check meaning input output options names before after out out' x n (shown command some shows same t) = absurd (not_text meaning command _ some n shows refl)

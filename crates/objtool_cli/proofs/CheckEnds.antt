@@ -4,7 +4,7 @@ use Rattle.std.specs.Prelude.{Option, Ok}
 use Rattle.command_base.specs.declared.status.Status.{Status}
 use Rattle.command_base.specs.declared.status.Status.TheVariants.{Done, Warnings, FileFault, SinkFault, NoMemory}
 use Rattle.command_base.specs.declared.status.Status.TheVariants as status
-use Rattle.command_base.specs.declared.stop.Stop.TheVariants as stop
+use Rattle.command_base.specs.declared.stop.CommandStop.TheVariants as stop
 use Rattle.command_base.specs.Outside.{Outside, Output}
 use Rattle.command_base.specs.Printing.{Prints, fails, fault_stays, runs_out, whole}
 use Rattle.command_base.specs.Stop.{usage_at}
@@ -17,8 +17,8 @@ use Rattle.objtool_cli.specs.Unwinding.{OutUnwinds}
 use Rattle.cli_words.specs.Grammar.{Command, check, demo, dump, help, unwind, version}
 use Rattle.cli_words.specs.declared.options.CheckOptions.{CheckOptions}
 use Rattle.objtool_cli.specs.Words.{Meaning, told_text}
-use Rattle.read_back.proofs.UnwindLaws.{unwind_no_warnings}
-use Rattle.read_back.proofs.DumpLaws.{dump_no_warnings}
+use Rattle.command_base.proofs.UnwindLaws.{unwind_no_warnings}
+use Rattle.command_base.proofs.DumpLaws.{dump_no_warnings}
 use Rattle.objtool_cli.proofs.SummaryEnds.{sums_warned}
 use Rattle.objtool_cli.proofs.SameCommand.{same_command, not_told, no_check_dump, no_check_unwind, no_check_demo}
 use Rattle.objtool_cli.proofs.StatusLemmas.{warnings_not_done, done_no_warnings, unless_told}

@@ -24,8 +24,8 @@ use Rattle.orc_bytes.proofs.OneList.{one_list_fits}
 use Rattle.command_base.specs.declared.refusal.Refusal.TheVariants as refusal
 use Rattle.command_base.specs.declared.status.Status.{Status}
 use Rattle.command_base.specs.declared.status.Status.TheVariants as status
-use Rattle.command_base.specs.declared.stop.Stop.{Stop}
-use Rattle.command_base.specs.declared.stop.Stop.TheVariants as stop
+use Rattle.command_base.specs.declared.stop.CommandStop.{CommandStop}
+use Rattle.command_base.specs.declared.stop.CommandStop.TheVariants as stop
 use Rattle.command_base.specs.Outside.{Outside, Output}
 use Rattle.command_base.specs.Printing.{Prints}
 use Rattle.command_base.specs.Reading.{MayRead}
@@ -43,7 +43,7 @@ pub names_held : {E : Type 0} (r : Result NameLists E) (content : Option Content
 names_held (Ok lists) content file text shown may same right are = record { text = text; may = may; right = subst IsNamesFile same right; are = subst (λ (t : List ℕ). lists ≡ lists_with t) same are }
 names_held (Err e) content file text shown may same right are = tt
 
-pub names_refused : {T : Type 0} (r : Result T Stop) (file text shown : List ℕ) (before after : Outside) → MayRead MAX_FILE_BYTES before.content file (Ok text) → shown ≡ text → IfErr r (IsListsStop shown) → IfErr r (StopsAtNames (Some file) before after)
+pub names_refused : {T : Type 0} (r : Result T CommandStop) (file text shown : List ℕ) (before after : Outside) → MayRead MAX_FILE_BYTES before.content file (Ok text) → shown ≡ text → IfErr r (IsListsStop shown) → IfErr r (StopsAtNames (Some file) before after)
 names_refused (Ok lists) file text shown before after may same h = tt
 names_refused (Err s) file text shown before after may same h = no_names file text refl may (subst (λ (t : List ℕ). IsListsStop t s) same h)
 
@@ -53,7 +53,7 @@ pub table_written : {T E : Type 0} (r : Result T E) (o : Elf) (rows : List Place
 table_written (Ok u) o rows output table shown before after is same h = record { table = table; is = is; written = subst (λ (bytes : List ℕ). after ≡ writing before output bytes) same h }
 table_written (Err e) o rows output table shown before after is same h = tt
 
-pub table_cut_off : {T : Type 0} (r : Result T Stop) (o : Elf) (rows : List PlacedRow) (output table : List ℕ) (before after : Outside) → IsTable o rows table → IfErr r (StopsAtWrite output before after) → OnErr r (ChangesAtMost output before.content after.content) → IfErr r (StopsAtTable o rows output before after)
+pub table_cut_off : {T : Type 0} (r : Result T CommandStop) (o : Elf) (rows : List PlacedRow) (output table : List ℕ) (before after : Outside) → IsTable o rows table → IfErr r (StopsAtWrite output before after) → OnErr r (ChangesAtMost output before.content after.content) → IfErr r (StopsAtTable o rows output before after)
 table_cut_off (Ok u) o rows output table before after is h others = tt
 table_cut_off (Err s) o rows output table before after is h others = cut_off table is h others
 
@@ -90,7 +90,7 @@ done_end input output options names read lists before after o rows told is_read 
     is_done input output options names read wrote.table lists before after o is_read is keeps (accepts o read lists options rows wrote.table is sound wrote.is)
     (record { object = o; is_object = is; unwinds = unwinds_by one_list_fits (coded_by options.map o) lists rows wrote.table unwind wrote.is.tables }) wrote.written
 
-crowd_refusal : (o : Elf) (read : List ℕ) (lists : NameLists) (options : CheckOptions) (rows : List PlacedRow) (s : Stop) → IsObject read o → IsSound o lists options rows → IsCrowded o rows s → IsRefusal read lists options s
+crowd_refusal : (o : Elf) (read : List ℕ) (lists : NameLists) (options : CheckOptions) (rows : List PlacedRow) (s : CommandStop) → IsObject read o → IsSound o lists options rows → IsCrowded o rows s → IsRefusal read lists options s
 crowd_refusal o read lists options rows (stop.Refused (refusal.TooMany counted.Symbols count)) is sound h = crowded o rows is sound.0 sound.1 sound.2 h.0 h.1
 crowd_refusal o read lists options rows (stop.Refused (refusal.TooMany counted.Sections count)) is sound h = absurd h
 crowd_refusal o read lists options rows (stop.Refused (refusal.TooMany counted.TextBytes count)) is sound h = absurd h
@@ -109,11 +109,11 @@ crowd_refusal o read lists options rows (stop.Missing file) is sound h = absurd 
 crowd_refusal o read lists options rows (stop.TooLong file limit) is sound h = absurd h
 crowd_refusal o read lists options rows (stop.FileFault file) is sound h = absurd h
 
-stop_of_table : (input output : List ℕ) (options : CheckOptions) (names : Option (List ℕ)) (read : List ℕ) (lists : NameLists) (before after : Outside) (o : Elf) (rows : List PlacedRow) (s : Stop) → IsRead before.content input names read lists → IsObject read o → IsSound o lists options rows → StopsAtTable o rows output before after s → Stops input output options names before after s
+stop_of_table : (input output : List ℕ) (options : CheckOptions) (names : Option (List ℕ)) (read : List ℕ) (lists : NameLists) (before after : Outside) (o : Elf) (rows : List PlacedRow) (s : CommandStop) → IsRead before.content input names read lists → IsObject read o → IsSound o lists options rows → StopsAtTable o rows output before after s → Stops input output options names before after s
 stop_of_table input output options names read lists before after o rows s is_read is sound (too_many h kept) = refused read lists is_read (crowd_refusal o read lists options rows s is sound h) kept
 stop_of_table input output options names read lists before after o rows s is_read is sound (cut_off table has h others) =
     unwritten table (record { read = read; lists = lists; is_read = is_read; accepts = accepts o read lists options rows table is sound has }) h others
 
-pub stopped_end : (input output : List ℕ) (options : CheckOptions) (names : Option (List ℕ)) (read : List ℕ) (lists : NameLists) (before after : Outside) (o : Elf) (rows told : List PlacedRow) (s : Stop) → IsRead before.content input names read lists → IsObject read o → IsSound o lists options rows → told ≡ rows → StopsAtTable o told output before after s → Stops input output options names before after s
+pub stopped_end : (input output : List ℕ) (options : CheckOptions) (names : Option (List ℕ)) (read : List ℕ) (lists : NameLists) (before after : Outside) (o : Elf) (rows told : List PlacedRow) (s : CommandStop) → IsRead before.content input names read lists → IsObject read o → IsSound o lists options rows → told ≡ rows → StopsAtTable o told output before after s → Stops input output options names before after s
 stopped_end input output options names read lists before after o rows told s is_read is sound same h =
     stop_of_table input output options names read lists before after o rows s is_read is sound (subst (λ (rs : List PlacedRow). StopsAtTable o rs output before after s) same h)

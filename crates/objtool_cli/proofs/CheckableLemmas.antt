@@ -6,9 +6,9 @@ use Rattle.std.proofs.Math.Path.{fun_ext}
 use Rattle.ot_base.specs.declared.row.PlacedRow.{PlacedRow}
 use Rattle.operation_defs.specs.declared.insn.Insn.{Insn}
 use Rattle.state_defs.specs.declared.state.State.{State}
-use Rattle.program_defs.specs.Program.{Program}
-use Rattle.checker_defs.specs.Kept.{AreKeptStates}
-use Rattle.checker_defs.specs.Rows.{rows_of}
+use Rattle.machine_defs.specs.Program.{Program}
+use Rattle.machine_defs.specs.Kept.{AreKeptStates}
+use Rattle.machine_defs.specs.Rows.{rows_of}
 use Rattle.elf_objects.specs.Elf.{Elf}
 use Rattle.elf_objects.specs.Object.{IsObject}
 use Rattle.elf_objects.specs.declared.fault.Counted.TheVariants as counted

@@ -4,8 +4,8 @@ use Rattle.std.specs.Prelude.{◌≢◌, ◌⊎◌, Some, None, Option, Ok}
 use Rattle.ot_files.specs.Content.{Content, ChangesAtMost, writing}
 use Rattle.command_base.specs.declared.status.Status.{Status}
 use Rattle.command_base.specs.declared.status.Status.TheVariants.{Done, FileFault, NoMemory}
-use Rattle.command_base.specs.declared.stop.Stop.{Stop}
-use Rattle.command_base.specs.declared.stop.Stop.TheVariants as stop
+use Rattle.command_base.specs.declared.stop.CommandStop.{CommandStop}
+use Rattle.command_base.specs.declared.stop.CommandStop.TheVariants as stop
 use Rattle.command_base.specs.Outside.{Outside, Output}
 use Rattle.command_base.specs.Printing.{Concludes}
 use Rattle.command_base.proofs.ConcludeLemmas.{concluded_after_fault, concluded_no_memory}
@@ -21,7 +21,7 @@ neither : (x : Status) → (x ≡ FileFault) ⊎ (x ≡ NoMemory) → x ≢ File
 neither x (inl e) f m = f e
 neither x (inr e) f m = m e
 
-write_told : (s : Stop) (name : List ℕ) (before after : Outside) (out out' : Output) (x : Status) → StopsAtWrite name before after s → Concludes s out out' x → (x ≡ FileFault) ⊎ (x ≡ NoMemory)
+write_told : (s : CommandStop) (name : List ℕ) (before after : Outside) (out out' : Output) (x : Status) → StopsAtWrite name before after s → Concludes s out out' x → (x ≡ FileFault) ⊎ (x ≡ NoMemory)
 write_told (stop.Usage usage) name before after out out' x h t = absurd h
 write_told (stop.Missing file) name before after out out' x h t = absurd h
 write_told (stop.TooLong file limit) name before after out out' x h t = absurd h
@@ -29,7 +29,7 @@ write_told (stop.Refused refusal) name before after out out' x h t = absurd h
 write_told (stop.FileFault file) name before after out out' x h t = concluded_after_fault (stop.FileFault file) out out' x refl t
 write_told stop.NoMemory name before after out out' x h t = inr (concluded_no_memory out out' x t)
 
-stop_keeps : (s : Stop) (input output : List ℕ) (options : CheckOptions) (names : Option (List ℕ)) (before after : Outside) (out out' : Output) (x : Status) → Stops input output options names before after s → Concludes s out out' x → x ≢ FileFault → x ≢ NoMemory → after.content ≡ before.content
+stop_keeps : (s : CommandStop) (input output : List ℕ) (options : CheckOptions) (names : Option (List ℕ)) (before after : Outside) (out out' : Output) (x : Status) → Stops input output options names before after s → Concludes s out out' x → x ≢ FileFault → x ≢ NoMemory → after.content ≡ before.content
 stop_keeps s input output options names before after out out' x (unread h kept) t f m = kept
 stop_keeps s input output options names before after out out' x (without_names read may h kept) t f m = kept
 stop_keeps s input output options names before after out out' x (refused read lists is_read h kept) t f m = kept
@@ -57,7 +57,7 @@ written_others output table (Some held) after is = subst (λ (c : Option Content
 abbrev Left : Meaning → Outside → Outside → Type 0
 Left meaning before after = (after.content ≡ before.content) ⊎ MayChange meaning before.content after.content
 
-stop_changes : (s : Stop) (meaning : Meaning) (input output : List ℕ) (options : CheckOptions) (names : Option (List ℕ)) (before after : Outside) → meaning ≡ Ok (check input output options names) → Stops input output options names before after s → Left meaning before after
+stop_changes : (s : CommandStop) (meaning : Meaning) (input output : List ℕ) (options : CheckOptions) (names : Option (List ℕ)) (before after : Outside) → meaning ≡ Ok (check input output options names) → Stops input output options names before after s → Left meaning before after
 stop_changes s meaning input output options names before after is (unread h kept) = inl kept
 stop_changes s meaning input output options names before after is (without_names read may h kept) = inl kept
 stop_changes s meaning input output options names before after is (refused read lists is_read h kept) = inl kept

@@ -2,7 +2,7 @@
 use Rattle.std.proofs.Common.{◌≡◌, ℕ, refl, ap, subst}
 use Rattle.std.specs.Prelude.{Ok}
 use Rattle.command_base.specs.declared.status.Status.{Status}
-use Rattle.command_base.specs.declared.stop.Stop.TheVariants as stop
+use Rattle.command_base.specs.declared.stop.CommandStop.TheVariants as stop
 use Rattle.command_base.specs.Outside.{Outside, Output}
 use Rattle.objtool_cli.specs.Command.{Ends, checked, demoed, faulty, shown, unfinished, dumped, unwound}
 use Rattle.objtool_cli.specs.Summary.{SumsUp, demo_bytes, demo_title, stopped as sums_stopped}

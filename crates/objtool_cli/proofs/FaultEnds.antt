@@ -5,8 +5,8 @@ use Rattle.ot_files.specs.Causes.{Rose}
 use Rattle.command_base.specs.declared.status.Status.{Status}
 use Rattle.command_base.specs.declared.status.Status.TheVariants.{Done, FileFault, SinkFault}
 use Rattle.command_base.specs.declared.status.Status.TheVariants as status
-use Rattle.command_base.specs.declared.stop.Stop.{Stop}
-use Rattle.command_base.specs.declared.stop.Stop.TheVariants as stop
+use Rattle.command_base.specs.declared.stop.CommandStop.{CommandStop}
+use Rattle.command_base.specs.declared.stop.CommandStop.TheVariants as stop
 use Rattle.command_base.specs.Outside.{Outside, Output}
 use Rattle.command_base.specs.Reading.{StopsAtRead}
 use Rattle.command_base.specs.Stop.{status_of, usage_at}
@@ -19,13 +19,13 @@ use Rattle.objtool_cli.specs.Writing.{StopsAtWrite}
 use Rattle.ot_base.specs.NameLists.{NameLists}
 use Rattle.cli_words.specs.declared.options.CheckOptions.{CheckOptions}
 use Rattle.objtool_cli.specs.Words.{Meaning, told_text}
-use Rattle.read_back.proofs.UnwindLaws.{unwind_fault, unwind_sink_fault}
-use Rattle.read_back.proofs.DumpLaws.{dump_fault, dump_sink_fault}
+use Rattle.command_base.proofs.UnwindLaws.{unwind_fault, unwind_sink_fault}
+use Rattle.command_base.proofs.DumpLaws.{dump_fault, dump_sink_fault}
 use Rattle.objtool_cli.proofs.SummaryEnds.{sums_no_file_fault, sums_sink_fault}
 use Rattle.objtool_cli.proofs.StatusLemmas.{no_usage_fault, no_memory_fault, done_no_fault, done_no_sink_fault, warnings_no_sink_fault}
 
 -- a stop with the status of a file's fault is one
-read_fault : (s : Stop) (name : List ℕ) (before after : Outside) → StopsAtRead MAX_FILE_BYTES name before after s → status_of s ≡ FileFault → Rose before.faults after.faults
+read_fault : (s : CommandStop) (name : List ℕ) (before after : Outside) → StopsAtRead MAX_FILE_BYTES name before after s → status_of s ≡ FileFault → Rose before.faults after.faults
 read_fault (stop.Usage usage) name before after h e = absurd h
 read_fault (stop.Missing file) name before after h e = cc
 read_fault (stop.TooLong file limit) name before after h e = cc
@@ -33,7 +33,7 @@ read_fault (stop.Refused refusal) name before after h e = absurd h
 read_fault (stop.FileFault file) name before after h e = h.1
 read_fault stop.NoMemory name before after h e = cc
 
-write_fault : (s : Stop) (name : List ℕ) (before after : Outside) → StopsAtWrite name before after s → status_of s ≡ FileFault → Rose before.faults after.faults
+write_fault : (s : CommandStop) (name : List ℕ) (before after : Outside) → StopsAtWrite name before after s → status_of s ≡ FileFault → Rose before.faults after.faults
 write_fault (stop.Usage usage) name before after h e = absurd h
 write_fault (stop.Missing file) name before after h e = absurd h
 write_fault (stop.TooLong file limit) name before after h e = absurd h
@@ -41,7 +41,7 @@ write_fault (stop.Refused refusal) name before after h e = absurd h
 write_fault (stop.FileFault file) name before after h e = h.1
 write_fault stop.NoMemory name before after h e = cc
 
-refusal_no_fault : (s : Stop) (bytes : List ℕ) (lists : NameLists) (options : CheckOptions) → IsRefusal bytes lists options s → status_of s ≢ FileFault
+refusal_no_fault : (s : CommandStop) (bytes : List ℕ) (lists : NameLists) (options : CheckOptions) → IsRefusal bytes lists options s → status_of s ≢ FileFault
 refusal_no_fault (stop.Usage usage) bytes lists options h e = absurd h
 refusal_no_fault (stop.Missing file) bytes lists options h e = absurd h
 refusal_no_fault (stop.TooLong file limit) bytes lists options h e = absurd h
@@ -50,7 +50,7 @@ refusal_no_fault (stop.FileFault file) bytes lists options h e = absurd h
 refusal_no_fault stop.NoMemory bytes lists options h e = cc
 
 -- nor is a faulty line of a names file a file's fault
-lists_no_fault : (s : Stop) (text : List ℕ) → IsListsStop text s → status_of s ≢ FileFault
+lists_no_fault : (s : CommandStop) (text : List ℕ) → IsListsStop text s → status_of s ≢ FileFault
 lists_no_fault (stop.Usage usage) text h e = absurd h
 lists_no_fault (stop.Missing file) text h e = absurd h
 lists_no_fault (stop.TooLong file limit) text h e = absurd h
@@ -58,12 +58,12 @@ lists_no_fault (stop.Refused refusal) text h e = cc
 lists_no_fault (stop.FileFault file) text h e = absurd h
 lists_no_fault stop.NoMemory text h e = cc
 
-names_fault : (s : Stop) (names : Option (List ℕ)) (before after : Outside) → StopsAtNames names before after s → status_of s ≡ FileFault → Rose before.faults after.faults
+names_fault : (s : CommandStop) (names : Option (List ℕ)) (before after : Outside) → StopsAtNames names before after s → status_of s ≡ FileFault → Rose before.faults after.faults
 names_fault s names before after (names_unread file is h) e = read_fault s file before after h e
 names_fault s names before after (no_names file text is may h) e = absurd (lists_no_fault s text h e)
 names_fault stop.NoMemory names before after no_lists e = cc
 
-stop_fault : (s : Stop) (input output : List ℕ) (options : CheckOptions) (names : Option (List ℕ)) (before after : Outside) → Stops input output options names before after s → status_of s ≡ FileFault → Rose before.faults after.faults
+stop_fault : (s : CommandStop) (input output : List ℕ) (options : CheckOptions) (names : Option (List ℕ)) (before after : Outside) → Stops input output options names before after s → status_of s ≡ FileFault → Rose before.faults after.faults
 stop_fault s input output options names before after (unread h kept) e = read_fault s input before after h e
 stop_fault s input output options names before after (without_names read may h kept) e = names_fault s names before after h e
 stop_fault s input output options names before after (refused read lists is_read h kept) e = absurd (refusal_no_fault s read lists options h e)

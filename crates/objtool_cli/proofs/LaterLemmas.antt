@@ -5,8 +5,8 @@ use Rattle.std.specs.Prelude.{Option}
 use Rattle.elf_objects.specs.declared.TheConstants.{MAX_FILE_BYTES}
 use Rattle.ot_files.specs.Causes.{Rose}
 use Rattle.ot_files.specs.Content.{Content}
-use Rattle.command_base.specs.declared.stop.Stop.{Stop}
-use Rattle.command_base.specs.declared.stop.Stop.TheVariants as stop
+use Rattle.command_base.specs.declared.stop.CommandStop.{CommandStop}
+use Rattle.command_base.specs.declared.stop.CommandStop.TheVariants as stop
 use Rattle.command_base.specs.Outside.{Outside, Output}
 use Rattle.command_base.specs.Reading.{StopsAtRead}
 use Rattle.command_base.specs.declared.status.Status.{Status}
@@ -25,7 +25,7 @@ rose_before before middle after later rose = omega arith
 pub later_still : (a b c : ℕ) → a ≤ b → b ≤ c → a ≤ c
 later_still a b c h k = omega arith
 
-read_earlier : (s : Stop) (name : List ℕ) (content : Option Content) (before middle : ℕ) (after : Outside) → before ≤ middle → StopsAtRead MAX_FILE_BYTES name (outside content middle) after s → StopsAtRead MAX_FILE_BYTES name (outside content before) after s
+read_earlier : (s : CommandStop) (name : List ℕ) (content : Option Content) (before middle : ℕ) (after : Outside) → before ≤ middle → StopsAtRead MAX_FILE_BYTES name (outside content middle) after s → StopsAtRead MAX_FILE_BYTES name (outside content before) after s
 read_earlier (stop.Usage usage) name content before middle after later h = h
 read_earlier (stop.Missing file) name content before middle after later h = h
 read_earlier (stop.TooLong file limit) name content before middle after later h = h
@@ -33,7 +33,7 @@ read_earlier (stop.Refused refusal) name content before middle after later h = h
 read_earlier (stop.FileFault file) name content before middle after later h = (h.0, rose_before before middle after.faults later h.1)
 read_earlier stop.NoMemory name content before middle after later h = h
 
-write_earlier : (s : Stop) (name : List ℕ) (content : Option Content) (before middle : ℕ) (after : Outside) → before ≤ middle → StopsAtWrite name (outside content middle) after s → StopsAtWrite name (outside content before) after s
+write_earlier : (s : CommandStop) (name : List ℕ) (content : Option Content) (before middle : ℕ) (after : Outside) → before ≤ middle → StopsAtWrite name (outside content middle) after s → StopsAtWrite name (outside content before) after s
 write_earlier (stop.Usage usage) name content before middle after later h = h
 write_earlier (stop.Missing file) name content before middle after later h = h
 write_earlier (stop.TooLong file limit) name content before middle after later h = h
@@ -41,7 +41,7 @@ write_earlier (stop.Refused refusal) name content before middle after later h = 
 write_earlier (stop.FileFault file) name content before middle after later h = (h.0, rose_before before middle after.faults later h.1)
 write_earlier stop.NoMemory name content before middle after later h = h
 
-names_earlier : (s : Stop) (names : Option (List ℕ)) (content : Option Content) (before middle : ℕ) (after : Outside) → before ≤ middle → StopsAtNames names (outside content middle) after s → StopsAtNames names (outside content before) after s
+names_earlier : (s : CommandStop) (names : Option (List ℕ)) (content : Option Content) (before middle : ℕ) (after : Outside) → before ≤ middle → StopsAtNames names (outside content middle) after s → StopsAtNames names (outside content before) after s
 names_earlier s names content before middle after later (names_unread file is h) = names_unread file is (read_earlier s file content before middle after later h)
 names_earlier s names content before middle after later (no_names file text is may h) = no_names file text is may h
 names_earlier s names content before middle after later no_lists = no_lists
@@ -50,7 +50,7 @@ names_earlier s names content before middle after later no_lists = no_lists
 done_earlier : (input output : List ℕ) (options : CheckOptions) (names : Option (List ℕ)) (content : Option Content) (before middle : ℕ) (after : Outside) → IsDone input output options names (outside content middle) after → IsDone input output options names (outside content before) after
 done_earlier input output options names content before middle after d = record { table = d.table; accepted = d.accepted; written = d.written; unwinds = d.unwinds; keeps = d.keeps }
 
-stops_earlier : (s : Stop) (input output : List ℕ) (options : CheckOptions) (names : Option (List ℕ)) (content : Option Content) (before middle : ℕ) (after : Outside) → before ≤ middle → Stops input output options names (outside content middle) after s → Stops input output options names (outside content before) after s
+stops_earlier : (s : CommandStop) (input output : List ℕ) (options : CheckOptions) (names : Option (List ℕ)) (content : Option Content) (before middle : ℕ) (after : Outside) → before ≤ middle → Stops input output options names (outside content middle) after s → Stops input output options names (outside content before) after s
 stops_earlier s input output options names content before middle after later (unread h kept) = unread (read_earlier s input content before middle after later h) kept
 stops_earlier s input output options names content before middle after later (without_names read may h kept) = without_names read may (names_earlier s names content before middle after later h) kept
 stops_earlier s input output options names content before middle after later (refused read lists is h kept) = refused read lists is h kept
@@ -64,5 +64,5 @@ ends_earlier input output options names content before middle after out out' x l
 pub ends_later : (input output : List ℕ) (options : CheckOptions) (names : Option (List ℕ)) (content middle : Option Content) (before faults : ℕ) (after : Outside) (out out' : Output) (x : Status) → middle ≡ content → before ≤ faults → EndsCheck input output options names (outside middle faults) after out out' x → EndsCheck input output options names (outside content before) after out out' x
 ends_later input output options names content middle before faults after out out' x same later h = ends_earlier input output options names content before faults after out out' x later (subst (λ (c : Option Content). EndsCheck input output options names (outside c faults) after out out' x) same h)
 
-pub names_later : (s : Stop) (names : Option (List ℕ)) (content middle : Option Content) (before faults : ℕ) (after : Outside) → middle ≡ content → before ≤ faults → StopsAtNames names (outside middle faults) after s → StopsAtNames names (outside content before) after s
+pub names_later : (s : CommandStop) (names : Option (List ℕ)) (content middle : Option Content) (before faults : ℕ) (after : Outside) → middle ≡ content → before ≤ faults → StopsAtNames names (outside middle faults) after s → StopsAtNames names (outside content before) after s
 names_later s names content middle before faults after same later h = names_earlier s names content before faults after later (subst (λ (c : Option Content). StopsAtNames names (outside c faults) after s) same h)

@@ -12,6 +12,7 @@ pub mod LaterLemmas
 pub mod ParseLemmas
 pub mod PlacementLemmas
 pub mod ReadBackEnds
+pub mod RefusalEnds
 pub mod SameCommand
 pub mod StatusLemmas
 pub mod SummaryEnds

@@ -9,8 +9,8 @@ use Rattle.elf_objects.specs.declared.fault.ElfFault.{ElfFault}
 use Rattle.elf_objects.specs.declared.fault.ElfFault.TheVariants.{Short, NotElfRel64, BadTable, BadRange, BadName, BadLink, BadSymbol, BadReloc, TooMany, NoMemory}
 use Rattle.x86_map.specs.declared.map.Map.{Map}
 use Rattle.flow_defs.specs.Coded.{coded_by}
-use Rattle.command_base.specs.declared.stop.Stop.{Stop}
-use Rattle.command_base.specs.declared.stop.Stop.TheVariants as stop
+use Rattle.command_base.specs.declared.stop.CommandStop.{CommandStop}
+use Rattle.command_base.specs.declared.stop.CommandStop.TheVariants as stop
 use Rattle.command_base.specs.Reading.{parse_stop}
 use Rattle.objtool_cli.specs.Checked.{IsRefusal, IsUnchecked, IsUncheckableStop, malformed, uncheckable, unchecked}
 
@@ -32,7 +32,7 @@ parse_uncheckable map bytes (TooMany what count) h = malformed (fault_of bytes _
 parse_uncheckable map bytes NoMemory h = tt
 
 -- what is told of an object that isn't checked is why its bytes can't be
-pub check_uncheckable : (map : Map) (bytes : List ℕ) (o : Elf) (s : Stop) → IsObject bytes o → IsUnchecked (coded_by map o) s → IsUncheckableStop map bytes s
+pub check_uncheckable : (map : Map) (bytes : List ℕ) (o : Elf) (s : CommandStop) → IsObject bytes o → IsUnchecked (coded_by map o) s → IsUncheckableStop map bytes s
 check_uncheckable map bytes o (stop.Refused refusal) is h = unchecked o is h
 check_uncheckable map bytes o stop.NoMemory is h = tt
 check_uncheckable map bytes o (stop.Usage usage) is h = absurd h
@@ -41,7 +41,7 @@ check_uncheckable map bytes o (stop.TooLong file limit) is h = absurd h
 check_uncheckable map bytes o (stop.FileFault file) is h = absurd h
 
 -- an input is refused whose bytes can't be checked
-pub uncheckable_refusal : (bytes : List ℕ) (lists : NameLists) (options : CheckOptions) (s : Stop) → IsUncheckableStop options.map bytes s → IsRefusal bytes lists options s
+pub uncheckable_refusal : (bytes : List ℕ) (lists : NameLists) (options : CheckOptions) (s : CommandStop) → IsUncheckableStop options.map bytes s → IsRefusal bytes lists options s
 uncheckable_refusal bytes lists options (stop.Refused refusal) h = uncheckable h
 uncheckable_refusal bytes lists options stop.NoMemory h = tt
 uncheckable_refusal bytes lists options (stop.Usage usage) h = absurd h

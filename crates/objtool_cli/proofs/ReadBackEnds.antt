@@ -4,7 +4,7 @@ use Rattle.std.specs.Prelude.{Some, Ok}
 use Rattle.ot_files.specs.Content.{Content, reading}
 use Rattle.command_base.specs.declared.status.Status.{Status}
 use Rattle.command_base.specs.declared.status.Status.TheVariants.{Done}
-use Rattle.command_base.specs.declared.stop.Stop.TheVariants as stop
+use Rattle.command_base.specs.declared.stop.CommandStop.TheVariants as stop
 use Rattle.command_base.specs.Outside.{Outside, Output}
 use Rattle.command_base.specs.Printing.{Concludes}
 use Rattle.command_base.proofs.ConcludeLemmas.{concluded_no_memory}
@@ -14,12 +14,12 @@ use Rattle.cli_words.specs.Grammar.{dump, unwind}
 use Rattle.objtool_cli.specs.Words.{Meaning}
 use Rattle.ot_base.specs.declared.row.PlacedRow.{PlacedRow}
 use Rattle.elf_objects.specs.Elf.{Elf}
-use Rattle.read_back.specs.Dump.{HoldsRows, IsAnswered, IsDumped}
+use Rattle.command_base.specs.Dump.{HoldsRows, IsAnswered, IsDumped}
 use Rattle.stack_image.specs.ImageFile.{StackImage}
 use Rattle.command_base.specs.declared.reading.TheConstants.{MAX_IMAGE_BYTES}
-use Rattle.read_back.specs.Unwind.{IsPlaced, IsUnwound}
-use Rattle.read_back.proofs.UnwindLaws.{unwind_left, unwound as files_unwound}
-use Rattle.read_back.proofs.DumpLaws.{dump_left, dumped as file_dumped}
+use Rattle.command_base.specs.Unwind.{IsPlaced, IsUnwound}
+use Rattle.command_base.proofs.UnwindLaws.{unwind_left, unwound as files_unwound}
+use Rattle.command_base.proofs.DumpLaws.{dump_left, dumped as file_dumped}
 use Rattle.objtool_cli.proofs.SameCommand.{same_command, no_fault_and_command, not_told, no_check_dump, no_check_unwind, no_dump_demo, no_unwind_demo, no_dump_unwind, input_of, output_of}
 use Rattle.objtool_cli.proofs.StatusLemmas.{unless_told}
 

@@ -4,8 +4,8 @@ use Rattle.std.specs.Prelude.{◌≢◌}
 use Rattle.command_base.specs.declared.status.Status.{Status}
 use Rattle.command_base.specs.declared.status.Status.TheVariants.{Done, Warnings, FileFault, SinkFault}
 use Rattle.command_base.specs.declared.status.Status.TheVariants as status
-use Rattle.command_base.specs.declared.stop.Stop.{Stop}
-use Rattle.command_base.specs.declared.stop.Stop.TheVariants as stop
+use Rattle.command_base.specs.declared.stop.CommandStop.{CommandStop}
+use Rattle.command_base.specs.declared.stop.CommandStop.TheVariants as stop
 use Rattle.command_base.specs.Outside.{Output}
 use Rattle.command_base.specs.Printing.{Concludes}
 use Rattle.command_base.specs.Stop.{status_of}
@@ -34,5 +34,5 @@ pub done_no_warnings : status.Done ≢ Warnings
 done_no_warnings e = cc
 
 -- a stop that is told is no command that is done
-pub unless_told : (s : Stop) (out out' : Output) (x : Status) → Concludes s out out' x → x ≡ Done → ⊥
+pub unless_told : (s : CommandStop) (out out' : Output) (x : Status) → Concludes s out out' x → x ≡ Done → ⊥
 unless_told s out out' x t e = concluded_not_done s out out' x t e

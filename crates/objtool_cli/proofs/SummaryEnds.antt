@@ -1,15 +1,15 @@
 -- What the status that bytes are summed up with says of why, and of what was printed.
-use Rattle.std.proofs.Common.{◌≡◌, ℕ, List, sym, ◌∙◌}
+use Rattle.std.proofs.Common.{◌≡◌, ℕ, List, sym, inl, inr, ◌∙◌}
 use Rattle.std.specs.Prelude.{◌≢◌}
 use Rattle.ot_files.specs.Causes.{Rose}
 use Rattle.ot_files.specs.Output.{appending}
 use Rattle.command_base.specs.declared.refusal.Refusal.{Refusal}
 use Rattle.command_base.specs.declared.status.Status.{Status}
 use Rattle.command_base.specs.declared.status.Status.TheVariants.{Done, Warnings, Refused, FileFault, SinkFault, NoMemory}
-use Rattle.command_base.specs.declared.stop.Stop.{Stop}
-use Rattle.command_base.specs.declared.stop.Stop.TheVariants as stop
+use Rattle.command_base.specs.declared.stop.CommandStop.{CommandStop}
+use Rattle.command_base.specs.declared.stop.CommandStop.TheVariants as stop
 use Rattle.command_base.specs.Outside.{Output}
-use Rattle.command_base.specs.Printing.{Concludes, Prints, fails, fault_stays, runs_out, silent, tells, whole}
+use Rattle.command_base.specs.Printing.{Concludes, IsOutputFault, Prints, fails, fault_stays, runs_out, silent, tells, whole}
 use Rattle.command_base.specs.Stop.{line_of, status_of}
 use Rattle.command_base.proofs.ConcludeLemmas.{concluded_fault, concluded_no_memory, concluded_no_warnings, concluded_not_done, concluded_sink_fault, printed_done, printed_fault, printed_sink_fault, printed_warnings}
 use Rattle.objtool_cli.specs.Checked.{IsUncheckable, IsUncheckableStop}
@@ -58,7 +58,7 @@ done_no_warnings e = cc
 
 -- ---- faults
 
-uncheckable_no_fault : (bytes : List ℕ) (s : Stop) → IsUncheckableStop no_options.map bytes s → status_of s ≢ FileFault
+uncheckable_no_fault : (bytes : List ℕ) (s : CommandStop) → IsUncheckableStop no_options.map bytes s → status_of s ≢ FileFault
 uncheckable_no_fault bytes (stop.Refused refusal) h e = cc
 uncheckable_no_fault bytes stop.NoMemory h e = cc
 uncheckable_no_fault bytes (stop.Usage usage) h e = absurd h
@@ -75,6 +75,11 @@ pub sums_sink_fault : (title bytes : List ℕ) (out out' : Output) (x : Status) 
 sums_sink_fault title bytes out out' x (passed counts rows p t) e = printed_sink_fault Done _ out out' x t done_plain.sink e
 sums_sink_fault title bytes out out' x (warned o warnings w t) e = printed_sink_fault Warnings _ out out' x t warnings_plain.sink e
 sums_sink_fault title bytes out out' x (stopped s h t) e = concluded_sink_fault s out out' x t e
+
+-- of the faults that may be answered where the output failed it is the output's
+pub only_sink_fault : (title bytes : List ℕ) (out out' : Output) (x : Status) → SumsUp title bytes out out' x → IsOutputFault x → x ≡ SinkFault
+only_sink_fault title bytes out out' x h (inl e) = e
+only_sink_fault title bytes out out' x h (inr e) = absurd (sums_no_file_fault title bytes out out' x h e)
 
 -- ---- what was printed
 
@@ -95,7 +100,7 @@ refusal_told told bytes out out' NoMemory h (silent is same) e = absurd (refused
 no_refusal : (out out' : Output) (x : Status) → Concludes stop.NoMemory out out' x → x ≢ Refused
 no_refusal out out' x t e = refused_plain.memory (sym e ∙ concluded_no_memory out out' x t)
 
-stop_refused : (s : Stop) (bytes : List ℕ) (out out' : Output) (x : Status) → IsUncheckableStop no_options.map bytes s → Concludes s out out' x → x ≡ Refused → PrintsRefusal bytes out.written out'.written
+stop_refused : (s : CommandStop) (bytes : List ℕ) (out out' : Output) (x : Status) → IsUncheckableStop no_options.map bytes s → Concludes s out out' x → x ≡ Refused → PrintsRefusal bytes out.written out'.written
 stop_refused (stop.Refused told) bytes out out' x h t e = refusal_told told bytes out out' x h t e
 stop_refused stop.NoMemory bytes out out' x h t e = absurd (no_refusal out out' x t e)
 stop_refused (stop.Usage usage) bytes out out' x h t e = absurd h

@@ -18,8 +18,8 @@ use Rattle.object_check.proofs.OneCount.{one_counts}
 use Rattle.command_base.specs.declared.refusal.Refusal.{Refusal}
 use Rattle.command_base.specs.declared.status.Status.{Status}
 use Rattle.command_base.specs.declared.status.Status.TheVariants.{Done, Warnings, Refused, FileFault, SinkFault, NoMemory}
-use Rattle.command_base.specs.declared.stop.Stop.{Stop}
-use Rattle.command_base.specs.declared.stop.Stop.TheVariants as stop
+use Rattle.command_base.specs.declared.stop.CommandStop.{CommandStop}
+use Rattle.command_base.specs.declared.stop.CommandStop.TheVariants as stop
 use Rattle.command_base.specs.Outside.{Output}
 use Rattle.command_base.specs.Printing.{Concludes, Prints, fails, fault_stays, runs_out, silent, tells, whole}
 use Rattle.command_base.proofs.ConcludeLemmas.{concluded_no_memory}
@@ -76,7 +76,7 @@ unprinted : (end : Status) (text : List ℕ) (out out' : Output) (x : Status) �
 unprinted end text out out' x (tells other t) = absurd (other refl)
 unprinted end text out out' NoMemory (silent is same) = nothing_printed end text out out' same
 
-passes_stop : OneOutcome → (s : Stop) (title bytes : List ℕ) (counts : CodeCounts) (rows : ℕ) (out out' : Output) (x : Status) → Passes bytes counts rows → IsUncheckableStop no_options.map bytes s → Concludes s out out' x → Prints Done (summary_line title counts rows) out out' x
+passes_stop : OneOutcome → (s : CommandStop) (title bytes : List ℕ) (counts : CodeCounts) (rows : ℕ) (out out' : Output) (x : Status) → Passes bytes counts rows → IsUncheckableStop no_options.map bytes s → Concludes s out out' x → Prints Done (summary_line title counts rows) out out' x
 passes_stop one (stop.Refused told) title bytes counts rows out out' x p h t = absurd (checkable_unrefused one no_options.map bytes p.object told p.is p.checkable h)
 passes_stop one stop.NoMemory title bytes counts rows out out' x p h t = unprinted Done _ out out' x t
 passes_stop one (stop.Usage usage) title bytes counts rows out out' x p h t = absurd h
@@ -108,7 +108,7 @@ refused_no_fault e = cc
 memory_fails : (end : Status) (out out' : Output) (x : Status) → Concludes stop.NoMemory out out' x → IsOrFails end x
 memory_fails end out out' x t = inr (inr (concluded_no_memory out out' x t))
 
-breaks_stop : OneOutcome → (s : Stop) (bytes : List ℕ) (out out' : Output) (x : Status) → BreaksRule bytes built_in no_options → IsUncheckableStop no_options.map bytes s → Concludes s out out' x → IsOrFails Warnings x
+breaks_stop : OneOutcome → (s : CommandStop) (bytes : List ℕ) (out out' : Output) (x : Status) → BreaksRule bytes built_in no_options → IsUncheckableStop no_options.map bytes s → Concludes s out out' x → IsOrFails Warnings x
 breaks_stop one (stop.Refused told) bytes out out' x b h t = absurd (checkable_unrefused one no_options.map bytes b.object told b.is b.checkable h)
 breaks_stop one stop.NoMemory bytes out out' x b h t = memory_fails Warnings out out' x t
 breaks_stop one (stop.Usage usage) bytes out out' x b h t = absurd h
@@ -125,7 +125,7 @@ refusal_ends : (told : Refusal) (out out' : Output) (x : Status) → Concludes (
 refusal_ends told out out' x (tells other t) = ends_or_fails Refused _ out out' x t refused_no_fault
 refusal_ends told out out' NoMemory (silent is same) = inr (inr refl)
 
-uncheckable_stop : (s : Stop) (bytes : List ℕ) (out out' : Output) (x : Status) → IsUncheckableStop no_options.map bytes s → Concludes s out out' x → IsOrFails Refused x
+uncheckable_stop : (s : CommandStop) (bytes : List ℕ) (out out' : Output) (x : Status) → IsUncheckableStop no_options.map bytes s → Concludes s out out' x → IsOrFails Refused x
 uncheckable_stop (stop.Refused told) bytes out out' x h t = refusal_ends told out out' x t
 uncheckable_stop stop.NoMemory bytes out out' x h t = memory_fails Refused out out' x t
 uncheckable_stop (stop.Usage usage) bytes out out' x h t = absurd h

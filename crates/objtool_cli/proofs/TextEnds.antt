@@ -4,7 +4,7 @@ use Rattle.std.specs.Prelude.{Ok, true}
 use Rattle.command_base.specs.declared.status.Status.{Status}
 use Rattle.command_base.specs.declared.status.Status.TheVariants.{Done}
 use Rattle.command_base.specs.declared.status.Status.TheVariants as status
-use Rattle.command_base.specs.declared.stop.Stop.TheVariants as stop
+use Rattle.command_base.specs.declared.stop.CommandStop.TheVariants as stop
 use Rattle.command_base.specs.Outside.{Outside, Output}
 use Rattle.command_base.specs.Printing.{Concludes, Prints, silent, tells}
 use Rattle.objtool_cli.specs.Command.{Ends, checked, demoed, faulty, shown, unfinished, dumped, unwound}

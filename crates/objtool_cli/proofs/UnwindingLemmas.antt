@@ -2,11 +2,11 @@
 use Rattle.std.proofs.Common.{ℕ, List, sym, subst}
 use Rattle.ot_base.specs.NameLists.{NameLists}
 use Rattle.ot_base.specs.declared.row.PlacedRow.{PlacedRow}
-use Rattle.walk_defs.specs.Placement.{IsPlacement}
+use Rattle.table_defs.specs.Placement.{IsPlacement}
 use Rattle.orc_bytes.specs.Laws.{OneListFits}
 use Rattle.flow_defs.specs.Coded.{Coded}
 use Rattle.object_check.specs.Unwinding.{RowsUnwind}
-use Rattle.table_output.specs.Tables.{HasTables, with_tables_object}
+use Rattle.orc_output.specs.Tables.{HasTables, with_tables_object}
 use Rattle.objtool_cli.specs.Unwinding.{UnwindsBy}
 use Rattle.objtool_cli.proofs.PlacementLemmas.{program_texts}
 

@@ -3,17 +3,17 @@ use Rattle.std.proofs.Common.{◌≡◌, ℕ, List, refl, sym, ◌∙◌, subst}
 use Rattle.std.specs.Prelude.{◌≢◌, Option}
 use Rattle.command_base.specs.declared.status.Status.{Status}
 use Rattle.command_base.specs.declared.status.Status.TheVariants as status
-use Rattle.command_base.specs.declared.stop.Stop.{Stop}
-use Rattle.command_base.specs.declared.stop.Stop.TheVariants as stop
+use Rattle.command_base.specs.declared.stop.CommandStop.{CommandStop}
+use Rattle.command_base.specs.declared.stop.CommandStop.TheVariants as stop
 use Rattle.command_base.specs.declared.usage.Usage.{Usage}
 use Rattle.command_base.specs.Outside.{Outside, Output}
 use Rattle.command_base.specs.Printing.{Concludes, Prints, fails, fault_stays, runs_out, silent, tells, whole}
 use Rattle.command_base.specs.Reading.{StopsAtRead}
 use Rattle.command_base.specs.Stop.{status_of}
-use Rattle.read_back.specs.Dump as dump
-use Rattle.read_back.specs.Dump.{Dumps, EndsDump, HoldsNoRows}
-use Rattle.read_back.specs.Unwind as unwind
-use Rattle.read_back.specs.Unwind.{EndsUnwind, HasNoWalk, Unwinds}
+use Rattle.command_base.specs.Dump as dump
+use Rattle.command_base.specs.Dump.{Dumps, EndsDump, HoldsNoRows}
+use Rattle.command_base.specs.Unwind as unwind
+use Rattle.command_base.specs.Unwind.{EndsUnwind, HasNoWalk, Unwinds}
 use Rattle.objtool_cli.specs.Checked.{IsRefusal, IsUncheckableStop}
 use Rattle.objtool_cli.specs.Command.{Ends, EndsCheck, IsFaulty, Stops, at_fault, checked, demoed, done, dumped, faulty, refused, shown, stopped, unfinished, unread, unwound, unwritten, warned, without_names}
 use Rattle.objtool_cli.specs.Lists.{IsListsStop, StopsAtNames, names_unread, no_lists, no_names}
@@ -33,10 +33,10 @@ done_not_usage : status.Done ≢ status.Usage
 done_not_usage e = cc
 
 -- the stop is no fault of the words
-abbrev IsOther : Stop → Type 0
+abbrev IsOther : CommandStop → Type 0
 IsOther s = (usage : Usage) → s ≡ stop.Usage usage → ⊥
 
-other_status : (s : Stop) → IsOther s → status_of s ≢ status.Usage
+other_status : (s : CommandStop) → IsOther s → status_of s ≢ status.Usage
 other_status (stop.Usage usage) other e = other usage refl
 other_status (stop.Missing file) other e = cc
 other_status (stop.TooLong file limit) other e = cc
@@ -44,20 +44,20 @@ other_status (stop.Refused refusal) other e = cc
 other_status (stop.FileFault file) other e = cc
 other_status stop.NoMemory other e = cc
 
-concluded_other : (s : Stop) (before after : Output) (x : Status) → Concludes s before after x → IsOther s → x ≢ status.Usage
+concluded_other : (s : CommandStop) (before after : Output) (x : Status) → Concludes s before after x → IsOther s → x ≢ status.Usage
 concluded_other s before after x (tells some t) other e = not_usage _ _ before after x t (other_status s other) e
 concluded_other s before after status.NoMemory (silent is same) other e = cc
 
-unread_other : (limit : ℕ) (name : List ℕ) (before after : Outside) (s : Stop) → StopsAtRead limit name before after s → IsOther s
-unread_other limit name before after s h usage is = subst (λ (t : Stop). StopsAtRead limit name before after t) is h
+unread_other : (limit : ℕ) (name : List ℕ) (before after : Outside) (s : CommandStop) → StopsAtRead limit name before after s → IsOther s
+unread_other limit name before after s h usage is = subst (λ (t : CommandStop). StopsAtRead limit name before after t) is h
 
 -- ---- `dump`
 
 no_rows_usage : (bytes : List ℕ) (usage : Usage) → HoldsNoRows bytes (stop.Usage usage) → ⊥
 no_rows_usage bytes usage h = elim h [ ]
 
-rows_other : (bytes : List ℕ) (s : Stop) → HoldsNoRows bytes s → IsOther s
-rows_other bytes s h usage is = no_rows_usage bytes usage (subst (λ (t : Stop). HoldsNoRows bytes t) is h)
+rows_other : (bytes : List ℕ) (s : CommandStop) → HoldsNoRows bytes s → IsOther s
+rows_other bytes s h usage is = no_rows_usage bytes usage (subst (λ (t : CommandStop). HoldsNoRows bytes t) is h)
 
 bytes_dumped : (bytes : List ℕ) (out out' : Output) (x : Status) → Dumps bytes out out' x → x ≢ status.Usage
 bytes_dumped bytes out out' x (dump.printed o rows holds t) e = not_usage _ _ out out' x t done_not_usage e
@@ -72,8 +72,8 @@ file_dumped file before after out out' x (dump.read bytes may h) e = bytes_dumpe
 no_walk_usage : (bytes text : List ℕ) (usage : Usage) → HasNoWalk bytes text (stop.Usage usage) → ⊥
 no_walk_usage bytes text usage (unwind.no_rows image is h) = no_rows_usage bytes usage h
 
-walk_other : (bytes text : List ℕ) (s : Stop) → HasNoWalk bytes text s → IsOther s
-walk_other bytes text s h usage is = no_walk_usage bytes text usage (subst (λ (t : Stop). HasNoWalk bytes text t) is h)
+walk_other : (bytes text : List ℕ) (s : CommandStop) → HasNoWalk bytes text s → IsOther s
+walk_other bytes text s h usage is = no_walk_usage bytes text usage (subst (λ (t : CommandStop). HasNoWalk bytes text t) is h)
 
 bytes_unwound : (bytes text : List ℕ) (out out' : Output) (x : Status) → Unwinds bytes text out out' x → x ≢ status.Usage
 bytes_unwound bytes text out out' x (unwind.walked image o rows frames why placed walks t) e = not_usage _ _ out out' x t done_not_usage e
@@ -89,16 +89,16 @@ memory_other usage e = cc
 
 -- ---- `check`
 
-names_other : (names : Option (List ℕ)) (before after : Outside) (s : Stop) → StopsAtNames names before after s → IsOther s
+names_other : (names : Option (List ℕ)) (before after : Outside) (s : CommandStop) → StopsAtNames names before after s → IsOther s
 names_other names before after s (names_unread file is h) = unread_other _ file before after s h
-names_other names before after s (no_names file text is may h) = λ usage same. subst (λ (t : Stop). IsListsStop text t) same h
+names_other names before after s (no_names file text is may h) = λ usage same. subst (λ (t : CommandStop). IsListsStop text t) same h
 names_other names before after stop.NoMemory no_lists = memory_other
 
-stop_other : (s : Stop) (input output : List ℕ) (options : CheckOptions) (names : Option (List ℕ)) (before after : Outside) → Stops input output options names before after s → IsOther s
+stop_other : (s : CommandStop) (input output : List ℕ) (options : CheckOptions) (names : Option (List ℕ)) (before after : Outside) → Stops input output options names before after s → IsOther s
 stop_other s input output options names before after (unread h kept) = unread_other _ input before after s h
 stop_other s input output options names before after (without_names read may h kept) = names_other names before after s h
-stop_other s input output options names before after (refused read lists is h kept) = λ usage same. subst (λ (t : Stop). IsRefusal read lists options t) same h
-stop_other s input output options names before after (unwritten table accepted h others) = λ usage same. subst (λ (t : Stop). StopsAtWrite output before after t) same h
+stop_other s input output options names before after (refused read lists is h kept) = λ usage same. subst (λ (t : CommandStop). IsRefusal read lists options t) same h
+stop_other s input output options names before after (unwritten table accepted h others) = λ usage same. subst (λ (t : CommandStop). StopsAtWrite output before after t) same h
 
 warnings_not_usage : status.Warnings ≢ status.Usage
 warnings_not_usage e = cc
@@ -113,7 +113,7 @@ check_ended input output options names before after out out' x (stopped s h t) e
 pub sums_no_usage : (title bytes : List ℕ) (out out' : Output) (x : Status) → SumsUp title bytes out out' x → x ≢ status.Usage
 sums_no_usage title bytes out out' x (sums.passed counts rows p t) e = not_usage _ _ out out' x t done_not_usage e
 sums_no_usage title bytes out out' x (sums.warned o warnings w t) e = not_usage _ _ out out' x t warnings_not_usage e
-sums_no_usage title bytes out out' x (sums.stopped s h t) e = concluded_other s out out' x t (λ usage same. subst (λ (u : Stop). IsUncheckableStop no_options.map bytes u) same h) e
+sums_no_usage title bytes out out' x (sums.stopped s h t) e = concluded_other s out out' x t (λ usage same. subst (λ (u : CommandStop). IsUncheckableStop no_options.map bytes u) same h) e
 
 pub only_faulty : (meaning : Meaning) (before after : Outside) (out out' : Output) (x : Status) → Ends meaning before after out out' x → x ≡ status.Usage → IsFaulty meaning
 only_faulty meaning before after out out' x (faulty word kind is same t) e = at_fault word kind is

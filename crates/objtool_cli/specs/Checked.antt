@@ -13,7 +13,7 @@ use Rattle.elf_objects.specs.Object.{FirstFault, IsObject}
 use Rattle.elf_objects.specs.declared.TheConstants.{MAX_SYMBOLS}
 use Rattle.x86_map.specs.declared.map.Map.{Map}
 use Rattle.x86_text.specs.declared.fault.TextFault.{TextFault}
-use Rattle.option_defs.specs.Asked.{IsWarned}
+use Rattle.machine_defs.specs.Asked.{IsWarned}
 use Rattle.flow_defs.specs.Coded.{Coded, coded_by}
 use Rattle.flow_defs.specs.Program.{program_of}
 use Rattle.point_allowances.specs.Allowances.{allowances_of}
@@ -22,16 +22,16 @@ use Rattle.object_code.specs.declared.fault_text.LinkFaultText.{LinkFaultText}
 use Rattle.object_check.specs.Order.{IsCheckable, IsCheckFault}
 use Rattle.object_check.specs.Outcome.{AreWarnings, HasRows, IsUnbroken}
 use Rattle.object_check.specs.declared.fault.CheckFault.TheVariants as fault
-use Rattle.table_output.specs.Tables.{symbols_needed}
+use Rattle.orc_output.specs.Tables.{symbols_needed}
 use Rattle.command_base.specs.declared.refusal.Refusal.{Refusal}
 use Rattle.command_base.specs.declared.refusal.Refusal.TheVariants.{Malformed, Unlinked, Unflowed, HasOrc, TooMany}
-use Rattle.command_base.specs.declared.stop.Stop.{Stop}
-use Rattle.command_base.specs.declared.stop.Stop.TheVariants.{Usage, Missing, TooLong, Refused, FileFault, NoMemory}
+use Rattle.command_base.specs.declared.stop.CommandStop.{CommandStop}
+use Rattle.command_base.specs.declared.stop.CommandStop.TheVariants.{Usage, Missing, TooLong, Refused, FileFault, NoMemory}
 use Rattle.objtool_cli.specs.Writing.{IsTable}
 
--- An input of these bytes is accepted under these lists of names and these options, and OUT is to hold the table: they are
--- an object that is checked, and whose program, by the opcode map that is asked for, breaks no rule that is; and the same with the tables of the rows of
--- its program.
+-- An input of these bytes is accepted under these lists of names and these options, and OUT is to hold the bytes `table`: the
+-- bytes are an object that is checked, whose program, read by the opcode map that the options ask for, breaks no rule that they
+-- ask for; and `table` is this object with the tables of the rows of its program.
 pub record Accepts (bytes : List ℕ) (lists : NameLists) (options : CheckOptions) (table : List ℕ) : Type 0 where
   pub object : Elf
   pub is : IsObject bytes object
@@ -76,7 +76,7 @@ TellsCheckFault o (TooMany Sections count) = IsCheckFault o (fault.TooManySectio
 TellsCheckFault o _ = ⊥
 
 -- the stop tells this, or want of memory
-abbrev pub IsUnchecked : Coded → Stop → Type 0
+abbrev pub IsUnchecked : Coded → CommandStop → Type 0
 IsUnchecked o (Refused refusal) = TellsCheckFault o refusal
 IsUnchecked o NoMemory = Unit {0}
 IsUnchecked o _ = ⊥
@@ -88,7 +88,7 @@ pub data IsUncheckable (map : Map) (bytes : List ℕ) : Refusal → Type 0 where
   unchecked : {refusal : Refusal} (o : Elf) → IsObject bytes o → TellsCheckFault (coded_by map o) refusal → IsUncheckable map bytes refusal
 
 -- the stop tells this, or want of memory
-abbrev pub IsUncheckableStop : Map → List ℕ → Stop → Type 0
+abbrev pub IsUncheckableStop : Map → List ℕ → CommandStop → Type 0
 IsUncheckableStop map bytes (Refused refusal) = IsUncheckable map bytes refusal
 IsUncheckableStop map bytes NoMemory = Unit {0}
 IsUncheckableStop map bytes _ = ⊥
@@ -108,7 +108,7 @@ pub data Refuses (bytes : List ℕ) (lists : NameLists) (options : CheckOptions)
       → Refuses bytes lists options (TooMany Symbols count)
 
 -- the stop is a refusal of these bytes, or want of memory
-abbrev pub IsRefusal : List ℕ → NameLists → CheckOptions → Stop → Type 0
+abbrev pub IsRefusal : List ℕ → NameLists → CheckOptions → CommandStop → Type 0
 IsRefusal bytes lists options (Refused refusal) = Refuses bytes lists options refusal
 IsRefusal bytes lists options NoMemory = Unit {0}
 IsRefusal bytes lists options (Usage usage) = ⊥

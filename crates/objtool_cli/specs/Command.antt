@@ -6,14 +6,14 @@ use Rattle.elf_objects.specs.Elf.{Elf}
 use Rattle.elf_objects.specs.declared.TheConstants.{MAX_FILE_BYTES}
 use Rattle.command_base.specs.declared.status.Status.{Status}
 use Rattle.command_base.specs.declared.status.Status.TheVariants as status
-use Rattle.command_base.specs.declared.stop.Stop.{Stop}
-use Rattle.command_base.specs.declared.stop.Stop.TheVariants.{Usage, NoMemory}
+use Rattle.command_base.specs.declared.stop.CommandStop.{CommandStop}
+use Rattle.command_base.specs.declared.stop.CommandStop.TheVariants.{Usage, NoMemory}
 use Rattle.command_base.specs.Outside.{Outside, Output}
 use Rattle.command_base.specs.Stop.{usage_at}
 use Rattle.command_base.specs.Printing.{Concludes, Prints}
 use Rattle.command_base.specs.Reading.{MayRead, StopsAtRead}
-use Rattle.read_back.specs.Dump.{EndsDump}
-use Rattle.read_back.specs.Unwind.{EndsUnwind}
+use Rattle.command_base.specs.Dump.{EndsDump}
+use Rattle.command_base.specs.Unwind.{EndsUnwind}
 use Rattle.objtool_cli.specs.Checked.{Accepts, IsRefusal, Warns}
 use Rattle.objtool_cli.specs.Promises.{InKeepsPromises}
 use Rattle.objtool_cli.specs.Unwinding.{OutUnwinds}
@@ -60,22 +60,22 @@ pub record IsDone (input output : List ℕ) (options : CheckOptions) (names : Op
 -- How `check` stops, and what stands then. Where IN or the names file isn't read, a line of the names file isn't in order,
 -- the bytes of IN are refused or memory runs out before OUT is written, no file has changed. Only where IN was accepted and
 -- then writing OUT didn't come to its end is it open what OUT holds; every other name holds what it held.
-pub data Stops (input output : List ℕ) (options : CheckOptions) (names : Option (List ℕ)) (before after : Outside) : Stop → Type 0 where
-  unread : {stop : Stop} → StopsAtRead MAX_FILE_BYTES input before after stop → after.content ≡ before.content → Stops input output options names before after stop
+pub data Stops (input output : List ℕ) (options : CheckOptions) (names : Option (List ℕ)) (before after : Outside) : CommandStop → Type 0 where
+  unread : {stop : CommandStop} → StopsAtRead MAX_FILE_BYTES input before after stop → after.content ≡ before.content → Stops input output options names before after stop
   without_names :
-      {stop : Stop} (read : List ℕ)
+      {stop : CommandStop} (read : List ℕ)
       → MayRead MAX_FILE_BYTES before.content input (Ok read)
       → StopsAtNames names before after stop
       → after.content ≡ before.content
       → Stops input output options names before after stop
   refused :
-      {stop : Stop} (read : List ℕ) (lists : NameLists)
+      {stop : CommandStop} (read : List ℕ) (lists : NameLists)
       → IsRead before.content input names read lists
       → IsRefusal read lists options stop
       → after.content ≡ before.content
       → Stops input output options names before after stop
   unwritten :
-      {stop : Stop} (table : List ℕ)
+      {stop : CommandStop} (table : List ℕ)
       → IsAccepted before.content input options names table
       → StopsAtWrite output before after stop
       → ChangesAtMost output before.content after.content
@@ -91,7 +91,7 @@ pub data EndsCheck (input output : List ℕ) (options : CheckOptions) (names : O
       → after.content ≡ before.content
       → Prints status.Warnings (warnings_text o warnings) out out' s
       → EndsCheck input output options names before after out out' s
-  stopped : {s : Status} (stop : Stop) → Stops input output options names before after stop → Concludes stop out out' s → EndsCheck input output options names before after out out' s
+  stopped : {s : Status} (stop : CommandStop) → Stops input output options names before after stop → Concludes stop out out' s → EndsCheck input output options names before after out out' s
 
 -- How the words end that mean this: words at fault are told, and nothing else is done; `--help` and `--version` print their texts; `demo N` sums up the object that it makes, and changes no file.
 -- Memory may run out while the words are read.

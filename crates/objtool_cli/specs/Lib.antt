@@ -2,6 +2,7 @@ pub mod Checked
 pub mod Command
 pub mod Lists
 pub mod Promises
+pub mod Refused
 pub mod Summary
 pub mod Unwinding
 pub mod Warnings

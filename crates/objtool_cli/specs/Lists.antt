@@ -6,8 +6,8 @@ use Rattle.ot_base.specs.NamesFile.{IsFirstFault, IsNamesFile}
 use Rattle.ot_base.specs.declared.lists.ListsFault.TheVariants as lists
 use Rattle.elf_objects.specs.declared.TheConstants.{MAX_FILE_BYTES}
 use Rattle.command_base.specs.declared.refusal.Refusal.TheVariants.{Lists}
-use Rattle.command_base.specs.declared.stop.Stop.{Stop}
-use Rattle.command_base.specs.declared.stop.Stop.TheVariants.{Refused, NoMemory}
+use Rattle.command_base.specs.declared.stop.CommandStop.{CommandStop}
+use Rattle.command_base.specs.declared.stop.CommandStop.TheVariants.{Refused, NoMemory}
 use Rattle.command_base.specs.Outside.{Outside}
 use Rattle.command_base.specs.Reading.{MayRead, StopsAtRead}
 
@@ -25,17 +25,17 @@ HasNames content None lists = lists ≡ built_in
 HasNames content (Some file) lists = HoldsNames content file lists
 
 -- the stop tells the first faulty line of a names file, or want of memory
-abbrev pub IsListsStop : List ℕ → Stop → Type 0
+abbrev pub IsListsStop : List ℕ → CommandStop → Type 0
 IsListsStop text (Refused (Lists (lists.Line line why))) = IsFirstFault text line why
 IsListsStop text NoMemory = Unit {0}
 IsListsStop text _ = ⊥
 
 -- A command stops so that has no lists of names: the file that is given isn't read, or a line of it isn't in order, or memory
 -- runs out.
-pub data StopsAtNames (names : Option (List ℕ)) (before after : Outside) : Stop → Type 0 where
-  names_unread : {stop : Stop} (file : List ℕ) → names ≡ Some file → StopsAtRead MAX_FILE_BYTES file before after stop → StopsAtNames names before after stop
+pub data StopsAtNames (names : Option (List ℕ)) (before after : Outside) : CommandStop → Type 0 where
+  names_unread : {stop : CommandStop} (file : List ℕ) → names ≡ Some file → StopsAtRead MAX_FILE_BYTES file before after stop → StopsAtNames names before after stop
   no_names :
-      {stop : Stop} (file text : List ℕ)
+      {stop : CommandStop} (file text : List ℕ)
       → names ≡ Some file
       → MayRead MAX_FILE_BYTES before.content file (Ok text)
       → IsListsStop text stop

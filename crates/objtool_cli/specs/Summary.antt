@@ -21,8 +21,8 @@ use Rattle.object_check.specs.declared.counts.CodeCounts.{CodeCounts}
 use Rattle.command_base.specs.declared.refusal.Refusal.{Refusal}
 use Rattle.command_base.specs.declared.status.Status.{Status}
 use Rattle.command_base.specs.declared.status.Status.TheVariants as status
-use Rattle.command_base.specs.declared.stop.Stop.{Stop}
-use Rattle.command_base.specs.declared.stop.Stop.TheVariants as stop
+use Rattle.command_base.specs.declared.stop.CommandStop.{CommandStop}
+use Rattle.command_base.specs.declared.stop.CommandStop.TheVariants as stop
 use Rattle.command_base.specs.Outside.{Output}
 use Rattle.command_base.specs.Printing.{Concludes, Prints}
 use Rattle.command_base.specs.Stop.{line_of}
@@ -63,7 +63,7 @@ pub data SumsUp (title bytes : List ℕ) (out out' : Output) : Status → Type 0
       → Warns bytes built_in no_options o warnings
       → Prints status.Warnings (warnings_text o warnings) out out' s
       → SumsUp title bytes out out' s
-  stopped : {s : Status} (stop : Stop) → IsUncheckableStop no_options.map bytes stop → Concludes stop out out' s → SumsUp title bytes out out' s
+  stopped : {s : Status} (stop : CommandStop) → IsUncheckableStop no_options.map bytes stop → Concludes stop out out' s → SumsUp title bytes out out' s
 
 -- these bytes break rules, these are all warnings, and exactly their lines were printed
 pub record PrintsWarningsOf (bytes : List ℕ) (before after : Option (List ℕ)) : Type 0 where

@@ -7,17 +7,17 @@ use Rattle.ot_base.specs.declared.row.PlacedRow.{PlacedRow}
 use Rattle.ot_files.specs.Content.{Content}
 use Rattle.machine_defs.specs.Machine.{Bases, Machine}
 use Rattle.machine_defs.specs.Run.{Run}
-use Rattle.walk_defs.specs.declared.range.Range.{Range}
-use Rattle.walk_defs.specs.Placement.{IsPlacement}
+use Rattle.table_defs.specs.declared.range.Range.{Range}
+use Rattle.table_defs.specs.Placement.{IsPlacement}
 use Rattle.elf_objects.specs.Elf.{Elf}
 use Rattle.elf_objects.specs.Object.{IsObject}
-use Rattle.elf_symbols.specs.Added.{IsAdded}
+use Rattle.elf_write.specs.AddedSymbols.{IsAdded}
 use Rattle.orc_bytes.specs.Sections.{HoldsOrc}
 use Rattle.orc_output.specs.OrcOutput.{orc_sections}
 use Rattle.table_defs.specs.Placed.{BeginAt}
 use Rattle.table_defs.specs.Walks.{WalksToFrames}
-use Rattle.table_output.specs.Needed.{needed_symbols}
-use Rattle.table_output.specs.Tables.{with_symbols, with_tables_object}
+use Rattle.orc_output.specs.Needed.{needed_symbols}
+use Rattle.orc_output.specs.Tables.{with_symbols, with_tables_object}
 use Rattle.x86_map.specs.declared.map.Map.{Map}
 use Rattle.flow_defs.specs.Coded.{Coded, coded_by}
 use Rattle.flow_defs.specs.Program.{program_of}

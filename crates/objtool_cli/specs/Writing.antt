@@ -6,10 +6,10 @@ use Rattle.ot_files.specs.Content.{Content, ChangesAtMost, writing}
 use Rattle.elf_objects.specs.Elf.{Elf}
 use Rattle.elf_objects.specs.declared.TheConstants.{MAX_SYMBOLS}
 use Rattle.elf_objects.specs.declared.fault.Counted.TheVariants.{Symbols}
-use Rattle.table_output.specs.Tables.{HasTables, symbols_needed}
+use Rattle.orc_output.specs.Tables.{HasTables, symbols_needed}
 use Rattle.command_base.specs.declared.refusal.Refusal.TheVariants.{TooMany}
-use Rattle.command_base.specs.declared.stop.Stop.{Stop}
-use Rattle.command_base.specs.declared.stop.Stop.TheVariants.{Usage, Missing, TooLong, Refused, FileFault, NoMemory}
+use Rattle.command_base.specs.declared.stop.CommandStop.{CommandStop}
+use Rattle.command_base.specs.declared.stop.CommandStop.TheVariants.{Usage, Missing, TooLong, Refused, FileFault, NoMemory}
 use Rattle.command_base.specs.Outside.{Outside}
 
 -- the tables need few enough symbols, and these bytes are the object with them
@@ -18,14 +18,14 @@ pub record IsTable (o : Elf) (rows : List PlacedRow) (table : List ℕ) : Type 0
   pub tables : HasTables o rows table
 
 -- the stop tells that the tables need too many symbols, and how many, or want of memory
-abbrev pub IsCrowded : Elf → List PlacedRow → Stop → Type 0
+abbrev pub IsCrowded : Elf → List PlacedRow → CommandStop → Type 0
 IsCrowded o rows (Refused (TooMany Symbols count)) = (MAX_SYMBOLS < symbols_needed o rows) × (count ≡ symbols_needed o rows)
 IsCrowded o rows NoMemory = Unit {0}
 IsCrowded o rows _ = ⊥
 
 -- a command stops so that can't write the file of this name: writing failed, and the count of faults rose; or memory ran
 -- out
-abbrev pub StopsAtWrite : List ℕ → Outside → Outside → Stop → Type 0
+abbrev pub StopsAtWrite : List ℕ → Outside → Outside → CommandStop → Type 0
 StopsAtWrite name before after (FileFault told) = (told.now ≡ name) × Rose before.faults after.faults
 StopsAtWrite name before after NoMemory = Unit {0}
 StopsAtWrite name before after (Usage usage) = ⊥
@@ -41,10 +41,10 @@ pub record WritesTable (o : Elf) (rows : List PlacedRow) (output : List ℕ) (be
 
 -- A command stops so that can't: too many symbols are needed, and no file has changed; or writing OUT didn't come to its
 -- end, and no other name has changed.
-pub data StopsAtTable (o : Elf) (rows : List PlacedRow) (output : List ℕ) (before after : Outside) : Stop → Type 0 where
-  crowded : {stop : Stop} → IsCrowded o rows stop → after.content ≡ before.content → StopsAtTable o rows output before after stop
+pub data StopsAtTable (o : Elf) (rows : List PlacedRow) (output : List ℕ) (before after : Outside) : CommandStop → Type 0 where
+  crowded : {stop : CommandStop} → IsCrowded o rows stop → after.content ≡ before.content → StopsAtTable o rows output before after stop
   cut_off :
-      {stop : Stop} (table : List ℕ)
+      {stop : CommandStop} (table : List ℕ)
       → IsTable o rows table
       → StopsAtWrite output before after stop
       → ChangesAtMost output before.content after.content

@@ -1,6 +1,7 @@
 //! The check of the bytes of an input.
 
-ghost use Rattle.std.specs.Prelude.{◌≡◌, ◌≤◌, Ok, length, option_map};
+ghost use Rattle.std.specs.Prelude.{◌≡◌, ◌<◌, ◌≤◌, Ok, length, option_map};
+ghost use Rattle.command_base.specs.Printing.{IsOutputFault};
 ghost use Rattle.flow_defs.specs.Coded.{coded_by};
 ghost use Rattle.x86_map.specs.declared.map.Map.{Map};
 ghost use Rattle.object_check.specs.Order.{IsCheckFault};
@@ -11,10 +12,10 @@ ghost use Rattle.objtool_cli.specs.Command.{EndsCheck, IsRead};
 use crate::warnings::print_warnings;
 use crate::words::Check;
 use crate::writing::write_table;
-use command_base::{Refusal, Status, Stop, conclude, parse_stop};
+use command_base::{CommandStop, Refusal, Status, conclude, parse_stop};
+use control_flow::FlowFaultText;
 use elf_objects::{Counted, MAX_FILE_BYTES, Object};
-use flow_faults::FlowFaultText;
-use object_check::{CheckFault, Outcome, check_object};
+use object_check::{CheckFault, ObjectVerdict, check_object};
 use object_code::{LinkFault, LinkFaultText};
 use ot_base::Lists;
 use ot_files::{Files, Sink};
@@ -41,19 +42,21 @@ fn link_text<'a>(object: &Object<'a>, fault: LinkFault) -> LinkFaultText<'a>
 }
 
 /// Why a command stops whose object isn't checked.
-pub(crate) fn check_stop<'a>(object: &Object<'a>, fault: CheckFault) -> Stop<'a>
+pub(crate) fn check_stop<'a>(object: &Object<'a>, fault: CheckFault) -> CommandStop<'a>
     requires { (map : Map) × IsCheckFault (coded_by map object.now) fault }
     ensures { (map : Map) → IsCheckFault (coded_by map object.now) fault → IsUnchecked (coded_by map object.now) result }
 {
     match fault {
-        CheckFault::Link(fault) => Stop::Refused(Refusal::Unlinked(link_text(object, fault))),
-        CheckFault::Flow(fault) => Stop::Refused(Refusal::Unflowed(FlowFaultText { fault })),
-        CheckFault::HasOrc { sec } => Stop::Refused(Refusal::HasOrc { sec }),
-        CheckFault::TooManySections { count } => Stop::Refused(Refusal::TooMany {
+        CheckFault::Link(fault) => CommandStop::Refused(Refusal::Unlinked(link_text(
+            object, fault,
+        ))),
+        CheckFault::Flow(fault) => CommandStop::Refused(Refusal::Unflowed(FlowFaultText { fault })),
+        CheckFault::HasOrc { sec } => CommandStop::Refused(Refusal::HasOrc { sec }),
+        CheckFault::TooManySections { count } => CommandStop::Refused(Refusal::TooMany {
             what: Counted::Sections,
             count,
         }),
-        CheckFault::NoMemory => Stop::NoMemory,
+        CheckFault::NoMemory => CommandStop::NoMemory,
     }
 }
 
@@ -76,6 +79,7 @@ pub fn check<F: Files, S: Sink>(
         (record { written = S.written out.new; faults = S.faults out.new }) result }
     ensures files_later { F.faults files.old ≤ F.faults files.new }
     ensures out_later { S.faults out.old ≤ S.faults out.new }
+    ensures output_failed { S.faults out.old < S.faults out.new → IsOutputFault result }
 {
     let object = match Object::parse(alloc, bytes) {
         Ok(object) => object,
@@ -88,8 +92,10 @@ pub fn check<F: Files, S: Sink>(
         lists,
         asked.options.rules,
     ) {
-        Ok(Outcome::Accepted { rows, .. }) => rows,
-        Ok(Outcome::Broken(warnings)) => return print_warnings(alloc, &object, &warnings, out),
+        Ok(ObjectVerdict::Accepted { rows, .. }) => rows,
+        Ok(ObjectVerdict::Broken(warnings)) => return print_warnings(
+            alloc, &object, &warnings, out,
+        ),
         Err(fault) => return conclude(alloc, check_stop(&object, fault), out),
     };
     match write_table(alloc, &object, &rows, asked.output, files) {

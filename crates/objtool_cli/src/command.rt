@@ -1,13 +1,13 @@
-ghost use Rattle.std.specs.Prelude.{◌≡◌, ◌≢◌, ◌⊎◌, ◌≤◌, ℕ, List, Option, Ok, Some, true, map, option_map, string_bytes};
+ghost use Rattle.std.specs.Prelude.{◌≡◌, ◌≢◌, ◌⊎◌, ◌<◌, ◌≤◌, ℕ, List, Option, Ok, Some, true, map, option_map, string_bytes};
 ghost use Rattle.ot_files.specs.Causes.{Rose};
 ghost use Rattle.ot_files.specs.Content.{Content, reading};
 ghost use Rattle.ot_base.specs.declared.row.PlacedRow.{PlacedRow};
 ghost use Rattle.elf_objects.specs.Elf.{Elf};
 ghost use Rattle.stack_image.specs.ImageFile.{StackImage};
-ghost use Rattle.read_back.specs.Dump.{HoldsRows, IsAnswered, IsDumped};
-ghost use Rattle.read_back.specs.Unwind.{IsPlaced, IsUnwound};
+ghost use Rattle.command_base.specs.Dump.{HoldsRows, IsAnswered, IsDumped};
+ghost use Rattle.command_base.specs.Unwind.{IsPlaced, IsUnwound};
 ghost use Rattle.objtool_cli.specs.Checked.{Accepts, BreaksRule};
-ghost use Rattle.command_base.specs.Printing.{Prints};
+ghost use Rattle.command_base.specs.Printing.{IsOutputFault, Prints};
 ghost use Rattle.cli_words.specs.Grammar.{Command as Meant, check, command_in, demo, dump, meaning, unwind};
 ghost use Rattle.ot_base.specs.NameLists.{NameLists};
 ghost use Rattle.cli_words.specs.declared.options.CheckOptions.{CheckOptions};
@@ -15,6 +15,8 @@ ghost use Rattle.objtool_cli.specs.Lists.{HasNames};
 ghost use Rattle.objtool_cli.specs.Words.{is_told, told_text};
 ghost use Rattle.objtool_cli.specs.Summary.{SumsUp, demo_bytes, demo_title};
 ghost use Rattle.objtool_cli.specs.Promises.{InKeepsPromises};
+ghost use Rattle.objtool_cli.specs.Refused.{IsRefused, IsRefusedOrFails, TellsRefusal};
+ghost use Rattle.command_base.specs.declared.stop.CommandStop.{CommandStop as StopValue};
 ghost use Rattle.objtool_cli.specs.Unwinding.{OutUnwinds};
 ghost use Rattle.objtool_cli.specs.Command.{Ends, EndsCheck, IsFaulty, IsUsageAnswer, MayChange, PrintsWarnings};
 
@@ -24,10 +26,11 @@ use crate::lists::read_names;
 use crate::words::Check;
 use cli_matches::{help_text, read_words, version_text};
 use cli_words::{Command, UsageFault};
-use command_base::{MAX_IMAGE_BYTES, Status, Stop, Usage, conclude, print_line, read_file};
+use command_base::{
+    CommandStop, MAX_IMAGE_BYTES, Status, Usage, conclude, dump, print_line, read_file, unwind,
+};
 use elf_objects::MAX_FILE_BYTES;
 use ot_files::{Files, Sink};
-use read_back::{dump, unwind};
 use std::alloc::Global;
 use x86_decode::one_outcome;
 
@@ -46,6 +49,7 @@ fn read_and_check<F: Files, S: Sink>(
         (record { written = S.written out.new; faults = S.faults out.new }) result }
     ensures files_later { F.faults files.old ≤ F.faults files.new }
     ensures out_later { S.faults out.old ≤ S.faults out.new }
+    ensures output_failed { S.faults out.old < S.faults out.new → IsOutputFault result }
 {
     let bytes = match read_file(alloc, asked.input, MAX_FILE_BYTES, files) {
         Ok(bytes) => bytes,
@@ -63,6 +67,7 @@ fn show<S: Sink>(text: &str, out: &mut S) -> Status
         (record { written = S.written out.old; faults = S.faults out.old })
         (record { written = S.written out.new; faults = S.faults out.new }) result }
     ensures later { S.faults out.old ≤ S.faults out.new }
+    ensures output_failed { S.faults out.old < S.faults out.new → IsOutputFault result }
 {
     print_line(Status::Done, text.as_bytes(), out)
 }
@@ -92,6 +97,7 @@ fn run_command<F: Files, S: Sink>(
         (record { written = S.written out.new; faults = S.faults out.new }) result }
     ensures files_later { F.faults files.old ≤ F.faults files.new }
     ensures out_later { S.faults out.old ≤ S.faults out.new }
+    ensures output_failed { S.faults out.old < S.faults out.new → IsOutputFault result }
 {
     match command {
         Command::Check {
@@ -130,13 +136,14 @@ fn dispatch<F: Files, S: Sink>(
         (record { written = S.written out.new; faults = S.faults out.new }) result }
     ensures files_later { F.faults files.old ≤ F.faults files.new }
     ensures out_later { S.faults out.old ≤ S.faults out.new }
+    ensures output_failed { S.faults out.old < S.faults out.new → IsOutputFault result }
 {
     match read_words(alloc, words) {
         Ok(command) => run_command(alloc, &command, files, out),
         Err(UsageFault::At { word, kind }) => {
-            conclude(alloc, Stop::Usage(Usage { word, kind }), out)
+            conclude(alloc, CommandStop::Usage(Usage { word, kind }), out)
         }
-        Err(UsageFault::NoMemory) => conclude(alloc, Stop::NoMemory, out),
+        Err(UsageFault::NoMemory) => conclude(alloc, CommandStop::NoMemory, out),
     }
 }
 
@@ -201,6 +208,13 @@ pub fn run<F: Files, S: Sink>(alloc: Global, words: &[String], files: &mut F, ou
         → BreaksRule read lists options
         → (result ≡ Status.Warnings) ⊎ ((result ≡ Status.FileFault) ⊎ ((result ≡ Status.SinkFault) ⊎ (result ≡ Status.NoMemory))) }
 
+    // Where the files tell their content: status 2 comes only where a step of the command finds a refusal, the first that fails, and
+    // exactly its line was printed. And where one does, status 2 comes, unless a fault or want of memory is answered.
+    ensures refused { (held : Content) → result ≡ Status.Refused → F.content files.old ≡ Some held
+        → TellsRefusal (meaning (map string_bytes words.now)) held (S.written out.old) (S.written out.new) }
+    ensures refuses { (held : Content) (stop : StopValue) → F.content files.old ≡ Some held
+        → IsRefused (meaning (map string_bytes words.now)) held stop → IsRefusedOrFails result }
+
     // Where `dump` is done, FILE is read as an object that holds rows, and exactly their lines were printed; and such a
     // FILE isn't refused: it is done, unless a fault or want of memory is answered.
     ensures dumps { (file : List ℕ) → result ≡ Status.Done → meaning (map string_bytes words.now) ≡ Ok (dump file)
@@ -236,6 +250,10 @@ pub fn run<F: Files, S: Sink>(alloc: Global, words: &[String], files: &mut F, ou
     ensures sink_fault { result ≡ Status.SinkFault → Rose (S.faults out.old) (S.faults out.new) }
     ensures files_later { F.faults files.old ≤ F.faults files.new }
     ensures out_later { S.faults out.old ≤ S.faults out.new }
+
+    // And where writing to the output failed, that is answered, or the fault of the file whose line was being written: no line
+    // is tried again.
+    ensures output_failed { S.faults out.old < S.faults out.new → IsOutputFault result }
 
     // A file is changed only at these answers, only where IN was accepted, and only OUT.
     ensures unchanged { result ≢ Status.Done → result ≢ Status.FileFault → result ≢ Status.NoMemory

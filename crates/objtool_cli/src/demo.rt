@@ -1,6 +1,7 @@
 //! The command `demo N`.
 
-ghost use Rattle.std.specs.Prelude.{◌≤◌};
+ghost use Rattle.std.specs.Prelude.{◌<◌, ◌≤◌};
+ghost use Rattle.command_base.specs.Printing.{IsOutputFault};
 ghost use Rattle.objtool_cli.specs.Summary.{SumsUp, demo_bytes, demo_title};
 
 use crate::summaries::summary;
@@ -16,6 +17,7 @@ pub(crate) fn demo<S: Sink>(alloc: Global, n: u32, out: &mut S) -> Status
         (record { written = S.written out.old; faults = S.faults out.old })
         (record { written = S.written out.new; faults = S.faults out.new }) result }
     ensures later { S.faults out.old ≤ S.faults out.new }
+    ensures output_failed { S.faults out.old < S.faults out.new → IsOutputFault result }
 {
     let Ok(bytes) = demo_object(alloc, n) else {
         return Status::NoMemory;

@@ -1,4 +1,5 @@
-//! The command line of objtool: what the words mean, in which order a command goes, what it prints.
+//! Runs a command over files and an output that are handed in: the steps of `check` and `demo` in their order, the lines
+//! that are printed, what is written, and the status.
 #![tactic(auto)]
 
 mod check;

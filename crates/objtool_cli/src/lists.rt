@@ -5,14 +5,14 @@ ghost use Rattle.ot_base.specs.NameLists.{lists_with};
 ghost use Rattle.ot_base.specs.NamesFile.{IsNamesFile};
 ghost use Rattle.objtool_cli.specs.Lists.{HasNames, HoldsNames, IsListsStop, StopsAtNames};
 
-use command_base::{Stop, lists_stop, read_file};
+use command_base::{CommandStop, lists_stop, read_file};
 use elf_objects::MAX_FILE_BYTES;
 use ot_base::{Lists, NoMemory};
 use ot_files::Files;
 use std::alloc::Global;
 
 /// The built-in lists with the names that the text of a names file adds, or else why a command stops.
-fn lists_of<'a>(alloc: Global, text: &[u8]) -> Result<Lists, Stop<'a>>
+fn lists_of<'a>(alloc: Global, text: &[u8]) -> Result<Lists, CommandStop<'a>>
     ensures right { OnOk result (IsNamesFile text.now) }
     ensures are { IfOk result (λ lists. lists ≡ lists_with text.now) }
     ensures stopped { IfErr result (IsListsStop text.now) }
@@ -24,7 +24,11 @@ fn lists_of<'a>(alloc: Global, text: &[u8]) -> Result<Lists, Stop<'a>>
 }
 
 /// The same of the file of this name.
-fn read_lists<'a, F: Files>(alloc: Global, file: &'a str, files: &mut F) -> Result<Lists, Stop<'a>>
+fn read_lists<'a, F: Files>(
+    alloc: Global,
+    file: &'a str,
+    files: &mut F,
+) -> Result<Lists, CommandStop<'a>>
     ensures ok { IfOk result (HoldsNames (F.content files.old) file.now) }
     ensures stopped { IfErr result (StopsAtNames (Some file.now)
         (record { content = F.content files.old; faults = F.faults files.old })
@@ -44,7 +48,7 @@ pub fn read_names<'a, F: Files>(
     alloc: Global,
     names: Option<&'a str>,
     files: &mut F,
-) -> Result<Lists, Stop<'a>>
+) -> Result<Lists, CommandStop<'a>>
     ensures ok { IfOk result (HasNames (F.content files.old) (option_map (λ file. file.now) names.entry)) }
     ensures stopped { IfErr result (StopsAtNames (option_map (λ file. file.now) names.entry)
         (record { content = F.content files.old; faults = F.faults files.old })
@@ -56,7 +60,7 @@ pub fn read_names<'a, F: Files>(
         Some(file) => read_lists(alloc, file, files),
         None => match Lists::built_in(alloc) {
             Ok(lists) => Ok(lists),
-            Err(NoMemory) => Err(Stop::NoMemory),
+            Err(NoMemory) => Err(CommandStop::NoMemory),
         },
     }
 }

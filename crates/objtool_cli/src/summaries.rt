@@ -1,13 +1,13 @@
 //! The check of bytes that no file holds, told by one line.
 
-ghost use Rattle.std.specs.Prelude.{◌≡◌, ◌≢◌, ◌≤◌, ℕ, length};
+ghost use Rattle.std.specs.Prelude.{◌≡◌, ◌≢◌, ◌<◌, ◌≤◌, ℕ, length};
 ghost use Rattle.elf_objects.specs.declared.TheConstants.{MAX_FILE_BYTES as most_bytes};
 ghost use Rattle.ot_base.specs.NameLists.{built_in};
 ghost use Rattle.ot_files.specs.Causes.{Rose};
 ghost use Rattle.object_check.specs.declared.counts.CodeCounts.{CodeCounts};
 ghost use Rattle.command_base.specs.declared.refusal.Refusal.{Refusal};
 ghost use Rattle.command_base.specs.declared.status.Status.TheVariants as status;
-ghost use Rattle.command_base.specs.Printing.{Prints};
+ghost use Rattle.command_base.specs.Printing.{IsOutputFault, Prints};
 ghost use Rattle.objtool_cli.specs.Checked.{BreaksRule, IsUncheckable};
 ghost use Rattle.objtool_cli.specs.Summary.{IsOrFails, Passes, PrintsRefusal, PrintsSummary, PrintsWarningsOf, SumsUp, no_options, summary_line};
 
@@ -16,7 +16,7 @@ use crate::warnings::print_warnings;
 use cli_words::{CheckOptions, Map};
 use command_base::{Status, conclude, parse_stop, print_line};
 use elf_objects::Object;
-use object_check::{CodeCounts, Outcome, check_object};
+use object_check::{CodeCounts, ObjectVerdict, check_object};
 use ot_base::{Lists, NoMemory, Options};
 use ot_files::Sink;
 use std::alloc::Global;
@@ -92,6 +92,7 @@ fn print_summary<S: Sink>(alloc: Global, line: SummaryLine<'_>, out: &mut S) -> 
         (record { written = S.written out.old; faults = S.faults out.old })
         (record { written = S.written out.new; faults = S.faults out.new }) result }
     ensures later { S.faults out.old ≤ S.faults out.new }
+    ensures output_failed { S.faults out.old < S.faults out.new → IsOutputFault result }
 {
     match format!(in alloc; "{line}") {
         Ok(text) => print_line(Status::Done, text.as_bytes(), out),
@@ -106,6 +107,7 @@ fn sum_up<S: Sink>(alloc: Global, title: &str, bytes: &[u8], out: &mut S) -> Sta
         (record { written = S.written out.old; faults = S.faults out.old })
         (record { written = S.written out.new; faults = S.faults out.new }) result }
     ensures later { S.faults out.old ≤ S.faults out.new }
+    ensures output_failed { S.faults out.old < S.faults out.new → IsOutputFault result }
 {
     let Ok(lists) = Lists::built_in(alloc) else {
         return Status::NoMemory;
@@ -115,12 +117,12 @@ fn sum_up<S: Sink>(alloc: Global, title: &str, bytes: &[u8], out: &mut S) -> Sta
         Err(fault) => return conclude(alloc, parse_stop(fault), out),
     };
     match check_object(alloc, NO_OPTIONS.map, &object, &lists, NO_OPTIONS.rules) {
-        Ok(Outcome::Accepted { rows, counts }) => {
+        Ok(ObjectVerdict::Accepted { rows, counts }) => {
             let rows = rows.len() as u64;
             let numbers = Numbers { counts, rows };
             print_summary(alloc, SummaryLine { title, numbers }, out)
         }
-        Ok(Outcome::Broken(warnings)) => print_warnings(alloc, &object, &warnings, out),
+        Ok(ObjectVerdict::Broken(warnings)) => print_warnings(alloc, &object, &warnings, out),
         Err(fault) => conclude(alloc, check_stop(&object, fault), out),
     }
 }
@@ -159,10 +161,12 @@ pub fn summary<S: Sink>(alloc: Global, title: &str, bytes: &[u8], out: &mut S) -
     ensures refused { result ≡ Status.Refused → PrintsRefusal bytes.now (S.written out.old) (S.written out.new) }
     ensures refuses { (refusal : Refusal) → IsUncheckable no_options.map bytes.now refusal → IsOrFails status.Refused result }
 
-    // There are no other answers; a fault of the output is answered only where its count rose, and no count falls.
+    // There are no other answers; a fault of the output is answered only where its count rose, and always where it did, and no
+    // count falls.
     ensures no_usage { result ≢ Status.Usage }
     ensures no_file_fault { result ≢ Status.FileFault }
     ensures sink_fault { result ≡ Status.SinkFault → Rose (S.faults out.old) (S.faults out.new) }
+    ensures output_failed { S.faults out.old < S.faults out.new → result ≡ Status.SinkFault }
     ensures later { S.faults out.old ≤ S.faults out.new }
 {
     one_outcome();

@@ -1,9 +1,9 @@
 //! The lines of an object's warnings.
 
-ghost use Rattle.std.specs.Prelude.{◌≡◌, ◌≤◌, IfErr, OnOk};
+ghost use Rattle.std.specs.Prelude.{◌≡◌, ◌<◌, ◌≤◌, IfErr, IsErrOf, OnOk};
 ghost use Rattle.ot_files.specs.Output.{appending};
 ghost use Rattle.command_base.specs.declared.status.Status.TheVariants as status;
-ghost use Rattle.command_base.specs.Printing.{FailsToPrint, Prints};
+ghost use Rattle.command_base.specs.Printing.{FailsToPrint, IsOutputFault, Prints};
 ghost use Rattle.objtool_cli.specs.Warnings.{line_of, warnings_text};
 
 use command_base::{Status, print_part};
@@ -24,6 +24,7 @@ fn print_warning<S: Sink>(
         (record { written = S.written out.old; faults = S.faults out.old })
         (record { written = S.written out.new; faults = S.faults out.new })) }
     ensures later { S.faults out.old ≤ S.faults out.new }
+    ensures output_failed { S.faults out.old < S.faults out.new → IsErrOf result Status.SinkFault }
 {
     line.clear();
     match warning_text(object, warning, line) {
@@ -43,6 +44,7 @@ pub fn print_warnings<S: Sink>(
         (record { written = S.written out.old; faults = S.faults out.old })
         (record { written = S.written out.new; faults = S.faults out.new }) result }
     ensures later { S.faults out.old ≤ S.faults out.new }
+    ensures output_failed { S.faults out.old < S.faults out.new → IsOutputFault result }
 {
     let mut line = Vec::new(alloc);
     for warning in warnings {

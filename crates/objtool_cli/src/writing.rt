@@ -2,34 +2,42 @@
 
 ghost use Rattle.std.specs.Prelude.{◌≡◌, ◌≤◌, IfErr, IfOk, OnErr, OnOk};
 ghost use Rattle.ot_files.specs.Content.{ChangesAtMost, writing};
-ghost use Rattle.table_output.specs.Tables.{CanHaveTables};
+ghost use Rattle.orc_output.specs.Tables.{CanHaveTables};
 ghost use Rattle.objtool_cli.specs.Writing.{IsCrowded, IsTable, StopsAtTable, StopsAtWrite, WritesTable};
 
-use command_base::{Refusal, Stop};
+use command_base::{CommandStop, Refusal};
 use elf_objects::{Counted, Object};
+use orc_output::{TableFault, with_tables};
 use ot_base::PlacedRow;
 use ot_files::{FileError, Files};
 use std::alloc::Global;
-use table_output::{TableFault, with_tables};
 
 /// The bytes of an object with the tables of these rows, or why there are none.
-fn table_of<'a>(alloc: Global, object: &Object<'_>, rows: &[PlacedRow]) -> Result<Vec<u8>, Stop<'a>>
+fn table_of<'a>(
+    alloc: Global,
+    object: &Object<'_>,
+    rows: &[PlacedRow],
+) -> Result<Vec<u8>, CommandStop<'a>>
     requires { CanHaveTables object.now rows.now }
     ensures table { IfOk result (λ table. IsTable object.now rows.now table.items) }
     ensures crowded { IfErr result (IsCrowded object.now rows.now) }
 {
     match with_tables(alloc, object, rows) {
         Ok(table) => Ok(table),
-        Err(TableFault::TooManySymbols { count }) => Err(Stop::Refused(Refusal::TooMany {
+        Err(TableFault::TooManySymbols { count }) => Err(CommandStop::Refused(Refusal::TooMany {
             what: Counted::Symbols,
             count,
         })),
-        Err(TableFault::NoMemory) => Err(Stop::NoMemory),
+        Err(TableFault::NoMemory) => Err(CommandStop::NoMemory),
     }
 }
 
 /// Makes the file of this name hold these bytes, or tells why a command stops that can't.
-fn write_file<'a, F: Files>(file: &'a str, bytes: &[u8], files: &mut F) -> Result<(), Stop<'a>>
+fn write_file<'a, F: Files>(
+    file: &'a str,
+    bytes: &[u8],
+    files: &mut F,
+) -> Result<(), CommandStop<'a>>
     ensures written { OnOk result (F.content files.new ≡ writing (F.content files.old) file.now bytes.now) }
     ensures stopped { IfErr result (StopsAtWrite file.now
         (record { content = F.content files.old; faults = F.faults files.old })
@@ -39,8 +47,8 @@ fn write_file<'a, F: Files>(file: &'a str, bytes: &[u8], files: &mut F) -> Resul
 {
     match files.write(file, bytes) {
         Ok(()) => Ok(()),
-        Err(FileError::NoMemory) => Err(Stop::NoMemory),
-        Err(FileError::Failed) => Err(Stop::FileFault { file }),
+        Err(FileError::NoMemory) => Err(CommandStop::NoMemory),
+        Err(FileError::Failed) => Err(CommandStop::FileFault { file }),
         // No write answers these.
         Err(FileError::Missing) => unreachable!(),
         Err(FileError::TooLong { .. }) => unreachable!(),
@@ -54,7 +62,7 @@ pub fn write_table<'a, F: Files>(
     rows: &[PlacedRow],
     output: &'a str,
     files: &mut F,
-) -> Result<(), Stop<'a>>
+) -> Result<(), CommandStop<'a>>
     requires { CanHaveTables object.now rows.now }
     ensures written { OnOk result (WritesTable object.now rows.now output.now (F.content files.old) (F.content files.new)) }
     ensures stopped { IfErr result (StopsAtTable object.now rows.now output.now

@@ -1,6 +1,5 @@
-//! Programs of a few points for each rule that an option asks for: one that breaks the rule, whose run breaks the
-//! option's promise, and beside it the same with the least repair, whose run keeps it; and programs that break a rule
-//! by which no run of them goes wrong. Warnings and runs are written by hand.
+//! Tests of the rules that options ask for: for each a program that breaks it, whose run breaks the option's promise,
+//! beside the same with the least repair. Warnings and runs are written by hand.
 #![tactic(auto)]
 
 #[cfg(test)]

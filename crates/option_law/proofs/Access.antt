@@ -2,18 +2,18 @@
 use Rattle.std.proofs.Common.{◌≡◌, ℕ, Bool, false, List, ◌∷◌, ℤ, refl, subst}
 use Rattle.ot_base.specs.declared.place.Place.{Place}
 use Rattle.state_defs.specs.Frame.{Frame}
-use Rattle.program_defs.specs.Program.{Program}
-use Rattle.program_defs.specs.IsProgram.{IsProgram}
+use Rattle.machine_defs.specs.Program.{Program}
+use Rattle.machine_defs.specs.IsProgram.{IsProgram}
 use Rattle.machine_defs.specs.Machine.{Bases, IsPlacement, Standing, Machine, Wrecked, At}
 use Rattle.machine_defs.specs.Hint.{Lands}
 use Rattle.machine_defs.specs.Step.{Step, goes_on, faults, calls_in, calls_out, returns, tail_calls, wrecks, interrupted, irets}
 use Rattle.machine_defs.specs.Run.{Run, started}
 use Rattle.machine_defs.specs.Run as run
 use Rattle.machine_defs.specs.Law.{IsInOrder, UnwindingLaw}
-use Rattle.checker_defs.specs.Broken.{IsAccepted}
-use Rattle.option_defs.specs.Allowances.{Allowances, HasFunctions}
-use Rattle.option_defs.specs.Access.{entered, hinted}
-use Rattle.option_defs.specs.AccessRules.{AccessWarns}
+use Rattle.machine_defs.specs.Broken.{IsAccepted}
+use Rattle.machine_defs.specs.Allowances.{Allowances, EntersFunctions}
+use Rattle.machine_defs.specs.Access.{entered, hinted}
+use Rattle.machine_defs.specs.AccessRules.{AccessWarns}
 use Rattle.option_law.specs.Access.{is_interrupt, homes_after, top_of, TakesSmap, AccessRun, at_entry, at_hint, stepped, IsAccessKept, AccessLaw}
 use Rattle.option_law.proofs.Clean.{accepted, keeps_access}
 use Rattle.option_law.proofs.Home.{AreAtHome, at_top, reached_on, stays_off, left_home}
@@ -32,7 +32,7 @@ forgotten p allowed bases m homes (at_entry s entry start stack c d taken now) =
 forgotten p allowed bases m homes (at_hint s hint start stack h free now) = started s start stack
 forgotten p allowed bases m homes (stepped k n hs r step quiet taken stays) = run.stepped k n (forgotten p allowed bases k hs r) step stays
 
-module _ (law : UnwindingLaw) (p : Program) (allowed : Allowances) (bases : Bases) (is : IsProgram p) (functions : HasFunctions p) (placed : IsPlacement p bases) (acc : IsAccepted p) (fine : (place : Place) (rule : ℕ) (a b : ℤ) → AccessWarns p allowed place rule a b → ⊥) where
+module _ (law : UnwindingLaw) (p : Program) (allowed : Allowances) (bases : Bases) (is : IsProgram p) (functions : EntersFunctions p) (placed : IsPlacement p bases) (acc : IsAccepted p) (fine : (place : Place) (rule : ℕ) (a b : ℤ) → AccessWarns p allowed place rule a b → ⊥) where
   in_order : (m : Machine) (homes : List Bool) → AccessRun p allowed bases m homes → IsInOrder p bases m
   in_order m homes r = law p bases is placed acc m (forgotten p allowed bases m homes r)
 

@@ -1,10 +1,10 @@
 -- No run comes to a branch that isn't listed as safe.
 use Rattle.ot_base.specs.declared.options.Options.{Options}
-use Rattle.program_defs.specs.Program.{Program}
+use Rattle.machine_defs.specs.Program.{Program}
 use Rattle.machine_defs.specs.Machine.{Machine, Wrecked, At, Bases}
 use Rattle.machine_defs.specs.Law.{IsInOrder, UnwindingLaw}
-use Rattle.option_defs.specs.Allowances.{Allowances}
-use Rattle.option_defs.specs.Asked.{IsClean, indirect_branch, naked_return}
+use Rattle.machine_defs.specs.Allowances.{Allowances}
+use Rattle.machine_defs.specs.Asked.{IsClean, indirect_branch, naked_return}
 use Rattle.option_law.specs.Branches.{BranchesSafely, BranchLaw}
 use Rattle.option_law.proofs.Clean.{unless_false, accepted}
 

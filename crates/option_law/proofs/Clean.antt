@@ -2,11 +2,11 @@
 use Rattle.std.proofs.Common.{◌≡◌, ℕ, Bool, true, false, ℤ, refl}
 use Rattle.ot_base.specs.declared.place.Place.{Place}
 use Rattle.ot_base.specs.declared.options.Options.{Options}
-use Rattle.program_defs.specs.Program.{Program}
-use Rattle.checker_defs.specs.Broken.{IsAccepted, always}
-use Rattle.option_defs.specs.Allowances.{Allowances}
-use Rattle.option_defs.specs.AccessRules.{AccessWarns}
-use Rattle.option_defs.specs.Asked.{IsClean, of_stack, of_access}
+use Rattle.machine_defs.specs.Program.{Program}
+use Rattle.machine_defs.specs.Broken.{IsAccepted, always}
+use Rattle.machine_defs.specs.Allowances.{Allowances}
+use Rattle.machine_defs.specs.AccessRules.{AccessWarns}
+use Rattle.machine_defs.specs.Asked.{IsClean, of_stack, of_access}
 
 -- what isn't false is true
 pub unless_false : (b : Bool) → (b ≡ false → ⊥) → b ≡ true

@@ -2,8 +2,8 @@
 use Rattle.std.proofs.Common.{◌≡◌, ◌≢◌, ℕ, Bool, true, false, List, [], ◌∷◌, Option, Some, None, MatchBool, refl, sym, ap, ◌∙◌, subst}
 use Rattle.operation_defs.specs.declared.op.Op.{Op}
 use Rattle.operation_defs.specs.declared.op.Op.TheVariants.{Plain, Nop, Endbr, Push, PushBp, Pop, PopBp, Popf, AddSp, AndSp, LeaSpBp, LeaBpSp, StoreBp, LoadBp, Leave, SpOther, BpOther, Call, CallInd, Jmp, Jcc, JmpInd, Ret, RetImm, Iret, IretNext, Switch, Ud2, Int3, Stac, Clac}
-use Rattle.program_defs.specs.declared.flow.EdgeKind.{EdgeKind}
-use Rattle.program_defs.specs.declared.flow.EdgeKind.TheVariants.{Next, Taken, Fixup, Table, Sibling}
+use Rattle.machine_defs.specs.declared.flow.EdgeKind.{EdgeKind}
+use Rattle.machine_defs.specs.declared.flow.EdgeKind.TheVariants.{Next, Taken, Fixup, Table, Sibling}
 use Rattle.state_defs.specs.declared.state.State.{State}
 use Rattle.state_defs.specs.declared.state.State.TheVariants.{Live, Ended, Regs}
 use Rattle.state_defs.specs.declared.state.HintState.{HintState}
@@ -11,10 +11,10 @@ use Rattle.state_defs.specs.declared.state.HintState.TheVariants.{Set, Save, Res
 use Rattle.state_defs.specs.Address.{shifted}
 use Rattle.state_defs.specs.Frame.{is_of_call, Frame, with_top_slot, after_save}
 use Rattle.state_defs.specs.Effect.{Core, StoresOrdinarily, store_saves, Effect}
-use Rattle.program_defs.specs.Program.{Program, is_call_op, is_local}
+use Rattle.machine_defs.specs.Program.{Program, is_call_op, is_local}
 use Rattle.machine_defs.specs.Machine.{Standing}
 use Rattle.machine_defs.specs.Hint.{IsInInterrupt, hinted_slot, SetsState, Hinted, Lands}
-use Rattle.option_defs.specs.Access.{access_after, access_along}
+use Rattle.machine_defs.specs.Access.{access_after, access_along}
 use Rattle.unwinding_law.proofs.Shadow.{IsSlotChange, no_frame, top}
 use Rattle.unwinding_law.proofs.Passes.{same_frames}
 

@@ -17,14 +17,14 @@ use Rattle.state_defs.specs.Effect.{Core}
 use Rattle.state_defs.specs.State.{ended_by, Means, MeansTop}
 use Rattle.state_defs.specs.Move.{int_same}
 use Rattle.state_defs.specs.Rules.{has_frame}
-use Rattle.program_defs.specs.Program.{Program, is_call_op}
+use Rattle.machine_defs.specs.Program.{Program, is_call_op}
 use Rattle.machine_defs.specs.Machine.{Bases, Standing, Machine, Wrecked, At}
 use Rattle.machine_defs.specs.Law.{HasRunInvariant, IsInOrder, UnwindingLaw}
-use Rattle.checker_defs.specs.Kept.{Kept}
-use Rattle.checker_defs.specs.Broken.{without_frame}
+use Rattle.machine_defs.specs.Kept.{Kept}
+use Rattle.machine_defs.specs.Broken.{without_frame}
 use Rattle.stack_state.proofs.Consistent.{int_same_is}
-use Rattle.option_defs.specs.Allowances.{Allowances}
-use Rattle.option_defs.specs.Asked.{IsClean, of_stack}
+use Rattle.machine_defs.specs.Allowances.{Allowances}
+use Rattle.machine_defs.specs.Asked.{IsClean, of_stack}
 use Rattle.option_law.specs.Frames.{HasFramePointer, CallsWithFrame, FrameLaw}
 use Rattle.option_law.proofs.Clean.{accepted}
 

@@ -2,16 +2,16 @@
 use Rattle.std.proofs.Common.{◌≡◌, ◌≢◌, ℕ, Bool, true, false, List, [], ◌∷◌, Some, Contains, ℤ, refl, sym, ◌∙◌, subst}
 use Rattle.operation_defs.specs.declared.op.Op.{Op}
 use Rattle.operation_defs.specs.declared.op.Op.TheVariants.{Stac, Clac, Popf}
-use Rattle.program_defs.specs.declared.flow.EdgeKind.{EdgeKind}
-use Rattle.program_defs.specs.declared.flow.EdgeKind.TheVariants.{Sibling}
+use Rattle.machine_defs.specs.declared.flow.EdgeKind.{EdgeKind}
+use Rattle.machine_defs.specs.declared.flow.EdgeKind.TheVariants.{Sibling}
 use Rattle.state_defs.specs.Frame.{is_of_call, Frame}
-use Rattle.program_defs.specs.Program.{Program, edge}
+use Rattle.machine_defs.specs.Program.{Program, edge}
 use Rattle.ot_base.specs.declared.place.Place.{Place}
-use Rattle.checker_defs.specs.Kept.{edges_of}
-use Rattle.option_defs.specs.Allowances.{Allowances}
-use Rattle.option_defs.specs.Access.{Reached, access_after, access_along}
-use Rattle.option_defs.specs.Access as access
-use Rattle.option_defs.specs.AccessRules.{Leaves, AccessWarns, return_with_access, return_without_access, on_twice, safe_turns_off, popf}
+use Rattle.machine_defs.specs.Kept.{edges_of}
+use Rattle.machine_defs.specs.Allowances.{Allowances}
+use Rattle.machine_defs.specs.Access.{Reached, access_after, access_along}
+use Rattle.machine_defs.specs.Access as access
+use Rattle.machine_defs.specs.AccessRules.{Leaves, AccessWarns, return_with_access, return_without_access, on_twice, safe_turns_off, popf}
 use Rattle.option_law.specs.Access.{below_top, top_of}
 use Rattle.unwinding_law.proofs.Shadow.{IsSlotChange, no_frame, top}
 

@@ -1,20 +1,20 @@
 -- Each step keeps the frames at home.
 use Rattle.std.proofs.Common.{◌≡◌, ℕ, Bool, true, false, List, [], ◌∷◌, MatchBool, ℤ, refl, sym, ap, ◌∙◌, subst}
 use Rattle.ot_base.specs.declared.place.Place.{Place}
-use Rattle.program_defs.specs.declared.flow.EdgeKind.TheVariants.{Next, Fixup}
+use Rattle.machine_defs.specs.declared.flow.EdgeKind.TheVariants.{Next, Fixup}
 use Rattle.state_defs.specs.Frame.{Slot, Frame}
 use Rattle.state_defs.specs.Effect.{Core}
-use Rattle.program_defs.specs.Program.{Program, is_call}
-use Rattle.program_defs.specs.IsProgram.{IsProgram}
-use Rattle.program_defs.specs.MayReturn.{target_may_return}
+use Rattle.machine_defs.specs.Program.{Program, is_call}
+use Rattle.machine_defs.specs.IsProgram.{IsProgram}
+use Rattle.machine_defs.specs.MayReturn.{target_may_return}
 use Rattle.machine_defs.specs.Machine.{Bases, Standing, point_address, return_address}
 use Rattle.machine_defs.specs.Step.{GoesOn, Faults, CallsIn, CallsOut, Returns, TailCalls, ReturnsFromInterrupt, call_frame}
 use Rattle.machine_defs.specs.Run.{outermost, StartsFrom, Start, at_entry, at_call_hint, at_regs_hint, at_end_hint}
 use Rattle.machine_defs.specs.Law.{AreFrames, HasRunInvariant, HasFrameInvariant}
-use Rattle.checker_defs.specs.Broken.{IsAccepted}
-use Rattle.option_defs.specs.Allowances.{Allowances, HasFunctions, is_safe}
-use Rattle.option_defs.specs.Access.{Reached, entered}
-use Rattle.option_defs.specs.AccessRules.{AccessWarns}
+use Rattle.machine_defs.specs.Broken.{IsAccepted}
+use Rattle.machine_defs.specs.Allowances.{Allowances, EntersFunctions, is_safe}
+use Rattle.machine_defs.specs.Access.{Reached, entered}
+use Rattle.machine_defs.specs.AccessRules.{AccessWarns}
 use Rattle.option_law.specs.Access.{below_top, top_of}
 use Rattle.unwinding_law.proofs.Shadow.{effect_shape, effect_no_call}
 use Rattle.unwinding_law.proofs.Passes.{same_frames, out_calls}
@@ -65,7 +65,7 @@ module _ (p : Program) (allowed : Allowances) (bases : Bases) where
   start_here s home (at_regs_hint t s2 full depth may h was from) r now = one_here t s home from r now was.ra was.cfa was.bp was.slot was.shadow
   start_here s home (at_end_hint t s2 kind may h empty from) r now = none_here t s home from r now empty
 
-module _ (p : Program) (allowed : Allowances) (bases : Bases) (is : IsProgram p) (acc : IsAccepted p) (functions : HasFunctions p) (fine : (place : Place) (rule : ℕ) (a b : ℤ) → AccessWarns p allowed place rule a b → ⊥) (s t : Standing) (r : HasRunInvariant p s) (f : HasFrameInvariant p bases s) (homes : List Bool) (h : AreHere p allowed s homes) where
+module _ (p : Program) (allowed : Allowances) (bases : Bases) (is : IsProgram p) (acc : IsAccepted p) (functions : EntersFunctions p) (fine : (place : Place) (rule : ℕ) (a b : ℤ) → AccessWarns p allowed place rule a b → ⊥) (s t : Standing) (r : HasRunInvariant p s) (f : HasFrameInvariant p bases s) (homes : List Bool) (h : AreHere p allowed s homes) where
   here : (made : Bool) × IsAtHome p allowed s.point s.core.ac made (top_of homes)
   here = at_top p allowed s.point s.core.ac s.core.shadow homes h
 

@@ -1,20 +1,20 @@
 -- Where calls and jumps to other functions lead, with user access on.
 use Rattle.std.proofs.Common.{◌≡◌, ℕ, Bool, true, false, Contains, ℤ, refl, sym, ap, ◌∙◌, subst}
 use Rattle.ot_base.specs.declared.place.Place.{Place}
-use Rattle.program_defs.specs.declared.flow.Edge.{Edge}
-use Rattle.program_defs.specs.declared.flow.EdgeKind.TheVariants.{Sibling}
-use Rattle.program_defs.specs.declared.flow.Role.{Role}
-use Rattle.program_defs.specs.declared.flow.Role.TheVariants.{Plain, CallIn, CallEither, CallOut, CallAny, Return, JumpOut, JumpAny, Switch}
-use Rattle.program_defs.specs.Program.{Program, IsPoint, entry_points, edge}
-use Rattle.program_defs.specs.IsProgram.{IsProgram}
+use Rattle.machine_defs.specs.declared.flow.Edge.{Edge}
+use Rattle.machine_defs.specs.declared.flow.EdgeKind.TheVariants.{Sibling}
+use Rattle.machine_defs.specs.declared.flow.Role.{Role}
+use Rattle.machine_defs.specs.declared.flow.Role.TheVariants.{Plain, CallIn, CallEither, CallOut, CallAny, Return, JumpOut, JumpAny, Switch}
+use Rattle.machine_defs.specs.Program.{Program, IsPoint, entry_points, edge}
+use Rattle.machine_defs.specs.IsProgram.{IsProgram}
 use Rattle.machine_defs.specs.Step.{may_leave, MayCall, JumpsTo, sibling, indirect}
-use Rattle.checker_defs.specs.Kept.{can_go, edges_of}
-use Rattle.checker_defs.specs.Broken.{LeavesByJump}
-use Rattle.checker_defs.specs.Broken as broken
-use Rattle.option_defs.specs.Allowances.{Allowances, HasFunctions, is_safe, is_safe_owner}
-use Rattle.option_defs.specs.Access.{Reached, entered}
-use Rattle.option_defs.specs.AccessRules.{CallsUnsafe, Leaves, by_return, by_jump, AccessWarns, call_with_access}
-use Rattle.option_defs.specs.AccessRules as rules
+use Rattle.machine_defs.specs.Kept.{can_go, edges_of}
+use Rattle.machine_defs.specs.Broken.{LeavesByJump}
+use Rattle.machine_defs.specs.Broken as broken
+use Rattle.machine_defs.specs.Allowances.{Allowances, EntersFunctions, is_safe, is_safe_owner}
+use Rattle.machine_defs.specs.Access.{Reached, entered}
+use Rattle.machine_defs.specs.AccessRules.{CallsUnsafe, Leaves, by_return, by_jump, AccessWarns, call_with_access}
+use Rattle.machine_defs.specs.AccessRules as rules
 use Rattle.option_law.specs.Access.{HasSafeTarget}
 use Rattle.unwinding_law.proofs.Lists.{in_filter}
 use Rattle.option_law.proofs.Clean.{unless_false}
@@ -47,7 +47,7 @@ module _ (p : Program) (is : IsProgram p) where
   jump_leaves q r (sibling r2 c) = by_jump (broken.sibling r (sibling_edge p q r c))
   jump_leaves q r (indirect r2 entry role c d) = by_jump (broken.anywhere role)
 
-module _ (p : Program) (allowed : Allowances) (is : IsProgram p) (functions : HasFunctions p) where
+module _ (p : Program) (allowed : Allowances) (is : IsProgram p) (functions : EntersFunctions p) where
   -- control that comes to an entry stands in its function
   pub reached_entry : (entry q : ℕ) → Contains p.entries entry → Contains (entry_points p entry) q → allowed.lacks_smap q ≡ false → Reached p allowed q (is_safe p allowed q) (is_safe p allowed q)
   reached_entry entry q c d taken =

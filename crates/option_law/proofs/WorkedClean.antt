@@ -3,20 +3,20 @@ use Rattle.std.proofs.Common.{◌≡◌, ℕ, suc, ◌⊎◌, Bool, true, false,
 use Rattle.ot_base.specs.declared.place.Place.{Place}
 use Rattle.operation_defs.specs.declared.op.Op.{Op}
 use Rattle.operation_defs.specs.declared.op.Op.TheVariants.{Stac, Clac, Popf}
-use Rattle.program_defs.specs.declared.flow.Edge.{Edge}
-use Rattle.program_defs.specs.declared.flow.EdgeKind.TheVariants.{Next, Sibling}
-use Rattle.program_defs.specs.declared.flow.Role.TheVariants.{CallIn, CallEither, CallOut, CallAny}
+use Rattle.machine_defs.specs.declared.flow.Edge.{Edge}
+use Rattle.machine_defs.specs.declared.flow.EdgeKind.TheVariants.{Next, Sibling}
+use Rattle.machine_defs.specs.declared.flow.Role.TheVariants.{CallIn, CallEither, CallOut, CallAny}
 use Rattle.state_defs.specs.Rules.{call_rule}
-use Rattle.program_defs.specs.Program.{edge, is_call_op}
-use Rattle.checker_defs.specs.Kept.{can_go}
-use Rattle.checker_defs.specs.Broken.{IsBroken, always, unreachable, without_frame}
-use Rattle.option_defs.specs.Allowances.{is_safe}
-use Rattle.option_defs.specs.Access.{access_along, Reached, entered, hinted}
-use Rattle.option_defs.specs.Access as access
-use Rattle.option_defs.specs.AccessRules.{CallsUnsafe, Leaves, by_return, by_jump, AccessWarns}
-use Rattle.option_defs.specs.AccessRules as rules
-use Rattle.option_defs.specs.Asked.{is_indirect_branch, IsWarned, of_stack, indirect_branch, naked_return, of_access, IsClean}
-use Rattle.option_defs.specs.Asked as asked
+use Rattle.machine_defs.specs.Program.{edge, is_call_op}
+use Rattle.machine_defs.specs.Kept.{can_go}
+use Rattle.machine_defs.specs.Broken.{IsBroken, always, unreachable, without_frame}
+use Rattle.machine_defs.specs.Allowances.{is_safe}
+use Rattle.machine_defs.specs.Access.{access_along, Reached, entered, hinted}
+use Rattle.machine_defs.specs.Access as access
+use Rattle.machine_defs.specs.AccessRules.{CallsUnsafe, Leaves, by_return, by_jump, AccessWarns}
+use Rattle.machine_defs.specs.AccessRules as rules
+use Rattle.machine_defs.specs.Asked.{is_indirect_branch, IsWarned, of_stack, indirect_branch, naked_return, of_access, IsClean}
+use Rattle.machine_defs.specs.Asked as asked
 use Rattle.unwinding_law.proofs.Elements.{each, none, one, two}
 use Rattle.unwinding_law.proofs.Lists.{from_filter}
 use Rattle.unwinding_law.proofs.WorkedProgram.{never, is_return, is_jump}

@@ -2,17 +2,18 @@
 use Rattle.std.proofs.Common.{◌≡◌, ℕ, ◌+◌, ◌^◌, ◌<◌, ◌≤◌, ◌⊎◌, Bool, true, false, ◌&&◌, ◌==◌, if◌then◌else◌, List, [], ◌∷◌, Contains, All, filter, refl, sym, ap, ◌∙◌, subst, inl, inr, arith, lit<, lit≤}
 use Rattle.std.proofs.lemmas.List.Elements.{All-contains}
 use Rattle.ot_base.specs.declared.place.Place.{Place}
-use Rattle.program_defs.specs.declared.flow.Edge.{Edge}
-use Rattle.program_defs.specs.declared.flow.EdgeKind.TheVariants.{Next, Sibling}
-use Rattle.program_defs.specs.declared.flow.Role.{Role}
-use Rattle.program_defs.specs.declared.flow.Role.TheVariants.{CallIn, CallEither, Return, JumpOut, JumpAny}
+use Rattle.ot_base.specs.Places.{same_place}
+use Rattle.machine_defs.specs.declared.flow.Edge.{Edge}
+use Rattle.machine_defs.specs.declared.flow.EdgeKind.TheVariants.{Next, Sibling}
+use Rattle.machine_defs.specs.declared.flow.Role.{Role}
+use Rattle.machine_defs.specs.declared.flow.Role.TheVariants.{CallIn, CallEither, Return, JumpOut, JumpAny}
 use Rattle.state_defs.specs.Effect.{HasSignedNumber}
-use Rattle.program_defs.specs.Program.{TextSection, same_place, below, entry_points, is_call, is_call_op, edge}
-use Rattle.program_defs.specs.MayReturn.{MayReturn}
-use Rattle.program_defs.specs.MayReturn as may
-use Rattle.program_defs.specs.IsProgram.{IsProgram}
+use Rattle.machine_defs.specs.Program.{TextSection, below, entry_points, is_call, is_call_op, edge}
+use Rattle.machine_defs.specs.MayReturn.{MayReturn}
+use Rattle.machine_defs.specs.MayReturn as may
+use Rattle.machine_defs.specs.IsProgram.{IsProgram}
 use Rattle.machine_defs.specs.Machine.{HasAddress, IsPlacement, IsOutside}
-use Rattle.option_defs.specs.Allowances.{HasFunctions}
+use Rattle.machine_defs.specs.Allowances.{EntersFunctions}
 use Rattle.unwinding_law.specs.Worked.{place_at, base}
 use Rattle.unwinding_law.proofs.Elements.{each, none, one, two}
 use Rattle.unwinding_law.proofs.Lists.{here, cases, nowhere, from_filter, from_below}
@@ -159,7 +160,7 @@ at_entry entry q c d = elim (which_entry entry c) [ inl e ↦ sym e ∙ only 0 q
     only : (x q : ℕ) → Contains (x ∷ []) q → x ≡ q
     only x q c = elim (cases x [] q c) [ inl e ↦ e | inr k ↦ nowhere q k ]
 
-pub functions : HasFunctions worked
+pub functions : EntersFunctions worked
 functions = record {
   points = λ entry c. elim (which_entry entry c) [ inl e ↦ subst (λ (x : ℕ). x < 10) e (lit< tt) | inr e ↦ subst (λ (x : ℕ). x < 10) e (lit< tt) ];
   entries = λ entry c. elim (which_entry entry c) [ inl e ↦ (0, ap worked.function (sym e)) | inr e ↦ (1, ap worked.function (sym e)) ];

@@ -1,7 +1,7 @@
 -- A run of the worked program: f is called from outside, sets up its frame, turns user access on, calls g and is returned to.
 use Rattle.std.proofs.Common.{◌≡◌, ℕ, zero, suc, ◌-◌, ◌<◌, ◌≤◌, ◌^◌, Bool, true, false, List, [], ◌∷◌, None, if◌then◌else◌, nat_le, slice_get, All, replicate, refl, arith, lit<, lit≤, leb-true}
 use Rattle.std.proofs.lemmas.List.Elements.{All-nil, All-cons}
-use Rattle.program_defs.specs.declared.flow.EdgeKind.TheVariants.{Next}
+use Rattle.machine_defs.specs.declared.flow.EdgeKind.TheVariants.{Next}
 use Rattle.state_defs.specs.Region.{byte_at, IsBeside}
 use Rattle.state_defs.specs.Frame.{Unsaved, SavedAt, Frame}
 use Rattle.state_defs.specs.Effect.{IsInStack}

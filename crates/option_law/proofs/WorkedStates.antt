@@ -3,18 +3,18 @@ use Rattle.std.proofs.Common.{◌≡◌, ℕ, zero, suc, ◌<◌, Bool, true, fa
 use Rattle.std.proofs.lemmas.List.Elements.{All-contains}
 use Rattle.ot_base.specs.declared.place.Place.{Place}
 use Rattle.operation_defs.specs.declared.op.Op.{Op}
-use Rattle.program_defs.specs.declared.flow.Edge.{Edge}
-use Rattle.program_defs.specs.declared.flow.EdgeKind.{EdgeKind}
-use Rattle.program_defs.specs.declared.flow.EdgeKind.TheVariants.{Next, Sibling}
+use Rattle.machine_defs.specs.declared.flow.Edge.{Edge}
+use Rattle.machine_defs.specs.declared.flow.EdgeKind.{EdgeKind}
+use Rattle.machine_defs.specs.declared.flow.EdgeKind.TheVariants.{Next, Sibling}
 use Rattle.state_defs.specs.declared.state.State.{State}
 use Rattle.state_defs.specs.State.{initial}
 use Rattle.state_defs.specs.Move.{move}
 use Rattle.state_defs.specs.Row.{row_of, unfit_offset}
 use Rattle.state_defs.specs.Rules.{return_rule}
-use Rattle.program_defs.specs.Program.{Site, in_site, below, edge}
-use Rattle.checker_defs.specs.Kept.{can_go, brought_along, Brings, brought_from, brought, is_entry_point, first_state, later_state, kept_or, state_at, Kept}
-use Rattle.checker_defs.specs.Broken.{LeavesByJump, sibling, outside, anywhere, KeptInSite, IsAccepted, Warns}
-use Rattle.checker_defs.specs.Broken as broken
+use Rattle.machine_defs.specs.Program.{Site, in_site, below, edge}
+use Rattle.machine_defs.specs.Kept.{can_go, brought_along, Brings, brought_from, brought, is_at_entry, first_state, later_state, kept_or, state_at, Kept}
+use Rattle.machine_defs.specs.Broken.{LeavesByJump, sibling, outside, anywhere, KeptInSite, IsAccepted, Warns}
+use Rattle.machine_defs.specs.Broken as broken
 use Rattle.unwinding_law.proofs.Elements.{each, none, one, two}
 use Rattle.unwinding_law.proofs.Lists.{cases, nowhere, from_filter, from_flat_map}
 use Rattle.unwinding_law.proofs.KeptStates.{least_member, brings_edge}
@@ -63,10 +63,10 @@ brought_state a q s t e brings =
 first : (q : ℕ) (s : State) → first_state worked q (worked.hint q) ≡ Some s → state_of q ≡ Some s
 first = each (λ q. (s : State) → first_state worked q (worked.hint q) ≡ Some s → state_of q ≡ Some s) (λ s e. e) (no_state _) (no_state _) (no_state _) (no_state _) (no_state _) (no_state _) (λ s e. e) (no_state _) (no_state _) (no_state _) (λ q s e. beyond q s e)
   where
-    beyond : (q : ℕ) (s : State) → (if is_entry_point worked (suc (suc (suc (suc (suc (suc (suc (suc (suc (suc (suc q))))))))))) then Some initial else None) ≡ Some s → None ≡ Some s
-    beyond q s e = go (is_entry_point worked (suc (suc (suc (suc (suc (suc (suc (suc (suc (suc (suc q)))))))))))) refl e
+    beyond : (q : ℕ) (s : State) → (if is_at_entry worked (suc (suc (suc (suc (suc (suc (suc (suc (suc (suc (suc q))))))))))) then Some initial else None) ≡ Some s → None ≡ Some s
+    beyond q s e = go (is_at_entry worked (suc (suc (suc (suc (suc (suc (suc (suc (suc (suc (suc q)))))))))))) refl e
       where
-        go : (b : Bool) → is_entry_point worked (suc (suc (suc (suc (suc (suc (suc (suc (suc (suc (suc q))))))))))) ≡ b → (if b then Some initial else None) ≡ Some s → None ≡ Some s
+        go : (b : Bool) → is_at_entry worked (suc (suc (suc (suc (suc (suc (suc (suc (suc (suc (suc q))))))))))) ≡ b → (if b then Some initial else None) ≡ Some s → None ≡ Some s
         go true k e = let low : suc (suc (suc (suc (suc (suc (suc (suc (suc (suc (suc q)))))))))) < 10 = entry_is_point worked program (suc (suc (suc (suc (suc (suc (suc (suc (suc (suc (suc q))))))))))) k in absurd (omega arith)
         go false k e = e
 
@@ -144,6 +144,7 @@ refuted place rule a b (broken.into_function q s k e) = cc
 refuted place rule a b (broken.without_size where_at c) = nowhere where_at c
 refuted place rule a b (broken.entered_restore q entry e n c d) = cc
 refuted place rule a b (broken.reached_restore q r s e h n k c t) = cc
+refuted place rule a b (broken.relocated_offset q s k f e) = cc
 
 pub accepted : IsAccepted worked
 accepted place rule a b w = refuted place rule a b w

@@ -2,31 +2,24 @@
 -- leaves it as it found it.
 use Rattle.std.specs.Prelude.{◌≡◌, ℕ, Bool, true, false, List, [], ◌∷◌, Some, None, Contains, IsTrue}
 use Rattle.ot_base.specs.declared.options.Options.{Options}
-use Rattle.program_defs.specs.declared.flow.EdgeKind.TheVariants.{Sibling}
-use Rattle.program_defs.specs.declared.flow.Role.{Role}
-use Rattle.program_defs.specs.declared.flow.Role.TheVariants.{Plain, CallIn, CallEither, CallOut, CallAny, Return, JumpOut, JumpAny, Switch}
+use Rattle.machine_defs.specs.declared.flow.EdgeKind.TheVariants.{Sibling}
+use Rattle.machine_defs.specs.declared.flow.Role.{Role}
+use Rattle.machine_defs.specs.declared.flow.Role.TheVariants.{Plain, CallIn, CallEither, CallOut, CallAny, Return, JumpOut, JumpAny, Switch}
 use Rattle.state_defs.specs.declared.state.HintState.{HintState}
 use Rattle.state_defs.specs.Frame.{Frame}
 use Rattle.state_defs.specs.Effect.{IsInStack}
-use Rattle.program_defs.specs.Program.{Program, entry_points, edge}
-use Rattle.program_defs.specs.IsProgram.{IsProgram}
+use Rattle.machine_defs.specs.Program.{Program, entry_points, edge}
+use Rattle.machine_defs.specs.IsProgram.{IsProgram}
 use Rattle.machine_defs.specs.Machine.{Bases, IsPlacement, Standing, Machine, Wrecked, At}
-use Rattle.machine_defs.specs.Step.{Step, goes_on, faults, calls_in, calls_out, returns, tail_calls, wrecks, interrupted, irets, may_leave}
+use Rattle.machine_defs.specs.Step.{Step, calls_in, returns, tail_calls, interrupted, irets, may_leave}
 use Rattle.machine_defs.specs.Run.{Start, StaysInStack}
-use Rattle.option_defs.specs.Allowances.{Allowances, HasFunctions, is_safe}
-use Rattle.option_defs.specs.Asked.{IsClean}
+use Rattle.machine_defs.specs.Allowances.{Allowances, EntersFunctions, is_safe}
+use Rattle.machine_defs.specs.Asked.{IsClean}
 
 -- the step is an interrupt
 abbrev pub is_interrupt : {p : Program} {bases : Bases} {m n : Machine} → Step p bases m n → Bool
-is_interrupt (goes_on s t u how lands) = false
-is_interrupt (faults s t u how lands) = false
-is_interrupt (calls_in s t u how lands) = false
-is_interrupt (calls_out s t u how lands) = false
-is_interrupt (returns s t u how lands) = false
-is_interrupt (tail_calls s t u how lands) = false
-is_interrupt (wrecks s how) = false
 is_interrupt (interrupted s t u how lands) = true
-is_interrupt (irets s t how) = false
+is_interrupt _ = false
 
 -- the list without its first
 abbrev pub below_top : List Bool → List Bool
@@ -38,18 +31,14 @@ top_of [] = false
 top_of (home ∷ homes) = home
 
 -- For each frame, the top one first, its home: whether the function is safe that was called, or that a tail call put in its
--- place. A call adds that of its callee, a return takes one off. Where the run begins without a frame, the last is that of the
--- code where it begins, which is in no safe function.
+-- place. A call adds that of its callee, a return takes one off, and any other step leaves them. Where the run begins without a
+-- frame, the last is that of the code where it begins, which is in no safe function.
 abbrev pub homes_after : {p : Program} {bases : Bases} {m n : Machine} → Allowances → Step p bases m n → List Bool → List Bool
-homes_after allowed (goes_on s t u how lands) homes = homes
-homes_after allowed (faults s t u how lands) homes = homes
 homes_after {p = p} allowed (calls_in s t u how lands) homes = is_safe p allowed how.entry ∷ homes
-homes_after allowed (calls_out s t u how lands) homes = homes
-homes_after allowed (returns s t u how lands) homes = below_top homes
 homes_after {p = p} allowed (tail_calls s t u how lands) homes = is_safe p allowed t.point ∷ below_top homes
-homes_after allowed (wrecks s how) homes = homes
-homes_after allowed (interrupted s t u how lands) homes = homes
+homes_after allowed (returns s t u how lands) homes = below_top homes
 homes_after allowed (irets s t how) homes = below_top homes
+homes_after allowed _ homes = homes
 
 -- the machine stands nowhere else than where a processor with SMAP has its code
 abbrev pub TakesSmap : Allowances → Machine → Type 0
@@ -98,5 +87,5 @@ IsAccessKept p allowed homes (At s) = KeepsAccess p allowed s homes
 abbrev pub AccessLaw : Type 0
 AccessLaw =
     (p : Program) (allowed : Allowances) (options : Options) (bases : Bases)
-    → IsProgram p → HasFunctions p → IsPlacement p bases → options.uaccess ≡ true → IsClean p allowed options
+    → IsProgram p → EntersFunctions p → IsPlacement p bases → options.uaccess ≡ true → IsClean p allowed options
     → (m : Machine) (homes : List Bool) → AccessRun p allowed bases m homes → IsAccessKept p allowed homes m

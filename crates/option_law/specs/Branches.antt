@@ -1,12 +1,12 @@
 -- The promises of `retpoline` and `rethunk`: no run comes to an indirect branch, or to a return, that isn't listed as safe.
 use Rattle.std.specs.Prelude.{◌≡◌, true}
 use Rattle.ot_base.specs.declared.options.Options.{Options}
-use Rattle.program_defs.specs.Program.{Program}
-use Rattle.program_defs.specs.IsProgram.{IsProgram}
+use Rattle.machine_defs.specs.Program.{Program}
+use Rattle.machine_defs.specs.IsProgram.{IsProgram}
 use Rattle.machine_defs.specs.Machine.{Bases, IsPlacement, Machine, Wrecked, At}
 use Rattle.machine_defs.specs.Run.{Run}
-use Rattle.option_defs.specs.Allowances.{Allowances}
-use Rattle.option_defs.specs.Asked.{IsClean, is_indirect_branch, is_return}
+use Rattle.machine_defs.specs.Allowances.{Allowances}
+use Rattle.machine_defs.specs.Asked.{IsClean, is_indirect_branch, is_return}
 
 -- an indirect call or jump, or a return, at which the machine stands is listed as safe where an option asks for it
 abbrev pub BranchesSafely : Program → Allowances → Options → Machine → Type 0

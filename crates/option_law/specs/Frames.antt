@@ -5,12 +5,12 @@ use Rattle.state_defs.specs.Address.{up, down}
 use Rattle.state_defs.specs.Region.{Holds}
 use Rattle.state_defs.specs.Frame.{Frame, is_of_call}
 use Rattle.state_defs.specs.Effect.{Core}
-use Rattle.program_defs.specs.Program.{Program, is_call_op}
-use Rattle.program_defs.specs.IsProgram.{IsProgram}
+use Rattle.machine_defs.specs.Program.{Program, is_call_op}
+use Rattle.machine_defs.specs.IsProgram.{IsProgram}
 use Rattle.machine_defs.specs.Machine.{Bases, IsPlacement, Machine, Wrecked, At}
 use Rattle.machine_defs.specs.Run.{Run}
-use Rattle.option_defs.specs.Allowances.{Allowances}
-use Rattle.option_defs.specs.Asked.{IsClean}
+use Rattle.machine_defs.specs.Allowances.{Allowances}
+use Rattle.machine_defs.specs.Asked.{IsClean}
 
 -- rbp points at the caller's rbp, which stands right below the return address at the frame's top
 pub record HasFramePointer (core : Core) (f : Frame) : Type 0 where

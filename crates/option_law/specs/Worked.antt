@@ -12,9 +12,10 @@
 -- point 8 that of section 2, and point 9 is the replacement.
 use Rattle.std.specs.Prelude.{ℕ, true, false, ◌&&◌, List, [], ◌∷◌, Option, Some, None, slice_index_or, filter, ◌==◌, if◌then◌else◌, replicate, pos}
 use Rattle.ot_base.specs.declared.options.Options.{Options}
+use Rattle.ot_base.specs.Places.{same_place}
 use Rattle.operation_defs.specs.declared.op.Op.TheVariants.{PushBp, LeaBpSp, Nop, Call, Stac, Clac, PopBp, Ret}
-use Rattle.program_defs.specs.declared.flow.EdgeKind.TheVariants.{Next}
-use Rattle.program_defs.specs.declared.flow.Role.TheVariants.{Plain, CallIn, Return}
+use Rattle.machine_defs.specs.declared.flow.EdgeKind.TheVariants.{Next}
+use Rattle.machine_defs.specs.declared.flow.Role.TheVariants.{Plain, CallIn, Return}
 use Rattle.state_defs.specs.declared.state.Depth.TheVariants.{Known}
 use Rattle.state_defs.specs.declared.state.BpHome.TheVariants.{Saved}
 use Rattle.state_defs.specs.declared.state.State.{State}
@@ -22,20 +23,20 @@ use Rattle.state_defs.specs.declared.state.State.TheVariants.{Live}
 use Rattle.state_defs.specs.Region.{Region}
 use Rattle.state_defs.specs.Frame.{Slot, Unsaved, SavedAt, Frame}
 use Rattle.state_defs.specs.State.{initial}
-use Rattle.program_defs.specs.Program.{Program, Site, below, same_place, edge}
-use Rattle.program_defs.specs.IsProgram.{IsProgram}
+use Rattle.machine_defs.specs.Program.{Program, Site, below, edge}
+use Rattle.machine_defs.specs.IsProgram.{IsProgram}
 use Rattle.machine_defs.specs.Machine.{IsPlacement, Standing, At}
 use Rattle.machine_defs.specs.Run.{outermost}
 use Rattle.machine_defs.specs.Step.{call_frame}
 use Rattle.machine_defs.specs.Worked.{insn}
-use Rattle.unwinding_law.specs.Worked.{place_at, Point, plain, no_point, base}
-use Rattle.option_defs.specs.Allowances.{Allowances, HasFunctions}
-use Rattle.option_defs.specs.Asked.{IsClean}
+use Rattle.unwinding_law.specs.Worked.{place_at, WorkedPoint, plain, no_point, base}
+use Rattle.machine_defs.specs.Allowances.{Allowances, EntersFunctions}
+use Rattle.machine_defs.specs.Asked.{IsClean}
 use Rattle.option_law.specs.Frames.{CallsWithFrame}
 use Rattle.option_law.specs.Branches.{BranchesSafely}
 use Rattle.option_law.specs.Access.{AccessRun, IsAccessKept}
 
-abbrev pub points : List Point
+abbrev pub points : List WorkedPoint
 points =
     plain 0 PushBp 1 (Some 0) (edge 1 Next ∷ []) Plain (1 ∷ [])
     ∷ plain 1 (LeaBpSp (pos 0)) 3 (Some 0) (edge 2 Next ∷ edge 9 Next ∷ []) Plain (2 ∷ 9 ∷ [])
@@ -49,7 +50,7 @@ points =
     ∷ record { op = Stac; len = 3; place = place_at 2 0; address = place_at 1 4; variant = 1; owner = Some 0; goes = edge 3 Next ∷ []; role = Plain; after = 3 ∷ [] }
     ∷ []
 
-abbrev pub point : ℕ → Point
+abbrev pub point : ℕ → WorkedPoint
 point q = slice_index_or points q no_point
 
 -- the nop may be replaced
@@ -72,7 +73,7 @@ worked = record {
   goes = λ q. (point q).goes;
   role = λ q. (point q).role;
   dead_end = λ _. false;
-  marks = λ q. record { bad = false; past_end = slice_index_or (false ∷ false ∷ false ∷ false ∷ false ∷ false ∷ false ∷ false ∷ true ∷ []) q false; into_site = false; into_function = false };
+  marks = λ q. record { bad = false; past_end = slice_index_or (false ∷ false ∷ false ∷ false ∷ false ∷ false ∷ false ∷ false ∷ true ∷ []) q false; into_site = false; into_function = false; relocated = false };
   after = λ q. (point q).after;
   arrive = λ place. if same_place (place_at 1 4) place then 2 ∷ 9 ∷ [] else filter (λ q. (point q).variant == 0 && same_place (point q).place place) (below 10);
   entries = 0 ∷ 7 ∷ [];
@@ -138,7 +139,7 @@ at_clac = record { point = 4; core = record { rsp = 0x8008; rbp = 0x8008; region
 -- goes on in f with user access on, where that is in order.
 pub record PromisesWorked : Type 0 where
   pub program : IsProgram worked
-  pub functions : HasFunctions worked
+  pub functions : EntersFunctions worked
   pub placed : IsPlacement worked base
   pub clean : IsClean worked allowed options
   pub framed_call : CallsWithFrame worked (At at_call)

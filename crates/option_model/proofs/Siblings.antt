@@ -2,11 +2,11 @@
 use Rattle.std.proofs.Common.{◌≡◌, ℕ, true, List, refl, subst}
 use Rattle.std.specs.Prelude.{All, Contains}
 use Rattle.std.proofs.lemmas.List.Elements.{All-contains, All-contains_itself, All-weaker}
-use Rattle.program_defs.specs.declared.flow.Edge.{Edge}
-use Rattle.program_defs.specs.declared.flow.EdgeKind.{EdgeKind}
-use Rattle.program_defs.specs.declared.flow.EdgeKind.TheVariants.{Sibling}
-use Rattle.program_defs.specs.Program.{Program, edge}
-use Rattle.option_defs.specs.Allowances.{Allowances, is_safe}
+use Rattle.machine_defs.specs.declared.flow.Edge.{Edge}
+use Rattle.machine_defs.specs.declared.flow.EdgeKind.{EdgeKind}
+use Rattle.machine_defs.specs.declared.flow.EdgeKind.TheVariants.{Sibling}
+use Rattle.machine_defs.specs.Program.{Program, edge}
+use Rattle.machine_defs.specs.Allowances.{Allowances, is_safe}
 use Rattle.option_model.specs.Promise.{IsSafeSibling}
 
 pub each_safe : (p : Program) (allowed : Allowances) (edges : List Edge) → All (IsSafeSibling p allowed) edges → (r : ℕ) → Contains edges (edge r Sibling) → is_safe p allowed r ≡ true

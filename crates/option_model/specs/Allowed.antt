@@ -1,7 +1,7 @@
 -- The model's lists of what is allowed, as the definitions have it.
 use Rattle.std.specs.Prelude.{ℕ, Bool, List, ◌==◌}
 use Rattle.std.specs.List.{list_any}
-use Rattle.option_defs.specs.Allowances.{Allowances}
+use Rattle.machine_defs.specs.Allowances.{Allowances}
 use Rattle.option_model.specs.declared.allowed.Allowed.{Allowed}
 
 abbrev pub is_listed : List ℕ → ℕ → Bool

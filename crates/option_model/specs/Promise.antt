@@ -1,14 +1,14 @@
 -- The promises of options, one by one, and that together they are those of the laws.
 use Rattle.std.specs.Prelude.{◌≡◌, ◌↔◌, ℕ, Bool, true, false, List, ◌∷◌, Contains, IsTrue}
 use Rattle.ot_base.specs.declared.options.Options.{Options}
-use Rattle.program_defs.specs.declared.flow.Edge.{Edge}
-use Rattle.program_defs.specs.declared.flow.EdgeKind.TheVariants.{Sibling}
+use Rattle.machine_defs.specs.declared.flow.Edge.{Edge}
+use Rattle.machine_defs.specs.declared.flow.EdgeKind.TheVariants.{Sibling}
 use Rattle.state_defs.specs.Frame.{Frame}
-use Rattle.program_defs.specs.Program.{Program, edge}
+use Rattle.machine_defs.specs.Program.{Program, edge}
 use Rattle.machine_defs.specs.Machine.{Standing, At}
 use Rattle.machine_defs.specs.Step.{may_leave}
-use Rattle.option_defs.specs.Allowances.{Allowances, is_safe}
-use Rattle.option_defs.specs.Asked.{is_indirect_branch, is_return}
+use Rattle.machine_defs.specs.Allowances.{Allowances, is_safe}
+use Rattle.machine_defs.specs.Asked.{is_indirect_branch, is_return}
 use Rattle.option_law.specs.Frames.{CallsWithFrame}
 use Rattle.option_law.specs.Branches.{BranchesSafely}
 use Rattle.option_law.specs.Access.{IsAccessKept, HasSafeTarget, top_of}

@@ -2,14 +2,14 @@
 
 use crate::allowed::Allowed;
 use crate::reached::{Reached, all_reached};
+use machine_defs::{EdgeKind, Role};
 use operation_defs::Op;
 use ot_base::Warning;
 use ot_base::rules::{
     ACCESS_OFF_TWICE, ACCESS_ON_TWICE, CALL_WITH_ACCESS, POPF_WITH_ACCESS_TRACKED,
     RETURN_WITH_ACCESS, RETURN_WITHOUT_ACCESS, SAFE_FUNCTION_ACCESS_OFF,
 };
-use program_defs::{EdgeKind, Role};
-use program_model::{Point, Program};
+use program_model::{ModelPoint, Program};
 use std::alloc::{AllocError, Global};
 
 /// The number by which a warning tells an indirect target.
@@ -46,7 +46,7 @@ fn unsafe_callees(
     alloc: Global,
     p: &Program,
     allowed: &Allowed<'_>,
-    point: &Point,
+    point: &ModelPoint,
 ) -> Result<Vec<i64>, AllocError> {
     let mut callees = Vec::new(alloc);
     match point.role {
@@ -70,7 +70,7 @@ fn unsafe_callees(
 }
 
 /// Whether a point leaves its function: by a return, by a jump to another one, or by one outside.
-fn leaves(point: &Point) -> bool {
+fn leaves(point: &ModelPoint) -> bool {
     match point.role {
         Role::Return | Role::JumpOut { .. } | Role::JumpAny => true,
         _ => point.goes.iter().any(|edge| edge.kind == EdgeKind::Sibling),
@@ -78,7 +78,7 @@ fn leaves(point: &Point) -> bool {
 }
 
 /// The rule that a point breaks by leaving its function.
-fn broken_by_leaving(point: &Point, access: bool, home: bool) -> Option<u8> {
+fn broken_by_leaving(point: &ModelPoint, access: bool, home: bool) -> Option<u8> {
     match (leaves(point), access, home) {
         (true, true, false) => Some(RETURN_WITH_ACCESS),
         (true, false, true) => Some(RETURN_WITHOUT_ACCESS),

@@ -1,6 +1,6 @@
 ghost use Rattle.std.specs.Prelude.{◌≡◌, None};
 ghost use Rattle.program_model.specs.Program.{of_point};
-ghost use Rattle.option_defs.specs.Allowances.{is_safe_owner};
+ghost use Rattle.machine_defs.specs.Allowances.{is_safe_owner};
 ghost use Rattle.option_model.specs.Allowed.{is_listed, allowances_of};
 
 use program_model::Program;
@@ -36,7 +36,7 @@ fn owner(p: &Program, q: u32) -> Option<u32>
 impl Allowed<'_> {
     ghost use Rattle.std.specs.Prelude.{◌≡◌, List, Bool};
     ghost use Rattle.program_model.specs.Program.{program_of};
-    ghost use Rattle.option_defs.specs.Allowances.{is_safe, is_safe_owner};
+    ghost use Rattle.machine_defs.specs.Allowances.{is_safe, is_safe_owner};
     ghost use Rattle.option_model.specs.Allowed.{allowances_of};
 
     /// Whether an indirect branch or a return may stay as it is at a point.

@@ -1,7 +1,7 @@
 //! All that a check warns of under its options.
 
 ghost use Rattle.std.specs.Prelude.{◌≡◌};
-ghost use Rattle.option_defs.specs.Asked.{is_indirect_branch, is_return};
+ghost use Rattle.machine_defs.specs.Asked.{is_indirect_branch, is_return};
 
 use crate::access_rules::access_warnings;
 use crate::allowed::Allowed;
@@ -59,7 +59,7 @@ pub fn warnings(
     allowed: &Allowed<'_>,
     options: &Options,
 ) -> Result<Vec<Warning>, AllocError> {
-    let mut warnings = checker_model::warnings(alloc, p, options)?;
+    let mut warnings = program_model::warnings(alloc, p, options)?;
     for q in 0..p.count() {
         branch_warnings(&mut warnings, p, allowed, options, q)?;
     }

@@ -3,7 +3,7 @@
 ghost use Rattle.std.specs.Prelude.{◌≡◌, ◌↔◌, ◌∷◌, ◌&&◌, not, false, true, IfOk, IsTrue, All, List, Bool, None, Contains};
 ghost use Rattle.state_defs.specs.Region.{Holds};
 ghost use Rattle.state_defs.specs.Frame.{Frame as DefinedFrame, is_of_call};
-ghost use Rattle.program_defs.specs.Program.{is_call_op};
+ghost use Rattle.machine_defs.specs.Program.{is_call_op};
 ghost use Rattle.machine_defs.specs.Machine.{At};
 ghost use Rattle.machine_defs.specs.Step.{may_leave};
 ghost use Rattle.option_law.specs.Frames.{HasFramePointer, CallsWithFrame};
@@ -17,10 +17,10 @@ ghost use Rattle.option_model.specs.Promise.{IsKept, ArePromised, IsSafeSibling,
 
 use crate::allowed::Allowed;
 use crate::asked::{is_indirect_branch, is_return};
+use machine_defs::{Edge, EdgeKind, Role};
 use machine_model::{Core, Frame, Standing};
 use operation_defs::Op;
 use ot_base::Options;
-use program_defs::{Edge, EdgeKind, Role};
 use program_model::{Program, Region, down, up};
 use std::alloc::{AllocError, Global};
 

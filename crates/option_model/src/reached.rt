@@ -1,13 +1,12 @@
 //! Whether user access may be on where control comes to a point.
 
 ghost use Rattle.std.specs.Prelude.{◌≡◌};
-ghost use Rattle.option_defs.specs.Access.{access_after, access_along};
+ghost use Rattle.machine_defs.specs.Access.{access_after, access_along};
 
 use crate::allowed::Allowed;
-use checker_model::may_return;
+use machine_defs::{Edge, EdgeKind, Role};
 use operation_defs::Op;
-use program_defs::{Edge, EdgeKind, Role};
-use program_model::Program;
+use program_model::{Program, may_return};
 use std::alloc::{AllocError, Global};
 
 /// A point to which control comes with user access on or off, in a frame whose function expects it on or off.

@@ -14,7 +14,7 @@ use Rattle.elf_objects.specs.declared.symbol.Reloc.{Reloc}
 use Rattle.elf_objects.specs.Elf.{Elf}
 use Rattle.elf_objects.specs.Contents.{section_symbol_of}
 use Rattle.elf_objects.specs.Number.{word}
-use Rattle.walk_defs.specs.Fields.{HasKnownFields}
+use Rattle.table_defs.specs.Fields.{HasKnownFields}
 use Rattle.orc_bytes.specs.RowBytes.{bytes_of_row, IsRow}
 use Rattle.orc_bytes.specs.Sections.{IsRowOf, HoldsOrc, row_section, ip_section, slot, slots}
 use Rattle.orc_bytes.specs.Faults.{row_in, HasRow, HasPlace, HasParts, HasRowsAndPlaces, OrcParts, row_count, IsRowAt}

@@ -8,7 +8,7 @@ use Rattle.byteorder.specs.Endian.{little_number, little_bytes}
 use Rattle.byteorder.specs.Numbers.{little_number-reads_back}
 use Rattle.ot_base.specs.declared.row.Row.{Row}
 use Rattle.elf_objects.specs.Number.{half}
-use Rattle.walk_defs.specs.Fields.{HasKnownFields}
+use Rattle.table_defs.specs.Fields.{HasKnownFields}
 use Rattle.orc_bytes.specs.RowBytes.{bytes_of_row, packed_fields, IsRow}
 use Rattle.orc_bytes.specs.Faults.{row_in, HasRow}
 

@@ -8,7 +8,7 @@ use Rattle.elf_objects.specs.Elf.{Elf, SectionEntry}
 use Rattle.elf_objects.specs.Contents.{is_text, section_symbol_of}
 use Rattle.elf_objects.specs.declared.TheConstants.{R_X86_64_PC32}
 use Rattle.elf_objects.specs.Number.{half, word}
-use Rattle.walk_defs.specs.Fields.{HasKnownFields}
+use Rattle.table_defs.specs.Fields.{HasKnownFields}
 use Rattle.orc_bytes.specs.declared.fault.SlotWhy.{SlotWhy}
 use Rattle.orc_bytes.specs.declared.fault.SlotWhy.TheVariants.{NoReloc, Kind, Offset, Symbol, Range, NotZero}
 use Rattle.orc_bytes.specs.declared.fault.OrcFault.{OrcFault}

@@ -3,7 +3,7 @@ use Rattle.std.specs.Prelude.{ℕ, ◌+◌, ◌*◌, ◌^◌, List, ◌++◌, if
 use Rattle.std.specs.Int.{cast_unsigned, w16}
 use Rattle.byteorder.specs.Endian.{little_bytes}
 use Rattle.ot_base.specs.declared.row.Row.{Row}
-use Rattle.walk_defs.specs.Fields.{HasKnownFields}
+use Rattle.table_defs.specs.Fields.{HasKnownFields}
 
 -- the last two bytes: sp_reg in bits 0 to 3, bp_reg in 4 to 7, the kind in 8 to 10, the signal bit 11
 abbrev pub packed_fields : Row → ℕ

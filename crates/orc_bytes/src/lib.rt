@@ -1,4 +1,4 @@
-//! The ORC sections of an object: rows to bytes (Linux 6.6, `orc_types.h`; ELF-64 gABI).
+//! Rows to the bytes of an object's ORC sections and back: the rows that they hold, or their first fault.
 #![tactic(auto)]
 
 mod bodies;

@@ -1,7 +1,7 @@
 //! Worked examples of the bytes, as they stand in objects that other tools made.
 
 ghost use Rattle.std.specs.Prelude.{◌≡◌, [], ◌∷◌, pos, negsuc};
-ghost use Rattle.walk_defs.specs.Worked.{call_row, saved_row, frame_pointer_row, partial_row, full_row, end_row, zero_row};
+ghost use Rattle.table_defs.specs.Worked.{call_row, saved_row, frame_pointer_row, partial_row, full_row, end_row, zero_row};
 ghost use Rattle.orc_bytes.specs.RowBytes.{bytes_of_row};
 ghost use Rattle.orc_bytes.specs.RelocBytes.{bytes_of_reloc};
 

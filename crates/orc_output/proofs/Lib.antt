@@ -4,3 +4,9 @@ pub mod Room
 pub mod Addable
 pub mod Behind
 pub mod Held
+pub mod NeededSections
+pub mod DefinedHomes
+pub mod FileBound
+pub mod Insertable
+pub mod RowPlaces
+pub mod Written

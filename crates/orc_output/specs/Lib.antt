@@ -1,1 +1,3 @@
 pub mod OrcOutput
+pub mod Needed
+pub mod Tables

@@ -1,7 +1,14 @@
-//! Adds the ORC sections of some rows to an object (Linux 6.6, `orc-unwinder.rst`).
+//! Adds the ORC sections of some rows to an object, and the section symbols by which these name their places (Linux 6.6,
+//! `orc-unwinder.rst`; ELF-64 gABI, symbol table).
 #![tactic(auto)]
 
+mod fault;
+mod law;
+mod needed;
 mod output;
 mod sections;
+mod tables;
 
+pub use fault::TableFault;
 pub use output::with_orc;
+pub use tables::with_tables;

@@ -8,3 +8,5 @@ pub mod PlaceText
 pub mod RowText
 pub mod WarningText
 pub mod CountedItems
+pub mod Places
+pub mod Warnings

@@ -1,4 +1,5 @@
-//! Places, rows and options: the words that every other crate speaks in.
+//! What all other crates speak in: places, rows, warnings with their texts, the rules by number, options, and the lists
+//! of function names.
 #![tactic(auto)]
 
 pub mod codes;
@@ -18,7 +19,7 @@ pub use lists::{Lists, ListsFault, ListsWhy};
 pub use memory::NoMemory;
 pub use names::Names;
 pub use options::Options;
-pub use place::Place;
+pub use place::{Place, is_before};
 pub use row::{PlacedRow, Row};
 pub use tape::Tape;
 pub use text::{

@@ -83,7 +83,7 @@ impl From<AllocError> for ListsFault {
 }
 
 /// The functions of the kernel that never return.
-const KERNEL_NEVER_RETURNING: [&str; 11] = [
+const KERNEL_NEVER_RETURNING: [&str; 45] = [
     "panic",
     "do_exit",
     "make_task_dead",
@@ -95,6 +95,40 @@ const KERNEL_NEVER_RETURNING: [&str; 11] = [
     "stop_this_cpu",
     "cpu_startup_entry",
     "rewind_stack_and_make_dead",
+    "__fortify_panic",
+    "__ia32_sys_exit",
+    "__ia32_sys_exit_group",
+    "__kunit_abort",
+    "__module_put_and_kthread_exit",
+    "__tdx_hypercall_failed",
+    "__x64_sys_exit",
+    "__x64_sys_exit_group",
+    "arch_cpu_idle_dead",
+    "bch2_trans_in_restart_error",
+    "bch2_trans_restart_error",
+    "bch2_trans_unlocked_error",
+    "cpu_bringup_and_idle",
+    "do_group_exit",
+    "do_task_dead",
+    "ex_handler_msr_mce",
+    "hlt_play_dead",
+    "hv_ghcb_terminate",
+    "kthread_complete_and_exit",
+    "kunit_try_catch_throw",
+    "machine_real_restart",
+    "mpt_halt_firmware",
+    "nmi_panic_self_stop",
+    "panic_smp_self_stop",
+    "rest_init",
+    "rust_begin_unwind",
+    "rust_helper_BUG",
+    "sev_es_terminate",
+    "snp_abort",
+    "start_kernel",
+    "x86_64_start_kernel",
+    "x86_64_start_reservations",
+    "xen_cpu_bringup_again",
+    "xen_start_kernel",
 ];
 
 /// The functions of the kernel that may be called with user access on.

@@ -36,6 +36,8 @@ pub const CALL_INTO_FUNCTION: u8 = 16;
 pub const FUNCTION_WITHOUT_SIZE: u8 = 17;
 /// Control comes to a RESTORE hint that has no saved state.
 pub const RESTORE_WITHOUT_SAVE: u8 = 18;
+/// A relocation changes the number by which an instruction moves the stack.
+pub const RELOCATED_STACK_OFFSET: u8 = 19;
 /// A call is made without a frame pointer set up.
 pub const CALL_WITHOUT_FRAME: u8 = 21;
 /// An indirect call or jump that isn't listed as safe.

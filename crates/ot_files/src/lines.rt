@@ -1,5 +1,5 @@
 //! Whole lines over any output.
-ghost use Rattle.std.specs.Prelude.{◌≡◌, ◌≤◌, OnOk, OnErr, IsErrOf};
+ghost use Rattle.std.specs.Prelude.{◌≡◌, ◌<◌, ◌≤◌, OnOk, OnErr, IsErrOf};
 ghost use Rattle.ot_files.specs.Causes.{Rose};
 ghost use Rattle.ot_files.specs.Output.{appending, AppendsPrefix};
 
@@ -13,6 +13,8 @@ pub fn write_line<S: Sink>(out: &mut S, line: &[u8]) -> Result<(), SinkError>
 
     ensures later { S.faults out.old ≤ S.faults out.new }
     ensures failed { IsErrOf result SinkError.Failed → Rose (S.faults out.old) (S.faults out.new) }
+    // The count rises at no other answer: no write is tried again behind one that failed.
+    ensures only_failed { S.faults out.old < S.faults out.new → IsErrOf result SinkError.Failed }
 {
     let mut rest = line;
     while !rest.is_empty() {

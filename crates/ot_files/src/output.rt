@@ -47,5 +47,7 @@ pub trait Sink {
         ensures err { OnErr result (written self.new ≡ written self.old) }
 
         ensures later { faults self.old ≤ faults self.new }
-        ensures failed { IsErrOf result SinkError.Failed → Rose (faults self.old) (faults self.new) };
+        ensures failed { IsErrOf result SinkError.Failed → Rose (faults self.old) (faults self.new) }
+        // The count rises at no other answer.
+        ensures only_failed { faults self.old < faults self.new → IsErrOf result SinkError.Failed };
 }

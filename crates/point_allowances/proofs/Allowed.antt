@@ -7,8 +7,8 @@ use Rattle.ot_base.specs.NameLists.{NameLists}
 use Rattle.elf_objects.specs.Elf.{Elf, SymbolEntry}
 use Rattle.flow_defs.specs.Coded.{Coded}
 use Rattle.elf_objects.specs.Contents.{no_symbol}
-use Rattle.allowances.specs.Allows.{Allows}
-use Rattle.allowances.specs.declared.table.AllowanceTable.{AllowanceTable}
+use Rattle.option_rules.specs.Allows.{Allows}
+use Rattle.option_rules.specs.declared.table.AllowanceTable.{AllowanceTable}
 use Rattle.flow_defs.specs.Code.{point_at, points_of_object}
 use Rattle.point_allowances.specs.Allowances.{allowances_of, is_safe_branch, is_safe_name, lacks_smap}
 use Rattle.point_allowances.specs.Flags.{AreFlags}

@@ -4,24 +4,24 @@ use Rattle.std.specs.List.{list_any}
 use Rattle.std.proofs.lemmas.Bool.{cases_Bool, false≢true}
 use Rattle.std.proofs.lemmas.Bool.Decides.{nat_tests}
 use Rattle.ot_base.specs.declared.place.Place.{Place}
-use Rattle.symbols_relocs.specs.Places.{same_place}
+use Rattle.ot_base.specs.Places.{same_place}
 use Rattle.special_sections.specs.declared.entries.AltEntry.{AltEntry}
-use Rattle.alternatives.specs.declared.site.Site.{Site}
+use Rattle.alternatives.specs.declared.site.AlternativesSite.{AlternativesSite}
 use Rattle.alternatives.specs.Originals.{counts}
-use Rattle.alternatives.specs.Sites.{holds, AreSitesOf}
+use Rattle.alternatives.specs.Sites.{in_alternatives_site, AreSitesOf}
 use Rattle.alternatives.proofs.Ascending.{In, contains_in, in_contains}
 use Rattle.alternatives.proofs.Opened.{before_end, from_start}
 use Rattle.alternatives.proofs.SiteEntries.{is_place_refl, one_holds, place_is}
-use Rattle.program_defs.specs.Program.{Site as ProgramSite, in_site}
+use Rattle.machine_defs.specs.Program.{Site as ProgramSite, in_site}
 use Rattle.flow_defs.specs.Sites.{site_of_entry}
-use Rattle.place_lists.specs.Places.{is_among}
-use Rattle.site_places.proofs.Entries.{has_site, no_site, numbered, site_with, some_len}
+use Rattle.object_points.specs.Places.{is_among}
+use Rattle.object_points.proofs.Entries.{has_site, no_site, numbered, site_with, some_len}
 use Rattle.point_allowances.specs.Allowances.{makes_smap_site}
 use Rattle.point_allowances.specs.SmapSites.{IsSiteStart, is_start, smap_starts}
 
 -- ---- the site of a place
--- what the original of an entry holds is what its site does
-held_alike : (a : AltEntry) (s : Site) (place : Place) → a.original ≡ s.start → a.original_len ≡ s.len → in_site (site_of_entry a) place ≡ holds s place
+-- what the original of an entry in_alternatives_site is what its site does
+held_alike : (a : AltEntry) (s : AlternativesSite) (place : Place) → a.original ≡ s.start → a.original_len ≡ s.len → in_site (site_of_entry a) place ≡ in_alternatives_site s place
 held_alike a s place start len =
     ap (λ (p : Place). let one : ProgramSite = record { start = p; len = a.original_len } in in_site one place) start
     ∙ ap (λ (n : ℕ). let one : ProgramSite = record { start = s.start; len = n } in in_site one place) len
@@ -29,18 +29,18 @@ held_alike a s place start len =
 at_start : (a b n : ℕ) → 0 < n → (eqb a a && (leb b b && ltb b (b + n))) ≡ true
 at_start a b n some = grind (arith, nat_tests)
 
--- a site holds its start
-holds_start : (s : Site) (place : Place) → 0 < s.len → s.start ≡ place → holds s place ≡ true
-holds_start s place some is = subst (λ p. holds s p ≡ true) is (at_start s.start.sec s.start.off s.len some)
+-- a site in_alternatives_site its start
+holds_start : (s : AlternativesSite) (place : Place) → 0 < s.len → s.start ≡ place → in_alternatives_site s place ≡ true
+holds_start s place some is = subst (λ p. in_alternatives_site s p ≡ true) is (at_start s.start.sec s.start.off s.len some)
 
--- a site that holds a place has a byte
-held_some : (s : Site) (place : Place) → holds s place ≡ true → 0 < s.len
+-- a site that in_alternatives_site a place has a byte
+held_some : (s : AlternativesSite) (place : Place) → in_alternatives_site s place ≡ true → 0 < s.len
 held_some s place held =
     let from : s.start.off ≤ place.off = from_start s.start.sec place.sec s.start.off place.off s.len held in
     let below : place.off < s.start.off + s.len = before_end s.start.sec place.sec s.start.off place.off s.len held in
     omega arith
 
-module _ (entries : List AltEntry) (sites : List Site) (numbers : List ℕ) (are : AreSitesOf entries sites numbers) (place : Place) where
+module _ (entries : List AltEntry) (sites : List AlternativesSite) (numbers : List ℕ) (are : AreSitesOf entries sites numbers) (place : Place) where
   -- the site that an entry makes
   record Makes (a : AltEntry) : Type 0 where
     j : ℕ
@@ -59,21 +59,21 @@ module _ (entries : List AltEntry) (sites : List Site) (numbers : List ℕ) (are
         len = ap (λ (e : AltEntry). e.original_len) (sym number.is) ∙ site.one.len;
       }
 
-  -- no site holds the place
-  pub starts_nowhere : ((k : ℕ) (d : Site) → k < length sites → holds (get_or sites k d) place ≡ false) → IsSiteStart entries place None
+  -- no site in_alternatives_site the place
+  pub starts_nowhere : ((k : ℕ) (d : AlternativesSite) → k < length sites → in_alternatives_site (get_or sites k d) place ≡ false) → IsSiteStart entries place None
   starts_nowhere none a c counting =
       let own = makes a c counting in
       held_alike a (site_with sites own.j) place own.start own.len ∙ none own.j no_site own.inside
 
   -- one does
-  module _ (i : ℕ) (inside : i < length sites) (here : holds (site_with sites i) place ≡ true) where
+  module _ (i : ℕ) (inside : i < length sites) (here : in_alternatives_site (site_with sites i) place ≡ true) where
     same_start : (j : ℕ) → j < length sites → 0 < (site_with sites j).len → (site_with sites i).start ≡ (site_with sites j).start → i ≡ j
     same_start j in_j some same =
         one_holds sites (site_with sites i).start i j no_site are.apart inside in_j
         (holds_start (site_with sites i) (site_with sites i).start (held_some (site_with sites i) place here) refl)
         (holds_start (site_with sites j) (site_with sites i).start some (sym same))
 
-    by_start : (a : AltEntry) (own : Makes a) → counts a ≡ true → (held : Bool) → holds (site_with sites own.j) place ≡ held → held ≡ same_place (site_with sites i).start a.original
+    by_start : (a : AltEntry) (own : Makes a) → counts a ≡ true → (held : Bool) → in_alternatives_site (site_with sites own.j) place ≡ held → held ≡ same_place (site_with sites i).start a.original
     by_start a own counting true held =
         let same : i ≡ own.j = one_holds sites place i own.j no_site are.apart inside own.inside here held in
         sym (is_place_refl (site_with sites i).start a.original (ap (λ k. (site_with sites k).start) same ∙ sym own.start))
@@ -82,13 +82,13 @@ module _ (entries : List AltEntry) (sites : List Site) (numbers : List ℕ) (are
       | inl is ↦
           let some : 0 < (site_with sites own.j).len = subst (λ n. 0 < n) own.len (some_len a.original_len counting) in
           let same : i ≡ own.j = same_start own.j own.inside some (place_is (site_with sites i).start a.original is ∙ own.start) in
-          absurd (false≢true (sym held ∙ subst (λ k. holds (site_with sites k) place ≡ true) same here))
+          absurd (false≢true (sym held ∙ subst (λ k. in_alternatives_site (site_with sites k) place ≡ true) same here))
     ]
 
     pub starts_there : IsSiteStart entries place (Some (site_with sites i).start)
     starts_there a c counting =
         let own = makes a c counting in
-        held_alike a (site_with sites own.j) place own.start own.len ∙ by_start a own counting (holds (site_with sites own.j) place) refl
+        held_alike a (site_with sites own.j) place own.start own.len ∙ by_start a own counting (in_alternatives_site (site_with sites own.j) place) refl
 
 -- ---- whether that site has such a replacement
 any_alike : {X : Type 0} (p q : X → Bool) (xs : List X) → ((x : X) → In x xs → p x ≡ q x) → list_any p xs ≡ list_any q xs

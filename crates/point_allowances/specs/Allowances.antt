@@ -4,19 +4,19 @@ use Rattle.std.specs.List.{list_any}
 use Rattle.std.specs.FinSet as set
 use Rattle.ot_base.specs.NameLists.{NameLists}
 use Rattle.ot_base.specs.declared.place.Place.{Place}
+use Rattle.ot_base.specs.Places.{same_place}
 use Rattle.elf_objects.specs.Elf.{Elf}
 use Rattle.flow_defs.specs.Coded.{Coded}
 use Rattle.elf_objects.specs.Contents.{symbol_at}
-use Rattle.symbols_relocs.specs.Places.{same_place}
 use Rattle.special_sections.specs.declared.entries.AltEntry.{AltEntry}
 use Rattle.special_sections.specs.Special.{special_of}
 use Rattle.alternatives.specs.declared.point.Point.{Point}
 use Rattle.alternatives.specs.Originals.{counts}
 use Rattle.alternatives.specs.Points.{address_of_point, entry_of}
-use Rattle.program_defs.specs.Program.{in_site}
+use Rattle.machine_defs.specs.Program.{in_site}
 use Rattle.flow_defs.specs.Code.{alternatives_of, is_plain, point_at}
 use Rattle.flow_defs.specs.Sites.{site_of_entry}
-use Rattle.option_defs.specs.Allowances.{Allowances}
+use Rattle.machine_defs.specs.Allowances.{Allowances}
 
 -- its place is listed in `.discard.retpoline_safe`
 unfoldable pub is_safe_branch : Coded → Point → Bool

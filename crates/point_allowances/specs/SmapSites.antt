@@ -1,10 +1,10 @@
 -- The sites that have a replacement for processors with SMAP, by their starts.
 use Rattle.std.specs.Prelude.{◌≡◌, Bool, true, false, List, map, filter, Option, Some, None, Contains}
 use Rattle.ot_base.specs.declared.place.Place.{Place}
-use Rattle.symbols_relocs.specs.Places.{same_place}
+use Rattle.ot_base.specs.Places.{same_place}
 use Rattle.special_sections.specs.declared.entries.AltEntry.{AltEntry}
 use Rattle.alternatives.specs.Originals.{counts}
-use Rattle.program_defs.specs.Program.{in_site}
+use Rattle.machine_defs.specs.Program.{in_site}
 use Rattle.flow_defs.specs.Sites.{site_of_entry}
 use Rattle.point_allowances.specs.Allowances.{makes_smap_site}
 

@@ -2,15 +2,14 @@
 
 ghost use Rattle.std.specs.Prelude.{◌≡◌, ◌<◌, length, IfOk};
 ghost use Rattle.flow_defs.specs.Code.{point_at, points_of_object};
-ghost use Rattle.place_lists.specs.Places.{HaveSamePlaces};
+ghost use Rattle.object_points.specs.Places.{HaveSamePlaces};
 ghost use Rattle.point_allowances.specs.Allowances.{is_safe_branch as is_safe_branch_at};
 ghost use Rattle.point_allowances.specs.Flags.{AreFlags};
 ghost use Rattle.special_sections.specs.Special.{special_of};
 
 use crate::points::count_points;
+use object_points::{PlaceSet, PointPlaces};
 use ot_base::NoMemory;
-use place_lists::PlaceSet;
-use point_places::PointPlaces;
 use std::alloc::Global;
 
 /// Whether the place of a point is one of those in `.discard.retpoline_safe`.

@@ -3,7 +3,7 @@
 ghost use Rattle.std.specs.Prelude.{◌≡◌, length};
 ghost use Rattle.flow_defs.specs.Code.{points_of_object};
 
-use point_places::PointPlaces;
+use object_points::PointPlaces;
 
 /// How many points there are.
 pub(crate) fn count_points(places: &PointPlaces<'_, '_, '_>) -> u32

@@ -3,16 +3,15 @@
 ghost use Rattle.std.specs.Prelude.{◌≡◌, ◌<◌, length, IfOk};
 ghost use Rattle.alternatives.specs.Points.{address_of_point};
 ghost use Rattle.flow_defs.specs.Code.{alternatives_of, point_at, points_of_object};
-ghost use Rattle.place_lists.specs.Places.{HaveSamePlaces};
+ghost use Rattle.object_points.specs.Places.{HaveSamePlaces};
 ghost use Rattle.point_allowances.specs.Allowances.{is_for_smap as is_an_entry_for_smap, is_smap_point as is_a_smap_point, lacks_smap as lacks_smap_at, makes_smap_site as makes_a_smap_site};
 ghost use Rattle.point_allowances.specs.Flags.{AreFlags};
 ghost use Rattle.point_allowances.specs.SmapSites.{IsSiteStart, smap_starts as starts_of_smap_sites};
 
 use crate::points::count_points;
 use alternatives::AltEntry;
+use object_points::{PlaceSet, PointPlaces};
 use ot_base::{NoMemory, Place};
-use place_lists::PlaceSet;
-use point_places::PointPlaces;
 use std::alloc::Global;
 
 /// The processor feature SMAP: bit 20 of word 9 (Linux 6.6, asm/cpufeatures.h).

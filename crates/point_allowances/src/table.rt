@@ -1,7 +1,7 @@
 //! The table of what is allowed at an object's points and symbols.
 
 ghost use Rattle.std.specs.Prelude.{length, IfOk};
-ghost use Rattle.allowances.specs.Allows.{Allows};
+ghost use Rattle.option_rules.specs.Allows.{Allows};
 ghost use Rattle.flow_defs.specs.Code.{points_of_object};
 ghost use Rattle.flow_defs.specs.Program.{program_of};
 ghost use Rattle.point_allowances.specs.Allowances.{allowances_of};
@@ -9,10 +9,10 @@ ghost use Rattle.point_allowances.specs.Allowances.{allowances_of};
 use crate::branches::list_safe_branches;
 use crate::names::list_safe_names;
 use crate::smap::list_lacking_smap;
-use allowances::AllowanceTable;
 use object_code::Linked;
+use object_points::PointPlaces;
+use option_rules::AllowanceTable;
 use ot_base::{Lists, NoMemory};
-use point_places::PointPlaces;
 use std::alloc::Global;
 
 /// What an object whose code is read, and lists of names, allow at the points of its program and at its symbols.

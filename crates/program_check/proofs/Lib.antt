@@ -1,3 +1,15 @@
+pub mod Places
+pub mod Lists
+pub mod Merging
+pub mod Begins
+pub mod Whole
+pub mod Compressed
+pub mod Held
+pub mod Ended
+pub mod SiteRows
+pub mod Plain
+pub mod Kept
+pub mod Joined
 pub mod Empty
 pub mod Sums
 pub mod SomeAccepted

@@ -3,15 +3,15 @@ use Rattle.std.proofs.Common.{◌≡◌, List, Option, Some, None, ℤ, inl, inr
 use Rattle.std.proofs.Math.Logic.{∥∥₁_elim}
 use Rattle.state_defs.specs.declared.state.State.{State}
 use Rattle.state_defs.specs.Row.{unfit_offset}
-use Rattle.program_defs.specs.Program.{Program}
-use Rattle.checker_defs.specs.Broken.{IsAccepted}
-use Rattle.rows_law.proofs.Lists.{some_or_none}
+use Rattle.machine_defs.specs.Program.{Program}
+use Rattle.machine_defs.specs.Broken.{IsAccepted}
+use Rattle.table_law.proofs.Lists.{some_or_none}
 use Rattle.program_graph.specs.declared.parts.GraphParts.{GraphParts}
-use Rattle.branch_check.specs.LevelStates.{at}
-use Rattle.rule_check.specs.Checks.{Checks}
-use Rattle.orc_build.specs.Checked.{IsCheckedBy}
-use Rattle.orc_build.specs.Fit.{Fit}
-use Rattle.orc_build.proofs.Kept.{accepted_fit}
+use Rattle.kept_states.specs.LevelStates.{at}
+use Rattle.stack_rules.specs.Checks.{Checks}
+use Rattle.program_check.specs.Checked.{IsCheckedBy}
+use Rattle.program_check.specs.Fit.{Fit}
+use Rattle.program_check.proofs.Kept.{accepted_fit}
 use Rattle.program_check.specs.Checkable.{AreOfSomeAccepted, IsCheckable}
 
 -- what rules are checked over, and rows are made of

@@ -3,12 +3,13 @@ use Rattle.std.proofs.Common.{◌≡◌, ◌↔◌, ℕ, true, List, [], ◌⊎�
 use Rattle.ot_base.specs.declared.options.Options.{Options}
 use Rattle.ot_base.specs.declared.place.Place.{Place}
 use Rattle.ot_base.specs.declared.warning.Warning.{Warning}
-use Rattle.program_defs.specs.Program.{Program}
-use Rattle.checker_defs.specs.Broken.{IsAccepted, IsBroken, IsFirstUnreached, Warns, always, unreachable, without_frame}
+use Rattle.ot_base.specs.Warnings.{numbered_warning, bare_warning}
+use Rattle.machine_defs.specs.Program.{Program}
+use Rattle.machine_defs.specs.Broken.{IsAccepted, IsBroken, IsFirstUnreached, Warns, always, unreachable, without_frame}
 use Rattle.unwinding_law.proofs.Lists.{nowhere}
-use Rattle.rule_check.specs.Gains.{Gains, bare_warning, numbered_warning}
-use Rattle.rule_check.specs.Unframed.{IsUnframed}
-use Rattle.rule_check.proofs.GainsLemmas.{gains_both, gains_none, gains_same}
+use Rattle.stack_rules.specs.Gains.{Gains}
+use Rattle.stack_rules.specs.Unframed.{IsUnframed}
+use Rattle.stack_rules.proofs.GainsLemmas.{gains_both, gains_none, gains_same}
 use Rattle.program_check.specs.Asked.{AreBroken, AreUnasked, UnframedWarns, UnreachedWarns}
 
 module _ (p : Program) (options : Options) where

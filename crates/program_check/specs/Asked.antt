@@ -3,10 +3,10 @@ use Rattle.std.specs.Prelude.{◌≡◌, ◌↔◌, ℕ, true, List, Contains}
 use Rattle.ot_base.specs.declared.options.Options.{Options}
 use Rattle.ot_base.specs.declared.rules.TheConstants.{UNREACHABLE_INSTRUCTION, CALL_WITHOUT_FRAME}
 use Rattle.ot_base.specs.declared.warning.Warning.{Warning}
-use Rattle.program_defs.specs.Program.{Program}
-use Rattle.checker_defs.specs.Broken.{IsAccepted, IsBroken, IsFirstUnreached, Warns}
-use Rattle.rule_check.specs.Gains.{bare_warning}
-use Rattle.rule_check.specs.Unframed.{IsUnframed}
+use Rattle.ot_base.specs.Warnings.{bare_warning}
+use Rattle.machine_defs.specs.Program.{Program}
+use Rattle.machine_defs.specs.Broken.{IsAccepted, IsBroken, IsFirstUnreached, Warns}
+use Rattle.stack_rules.specs.Unframed.{IsUnframed}
 
 -- the warnings that no option has to ask for
 abbrev pub AreUnasked : Program → List Warning → Type 0

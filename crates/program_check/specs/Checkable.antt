@@ -1,14 +1,14 @@
 -- Programs that can be checked, and what is known of one that was accepted.
 use Rattle.std.specs.Prelude.{◌≡◌, List, Option, length}
 use Rattle.state_defs.specs.declared.state.State.{State}
-use Rattle.program_defs.specs.Program.{Program}
-use Rattle.program_defs.specs.IsProgram.{IsProgram, IsLaidOut}
-use Rattle.checker_defs.specs.Kept.{AreKeptStates}
-use Rattle.checker_defs.specs.Broken.{IsAccepted}
+use Rattle.machine_defs.specs.Program.{Program}
+use Rattle.machine_defs.specs.IsProgram.{IsProgram, IsLaidOut}
+use Rattle.machine_defs.specs.Kept.{AreKeptStates}
+use Rattle.machine_defs.specs.Broken.{IsAccepted}
 use Rattle.table_defs.specs.Order.{PlainPointsAscend}
 use Rattle.program_graph.specs.declared.parts.GraphParts.{GraphParts}
 use Rattle.program_graph.specs.Tells.{Tells}
-use Rattle.branch_check.specs.LevelStates.{at}
+use Rattle.kept_states.specs.LevelStates.{at}
 
 -- The graph tells the program, which is one as the laws ask and whose instructions lie in order, and the states are those
 -- that are kept, by point.

@@ -4,12 +4,12 @@ use Rattle.ot_base.specs.declared.options.Options.{Options}
 use Rattle.ot_base.specs.declared.place.Place.{Place}
 use Rattle.ot_base.specs.declared.warning.Warning.{Warning}
 use Rattle.state_defs.specs.declared.state.State.{State}
-use Rattle.program_defs.specs.Program.{Program}
-use Rattle.checker_defs.specs.Broken.{IsAccepted, IsBroken}
+use Rattle.machine_defs.specs.Program.{Program}
+use Rattle.machine_defs.specs.Broken.{IsAccepted, IsBroken}
 use Rattle.program_graph.specs.declared.parts.GraphParts.{GraphParts}
-use Rattle.rule_check.specs.Before.{ComesBefore}
-use Rattle.program_check.specs.declared.verdict.Verdict.{Verdict}
-use Rattle.program_check.specs.declared.verdict.Verdict.TheVariants.{Accepted, Broken}
+use Rattle.stack_rules.specs.Before.{ComesBefore}
+use Rattle.program_check.specs.declared.verdict.StackVerdict.{StackVerdict}
+use Rattle.program_check.specs.declared.verdict.StackVerdict.TheVariants.{Accepted, Broken}
 use Rattle.program_check.specs.Asked.{AreBroken}
 
 -- nothing is broken, and what is checked is what was given
@@ -26,6 +26,6 @@ pub record IsRefusal (p : Program) (options : Options) (parts refused : GraphPar
   pub ascending : AllPairs ComesBefore warnings
   pub broken : AreBroken p options warnings
 
-abbrev pub IsVerdict : Program → Options → GraphParts → List (Option State) → Verdict → Type 0
+abbrev pub IsVerdict : Program → Options → GraphParts → List (Option State) → StackVerdict → Type 0
 IsVerdict p options parts states (Accepted checked) = IsAcceptance p options parts checked.graph.parts states checked.kept
 IsVerdict p options parts states (Broken graph warnings) = IsRefusal p options parts graph.parts warnings.items

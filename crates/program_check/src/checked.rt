@@ -1,14 +1,15 @@
 //! Programs in which no rule is broken.
 
 ghost use Rattle.std.specs.Prelude.{◌≡◌, ◌<◌, IfOk, length};
-ghost use Rattle.program_defs.specs.Program.{Program};
-ghost use Rattle.checker_defs.specs.Broken.{IsAccepted};
-ghost use Rattle.checker_defs.specs.Rows.{rows_of};
-ghost use Rattle.branch_check.specs.LevelStates.{at};
-ghost use Rattle.site_points.specs.Points.{AreSitePointsOf};
+ghost use Rattle.machine_defs.specs.Program.{Program};
+ghost use Rattle.machine_defs.specs.Broken.{IsAccepted};
+ghost use Rattle.machine_defs.specs.Rows.{rows_of};
+ghost use Rattle.kept_states.specs.LevelStates.{at};
+ghost use Rattle.stack_rules.specs.Points.{AreSitePointsOf};
 ghost use Rattle.program_check.specs.Checkable.{AreOfSomeAccepted, IsCheckable};
 
-use branch_check::Kept;
+use crate::table::rows;
+use kept_states::Kept;
 use ot_base::{NoMemory, PlacedRow};
 use program_graph::Graph;
 use state_defs::State;
@@ -67,6 +68,6 @@ impl Checked {
         ensures each { IfOk result (λ rows. (p : Program) → IsCheckable p self.now.graph.parts self.now.kept → IsAccepted p → rows.items ≡ rows_of p (at self.now.kept)) }
         ensures some { IfOk result (λ rows. ∥ ((p : Program) × IsCheckable p self.now.graph.parts self.now.kept × IsAccepted p × (rows.items ≡ rows_of p (at self.now.kept))) ∥₁) }
     {
-        orc_build::rows(alloc, &self.graph, &self.kept, &self.site_points)
+        rows(alloc, &self.graph, &self.kept, &self.site_points)
     }
 }

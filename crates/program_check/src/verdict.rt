@@ -1,28 +1,28 @@
 //! The verdict of a check.
 
 ghost use Rattle.std.specs.Prelude.{◌≡◌, ◌^◌, ◌<◌, All, IfOk, length};
-ghost use Rattle.program_defs.specs.Program.{Program};
+ghost use Rattle.machine_defs.specs.Program.{Program};
 ghost use Rattle.program_check.specs.Checkable.{IsCheckable};
 ghost use Rattle.program_check.specs.Verdict.{IsVerdict};
 
 use crate::checked::Checked;
 use crate::warnings::list_warnings;
-use branch_check::Kept;
+use kept_states::Kept;
 use ot_base::{NoMemory, Options, Warning};
 use program_graph::Graph;
-use site_points::list_site_points;
+use stack_rules::list_site_points;
 use std::alloc::Global;
 
 /// What a check finds.
 #[derive(Drop)]
-pub enum Verdict {
+pub enum StackVerdict {
     /// No rule is broken.
     Accepted(Checked),
     /// Some rules are: the graph that was checked, and each warning once, by section, offset, rule and what it tells.
     Broken(Graph, Vec<Warning>),
 }
 
-/// Checks a program, by its graph and its kept states, against the rules 1 to 13 and 15 to 18 (`docs/RULES.md`), and
+/// Checks a program, by its graph and its kept states, against the rules 1 to 13 and 15 to 19 (`docs/RULES.md`), and
 /// against 14 and 21 where `unreachable` and `fp` ask for these. Rule 14 is broken only where none of the first is.
 ///
 /// The options `retpoline`, `rethunk` and `uaccess` ask for rules 31, 32 and 41 to 47, which aren't looked at here.
@@ -33,7 +33,12 @@ pub enum Verdict {
 /// # Errors
 ///
 /// [`NoMemory`] may come at any program.
-pub fn check(alloc: Global, graph: Graph, kept: Kept, options: Options) -> Result<Verdict, NoMemory>
+pub fn check(
+    alloc: Global,
+    graph: Graph,
+    kept: Kept,
+    options: Options,
+) -> Result<StackVerdict, NoMemory>
     requires program { (p : Program) × IsCheckable p graph.parts kept }
     requires sites { All (λ site. site.len < 2 ^ 63) graph.parts.sites.items }
     ensures { IfOk result (λ verdict. (p : Program) → IsCheckable p graph.parts kept → IsVerdict p options graph.parts kept verdict) }
@@ -41,8 +46,8 @@ pub fn check(alloc: Global, graph: Graph, kept: Kept, options: Options) -> Resul
     let points = list_site_points(alloc, &graph, &kept)?;
     let warnings = list_warnings(alloc, &graph, &kept, &points, options)?;
     if warnings.is_empty() {
-        Ok(Verdict::Accepted(Checked::new(graph, kept, points)))
+        Ok(StackVerdict::Accepted(Checked::new(graph, kept, points)))
     } else {
-        Ok(Verdict::Broken(graph, warnings))
+        Ok(StackVerdict::Broken(graph, warnings))
     }
 }

@@ -1,19 +1,20 @@
 //! The warnings of all rules.
 
 ghost use Rattle.std.specs.Prelude.{◌≡◌, ◌^◌, ◌<◌, IfOk, OnOk, All, AllPairs, length};
-ghost use Rattle.program_defs.specs.Program.{Program};
-ghost use Rattle.rule_check.specs.Before.{ComesBefore};
-ghost use Rattle.rule_check.specs.Checks.{Checks};
-ghost use Rattle.rule_check.specs.Gains.{Gains};
-ghost use Rattle.site_points.specs.Points.{AreSitePointsOf};
+ghost use Rattle.machine_defs.specs.Program.{Program};
+ghost use Rattle.stack_rules.specs.Before.{ComesBefore};
+ghost use Rattle.stack_rules.specs.Checks.{Checks};
+ghost use Rattle.stack_rules.specs.Gains.{Gains};
+ghost use Rattle.stack_rules.specs.Points.{AreSitePointsOf};
 ghost use Rattle.program_check.specs.Asked.{AreBroken, AreUnasked, UnframedWarns, UnreachedWarns};
 ghost use Rattle.program_check.specs.Checkable.{IsCheckable};
 
-use branch_check::Kept;
+use kept_states::Kept;
 use ot_base::{NoMemory, Options, Warning};
 use program_graph::Graph;
-use rule_check::{push_unreachable, push_warnings, push_without_frame, sort_warnings};
-use site_rules::push_site_warnings;
+use stack_rules::{
+    push_site_warnings, push_unreachable, push_warnings, push_without_frame, sort_warnings,
+};
 use std::alloc::Global;
 
 /// The warnings of the rules that no option has to ask for, in no certain order. One may be there more than once.

@@ -1,12 +1,12 @@
 -- How the parts of a graph belong together.
 use Rattle.std.specs.Prelude.{◌≡◌, ℕ, ◌+◌, ◌<◌, ◌≤◌, ◌^◌, List, [], ◌∷◌, Some, All, Contains, length, slice_get, slice_index, slice_index_or, slice_range}
 use Rattle.std.specs.List.Sorted.{IsNonDecreasing}
-use Rattle.program_defs.specs.declared.flow.Edge.{Edge}
-use Rattle.program_defs.specs.declared.flow.EdgeKind.TheVariants.{Table}
-use Rattle.program_defs.specs.Program.{edge}
+use Rattle.machine_defs.specs.declared.flow.Edge.{Edge}
+use Rattle.machine_defs.specs.declared.flow.EdgeKind.TheVariants.{Table}
+use Rattle.machine_defs.specs.Program.{edge}
 use Rattle.program_graph.specs.declared.parts.GraphParts.{GraphParts}
 use Rattle.program_graph.specs.declared.parts.Hinted.{Hinted}
-use Rattle.program_graph.specs.declared.parts.Point.{Point}
+use Rattle.program_graph.specs.declared.parts.GraphPoint.{GraphPoint}
 use Rattle.program_graph.specs.declared.parts.PointKind.{PointKind}
 use Rattle.program_graph.specs.declared.parts.Rare.{Rare}
 
@@ -29,7 +29,7 @@ pub record IsAlike (parts : GraphParts) (q r : ℕ) : Type 0 where
 
 -- what point q has that others have too
 pub record IsKindOf (parts : GraphParts) (q : ℕ) (k : PointKind) : Type 0 where
-  pub point : Point
+  pub point : GraphPoint
   pub at : slice_get parts.points.items q ≡ Some point
   pub named : slice_get parts.kinds.items point.kind ≡ Some k
 
@@ -38,8 +38,8 @@ pub record HaveShape (parts : GraphParts) : Type 0 where
   -- points have numbers of 32 bits
   pub few : length parts.points.items < 2 ^ 32
   -- each point has an owner and a kind, and each kind a transfer, and what may be rare
-  pub owners : (q : ℕ) (x : Point) → slice_get parts.points.items q ≡ Some x → x.owner < length parts.owners.items
-  pub kinds : (q : ℕ) (x : Point) → slice_get parts.points.items q ≡ Some x → x.kind < length parts.kinds.items
+  pub owners : (q : ℕ) (x : GraphPoint) → slice_get parts.points.items q ≡ Some x → x.owner < length parts.owners.items
+  pub kinds : (q : ℕ) (x : GraphPoint) → slice_get parts.points.items q ≡ Some x → x.kind < length parts.kinds.items
   pub transfers : (q : ℕ) (k : PointKind) → IsKindOf parts q k → k.transfer < length parts.transfers.items
   pub rares : (q : ℕ) (k : PointKind) → IsKindOf parts q k → k.rare < length parts.rares.items
   -- where that names something of hints, it is there

@@ -3,11 +3,11 @@ use Rattle.std.specs.Prelude.{◌≡◌, ℕ, ◌-◌, ◌==◌, ◌↔◌, Opti
 use Rattle.ot_base.specs.declared.place.Place.{Place}
 use Rattle.operation_defs.specs.declared.insn.Insn.{Insn}
 use Rattle.state_defs.specs.declared.state.HintState.TheVariants.{Restore}
-use Rattle.program_defs.specs.Program.{Program, TextSection, Site, IsPoint}
-use Rattle.checker_defs.specs.Kept.{edges_of, is_entry_point}
+use Rattle.machine_defs.specs.Program.{Program, TextSection, Site, IsPoint}
+use Rattle.machine_defs.specs.Kept.{edges_of, is_at_entry}
 use Rattle.program_graph.specs.declared.parts.GraphParts.{GraphParts}
 use Rattle.program_graph.specs.declared.parts.Hinted.{Hinted}
-use Rattle.program_graph.specs.declared.parts.Point.{Point}
+use Rattle.program_graph.specs.declared.parts.GraphPoint.{GraphPoint}
 use Rattle.program_graph.specs.declared.parts.PointKind.{PointKind}
 use Rattle.program_graph.specs.declared.parts.Owner.{Owner}
 use Rattle.program_graph.specs.declared.parts.Previous.{Previous}
@@ -15,7 +15,7 @@ use Rattle.program_graph.specs.declared.parts.Previous.TheVariants.{Below, Numbe
 use Rattle.program_graph.specs.declared.parts.Rare.{Rare}
 use Rattle.program_graph.specs.declared.parts.Replaced.{Replaced}
 use Rattle.program_graph.specs.declared.parts.Transfer.{Transfer}
-use Rattle.program_graph.specs.declared.parts.Site.{Site as OwnSite}
+use Rattle.program_graph.specs.declared.parts.GraphSite.{GraphSite as OwnSite}
 use Rattle.program_graph.specs.declared.parts.TextSection.{TextSection as OwnTextSection}
 use Rattle.program_graph.specs.Shape.{IsAlike, listed_of}
 
@@ -81,7 +81,7 @@ pub record TellsOwner (p : Program) (q : ℕ) (x : Owner) : Type 0 where
 abbrev pub insn_of : PointKind → Insn
 insn_of k = record { len = k.len; op = k.op }
 
-abbrev pub place_of : Point → Place
+abbrev pub place_of : GraphPoint → Place
 place_of x = record { sec = x.section; off = x.offset }
 
 -- what point q has in the program beside its place and its owner
@@ -89,12 +89,12 @@ pub record TellsKind (p : Program) (parts : GraphParts) (q : ℕ) (k : PointKind
   pub insn : p.insn q ≡ insn_of k
   pub dead_end : p.dead_end q ≡ k.is_dead_end
   pub may_return : p.may_return q ≡ k.may_return
-  pub entered : is_entry_point p q ≡ k.is_entered
+  pub entered : is_at_entry p q ≡ k.is_entered
   pub transfer : (t : Transfer) → slice_get parts.transfers.items k.transfer ≡ Some t → TellsTransfer p q t
   pub rare : (r : Rare) → slice_get parts.rares.items k.rare ≡ Some r → TellsRare p parts q r
 
 -- what point q is in the program
-pub record TellsPoint (p : Program) (parts : GraphParts) (q : ℕ) (x : Point) : Type 0 where
+pub record TellsPoint (p : Program) (parts : GraphParts) (q : ℕ) (x : GraphPoint) : Type 0 where
   pub place : p.place q ≡ place_of x
   pub owner : (o : Owner) → slice_get parts.owners.items x.owner ≡ Some o → TellsOwner p q o
   pub kind : (k : PointKind) → slice_get parts.kinds.items x.kind ≡ Some k → TellsKind p parts q k
@@ -102,7 +102,7 @@ pub record TellsPoint (p : Program) (parts : GraphParts) (q : ℕ) (x : Point) :
 -- The parts tell the program, as far as a checker looks at it.
 pub record Tells (p : Program) (parts : GraphParts) : Type 0 where
   pub count : p.count ≡ length parts.points.items
-  pub points : (q : ℕ) (x : Point) → slice_get parts.points.items q ≡ Some x → TellsPoint p parts q x
+  pub points : (q : ℕ) (x : GraphPoint) → slice_get parts.points.items q ≡ Some x → TellsPoint p parts q x
   pub edges : (q : ℕ) → IsPoint p q → (Contains parts.alike.items q → ⊥) → edges_of p q ≡ listed_of parts q
   pub alike : (q r : ℕ) → IsPoint p q → Contains parts.alike.items q → IsAlike parts q r → edges_of p q ≡ edges_of p r
   pub sites : p.sites ≡ map site_of parts.sites.items

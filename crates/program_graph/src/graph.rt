@@ -1,17 +1,18 @@
 //! A graph and its getters.
 
 ghost use Rattle.std.specs.Prelude.{◌≡◌, ◌+◌, ◌<◌, ◌≤◌, ◌↔◌, Some, ℕ, All, Contains, IfSome, IsTrue, MatchOption, length, map, slice_get, slice_range};
-ghost use Rattle.program_defs.specs.Program.{Program};
-ghost use Rattle.checker_defs.specs.Kept.{edges_of, is_entry_point};
+ghost use Rattle.machine_defs.specs.Program.{Program};
+ghost use Rattle.machine_defs.specs.Kept.{edges_of, is_at_entry};
 ghost use Rattle.program_graph.specs.Shape.{HaveShape, IsAlike, IsKindOf, listed_of, start_of};
 ghost use Rattle.program_graph.specs.Tells.{Means, Tells, TellsHinted, TellsKind, TellsOwner, TellsRare, TellsTransfer, TellsUnhinted, site_of, text_of};
 
 use crate::parts::{
-    GraphParts, Hinted, Owner, Point, PointKind, Previous, Rare, Site, TextSection, Transfer,
+    GraphParts, GraphPoint, GraphSite, Hinted, Owner, PointKind, Previous, Rare, TextSection,
+    Transfer,
 };
+use machine_defs::{Edge, EdgeKind, Marks, Role};
 use operation_defs::Insn;
 use ot_base::Place;
-use program_defs::{Edge, EdgeKind, Marks, Role};
 use state_defs::HintState;
 
 /// The control-flow graph of a program. Points are told by their numbers, from 0 on.
@@ -42,7 +43,7 @@ impl Graph {
     }
 
     /// The point with a number.
-    fn point(&self, n: u32) -> &Point
+    fn point(&self, n: u32) -> &GraphPoint
         requires { n < length self.now.parts.points.items }
         ensures { slice_get self.now.parts.points.items n ≡ Some result.now }
     {
@@ -326,7 +327,7 @@ impl Graph {
     /// Whether control that comes to some entry may stand at a point.
     pub fn is_entered(&self, n: u32) -> bool
         requires { n < length self.now.parts.points.items }
-        ensures { (p : Program) → Tells p self.now.parts → result ≡ is_entry_point p n }
+        ensures { (p : Program) → Tells p self.now.parts → result ≡ is_at_entry p n }
     {
         self.kind(n).is_entered
     }
@@ -340,7 +341,7 @@ impl Graph {
     }
 
     /// The alternatives sites.
-    pub fn sites(&self) -> &[Site]
+    pub fn sites(&self) -> &[GraphSite]
         ensures { (p : Program) → Tells p self.now.parts → map site_of result.now ≡ p.sites }
     {
         self.parts.sites.as_slice()

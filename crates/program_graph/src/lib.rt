@@ -1,4 +1,5 @@
-//! The control-flow graph of a program in memory: its points by number, and what each of them has.
+//! The control-flow graph over which the checker runs: the points of a program by number, with the edges, roles, hints
+//! and marks of each.
 #![tactic(auto)]
 
 mod graph;
@@ -6,6 +7,6 @@ mod parts;
 
 pub use graph::Graph;
 pub use parts::{
-    GraphParts, Hinted, Owner, Point, PointKind, Previous, Rare, Replaced, Site, TextSection,
-    Transfer,
+    GraphParts, GraphPoint, GraphSite, Hinted, Owner, PointKind, Previous, Rare, Replaced,
+    TextSection, Transfer,
 };

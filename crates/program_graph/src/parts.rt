@@ -1,8 +1,8 @@
 //! What a graph is made of.
 
+use machine_defs::{Edge, Marks, Role};
 use operation_defs::Op;
 use ot_base::Place;
-use program_defs::{Edge, Marks, Role};
 use state_defs::HintState;
 
 /// A section of code.
@@ -16,7 +16,7 @@ pub struct TextSection {
 
 /// An alternatives site: the code there may be replaced by any one of its replacements, or stay.
 #[derive(Clone, Copy, Debug, PartialEq, Eq)]
-pub struct Site {
+pub struct GraphSite {
     /// Where it begins.
     pub start: Place,
     /// Its length in bytes.
@@ -116,7 +116,7 @@ pub struct PointKind {
 /// An instruction of the object's code, or one of a replacement. What many points have in common stands in lists of its
 /// own, and a point has the number.
 #[derive(Clone, Copy, Debug, PartialEq, Eq)]
-pub struct Point {
+pub struct GraphPoint {
     /// The section of its bytes, by its number in the section header table.
     pub section: u32,
     /// Bytes from that section's start to its own.
@@ -127,7 +127,7 @@ pub struct Point {
     pub kind: u32,
 }
 
-const _: () = prove!(size_of::<Point>() == 16);
+const _: () = prove!(size_of::<GraphPoint>() == 16);
 
 const _: () = prove!(size_of::<PointKind>() == 32);
 
@@ -144,7 +144,7 @@ const _: () = prove!(size_of::<Hinted>() == 88);
 #[derive(Drop)]
 pub struct GraphParts {
     /// The points by number.
-    pub points: Vec<Point>,
+    pub points: Vec<GraphPoint>,
     /// For each point, and once more behind the last, where in the list of edges its own begin. They end where
     /// those of the next begin.
     pub starts: Vec<u32>,
@@ -166,7 +166,7 @@ pub struct GraphParts {
     /// The RESTORE points, those of one SAVE one after another.
     pub restores: Vec<u32>,
     /// The alternatives sites.
-    pub sites: Vec<Site>,
+    pub sites: Vec<GraphSite>,
     /// The text sections.
     pub texts: Vec<TextSection>,
     /// The places of functions without a size.

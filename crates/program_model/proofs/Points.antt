@@ -5,17 +5,17 @@ use Rattle.std.proofs.lemmas.Bool.{cases_lt}
 use Rattle.std.proofs.lemmas.Option.{slice_get_past}
 use Rattle.std.proofs.lemmas.List.Elements.{Contains-append_left, Contains-append_right}
 use Rattle.ot_base.specs.declared.place.Place.{Place}
-use Rattle.program_defs.specs.Program.{below, entry_points}
+use Rattle.machine_defs.specs.Program.{below, entry_points}
 use Rattle.program_model.specs.declared.program.Program.{Program}
-use Rattle.program_model.specs.declared.program.Point.{Point}
+use Rattle.program_model.specs.declared.program.ModelPoint.{ModelPoint}
 use Rattle.program_model.specs.Program.{point_or, of_point, no_place, stands_at, arrives, program_of}
 
 -- what a point that is there has
-pub of_point_is : {A : Type 0} (p : Program) (other : A) (field : Point → A) (q : ℕ) (x : Point) → slice_get p.points.items q ≡ Some x → of_point p other field q ≡ field x
-of_point_is p other field q x e = ap (λ (o : Option Point). point_or other field o) e
+pub of_point_is : {A : Type 0} (p : Program) (other : A) (field : ModelPoint → A) (q : ℕ) (x : ModelPoint) → slice_get p.points.items q ≡ Some x → of_point p other field q ≡ field x
+of_point_is p other field q x e = ap (λ (o : Option ModelPoint). point_or other field o) e
 
 -- what stands in a list that a point has
-pub contains_at : {A : Type 0} (p : Program) (field : Point → List A) (q : ℕ) (x : Point) (xs : List A) (y : A) → slice_get p.points.items q ≡ Some x
+pub contains_at : {A : Type 0} (p : Program) (field : ModelPoint → List A) (q : ℕ) (x : ModelPoint) (xs : List A) (y : A) → slice_get p.points.items q ≡ Some x
     → xs ≡ field x → Contains xs y → Contains (of_point p [] field q) y
 contains_at p field q x xs y e same h = subst (λ (zs : List _). Contains zs y) (same ∙ sym (of_point_is p [] field q x e)) h
 
@@ -61,7 +61,7 @@ arrives_at p place q holds =
     elim (cases_lt q (length p.points.items)) [
       | inl less ↦ less
       | inr past ↦
-          let none : arrives p place q ≡ false = ap (λ (o : Option Point). point_or false (stands_at p place) o) (slice_get_past p.points.items q past) in
+          let none : arrives p place q ≡ false = ap (λ (o : Option ModelPoint). point_or false (stands_at p place) o) (slice_get_past p.points.items q past) in
           absurd (cc)
     ]
 

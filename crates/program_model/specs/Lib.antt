@@ -1,3 +1,4 @@
 pub mod Program
 pub mod Placement
 pub mod Region
+pub mod StateRow

@@ -1,6 +1,6 @@
 -- Where the model places sections, as the definitions have it: a section that has no range begins at 0.
 use Rattle.std.specs.Prelude.{ℕ, List, [], ◌∷◌, ◌==◌, if◌then◌else◌}
-use Rattle.walk_defs.specs.declared.range.Range.{Range}
+use Rattle.table_defs.specs.declared.range.Range.{Range}
 
 abbrev pub bases_of : List Range → ℕ → ℕ
 bases_of [] sec = 0

@@ -3,14 +3,14 @@
 use Rattle.std.specs.Prelude.{ℕ, Bool, false, ◌&&◌, ◌||◌, List, [], Option, Some, None, ◌==◌, filter, map, Contains, length, slice_get, slice_index_or}
 use Rattle.std.specs.List.{list_any}
 use Rattle.ot_base.specs.declared.place.Place.{Place}
+use Rattle.ot_base.specs.Places.{same_place}
 use Rattle.operation_defs.specs.declared.op.Op.TheVariants.{Nop}
 use Rattle.operation_defs.specs.declared.insn.Insn.{Insn}
-use Rattle.program_defs.specs.declared.flow.Role.TheVariants.{Plain}
-use Rattle.program_defs.specs.declared.flow.Marks.{Marks}
-use Rattle.program_defs.specs.Program.{Program, TextSection, Site, below, same_place, entry_points}
+use Rattle.machine_defs.specs.declared.flow.Role.TheVariants.{Plain}
+use Rattle.machine_defs.specs.Program.{Program, TextSection, Site, below, entry_points, no_marks}
 use Rattle.program_model.specs.declared.program.Program.{Program as OwnProgram}
-use Rattle.program_model.specs.declared.program.Point.{Point}
-use Rattle.program_model.specs.declared.program.Site.{Site as OwnSite}
+use Rattle.program_model.specs.declared.program.ModelPoint.{ModelPoint}
+use Rattle.program_model.specs.declared.program.ModelSite.{ModelSite as OwnSite}
 use Rattle.program_model.specs.declared.program.TextSection.{TextSection as OwnTextSection}
 
 abbrev pub site_of : OwnSite → Site
@@ -20,11 +20,11 @@ abbrev pub text_of : OwnTextSection → TextSection
 text_of t = record { sec = t.sec; size = t.size }
 
 -- what a point has, or another where there is no point
-abbrev pub point_or : {A : Type 0} → A → (Point → A) → Option Point → A
+abbrev pub point_or : {A : Type 0} → A → (ModelPoint → A) → Option ModelPoint → A
 point_or other field None = other
 point_or other field (Some point) = field point
 
-abbrev pub of_point : {A : Type 0} → OwnProgram → A → (Point → A) → ℕ → A
+abbrev pub of_point : {A : Type 0} → OwnProgram → A → (ModelPoint → A) → ℕ → A
 of_point p other field q = point_or other field (slice_get p.points.items q)
 
 -- no point's instruction, place and marks
@@ -34,15 +34,12 @@ no_insn = record { len = 0; op = Nop }
 abbrev pub no_place : Place
 no_place = record { sec = 0; off = 0 }
 
-abbrev pub no_marks : Marks
-no_marks = record { bad = false; past_end = false; into_site = false; into_function = false }
-
 -- whether control that comes to a place may stand at a point: at the start of a site at the first of the
 -- original code and of each replacement, elsewhere at the plain point
 abbrev pub starts_site : OwnProgram → Place → Bool
 starts_site p place = list_any (λ s. same_place s.start place) p.sites.items
 
-abbrev pub stands_at : OwnProgram → Place → Point → Bool
+abbrev pub stands_at : OwnProgram → Place → ModelPoint → Bool
 stands_at p place point = same_place point.address place && (point.variant == 0 || starts_site p place)
 
 abbrev pub arrives : OwnProgram → Place → ℕ → Bool

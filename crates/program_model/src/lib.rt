@@ -1,13 +1,32 @@
-//! Programs of a few points as values, where their sections are placed in memory, and the stack in
-//! memory: what the plain readings of the machine and of the checker stand on.
+//! A plain, slow reading of the checker's definitions, for programs of a few points: the states that are kept, the rules, the
+//! rows and the walk over them.
+//!
+//! Programs are values here, with places of their sections in memory and the stack in memory: what the plain reading of the
+//! machine stands on too. Tests run it, to show that the definitions say what they mean.
 #![tactic(auto)]
 
 mod address;
+mod kept;
+mod option_rules;
 mod placement;
+mod point_rules;
 mod program;
 mod region;
+mod returning;
+mod rules;
+mod site_rules;
+mod state_row;
+mod state_rules;
+mod table_rows;
+mod walks;
 
 pub use address::{down, shifted, shifted_back, up};
+pub use kept::kept_states;
 pub use placement::{address_of, is_inside, point_address, return_address};
-pub use program::{Point, Program, Site, TextSection};
+pub use program::{ModelPoint, ModelSite, Program, TextSection};
 pub use region::{Region, Store};
+pub use returning::may_return;
+pub use rules::warnings;
+pub use state_row::StateRow;
+pub use table_rows::rows;
+pub use walks::{Walked, walk};

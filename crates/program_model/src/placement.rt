@@ -7,7 +7,7 @@ ghost use Rattle.program_model.specs.Program.{program_of};
 
 use crate::program::Program;
 use ot_base::Place;
-use walk_defs::Range;
+use table_defs::Range;
 
 /// The address at which a section begins, 0 where it has no range.
 fn base_of(placement: &[Range], sec: u32) -> u64

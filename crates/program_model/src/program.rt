@@ -1,9 +1,9 @@
 ghost use Rattle.std.specs.Prelude.{◌≡◌, IsTrue, Contains};
-ghost use Rattle.program_defs.specs.Program.{same_place};
+ghost use Rattle.ot_base.specs.Places.{same_place};
 
+use machine_defs::{Edge, Marks, Role};
 use operation_defs::{Insn, Op};
 use ot_base::Place;
-use program_defs::{Edge, Marks, Role};
 use state_defs::HintState;
 
 /// A section of code.
@@ -17,14 +17,14 @@ pub struct TextSection {
 
 /// An alternatives site: the code there may be replaced by any one of its replacements, or stay.
 #[derive(Clone, Copy)]
-pub struct Site {
+pub struct ModelSite {
     /// Where it begins.
     pub start: Place,
     /// Its length in bytes.
     pub len: u64,
 }
 
-impl Site {
+impl ModelSite {
     /// Whether a place lies in the site.
     pub fn contains(&self, place: Place) -> bool {
         let end = u128::from(self.start.off) + u128::from(self.len);
@@ -34,7 +34,7 @@ impl Site {
 
 /// An instruction of the object's code, or one of a replacement that may be patched over a site.
 #[derive(Drop)]
-pub struct Point {
+pub struct ModelPoint {
     /// The instruction.
     pub insn: Insn,
     /// Where its bytes stand.
@@ -97,13 +97,13 @@ fn has_number(numbers: &[u32], number: u32) -> bool
 #[derive(Drop)]
 pub struct Program {
     /// The points.
-    pub points: Vec<Point>,
+    pub points: Vec<ModelPoint>,
     /// The plain points at which functions are entered.
     pub entries: Vec<u32>,
     /// The symbols that are known never to return.
     pub never_returning: Vec<u32>,
     /// The alternatives sites.
-    pub sites: Vec<Site>,
+    pub sites: Vec<ModelSite>,
     /// The sections of code.
     pub texts: Vec<TextSection>,
     /// The places of functions without a size.
@@ -113,8 +113,9 @@ pub struct Program {
 impl Program {
     ghost use Rattle.std.specs.Prelude.{◌≡◌, [], None, Some, MatchOption, IsTrue, Contains, List, Bool, false, ◌==◌, slice_get};
     ghost use Rattle.std.specs.List.{list_any};
-    ghost use Rattle.program_model.specs.Program.{of_point, no_insn, no_place, no_marks, starts_site, arrives, program_of, IsEntryPoint};
-    ghost use Rattle.program_defs.specs.Program.{entry_points};
+    ghost use Rattle.machine_defs.specs.Program.{no_marks};
+    ghost use Rattle.program_model.specs.Program.{of_point, no_insn, no_place, starts_site, arrives, program_of, IsEntryPoint};
+    ghost use Rattle.machine_defs.specs.Program.{entry_points};
 
     /// How many points there are.
     pub fn count(&self) -> u32 {
@@ -122,14 +123,14 @@ impl Program {
     }
 
     /// The point with a number, where there is one.
-    pub fn point(&self, q: u32) -> Option<&Point>
+    pub fn point(&self, q: u32) -> Option<&ModelPoint>
         ensures { MatchOption result (slice_get self.now.points.items q ≡ None) (λ point. slice_get self.now.points.items q ≡ Some point.now) }
     {
         self.points.get(q as usize)
     }
 
     /// The site that a place lies in.
-    pub fn site_at(&self, place: Place) -> Option<Site> {
+    pub fn site_at(&self, place: Place) -> Option<ModelSite> {
         self.sites.iter().copied().find(|site| site.contains(place))
     }
 
@@ -208,6 +209,7 @@ impl Program {
                 past_end: false,
                 into_site: false,
                 into_function: false,
+                relocated: false,
             },
         }
     }

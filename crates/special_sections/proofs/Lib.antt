@@ -1,2 +1,10 @@
 mod FirstFault
 mod Gathered
+pub mod Totals
+mod Intervals
+pub mod Relas
+mod Counted
+pub mod Unfaulted
+mod Few
+mod Order
+mod Finding

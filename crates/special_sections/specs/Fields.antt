@@ -1,12 +1,14 @@
 -- The fields of entries: numbers that stand in the section, and places that relocations put there.
-use Rattle.std.specs.Prelude.{ℕ, ◌%◌, ◌+◌, ◌==◌, ◌&&◌, not, nat_lt, nat_le, Bool, false, ◌∷◌, [], Option, Some, None, is_none, unwrap_or, length, bit_and, if◌then◌else◌}
+use Rattle.std.specs.Prelude.{ℕ, ◌%◌, ◌+◌, ◌==◌, ◌&&◌, not, nat_lt, nat_le, Bool, false, ◌∷◌, [], Option, Some, None, is_none, unwrap_or, length, bit_and}
 use Rattle.ot_base.specs.declared.place.Place.{Place}
 use Rattle.elf_objects.specs.Elf.{Elf}
 use Rattle.elf_objects.specs.Contents.{is_text, section_at}
 use Rattle.elf_objects.specs.declared.TheConstants.{SHF_COMPRESSED}
-use Rattle.object_places.specs.Places.{points_at, pointer_at}
+use Rattle.symbols_relocs.specs.NamedPlaces.{place_held_at, pointer_at}
 use Rattle.special_sections.specs.declared.fault.Why.{Why}
 use Rattle.special_sections.specs.declared.fault.Why.TheVariants.{Compressed, Size}
+use Rattle.special_sections.specs.declared.fields.Bound.{Bound}
+use Rattle.special_sections.specs.declared.fields.Bound.TheVariants.{BelowEnd, UpToEnd}
 use Rattle.special_sections.specs.Reasons.{first_reason}
 
 -- the place of the field at an offset of a section
@@ -24,19 +26,24 @@ or_nowhere place = unwrap_or place nowhere
 abbrev pub lacks_reloc : Elf → Place → Bool
 lacks_reloc o field = is_none (pointer_at o field)
 
--- the place is in a text section and below its size, or also at its size where the end will do
-abbrev pub is_text_place : Elf → Bool → Place → Bool
-is_text_place o end_will_do place =
-    let s = section_at o place.sec in
-    is_text s && (if end_will_do then nat_le place.off s.size else nat_lt place.off s.size)
+-- an offset stands up to a bound in a section of a size
+abbrev pub stands_in : Bound → ℕ → ℕ → Bool
+stands_in BelowEnd size off = nat_lt off size
+stands_in UpToEnd size off = nat_le off size
 
-abbrev pub names_text : Elf → Bool → Option Place → Bool
-names_text o end_will_do None = false
-names_text o end_will_do (Some place) = is_text_place o end_will_do place
+-- the place is in a text section, up to a bound
+abbrev pub is_text_place : Elf → Bound → Place → Bool
+is_text_place o bound place =
+    let s = section_at o place.sec in
+    is_text s && stands_in bound s.size place.off
+
+abbrev pub names_text : Elf → Bound → Option Place → Bool
+names_text o bound None = false
+names_text o bound (Some place) = is_text_place o bound place
 
 -- so is the one that the field holds
-abbrev pub holds_text_place : Elf → Bool → Place → Bool
-holds_text_place o end_will_do field = names_text o end_will_do (points_at o field)
+abbrev pub holds_text_place : Elf → Bound → Place → Bool
+holds_text_place o bound field = names_text o bound (place_held_at o field)
 
 -- bytes from a place on leave its section
 abbrev pub leaves_section : Elf → Place → ℕ → Bool

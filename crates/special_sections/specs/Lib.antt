@@ -8,3 +8,6 @@ pub mod PlaceLists
 pub mod Special
 pub mod FaultText
 pub mod RightTables
+pub mod Laws
+pub mod HintStates
+pub mod Places

@@ -1,13 +1,14 @@
 -- The sections that list places, one for each of their relocations; their bodies are not read.
-use Rattle.std.specs.Prelude.{ℕ, not, true, false, Bool, List, ◌∷◌, [], Option, slice_index_or, length, pos, codes}
+use Rattle.std.specs.Prelude.{ℕ, not, false, Bool, List, ◌∷◌, [], Option, slice_index_or, length, pos, codes}
 use Rattle.ot_base.specs.declared.place.Place.{Place}
 use Rattle.elf_objects.specs.declared.symbol.Reloc.{Reloc}
 use Rattle.elf_objects.specs.Elf.{Elf}
 use Rattle.elf_objects.specs.Contents.{relocs_at}
-use Rattle.object_places.specs.Relocs.{is_pointer_kind}
-use Rattle.object_places.specs.Places.{place_named}
+use Rattle.symbols_relocs.specs.Relocs.{is_pointer_kind}
+use Rattle.symbols_relocs.specs.NamedPlaces.{place_named}
 use Rattle.special_sections.specs.declared.fault.Why.{Why}
 use Rattle.special_sections.specs.declared.fault.Why.TheVariants.{Compressed, NoReloc, NotText}
+use Rattle.special_sections.specs.declared.fields.Bound.TheVariants.{BelowEnd, UpToEnd}
 use Rattle.special_sections.specs.declared.lists.Judged.{Judged}
 use Rattle.special_sections.specs.declared.lists.Judged.TheVariants.{InText, UpToItsEnd, Anywhere}
 use Rattle.special_sections.specs.Reasons.{first_reason}
@@ -24,8 +25,8 @@ entry_reloc o sec e = slice_index_or (relocs_at o sec) e no_reloc
 
 -- the place is not where the list's places have to be
 abbrev pub is_misplaced : Elf → Judged → Option Place → Bool
-is_misplaced o InText place = not (names_text o false place)
-is_misplaced o UpToItsEnd place = not (names_text o true place)
+is_misplaced o InText place = not (names_text o BelowEnd place)
+is_misplaced o UpToItsEnd place = not (names_text o UpToEnd place)
 is_misplaced o Anywhere place = false
 
 abbrev pub listed_why : Elf → Judged → Reloc → Option Why

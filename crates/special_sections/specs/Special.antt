@@ -1,5 +1,5 @@
 -- What the special sections of an object say, and what keeps them from being read.
-use Rattle.std.specs.Prelude.{List, ◌++◌, false, filter}
+use Rattle.std.specs.Prelude.{List, ◌++◌, filter}
 use Rattle.ot_base.specs.declared.place.Place.{Place}
 use Rattle.elf_objects.specs.Elf.{Elf}
 use Rattle.special_sections.specs.declared.entries.AltEntry.{AltEntry}
@@ -7,6 +7,7 @@ use Rattle.special_sections.specs.declared.entries.BranchEntry.{BranchEntry}
 use Rattle.special_sections.specs.declared.entries.FixEntry.{FixEntry}
 use Rattle.special_sections.specs.declared.entries.HintEntry.{HintEntry}
 use Rattle.special_sections.specs.declared.fault.SpecialFault.{SpecialFault}
+use Rattle.special_sections.specs.declared.fields.Bound.TheVariants.{BelowEnd}
 use Rattle.special_sections.specs.Fields.{is_text_place}
 use Rattle.special_sections.specs.Kinds.{entries, faults}
 use Rattle.special_sections.specs.Tables as tables
@@ -33,7 +34,7 @@ special_of o = record {
   hints = entries hint.hints o;
   after_reachable = entries lists.after_reachable o;
   after_unreachable = entries lists.after_unreachable o;
-  unchecked = filter (is_text_place o false) (entries lists.unchecked o);
+  unchecked = filter (is_text_place o BelowEnd) (entries lists.unchecked o);
   safe_branches = entries lists.safe_branches o;
 }
 

@@ -1,15 +1,17 @@
 -- The entries of `.altinstructions`, `__jump_table` and `__ex_table` (Linux 6.6: `struct alt_instr` of alternative.h,
 -- `struct jump_entry` of jump_label.h, `struct exception_table_entry` of extable.h).
-use Rattle.std.specs.Prelude.{ℕ, ◌+◌, ◌*◌, ◌/◌, ◌==◌, ◌||◌, ◌&&◌, not, false, nat_lt, Bool, ◌∷◌, [], Option, slice_index, length, codes}
+use Rattle.std.specs.Prelude.{ℕ, ◌+◌, ◌*◌, ◌/◌, ◌==◌, ◌||◌, ◌&&◌, not, nat_lt, Bool, ◌∷◌, [], Option, slice_index, length, codes, if◌then◌else◌}
 use Rattle.elf_objects.specs.Elf.{Elf}
 use Rattle.elf_objects.specs.Contents.{section_at}
 use Rattle.elf_objects.specs.Number.{half}
-use Rattle.object_places.specs.Places.{points_at}
+use Rattle.symbols_relocs.specs.NamedPlaces.{place_held_at}
 use Rattle.special_sections.specs.declared.entries.AltEntry.{AltEntry}
 use Rattle.special_sections.specs.declared.entries.BranchEntry.{BranchEntry}
 use Rattle.special_sections.specs.declared.entries.FixEntry.{FixEntry}
 use Rattle.special_sections.specs.declared.fault.Why.{Why}
 use Rattle.special_sections.specs.declared.fault.Why.TheVariants.{NoReloc, NotText, Length}
+use Rattle.special_sections.specs.declared.fields.Bound.{Bound}
+use Rattle.special_sections.specs.declared.fields.Bound.TheVariants.{BelowEnd, UpToEnd}
 use Rattle.special_sections.specs.Reasons.{first_reason}
 use Rattle.special_sections.specs.Fields.{field_at, or_nowhere, lacks_reloc, holds_text_place, leaves_section, table_why}
 use Rattle.special_sections.specs.Kinds.{EntryKind}
@@ -22,8 +24,8 @@ table_count size o sec = length (section_at o sec).body / size
 -- of the replacement, u8 each
 abbrev pub alternative_from : Elf → ℕ → ℕ → AltEntry
 alternative_from o sec at = let body = (section_at o sec).body in record {
-  original = or_nowhere (points_at o (field_at sec at));
-  replacement = or_nowhere (points_at o (field_at sec (at + 4)));
+  original = or_nowhere (place_held_at o (field_at sec at));
+  replacement = or_nowhere (place_held_at o (field_at sec (at + 4)));
   feature = half body (at + 8);
   flags = half body (at + 10);
   original_len = slice_index body (at + 12);
@@ -37,10 +39,14 @@ is_too_long o a =
     || leaves_section o a.original a.original_len
     || leaves_section o a.replacement a.replacement_len
 
+-- a replacement without a byte may also stand at the end of its section
+abbrev pub replacement_bound : AltEntry → Bound
+replacement_bound a = if a.replacement_len == 0 then UpToEnd else BelowEnd
+
 abbrev pub alternative_why_from : Elf → ℕ → ℕ → Option Why
 alternative_why_from o sec at = let original = field_at sec at in let replacement = field_at sec (at + 4) in let entry = alternative_from o sec at in first_reason
     ((lacks_reloc o original || lacks_reloc o replacement, NoReloc)
-    ∷ (not (holds_text_place o false original && holds_text_place o (entry.replacement_len == 0) replacement), NotText)
+    ∷ (not (holds_text_place o BelowEnd original && holds_text_place o (replacement_bound entry) replacement), NotText)
     ∷ (is_too_long o entry, Length)
     ∷ [])
 
@@ -57,14 +63,14 @@ alternatives = record {
 abbrev pub pair_why_from : Elf → ℕ → ℕ → Option Why
 pair_why_from o sec at = let first = field_at sec at in let second = field_at sec (at + 4) in first_reason
     ((lacks_reloc o first || lacks_reloc o second, NoReloc)
-    ∷ (not (holds_text_place o false first && holds_text_place o false second), NotText)
+    ∷ (not (holds_text_place o BelowEnd first && holds_text_place o BelowEnd second), NotText)
     ∷ [])
 
 -- `__jump_table`, 16 bytes: code s32, target s32, and a key that is not read
 abbrev pub branch_from : Elf → ℕ → ℕ → BranchEntry
 branch_from o sec at = record {
-  code = or_nowhere (points_at o (field_at sec at));
-  target = or_nowhere (points_at o (field_at sec (at + 4)));
+  code = or_nowhere (place_held_at o (field_at sec at));
+  target = or_nowhere (place_held_at o (field_at sec (at + 4)));
 }
 
 abbrev pub branches : EntryKind BranchEntry
@@ -79,8 +85,8 @@ branches = record {
 -- `__ex_table`, 12 bytes: insn s32, fixup s32, and data that are not read
 abbrev pub fix_from : Elf → ℕ → ℕ → FixEntry
 fix_from o sec at = record {
-  insn = or_nowhere (points_at o (field_at sec at));
-  fixup = or_nowhere (points_at o (field_at sec (at + 4)));
+  insn = or_nowhere (place_held_at o (field_at sec at));
+  fixup = or_nowhere (place_held_at o (field_at sec (at + 4)));
 }
 
 abbrev pub fixes : EntryKind FixEntry

@@ -7,6 +7,15 @@ ghost use Rattle.special_sections.specs.Fields.{is_text_place as is_in_text, lea
 use elf_objects::Object;
 use ot_base::Place;
 
+/// Up to where in its section a place may stand.
+#[derive(Clone, Copy, Debug, PartialEq, Eq)]
+pub enum Bound {
+    /// Below the section's end.
+    BelowEnd,
+    /// There, or at the end.
+    UpToEnd,
+}
+
 /// The size of a section in bytes, 0 where there is none with that index.
 fn section_size(object: &Object<'_>, sec: u32) -> u64
     ensures { result ≡ (section_at object.now sec).size }
@@ -18,27 +27,26 @@ fn section_size(object: &Object<'_>, sec: u32) -> u64
     }
 }
 
-/// Whether a place is in a text section, below its size, or at its size where the end will do.
-pub(crate) fn is_text_place(object: &Object<'_>, end_will_do: bool, place: Place) -> bool
-    ensures { result ≡ is_in_text object.now end_will_do place }
+/// Whether a place is in a text section, up to a bound.
+pub(crate) fn is_text_place(object: &Object<'_>, bound: Bound, place: Place) -> bool
+    ensures { result ≡ is_in_text object.now bound place }
 {
     if place.sec >= object.sections() || !object.is_text(place.sec) {
         return false;
     }
     let size = section_size(object, place.sec);
-    if end_will_do {
-        place.off <= size
-    } else {
-        place.off < size
+    match bound {
+        Bound::BelowEnd => place.off < size,
+        Bound::UpToEnd => place.off <= size,
     }
 }
 
 /// The same of a place that may be missing.
-pub(crate) fn names_text(object: &Object<'_>, end_will_do: bool, place: Option<Place>) -> bool
-    ensures { result ≡ names_text_in object.now end_will_do place }
+pub(crate) fn names_text(object: &Object<'_>, bound: Bound, place: Option<Place>) -> bool
+    ensures { result ≡ names_text_in object.now bound place }
 {
     match place {
-        Some(place) => is_text_place(object, end_will_do, place),
+        Some(place) => is_text_place(object, bound, place),
         None => false,
     }
 }

@@ -9,6 +9,7 @@ ghost use Rattle.special_sections.specs.Tables.{table_count};
 
 use crate::entries::HintEntry;
 use crate::fault::{SpecialFault, Why};
+use crate::fields::Bound;
 use crate::hint_type::{CALL, FUNC, REGS, REGS_PARTIAL, RESTORE};
 use crate::read::is_named;
 use crate::section::EntrySection;
@@ -79,7 +80,7 @@ fn hint_why(section: &EntrySection<'_, '_>, e: u32, hint: &HintEntry, repeated: 
     if section.lacks_reloc(at as u64) {
         return Some(Why::NoReloc);
     }
-    if !section.holds_text_place(at as u64, false) {
+    if !section.holds_text_place(at as u64, Bound::BelowEnd) {
         return Some(Why::NotText);
     }
     if hint.kind > RESTORE {

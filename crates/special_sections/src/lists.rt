@@ -2,16 +2,16 @@
 
 ghost use Rattle.std.specs.Prelude.{◌≡◌, ◌<◌, length};
 ghost use Rattle.elf_objects.specs.Contents.{relocs_at};
-ghost use Rattle.object_places.specs.Places.{place_named};
+ghost use Rattle.symbols_relocs.specs.NamedPlaces.{place_named};
 ghost use Rattle.special_sections.specs.PlaceLists.{entry_reloc, is_misplaced};
 
 use crate::fault::Why;
-use crate::fields::names_text;
+use crate::fields::{Bound, names_text};
 use crate::format::Format;
 use crate::section::EntrySection;
 use elf_objects::{Object, Reloc};
-use object_places::{is_pointer, named_place};
 use ot_base::Place;
+use symbols_relocs::{is_pointer, named_place};
 
 /// Where the places of a list have to be.
 #[derive(Clone, Copy, Debug, PartialEq, Eq)]
@@ -44,8 +44,8 @@ fn is_wrong(object: &Object<'_>, judged: Judged, place: Option<Place>) -> bool
     ensures { result ≡ is_misplaced object.now judged place }
 {
     match judged {
-        Judged::InText => !names_text(object, false, place),
-        Judged::UpToItsEnd => !names_text(object, true, place),
+        Judged::InText => !names_text(object, Bound::BelowEnd, place),
+        Judged::UpToItsEnd => !names_text(object, Bound::UpToEnd, place),
         Judged::Anywhere => false,
     }
 }

@@ -4,18 +4,18 @@ ghost use Rattle.std.specs.Prelude.{◌≡◌, ◌<◌, ◌≤◌, ◌+◌, ◌^
 ghost use Rattle.std.specs.Int.{cast_signed, w16};
 ghost use Rattle.elf_objects.specs.Contents.{relocs_at, section_at};
 ghost use Rattle.elf_objects.specs.Number.{half};
-ghost use Rattle.object_places.specs.Places.{points_at};
-ghost use Rattle.object_places.specs.Relocs.{IsIndexOf};
+ghost use Rattle.symbols_relocs.specs.NamedPlaces.{place_held_at};
+ghost use Rattle.symbols_relocs.specs.Relocs.{IsIndexOf};
 ghost use Rattle.special_sections.specs.Fields.{field_at, holds_text_place, is_compressed, lacks_reloc, or_nowhere, table_why};
 ghost use Rattle.special_sections.specs.Tables.{table_count};
 
 use crate::fault::Why;
-use crate::fields::names_text;
+use crate::fields::{Bound, names_text};
 use byteorder::{ByteOrder, LittleEndian};
 use elf_objects::{Object, SHF_COMPRESSED};
-use object_places::RelocIndex;
 use ot_base::{NoMemory, Place};
 use std::alloc::Global;
+use symbols_relocs::RelocIndex;
 
 /// A section of entries: its flags, its body, and its relocations by offset.
 #[derive(Drop)]
@@ -90,24 +90,24 @@ impl<'o, 'a> EntrySection<'o, 'a> {
     }
 
     /// The place that the field at an offset holds.
-    fn points_at(&self, at: u64) -> Option<Place>
-        ensures { result ≡ points_at self.now.object.now (field_at self.now.sec at) }
+    fn place_held_at(&self, at: u64) -> Option<Place>
+        ensures { result ≡ place_held_at self.now.object.now (field_at self.now.sec at) }
     {
-        self.relocs.points_at(self.object, at)
+        self.relocs.place_held_at(self.object, at)
     }
 
     /// That place, or section 0, which is none.
     pub(crate) fn place(&self, at: u64) -> Place
-        ensures { result ≡ or_nowhere (points_at self.now.object.now (field_at self.now.sec at)) }
+        ensures { result ≡ or_nowhere (place_held_at self.now.object.now (field_at self.now.sec at)) }
     {
-        self.points_at(at).unwrap_or(Place { sec: 0, off: 0 })
+        self.place_held_at(at).unwrap_or(Place { sec: 0, off: 0 })
     }
 
-    /// Whether that place is in a text section, below its size, or at its size where the end will do.
-    pub(crate) fn holds_text_place(&self, at: u64, end_will_do: bool) -> bool
-        ensures { result ≡ holds_text_place self.now.object.now end_will_do (field_at self.now.sec at) }
+    /// Whether that place is in a text section, up to a bound.
+    pub(crate) fn holds_text_place(&self, at: u64, bound: Bound) -> bool
+        ensures { result ≡ holds_text_place self.now.object.now bound (field_at self.now.sec at) }
     {
-        names_text(self.object, end_will_do, self.points_at(at))
+        names_text(self.object, bound, self.place_held_at(at))
     }
 
     /// The byte at an offset.

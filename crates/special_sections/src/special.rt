@@ -1,6 +1,6 @@
 //! What the special sections of an object say.
 
-ghost use Rattle.std.specs.Prelude.{◌≡◌, [], false, filter, IfOk, IfErr, OnOk};
+ghost use Rattle.std.specs.Prelude.{◌≡◌, [], filter, IfOk, IfErr, OnOk};
 ghost use Rattle.special_sections.specs.Fields.{is_text_place as is_in_text};
 ghost use Rattle.special_sections.specs.Reasons.{TellsFirst};
 ghost use Rattle.special_sections.specs.Special.{special_of, special_faults};
@@ -8,7 +8,7 @@ ghost use Rattle.special_sections.specs.RightTables.{HasRightTables};
 
 use crate::entries::{AltEntry, BranchEntry, FixEntry, HintEntry};
 use crate::fault::SpecialFault;
-use crate::fields::is_text_place;
+use crate::fields::{Bound, is_text_place};
 use crate::hints::read_hints;
 use crate::lists::{Judged, PlaceList};
 use crate::read::read_all;
@@ -215,12 +215,12 @@ fn text_places(
     object: &Object<'_>,
     places: &[Place],
 ) -> Result<Vec<Place>, SpecialFault>
-    ensures ok { IfOk result (λ list. list.items ≡ filter (is_in_text object.now false) places.now) }
+    ensures ok { IfOk result (λ list. list.items ≡ filter (is_in_text object.now Bound.BelowEnd) places.now) }
     ensures err { IfErr result (λ e. e ≡ SpecialFault.NoMemory) }
 {
     let mut list = Vec::new(alloc);
     for place in places {
-        if is_text_place(object, false, *place) {
+        if is_text_place(object, Bound::BelowEnd, *place) {
             list.push(*place)?;
         }
     }

@@ -1,11 +1,11 @@
 //! Alternatives, static branches and exception entries.
 
 ghost use Rattle.std.specs.Prelude.{◌≡◌, ◌<◌, ◌^◌};
-ghost use Rattle.special_sections.specs.Tables.{is_too_long, pair_why_from};
+ghost use Rattle.special_sections.specs.Tables.{is_too_long, pair_why_from, replacement_bound as replacement_bound_of};
 
 use crate::entries::{AltEntry, BranchEntry, FixEntry};
 use crate::fault::Why;
-use crate::fields::leaves_section;
+use crate::fields::{Bound, leaves_section};
 use crate::format::Format;
 use crate::section::EntrySection;
 use elf_objects::Object;
@@ -31,6 +31,17 @@ fn is_long(object: &Object<'_>, entry: &AltEntry) -> bool
         || leaves_section(object, entry.replacement, entry.replacement_len)
 }
 
+/// Up to where a replacement may stand: one without a byte also at the end of its section.
+fn replacement_bound(entry: &AltEntry) -> Bound
+    ensures { result ≡ replacement_bound_of entry.now }
+{
+    if entry.replacement_len == 0 {
+        Bound::UpToEnd
+    } else {
+        Bound::BelowEnd
+    }
+}
+
 /// Why an entry with a place at each of two offsets is refused.
 fn pair_why(section: &EntrySection<'_, '_>, at: u64) -> Option<Why>
     requires { at < 2 ^ 40 }
@@ -39,7 +50,9 @@ fn pair_why(section: &EntrySection<'_, '_>, at: u64) -> Option<Why>
     if section.lacks_reloc(at) || section.lacks_reloc(at + 4) {
         return Some(Why::NoReloc);
     }
-    if !(section.holds_text_place(at, false) && section.holds_text_place(at + 4, false)) {
+    if !(section.holds_text_place(at, Bound::BelowEnd)
+        && section.holds_text_place(at + 4, Bound::BelowEnd))
+    {
         return Some(Why::NotText);
     }
     None
@@ -70,8 +83,9 @@ impl Format for Alternatives {
         if section.lacks_reloc(at) || section.lacks_reloc(at + 4) {
             return Some(Why::NoReloc);
         }
-        let empty = entry.replacement_len == 0;
-        if !(section.holds_text_place(at, false) && section.holds_text_place(at + 4, empty)) {
+        if !(section.holds_text_place(at, Bound::BelowEnd)
+            && section.holds_text_place(at + 4, replacement_bound(&entry)))
+        {
             return Some(Why::NotText);
         }
         if is_long(section.object, &entry) {

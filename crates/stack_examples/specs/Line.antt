@@ -3,10 +3,10 @@ use Rattle.std.specs.Prelude.{ℕ, Bool, true, false, List, [], ◌∷◌, Optio
 use Rattle.ot_base.specs.declared.place.Place.{Place}
 use Rattle.operation_defs.specs.declared.op.Op.{Op}
 use Rattle.operation_defs.specs.declared.op.Op.TheVariants.{Jmp, JmpInd, Ret, RetImm, Iret, Switch, Ud2}
-use Rattle.program_defs.specs.declared.flow.EdgeKind.{EdgeKind}
-use Rattle.program_defs.specs.declared.flow.Role.{Role}
-use Rattle.program_defs.specs.declared.flow.Role.TheVariants as role
-use Rattle.program_model.specs.declared.program.Site.{Site}
+use Rattle.machine_defs.specs.declared.flow.EdgeKind.{EdgeKind}
+use Rattle.machine_defs.specs.declared.flow.Role.{Role}
+use Rattle.machine_defs.specs.declared.flow.Role.TheVariants as role
+use Rattle.program_model.specs.declared.program.ModelSite.{ModelSite}
 use Rattle.stack_examples.specs.declared.lines.Line.{Line}
 
 -- whether control goes on behind an instruction: not behind a jump, a return, a context switch or ud2
@@ -50,5 +50,5 @@ abbrev pub line_address : Line → ℕ
 line_address line = address_by line.replaces line.off
 
 -- a site of a table stands in section 1
-abbrev pub site_at : ℕ × ℕ → Site
-site_at (off, len) = record { start = record { sec = 1; off = off }; len = len }
+abbrev pub site_of_pair : ℕ × ℕ → ModelSite
+site_of_pair (off, len) = record { start = record { sec = 1; off = off }; len = len }

@@ -1,21 +1,21 @@
 //! Programs from tables of their instructions.
 
 ghost use Rattle.std.specs.Prelude.{◌≡◌, IfOk, length, map, vec_len};
-ghost use Rattle.stack_examples.specs.Line.{site_at};
+ghost use Rattle.stack_examples.specs.Line.{site_of_pair};
 
 use crate::lines::{Line, Table, instruction};
+use machine_defs::{Edge, EdgeKind};
 use operation_defs::Insn;
 use ot_base::Place;
-use program_defs::{Edge, EdgeKind};
-use program_model::{Point, Program, Site, TextSection};
+use program_model::{ModelPoint, ModelSite, Program, TextSection};
 use std::alloc::{AllocError, Global};
 
 /// A site in section 1.
-fn site(at: &(u64, u64)) -> Site
-    ensures { result ≡ site_at at.now }
+fn site(at: &(u64, u64)) -> ModelSite
+    ensures { result ≡ site_of_pair at.now }
 {
     let (off, len) = *at;
-    Site {
+    ModelSite {
         start: Place { sec: 1, off },
         len,
     }
@@ -34,8 +34,8 @@ fn previous(lines: &[Line], line: Line) -> Option<u32> {
 }
 
 /// The point of a line, without what it goes to.
-fn point(alloc: Global, lines: &[Line], line: Line) -> Point {
-    Point {
+fn point(alloc: Global, lines: &[Line], line: Line) -> ModelPoint {
+    ModelPoint {
         insn: Insn {
             len: line.len,
             op: line.op,
@@ -110,7 +110,7 @@ fn goes(alloc: Global, p: &Program, line: Line) -> Result<Vec<Edge>, AllocError>
 fn unlinked(alloc: Global, lines: &[Line], table: &Table) -> Result<Program, AllocError>
     ensures points { IfOk result (λ p. vec_len p.points ≡ length lines.now) }
     ensures entries { IfOk result (λ p. p.entries.items ≡ table.now.entries.now) }
-    ensures sites { IfOk result (λ p. p.sites.items ≡ map site_at table.now.sites.now) }
+    ensures sites { IfOk result (λ p. p.sites.items ≡ map site_of_pair table.now.sites.now) }
 {
     let mut points = Vec::new(alloc);
     let mut without_size = Vec::new(alloc);
@@ -136,7 +136,7 @@ fn unlinked(alloc: Global, lines: &[Line], table: &Table) -> Result<Program, All
 pub fn program(alloc: Global, table: &Table) -> Result<Program, AllocError>
     ensures points { IfOk result (λ p. vec_len p.points ≡ length table.now.rows.now) }
     ensures entries { IfOk result (λ p. p.entries.items ≡ table.now.entries.now) }
-    ensures sites { IfOk result (λ p. p.sites.items ≡ map site_at table.now.sites.now) }
+    ensures sites { IfOk result (λ p. p.sites.items ≡ map site_of_pair table.now.sites.now) }
 {
     let lines: Vec<Line> = table.rows.iter().map(instruction).collect(alloc)?;
     let mut p = unlinked(alloc, lines.as_slice(), table)?;

@@ -1,4 +1,4 @@
-//! Programs of a few points, by tables of their instructions.
+//! The programs of a few points that tests of the plain readings run, made from tables of their instructions.
 #![tactic(auto)]
 
 pub mod builder;

@@ -3,9 +3,9 @@
 ghost use Rattle.std.specs.Prelude.{◌≡◌, Some, None};
 ghost use Rattle.stack_examples.specs.Line.{goes_on, role_of, next_branches, line_place, line_address};
 
+use machine_defs::{EdgeKind, Marks, Role};
 use operation_defs::Op;
 use ot_base::Place;
-use program_defs::{EdgeKind, Marks, Role};
 use state_defs::HintState;
 
 /// Nothing is wrong with where an instruction goes.
@@ -14,6 +14,7 @@ const NO_MARKS: Marks = Marks {
     past_end: false,
     into_site: false,
     into_function: false,
+    relocated: false,
 };
 
 /// What an instruction of a table has besides its place, length and operation.

@@ -6,7 +6,7 @@ use Rattle.std.proofs.lemmas.Bool.{le-leb, leb-true}
 use Rattle.std.proofs.lemmas.List.Elements.{All-nil, All-cons, All-head, All-tail}
 use Rattle.std.proofs.lemmas.List.Sorted.{All-permutation, Contains-permutation}
 use Rattle.std.proofs.lemmas.Option.{none-some, slice_get_past}
-use Rattle.orc_unwind.specs.Memory.{Piece, end_of, byte_in, byte_at}
+use Rattle.orc_walk.specs.Memory.{Piece, end_of, byte_in, byte_at}
 use Rattle.stack_image.specs.ImageFile.{pieces_in}
 use Rattle.stack_image.specs.Laws.{MemoryIsSaid}
 use Rattle.stack_image.proofs.PieceLemmas.{Before, pairs_tail}

@@ -17,8 +17,8 @@ use Rattle.std.proofs.lemmas.List.Folds.{list_any_none, list_any_at}
 use Rattle.std.proofs.lemmas.List.Kept.{AllPairs-cons}
 use Rattle.std.proofs.lemmas.List.Sorted.{IsPermutation-refl, IsPermutation-sym, IsPermutation-cons, IsPermutation-trans, IsPermutation-middle, IsPermutation-map, All-permutation}
 use Rattle.std.proofs.lemmas.Map.Views.{All-found, Contains-from_lookup}
-use Rattle.orc_unwind.specs.Memory.{Piece, IsMemory, end_of, piece_of, pieces_of}
-use Rattle.orc_table.proofs.BaseLemmas.{same_key, same_section}
+use Rattle.orc_walk.specs.Memory.{Piece, IsMemory, end_of, piece_of, pieces_of}
+use Rattle.orc_walk.proofs.BaseLemmas.{same_key, same_section}
 use Rattle.stack_image.specs.declared.fault.ImageWhy.{ImageWhy}
 use Rattle.stack_image.specs.declared.fault.ImageWhy.TheVariants.{Wraps, Overlaps}
 use Rattle.stack_image.specs.ImageFile.{overlap, piece_fault}

@@ -6,8 +6,8 @@ use Rattle.std.specs.Option.{option_to_list}
 use Rattle.std.specs.Result.{result_ok}
 use Rattle.std.proofs.lemmas.List.Elements.{filter_map-append}
 use Rattle.std.proofs.lemmas.List.Sorted.{IsPermutation-push_more, list_any-IsPermutation}
-use Rattle.walk_defs.specs.declared.frame.Regs.{Regs}
-use Rattle.orc_unwind.specs.Memory.{Piece, pieces_of, end_of}
+use Rattle.table_defs.specs.declared.frame.Regs.{Regs}
+use Rattle.orc_walk.specs.Memory.{Piece, pieces_of, end_of}
 use Rattle.stack_image.specs.declared.fault.ImageWhy.{ImageWhy}
 use Rattle.stack_image.specs.declared.fault.ImageWhy.TheVariants.{Repeated, Wraps, Overlaps}
 use Rattle.stack_image.specs.declared.fault.LineFault.{LineFault}

@@ -2,8 +2,8 @@
 use Rattle.std.specs.Prelude.{◌≡◌, ℕ, ◌+◌, ◌-◌, ◌^◌, ◌<◌, ◌≤◌, ◌⊎◌, Bool, ◌&&◌, nat_lt, ◌==◌, List, [], ◌∷◌, length, take, filter_map, slice_index_or, IsPermutation, Option, Some, None, Result, Ok, Err, if◌then◌else◌}
 use Rattle.std.specs.List.{list_any}
 use Rattle.std.specs.Result.{result_ok}
-use Rattle.walk_defs.specs.declared.frame.Regs.{Regs}
-use Rattle.orc_unwind.specs.Memory.{Piece, IsMemory, end_of}
+use Rattle.table_defs.specs.declared.frame.Regs.{Regs}
+use Rattle.orc_walk.specs.Memory.{Piece, IsMemory, end_of}
 use Rattle.stack_image.specs.declared.fault.ImageWhy.{ImageWhy}
 use Rattle.stack_image.specs.declared.fault.ImageWhy.TheVariants.{Repeated, Wraps, Overlaps, NoRegs}
 use Rattle.stack_image.specs.declared.fault.ImageFault.{ImageFault}

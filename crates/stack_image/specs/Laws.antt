@@ -1,6 +1,6 @@
 -- What holds of every image.
 use Rattle.std.specs.Prelude.{◌≡◌, ℕ, List}
-use Rattle.orc_unwind.specs.Memory.{byte_at}
+use Rattle.orc_walk.specs.Memory.{byte_at}
 use Rattle.stack_image.specs.Statements.{Said}
 use Rattle.stack_image.specs.ImageFile.{StackImage, IsSaid, pieces_in}
 

@@ -4,7 +4,7 @@ use Rattle.std.specs.List.{list_any}
 use Rattle.std.specs.Option.{option_to_list}
 use Rattle.std.specs.Ordering.{nat_cmp}
 use Rattle.std.specs.BTreeSet.{contains}
-use Rattle.orc_unwind.specs.Memory.{IsMemory, pieces_of}
+use Rattle.orc_walk.specs.Memory.{IsMemory, pieces_of}
 use Rattle.stack_image.specs.declared.fault.ImageWhy.{ImageWhy}
 use Rattle.stack_image.specs.declared.fault.ImageWhy.TheVariants.{NoRegs}
 use Rattle.stack_image.specs.declared.fault.ImageFault.{ImageFault}

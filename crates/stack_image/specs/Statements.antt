@@ -3,8 +3,8 @@ use Rattle.std.specs.Prelude.{ℕ, ◌==◌, List, length, Option, Some, None, R
 use Rattle.std.specs.Option.{ok_or}
 use Rattle.std.specs.Str.{bytes_eq}
 use Rattle.ot_base.specs.NamesFile.{says_nothing}
-use Rattle.walk_defs.specs.declared.frame.Regs.{Regs}
-use Rattle.orc_unwind.specs.Memory.{Piece}
+use Rattle.table_defs.specs.declared.frame.Regs.{Regs}
+use Rattle.orc_walk.specs.Memory.{Piece}
 use Rattle.stack_image.specs.declared.fault.ImageWhy.{ImageWhy}
 use Rattle.stack_image.specs.declared.fault.ImageWhy.TheVariants.{Word, Number}
 use Rattle.stack_image.specs.Lines.{words, word}

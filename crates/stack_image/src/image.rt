@@ -6,10 +6,10 @@ ghost use Rattle.stack_image.specs.ImageFile.{IsImage, IsImageFault};
 use crate::fault::ImageFault;
 use crate::lines::lines_of;
 use crate::reading::Reading;
-use orc_unwind::Memory;
+use orc_walk::Memory;
 use std::alloc::Global;
 use std::marker::Model;
-use walk_defs::Regs;
+use table_defs::Regs;
 
 /// What a walk over the stack of a stopped thread begins with: the registers, where the text sections of
 /// an object lie, and memory.

@@ -14,4 +14,4 @@ mod statements;
 pub use fault::{ImageFault, ImageWhy};
 pub use image::Image;
 pub use laws::memory_is_said;
-pub use orc_unwind::{Memory, Regs};
+pub use orc_walk::{Memory, Regs};

@@ -1,7 +1,7 @@
 //! Pieces of memory by their addresses.
 
 ghost use Rattle.std.specs.Prelude.{◌≡◌, ◌+◌, ◌<◌, ◌∷◌, IsPermutation, None, OnOk, length, nat_lt};
-ghost use Rattle.orc_unwind.specs.Memory.{IsMemory, pieces_of};
+ghost use Rattle.orc_walk.specs.Memory.{IsMemory, pieces_of};
 ghost use Rattle.stack_image.specs.ImageFile.{piece_fault};
 
 use crate::fault::ImageWhy;

@@ -9,10 +9,10 @@ use crate::fault::{ImageFault, ImageWhy, LineFault};
 use crate::image::Image;
 use crate::ranges::{add_piece, piece_fault};
 use crate::statements::{Statement, read_line};
-use orc_unwind::Memory;
+use orc_walk::Memory;
 use std::alloc::Global;
 use std::collections::{BTreeMap, BTreeSet};
-use walk_defs::Regs;
+use table_defs::Regs;
 
 /// What the lines so far say.
 #[derive(Drop)]

@@ -8,7 +8,7 @@ use crate::fault::{ImageWhy, LineFault};
 use crate::lines::{says_nothing, words_of};
 use crate::numbers::{bytes, decimal, hexadecimal};
 use std::alloc::{AllocError, Global};
-use walk_defs::Regs;
+use table_defs::Regs;
 
 /// What a line of an image says.
 #[derive(Drop)]

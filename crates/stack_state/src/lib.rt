@@ -1,4 +1,5 @@
-//! How the stack moves: the state before an instruction, and the state that the instruction leaves.
+//! The move of a stack state by one instruction, as the checker makes it, with the law that it tells the truth of the
+//! stack machine.
 #![tactic(auto)]
 
 pub mod laws;

@@ -4,12 +4,12 @@ use crate::case::{
     Accepted, CALLED, CALLER, DEEPER, ENTERED, FRAMED, How, PUSHED, RBP, Run, SAVED,
 };
 use crate::expect::expect_accepted;
+use machine_defs::{EdgeKind, Role};
 use operation_defs::Op;
-use program_defs::{EdgeKind, Role};
 use stack_examples::lines::{Table, With};
 use state_defs::HintState;
 use std::test::Fail;
-use walk_defs::Frame;
+use table_defs::Frame;
 
 /// The frame of the call at 1, of five bytes, behind a push.
 const CALLED_AT_1: &[Frame] = &[

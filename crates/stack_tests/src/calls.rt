@@ -2,13 +2,13 @@
 
 use crate::case::{Accepted, CALLED, CALLER, ENDED, ENTERED, FRAMED, How, PUSHED, RBP, Run, SAVED};
 use crate::expect::expect_accepted;
+use machine_defs::{EdgeKind, Role};
 use operation_defs::Op;
-use program_defs::{EdgeKind, Role};
 use program_model::Store;
 use stack_examples::lines::{Table, With};
 use state_defs::{EndKind, HintState, State};
 use std::test::Fail;
-use walk_defs::Frame;
+use table_defs::Frame;
 
 /// The frame of the call at 4, of five bytes, with 8 bytes of its caller's frame.
 const CALLED_AT_4: &[Frame] = &[

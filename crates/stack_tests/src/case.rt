@@ -6,7 +6,7 @@ use ot_base::Options;
 use program_model::Store;
 use stack_examples::lines::Table;
 use state_defs::{BpHome, Depth, State};
-use walk_defs::{Frame as WalkedFrame, Stop};
+use table_defs::{Frame as WalkedFrame, Stop};
 
 /// Where the stack begins, and where it ends.
 pub const LO: u64 = 0x8000;

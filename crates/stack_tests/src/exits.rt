@@ -3,14 +3,14 @@
 use crate::case::{Broken, CALLED, ENDED, End, How, NO_OPTIONS, Wrong};
 use crate::expect::expect_broken;
 use crate::targets::JMP;
+use machine_defs::{EdgeKind, Role};
 use machine_model::Wreck;
 use operation_defs::Op;
 use ot_base::rules;
-use program_defs::{EdgeKind, Role};
 use stack_examples::lines::{Table, With};
 use state_defs::{EndKind, HintState, State};
 use std::test::Fail;
-use walk_defs::Stop;
+use table_defs::Stop;
 
 /// It returns with a stack that isn't ready for that.
 const WRONG_RETURN: How = How::Wrecks(Wreck::WrongReturn);

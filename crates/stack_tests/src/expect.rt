@@ -1,19 +1,18 @@
 //! What is expected of a program: its states, its warnings, and how it runs.
 
 use crate::case::{Accepted, Broken, End, From, How, LO, NO_OPTIONS, Run, Wrong};
-use checker_model::{kept_states, rows, walk, warnings};
+use machine_defs::{Edge, EdgeKind};
 use machine_model::{
     Anything, Choice, Core, InterruptWords, Machine, Standing, next_state, started,
 };
 use ot_base::{Place, PlacedRow, Warning};
-use program_defs::{Edge, EdgeKind};
-use program_model::{Program, Region};
+use program_model::{Program, Region, kept_states, rows, walk, warnings};
 use stack_examples::builder::program;
 use state_defs::{EndKind, State};
 use std::alloc::{AllocError, Global};
 use std::process::Abort;
 use std::test::Fail;
-use walk_defs::{Frame as WalkedFrame, Range, Regs, Stop};
+use table_defs::{Frame as WalkedFrame, Range, Regs, Stop};
 
 /// Where section 1 begins.
 const BASE: u64 = 0x1000;

@@ -3,8 +3,8 @@
 
 use crate::case::{Accepted, CALLED, CALLER, DEEPER, ENTERED, FRAMED, How, PUSHED, Run, SAVED};
 use crate::expect::expect_accepted;
+use machine_defs::EdgeKind;
 use operation_defs::Op;
-use program_defs::EdgeKind;
 use program_model::Store;
 use stack_examples::lines::{Table, With};
 use state_defs::{BpHome, Depth, State};

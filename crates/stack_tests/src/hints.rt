@@ -9,7 +9,7 @@ use operation_defs::Op;
 use stack_examples::lines::{Table, With};
 use state_defs::HintState;
 use std::test::Fail;
-use walk_defs::Stop;
+use table_defs::Stop;
 
 /// 55 48 89 E5 90 48 89 C5 48 89 C5 90 C9 C3: push rbp; mov rsp to rbp; a SAVE at a nop; rbp is written
 /// twice; a RESTORE at a nop, where rbp has to be what it was; leave; ret.

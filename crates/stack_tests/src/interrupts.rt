@@ -10,7 +10,7 @@ use operation_defs::Op;
 use stack_examples::lines::{Table, With};
 use state_defs::{BpHome, Depth, HintState, State};
 use std::test::Fail;
-use walk_defs::{Frame, Stop};
+use table_defs::{Frame, Stop};
 
 /// The five words of an interrupt, at rsp and 8 bytes above it.
 const GATE: State = State::Regs {

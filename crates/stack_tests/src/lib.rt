@@ -1,6 +1,5 @@
-//! Programs of a few points, run by the plain reading of the stack machine: one for each feature of the
-//! machine, and one that breaks each rule. The states, frames and warnings are written by hand. And moves of
-//! stack states.
+//! Tests of the plain reading of the stack machine: a program for each feature of the machine, and one that breaks each
+//! rule. The states, frames and warnings are written by hand. And moves of stack states.
 #![tactic(auto)]
 
 #[cfg(test)]

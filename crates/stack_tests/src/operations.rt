@@ -10,7 +10,7 @@ use ot_base::rules;
 use stack_examples::lines::{Table, With};
 use state_defs::{BpHome, Depth, HintState, State};
 use std::test::Fail;
-use walk_defs::Stop;
+use table_defs::Stop;
 
 const SP_WRITTEN: Broken = Broken {
     name: "rsp written in another way",

@@ -3,9 +3,9 @@
 
 use crate::case::{Broken, End};
 use crate::expect::expect_broken;
+use machine_defs::Role;
 use operation_defs::Op;
 use ot_base::{Options, rules};
-use program_defs::Role;
 use stack_examples::lines::{Table, With};
 use std::test::Fail;
 

@@ -2,14 +2,14 @@
 
 use crate::case::{Broken, CALLED, CALLED_STACK, End, From, How, NO_OPTIONS, Wrong};
 use crate::expect::expect_broken;
+use machine_defs::Role;
 use machine_model::Start;
 use operation_defs::Op;
 use ot_base::rules;
-use program_defs::Role;
 use stack_examples::lines::{Table, With};
 use state_defs::HintState;
 use std::test::Fail;
-use walk_defs::Stop;
+use table_defs::Stop;
 
 /// Called from outside, where control stands at the first instruction of a replacement.
 const CALLED_AT_3: From = From {

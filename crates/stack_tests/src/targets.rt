@@ -3,13 +3,13 @@
 
 use crate::case::{Broken, CALLED, End, How, NO_OPTIONS, Wrong};
 use crate::expect::expect_broken;
+use machine_defs::{EdgeKind, Marks};
 use machine_model::Wreck;
 use operation_defs::Op;
 use ot_base::rules;
-use program_defs::{EdgeKind, Marks};
 use stack_examples::lines::{Table, With};
 use std::test::Fail;
-use walk_defs::Stop;
+use table_defs::Stop;
 
 pub const JMP: Op = Op::Jmp {
     rel: 0,
@@ -22,6 +22,7 @@ const BAD: Marks = Marks {
     past_end: false,
     into_site: false,
     into_function: false,
+    relocated: false,
 };
 
 const PAST_ITS_END: Marks = Marks {
@@ -29,6 +30,7 @@ const PAST_ITS_END: Marks = Marks {
     past_end: true,
     into_site: false,
     into_function: false,
+    relocated: false,
 };
 
 const INTO_A_SITE: Marks = Marks {
@@ -36,6 +38,7 @@ const INTO_A_SITE: Marks = Marks {
     past_end: false,
     into_site: true,
     into_function: false,
+    relocated: false,
 };
 
 const INTO_A_FUNCTION: Marks = Marks {
@@ -43,6 +46,15 @@ const INTO_A_FUNCTION: Marks = Marks {
     past_end: false,
     into_site: false,
     into_function: true,
+    relocated: false,
+};
+
+const ON_A_NUMBER: Marks = Marks {
+    bad: false,
+    past_end: false,
+    into_site: false,
+    into_function: false,
+    relocated: true,
 };
 
 const BAD_TARGET: Broken = Broken {
@@ -118,6 +130,23 @@ const INTO_FUNCTION: Broken = Broken {
     ),
 };
 
+/// The machine runs what is written, so no run goes wrong.
+const RELOCATED: Broken = Broken {
+    name: "a relocation on the number that is added to rsp",
+    table: Table {
+        rows: &[
+            (0, 4, Op::AddSp { by: -8 }, &[]),
+            (4, 4, Op::AddSp { by: 8 }, &[With::Marks(ON_A_NUMBER)]),
+            (8, 1, Op::Ret, &[]),
+        ],
+        entries: &[0],
+        sites: &[],
+    },
+    options: NO_OPTIONS,
+    warnings: &[(4, rules::RELOCATED_STACK_OFFSET, 0, 0)],
+    run: End::IsNotRun,
+};
+
 const FALLS_THROUGH: Broken = Broken {
     name: "a nop before a function that isn't checked",
     table: Table {
@@ -179,6 +208,11 @@ fn warns_of_into_site(rt: HostRuntime) -> Result<(), Fail> {
 #[test]
 fn warns_of_into_function(rt: HostRuntime) -> Result<(), Fail> {
     expect_broken(&rt, rt.alloc(), &INTO_FUNCTION)
+}
+
+#[test]
+fn warns_of_relocated(rt: HostRuntime) -> Result<(), Fail> {
+    expect_broken(&rt, rt.alloc(), &RELOCATED)
 }
 
 #[test]

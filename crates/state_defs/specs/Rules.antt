@@ -9,6 +9,12 @@ use Rattle.state_defs.specs.declared.state.State.TheVariants.{Live, Ended, Regs}
 use Rattle.state_defs.specs.Move.{int_same}
 use Rattle.state_defs.specs.Row.{unfit_offset}
 
+-- whether registers and memory are followed: in a call frame, or in an interrupt's
+abbrev pub is_followed : State → Bool
+is_followed (Live depth fp bp) = true
+is_followed (Ended kind) = false
+is_followed (Regs full depth) = true
+
 -- whether the stack is as at the function's entry
 abbrev pub is_initial : State → Bool
 is_initial (Live (Known n) None Same) = int_same n (pos 8)

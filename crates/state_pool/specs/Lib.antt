@@ -1,3 +1,4 @@
 pub mod Hashed
 pub mod Keys
 pub mod States
+pub mod Counted

@@ -4,10 +4,10 @@ use Rattle.std.specs.Ordering.{nat_cmp, is_lt, ordering_then}
 use Rattle.std.proofs.lemmas.Bool.{cases_Bool, false≢true}
 use Rattle.std.proofs.lemmas.Bool.Decides.{nat_tests}
 use Rattle.ot_base.specs.declared.place.Place.{Place}
+use Rattle.ot_base.specs.Places.{is_before}
 use Rattle.symbols_relocs.specs.declared.function.Function.{Function}
 use Rattle.symbols_relocs.specs.Counts.{is_behind, is_count, is_holder, is_upto}
-use Rattle.symbols_relocs.specs.Lists.{function, holds, no_function, AreRising}
-use Rattle.symbols_relocs.specs.Places.{is_before}
+use Rattle.symbols_relocs.specs.Lists.{function, in_function, no_function, AreRising}
 use Rattle.symbols_relocs.proofs.PlaceOrder.{rising_parts, not_true}
 
 left : (a b : Bool) → (a && b) ≡ true → a ≡ true
@@ -57,17 +57,17 @@ counted_behind fs count place up is k from inside =
 below : (n m : ℕ) → ltb n m ≡ true → n < m
 below n m h = grind (arith, nat_tests)
 
-not_held : (a b c d n : ℕ) → is_lt (ordering_then (nat_cmp a c) (nat_cmp b d)) ≡ true → (eqb c a && leb d b && ltb b (d + n)) ≡ false
+not_held : (a b c d n : ℕ) → is_lt (ordering_then (nat_cmp a c) (nat_cmp b d)) ≡ true → (eqb c a && (leb d b && ltb b (d + n))) ≡ false
 not_held a b c d n x = grind (arith, nat_tests)
 
 pub holder_within : (fs : List Function) (index : ℕ) (place : Place) → is_holder fs index place ≡ true → index < length fs
 holder_within fs index place is = below index (length fs) (left _ _ is)
 
-pub holder_holds : (fs : List Function) (index : ℕ) (place : Place) → is_holder fs index place ≡ true → holds (function fs index) place ≡ true
-holder_holds fs index place is = left (holds (function fs index) place) (is_behind fs (index + 1) place) (right (ltb index (length fs)) _ is)
+pub holder_holds : (fs : List Function) (index : ℕ) (place : Place) → is_holder fs index place ≡ true → in_function (function fs index) place ≡ true
+holder_holds fs index place is = left (in_function (function fs index) place) (is_behind fs (index + 1) place) (right (ltb index (length fs)) _ is)
 
-pub holder_last : (fs : List Function) (index : ℕ) (place : Place) → AreRising fs → is_holder fs index place ≡ true → (k : ℕ) → index < k → k < length fs → holds (function fs k) place ≡ false
+pub holder_last : (fs : List Function) (index : ℕ) (place : Place) → AreRising fs → is_holder fs index place ≡ true → (k : ℕ) → index < k → k < length fs → in_function (function fs k) place ≡ false
 holder_last fs index place up is k from inside =
     let f : Function = function fs k in
     not_held place.sec place.off f.start.sec f.start.off f.size
-    (behind_on fs (index + 1) place up (right (holds (function fs index) place) (is_behind fs (index + 1) place) (right (ltb index (length fs)) _ is)) k (omega arith) inside)
+    (behind_on fs (index + 1) place up (right (in_function (function fs index) place) (is_behind fs (index + 1) place) (right (ltb index (length fs)) _ is)) k (omega arith) inside)

@@ -6,15 +6,16 @@ use Rattle.std.proofs.lemmas.Bool.{cases_lt, ltb-true, lt-ltb}
 use Rattle.std.proofs.lemmas.Bool.Decides.{nat_tests}
 use Rattle.std.proofs.lemmas.List.{get_or_append_left, get_or_push, length_push}
 use Rattle.ot_base.specs.declared.place.Place.{Place}
+use Rattle.ot_base.specs.Places.{is_before, same_place}
 use Rattle.elf_objects.specs.Elf.{Elf}
 use Rattle.elf_objects.specs.Contents.{symbol_at}
 use Rattle.elf_objects.specs.Below.{least_below}
 use Rattle.elf_objects.proofs.LeastBelow.{least_below-some, least_below-none, none-least_below}
 use Rattle.symbols_relocs.specs.declared.function.Function.{Function}
 use Rattle.symbols_relocs.specs.Functions.{function_at, is_function, is_held_from, is_symbol_at, start_of, starts_at}
-use Rattle.symbols_relocs.specs.Lists.{function, no_function, symbol_of, function_symbol, HaveParents, holds, AreFunctions, AreMerged, AreSame, AreSymbols, HaveSymbols, IsIndexOfSymbol, IsFunction, AreRising}
-use Rattle.symbols_relocs.specs.Parts.{first_named, function_named, parent_of, part_name}
-use Rattle.symbols_relocs.specs.Places.{earlier, is_before, same_place}
+use Rattle.symbols_relocs.specs.Lists.{function, no_function, symbol_of, function_symbol, HaveParents, in_function, AreFunctions, AreMerged, AreSame, AreSymbols, HaveSymbols, IsIndexOfSymbol, IsFunction, AreRising}
+use Rattle.symbols_relocs.specs.Parts.{parent_of}
+use Rattle.symbols_relocs.specs.Places.{earlier}
 use Rattle.symbols_relocs.proofs.Least.{some-least_below}
 use Rattle.symbols_relocs.proofs.PlaceOrder.{before_is_other, is_same, same_is}
 
@@ -74,28 +75,28 @@ some_fails p n (Some k) e h = let w = least_below-some p n k e in absurd (h k w.
 
 -- ---- a place that is held
 
-sec_of : (a b c d s : ℕ) → (eqb a c && leb b d && ltb d (b + s)) ≡ true → a ≡ c
+sec_of : (a b c d s : ℕ) → (eqb a c && (leb b d && ltb d (b + s))) ≡ true → a ≡ c
 sec_of a b c d s h = grind (arith, nat_tests)
 
-from_of : (a b c d s : ℕ) → (eqb a c && leb b d && ltb d (b + s)) ≡ true → b ≤ d
+from_of : (a b c d s : ℕ) → (eqb a c && (leb b d && ltb d (b + s))) ≡ true → b ≤ d
 from_of a b c d s h = grind (arith, nat_tests)
 
-to_of : (a b c d s : ℕ) → (eqb a c && leb b d && ltb d (b + s)) ≡ true → d < b + s
+to_of : (a b c d s : ℕ) → (eqb a c && (leb b d && ltb d (b + s))) ≡ true → d < b + s
 to_of a b c d s h = grind (arith, nat_tests)
 
-held : (a b c d s : ℕ) → a ≡ c → b ≤ d → d < b + s → (eqb a c && leb b d && ltb d (b + s)) ≡ true
+held : (a b c d s : ℕ) → a ≡ c → b ≤ d → d < b + s → (eqb a c && (leb b d && ltb d (b + s))) ≡ true
 held a b c d s e f g = grind (arith, nat_tests)
 
-pub holds_sec : (f : Function) (place : Place) → holds f place ≡ true → f.start.sec ≡ place.sec
+pub holds_sec : (f : Function) (place : Place) → in_function f place ≡ true → f.start.sec ≡ place.sec
 holds_sec f place h = sec_of f.start.sec f.start.off place.sec place.off f.size h
 
-pub holds_from : (f : Function) (place : Place) → holds f place ≡ true → f.start.off ≤ place.off
+pub holds_from : (f : Function) (place : Place) → in_function f place ≡ true → f.start.off ≤ place.off
 holds_from f place h = from_of f.start.sec f.start.off place.sec place.off f.size h
 
-pub holds_to : (f : Function) (place : Place) → holds f place ≡ true → place.off < f.start.off + f.size
+pub holds_to : (f : Function) (place : Place) → in_function f place ≡ true → place.off < f.start.off + f.size
 holds_to f place h = to_of f.start.sec f.start.off place.sec place.off f.size h
 
-it_holds : (f : Function) (place : Place) → f.start.sec ≡ place.sec → f.start.off ≤ place.off → place.off < f.start.off + f.size → holds f place ≡ true
+it_holds : (f : Function) (place : Place) → f.start.sec ≡ place.sec → f.start.off ≤ place.off → place.off < f.start.off + f.size → in_function f place ≡ true
 it_holds f place e g h = held f.start.sec f.start.off place.sec place.off f.size e g h
 
 place_is : (p : Place) (sec off : ℕ) → p.sec ≡ sec → p.off ≡ off → p ≡ record { sec = sec; off = off }
@@ -118,7 +119,7 @@ module _ (o : Elf) (fs : List Function) (all : AreFunctions o fs) where
   pub known_symbols : HaveSymbols o fs
   known_symbols i inside = let w = all.each i inside in (least_below-some (is_symbol_at o (function fs i).start) (length o.symbols) (function fs i).sym w.sym).below
 
-  -- a function holds the place from so many bytes before
+  -- a function in_function the place from so many bytes before
   record Holder (place : Place) (bytes : ℕ) : Type 0 where
     index : ℕ
     inside : index < length fs
@@ -135,22 +136,22 @@ module _ (o : Elf) (fs : List Function) (all : AreFunctions o fs) where
       let size : (symbol_at o k).size ≤ (function fs w.0).size = f.size.greatest k low (rw start here) in
       record { index = w.0; inside = w.1; start = start; holds_it = omega arith }
 
-  held_by : (place : Place) (bytes : ℕ) → bytes ≤ place.off → (w : Holder place bytes) → holds (function fs w.index) place ≡ true
+  held_by : (place : Place) (bytes : ℕ) → bytes ≤ place.off → (w : Holder place bytes) → in_function (function fs w.index) place ≡ true
   held_by place bytes low w =
       let e : (function fs w.index).start.off ≡ place.off - bytes = ap (λ (p : Place). p.off) w.start in
       let more : bytes < (function fs w.index).size = w.holds_it in
       it_holds (function fs w.index) place (ap (λ (p : Place). p.sec) w.start) (omega arith) (omega arith)
 
-  module _ (place : Place) (none : (k : ℕ) → k < length fs → holds (function fs k) place ≡ false) where
+  module _ (place : Place) (none : (k : ℕ) → k < length fs → in_function (function fs k) place ≡ false) where
     not_held : (bytes : ℕ) → bytes < place.off + 1 → is_held_from o place bytes ≡ false
     not_held bytes low = some_fails (λ k. is_symbol_at o (earlier place bytes) k && ltb bytes (symbol_at o k).size) (length o.symbols) (least_below (λ k. is_symbol_at o (earlier place bytes) k && ltb bytes (symbol_at o k).size) (length o.symbols)) refl (λ k inside h.
         let w = holder_of place bytes k inside h in
-        apart (holds (function fs w.index) place) (held_by place bytes (omega arith) w) (none w.index w.inside))
+        apart (in_function (function fs w.index) place) (held_by place bytes (omega arith) w) (none w.index w.inside))
 
     pub no_function_at : function_at o place ≡ None
     no_function_at = ap (option_and_then (λ bytes. starts_at o (earlier place bytes))) (none-least_below (is_held_from o place) (place.off + 1) not_held)
 
-  module _ (place : Place) (i : ℕ) (inside : i < length fs) (it : holds (function fs i) place ≡ true) (last : (k : ℕ) → i < k → k < length fs → holds (function fs k) place ≡ false) where
+  module _ (place : Place) (i : ℕ) (inside : i < length fs) (it : in_function (function fs i) place ≡ true) (last : (k : ℕ) → i < k → k < length fs → in_function (function fs k) place ≡ false) where
     far : place.off - (place.off - (function fs i).start.off) ≡ (function fs i).start.off
     far = let h = holds_from (function fs i) place it in omega arith
 
@@ -183,7 +184,7 @@ module _ (o : Elf) (fs : List Function) (all : AreFunctions o fs) where
         let off : (function fs w.index).start.off ≡ place.off - j = ap (λ (p : Place). p.off) w.start in
         let a = holds_from (function fs i) place it in
         elim (cases_lt i w.index) [
-          | inl lt ↦ apart (holds (function fs w.index) place) (held_by place j (omega arith) w) (last w.index lt w.inside)
+          | inl lt ↦ apart (in_function (function fs w.index) place) (held_by place j (omega arith) w) (last w.index lt w.inside)
           | inr ge ↦ elim (cases_lt w.index i) [
             | inl lt ↦ earlier_than j w.index low w.start (all.rising w.index i lt inside)
             | inr le ↦
@@ -281,12 +282,6 @@ pub an_index : (fs : List Function) (i : ℕ) (sym : Option ℕ) → i < length 
 an_index fs i sym inside e = rw e (record { inside = inside; symbol = refl })
 
 -- ---- parents
-
--- a part has for its parent what starts where the first symbol with the parent's name does
-pub parent_is : (o : Elf) (sym : ℕ) (name : List ℕ) (k : ℕ) → part_name (symbol_at o sym).name ≡ Some name → first_named o name ≡ Some k → parent_of o sym ≡ starts_at o (start_of o k)
-parent_is o sym name k e f =
-    ap (option_and_then (function_named o)) e
-    ∙ ap (option_and_then (λ k. starts_at o (start_of o k))) f
 
 -- the first functions of a list with their parents
 pub record HasParent (o : Elf) (fs : List Function) (f g : Function) : Type 0 where

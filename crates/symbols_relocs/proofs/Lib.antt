@@ -1,3 +1,7 @@
+mod Bounds
+mod Finding
+mod Runs
+mod Sorting
 mod PlaceOrder
 mod Merging
 mod Least
@@ -7,3 +11,4 @@ mod NamePlaces
 mod Stems
 mod Numbers
 mod Counted
+mod Ranges

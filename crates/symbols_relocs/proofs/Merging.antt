@@ -7,9 +7,9 @@ use Rattle.std.proofs.lemmas.List.{get_or-set_same, get_or-set_other, get_or_app
 use Rattle.std.proofs.lemmas.List.Elements.{Contains-push_cases, Contains-push, Contains-append_left}
 use Rattle.std.proofs.lemmas.List.Sorted.{Contains-permutation, IsPermutation-sym, length_permutation}
 use Rattle.std.proofs.Math.ListN.{length-set}
+use Rattle.ot_base.specs.Places.{is_before, same_place}
 use Rattle.symbols_relocs.specs.declared.function.Function.{Function}
 use Rattle.symbols_relocs.specs.Lists.{AreMerged, IsMergedFrom, AreByStart, widened, with_symbol, function, no_function}
-use Rattle.symbols_relocs.specs.Places.{is_before, same_place}
 use Rattle.symbols_relocs.proofs.PlaceOrder.{before_up_to, not_behind_other, same_is}
 
 and_false : (x y : Bool) → x ≡ true → (x && y) ≡ false → y ≡ false

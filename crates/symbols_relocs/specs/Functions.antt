@@ -2,11 +2,12 @@
 -- and have a size. Those with one start are one function, which is told by the lowest of their numbers.
 use Rattle.std.specs.Prelude.{ℕ, ◌+◌, ◌==◌, ◌&&◌, ◌||◌, not, nat_lt, nat_le, Bool, Option, is_some, option_and_then, length}
 use Rattle.ot_base.specs.declared.place.Place.{Place}
+use Rattle.ot_base.specs.Places.{same_place}
 use Rattle.elf_objects.specs.declared.TheConstants.{STT_FUNC}
 use Rattle.elf_objects.specs.Elf.{Elf}
 use Rattle.elf_objects.specs.Contents.{section_at, symbol_at}
 use Rattle.elf_objects.specs.Below.{least_below}
-use Rattle.symbols_relocs.specs.Places.{earlier, home_section, is_text_home, same_place}
+use Rattle.symbols_relocs.specs.Places.{earlier, home_section, is_text_home}
 
 -- the symbol is of type STT_FUNC and defined in a text section
 abbrev pub is_code : Elf → ℕ → Bool

@@ -1,3 +1,5 @@
+pub mod NamedPlaces
+pub mod Relocs
 pub mod Places
 pub mod Functions
 pub mod Parts

@@ -1,15 +1,15 @@
 -- Lists of the functions of an object.
-use Rattle.std.specs.Prelude.{◌≡◌, ◌<◌, ◌≤◌, ◌+◌, ◌-◌, ◌==◌, ◌&&◌, ◌||◌, nat_lt, nat_le, min, max, ℕ, Bool, true, false, List, [], Option, Some, None, IfSome, option_map, length, slice_index, slice_index_or, slice_set, ◌++◌, ◌∷◌, if◌then◌else◌}
+use Rattle.std.specs.Prelude.{◌≡◌, ◌<◌, ◌≤◌, ◌+◌, ◌-◌, ◌==◌, ◌&&◌, ◌||◌, nat_lt, min, max, ℕ, Bool, true, false, List, [], Option, Some, None, IfSome, option_map, length, slice_index, slice_index_or, slice_set, ◌++◌, ◌∷◌, if◌then◌else◌}
 use Rattle.std.specs.List.{Contains}
 use Rattle.ot_base.specs.declared.place.Place.{Place}
+use Rattle.ot_base.specs.Places.{is_before, same_place, is_within}
 use Rattle.elf_objects.specs.declared.symbol.Reloc.{Reloc}
 use Rattle.elf_objects.specs.Elf.{Elf}
 use Rattle.elf_objects.specs.Contents.{relocs_at, symbol_at}
-use Rattle.object_places.specs.Relocs.{IsIndexOf}
+use Rattle.symbols_relocs.specs.Relocs.{IsIndexOf}
 use Rattle.symbols_relocs.specs.declared.function.Function.{Function}
 use Rattle.symbols_relocs.specs.Functions.{is_function, is_symbol_at, start_of, starts_at}
 use Rattle.symbols_relocs.specs.Parts.{parent_of}
-use Rattle.symbols_relocs.specs.Places.{is_before, same_place}
 
 -- where an index is that of no function
 abbrev pub no_function : Function
@@ -64,9 +64,9 @@ AreRising fs = (i j : ℕ) → i < j → j < length fs → is_before (function f
 abbrev pub AreByStart : List Function → Type 0
 AreByStart fs = (i j : ℕ) → i ≤ j → j < length fs → is_before (function fs j).start (function fs i).start ≡ false
 
--- the function holds the place
-abbrev pub holds : Function → Place → Bool
-holds f place = f.start.sec == place.sec && nat_le f.start.off place.off && nat_lt place.off (f.start.off + f.size)
+-- the function in_function the place
+abbrev pub in_function : Function → Place → Bool
+in_function f place = is_within f.start f.size place
 
 -- it ends in a later section, or in this one behind an offset
 abbrev pub ends_beyond : Function → ℕ → ℕ → Bool

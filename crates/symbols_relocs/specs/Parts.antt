@@ -40,10 +40,14 @@ first_named o name = least_below (λ k. is_function o k && bytes_eq (symbol_at o
 abbrev pub function_named : Elf → List ℕ → Option ℕ
 function_named o name = option_and_then (λ k. starts_at o (start_of o k)) (first_named o name)
 
+-- a function, where it is another than the one with this symbol
+abbrev pub other_than : ℕ → ℕ → Option ℕ
+other_than sym f = if f == sym then None else Some f
+
 -- the parent of a part: the function with the name P, where the function's own name, that of its lowest symbol, is the name
--- of a part of P
+-- of a part of P. A parent is another function: where the one that has a symbol P is itself the one named `P.cold`, it is no part
 abbrev pub parent_of : Elf → ℕ → Option ℕ
-parent_of o sym = option_and_then (function_named o) (part_name (symbol_at o sym).name)
+parent_of o sym = option_and_then (other_than sym) (option_and_then (function_named o) (part_name (symbol_at o sym).name))
 
 -- the owner of a function: its parent, or itself where it has none
 abbrev pub owner_of : Elf → ℕ → ℕ

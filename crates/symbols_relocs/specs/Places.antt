@@ -1,19 +1,10 @@
 -- Places, and their order.
-use Rattle.std.specs.Prelude.{ℕ, ◌-◌, ◌==◌, ◌&&◌, nat_lt, Bool, false}
-use Rattle.std.specs.Ordering.{nat_cmp, ordering_then, is_lt}
+use Rattle.std.specs.Prelude.{ℕ, ◌-◌, ◌&&◌, nat_lt, Bool, false}
 use Rattle.ot_base.specs.declared.place.Place.{Place}
 use Rattle.elf_objects.specs.declared.symbol.Home.{Home}
 use Rattle.elf_objects.specs.declared.symbol.Home.TheVariants as homes
 use Rattle.elf_objects.specs.Elf.{Elf}
 use Rattle.elf_objects.specs.Contents.{is_text, section_at}
-
--- two places are one
-abbrev pub same_place : Place → Place → Bool
-same_place p q = p.sec == q.sec && p.off == q.off
-
--- a place is before another: in an earlier section, or in the same one at a lower offset
-abbrev pub is_before : Place → Place → Bool
-is_before p q = is_lt (ordering_then (nat_cmp p.sec q.sec) (nat_cmp p.off q.off))
 
 -- the place in the same section so many bytes earlier
 abbrev pub earlier : Place → ℕ → Place

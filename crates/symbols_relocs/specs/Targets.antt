@@ -10,7 +10,7 @@ use Rattle.elf_objects.specs.declared.symbol.Reloc.{Reloc}
 use Rattle.elf_objects.specs.Elf.{Elf}
 use Rattle.elf_objects.specs.Contents.{symbol_at}
 use Rattle.elf_objects.specs.declared.TheConstants.{STB_WEAK, R_X86_64_PC32, R_X86_64_PLT32}
-use Rattle.object_places.specs.Places.{offset_of, reloc_at}
+use Rattle.symbols_relocs.specs.NamedPlaces.{offset_of, reloc_at}
 use Rattle.symbols_relocs.specs.declared.target.Target.{Target}
 use Rattle.symbols_relocs.specs.declared.target.Target.TheVariants.{Inside, Either, Outside, ThunkIndirect, ThunkReturn, Bad}
 use Rattle.symbols_relocs.specs.Places.{is_in_text}

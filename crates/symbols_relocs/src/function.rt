@@ -12,6 +12,6 @@ pub struct Function {
     /// The lowest number of its symbols. The name of this symbol is its name.
     pub sym: u32,
     /// Where its name is `P.cold`, or `P.cold.` and digits: the function that has a symbol with the name
-    /// P, by its place in the list of functions.
+    /// P, by its place in the list of functions, where that is another one.
     pub parent: Option<u32>,
 }

@@ -2,14 +2,15 @@
 
 ghost use Rattle.std.specs.Prelude.{◌≡◌, ◌<◌, ◌≤◌, ◌+◌, ◌^◌, ℕ, None, [], length, slice_index_or, IfOk, IfErr, OnOk};
 ghost use Rattle.elf_objects.specs.Contents.{relocs_at};
-ghost use Rattle.object_places.specs.Places as places;
-ghost use Rattle.object_places.specs.Relocs.{at_offset, IsIndexOf};
+ghost use Rattle.symbols_relocs.specs.NamedPlaces as places;
+ghost use Rattle.symbols_relocs.specs.Relocs.{at_offset, IsIndexOf};
 ghost use Rattle.symbols_relocs.specs.Faults.{Tells};
 ghost use Rattle.symbols_relocs.specs.Functions.{first_bad, function_at as function_symbol_at, starts_at as starts_symbol_at};
 ghost use Rattle.symbols_relocs.specs.Lists.{AreFunctions, HaveParents, IsIndexOfSymbol};
 ghost use Rattle.symbols_relocs.specs.Parts.{owner_at as owner_symbol_at};
 ghost use Rattle.symbols_relocs.specs.Targets.{branch_target as branch_target_of, jump_target as jump_target_of, last_bytes as last_bytes_of, short_target as short_target_of, wide_target as wide_target_of};
 
+use crate::RelocIndex;
 use crate::fault::IndexFault;
 use crate::function::Function;
 use crate::merge::merge_symbols;
@@ -20,7 +21,6 @@ use crate::parents::with_parents;
 use crate::symbols::list_symbols;
 use crate::target::{Target, relative_target, reloc_target};
 use elf_objects::{Object, Reloc};
-use object_places::RelocIndex;
 use operation_defs::{Insn, Op};
 use ot_base::{NoMemory, Place};
 use std::alloc::Global;
@@ -162,13 +162,13 @@ impl<'o, 'a> Index<'o, 'a> {
     /// None where no relocation of the type `R_X86_64_64`, `R_X86_64_PC32`, `R_X86_64_32` or
     /// `R_X86_64_32S` stands there, where the symbol of the first is in no section, and where the sum isn't
     /// from 0 to 2^64 - 1.
-    pub fn points_at(&self, place: Place) -> Option<Place>
-        ensures { result ≡ places.points_at self.now.elf place }
+    pub fn place_held_at(&self, place: Place) -> Option<Place>
+        ensures { result ≡ places.place_held_at self.now.elf place }
     {
         if place.sec >= self.object.sections() {
             return None;
         }
-        self.relocs[place.sec as usize].points_at(self.object, place.off)
+        self.relocs[place.sec as usize].place_held_at(self.object, place.off)
     }
 
     /// The target of a direct call or branch: the first of the lines of `branch_target` that fits.

@@ -1,9 +1,11 @@
-//! The functions of an object and the targets of its branches.
+//! The functions of an object with their parts and owners, the places that its relocations name, and where its calls and
+//! branches go.
 //!
 //! A function is what the symbols of type `STT_FUNC` with one start in a text section stand for (ELF-64
 //! gABI, symbol table). The code that a compiler moves out of a function `P` is a function of its own with
-//! the name `P.cold` or `P.cold.N`: a part of it. The target of a call or branch is that of the relocation
-//! on its displacement, where one stands there (x86-64 psABI, "Relocation").
+//! the name `P.cold` or `P.cold.N`: a part of it. A field that holds a place holds it by a relocation: the place is that
+//! of the relocation's symbol, moved on by the addend (x86-64 psABI, "Relocation"). The target of a call or branch is that
+//! of the relocation on its displacement, where one stands there.
 #![tactic(auto)]
 
 mod fault;
@@ -12,10 +14,14 @@ mod index;
 mod merge;
 mod names;
 mod near;
+mod near_relocs;
 mod order;
 mod outer;
 mod parents;
 mod part;
+mod pointers;
+mod reloc_index;
+mod relocated;
 mod strings;
 mod symbols;
 mod target;
@@ -23,4 +29,7 @@ mod target;
 pub use fault::IndexFault;
 pub use function::Function;
 pub use index::Index;
+pub use pointers::{is_pointer, named_place};
+pub use reloc_index::RelocIndex;
+pub use relocated::is_relocated;
 pub use target::Target;

@@ -1,20 +1,13 @@
 //! Functions in the order of their starts.
 
 ghost use Rattle.std.specs.Prelude.{◌≡◌, ◌<◌, ◌≤◌, ℕ, true, false, length, MatchOption};
+ghost use Rattle.ot_base.specs.Places.{is_before as is_lower, same_place};
 ghost use Rattle.symbols_relocs.specs.Lists.{function, AreRising};
 ghost use Rattle.symbols_relocs.specs.Counts.{is_behind as is_one_behind, is_count as is_count_to, is_upto as is_one_upto};
-ghost use Rattle.symbols_relocs.specs.Places.{is_before as is_lower, same_place};
 
 use crate::function::Function;
 use crate::near::near_count;
-use ot_base::Place;
-
-/// Whether a place is in an earlier section, or in the same one at a lower offset.
-fn is_before(place: Place, other: Place) -> bool
-    ensures { result ≡ is_lower place other }
-{
-    place.sec < other.sec || place.sec == other.sec && place.off < other.off
-}
+use ot_base::{Place, is_before};
 
 /// How many of these start at a place or before it.
 pub(crate) fn count_to(functions: &[Function], place: Place) -> usize

@@ -1,7 +1,7 @@
 //! The function of a place, among functions that may overlap.
 
 ghost use Rattle.std.specs.Prelude.{◌≡◌, ◌<◌, ◌≤◌, ◌+◌, ◌-◌, ℕ, true, false, length, IfOk, MatchOption};
-ghost use Rattle.symbols_relocs.specs.Lists.{function, AreOuter, AreRising, ends_beyond as ends_after, holds, holds as holds_place, IsLastBeyond};
+ghost use Rattle.symbols_relocs.specs.Lists.{function, AreOuter, AreRising, ends_beyond as ends_after, in_function, in_function as holds_place, IsLastBeyond};
 ghost use Rattle.symbols_relocs.specs.Counts.{is_holder as is_one_holder};
 
 use crate::function::Function;
@@ -56,8 +56,8 @@ pub(crate) fn link_outer(alloc: Global, functions: &[Function]) -> Result<Vec<us
     Ok(outer)
 }
 
-/// Whether a function holds a place.
-fn holds(function: &Function, place: Place) -> bool
+/// Whether a function in_function a place.
+fn in_function(function: &Function, place: Place) -> bool
     ensures { result ≡ holds_place function.now place }
 {
     function.start.sec == place.sec
@@ -65,16 +65,16 @@ fn holds(function: &Function, place: Place) -> bool
         && u128::from(place.off) < end_of(function)
 }
 
-/// Whether the one with an index holds a place, and the next one starts behind that, or there is none.
+/// Whether the one with an index in_function a place, and the next one starts behind that, or there is none.
 pub(crate) fn is_holder(functions: &[Function], index: usize, place: Place) -> bool
     ensures { result ≡ is_one_holder functions.now index place }
 {
     index < functions.len()
-        && holds(&functions[index], place)
+        && in_function(&functions[index], place)
         && is_behind(functions, index + 1, place)
 }
 
-/// The index of the last function that holds a place.
+/// The index of the last function that in_function a place.
 pub(crate) fn find_holder(
     functions: &[Function],
     outer: &[usize],
@@ -84,7 +84,7 @@ pub(crate) fn find_holder(
     requires rising { AreRising functions.now }
     requires links { AreOuter functions.now outer.now }
     requires len { length outer.now ≡ length functions.now }
-    ensures { MatchOption result ((k : ℕ) → k < length functions.now → holds (function functions.now k) place ≡ false) (λ i. (i < length functions.now) × (holds (function functions.now i) place ≡ true) × ((k : ℕ) → i < k → k < length functions.now → holds (function functions.now k) place ≡ false)) }
+    ensures { MatchOption result ((k : ℕ) → k < length functions.now → in_function (function functions.now k) place ≡ false) (λ i. (i < length functions.now) × (in_function (function functions.now i) place ≡ true) × ((k : ℕ) → i < k → k < length functions.now → in_function (function functions.now k) place ≡ false)) }
 {
     let count = count_near(functions, near, place);
     let count = count_beyond(functions, outer, count, place.sec, u128::from(place.off));

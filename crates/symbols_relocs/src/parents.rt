@@ -1,11 +1,11 @@
 //! The parents of parts.
 
-ghost use Rattle.std.specs.Prelude.{◌≡◌, ◌<◌, ◌≤◌, List, Option, ℕ, length, option_and_then, IfOk};
+ghost use Rattle.std.specs.Prelude.{◌≡◌, ◌<◌, ◌≤◌, List, Option, ℕ, length, option_and_then, IfOk, IfSome};
 ghost use Rattle.elf_objects.specs.Elf.{Elf as OneElf};
 ghost use Rattle.symbols_relocs.specs.Functions.{start_of as start_of_symbol, starts_at as starts_symbol_at};
 ghost use Rattle.symbols_relocs.specs.Lists.{AreFunctions, AreSame, HaveParents, IsIndexOfSymbol};
 ghost use Rattle.symbols_relocs.specs.Names.{strings as strings_of, AreFound, IsFound};
-ghost use Rattle.symbols_relocs.specs.Parts.{first_named, function_named};
+ghost use Rattle.symbols_relocs.specs.Parts.{first_named, function_named as function_named_by, other_than as other_than_symbol};
 
 use crate::function::Function;
 use crate::names::{first_symbols, list_stems};
@@ -35,8 +35,21 @@ fn function_of(object: &Object<'_>, functions: &[Function], symbol: u32) -> Opti
     Some(index as u32)
 }
 
-/// The parent of a part whose P has a number, by its place among the functions.
-fn parent_of(
+/// The function with a place among the functions, where it is another than the one with this symbol.
+fn other_than(functions: &[Function], sym: u32, index: Option<u32>) -> Option<u32>
+    requires { IfSome index (λ i. i < length functions.now) }
+    ensures { (f : Option ℕ) → IsIndexOfSymbol functions.now index f → IsIndexOfSymbol functions.now result (option_and_then (other_than_symbol sym) f) }
+{
+    let other = index?;
+    if functions[other as usize].sym == sym {
+        None
+    } else {
+        Some(other)
+    }
+}
+
+/// The function that has the name of a number, by its place among the functions.
+fn function_named(
     object: &Object<'_>,
     functions: &[Function],
     first: &[Option<u32>],
@@ -44,7 +57,8 @@ fn parent_of(
 ) -> Option<u32>
     requires all { AreFunctions object.now functions.now }
     requires few { length functions.now ≤ 4194304 }
-    ensures { (part : Option (List ℕ)) → IsFound object.now first.now stem part → IsIndexOfSymbol functions.now result (option_and_then (function_named object.now) part) }
+    ensures inside { IfSome result (λ i. i < length functions.now) }
+    ensures named { (part : Option (List ℕ)) → IsFound object.now first.now stem part → IsIndexOfSymbol functions.now result (option_and_then (function_named_by object.now) part) }
 {
     let symbol = first_symbol(first, stem)?;
     if symbol >= object.symbols() {
@@ -69,7 +83,8 @@ fn add_parents(
 {
     let mut list = Vec::with_capacity(alloc, functions.len())?;
     for (i, function) in functions.iter().enumerate() {
-        let parent = parent_of(object, functions, first, stems[i]);
+        let named = function_named(object, functions, first, stems[i]);
+        let parent = other_than(functions, function.sym, named);
         list.push(Function {
             parent,
             ..*function

@@ -2,7 +2,7 @@
 
 ghost use Rattle.std.specs.Prelude.{◌≡◌, ◌<◌, ◌+ℤ◌, pos, length, bytes_eq};
 ghost use Rattle.elf_objects.specs.Contents.{symbol_at};
-ghost use Rattle.object_places.specs.Places.{offset_of};
+ghost use Rattle.symbols_relocs.specs.NamedPlaces.{offset_of};
 ghost use Rattle.symbols_relocs.specs.Places.{is_in_text as is_in_text_of};
 ghost use Rattle.symbols_relocs.specs.Targets.{either as either_at, inside as inside_at, is_branch_kind as is_branch_type, is_indirect_thunk as is_indirect_thunk_name, relative_target as relative_target_of, reloc_target as reloc_target_of, return_thunk, symbol_target as symbol_target_of};
 

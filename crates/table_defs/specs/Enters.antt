@@ -1,7 +1,7 @@
 -- How control comes into alternatives sites: at their starts alone, whose original code it may then come to too.
 use Rattle.std.specs.Prelude.{◌≡◌, ◌⊎◌, ℕ, true, Contains}
-use Rattle.program_defs.specs.declared.flow.EdgeKind.{EdgeKind}
-use Rattle.program_defs.specs.Program.{Program, IsPoint, Site, in_site, entry_points, edge}
+use Rattle.machine_defs.specs.declared.flow.EdgeKind.{EdgeKind}
+use Rattle.machine_defs.specs.Program.{Program, IsPoint, Site, in_site, entry_points, edge}
 
 -- the point is the first instruction of a site's original code
 pub record IsSiteStart (p : Program) (site : Site) (q : ℕ) : Type 0 where

@@ -1,7 +1,13 @@
+pub mod Fields
+pub mod Placement
+pub mod Lookup
+pub mod Walk
+pub mod WalkLaws
+pub mod Worked
 pub mod Placed
 pub mod Visited
 pub mod Tells
 pub mod Walks
 pub mod Enters
 pub mod Order
-pub mod Laws
+pub mod TableLaws

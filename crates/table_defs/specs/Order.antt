@@ -1,7 +1,7 @@
 -- How the points of a program are numbered.
 use Rattle.std.specs.Prelude.{◌≡◌, ◌⊎◌, ℕ, ◌<◌}
 use Rattle.ot_base.specs.declared.place.Place.{Place}
-use Rattle.program_defs.specs.Program.{Program, IsPoint}
+use Rattle.machine_defs.specs.Program.{Program, IsPoint}
 
 -- one place comes before another: in a section before, or in the same one at a lower offset
 abbrev pub ComesBefore : Place → Place → Type 0

@@ -1,9 +1,9 @@
 -- A program's sections in memory, as the machine places them and as a table does.
 use Rattle.std.specs.Prelude.{◌≡◌, List, All}
-use Rattle.program_defs.specs.Program.{Program}
+use Rattle.machine_defs.specs.Program.{Program}
 use Rattle.machine_defs.specs.Machine.{Bases}
-use Rattle.walk_defs.specs.declared.range.Range.{Range}
-use Rattle.walk_defs.specs.Placement.{IsPlacement}
+use Rattle.table_defs.specs.declared.range.Range.{Range}
+use Rattle.table_defs.specs.Placement.{IsPlacement}
 
 -- each range begins where the bases place its section
 abbrev pub BeginAt : Bases → List Range → Type 0

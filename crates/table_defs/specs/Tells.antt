@@ -7,11 +7,11 @@ use Rattle.state_defs.specs.declared.state.State.{State}
 use Rattle.state_defs.specs.declared.state.State.TheVariants.{Ended}
 use Rattle.state_defs.specs.Address.{down}
 use Rattle.state_defs.specs.Row.{row_of}
-use Rattle.program_defs.specs.Program.{Program, is_call}
+use Rattle.machine_defs.specs.Program.{Program, is_call}
 use Rattle.machine_defs.specs.Machine.{Bases, point_address, return_address}
-use Rattle.checker_defs.specs.Kept.{Kept}
-use Rattle.walk_defs.specs.declared.range.Range.{Range}
-use Rattle.walk_defs.specs.Lookup.{find_row}
+use Rattle.machine_defs.specs.Kept.{Kept}
+use Rattle.table_defs.specs.declared.range.Range.{Range}
+use Rattle.table_defs.specs.Lookup.{find_row}
 use Rattle.table_defs.specs.Visited.{IsVisited}
 
 -- What is found in a table tells a state: it is the state's row. Where nothing is known of the stack, no

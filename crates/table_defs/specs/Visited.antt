@@ -1,6 +1,6 @@
 -- The points to which runs come.
 use Rattle.std.specs.Prelude.{◌≡◌, ℕ}
-use Rattle.program_defs.specs.Program.{Program}
+use Rattle.machine_defs.specs.Program.{Program}
 use Rattle.machine_defs.specs.Machine.{Bases, Standing, At}
 use Rattle.machine_defs.specs.Run.{Run}
 

@@ -4,14 +4,14 @@ use Rattle.ot_base.specs.declared.row.PlacedRow.{PlacedRow}
 use Rattle.state_defs.specs.declared.state.EndKind.{EndKind}
 use Rattle.state_defs.specs.declared.state.EndKind.TheVariants as kind
 use Rattle.state_defs.specs.Region.{word_at}
-use Rattle.program_defs.specs.Program.{Program}
+use Rattle.machine_defs.specs.Program.{Program}
 use Rattle.machine_defs.specs.Machine.{Bases, Standing, Machine, Wrecked, At, WalkedFrame, point_address, frames, frames_end}
-use Rattle.walk_defs.specs.declared.range.Range.{Range}
-use Rattle.walk_defs.specs.declared.frame.Regs.{Regs}
-use Rattle.walk_defs.specs.declared.frame.Frame.{Frame}
-use Rattle.walk_defs.specs.declared.frame.Stop.{Stop}
-use Rattle.walk_defs.specs.declared.frame.Stop.TheVariants.{Outside, EndOfStack, Undefined, NoRow}
-use Rattle.walk_defs.specs.Walk.{Walks}
+use Rattle.table_defs.specs.declared.range.Range.{Range}
+use Rattle.table_defs.specs.declared.frame.Regs.{Regs}
+use Rattle.table_defs.specs.declared.frame.Frame.{Frame}
+use Rattle.table_defs.specs.declared.frame.Stop.{Stop}
+use Rattle.table_defs.specs.declared.frame.Stop.TheVariants.{Outside, EndOfStack, Undefined, NoRow}
+use Rattle.table_defs.specs.Walk.{Walks}
 
 -- where the machine stands: the placed address of its point, rsp and rbp
 abbrev pub registers_of : Program → Bases → Standing → Regs

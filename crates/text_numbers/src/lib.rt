@@ -1,4 +1,5 @@
-//! Texts that stand in one table, by numbers: two of them have one number exactly where they have the same bytes.
+//! Numbers for the names of one string table, by which names are compared: two have one number exactly where they have
+//! the same bytes.
 //!
 //! Many names of a string table may share most of their bytes, since a name begins anywhere and ends before the
 //! first zero byte. Here no call reads a text whole that is in the table twice: a text is its first 1 to 64 bytes and

@@ -1,9 +1,9 @@
 -- A return, a return from an interrupt, and a jump to another function.
 use Rattle.std.proofs.Common.{◌≡◌, ℕ, ◌-◌, ◌^◌, ◌<◌, ◌≤◌, Bool, true, false, List, ◌∷◌, Option, Some, None, MatchBool, Contains, All, flat_map, refl, sym, ap, ◌∙◌, subst, inl, inr, arith}
 use Rattle.std.proofs.lemmas.List.Elements.{All-head, All-tail}
-use Rattle.program_defs.specs.declared.flow.EdgeKind.TheVariants.{Next, Sibling}
-use Rattle.program_defs.specs.declared.flow.Role.{Role}
-use Rattle.program_defs.specs.declared.flow.Role.TheVariants.{CallIn, CallEither, CallOut, CallAny, Return}
+use Rattle.machine_defs.specs.declared.flow.EdgeKind.TheVariants.{Next, Sibling}
+use Rattle.machine_defs.specs.declared.flow.Role.{Role}
+use Rattle.machine_defs.specs.declared.flow.Role.TheVariants.{CallIn, CallEither, CallOut, CallAny, Return}
 use Rattle.state_defs.specs.declared.state.EndKind.{EndKind}
 use Rattle.state_defs.specs.declared.state.State.{State}
 use Rattle.state_defs.specs.Address.{up}
@@ -11,16 +11,17 @@ use Rattle.state_defs.specs.Region.{Region, hi_of, Holds}
 use Rattle.state_defs.specs.Frame.{Frame, Mark, Protected, protected, listed, AreKept, LieAbove}
 use Rattle.state_defs.specs.Effect.{Core, IsInStack}
 use Rattle.state_defs.specs.State.{initial, ended_by, MeansTop}
-use Rattle.program_defs.specs.Program.{Program, IsPoint, entry_points, is_call, edge}
+use Rattle.machine_defs.specs.Program.{Program, IsPoint, entry_points, is_call, edge}
 use Rattle.machine_defs.specs.Machine.{Bases, Standing, At, return_address, point_address}
 use Rattle.machine_defs.specs.Step.{LeavesMemory, Returns, JumpsTo, sibling, indirect, TailCalls, ReturnsFromInterrupt}
-use Rattle.program_defs.specs.MayReturn.{MayReturn, target_may_return, may_call_out}
-use Rattle.program_defs.specs.MayReturn as may
-use Rattle.checker_defs.specs.Kept.{Kept}
-use Rattle.checker_defs.specs.Broken.{IsAccepted, LeavesByJump}
-use Rattle.checker_defs.specs.Broken as broken
-use Rattle.program_defs.specs.IsProgram.{IsProgram}
+use Rattle.machine_defs.specs.MayReturn.{MayReturn, target_may_return, may_call_out}
+use Rattle.machine_defs.specs.MayReturn as may
+use Rattle.machine_defs.specs.Kept.{Kept}
+use Rattle.machine_defs.specs.Broken.{IsAccepted, LeavesByJump}
+use Rattle.machine_defs.specs.Broken as broken
+use Rattle.machine_defs.specs.IsProgram.{IsProgram}
 use Rattle.machine_defs.specs.Law.{CallReturns, AreMarksKept, IsInnerFrame, AreFrames, HasRunInvariant, HasFrameInvariant, IsInOrder}
+use Rattle.machine_defs.specs.Law as law
 use Rattle.unwinding_law.proofs.Lists.{all_right, find_one}
 use Rattle.unwinding_law.proofs.Numbers.{up_down}
 use Rattle.unwinding_law.proofs.Memory.{same_hi, spared_kept}
@@ -33,8 +34,8 @@ use Rattle.unwinding_law.proofs.Leaves.{at_jump, at_leave, leaves_may_return}
 
 -- the top frame, where a point in the program is behind it
 pub inner_of : (p : Program) (bases : Bases) (q call : ℕ) (g : Frame) (fs : List Frame) → AreFrames p bases q (g ∷ fs) → g.call ≡ Some call → IsInnerFrame p bases q call g fs × AreFrames p bases call fs
-inner_of p bases q call g fs (inl h) e = let k : None ≡ Some call = sym h.1 ∙ e in absurd (let k : ⊥ = cc in k)
-inner_of p bases q call g fs (inr h) e = let o : Some h.0 ≡ Some call = sym h.1 ∙ e in let k : h.0 ≡ call = cc in (subst (λ (x : ℕ). IsInnerFrame p bases q x g fs) k h.2, subst (λ (x : ℕ). AreFrames p bases x fs) k h.3)
+inner_of p bases q call g fs (law.outermost at f rest none h) e = let k : None ≡ Some call = sym none ∙ e in absurd (let k : ⊥ = cc in k)
+inner_of p bases q call g fs (law.inner at from f rest called h below) e = let o : Some from ≡ Some call = sym called ∙ e in let k : from ≡ call = cc in (subst (λ (x : ℕ). IsInnerFrame p bases q x g fs) k h, subst (λ (x : ℕ). AreFrames p bases x fs) k below)
 
 -- no return comes past a call whose target may not return, unless one may come from there
 call_comes_back : (p : Program) → IsProgram p → (call q : ℕ) → IsPoint p call → (x : Role) → p.role call ≡ x → is_call x ≡ true → target_may_return p x ≡ true → p.dead_end call ≡ false → Contains (p.goes call) (edge q Next) → MayReturn p q → MayReturn p call

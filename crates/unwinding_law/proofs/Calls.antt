@@ -1,21 +1,22 @@
 -- A call of an entry, and an interrupt: a frame is made.
 use Rattle.std.proofs.Common.{◌≡◌, ℕ, ◌+◌, ◌-◌, ◌^◌, ◌<◌, ◌≤◌, Bool, true, false, List, ◌∷◌, Option, Some, None, Contains, All, flat_map, refl, sym, ap, ◌∙◌, subst, inl, inr, arith, le_refl}
 use Rattle.std.proofs.lemmas.List.Elements.{All-cons, All-weaker, All-contains}
-use Rattle.program_defs.specs.declared.flow.Role.{Role}
-use Rattle.program_defs.specs.declared.flow.Role.TheVariants.{CallIn, CallEither, CallAny}
+use Rattle.machine_defs.specs.declared.flow.Role.{Role}
+use Rattle.machine_defs.specs.declared.flow.Role.TheVariants.{CallIn, CallEither, CallAny}
 use Rattle.state_defs.specs.declared.state.EndKind.{EndKind}
 use Rattle.state_defs.specs.Address.{down}
 use Rattle.state_defs.specs.Region.{hi_of, Holds}
 use Rattle.state_defs.specs.Frame.{Frame, Mark, Protected, protected, listed, AreKept, LieAbove}
 use Rattle.state_defs.specs.Effect.{Core, IsInStack}
 use Rattle.state_defs.specs.State.{initial, MeansTop}
-use Rattle.program_defs.specs.Program.{Program, IsPoint, entry_points, is_call}
+use Rattle.machine_defs.specs.Program.{Program, IsPoint, entry_points, is_call}
 use Rattle.machine_defs.specs.Machine.{Bases, Standing, return_address}
 use Rattle.machine_defs.specs.Step.{MayCall, call_frame, CallsIn, interrupt_frame, IsInterrupted}
-use Rattle.program_defs.specs.MayReturn.{target_may_return}
-use Rattle.checker_defs.specs.Kept.{is_free, Kept}
-use Rattle.program_defs.specs.IsProgram.{IsProgram}
+use Rattle.machine_defs.specs.MayReturn.{target_may_return}
+use Rattle.machine_defs.specs.Kept.{is_free, Kept}
+use Rattle.machine_defs.specs.IsProgram.{IsProgram}
 use Rattle.machine_defs.specs.Law.{IsCallKept, CallReturns, AreMarksKept, IsInnerFrame, AreFrames, HasRunInvariant, HasFrameInvariant}
+use Rattle.machine_defs.specs.Law as law
 use Rattle.unwinding_law.proofs.Lists.{all_of, found}
 use Rattle.unwinding_law.proofs.Numbers.{down_inside, reads_holds}
 use Rattle.unwinding_law.proofs.Memory.{same_hi, word_above}
@@ -61,7 +62,7 @@ module _ (p : Program) (bases : Bases) (is : IsProgram p) (s t : Standing) (r : 
   with_frame g inner call cfa shadow hi mark =
       let below : g.cfa ≤ hi_of s.core.region = subst (λ (x : ℕ). x ≤ hi_of s.core.region) (sym cfa) stack.below_hi in
       let all : All (λ (x : Frame). x.cfa ≤ hi_of s.core.region) (g ∷ s.core.shadow) = All-cons (λ (x : Frame). x.cfa ≤ hi_of s.core.region) g s.core.shadow below f.below_hi in
-      let frames : AreFrames p bases t.point (g ∷ s.core.shadow) = inr (s.point, call, inner, f.frames) in
+      let frames : AreFrames p bases t.point (g ∷ s.core.shadow) = law.inner t.point s.point g s.core.shadow call inner f.frames in
       record {
         frames = subst (λ (x : List Frame). AreFrames p bases t.point x) (sym shadow) frames;
         below_hi = subst (λ (x : List Frame). All (λ (y : Frame). y.cfa ≤ hi_of t.core.region) x) (sym shadow) (subst (λ (x : ℕ). All (λ (y : Frame). y.cfa ≤ x) (g ∷ s.core.shadow)) (sym hi) all);

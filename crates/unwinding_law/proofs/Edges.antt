@@ -2,19 +2,19 @@
 use Rattle.std.proofs.Common.{◌≡◌, ◌≢◌, ℕ, Bool, true, false, if◌then◌else◌, [], Result, Ok, Err, Contains, refl, sym, subst}
 use Rattle.operation_defs.specs.declared.op.Op.{Op}
 use Rattle.operation_defs.specs.declared.op.Op.TheVariants.{Call, CallInd}
-use Rattle.program_defs.specs.declared.flow.Edge.{Edge}
-use Rattle.program_defs.specs.declared.flow.EdgeKind.{EdgeKind}
-use Rattle.program_defs.specs.declared.flow.EdgeKind.TheVariants.{Next, Taken, Fixup, Table, Sibling}
-use Rattle.program_defs.specs.declared.flow.Role.{Role}
-use Rattle.program_defs.specs.declared.flow.Role.TheVariants.{Plain, CallIn, CallEither, CallOut, CallAny, Return, JumpOut, JumpAny, Switch}
+use Rattle.machine_defs.specs.declared.flow.Edge.{Edge}
+use Rattle.machine_defs.specs.declared.flow.EdgeKind.{EdgeKind}
+use Rattle.machine_defs.specs.declared.flow.EdgeKind.TheVariants.{Next, Taken, Fixup, Table, Sibling}
+use Rattle.machine_defs.specs.declared.flow.Role.{Role}
+use Rattle.machine_defs.specs.declared.flow.Role.TheVariants.{Plain, CallIn, CallEither, CallOut, CallAny, Return, JumpOut, JumpAny, Switch}
 use Rattle.state_defs.specs.declared.state.State.{State}
 use Rattle.state_defs.specs.declared.state.State.TheVariants.{Live, Ended, Regs}
 use Rattle.state_defs.specs.Move.{move, has_near_numbers}
-use Rattle.program_defs.specs.Program.{Program, IsPoint, is_call, is_call_op, edge, is_local}
-use Rattle.program_defs.specs.MayReturn.{target_may_return}
-use Rattle.checker_defs.specs.Kept.{can_go, edges_of, moved, brought_along, Kept, is_free}
-use Rattle.checker_defs.specs.Broken.{IsAccepted, falls_through, refused}
-use Rattle.program_defs.specs.IsProgram.{IsProgram}
+use Rattle.machine_defs.specs.Program.{Program, IsPoint, is_call, is_call_op, edge, is_local}
+use Rattle.machine_defs.specs.MayReturn.{target_may_return}
+use Rattle.machine_defs.specs.Kept.{can_go, edges_of, moved, brought_along, Kept, is_free}
+use Rattle.machine_defs.specs.Broken.{IsAccepted, falls_through, refused}
+use Rattle.machine_defs.specs.IsProgram.{IsProgram}
 use Rattle.unwinding_law.proofs.Lists.{here, in_filter}
 use Rattle.unwinding_law.proofs.Same.{owner_stable}
 use Rattle.unwinding_law.proofs.KeptStates.{kept_checked, carried, brings_along}

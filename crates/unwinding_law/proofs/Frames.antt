@@ -7,11 +7,12 @@ use Rattle.state_defs.specs.Address.{down}
 use Rattle.state_defs.specs.Region.{hi_of}
 use Rattle.state_defs.specs.Frame.{Slot, Frame, Mark, listed, LieAbove, top_slot}
 use Rattle.state_defs.specs.State.{ended_by, Means, MeansTop}
-use Rattle.program_defs.specs.Program.{Program, IsPoint, is_call}
+use Rattle.machine_defs.specs.Program.{Program, IsPoint, is_call}
 use Rattle.machine_defs.specs.Machine.{Bases, Standing, IsOutside, point_address, return_address}
-use Rattle.program_defs.specs.MayReturn.{MayReturn}
-use Rattle.program_defs.specs.IsProgram.{IsProgram}
+use Rattle.machine_defs.specs.MayReturn.{MayReturn}
+use Rattle.machine_defs.specs.IsProgram.{IsProgram}
 use Rattle.machine_defs.specs.Law.{IsCallKept, CallReturns, marked, AreMarksKept, AreFrames, HasFrameInvariant}
+use Rattle.machine_defs.specs.Law as law
 use Rattle.unwinding_law.proofs.Shadow.{IsSlotChange, no_frame, top}
 
 -- a state that isn't ended has a top frame, which it means
@@ -45,29 +46,27 @@ module _ (p : Program) (bases : Bases) where
 
   -- the frames stay in order where the top one stands at another point
   pub frames_elsewhere : (a b : ℕ) (fs : List Frame) → (p.may_return a ≡ false → p.may_return b ≡ false) → AreFrames p bases a fs → AreFrames p bases b fs
-  frames_elsewhere a b [] f h = tt
-  frames_elsewhere a b (g ∷ fs) f (inl h) = inl h
-  frames_elsewhere a b (g ∷ fs) f (inr h) = inr (h.0, h.1, record { point = h.2.point; call_kept = h.2.call_kept; comes_back = λ k. returns_elsewhere h.0 a b f (h.2.comes_back k); mark_kept = h.2.mark_kept; goes_back = h.2.goes_back }, h.3)
+  frames_elsewhere a b fs f (law.none at) = law.none b
+  frames_elsewhere a b fs f (law.outermost at g rest call h) = law.outermost b g rest call h
+  frames_elsewhere a b fs f (law.inner at from g rest call h below) =
+      law.inner b from g rest call (record { point = h.point; call_kept = h.call_kept; comes_back = λ k. returns_elsewhere from a b f (h.comes_back k); mark_kept = h.mark_kept; goes_back = h.goes_back }) below
 
   -- and where its slot changes
   same_call : (call : ℕ) (f : Frame) (slot : Slot) (fs : List Frame) → IsCallKept p call f fs → IsCallKept p call (record f { slot = slot }) fs
   same_call call f slot fs k = record { state = k.state; kept = k.kept; ended = k.ended; means = k.means; slots = k.slots }
 
   pub frames_changed : (q : ℕ) (fs gs : List Frame) → IsSlotChange fs gs → AreFrames p bases q fs → AreFrames p bases q gs
-  frames_changed q fs gs no_frame h = tt
-  frames_changed q fs gs (top f rest slot e) (inl h) = inl (record { last = h.0.last; ended = h.0.ended; goes_out = subst (λ (b : Bool). MatchBool b (IsOutside p bases (down f.ra 1)) (IsOutside p bases f.ra)) (sym e) h.0.goes_out }, h.1)
-  frames_changed q fs gs (top f rest slot e) (inr h) = inr (
-    h.0,
-    h.1,
-    record {
-      point = h.2.point;
-      call_kept = same_call h.0 f slot rest h.2.call_kept;
-      comes_back = λ k. h.2.comes_back (sym e ∙ k);
-      mark_kept = h.2.mark_kept;
-      goes_back = subst (λ (b : Bool). MatchBool b ((f.ra ≡ return_address p bases h.0) × (is_call (p.role h.0) ≡ true)) (f.ra ≡ point_address p bases h.0)) (sym e) h.2.goes_back;
-    },
-    h.3,
-  )
+  frames_changed q fs gs no_frame h = law.none q
+  frames_changed q fs gs (top f rest slot e) (law.outermost at g others call h) =
+      law.outermost q (record f { slot = slot }) rest call (record { last = h.last; ended = h.ended; goes_out = subst (λ (b : Bool). MatchBool b (IsOutside p bases (down f.ra 1)) (IsOutside p bases f.ra)) (sym e) h.goes_out })
+  frames_changed q fs gs (top f rest slot e) (law.inner at from g others call h below) =
+      law.inner q from (record f { slot = slot }) rest call (record {
+        point = h.point;
+        call_kept = same_call from f slot rest h.call_kept;
+        comes_back = λ k. h.comes_back (sym e ∙ k);
+        mark_kept = h.mark_kept;
+        goes_back = subst (λ (b : Bool). MatchBool b ((f.ra ≡ return_address p bases from) × (is_call (p.role from) ≡ true)) (f.ra ≡ point_address p bases from)) (sym e) h.goes_back;
+      }) below
 
   marked_changed : (slot : Option Slot) (fs gs : List Frame) → IsSlotChange fs gs → marked slot gs ≡ marked slot fs
   marked_changed None fs gs c = refl
@@ -100,9 +99,9 @@ module _ (p : Program) (bases : Bases) where
 
 -- the frames below the top one that a walk is to find lie above it
 pub top_above : (p : Program) (bases : Bases) (q : ℕ) (f : Frame) (fs : List Frame) → AreFrames p bases q (f ∷ fs) → LieAbove f.cfa (listed f.ended_caller fs)
-top_above p bases q f fs (inl h) = subst (λ (x : List Frame). LieAbove f.cfa (listed f.ended_caller x)) (sym h.0.last) (none f.ended_caller)
+top_above p bases q f fs (law.outermost at g rest call h) = subst (λ (x : List Frame). LieAbove f.cfa (listed f.ended_caller x)) (sym h.last) (none f.ended_caller)
   where
     none : (e : Option _) → LieAbove f.cfa (listed e [])
     none None = All-nil (λ slot. f.cfa ≤ slot.at)
     none (Some k) = All-nil (λ slot. f.cfa ≤ slot.at)
-top_above p bases q f fs (inr h) = h.2.call_kept.slots
+top_above p bases q f fs (law.inner at from g rest call h below) = h.call_kept.slots

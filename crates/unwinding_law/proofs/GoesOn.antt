@@ -10,12 +10,12 @@ use Rattle.state_defs.specs.Effect.{IsInStack, Effect}
 use Rattle.state_defs.specs.State.{ended_by, IsConsistent, MeansTop}
 use Rattle.state_defs.specs.Move.{move}
 use Rattle.state_defs.specs.Sound.{IsTold, MoveIsSound, MoveIsConsistent}
-use Rattle.program_defs.specs.Program.{Program, IsPoint, is_call, edge}
+use Rattle.machine_defs.specs.Program.{Program, IsPoint, is_call, edge}
 use Rattle.machine_defs.specs.Machine.{Bases, Standing}
 use Rattle.machine_defs.specs.Step.{SameLevel, GoesOn}
-use Rattle.program_defs.specs.MayReturn as may
-use Rattle.checker_defs.specs.Broken.{IsAccepted}
-use Rattle.program_defs.specs.IsProgram.{IsProgram}
+use Rattle.machine_defs.specs.MayReturn as may
+use Rattle.machine_defs.specs.Broken.{IsAccepted}
+use Rattle.machine_defs.specs.IsProgram.{IsProgram}
 use Rattle.machine_defs.specs.Law.{AreFrames, HasRunInvariant, HasFrameInvariant}
 use Rattle.unwinding_law.proofs.Shadow.{effect_shape, effect_hi, effect_no_call}
 use Rattle.unwinding_law.proofs.Frames.{HasTop, has_top, means_top, top_above, frame_invariant, stays_out}

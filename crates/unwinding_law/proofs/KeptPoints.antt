@@ -2,20 +2,20 @@
 use Rattle.std.proofs.Common.{◌≡◌, ℕ, zero, suc, Bool, true, false, if◌then◌else◌, ◌==◌, Option, Some, None, Contains, refl, subst}
 use Rattle.std.specs.List.{list_any}
 use Rattle.std.proofs.lemmas.Bool.{eqb-true}
-use Rattle.program_defs.specs.declared.flow.Edge.{Edge}
+use Rattle.machine_defs.specs.declared.flow.Edge.{Edge}
 use Rattle.state_defs.specs.declared.state.State.{State}
 use Rattle.state_defs.specs.declared.state.HintState.{HintState}
 use Rattle.state_defs.specs.State.{initial}
 use Rattle.state_defs.specs.Order.{least}
-use Rattle.program_defs.specs.Program.{Program, IsPoint, entry_points, below}
-use Rattle.checker_defs.specs.Kept.{can_go, brought_from, brought, is_entry_point, first_state, later_state, kept_or, state_at, Kept}
-use Rattle.program_defs.specs.IsProgram.{IsProgram, HintsStandAtPoints}
+use Rattle.machine_defs.specs.Program.{Program, IsPoint, entry_points, below}
+use Rattle.machine_defs.specs.Kept.{can_go, brought_from, brought, is_at_entry, first_state, later_state, kept_or, state_at, Kept}
+use Rattle.machine_defs.specs.IsProgram.{IsProgram, HintsStandAtPoints}
 use Rattle.unwinding_law.proofs.Lists.{nowhere, find_one, from_filter, from_flat_map, from_below}
 use Rattle.unwinding_law.proofs.KeptStates.{least_member, unless_unchecked, brings_edge}
 
 module _ (p : Program) (is : IsProgram p) where
   -- control comes to points
-  pub entry_is_point : (q : ℕ) → is_entry_point p q ≡ true → IsPoint p q
+  pub entry_is_point : (q : ℕ) → is_at_entry p q ≡ true → IsPoint p q
   entry_is_point q h =
       let entry = find_one (λ entry. list_any (λ x. x == q) (entry_points p entry)) p.entries h in
       let x = find_one (λ x. x == q) (entry_points p entry.0) entry.2 in
@@ -25,9 +25,9 @@ module _ (p : Program) (is : IsProgram p) (hints : HintsStandAtPoints p) where
   -- what has a state at level 0 is a point
   first_is_point : (q : ℕ) (s : State) (h : Option HintState) → p.hint q ≡ h → first_state p q h ≡ Some s → IsPoint p q
   first_is_point q s (Some hint) h e = hints q hint h
-  first_is_point q s None h e = go (is_entry_point p q) refl e
+  first_is_point q s None h e = go (is_at_entry p q) refl e
     where
-      go : (b : Bool) → is_entry_point p q ≡ b → (if b then Some initial else None) ≡ Some s → IsPoint p q
+      go : (b : Bool) → is_at_entry p q ≡ b → (if b then Some initial else None) ≡ Some s → IsPoint p q
       go true k e = entry_is_point p is q k
       go false k e = absurd (let z : ⊥ = cc in z)
 

@@ -3,9 +3,9 @@ use Rattle.std.proofs.Common.{◌≡◌, ℕ, zero, suc, ◌⊎◌, Bool, true, 
 use Rattle.std.specs.List.{list_any}
 use Rattle.std.proofs.lemmas.Bool.{eq-eqb, eqb-true}
 use Rattle.operation_defs.specs.declared.op.Op.{Op}
-use Rattle.program_defs.specs.declared.flow.Edge.{Edge}
-use Rattle.program_defs.specs.declared.flow.EdgeKind.{EdgeKind}
-use Rattle.program_defs.specs.declared.flow.EdgeKind.TheVariants.{Next, Taken, Fixup, Table, Sibling}
+use Rattle.machine_defs.specs.declared.flow.Edge.{Edge}
+use Rattle.machine_defs.specs.declared.flow.EdgeKind.{EdgeKind}
+use Rattle.machine_defs.specs.declared.flow.EdgeKind.TheVariants.{Next, Taken, Fixup, Table, Sibling}
 use Rattle.state_defs.specs.declared.state.State.{State}
 use Rattle.state_defs.specs.declared.state.HintState.{HintState}
 use Rattle.state_defs.specs.declared.state.HintState.TheVariants.{Set, Save, Restore}
@@ -13,11 +13,11 @@ use Rattle.state_defs.specs.State.{initial, IsConsistent}
 use Rattle.state_defs.specs.Order.{least, least_with, comes_before}
 use Rattle.state_defs.specs.Move.{move}
 use Rattle.state_defs.specs.Sound.{MoveIsConsistent}
-use Rattle.program_defs.specs.Program.{Program, IsPoint, entry_points, below}
-use Rattle.program_defs.specs.IsProgram.{IsProgram}
-use Rattle.checker_defs.specs.Kept.{edges_of, moved, brought_along, Brings, brought_from, brought, is_entry_point, first_state, later_state, kept_or, state_at, Kept, is_free}
-use Rattle.checker_defs.specs.Broken.{IsAccepted, mismatch}
-use Rattle.checker_defs.proofs.KeptLemmas.{kept_is_one}
+use Rattle.machine_defs.specs.Program.{Program, IsPoint, entry_points, below}
+use Rattle.machine_defs.specs.IsProgram.{IsProgram}
+use Rattle.machine_defs.specs.Kept.{edges_of, moved, brought_along, Brings, brought_from, brought, is_at_entry, first_state, later_state, kept_or, state_at, Kept, is_free}
+use Rattle.machine_defs.specs.Broken.{IsAccepted, mismatch}
+use Rattle.machine_defs.proofs.KeptLemmas.{kept_is_one}
 use Rattle.unwinding_law.proofs.Lists.{here, there, cases, nowhere, in_filter, from_filter, found, in_flat_map, from_flat_map, in_below, from_below}
 use Rattle.unwinding_law.proofs.Same.{state_stable}
 
@@ -78,10 +78,10 @@ module _ (p : Program) where
   pub set_kept : (q : ℕ) (s : State) → p.unchecked q ≡ false → p.hint q ≡ Some (Set s) → Kept p q s
   set_kept q s u h = (0, rw (u, h) refl)
 
-  is_entry : (q entry : ℕ) → Contains p.entries entry → Contains (entry_points p entry) q → is_entry_point p q ≡ true
+  is_entry : (q entry : ℕ) → Contains p.entries entry → Contains (entry_points p entry) q → is_at_entry p q ≡ true
   is_entry q entry c d = found (λ e. list_any (λ x. x == q) (entry_points p e)) p.entries entry c (found (λ x. x == q) (entry_points p entry) q d (eq-eqb q q refl))
 
-  first_free : (q : ℕ) (h : Option HintState) → is_free h ≡ true → is_entry_point p q ≡ true → first_state p q h ≡ Some initial
+  first_free : (q : ℕ) (h : Option HintState) → is_free h ≡ true → is_at_entry p q ≡ true → first_state p q h ≡ Some initial
   first_free q None f e = rw e refl
   first_free q (Some Save) f e = rw e refl
   first_free q (Some (Set s)) f e = absurd (let k : ⊥ = cc in k)
@@ -161,12 +161,12 @@ module _ (p : Program) where
     first_consistent : (q : ℕ) (s : State) (h : Option HintState) → IsPoint p q → p.hint q ≡ h → first_state p q h ≡ Some s → IsConsistent s
     first_consistent q s (Some (Set t)) point h e = subst IsConsistent (let k : t ≡ s = cc in k) (is.hints q t point h)
     first_consistent q s (Some Restore) point h e = absurd (let k : ⊥ = cc in k)
-    first_consistent q s (Some Save) point h e = at_entry (is_entry_point p q) e
+    first_consistent q s (Some Save) point h e = at_entry (is_at_entry p q) e
       where
         at_entry : (b : Bool) → (if b then Some initial else None) ≡ Some s → IsConsistent s
         at_entry true e = subst IsConsistent (let k : initial ≡ s = cc in k) initial_consistent
         at_entry false e = absurd (let k : ⊥ = cc in k)
-    first_consistent q s None point h e = at_entry (is_entry_point p q) e
+    first_consistent q s None point h e = at_entry (is_at_entry p q) e
       where
         at_entry : (b : Bool) → (if b then Some initial else None) ≡ Some s → IsConsistent s
         at_entry true e = subst IsConsistent (let k : initial ≡ s = cc in k) initial_consistent

@@ -10,10 +10,10 @@ use Rattle.state_defs.specs.Region.{Region, Holds}
 use Rattle.state_defs.specs.Frame.{Slot, is_of_call, Frame, Mark, AreKept, with_top_slot}
 use Rattle.state_defs.specs.Effect.{Core, IsInStack}
 use Rattle.state_defs.specs.State.{MeansTop}
-use Rattle.program_defs.specs.Program.{Program, IsPoint}
+use Rattle.machine_defs.specs.Program.{Program, IsPoint}
 use Rattle.machine_defs.specs.Machine.{Bases, Standing, At}
 use Rattle.machine_defs.specs.Hint.{KeepsSlots, IsInInterrupt, hinted_slot, SetsState, Restores, Hinted, Lands}
-use Rattle.checker_defs.specs.Kept.{is_free}
+use Rattle.machine_defs.specs.Kept.{is_free}
 use Rattle.machine_defs.specs.Law.{marked, IsMarkKept, AreMarksKept, HasRunInvariant, HasFrameInvariant, IsInOrder}
 use Rattle.unwinding_law.proofs.Shadow.{IsSlotChange, no_frame, top}
 use Rattle.unwinding_law.proofs.Frames.{marked_same, frame_invariant}

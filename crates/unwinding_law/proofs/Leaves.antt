@@ -1,8 +1,8 @@
 -- A kept point that leaves its function has the initial state.
 use Rattle.std.proofs.Common.{◌≡◌, ℕ, Bool, true, false, not, Some, None, if◌then◌else◌, ℤ, pos, refl, sym, ap}
 use Rattle.operation_defs.specs.declared.op.Op.TheVariants.{Iret}
-use Rattle.program_defs.specs.declared.flow.Role.{Role}
-use Rattle.program_defs.specs.declared.flow.Role.TheVariants.{Return, JumpOut, JumpAny}
+use Rattle.machine_defs.specs.declared.flow.Role.{Role}
+use Rattle.machine_defs.specs.declared.flow.Role.TheVariants.{Return, JumpOut, JumpAny}
 use Rattle.state_defs.specs.declared.state.Depth.TheVariants.{Known, AtLeast}
 use Rattle.state_defs.specs.declared.state.BpHome.TheVariants.{Same, Saved}
 use Rattle.state_defs.specs.declared.state.State.{State}
@@ -10,12 +10,12 @@ use Rattle.state_defs.specs.declared.state.State.TheVariants.{Live, Ended, Regs}
 use Rattle.state_defs.specs.State.{initial, ended_by}
 use Rattle.state_defs.specs.Move.{int_same}
 use Rattle.state_defs.specs.Rules.{is_initial, return_rule, sibling_rule, iret_rule}
-use Rattle.program_defs.specs.Program.{Program}
+use Rattle.machine_defs.specs.Program.{Program}
 use Rattle.machine_defs.specs.Step.{may_leave}
-use Rattle.program_defs.specs.MayReturn.{MayReturn}
-use Rattle.program_defs.specs.MayReturn as may
-use Rattle.checker_defs.specs.Kept.{Kept}
-use Rattle.checker_defs.specs.Broken.{LeavesByJump, outside, anywhere, IsAccepted, modified_return, modified_sibling, unallowed_return, unallowed_sibling, unallowed_iret}
+use Rattle.machine_defs.specs.MayReturn.{MayReturn}
+use Rattle.machine_defs.specs.MayReturn as may
+use Rattle.machine_defs.specs.Kept.{Kept}
+use Rattle.machine_defs.specs.Broken.{LeavesByJump, outside, anywhere, IsAccepted, modified_return, modified_sibling, unallowed_return, unallowed_sibling, unallowed_iret}
 use Rattle.stack_state.proofs.Consistent.{int_same_is}
 
 initial_is : (s : State) → is_initial s ≡ true → s ≡ initial

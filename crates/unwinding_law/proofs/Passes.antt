@@ -1,20 +1,20 @@
 -- A fault, a call of code outside, and a jump to another function: the frames stay.
 use Rattle.std.proofs.Common.{◌≡◌, true, false, List, Option, refl, sym, ap, ◌∙◌, subst}
-use Rattle.program_defs.specs.declared.flow.EdgeKind.TheVariants.{Fixup}
-use Rattle.program_defs.specs.declared.flow.Role.{Role}
-use Rattle.program_defs.specs.declared.flow.Role.TheVariants.{CallEither, CallOut, CallAny}
+use Rattle.machine_defs.specs.declared.flow.EdgeKind.TheVariants.{Fixup}
+use Rattle.machine_defs.specs.declared.flow.Role.{Role}
+use Rattle.machine_defs.specs.declared.flow.Role.TheVariants.{CallEither, CallOut, CallAny}
 use Rattle.state_defs.specs.declared.state.EndKind.{EndKind}
 use Rattle.state_defs.specs.Frame.{Frame, listed, AreKept}
 use Rattle.state_defs.specs.Effect.{Core, StoresOrdinarily}
 use Rattle.state_defs.specs.State.{MeansTop}
-use Rattle.program_defs.specs.Program.{Program, IsPoint, is_call, edge}
+use Rattle.machine_defs.specs.Program.{Program, IsPoint, is_call, edge}
 use Rattle.machine_defs.specs.Machine.{Bases, Standing}
 use Rattle.machine_defs.specs.Step.{SameLevel, Faults, CallsOut}
-use Rattle.program_defs.specs.MayReturn.{may_call_out, target_may_return}
-use Rattle.program_defs.specs.MayReturn as may
-use Rattle.checker_defs.specs.Kept.{Kept}
-use Rattle.checker_defs.specs.Broken.{IsAccepted}
-use Rattle.program_defs.specs.IsProgram.{IsProgram}
+use Rattle.machine_defs.specs.MayReturn.{may_call_out, target_may_return}
+use Rattle.machine_defs.specs.MayReturn as may
+use Rattle.machine_defs.specs.Kept.{Kept}
+use Rattle.machine_defs.specs.Broken.{IsAccepted}
+use Rattle.machine_defs.specs.IsProgram.{IsProgram}
 use Rattle.machine_defs.specs.Law.{HasRunInvariant, HasFrameInvariant}
 use Rattle.unwinding_law.proofs.Memory.{same_hi, spared_kept}
 use Rattle.unwinding_law.proofs.Shadow.{IsSlotChange, unchanged}

@@ -6,7 +6,7 @@ use Rattle.state_defs.specs.Address.{up, shifted}
 use Rattle.state_defs.specs.Region.{hi_of}
 use Rattle.state_defs.specs.Frame.{Slot, Unsaved, SavedAt, PartialAt, FullAt, is_of_call, Frame, saved_slot, loaded_slot, popped_slot, with_top_slot, after_save}
 use Rattle.state_defs.specs.Effect.{Core, StoresOrdinarily, store_saves, Effect}
-use Rattle.program_defs.specs.Program.{is_call_op}
+use Rattle.machine_defs.specs.Program.{is_call_op}
 use Rattle.unwinding_law.proofs.Memory.{same_hi}
 
 pub data IsSlotChange : List Frame → List Frame → Type 0 where

@@ -10,12 +10,13 @@ use Rattle.state_defs.specs.Region.{hi_of, Holds}
 use Rattle.state_defs.specs.Frame.{Slot, Unsaved, is_of_call, Frame, Mark, Protected, listed, AreKept}
 use Rattle.state_defs.specs.Effect.{IsInStack}
 use Rattle.state_defs.specs.State.{initial, MeansTop}
-use Rattle.program_defs.specs.Program.{Program, IsPoint}
+use Rattle.machine_defs.specs.Program.{Program, IsPoint}
 use Rattle.machine_defs.specs.Machine.{Bases, Standing, At, IsOutside}
 use Rattle.machine_defs.specs.Run.{outermost, WasCalled, IsAtEntry, StartsFrom, Start, at_entry, at_call_hint, at_regs_hint, at_end_hint}
-use Rattle.checker_defs.specs.Kept.{is_free, Kept}
-use Rattle.program_defs.specs.IsProgram.{IsProgram}
+use Rattle.machine_defs.specs.Kept.{is_free, Kept}
+use Rattle.machine_defs.specs.IsProgram.{IsProgram}
 use Rattle.machine_defs.specs.Law.{AreMarksKept, AreFrames, HasRunInvariant, HasFrameInvariant, IsInOrder}
+use Rattle.machine_defs.specs.Law as law
 use Rattle.unwinding_law.proofs.Numbers.{down_up, up_inside, reads_holds}
 use Rattle.unwinding_law.proofs.KeptStates.{entry_kept}
 use Rattle.unwinding_law.proofs.Landing.{IsComing, landed, landed_stack}
@@ -37,7 +38,7 @@ module _ (p : Program) (bases : Bases) where
   -- the frame invariant of a single frame that was there at the start
   one_frame : (t s : Standing) (ra cfa bp : ℕ) (slot : Slot) → StartsFrom p t s → t.core.shadow ≡ outermost ra cfa bp slot t.core.ac ∷ [] → MatchBool (is_of_call slot) (IsOutside p bases (down ra 1)) (IsOutside p bases ra) → cfa ≤ hi_of t.core.region → HasFrameInvariant p bases t
   one_frame t s ra cfa bp slot from shadow out hi =
-      let frames : AreFrames p bases t.point (outermost ra cfa bp slot t.core.ac ∷ []) = inl (record { last = refl; ended = refl; goes_out = out }, refl) in
+      let frames : AreFrames p bases t.point (outermost ra cfa bp slot t.core.ac ∷ []) = law.outermost t.point (outermost ra cfa bp slot t.core.ac) [] refl (record { last = refl; ended = refl; goes_out = out }) in
       let all : All (λ (x : Frame). x.cfa ≤ hi_of t.core.region) (outermost ra cfa bp slot t.core.ac ∷ []) = All-cons (λ (x : Frame). x.cfa ≤ hi_of t.core.region) (outermost ra cfa bp slot t.core.ac) [] hi (All-nil (λ (x : Frame). x.cfa ≤ hi_of t.core.region)) in
       record {
         frames = subst (λ (x : List Frame). AreFrames p bases t.point x) (sym shadow) frames;
@@ -108,7 +109,7 @@ module _ (p : Program) (bases : Bases) where
         point = may.point;
         checked = may.checked;
         frames = record {
-          frames = subst (λ (x : List Frame). AreFrames p bases t.point x) (sym empty) tt;
+          frames = subst (λ (x : List Frame). AreFrames p bases t.point x) (sym empty) (law.none t.point);
           below_hi = subst (λ (x : List Frame). All (λ (y : Frame). y.cfa ≤ hi_of t.core.region) x) (sym empty) (All-nil (λ (y : Frame). y.cfa ≤ hi_of t.core.region));
           mark = subst (λ (x : Option Mark). AreMarksKept p x t.core.shadow) (sym from.mark) tt;
         };

@@ -1,25 +1,26 @@
 -- A program that returns without undoing its push: it meets the law's other premises, is warned of,
 -- and is wrecked.
 use Rattle.std.proofs.Common.{◌≡◌, ℕ, zero, suc, ◌+◌, ◌^◌, ◌<◌, true, false, [], ◌∷◌, None, slice_index_or, Contains, pos, refl, sym, ap, ◌∙◌, subst, inl, inr, arith, lit<, lit≤}
+use Rattle.ot_base.specs.Places.{same_place}
 use Rattle.operation_defs.specs.declared.op.Op.TheVariants.{RetImm}
-use Rattle.program_defs.specs.declared.flow.Edge.{Edge}
-use Rattle.program_defs.specs.declared.flow.EdgeKind.TheVariants.{Next, Sibling}
-use Rattle.program_defs.specs.declared.flow.Role.{Role}
-use Rattle.program_defs.specs.declared.flow.Role.TheVariants.{CallIn, CallEither}
+use Rattle.machine_defs.specs.declared.flow.Edge.{Edge}
+use Rattle.machine_defs.specs.declared.flow.EdgeKind.TheVariants.{Next, Sibling}
+use Rattle.machine_defs.specs.declared.flow.Role.{Role}
+use Rattle.machine_defs.specs.declared.flow.Role.TheVariants.{CallIn, CallEither}
 use Rattle.state_defs.specs.declared.state.Depth.TheVariants.{Known}
 use Rattle.state_defs.specs.declared.state.BpHome.TheVariants.{Same}
 use Rattle.state_defs.specs.declared.state.State.{State}
 use Rattle.state_defs.specs.declared.state.State.TheVariants.{Live}
 use Rattle.state_defs.specs.Effect.{HasSignedNumber}
 use Rattle.state_defs.specs.Frame.{Unsaved}
-use Rattle.program_defs.specs.Program.{TextSection, same_place, below, is_call, edge}
+use Rattle.machine_defs.specs.Program.{TextSection, below, is_call, edge}
 use Rattle.machine_defs.specs.Machine.{IsPlacement, IsOutside, Standing, Wrecked, At}
-use Rattle.machine_defs.specs.Step.{wrecks, wrong_return}
+use Rattle.machine_defs.specs.Step.{other_depth, wrecks, wrong_return}
 use Rattle.machine_defs.specs.Run.{Run, stepped}
-use Rattle.program_defs.specs.MayReturn.{MayReturn}
-use Rattle.program_defs.specs.MayReturn as may
-use Rattle.checker_defs.specs.Broken.{Warns, modified_return}
-use Rattle.program_defs.specs.IsProgram.{IsProgram}
+use Rattle.machine_defs.specs.MayReturn.{MayReturn}
+use Rattle.machine_defs.specs.MayReturn as may
+use Rattle.machine_defs.specs.Broken.{Warns, modified_return}
+use Rattle.machine_defs.specs.IsProgram.{IsProgram}
 use Rattle.machine_defs.specs.Worked.{at, zeros, caller}
 use Rattle.machine_defs.specs.Worked as w
 use Rattle.machine_defs.proofs.WorkedRun as run
@@ -108,4 +109,4 @@ pushes =
     (record { ended = refl; mark = refl }) refl (run.in_zeros 0x8000 0 at_return.core.shadow (lit≤ tt) (lit≤ tt) (lit< tt))
 
 pub wrecked : Run unbalanced base Wrecked
-wrecked = stepped (At at_return) Wrecked pushes (wrecks at_return (wrong_return refl (inr (inr (inl (λ e. let k : 0x8000 ≡ 0x8008 = e in absurd (omega arith))))))) tt
+wrecked = stepped (At at_return) Wrecked pushes (wrecks at_return (wrong_return refl (other_depth (caller Unsaved) [] (λ e. let k : 0x8000 ≡ 0x8008 = e in absurd (omega arith))))) tt

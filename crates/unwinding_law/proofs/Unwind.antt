@@ -1,11 +1,11 @@
 -- The unwinding law, by induction on the run.
 use Rattle.state_defs.specs.Sound.{MoveIsSound, MoveIsConsistent}
-use Rattle.program_defs.specs.Program.{Program}
+use Rattle.machine_defs.specs.Program.{Program}
 use Rattle.machine_defs.specs.Machine.{Bases, Machine}
 use Rattle.machine_defs.specs.Step.{Step, goes_on, faults, calls_in, calls_out, returns, tail_calls, wrecks, interrupted, irets}
 use Rattle.machine_defs.specs.Run.{Run, started, stepped, StaysInStack}
-use Rattle.checker_defs.specs.Broken.{IsAccepted}
-use Rattle.program_defs.specs.IsProgram.{IsProgram}
+use Rattle.machine_defs.specs.Broken.{IsAccepted}
+use Rattle.machine_defs.specs.IsProgram.{IsProgram}
 use Rattle.machine_defs.specs.Law.{IsInOrder, UnwindingLaw}
 use Rattle.unwinding_law.proofs.Landing.{landed, landed_stack}
 use Rattle.unwinding_law.proofs.GoesOn.{goes_on_comes}

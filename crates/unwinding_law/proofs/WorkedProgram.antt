@@ -2,22 +2,23 @@
 use Rattle.std.proofs.Common.{◌≡◌, ℕ, ◌<◌, Bool, true, false, ◌&&◌, ◌==◌, if◌then◌else◌, List, [], ◌∷◌, Some, None, Contains, All, filter, refl, sym, ap, subst, inl, inr, arith, lit<}
 use Rattle.std.proofs.lemmas.List.Elements.{All-contains}
 use Rattle.ot_base.specs.declared.place.Place.{Place}
+use Rattle.ot_base.specs.Places.{same_place}
 use Rattle.operation_defs.specs.declared.op.Op.{Op}
 use Rattle.operation_defs.specs.declared.op.Op.TheVariants.{RetImm, Iret, Switch}
-use Rattle.program_defs.specs.declared.flow.Edge.{Edge}
-use Rattle.program_defs.specs.declared.flow.EdgeKind.{EdgeKind}
-use Rattle.program_defs.specs.declared.flow.EdgeKind.TheVariants.{Next, Fixup, Table, Sibling}
-use Rattle.program_defs.specs.declared.flow.Role.{Role}
-use Rattle.program_defs.specs.declared.flow.Role.TheVariants.{CallIn, CallEither, Return, JumpOut, JumpAny}
+use Rattle.machine_defs.specs.declared.flow.Edge.{Edge}
+use Rattle.machine_defs.specs.declared.flow.EdgeKind.{EdgeKind}
+use Rattle.machine_defs.specs.declared.flow.EdgeKind.TheVariants.{Next, Fixup, Table, Sibling}
+use Rattle.machine_defs.specs.declared.flow.Role.{Role}
+use Rattle.machine_defs.specs.declared.flow.Role.TheVariants.{CallIn, CallEither, Return, JumpOut, JumpAny}
 use Rattle.state_defs.specs.declared.state.State.{State}
 use Rattle.state_defs.specs.declared.state.HintState.{HintState}
 use Rattle.state_defs.specs.declared.state.HintState.TheVariants.{Set}
 use Rattle.state_defs.specs.Effect.{HasSignedNumber}
 use Rattle.state_defs.specs.State.{IsConsistent}
-use Rattle.program_defs.specs.Program.{same_place, below, entry_points, is_call, is_call_op, edge}
-use Rattle.program_defs.specs.MayReturn.{MayReturn, may_call_out}
-use Rattle.program_defs.specs.MayReturn as may
-use Rattle.program_defs.specs.IsProgram.{IsProgram, HintsStandAtPoints}
+use Rattle.machine_defs.specs.Program.{below, entry_points, is_call, is_call_op, edge}
+use Rattle.machine_defs.specs.MayReturn.{MayReturn, may_call_out}
+use Rattle.machine_defs.specs.MayReturn as may
+use Rattle.machine_defs.specs.IsProgram.{IsProgram, HintsStandAtPoints}
 use Rattle.unwinding_law.specs.Worked.{place_at, point, worked, interrupted}
 use Rattle.unwinding_law.proofs.Elements.{each, none, one, two}
 use Rattle.unwinding_law.proofs.Lists.{here, cases, nowhere, from_filter, from_below}

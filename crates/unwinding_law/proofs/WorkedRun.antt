@@ -1,8 +1,8 @@
 -- Where the worked program is placed, and a run of it.
 use Rattle.std.proofs.Common.{◌≡◌, ℕ, ◌+◌, ◌^◌, ◌<◌, ◌≤◌, ◌⊎◌, [], ◌∷◌, Contains, refl, sym, ◌∙◌, subst, inl, inr, arith, lit<, lit≤}
 use Rattle.std.proofs.lemmas.List.Elements.{All-contains}
-use Rattle.program_defs.specs.declared.flow.EdgeKind.TheVariants.{Next}
-use Rattle.program_defs.specs.Program.{TextSection}
+use Rattle.machine_defs.specs.declared.flow.EdgeKind.TheVariants.{Next}
+use Rattle.machine_defs.specs.Program.{TextSection}
 use Rattle.machine_defs.specs.Machine.{HasAddress, IsPlacement, IsOutside, At}
 use Rattle.machine_defs.specs.Run.{Run}
 use Rattle.machine_defs.proofs.WorkedRun as run

@@ -9,12 +9,12 @@ use Rattle.state_defs.specs.Region.{hi_of, Reads, Holds}
 use Rattle.state_defs.specs.Frame.{Slot, is_of_call, Frame, Protected, protected_by, protected, listed, AreKept}
 use Rattle.state_defs.specs.Effect.{Core, IsInStack}
 use Rattle.state_defs.specs.State.{initial, ended_by, MeansTop}
-use Rattle.program_defs.specs.Program.{Program}
+use Rattle.machine_defs.specs.Program.{Program}
 use Rattle.machine_defs.specs.Machine.{Standing}
-use Rattle.machine_defs.specs.Step.{MissesReturn, MissesIret, Wrecks, wrong_return, wrong_iret, drops_bytes, bad_target, into_site, into_function, past_end}
-use Rattle.checker_defs.specs.Broken.{IsAccepted}
-use Rattle.checker_defs.specs.Broken as broken
-use Rattle.program_defs.specs.IsProgram.{IsProgram}
+use Rattle.machine_defs.specs.Step.{MissesReturn, no_return, return_in_interrupt, other_return, other_depth, other_rbp, MissesIret, no_interrupt, iret_in_call, other_address, other_rsp, other_interrupted_rbp, Wrecks, wrong_return, wrong_iret, drops_bytes, bad_target, into_site, into_function, past_end}
+use Rattle.machine_defs.specs.Broken.{IsAccepted}
+use Rattle.machine_defs.specs.Broken as broken
+use Rattle.machine_defs.specs.IsProgram.{IsProgram}
 use Rattle.machine_defs.specs.Law.{HasRunInvariant}
 use Rattle.unwinding_law.proofs.Numbers.{holds_reads, holds_inside, up_none}
 use Rattle.unwinding_law.proofs.Leaves.{at_leave, at_iret}
@@ -22,7 +22,7 @@ use Rattle.unwinding_law.proofs.Leaves.{at_leave, at_iret}
 -- the initial state is ready for a return
 ready_to_return : (core : Core) (fs : List Frame) → MeansTop initial core.rsp core.rbp fs → AreKept core.rsp core.region (listed None fs) → MissesReturn core fs → ⊥
 ready_to_return core [] m k e = m
-ready_to_return core (f ∷ fs) m k e = elim e [ inl a ↦ kind a | inr b ↦ elim b [ inl a ↦ read a.0 a.1 a.2 | inr c ↦ elim c [ inl a ↦ a m.depth | inr a ↦ a m.bp.1 ] ] ]
+ready_to_return core (f ∷ fs) m k e = ready e
   where
     kind : is_of_call f.slot ≡ false → ⊥
     kind a = let h : is_of_call f.slot ≡ true = ap is_of_call m.bp.0 in cc
@@ -36,10 +36,16 @@ ready_to_return core (f ∷ fs) m k e = elim e [ inl a ↦ kind a | inr b ↦ el
     read : (word : ℕ) → Reads core.region core.rsp word → word ≢ f.ra → ⊥
     read word reads ne = ne (holds_reads core.region core.rsp f.ra word (subst (λ (x : ℕ). Holds core.region x f.ra) (sym m.depth) held) reads)
 
+    ready : MissesReturn core (f ∷ fs) → ⊥
+    ready (return_in_interrupt g gs a) = kind a
+    ready (other_return g gs word reads ne) = read word reads ne
+    ready (other_depth g gs ne) = ne m.depth
+    ready (other_rbp g gs ne) = ne m.bp.1
+
 -- a partial state at its saved registers is ready for a return from an interrupt
 ready_to_iret : (core : Core) (fs : List Frame) → IsInStack core → MeansTop (Regs false (pos 0)) core.rsp core.rbp fs → AreKept core.rsp core.region (listed None fs) → MissesIret core fs → ⊥
 ready_to_iret core [] stack m k e = m
-ready_to_iret core (f ∷ fs) stack m k e = elim e [ inl a ↦ kind a | inr b ↦ elim b [ inl a ↦ read_ra a.0 a.1 a.2 | inr c ↦ elim c [ inl a ↦ read_cfa a.0 a.1 a.2 | inr a ↦ a m.bp ] ] ]
+ready_to_iret core (f ∷ fs) stack m k e = ready e
   where
     kind : is_of_call f.slot ≡ true → ⊥
     kind a = let h : is_of_call f.slot ≡ false = ap is_of_call m.slot in cc
@@ -64,6 +70,12 @@ ready_to_iret core (f ∷ fs) stack m k e = elim e [ inl a ↦ kind a | inr b �
 
     read_cfa : (word : ℕ) → Reads core.region (up core.rsp 24) word → word ≢ f.cfa → ⊥
     read_cfa word reads ne = ne (holds_reads core.region (up core.rsp 24) f.cfa word (subst (λ (x : ℕ). Holds core.region (up x 24) f.cfa) (sym rsp) cfa_held) reads)
+
+    ready : MissesIret core (f ∷ fs) → ⊥
+    ready (iret_in_call g gs a) = kind a
+    ready (other_address g gs word reads ne) = read_ra word reads ne
+    ready (other_rsp g gs word reads ne) = read_cfa word reads ne
+    ready (other_interrupted_rbp g gs ne) = ne m.bp
 
 module _ (p : Program) (is : IsProgram p) (acc : IsAccepted p) (s : Standing) (r : HasRunInvariant p s) (stack : IsInStack s.core) where
   live_slots : s.ended ≡ None → AreKept s.core.rsp s.core.region (listed None s.core.shadow)

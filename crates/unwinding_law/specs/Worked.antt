@@ -10,27 +10,28 @@
 -- padding, which run at the call's place.
 use Rattle.std.specs.Prelude.{ℕ, ◌*◌, true, false, ◌&&◌, List, [], ◌∷◌, Option, Some, None, slice_index_or, filter, ◌==◌, if◌then◌else◌, pos}
 use Rattle.ot_base.specs.declared.place.Place.{Place}
+use Rattle.ot_base.specs.Places.{same_place}
 use Rattle.operation_defs.specs.declared.op.Op.{Op}
 use Rattle.operation_defs.specs.declared.op.Op.TheVariants.{Call, JmpInd, Jmp, PushBp, PopBp, Ret, Iret, Nop, Push}
 use Rattle.operation_defs.specs.declared.op.Op.TheVariants as op
-use Rattle.program_defs.specs.declared.flow.Edge.{Edge}
-use Rattle.program_defs.specs.declared.flow.EdgeKind.TheVariants.{Next, Table, Fixup, Sibling}
-use Rattle.program_defs.specs.declared.flow.Role.{Role}
-use Rattle.program_defs.specs.declared.flow.Role.TheVariants.{Plain, CallIn, Return, Switch}
+use Rattle.machine_defs.specs.declared.flow.Edge.{Edge}
+use Rattle.machine_defs.specs.declared.flow.EdgeKind.TheVariants.{Next, Table, Fixup, Sibling}
+use Rattle.machine_defs.specs.declared.flow.Role.{Role}
+use Rattle.machine_defs.specs.declared.flow.Role.TheVariants.{Plain, CallIn, Return, Switch}
 use Rattle.state_defs.specs.declared.state.Depth.TheVariants.{Known}
 use Rattle.state_defs.specs.declared.state.BpHome.TheVariants.{Saved}
 use Rattle.state_defs.specs.declared.state.State.{State}
 use Rattle.state_defs.specs.declared.state.State.TheVariants.{Live, Regs}
 use Rattle.state_defs.specs.declared.state.HintState.TheVariants.{Set}
 use Rattle.state_defs.specs.State.{initial}
-use Rattle.program_defs.specs.Program.{Program, Site, below, same_place, edge}
-use Rattle.program_defs.specs.IsProgram.{IsProgram}
+use Rattle.machine_defs.specs.Program.{Program, Site, below, edge}
+use Rattle.machine_defs.specs.IsProgram.{IsProgram}
 use Rattle.machine_defs.specs.Machine.{Bases, IsPlacement, Standing, Wrecked, At}
 use Rattle.machine_defs.specs.Run.{Run}
 use Rattle.machine_defs.specs.Law.{IsInOrder}
 use Rattle.machine_defs.specs.Worked.{insn, caller, zeros}
 use Rattle.machine_defs.specs.Worked as first
-use Rattle.checker_defs.specs.Broken.{IsAccepted, Warns}
+use Rattle.machine_defs.specs.Broken.{IsAccepted, Warns}
 
 -- a place of a section
 abbrev pub place_at : ℕ → ℕ → Place
@@ -38,7 +39,7 @@ place_at sec off = record { sec = sec; off = off }
 
 -- what is told of a point: its instruction, where it stands and runs, its variant and owner, its edges and role, and
 -- the points that follow it
-pub record Point : Type 0 where
+pub record WorkedPoint : Type 0 where
   pub op : Op
   pub len : ℕ
   pub place : Place
@@ -50,14 +51,14 @@ pub record Point : Type 0 where
   pub after : List ℕ
 
 -- an instruction of .text
-abbrev pub plain : ℕ → Op → ℕ → Option ℕ → List Edge → Role → List ℕ → Point
+abbrev pub plain : ℕ → Op → ℕ → Option ℕ → List Edge → Role → List ℕ → WorkedPoint
 plain off op len owner goes role after = record { op = op; len = len; place = place_at 1 off; address = place_at 1 off; variant = 0; owner = owner; goes = goes; role = role; after = after }
 
 -- one that may be put over the call, at this offset of the replacement
-abbrev pub over_call : ℕ → ℕ → ℕ → Point
+abbrev pub over_call : ℕ → ℕ → ℕ → WorkedPoint
 over_call off len next = record { op = Nop; len = len; place = place_at 2 off; address = place_at 1 off; variant = 1; owner = Some 0; goes = edge next Next ∷ []; role = Plain; after = next ∷ [] }
 
-abbrev pub points : List Point
+abbrev pub points : List WorkedPoint
 points =
     plain 0 (Call (pos 11)) 5 (Some 0) (edge 1 Next ∷ []) (CallIn 4) (1 ∷ [])
     ∷ plain 5 (JmpInd (Some 3)) 7 (Some 0) (edge 2 Table ∷ []) Plain (2 ∷ [])
@@ -72,10 +73,10 @@ points =
     ∷ over_call 1 4 1
     ∷ []
 
-abbrev pub no_point : Point
+abbrev pub no_point : WorkedPoint
 no_point = record { op = Nop; len = 1; place = place_at 3 0; address = place_at 3 0; variant = 0; owner = None; goes = []; role = Plain; after = [] }
 
-abbrev pub point : ℕ → Point
+abbrev pub point : ℕ → WorkedPoint
 point q = slice_index_or points q no_point
 
 -- the call may be replaced
@@ -102,7 +103,7 @@ worked = record {
   goes = λ q. (point q).goes;
   role = λ q. (point q).role;
   dead_end = λ _. false;
-  marks = λ q. record { bad = false; past_end = slice_index_or (false ∷ false ∷ false ∷ false ∷ false ∷ false ∷ false ∷ false ∷ true ∷ []) q false; into_site = false; into_function = false };
+  marks = λ q. record { bad = false; past_end = slice_index_or (false ∷ false ∷ false ∷ false ∷ false ∷ false ∷ false ∷ false ∷ true ∷ []) q false; into_site = false; into_function = false; relocated = false };
   after = λ q. (point q).after;
   arrive = λ place. if same_place (place_at 1 0) place then 0 ∷ 9 ∷ [] else filter (λ q. (point q).variant == 0 && same_place (point q).place place) (below 11);
   entries = 0 ∷ 4 ∷ [];

@@ -1,4 +1,4 @@
-//! The unwinding law: in an accepted program the stack can be told at every point of every run.
+//! The law on which the theorem rests: in an accepted program the stack can be told at every point of every run.
 #![tactic(auto)]
 
 ghost use Rattle.machine_defs.specs.Law.{UnwindingLaw};

@@ -1,4 +1,4 @@
-//! Tables, their bytes, stacks, images of them and walks of worked examples.
+//! Tests of `orc_bytes`, `orc_walk` and `stack_image`: tables, their bytes, stacks and walks.
 #![tactic(auto)]
 
 #[cfg(test)]

@@ -1,10 +1,9 @@
 //! Tables and memories of examples, whose conditions are asserted.
 
 ghost use Rattle.std.specs.Prelude.{◌≡◌, ◌==◌, find, true};
-ghost use Rattle.orc_table.specs.Table.{IsWithin};
+ghost use Rattle.orc_walk.specs.Table.{IsWithin};
 
-use orc_table::{PlaceFault, Range, Table};
-use orc_unwind::Memory;
+use orc_walk::{Memory, PlaceFault, Range, Table};
 use ot_base::{Place, PlacedRow, Row};
 use std::alloc::{AllocError, Global};
 use std::process::Abort;

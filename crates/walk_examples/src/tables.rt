@@ -1,7 +1,7 @@
 //! Placements and look-ups.
 
 use crate::made::{CALL, FRAMED, PUSHED, ZERO, frame_rows, place, range, row};
-use orc_table::{PlaceFault, PlaceWhy, Range};
+use orc_walk::{PlaceFault, PlaceWhy, Range};
 use ot_base::Row;
 use std::process::Abort;
 use std::test::Fail;

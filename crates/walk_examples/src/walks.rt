@@ -1,7 +1,7 @@
 //! Walks over stacks by tables made by hand.
 
 use crate::made::{CALL, PUSHED, ZERO, frame_rows, memory, place, range, row};
-use orc_unwind::{Frame, Memory, Regs, Stop, walk};
+use orc_walk::{Frame, Memory, Regs, Stop, walk};
 use ot_base::PlacedRow;
 use std::alloc::{AllocError, Global};
 use std::process::Abort;

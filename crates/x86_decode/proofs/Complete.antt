@@ -13,7 +13,7 @@ use Rattle.x86_map.specs.declared.shape.Look.TheVariants.{Refused, NeedModrm, Fi
 use Rattle.x86_map.specs.Vector.{vex_number, evex_number, is_evex_second, number_of}
 use Rattle.x86_map.specs.Prefixes.{is_rex}
 use Rattle.x86_map.specs.OpcodeMap.{look, stands}
-use Rattle.x86_decode.specs.declared.reading.Stop.TheVariants.{Dead}
+use Rattle.x86_decode.specs.declared.reading.ReadStop.TheVariants.{Dead}
 use Rattle.x86_decode.specs.Prefix.{is_legacy}
 use Rattle.x86_decode.specs.Spelling.{has_sib, displacement_len}
 use Rattle.x86_decode.specs.Reading.{Read, rest_at, sib_at, modrm_fits, modrm_at, operands_by, operands_at, opcode_in, map_at, with_vector, vex2_at, vex3_second, vex3_at, evex_third, evex_second, evex_at, escaped_at, opens_vector, two_byte_in, two_byte_at, opcode_at, with_rex, rex_at, noted, prefixes_at, no_prefixes, reading}

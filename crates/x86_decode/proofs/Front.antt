@@ -3,7 +3,7 @@ use Rattle.std.proofs.Common.{◌≡◌, ℕ, ◌+◌, ◌<◌, ◌≤◌, Bool,
 use Rattle.x86_map.specs.declared.prefixes.Prefixes.{Prefixes}
 use Rattle.x86_decode.specs.Prefix.{is_legacy}
 use Rattle.x86_decode.specs.Reading.{noted, rex_at, prefixes_at}
-use Rattle.x86_decode.specs.declared.reading.Stop.TheVariants.{More}
+use Rattle.x86_decode.specs.declared.reading.ReadStop.TheVariants.{More}
 use Rattle.std.proofs.lemmas.List.{drop_all}
 use Rattle.std.proofs.Math.Seq.{drop-cons}
 use Rattle.std.proofs.Common.{add-one}

@@ -12,7 +12,7 @@ use Rattle.x86_map.specs.declared.shape.Look.TheVariants.{Refused, NeedModrm, Fi
 use Rattle.x86_map.specs.Vector.{vex_number, evex_number, is_evex_second, number_of}
 use Rattle.x86_map.specs.Prefixes.{is_rex}
 use Rattle.x86_map.specs.OpcodeMap.{look, stands}
-use Rattle.x86_decode.specs.declared.reading.Stop.TheVariants.{Dead, More}
+use Rattle.x86_decode.specs.declared.reading.ReadStop.TheVariants.{Dead, More}
 use Rattle.x86_decode.specs.Prefix.{is_legacy}
 use Rattle.x86_decode.specs.Spelling.{has_sib, displacement_len}
 use Rattle.x86_decode.specs.Reading.{Read, finished, with_vector, opens_vector, with_rex, noted}

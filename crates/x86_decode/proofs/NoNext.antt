@@ -9,10 +9,10 @@ use Rattle.x86_map.specs.declared.map.Map.{Map}
 use Rattle.x86_decode.specs.declared.DecodeFault.{DecodeFault}
 use Rattle.x86_decode.specs.declared.fields.Fields.{Fields}
 use Rattle.x86_decode.specs.declared.action.Action.{Action}
-use Rattle.x86_decode.specs.declared.action.Action.TheVariants.{Other, Exchange, NoOperation, Hint, PushRegister, Push, PopRegister, PopOperand, Pop, PopFlags, Arithmetic, Store, Load, LoadAddress, Enter, Leave, Call, ShortJump, Jump, ShortCondition, Condition, Return, ReturnImmediate, InterruptReturn, Far, Undefined, Breakpoint, Group5, Group7}
+use Rattle.x86_decode.specs.declared.action.Action.TheVariants.{Other, Exchange, NoOperation, Hint, PushRegister, Push, PopRegister, PopOperand, Pop, PopFlags, Arithmetic, Store, Load, LoadAddress, Enter, Leave, Call, ShortJump, Jump, ShortCondition, Condition, Return, ReturnImmediate, InterruptReturn, Far, Undefined, Breakpoint, Group5, Group7, Group11}
 use Rattle.x86_decode.specs.Action.{action_of}
 use Rattle.x86_decode.specs.Fields.{modrm, is_register, digit, is_at_rsp, is_at_rbp, writes, rm_register, opcode_register, reg_register}
-use Rattle.x86_decode.specs.Operation.{written, pushed, popped, push_operand, pop_operand, arithmetic, copied, stored, loaded, address_loaded, jump_table, group_5, group_7, operation_by, operation}
+use Rattle.x86_decode.specs.Operation.{written, pushed, popped, push_operand, pop_operand, arithmetic, copied, stored, loaded, address_loaded, jump_table, group_5, group_7, group_11, operation_by, operation}
 use Rattle.x86_decode.specs.Spelling.{fields_in}
 use Rattle.x86_decode.specs.Decoding.{Outcome}
 
@@ -72,6 +72,10 @@ another-group_7 : (f : Fields) → Another (group_7 f)
 unfolding group_7
 another-group_7 f = another (modrm f == 0xCB) (ops.Stac) (cond (modrm f == 0xCA) (ops.Clac) (written f)) (refl) (another (modrm f == 0xCA) (ops.Clac) (written f) (refl) (another-written f))
 
+another-group_11 : (f : Fields) → Another (group_11 f)
+unfolding group_11
+another-group_11 f = another (modrm f == 0xF8) (ops.Jcc f.immediate true) (written f) refl (another-written f)
+
 another-by : (action : Action) (f : Fields) → Another (operation_by action f)
 unfolding operation_by
 another-by Other f = another-written f
@@ -103,6 +107,7 @@ another-by Undefined f = refl
 another-by Breakpoint f = refl
 another-by Group5 f = another-group_5 f
 another-by Group7 f = another-group_7 f
+another-by Group11 f = another-group_11 f
 
 another-operation : (f : Fields) → Another (operation f)
 unfolding operation

@@ -15,7 +15,7 @@ use Rattle.x86_map.specs.Prefixes.{is_rex, is_rex_valid, is_bare, leads_to}
 use Rattle.x86_map.specs.Vector.{vex_number, evex_number, is_evex_second, number_of}
 use Rattle.x86_map.proofs.Accepting.{and_left, and_right}
 use Rattle.x86_map.specs.OpcodeMap.{look, stands}
-use Rattle.x86_decode.specs.declared.reading.Stop.TheVariants.{Dead, More}
+use Rattle.x86_decode.specs.declared.reading.ReadStop.TheVariants.{Dead, More}
 use Rattle.x86_decode.specs.Prefix.{is_legacy}
 use Rattle.x86_decode.specs.Spelling.{optional, has_sib, displacement_len}
 use Rattle.x86_decode.specs.Reading.{Read, finished, rest_at, sib_at, modrm_fits, modrm_at, operands_by, operands_at, opcode_in, map_at, with_vector, vector_at, vex2_at, vex3_second, vex3_at, evex_third, evex_second, evex_at, is_vector_escape, escaped_at, is_whole, opens_vector, two_byte_in, two_byte_at, opcode_at, with_rex, rex_at, noted, prefixes_at, no_prefixes, reading}

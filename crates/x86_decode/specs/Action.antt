@@ -2,7 +2,7 @@
 use Rattle.std.specs.Prelude.{ℕ, Bool, ◌==◌, if◌then◌else◌, List, [], ◌∷◌}
 use Rattle.x86_map.specs.Row.{◌to◌, one_of}
 use Rattle.x86_decode.specs.declared.action.Action.{Action}
-use Rattle.x86_decode.specs.declared.action.Action.TheVariants.{Other, Exchange, NoOperation, Hint, PushRegister, Push, PopRegister, PopOperand, Pop, PopFlags, Arithmetic, Store, Load, LoadAddress, Enter, Leave, Call, ShortJump, Jump, ShortCondition, Condition, Return, ReturnImmediate, InterruptReturn, Far, Undefined, Breakpoint, Group5, Group7}
+use Rattle.x86_decode.specs.declared.action.Action.TheVariants.{Other, Exchange, NoOperation, Hint, PushRegister, Push, PopRegister, PopOperand, Pop, PopFlags, Arithmetic, Store, Load, LoadAddress, Enter, Leave, Call, ShortJump, Jump, ShortCondition, Condition, Return, ReturnImmediate, InterruptReturn, Far, Undefined, Breakpoint, Group5, Group7, Group11}
 
 -- some opcodes and what they do
 pub record Row : Type 0 where
@@ -28,6 +28,7 @@ one_byte_actions =
     ∷ does (one_of (0x9D ∷ [])) PopFlags
     ∷ does (one_of (0xC2 ∷ [])) ReturnImmediate
     ∷ does (one_of (0xC3 ∷ [])) Return
+    ∷ does (one_of (0xC7 ∷ [])) Group11
     ∷ does (one_of (0xC8 ∷ [])) Enter
     ∷ does (one_of (0xC9 ∷ [])) Leave
     ∷ does (0xCA to 0xCB) Far
@@ -45,7 +46,7 @@ abbrev pub two_byte_actions : List Row
 two_byte_actions =
     does (one_of (0x01 ∷ [])) Group7
     ∷ does (one_of (0x05 ∷ 0x07 ∷ 0x34 ∷ 0x35 ∷ [])) Far
-    ∷ does (one_of (0x0B ∷ 0xB9 ∷ [])) Undefined
+    ∷ does (one_of (0x0B ∷ 0xB9 ∷ 0xFF ∷ [])) Undefined
     ∷ does (one_of (0x1E ∷ [])) Hint
     ∷ does (one_of (0x1F ∷ [])) NoOperation
     ∷ does (0x80 to 0x8F) Condition

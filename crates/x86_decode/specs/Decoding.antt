@@ -4,7 +4,7 @@ use Rattle.operation_defs.specs.declared.insn.Insn.{Insn}
 use Rattle.x86_map.specs.declared.map.Map.{Map}
 use Rattle.x86_decode.specs.declared.DecodeFault.{DecodeFault}
 use Rattle.x86_decode.specs.declared.DecodeFault.TheVariants.{Cut, Outside, Long}
-use Rattle.x86_decode.specs.declared.reading.Stop.TheVariants.{Dead, More}
+use Rattle.x86_decode.specs.declared.reading.ReadStop.TheVariants.{Dead, More}
 use Rattle.x86_decode.specs.Spelling.{Spells, BeginsSpelling, BeginsNone}
 use Rattle.x86_decode.specs.Reading.{Read, reading}
 

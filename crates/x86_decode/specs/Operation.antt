@@ -5,7 +5,7 @@ use Rattle.operation_defs.specs.declared.op.Op.TheVariants as ops
 use Rattle.x86_map.specs.Prefixes.{rex_w, rex_b}
 use Rattle.x86_decode.specs.declared.fields.Fields.{Fields}
 use Rattle.x86_decode.specs.declared.action.Action.{Action}
-use Rattle.x86_decode.specs.declared.action.Action.TheVariants.{Other, Exchange, NoOperation, Hint, PushRegister, Push, PopRegister, PopOperand, Pop, PopFlags, Arithmetic, Store, Load, LoadAddress, Enter, Leave, Call, ShortJump, Jump, ShortCondition, Condition, Return, ReturnImmediate, InterruptReturn, Far, Undefined, Breakpoint, Group5, Group7}
+use Rattle.x86_decode.specs.declared.action.Action.TheVariants.{Other, Exchange, NoOperation, Hint, PushRegister, Push, PopRegister, PopOperand, Pop, PopFlags, Arithmetic, Store, Load, LoadAddress, Enter, Leave, Call, ShortJump, Jump, ShortCondition, Condition, Return, ReturnImmediate, InterruptReturn, Far, Undefined, Breakpoint, Group5, Group7, Group11}
 use Rattle.x86_decode.specs.Fields.{modrm, is_register, digit, reg_register, rm_register, opcode_register, is_at_rsp, is_at_rbp, is_table_entry, writes}
 use Rattle.x86_decode.specs.Action.{action_of}
 
@@ -81,6 +81,10 @@ group_7 f =
     if modrm f == 0xCB then ops.Stac
     else (if modrm f == 0xCA then ops.Clac else written f)
 
+-- MOV of an immediate. XBEGIN goes on behind itself, or at its fallback address with rsp, rbp and memory as they are right behind itself
+unfoldable pub group_11 : Fields → Op
+group_11 f = if modrm f == 0xF8 then ops.Jcc f.immediate true else written f
+
 unfoldable pub operation_by : Action → Fields → Op
 operation_by Other f = written f
 -- NOP is the exchange of rAX with itself
@@ -112,6 +116,7 @@ operation_by Undefined f = ops.Ud2
 operation_by Breakpoint f = ops.Int3
 operation_by Group5 f = group_5 f
 operation_by Group7 f = group_7 f
+operation_by Group11 f = group_11 f
 
 unfoldable pub operation : Fields → Op
 operation f = operation_by (action_of f.number f.opcode) f

@@ -12,14 +12,14 @@ use Rattle.x86_map.specs.declared.shape.Look.TheVariants.{Refused, NeedModrm, Fi
 use Rattle.x86_map.specs.Vector.{vex_number, evex_number, is_evex_second, number_of}
 use Rattle.x86_map.specs.Prefixes.{is_rex, is_bare}
 use Rattle.x86_map.specs.OpcodeMap.{look, stands}
-use Rattle.x86_decode.specs.declared.reading.Stop.{Stop}
-use Rattle.x86_decode.specs.declared.reading.Stop.TheVariants.{Dead, More}
+use Rattle.x86_decode.specs.declared.reading.ReadStop.{ReadStop}
+use Rattle.x86_decode.specs.declared.reading.ReadStop.TheVariants.{Dead, More}
 use Rattle.x86_decode.specs.Prefix.{is_legacy}
 use Rattle.x86_decode.specs.Spelling.{Operands, optional, has_sib, displacement_len, fields_of}
 use Rattle.x86_decode.specs.Operation.{operation}
 
 abbrev pub Read : Type 0
-Read = Result Insn Stop
+Read = Result Insn ReadStop
 
 -- the instruction with this displacement and immediate
 unfoldable pub finished : Prefixes → ℕ → ℕ → Option ℕ → Option ℕ → Shape → ℕ → List ℕ → List ℕ → Insn

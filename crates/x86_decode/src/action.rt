@@ -54,7 +54,7 @@ pub enum Action {
     InterruptReturn,
     /// Far RET, SYSCALL, SYSRET, SYSENTER, SYSEXIT.
     Far,
-    /// UD1, UD2.
+    /// UD0, UD1, UD2.
     Undefined,
     /// INT3.
     Breakpoint,
@@ -62,6 +62,8 @@ pub enum Action {
     Group5,
     /// CLAC, STAC and others.
     Group7,
+    /// MOV of an immediate, XBEGIN.
+    Group11,
 }
 
 /// What an opcode does. `number` is that of its map, as in `x86_map`: 1 for the one-byte opcodes, 2 for those behind 0F.
@@ -93,6 +95,7 @@ fn one_byte_action(opcode: u8) -> Action
         0x9D => Action::PopFlags,
         0xC2 => Action::ReturnImmediate,
         0xC3 => Action::Return,
+        0xC7 => Action::Group11,
         0xC8 => Action::Enter,
         0xC9 => Action::Leave,
         0xCA | 0xCB => Action::Far,
@@ -113,7 +116,7 @@ fn two_byte_action(opcode: u8) -> Action
     match opcode {
         0x01 => Action::Group7,
         0x05 | 0x07 | 0x34 | 0x35 => Action::Far,
-        0x0B | 0xB9 => Action::Undefined,
+        0x0B | 0xB9 | 0xFF => Action::Undefined,
         0x1E => Action::Hint,
         0x1F => Action::NoOperation,
         0x80..=0x8F => Action::Condition,

@@ -13,7 +13,7 @@ mod operation;
 mod prefix;
 mod reading;
 
-use crate::reading::{Stop, read};
+use crate::reading::{ReadStop, read};
 pub use fault_text::DecodeFaultText;
 pub use operation_defs::{Insn, Op};
 pub use x86_map::Map;
@@ -57,11 +57,11 @@ fn decode_front(map: Map, bytes: &[u8]) -> Result<Insn, DecodeFault>
     };
     match read(map, front) {
         Ok(insn) => Ok(insn),
-        Err(Stop::Dead { seen }) => Err(DecodeFault::Outside { seen }),
-        Err(Stop::More) if bytes.len() < MAX_LEN => Err(DecodeFault::Cut {
+        Err(ReadStop::Dead { seen }) => Err(DecodeFault::Outside { seen }),
+        Err(ReadStop::More) if bytes.len() < MAX_LEN => Err(DecodeFault::Cut {
             have: bytes.len() as u8,
         }),
-        Err(Stop::More) => Err(DecodeFault::Long),
+        Err(ReadStop::More) => Err(DecodeFault::Long),
     }
 }
 

@@ -13,6 +13,7 @@ ghost use Rattle.x86_decode.specs.Operation.{
   jump_table,
   group_5,
   group_7,
+  group_11,
   operation_by,
   operation,
 };
@@ -87,6 +88,7 @@ fn operation_by(action: Action, f: &Fields) -> Op
         Action::Breakpoint => Op::Int3,
         Action::Group5 => group_5(f),
         Action::Group7 => group_7(f),
+        Action::Group11 => group_11(f),
     }
 }
 
@@ -254,6 +256,20 @@ fn group_7(f: &Fields) -> Op
     match f.modrm() {
         0xCB => Op::Stac,
         0xCA => Op::Clac,
+        _ => written(f),
+    }
+}
+
+/// XBEGIN goes on behind itself, or at its fallback address with rsp, rbp and memory as they are right behind itself.
+#[tactic(auto, unfolding(crate::specs::Operation::group_11))]
+fn group_11(f: &Fields) -> Op
+    ensures { result ≡ group_11 f.now }
+{
+    match f.modrm() {
+        0xF8 => Op::Jcc {
+            rel: f.immediate,
+            wide: true,
+        },
         _ => written(f),
     }
 }

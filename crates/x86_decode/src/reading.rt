@@ -39,7 +39,7 @@ use x86_map::{
 
 /// Why no instruction was read.
 #[derive(Clone, Copy)]
-pub enum Stop {
+pub enum ReadStop {
     /// The first `seen` bytes begin no instruction.
     Dead { seen: u8 },
     /// The bytes end within an instruction.
@@ -57,7 +57,7 @@ struct Opcode {
 
 /// The instruction at the front of at most fifteen bytes.
 #[tactic(auto, unfolding(crate::specs::Reading::reading))]
-pub(crate) fn read(map: Map, bytes: &[u8]) -> Result<Insn, Stop>
+pub(crate) fn read(map: Map, bytes: &[u8]) -> Result<Insn, ReadStop>
     requires { length bytes.now ≤ 15 }
     ensures { result ≡ reading map bytes.now }
 {
@@ -68,17 +68,17 @@ pub(crate) fn read(map: Map, bytes: &[u8]) -> Result<Insn, Stop>
             None => return read_rex(p, i as u8, &bytes[i..]),
         }
     }
-    Err(Stop::More)
+    Err(ReadStop::More)
 }
 
 #[tactic(auto, unfolding(crate::specs::Reading::rex_at))]
 #[inline(always)]
-fn read_rex(p: Prefixes, seen: u8, bytes: &[u8]) -> Result<Insn, Stop>
+fn read_rex(p: Prefixes, seen: u8, bytes: &[u8]) -> Result<Insn, ReadStop>
     requires { seen + length bytes.now ≤ 15 }
     ensures { result ≡ rex_at p seen bytes.now }
 {
     match bytes {
-        [] => Err(Stop::More),
+        [] => Err(ReadStop::More),
         [rex, rest @ ..] if 0x40 <= *rex && *rex <= 0x4F => {
             read_opcode(
                 Prefixes {
@@ -95,12 +95,12 @@ fn read_rex(p: Prefixes, seen: u8, bytes: &[u8]) -> Result<Insn, Stop>
 
 #[tactic(auto, unfolding(crate::specs::Reading::opcode_at))]
 #[inline(always)]
-fn read_opcode(p: Prefixes, seen: u8, bytes: &[u8]) -> Result<Insn, Stop>
+fn read_opcode(p: Prefixes, seen: u8, bytes: &[u8]) -> Result<Insn, ReadStop>
     requires { seen + length bytes.now ≤ 15 }
     ensures { result ≡ opcode_at p seen bytes.now }
 {
     match bytes {
-        [] => Err(Stop::More),
+        [] => Err(ReadStop::More),
         [0x0F, rest @ ..] => read_two_byte(p, seen + 1, rest),
         [first, rest @ ..] if opens_vector(&p, *first) => read_vector(p, *first, seen + 1, rest),
         [byte, rest @ ..] => read_operands(
@@ -127,7 +127,7 @@ fn opens_vector(p: &Prefixes, byte: u8) -> bool
 
 /// Behind C5, C4 or 62.
 #[inline(never)]
-fn read_vector(p: Prefixes, first: u8, seen: u8, bytes: &[u8]) -> Result<Insn, Stop>
+fn read_vector(p: Prefixes, first: u8, seen: u8, bytes: &[u8]) -> Result<Insn, ReadStop>
     requires { seen + length bytes.now ≤ 15 }
     ensures { result ≡ escaped_at first p seen bytes.now }
 {
@@ -139,80 +139,80 @@ fn read_vector(p: Prefixes, first: u8, seen: u8, bytes: &[u8]) -> Result<Insn, S
 }
 
 #[tactic(auto, unfolding(crate::specs::Reading::vex2_at))]
-fn read_vex2(p: Prefixes, seen: u8, bytes: &[u8]) -> Result<Insn, Stop>
+fn read_vex2(p: Prefixes, seen: u8, bytes: &[u8]) -> Result<Insn, ReadStop>
     requires { seen + length bytes.now ≤ 15 }
     ensures { result ≡ vex2_at p seen bytes.now }
 {
     match bytes {
-        [] => Err(Stop::More),
+        [] => Err(ReadStop::More),
         [a, rest @ ..] => read_behind(p, Vector::Vex2(*a), seen + 1, rest),
     }
 }
 
 #[tactic(auto, unfolding(crate::specs::Reading::vex3_at))]
-fn read_vex3(p: Prefixes, seen: u8, bytes: &[u8]) -> Result<Insn, Stop>
+fn read_vex3(p: Prefixes, seen: u8, bytes: &[u8]) -> Result<Insn, ReadStop>
     requires { seen + length bytes.now ≤ 15 }
     ensures { result ≡ vex3_at p seen bytes.now }
 {
     match bytes {
-        [] => Err(Stop::More),
+        [] => Err(ReadStop::More),
         [a, rest @ ..] if 0 < vex_number(*a) => read_vex3_second(p, *a, seen + 1, rest),
-        _ => Err(Stop::Dead { seen: seen + 1 }),
+        _ => Err(ReadStop::Dead { seen: seen + 1 }),
     }
 }
 
 #[tactic(auto, unfolding(crate::specs::Reading::vex3_second))]
-fn read_vex3_second(p: Prefixes, a: u8, seen: u8, bytes: &[u8]) -> Result<Insn, Stop>
+fn read_vex3_second(p: Prefixes, a: u8, seen: u8, bytes: &[u8]) -> Result<Insn, ReadStop>
     requires known { 0 < vex_number a }
     requires room { seen + length bytes.now ≤ 15 }
     ensures { result ≡ vex3_second p a seen bytes.now }
 {
     match bytes {
-        [] => Err(Stop::More),
+        [] => Err(ReadStop::More),
         [b, rest @ ..] => read_behind(p, Vector::Vex3(a, *b), seen + 1, rest),
     }
 }
 
 #[tactic(auto, unfolding(crate::specs::Reading::evex_at))]
-fn read_evex(p: Prefixes, seen: u8, bytes: &[u8]) -> Result<Insn, Stop>
+fn read_evex(p: Prefixes, seen: u8, bytes: &[u8]) -> Result<Insn, ReadStop>
     requires { seen + length bytes.now ≤ 15 }
     ensures { result ≡ evex_at p seen bytes.now }
 {
     match bytes {
-        [] => Err(Stop::More),
+        [] => Err(ReadStop::More),
         [a, rest @ ..] if 0 < evex_number(*a) => read_evex_second(p, *a, seen + 1, rest),
-        _ => Err(Stop::Dead { seen: seen + 1 }),
+        _ => Err(ReadStop::Dead { seen: seen + 1 }),
     }
 }
 
 #[tactic(auto, unfolding(crate::specs::Reading::evex_second))]
-fn read_evex_second(p: Prefixes, a: u8, seen: u8, bytes: &[u8]) -> Result<Insn, Stop>
+fn read_evex_second(p: Prefixes, a: u8, seen: u8, bytes: &[u8]) -> Result<Insn, ReadStop>
     requires known { 0 < evex_number a }
     requires room { seen + length bytes.now ≤ 15 }
     ensures { result ≡ evex_second p a seen bytes.now }
 {
     match bytes {
-        [] => Err(Stop::More),
+        [] => Err(ReadStop::More),
         [b, rest @ ..] if is_evex_second(*b) => read_evex_third(p, a, *b, seen + 1, rest),
-        _ => Err(Stop::Dead { seen: seen + 1 }),
+        _ => Err(ReadStop::Dead { seen: seen + 1 }),
     }
 }
 
 #[tactic(auto, unfolding(crate::specs::Reading::evex_third))]
-fn read_evex_third(p: Prefixes, a: u8, b: u8, seen: u8, bytes: &[u8]) -> Result<Insn, Stop>
+fn read_evex_third(p: Prefixes, a: u8, b: u8, seen: u8, bytes: &[u8]) -> Result<Insn, ReadStop>
     requires known { 0 < evex_number a }
     requires second { is_evex_second b ≡ true }
     requires room { seen + length bytes.now ≤ 15 }
     ensures { result ≡ evex_third p a b seen bytes.now }
 {
     match bytes {
-        [] => Err(Stop::More),
+        [] => Err(ReadStop::More),
         [c, rest @ ..] => read_behind(p, Vector::Evex(a, b, *c), seen + 1, rest),
     }
 }
 
 /// Behind VEX or EVEX.
-fn read_behind(p: Prefixes, vector: Vector, seen: u8, bytes: &[u8]) -> Result<Insn, Stop>
+fn read_behind(p: Prefixes, vector: Vector, seen: u8, bytes: &[u8]) -> Result<Insn, ReadStop>
     requires known { 0 < number_of vector }
     requires room { seen + length bytes.now ≤ 15 }
     ensures { result ≡ vector_at p vector seen bytes.now }
@@ -229,15 +229,15 @@ fn read_behind(p: Prefixes, vector: Vector, seen: u8, bytes: &[u8]) -> Result<In
 }
 
 #[tactic(auto, unfolding(crate::specs::Reading::two_byte_at, crate::specs::Reading::two_byte_in))]
-fn read_two_byte(p: Prefixes, seen: u8, bytes: &[u8]) -> Result<Insn, Stop>
+fn read_two_byte(p: Prefixes, seen: u8, bytes: &[u8]) -> Result<Insn, ReadStop>
     requires { seen + length bytes.now ≤ 15 }
     ensures { result ≡ two_byte_at p seen bytes.now }
 {
     if !accepts_some(p, 2) && !accepts_some(p, 3) && !accepts_some(p, 4) {
-        return Err(Stop::Dead { seen });
+        return Err(ReadStop::Dead { seen });
     }
     match bytes {
-        [] => Err(Stop::More),
+        [] => Err(ReadStop::More),
         [0x38, rest @ ..] => read_map(p, 3, seen + 1, rest),
         [0x3A, rest @ ..] => read_map(p, 4, seen + 1, rest),
         [byte, rest @ ..] => read_operands(
@@ -254,17 +254,17 @@ fn read_two_byte(p: Prefixes, seen: u8, bytes: &[u8]) -> Result<Insn, Stop>
 
 /// An opcode of the map of this number.
 #[tactic(auto, unfolding(crate::specs::Reading::map_at, crate::specs::Reading::opcode_in))]
-fn read_map(p: Prefixes, number: u8, seen: u8, bytes: &[u8]) -> Result<Insn, Stop>
+fn read_map(p: Prefixes, number: u8, seen: u8, bytes: &[u8]) -> Result<Insn, ReadStop>
     requires first { 0 < number }
     requires last { number < 13 }
     requires room { seen + length bytes.now ≤ 15 }
     ensures { result ≡ map_at p number seen bytes.now }
 {
     if !accepts_some(p, number) {
-        return Err(Stop::Dead { seen });
+        return Err(ReadStop::Dead { seen });
     }
     match bytes {
-        [] => Err(Stop::More),
+        [] => Err(ReadStop::More),
         [byte, rest @ ..] => read_operands(
             &Opcode {
                 prefixes: p,
@@ -279,12 +279,12 @@ fn read_map(p: Prefixes, number: u8, seen: u8, bytes: &[u8]) -> Result<Insn, Sto
 
 #[tactic(auto, unfolding(crate::specs::Reading::operands_at, crate::specs::Reading::operands_by))]
 #[inline(never)]
-fn read_operands(opcode: &Opcode, bytes: &[u8]) -> Result<Insn, Stop>
+fn read_operands(opcode: &Opcode, bytes: &[u8]) -> Result<Insn, ReadStop>
     requires { opcode.now.end + length bytes.now ≤ 15 }
     ensures { result ≡ operands_at opcode.now.prefixes opcode.now.number opcode.now.byte opcode.now.end bytes.now }
 {
     match lookup(&opcode.prefixes, opcode.number, opcode.byte, None) {
-        Look::Refused => Err(Stop::Dead { seen: opcode.end }),
+        Look::Refused => Err(ReadStop::Dead { seen: opcode.end }),
         Look::NeedModrm => read_modrm(opcode, bytes),
         Look::Fits(shape) => read_rest(opcode, None, None, shape, bytes),
     }
@@ -292,16 +292,16 @@ fn read_operands(opcode: &Opcode, bytes: &[u8]) -> Result<Insn, Stop>
 
 #[tactic(auto, unfolding(crate::specs::Reading::modrm_at, crate::specs::Reading::modrm_fits, crate::specs::Reading::sib_at))]
 #[inline(always)]
-fn read_modrm(opcode: &Opcode, bytes: &[u8]) -> Result<Insn, Stop>
+fn read_modrm(opcode: &Opcode, bytes: &[u8]) -> Result<Insn, ReadStop>
     requires { opcode.now.end + length bytes.now ≤ 15 }
     ensures { result ≡ modrm_at opcode.now.prefixes opcode.now.number opcode.now.byte opcode.now.end bytes.now }
 {
     let [modrm, rest @ ..] = bytes else {
-        return Err(Stop::More);
+        return Err(ReadStop::More);
     };
     match lookup(&opcode.prefixes, opcode.number, opcode.byte, Some(*modrm)) {
         Look::Fits(shape) => read_sib(opcode, *modrm, shape, rest),
-        _ => Err(Stop::Dead {
+        _ => Err(ReadStop::Dead {
             seen: opcode.end + 1,
         }),
     }
@@ -309,7 +309,7 @@ fn read_modrm(opcode: &Opcode, bytes: &[u8]) -> Result<Insn, Stop>
 
 #[tactic(auto, unfolding(crate::specs::Reading::sib_at))]
 #[inline(always)]
-fn read_sib(opcode: &Opcode, modrm: u8, shape: Shape, bytes: &[u8]) -> Result<Insn, Stop>
+fn read_sib(opcode: &Opcode, modrm: u8, shape: Shape, bytes: &[u8]) -> Result<Insn, ReadStop>
     requires { opcode.now.end + 1 + length bytes.now ≤ 15 }
     ensures { result ≡ sib_at opcode.now.prefixes opcode.now.number opcode.now.byte modrm shape opcode.now.end (has_sib (Some modrm)) bytes.now }
 {
@@ -317,7 +317,7 @@ fn read_sib(opcode: &Opcode, modrm: u8, shape: Shape, bytes: &[u8]) -> Result<In
         return read_rest(opcode, Some(modrm), None, shape, bytes);
     }
     match bytes {
-        [] => Err(Stop::More),
+        [] => Err(ReadStop::More),
         [sib, rest @ ..] => read_rest(opcode, Some(modrm), Some(*sib), shape, rest),
     }
 }
@@ -330,14 +330,14 @@ fn read_rest(
     sib: Option<u8>,
     shape: Shape,
     bytes: &[u8],
-) -> Result<Insn, Stop>
+) -> Result<Insn, ReadStop>
     requires { opcode.now.end + length (optional modrm) + length (optional sib) + length bytes.now ≤ 15 }
     ensures { result ≡ rest_at opcode.now.prefixes opcode.now.number opcode.now.byte modrm sib shape opcode.now.end bytes.now }
 {
     let len = displacement_len(modrm, sib);
     let imm = shape.imm as usize;
     if bytes.len() < len + imm {
-        return Err(Stop::More);
+        return Err(ReadStop::More);
     }
     let (displacement, rest) = bytes.split_at(len);
     let (immediate, _) = rest.split_at(imm);

@@ -2,6 +2,7 @@
 use Rattle.std.specs.Prelude.{ℕ, ◌==◌, if◌then◌else◌, List, []}
 use Rattle.x86_map.specs.declared.extension.OpcodeRange.{OpcodeRange}
 use Rattle.x86_map.specs.Row.{Row, ◌to◌}
+use Rattle.x86_map.specs.OneByteExtension.{extension_one_byte}
 use Rattle.x86_map.specs.TwoByteExtension.{extension_0F}
 use Rattle.x86_map.specs.ThreeByteExtension.{extension_0F_38, extension_0F_3A}
 use Rattle.x86_map.specs.VexRows.{vex_0F, vex_0F_38, vex_0F_3A}
@@ -14,7 +15,8 @@ row_of range = record { opcodes = range.first to range.last; form = range.form }
 -- by the number of the map
 abbrev pub extension_rows : ℕ → List Row
 extension_rows number =
-    if number == 2 then extension_0F
+    if number == 1 then extension_one_byte
+    else (if number == 2 then extension_0F
     else (if number == 3 then extension_0F_38
     else (if number == 4 then extension_0F_3A
     else (if number == 5 then vex_0F
@@ -24,4 +26,4 @@ extension_rows number =
     else (if number == 9 then evex_0F_38
     else (if number == 10 then evex_0F_3A
     else (if number == 11 then evex_5
-    else (if number == 12 then evex_6 else []))))))))))
+    else (if number == 12 then evex_6 else [])))))))))))

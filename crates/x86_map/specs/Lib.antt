@@ -3,6 +3,7 @@ pub mod Prefixes
 pub mod Form
 pub mod Row
 pub mod OneByte
+pub mod OneByteExtension
 pub mod TwoByte
 pub mod ThreeByte
 pub mod TwoByteExtension

@@ -147,4 +147,6 @@ extension_0F =
     ∷ row (0xF1 to 0xF6) E no_imm nothing no_F2_F3
     ∷ row (only 0xF7) R no_imm nothing no_F2_F3
     ∷ row (0xF8 to 0xFE) E no_imm nothing no_F2_F3
+    -- UD0
+    ∷ row (only 0xFF) E no_imm nothing no_F2_F3
     ∷ []

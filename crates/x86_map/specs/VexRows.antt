@@ -2,7 +2,7 @@
 -- Each row: opcodes, operand, immediate, which of the named registers it writes, prefixes.
 use Rattle.std.specs.Prelude.{List, [], ◌∷◌}
 use Rattle.x86_map.specs.declared.form.Immediate.TheVariants.{Ib}
-use Rattle.x86_map.specs.Row.{Row, row, ◌to◌, E, no_imm, nothing, any, only, M, Gv, with_F3_no_66, with_F2_no_66, R, no_F2_F3, with_66, none, no_66_F2_F3, Ev, M-of, E-of, Vv, GVv}
+use Rattle.x86_map.specs.Row.{Row, row, ◌to◌, E, no_imm, nothing, any, only, M, Gv, with_F3_no_66, with_F2_no_66, R, no_F2_F3, with_66, none, no_66_F2_F3, Ev, M-of, E-of, Vv, GVv, bytes}
 
 -- map 1, the map behind 0F
 abbrev pub vex_0F : List Row
@@ -98,6 +98,18 @@ vex_0F_38 =
     ∷ row (0xDB to 0xDF) E no_imm nothing with_66
     -- CMPccXADD
     ∷ row (0xE0 to 0xEF) M no_imm Gv with_66
+    -- AMX: LDTILECFG, STTILECFG; TILERELEASE; TILEZERO; TILELOADDT1, TILESTORED, TILELOADD, which have a SIB byte
+    ∷ row (only 0x49) (M-of 0 0) no_imm nothing no_F2_F3
+    ∷ row (only 0x49) (bytes 0xC0 0xC0) no_imm nothing no_66_F2_F3
+    ∷ row (only 0x49) R no_imm nothing with_F2_no_66
+    ∷ row (only 0x4B) M no_imm nothing with_66
+    ∷ row (only 0x4B) M no_imm nothing with_F3_no_66
+    ∷ row (only 0x4B) M no_imm nothing with_F2_no_66
+    -- AMX: TDPBF16PS, TDPFP16PS; TDPBUUD, TDPBUSD, TDPBSUD, TDPBSSD; TCMMRLFP16PS, TCMMIMFP16PS
+    ∷ row (only 0x5C) R no_imm nothing with_F3_no_66
+    ∷ row (only 0x5C) R no_imm nothing with_F2_no_66
+    ∷ row (only 0x5E) R no_imm nothing any
+    ∷ row (only 0x6C) R no_imm nothing no_F2_F3
     -- ANDN; group 17: BLSR, BLSMSK, BLSI; BZHI, PEXT, PDEP; MULX; BEXTR, SHLX, SARX, SHRX
     ∷ row (only 0xF2) E no_imm Gv no_66_F2_F3
     ∷ row (only 0xF3) (E-of 1 3) no_imm Vv no_66_F2_F3

@@ -6,6 +6,7 @@ ghost use Rattle.x86_map.specs.OpcodeMap.{forms_in, look_forms};
 
 use crate::evex_rows::{evex_0f, evex_0f_3a, evex_0f_38, evex_5, evex_6};
 use crate::form::Form;
+use crate::one_byte_extension::extension_one_byte;
 use crate::prefixes::Prefixes;
 use crate::shape::Look;
 use crate::three_byte_extension::{extension_0f_3a, extension_0f_38};
@@ -48,6 +49,7 @@ pub(crate) fn extension_rows(number: u8) -> &'static [OpcodeRange]
     ensures { map row_of result.now ≡ extension_rows number }
 {
     match number {
+        1 => extension_one_byte(),
         2 => extension_0f(),
         3 => extension_0f_38(),
         4 => extension_0f_3a(),

@@ -9,6 +9,7 @@ mod extension;
 mod form;
 mod map;
 mod one_byte;
+mod one_byte_extension;
 mod one_byte_groups;
 mod opcode_map;
 mod prefixes;

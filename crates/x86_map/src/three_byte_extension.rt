@@ -8,7 +8,7 @@ use crate::extension::OpcodeRange;
 use crate::words::{form, immediate, operand, prefixes, row, written};
 
 /// Behind 0F 38 (table A-4).
-static EXTENSION_0F_38_ROWS: [OpcodeRange; 21] = [
+static EXTENSION_0F_38_ROWS: [OpcodeRange; 23] = [
     // SSSE3: PSHUFB to PMULHRSW, PABS
     row!(0x00..=0x0B, E, no_imm, nothing, no_F2_F3),
     row!(0x1C..=0x1E, E, no_imm, nothing, no_F2_F3),
@@ -37,6 +37,9 @@ static EXTENSION_0F_38_ROWS: [OpcodeRange; 21] = [
     row!(0xF8, M, no_imm, nothing, with_F3_no_66),
     row!(0xF8, M, no_imm, nothing, with_F2_no_66),
     row!(0xF9, M, no_imm, nothing, no_66_F2_F3),
+    // URDMSR, UWRMSR
+    row!(0xF8, R, no_imm, Ev, with_F2_no_66),
+    row!(0xF8, R, no_imm, nothing, with_F3_no_66),
 ];
 
 /// Behind 0F 3A (table A-5).

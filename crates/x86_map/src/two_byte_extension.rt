@@ -8,7 +8,7 @@ use crate::extension::OpcodeRange;
 use crate::words::{form, immediate, operand, prefixes, row, written};
 
 /// The opcodes behind 0F that the extension has (SDM, volume 2, table A-3).
-static EXTENSION_0F_ROWS: [OpcodeRange; 119] = [
+static EXTENSION_0F_ROWS: [OpcodeRange; 120] = [
     // group 6: LKGS
     row!(0x00, E[6..=6], no_imm, nothing, with_F2_no_66),
     // group 7: ENCLV; VMLAUNCH, VMRESUME, VMXOFF, PCONFIG, WRMSRNS; ENCLS; VMFUNC, XEND, XTEST, ENCLU, VMRUN
@@ -150,6 +150,8 @@ static EXTENSION_0F_ROWS: [OpcodeRange; 119] = [
     row!(0xF1..=0xF6, E, no_imm, nothing, no_F2_F3),
     row!(0xF7, R, no_imm, nothing, no_F2_F3),
     row!(0xF8..=0xFE, E, no_imm, nothing, no_F2_F3),
+    // UD0
+    row!(0xFF, E, no_imm, nothing, no_F2_F3),
 ];
 
 /// The extension's opcodes behind 0F.

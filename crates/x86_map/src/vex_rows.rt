@@ -62,7 +62,7 @@ static VEX_0F_ROWS: [OpcodeRange; 43] = [
 ];
 
 /// Map 2.
-static VEX_0F_38_ROWS: [OpcodeRange; 37] = [
+static VEX_0F_38_ROWS: [OpcodeRange; 47] = [
     // VPSHUFB to VTESTPD; VCVTPH2PS; VPERMPS, VPTEST, VBROADCAST; VPABS; VPMOVSX; VPMULDQ to VPACKUSDW; VMASKMOV
     row!(0x00..=0x0F, E, no_imm, nothing, with_66),
     row!(0x13, E, no_imm, nothing, with_66),
@@ -99,6 +99,18 @@ static VEX_0F_38_ROWS: [OpcodeRange; 37] = [
     row!(0xDB..=0xDF, E, no_imm, nothing, with_66),
     // CMPccXADD
     row!(0xE0..=0xEF, M, no_imm, Gv, with_66),
+    // AMX: LDTILECFG, STTILECFG; TILERELEASE; TILEZERO; TILELOADDT1, TILESTORED, TILELOADD, which have a SIB byte
+    row!(0x49, M[0..=0], no_imm, nothing, no_F2_F3),
+    row!(0x49, bytes[0xC0..=0xC0], no_imm, nothing, no_66_F2_F3),
+    row!(0x49, R, no_imm, nothing, with_F2_no_66),
+    row!(0x4B, M, no_imm, nothing, with_66),
+    row!(0x4B, M, no_imm, nothing, with_F3_no_66),
+    row!(0x4B, M, no_imm, nothing, with_F2_no_66),
+    // AMX: TDPBF16PS, TDPFP16PS; TDPBUUD, TDPBUSD, TDPBSUD, TDPBSSD; TCMMRLFP16PS, TCMMIMFP16PS
+    row!(0x5C, R, no_imm, nothing, with_F3_no_66),
+    row!(0x5C, R, no_imm, nothing, with_F2_no_66),
+    row!(0x5E, R, no_imm, nothing, any),
+    row!(0x6C, R, no_imm, nothing, no_F2_F3),
     // ANDN; group 17: BLSR, BLSMSK, BLSI; BZHI, PEXT, PDEP; MULX; BEXTR, SHLX, SARX, SHRX
     row!(0xF2, E, no_imm, Gv, no_66_F2_F3),
     row!(0xF3, E[1..=3], no_imm, Vv, no_66_F2_F3),

@@ -1,4 +1,5 @@
-//! The instructions of a body of x86-64 code, one behind the other from its first byte to its last.
+//! The instructions of a body of x86-64 code, one behind the other from its first byte to its last, in a list in which
+//! equal ones stand once.
 #![tactic(auto)]
 
 mod fault;

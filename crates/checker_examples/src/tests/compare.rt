@@ -1,24 +1,20 @@
 //! The checker beside the plain reading, at one program.
 
-ghost use Rattle.std.specs.Prelude.{◌≡◌, ◌<◌, ◌^◌, All, IfOk, IsTrue, Some, None, length};
-ghost use Rattle.state_defs.specs.declared.state.State.{State as StateValue};
-ghost use Rattle.state_defs.specs.Row.{unfit_offset as unfit_offset_of};
-ghost use Rattle.branch_check.specs.LevelStates.{at};
-ghost use Rattle.orc_build.specs.Fit.{Fit};
+ghost use Rattle.std.specs.Prelude.{◌≡◌, ◌<◌, ◌^◌, All, IfOk, length};
 
 use super::parts::parts_of;
 use super::shape::graph_of;
-use branch_check::{Kept, Scratch, spread};
-use checker_model::{kept_states, rows as model_rows, warnings as model_warnings};
-use frame_rules::unfit_offset;
-use orc_build::rows;
-use ot_base::{NoMemory, Options, Warning};
+use kept_states::{Kept, Scratch, spread};
+use ot_base::{NoMemory, Options, Place, PlacedRow, Row, Warning};
+use program_check::row_of;
 use program_graph::Graph;
-use program_model::Program;
-use rule_check::{push_unreachable, push_warnings, push_without_frame, sort_warnings};
-use site_points::list_site_points;
-use site_rules::push_site_warnings;
+use program_model::{Program, kept_states, rows as model_rows, warnings as model_warnings};
+use stack_rules::{
+    list_site_points, push_site_warnings, push_unreachable, push_warnings, push_without_frame,
+    sort_warnings, unfit_offset,
+};
 use state_defs::State;
+use state_pool::count_states;
 use std::alloc::{AllocError, Global};
 use std::process::Abort;
 use std::test::Fail;
@@ -78,27 +74,33 @@ fn sorted_warnings(
     Ok(warnings)
 }
 
-/// Whether the offsets of a state's row fit the format, where there is a state.
-fn fits(state: Option<State>) -> bool
-    ensures { IsTrue result → (s : StateValue) → state ≡ Some s → unfit_offset_of s ≡ None }
-{
-    match state {
-        Some(state) => unfit_offset(state).is_none(),
+/// The row that is in force at a place in a table: the last at or below it, in its section.
+fn row_in_force(table: &[PlacedRow], place: Place) -> Option<Row> {
+    let mut found = None;
+    for placed in table {
+        if placed.place.sec == place.sec && placed.place.off <= place.off {
+            found = Some(placed.row);
+        }
+    }
+    found
+}
+
+/// Whether rows tell what is kept where a point runs: outside sites, and in those whose original code is kept at their start.
+fn is_told(p: &Program, states: &[Option<State>], place: Place) -> bool {
+    match p.site_at(place) {
         None => true,
+        Some(site) => p
+            .plain_at(site.start)
+            .is_some_and(|q| states.get(q as usize).copied().flatten().is_some()),
     }
 }
 
-/// Whether the offsets of each kept state's row fit the format.
-fn all_fit(graph: &Graph, kept: &Kept) -> bool
-    requires { length kept.now ≡ length graph.now.parts.points.items }
-    ensures { IsTrue result → Fit (at kept.now) }
-{
-    for n in 0..graph.points() {
-        if !fits(kept.state(n)) {
-            return false;
-        }
+/// The row of a state, where its offsets fit the format.
+fn fit_row(state: State) -> Option<Row> {
+    match unfit_offset(state) {
+        Some(_) => None,
+        None => Some(row_of(state)),
     }
-    true
 }
 
 /// How many different states there are.
@@ -132,12 +134,14 @@ fn expect_same_states(
         assert_eq!(rt; kept.state(n), expected, "{name} at {n}");
     }
     let different = count_different(alloc, &states)?;
-    assert_eq!(rt; kept.states(alloc)? as usize, different, "{name}");
+    let found = count_states(alloc, kept, graph.points())?;
+    assert_eq!(rt; found as usize, different, "{name}");
     Ok(())
 }
 
-/// Where no rule is broken, both have the same rows.
-fn expect_same_rows(
+/// Where no rule is broken, the table of the plain reading has in force, wherever a kept point runs of which rows tell, the row
+/// of the state that the checker keeps there.
+fn expect_rows_of_states(
     rt: &impl Abort,
     alloc: Global,
     name: &str,
@@ -147,13 +151,17 @@ fn expect_same_rows(
 ) -> Result<(), Fail>
     requires { length kept.now ≡ length graph.now.parts.points.items }
 {
-    if all_fit(graph, kept) {
-        let points = list_site_points(alloc, graph, kept)?;
-        let found = rows(alloc, graph, kept, &points)?;
-        let expected = model_rows(alloc, p)?;
-        assert!(rt; found == expected, "{name}: {found:?}, not {expected:?}");
-    } else {
-        assert!(rt; false, "{name}: an offset doesn't fit");
+    let table = model_rows(alloc, p)?;
+    let states = kept_states(alloc, p)?;
+    for n in 0..graph.points() {
+        let address = graph.address(n);
+        if let Some(state) = kept.state(n)
+            && is_told(p, states.as_slice(), address)
+        {
+            let found = row_in_force(table.as_slice(), address);
+            assert!(rt; found.is_some(), "{name} at {n}: no row");
+            assert_eq!(rt; fit_row(state), found, "{name} at {n}");
+        }
     }
     Ok(())
 }
@@ -192,7 +200,7 @@ pub fn expect_same(rt: &impl Abort, alloc: Global, name: &str, p: &Program) -> R
         expect_same_warnings(rt, alloc, name, p, &graph, &kept, asked)?;
     }
     if broken == 0 {
-        expect_same_rows(rt, alloc, name, p, &graph, &kept)?;
+        expect_rows_of_states(rt, alloc, name, p, &graph, &kept)?;
     }
     Ok(broken == 0)
 }

@@ -1,10 +1,10 @@
 //! Where control goes in a random program, and what its points are to their functions.
 
 use super::draw::Draw;
+use machine_defs::{Edge, EdgeKind, Role};
 use operation_defs::Op;
 use ot_base::Place;
-use program_defs::{Edge, EdgeKind, Role};
-use program_model::{Point, Program};
+use program_model::{ModelPoint, Program};
 use std::alloc::{AllocError, Global};
 
 /// Where control goes from a point, and what it is to its function.
@@ -26,7 +26,7 @@ fn arrive(alloc: Global, p: &Program, place: Place) -> Result<Vec<u32>, AllocErr
 
 /// The points that follow a point: the next one of its replacement, else those where control that comes to the place
 /// behind it may stand.
-fn after(alloc: Global, p: &Program, point: &Point) -> Result<Vec<u32>, AllocError> {
+fn after(alloc: Global, p: &Program, point: &ModelPoint) -> Result<Vec<u32>, AllocError> {
     let len = u64::from(point.insn.len);
     let behind = Place {
         sec: point.address.sec,
@@ -71,7 +71,7 @@ fn draw_role(draw: &mut Draw, p: &Program, op: Op) -> Role {
 }
 
 /// A place to which control may go from a point: that of a checked point of the same owner.
-fn draw_target(draw: &mut Draw, p: &Program, point: &Point) -> Option<Place> {
+fn draw_target(draw: &mut Draw, p: &Program, point: &ModelPoint) -> Option<Place> {
     let other = p.point(draw.number(p.count()))?;
     let may_go = !other.is_unchecked && other.owner == point.owner;
     may_go.then_some(other.address)
@@ -110,7 +110,7 @@ fn add_branch(
     alloc: Global,
     draw: &mut Draw,
     p: &Program,
-    point: &Point,
+    point: &ModelPoint,
     goes: &mut Vec<Edge>,
     kind: EdgeKind,
 ) -> Result<(), AllocError> {
@@ -127,7 +127,7 @@ fn draw_way(
     alloc: Global,
     draw: &mut Draw,
     p: &Program,
-    point: &Point,
+    point: &ModelPoint,
     is_wild: bool,
 ) -> Result<Way, AllocError> {
     let op = point.insn.op;
@@ -187,6 +187,7 @@ pub fn link(
         point.marks.bad = is_wild && draw.once_in(20);
         point.marks.into_site = is_wild && draw.once_in(40);
         point.marks.into_function = is_wild && draw.once_in(40);
+        point.marks.relocated = is_wild && draw.once_in(40);
         point.calls_fentry = draw.once_in(5);
     }
     Ok(())

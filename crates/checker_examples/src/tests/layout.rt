@@ -1,10 +1,10 @@
 //! The functions of a random program, one behind another, and the hints in them.
 
 use super::draw::Draw;
+use machine_defs::{Marks, Role};
 use operation_defs::{Insn, Op};
 use ot_base::Place;
-use program_defs::{Marks, Role};
-use program_model::{Point, Program, TextSection};
+use program_model::{ModelPoint, Program, TextSection};
 use state_defs::{BpHome, Depth, EndKind, HintState, State};
 use std::alloc::{AllocError, Global};
 
@@ -156,8 +156,8 @@ fn draw_op_of(draw: &mut Draw, shape: Shape, i: u32, n: u32, is_wild: bool) -> O
 }
 
 /// A point that goes nowhere.
-pub fn point(alloc: Global, insn: Insn, place: Place, body: Body) -> Point {
-    Point {
+pub fn point(alloc: Global, insn: Insn, place: Place, body: Body) -> ModelPoint {
+    ModelPoint {
         insn,
         place,
         address: place,
@@ -176,6 +176,7 @@ pub fn point(alloc: Global, insn: Insn, place: Place, body: Body) -> Point {
             past_end: false,
             into_site: false,
             into_function: false,
+            relocated: false,
         },
         after: Vec::new(alloc),
         calls_fentry: false,

@@ -1,13 +1,12 @@
 //! The parts of a graph, of a program of the plain reading.
 
-use checker_model::may_return;
+use machine_defs::{EdgeKind, Role};
 use ot_base::{NoMemory, Place};
-use program_defs::{EdgeKind, Role};
 use program_graph::{
-    GraphParts, Hinted, Owner, Point, PointKind, Previous, Rare, Replaced, Site, TextSection,
-    Transfer,
+    GraphParts, GraphPoint, GraphSite, Hinted, Owner, PointKind, Previous, Rare, Replaced,
+    TextSection, Transfer,
 };
-use program_model::{Point as ModelPoint, Program};
+use program_model::{ModelPoint, Program, may_return};
 use state_defs::HintState;
 use std::alloc::{AllocError, Global};
 
@@ -136,7 +135,7 @@ fn add_point(
         may_return: returning.get(q as usize).copied().unwrap_or(false),
         is_entered: p.is_entry_point(q),
     })?;
-    parts.points.push(Point {
+    parts.points.push(GraphPoint {
         section: point.place.sec,
         offset: offset(point.place),
         owner: q,
@@ -147,7 +146,7 @@ fn add_point(
 
 /// The parts without points.
 fn without_points(alloc: Global, p: &Program) -> Result<GraphParts, AllocError> {
-    let site = |site: &program_model::Site| Site {
+    let site = |site: &program_model::ModelSite| GraphSite {
         start: site.start,
         len: site.len,
     };

@@ -4,7 +4,7 @@ use super::draw::Draw;
 use super::layout::{Body, draw_op, point};
 use operation_defs::{Insn, Op};
 use ot_base::Place;
-use program_model::{Program, Site};
+use program_model::{ModelSite, Program};
 use std::alloc::{AllocError, Global};
 
 /// Replacements stand in this section.
@@ -27,7 +27,7 @@ fn may_join(p: &Program, first: u32, q: u32) -> bool {
 }
 
 /// The site of up to this many points from one on; none where the first can't lie in one.
-fn site_from(p: &Program, first: u32, most: u32) -> Option<Site> {
+fn site_from(p: &Program, first: u32, most: u32) -> Option<ModelSite> {
     let start = p.point(first)?.place;
     let mut len: u64 = 0;
     for i in 0..most {
@@ -37,7 +37,7 @@ fn site_from(p: &Program, first: u32, most: u32) -> Option<Site> {
         }
         len = len.saturating_add(u64::from(p.insn(q).len));
     }
-    (len > 0).then_some(Site { start, len })
+    (len > 0).then_some(ModelSite { start, len })
 }
 
 /// Adds a replacement of a site: up to three instructions, which are as long as the site.
@@ -45,7 +45,7 @@ fn add_replacement(
     alloc: Global,
     draw: &mut Draw,
     p: &mut Program,
-    site: Site,
+    site: ModelSite,
     first: u32,
     variant: u32,
     is_wild: bool,

@@ -1,6 +1,6 @@
 //! The rules and rows of states, by hand.
 
-use frame_rules::{
+use stack_rules::{
     call_rule, depth_number, fit_rule, iret_rule, return_rule, same_row, sibling_rule, switch_rule,
 };
 use state_defs::{BpHome, Depth, EndKind, State};

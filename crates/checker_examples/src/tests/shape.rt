@@ -4,18 +4,18 @@ ghost use Rattle.std.specs.Prelude.{◌≡◌, ◌+◌, ◌<◌, ◌≤◌, ◌^
 ghost use Rattle.std.specs.List.Sorted.{IsNonDecreasing};
 ghost use Rattle.program_graph.specs.Shape.{HaveShape, IsAlike, first_target, start_of};
 
-use program_defs::Edge;
-use program_graph::{Graph, GraphParts, Hinted, Point, PointKind, Rare, Site};
+use machine_defs::Edge;
+use program_graph::{Graph, GraphParts, GraphPoint, GraphSite, Hinted, PointKind, Rare};
 
 /// Whether the owner of each point is one of so many.
-fn owners_are_there(points: &[Point], owners: usize) -> bool
+fn owners_are_there(points: &[GraphPoint], owners: usize) -> bool
     ensures { IsTrue result → All (λ x. x.owner < owners) points.now }
 {
     points.iter().all(|point| (point.owner as usize) < owners)
 }
 
 /// Whether the kind of each point is one of so many.
-fn kinds_are_there(points: &[Point], kinds: usize) -> bool
+fn kinds_are_there(points: &[GraphPoint], kinds: usize) -> bool
     ensures { IsTrue result → All (λ x. x.kind < kinds) points.now }
 {
     points.iter().all(|point| (point.kind as usize) < kinds)
@@ -136,7 +136,7 @@ fn have_shape(parts: &GraphParts) -> bool
 }
 
 /// Whether each site has fewer than 2^63 bytes.
-fn sites_are_short(sites: &[Site]) -> bool
+fn sites_are_short(sites: &[GraphSite]) -> bool
     ensures { IsTrue result → All (λ site. site.len < 2 ^ 63) sites.now }
 {
     sites.iter().all(|site| site.len < 0x8000_0000_0000_0000)

@@ -4,10 +4,10 @@ use super::case::{
     Example, How, NEXT, NOTHING, Pair, RBP, RETHUNK, RETPOLINE, UNSAFE, UNSAFE_IN_UNSAFE,
 };
 use super::expect::expect_pair;
+use machine_defs::{EdgeKind, Role};
 use operation_defs::Op;
 use option_model::{Allowed, Promise};
 use ot_base::rules;
-use program_defs::{EdgeKind, Role};
 use stack_examples::lines::{Table, With};
 use std::test::Fail;
 

@@ -1,10 +1,10 @@
 //! The tables of programs, and what is expected of them. They are data, since each call in a test's body takes longer
 //! to prove; `expect` reads them.
 
+use machine_defs::EdgeKind;
 use machine_model::{Frame, Slot};
 use option_model::{Allowed, Promise};
 use ot_base::Options;
-use program_defs::EdgeKind;
 use stack_examples::lines::Table;
 
 /// Where the stack begins, how many bytes it has, and where it ends.

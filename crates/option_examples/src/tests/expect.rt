@@ -4,16 +4,16 @@ use super::case::{
     At, CALLED, CALLED_WITH_ACCESS, Example, Harmless, How, LO, NO_OPTIONS, OUTSIDE, Pair, SIZE,
     Warned,
 };
+use machine_defs::{Edge, EdgeKind};
 use machine_model::{Anything, Choice, Core, Machine, Standing, Start, next_state, started};
 use option_model::{Promise, broken_promises, first_homes, homes_after, warnings};
 use ot_base::{Options, Place, Warning};
-use program_defs::{Edge, EdgeKind};
 use program_model::{Program, Region};
 use stack_examples::builder::program;
 use std::alloc::{AllocError, Global};
 use std::process::Abort;
 use std::test::Fail;
-use walk_defs::Range;
+use table_defs::Range;
 
 /// Where section 1 is placed.
 const PLACEMENT: [Range; 1] = [Range {

@@ -2,10 +2,10 @@
 
 use super::case::{Example, FP, How, NEXT, NOTHING, Pair, RBP, UNSAFE, UNSAFE_IN_UNSAFE};
 use super::expect::expect_pair;
+use machine_defs::Role;
 use operation_defs::Op;
 use option_model::Promise;
 use ot_base::rules;
-use program_defs::Role;
 use stack_examples::lines::{Table, With};
 use std::test::Fail;
 

@@ -4,10 +4,10 @@ use super::case::{
     Example, Harmless, NEXT, NOTHING, RBP, RETHUNK, RETPOLINE, SAFE, UACCESS, UNSAFE,
 };
 use super::expect::expect_harmless;
+use machine_defs::Role;
 use operation_defs::Op;
 use option_model::Allowed;
 use ot_base::rules;
-use program_defs::Role;
 use stack_examples::lines::{Table, With};
 use std::test::Fail;
 

@@ -25,6 +25,7 @@ fn fixed_text(rule: u8) -> &'static str
         rules::CALL_INTO_FUNCTION => "call into the middle of a function",
         rules::FUNCTION_WITHOUT_SIZE => "function without size",
         rules::RESTORE_WITHOUT_SAVE => "restore without save",
+        rules::RELOCATED_STACK_OFFSET => "relocated stack offset",
         rules::CALL_WITHOUT_FRAME => "call without frame",
         rules::INDIRECT_BRANCH => "indirect branch",
         rules::NAKED_RETURN => "naked return",

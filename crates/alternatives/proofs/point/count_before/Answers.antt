@@ -1,7 +1,7 @@
 use Rattle.std.proofs.Common.{arith, rules, tests}
 use Rattle.std.proofs.lemmas.List.Sorted.{IsPartitionPoint-from_clause}
+use Rattle.ot_base.specs.Places.{is_before}
 use Rattle.alternatives.specs.declared.point.Point.{Point}
-use Rattle.alternatives.specs.Sites.{is_before}
 use Rattle.alternatives.proofs.Numbering.{before_parted}
 use Rattle.alternatives.proofs.point.count_before.Goals as goal
 

@@ -1,8 +1,8 @@
 use Rattle.std.proofs.Common.{not, arith, rules, tests}
 use Rattle.std.proofs.lemmas.Bool.{not-true, not-false}
 use Rattle.std.proofs.lemmas.List.Sorted.{IsPartitionPoint-from_clause}
+use Rattle.ot_base.specs.Places.{is_before}
 use Rattle.alternatives.specs.declared.point.Point.{Point}
-use Rattle.alternatives.specs.Sites.{is_before}
 use Rattle.alternatives.proofs.Numbering.{upto_parted}
 use Rattle.alternatives.proofs.point.count_to.Goals as goal
 

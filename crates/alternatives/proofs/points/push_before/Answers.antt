@@ -1,7 +1,7 @@
 use Rattle.std.proofs.Common.{◌≡◌, ◌+◌, ◌<◌, ◌++◌, ◌∷◌, ℕ, true, List, drop, length, get_or, sym, ap, ◌∙◌, arith}
+use Rattle.ot_base.specs.Places.{is_before}
 use Rattle.alternatives.specs.declared.point.Point.{Point}
 use Rattle.alternatives.specs.Gathered.{woven}
-use Rattle.alternatives.specs.Sites.{is_before}
 use Rattle.alternatives.proofs.Weaving.{step_other}
 use Rattle.alternatives.proofs.points.push_before.Goals as goal
 

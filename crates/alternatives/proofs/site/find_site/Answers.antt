@@ -1,18 +1,18 @@
 use Rattle.std.proofs.Common.{◌≡◌, ℕ, ◌-◌, ◌<◌, ◌≤◌, List, length, get_or, inl, inr, arith, sym, ap, ◌∙◌}
 use Rattle.std.proofs.lemmas.Bool.{cases_lt}
 use Rattle.std.proofs.lemmas.List.{get_or_default}
-use Rattle.alternatives.specs.declared.site.Site.{Site}
-use Rattle.alternatives.specs.Sites.{holds}
+use Rattle.alternatives.specs.declared.site.AlternativesSite.{AlternativesSite}
+use Rattle.alternatives.specs.Sites.{in_alternatives_site}
 use Rattle.alternatives.proofs.Order.{before_not_held, behind_not_held}
 use Rattle.alternatives.proofs.site.find_site.Goals as goal
 
-none : Site
+none : AlternativesSite
 none = record { start = record { sec = 0; off = 0 }; len = 0; first = 0; count = 0 }
 
-pub returns-else-holds : goal.returns-else-holds
+pub returns-else-in_alternatives_site : goal.returns-else-in_alternatives_site
 unfolding none
-returns-else-holds c = λ k d inside.
-    let sites : List Site = c.args.sites.now in
+returns-else-in_alternatives_site c = λ k d inside.
+    let sites : List AlternativesSite = c.args.sites.now in
     let n : ℕ = c.count_to-count.result in
     let last : ℕ = n - 1 in
     let some : 0 < n = omega (arith, c.if-count-eq0.false) in
@@ -22,9 +22,9 @@ returns-else-holds c = λ k d inside.
       | inr not_lower ↦ elim (cases_lt k n) [
         | inl here ↦
             let is : k ≡ last = omega arith in
-            ap (λ j. holds (get_or sites j d) c.args.place) is
-            ∙ ap (λ s. holds s c.args.place) (get_or_default sites last d none (omega arith))
-            ∙ sym c.holds.ensures ∙ c.if-holds.false
+            ap (λ j. in_alternatives_site (get_or sites j d) c.args.place) is
+            ∙ ap (λ s. in_alternatives_site s c.args.place) (get_or_default sites last d none (omega arith))
+            ∙ sym c.in_alternatives_site.ensures ∙ c.if-in_alternatives_site.false
         | inr above ↦ before_not_held c.args.place (get_or sites k d) (c.count_to-count.ensures.behind k d above inside)
       ]
     ]

@@ -2,7 +2,7 @@ use Rattle.std.proofs.Common.{◌≡◌, ℕ, ◌+◌, ◌<◌, ◌≤◌, List,
 use Rattle.std.proofs.lemmas.List.{length-map}
 use Rattle.special_sections.specs.declared.entries.AltEntry.{AltEntry}
 use Rattle.alternatives.specs.declared.original.Original.{Original}
-use Rattle.alternatives.specs.declared.site.Site.{Site}
+use Rattle.alternatives.specs.declared.site.AlternativesSite.{AlternativesSite}
 use Rattle.alternatives.specs.Sites.{AreSitesOf}
 use Rattle.alternatives.specs.Sorted.{NoneMeet, GroupsOf}
 use Rattle.alternatives.proofs.Overlaps.{some_len}
@@ -32,7 +32,7 @@ invariant_of-result c =
     let same : length c.as_slice-2.result.now ≡ length os = ap (λ (xs : List Original). length xs) c.as_slice-2.ensures.value in
     let count : 0 + length c.in_ok-sites.sites.items ≤ length c.as_slice-2.result.now = fill_few 0 (length c.as_slice-2.result.now) c.in_ok-sites.sites.items c.in_ok-sites.ensures.fill in
     let entries : List AltEntry = c.args.entries.now in
-    let sites : List Site = c.in_ok-sites.sites.items in
+    let sites : List AlternativesSite = c.in_ok-sites.sites.items in
     let groups : GroupsOf os sites (length os) = subst (λ xs. GroupsOf xs sites (length xs)) c.as_slice-2.ensures.value c.in_ok-sites.ensures in
     let numbers : c.in_ok-entry_numbers.entry_numbers.items ≡ map (λ (o : Original). o.entry) os = c.in_ok-entry_numbers.ensures ∙ ap (map (λ (o : Original). o.entry)) c.as_slice-3.ensures.value in
     let as_many : length c.in_ok-entry_numbers.entry_numbers.items ≡ length os = ap (λ (ns : List ℕ). length ns) numbers ∙ length-map os (λ (o : Original). o.entry) in
@@ -43,7 +43,7 @@ pub returns-clause-sites : goal.returns-clause-sites
 returns-clause-sites c =
     let os : List Original = c.in_ok-originals.originals.items in
     let entries : List AltEntry = c.args.entries.now in
-    let sites : List Site = c.in_ok-sites.sites.items in
+    let sites : List AlternativesSite = c.in_ok-sites.sites.items in
     let groups : GroupsOf os sites (length os) = subst (λ xs. GroupsOf xs sites (length xs)) c.as_slice-2.ensures.value c.in_ok-sites.ensures in
     let numbers : c.in_ok-entry_numbers.entry_numbers.items ≡ map (λ (o : Original). o.entry) os = c.in_ok-entry_numbers.ensures ∙ ap (map (λ (o : Original). o.entry)) c.as_slice-3.ensures.value in
     subst (λ ns. AreSitesOf entries sites ns) (sym numbers) (whole_sites entries os c.in_ok-originals.ensures.all c.in_ok-originals.ensures.sorted sites groups)
@@ -54,5 +54,5 @@ of_sites-requires c =
     let few : length os ≤ length c.args.entries.now = few_originals c.args.entries.now os c.in_ok-originals.ensures.all in
     let same : length c.as_slice-2.result.now ≡ length os = ap (λ (xs : List Original). length xs) c.as_slice-2.ensures.value in
     let count : 0 + length c.in_ok-sites.sites.items ≤ length c.as_slice-2.result.now = fill_few 0 (length c.as_slice-2.result.now) c.in_ok-sites.sites.items c.in_ok-sites.ensures.fill in
-    let sites : length c.as_slice-4.result.now ≡ length c.in_ok-sites.sites.items = ap (λ (xs : List Site). length xs) c.as_slice-4.ensures.value in
+    let sites : length c.as_slice-4.result.now ≡ length c.in_ok-sites.sites.items = ap (λ (xs : List AlternativesSite). length xs) c.as_slice-4.ensures.value in
     omega (arith, c.requires.few)

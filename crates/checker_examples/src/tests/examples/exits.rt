@@ -1,8 +1,8 @@
 //! Code that leaves its function in a wrong way.
 
 use super::{Example, expect_all};
+use machine_defs::{EdgeKind, Role};
 use operation_defs::Op;
-use program_defs::{EdgeKind, Role};
 use stack_examples::lines::{Table, With};
 use state_defs::{EndKind, HintState, State};
 use std::test::Fail;

@@ -1,8 +1,8 @@
 //! Functions, and code with hints, that break no rule.
 
 use super::{Example, expect_all};
+use machine_defs::EdgeKind;
 use operation_defs::Op;
-use program_defs::EdgeKind;
 use stack_examples::lines::{Table, With};
 use state_defs::{BpHome, Depth, HintState, State};
 use std::test::Fail;

@@ -1,8 +1,8 @@
 //! Wrong operations, and what options ask for.
 
 use super::{Example, expect_all};
+use machine_defs::Role;
 use operation_defs::Op;
-use program_defs::Role;
 use stack_examples::lines::{Table, With};
 use state_defs::{BpHome, Depth, HintState, State};
 use std::test::Fail;

@@ -1,10 +1,10 @@
 //! Wrong targets, sites and RESTORE hints, and a wrong state that comes late.
 
 use super::{Example, expect_all};
+use machine_defs::{EdgeKind, Marks, Role};
 use operation_defs::Op;
-use program_defs::{EdgeKind, Marks, Role};
 use stack_examples::lines::{Table, With};
-use state_defs::{BpHome, Depth, HintState, State};
+use state_defs::{BpHome, Depth, EndKind, HintState, State};
 use std::test::Fail;
 
 /// A jump.
@@ -19,6 +19,7 @@ const BAD: Marks = Marks {
     past_end: false,
     into_site: false,
     into_function: false,
+    relocated: false,
 };
 
 /// Execution runs off its section.
@@ -27,6 +28,7 @@ const PAST_ITS_END: Marks = Marks {
     past_end: true,
     into_site: false,
     into_function: false,
+    relocated: false,
 };
 
 /// A target lies in a site.
@@ -35,6 +37,7 @@ const INTO_A_SITE: Marks = Marks {
     past_end: false,
     into_site: true,
     into_function: false,
+    relocated: false,
 };
 
 /// It calls a place inside a function.
@@ -43,6 +46,16 @@ const INTO_A_FUNCTION: Marks = Marks {
     past_end: false,
     into_site: false,
     into_function: true,
+    relocated: false,
+};
+
+/// A relocation changes a number of the stack.
+const ON_A_NUMBER: Marks = Marks {
+    bad: false,
+    past_end: false,
+    into_site: false,
+    into_function: false,
+    relocated: true,
 };
 
 /// A word was pushed in a call frame.
@@ -52,8 +65,9 @@ const PUSHED: State = State::Live {
     bp: BpHome::Same,
 };
 
-/// Wrong targets, sites and RESTORE hints, a function without a size, and a state that comes late.
-const TARGETS: [Example; 13] = [
+/// Wrong targets, sites and RESTORE hints, a function without a size, relocations on numbers of the stack, and a state that
+/// comes late.
+const TARGETS: [Example; 15] = [
     Example {
         name: "a jump to no place to go",
         table: Table {
@@ -90,6 +104,39 @@ const TARGETS: [Example; 13] = [
             rows: &[
                 (0, 1, Op::Push, &[]),
                 (1, 5, Op::Call { rel: 1 }, &[With::Marks(INTO_A_FUNCTION)]),
+            ],
+            entries: &[0],
+            sites: &[],
+        },
+    },
+    Example {
+        name: "a relocation on the number that is added to rsp",
+        table: Table {
+            rows: &[
+                (0, 4, Op::AddSp { by: -8 }, &[]),
+                (4, 4, Op::AddSp { by: 8 }, &[With::Marks(ON_A_NUMBER)]),
+                (8, 1, Op::Ret, &[]),
+            ],
+            entries: &[0],
+            sites: &[],
+        },
+    },
+    Example {
+        name: "a relocation on the number that is added to rsp, where the stack has ended",
+        table: Table {
+            rows: &[
+                (0, 1, Op::Ret, &[]),
+                (
+                    1,
+                    4,
+                    Op::AddSp { by: 8 },
+                    &[
+                        With::OfNone,
+                        With::Hint(HintState::Set(State::Ended(EndKind::EndOfStack))),
+                        With::Marks(ON_A_NUMBER),
+                    ],
+                ),
+                (5, 2, Op::Ud2, &[With::OfNone]),
             ],
             entries: &[0],
             sites: &[],

@@ -1,7 +1,7 @@
 use Rattle.std.proofs.Common.{Bool, cond, sym, ap, ◌∙◌}
 use Rattle.elf_objects.specs.Elf.{Elf}
 use Rattle.flow_defs.specs.Program.{never_returns_by}
-use Rattle.return_search.specs.declared.flow.Exit.TheVariants as exits
+use Rattle.control_flow.specs.declared.searched_flow.Exit.TheVariants as exits
 use Rattle.control_flow.proofs.Fields.{call_named, jump_named}
 use Rattle.control_flow.proofs.listed.exit.Goals as goal
 

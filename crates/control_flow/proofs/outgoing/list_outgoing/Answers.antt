@@ -1,8 +1,8 @@
 use Rattle.std.proofs.Common.{◌≡◌, ◌+◌, ◌^◌, ◌<◌, ◌++◌, ◌∷◌, [], ℕ, List, length, sym, ap, subst, ◌∙◌, arith}
 use Rattle.flow_defs.specs.Coded.{Coded}
-use Rattle.program_defs.specs.declared.flow.Edge.{Edge}
+use Rattle.machine_defs.specs.declared.flow.Edge.{Edge}
 use Rattle.program_graph.specs.declared.parts.Transfer.{Transfer}
-use Rattle.return_search.specs.declared.flow.Exit.{Exit}
+use Rattle.control_flow.specs.declared.searched_flow.Exit.{Exit}
 use Rattle.control_flow.specs.Listed.{AreEdges, count_of}
 use Rattle.control_flow.specs.declared.transfers.TheConstants.{USUAL}
 use Rattle.control_flow.proofs.Going.{AreOutgoing, none_outgoing, outgoing_more}

@@ -1,6 +1,6 @@
 use Rattle.std.proofs.Common.{subst}
 use Rattle.flow_defs.specs.Coded.{Coded}
-use Rattle.point_arrivals.specs.Straight.{IsStraight}
+use Rattle.point_edges.specs.Straight.{IsStraight}
 use Rattle.control_flow.proofs.GoesOn.{passes_calls_none, straight_exit, straight_transfer}
 use Rattle.control_flow.proofs.Noted.{jumps_more}
 use Rattle.control_flow.proofs.outgoing.look.Goals as goal

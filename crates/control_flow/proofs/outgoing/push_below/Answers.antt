@@ -1,7 +1,7 @@
 use Rattle.std.proofs.Common.{◌≡◌, ℕ, ◌<◌, ◌++◌, Bool, true, false, List, All, sym, ap, ◌∙◌, subst}
 use Rattle.std.proofs.lemmas.List.{append-nil}
 use Rattle.flow_defs.specs.Coded.{Coded}
-use Rattle.program_defs.specs.declared.flow.Edge.{Edge}
+use Rattle.machine_defs.specs.declared.flow.Edge.{Edge}
 use Rattle.flow_defs.specs.Code.{point_at}
 use Rattle.flow_defs.specs.Owners.{is_unchecked_point}
 use Rattle.control_flow.specs.Listed.{count_of}

@@ -2,10 +2,10 @@ use Rattle.std.proofs.Common.{◌≡◌, ◌+◌, ◌<◌, ℕ, List, [], None, 
 use Rattle.std.specs.Prelude.{◌↔◌, slice_index_or}
 use Rattle.std.proofs.lemmas.List.{get_or_default}
 use Rattle.flow_defs.specs.Coded.{Coded}
-use Rattle.program_graph.specs.declared.parts.Point.{Point}
+use Rattle.program_graph.specs.declared.parts.GraphPoint.{GraphPoint}
 use Rattle.program_graph.specs.declared.parts.PointKind.{PointKind}
-use Rattle.point_entries.specs.Entered.{IsEnteredAt}
-use Rattle.point_entries.proofs.Standing.{program_enters}
+use Rattle.control_flow.specs.Entered.{IsEnteredAt}
+use Rattle.control_flow.proofs.Standing.{program_enters}
 use Rattle.control_flow.specs.Listed.{count_of}
 use Rattle.control_flow.specs.Numbers.{IsNumbered}
 use Rattle.control_flow.specs.Points.{AreMade}
@@ -19,7 +19,7 @@ loop-n-init c =
     let returns = c.args.returns.now in
     let rares : List ℕ = c.args.rares.now in
     let transfers : List ℕ = c.args.transfers.now in (
-      subst (λ (items : List Point). AreMade o owners returns rares transfers c.in_ok-table.table.kinds.items items 0) (sym c.in_ok-made.ensures.items)
+      subst (λ (items : List GraphPoint). AreMade o owners returns rares transfers c.in_ok-table.table.kinds.items items 0) (sym c.in_ok-made.ensures.items)
           (subst (λ (kinds : List PointKind). AreMade o owners returns rares transfers kinds [] 0) (sym c.in_ok-table.ensures) (none_made o owners returns rares transfers)),
       omega (arith, ap length c.in_ok-table.ensures),
     )
@@ -35,14 +35,14 @@ loop-n-preserved c =
     let after : List PointKind = c.number_of.new.self.kinds.items in
     let n : ℕ = c.loop-n.n in
     let k : PointKind = c.in_ok-kind.kind in
-    let x : Point = c.point_of-point.result in
+    let x : GraphPoint = c.point_of-point.result in
     let inside : n < count_of o = omega (arith, c.count_points-count.ensures, ap count_of c.places.ensures) in
     let in_may : n < length returns.may_return.items = omega (arith, c.requires.returns.may_return) in
     let in_rares : n < length rares = omega (arith, c.requires.rares) in
     let in_transfers : n < length transfers = omega (arith, c.requires.transfers) in
     let kind : IsKindAt o owners returns rares transfers n k = kind_at o owners returns rares transfers n k _ _ _ in_may c.index.ensures (get_or_default rares n _ 0 in_rares) (get_or_default transfers n _ 0 in_transfers) c.in_ok-kind.ensures in
     let numbered : IsNumbered before after k c.in_ok-number.number = c.in_ok-number.ensures in (
-      subst (λ (items : List Point). AreMade o owners returns rares transfers after items (n + 1)) (sym c.in_ok-push.ensures.items)
+      subst (λ (items : List GraphPoint). AreMade o owners returns rares transfers after items (n + 1)) (sym c.in_ok-push.ensures.items)
           (made_more o owners returns rares transfers before after k c.in_ok-number.number c.loop-n.made.items n x c.loop-n.invariant.0 numbered kind c.point_of-point.ensures),
       omega (arith, numbered.short, c.loop-n.invariant.1),
     )

@@ -1,7 +1,7 @@
 use Rattle.std.proofs.Common.{◌≡◌, ℕ, ◌+◌, ◌-◌, ◌<◌, None, sym, ◌∙◌, subst, arith}
 use Rattle.flow_defs.specs.Coded.{Coded}
-use Rattle.flow_law.specs.Flows.{ObjectIsInOrder}
-use Rattle.point_arrivals.specs.Straight.{IsStraight}
+use Rattle.object_law.specs.Flows.{ObjectIsInOrder}
+use Rattle.point_edges.specs.Straight.{IsStraight}
 use Rattle.control_flow.specs.Listed.{count_of}
 use Rattle.control_flow.specs.Rares.{IsRare}
 use Rattle.control_flow.specs.declared.rares.TheConstants.{USUAL}

@@ -1,7 +1,7 @@
 use Rattle.std.proofs.Common.{◌≡◌, ℕ, List, Option, ap, ◌∙◌, subst}
 use Rattle.flow_defs.specs.Coded.{Coded}
 use Rattle.flow_defs.specs.Program.{program_of}
-use Rattle.flow_law.specs.Flows.{ObjectIsInOrder}
+use Rattle.object_law.specs.Flows.{ObjectIsInOrder}
 use Rattle.control_flow.specs.Listed.{AreEntered, count_of}
 use Rattle.control_flow.proofs.Steps.{all_ok}
 use Rattle.control_flow.proofs.returning.returns_of.Goals as goal

@@ -1,6 +1,6 @@
 use Rattle.std.proofs.Common.{arith, rules, tests}
 use Rattle.std.proofs.lemmas.List.Sorted.{IsPartitionPoint-from_clause}
-use Rattle.symbols_relocs.specs.Places.{is_before}
+use Rattle.ot_base.specs.Places.{is_before}
 use Rattle.jump_tables.specs.declared.jump.Jump.{Jump}
 use Rattle.jump_tables.proofs.JumpOrder.{parted}
 use Rattle.jump_tables.proofs.jump.count_before.Goals as goal

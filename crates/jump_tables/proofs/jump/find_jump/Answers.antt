@@ -1,6 +1,6 @@
 use Rattle.std.proofs.Common.{ℕ, ◌<◌, List, length, get_or, inl, inr, arith, sym}
 use Rattle.std.proofs.lemmas.Bool.{cases_lt}
-use Rattle.symbols_relocs.specs.Places.{same_place}
+use Rattle.ot_base.specs.Places.{same_place}
 use Rattle.jump_tables.specs.declared.jump.Jump.{Jump}
 use Rattle.jump_tables.proofs.Finding.{found_at, none_passes}
 use Rattle.jump_tables.proofs.JumpOrder.{before_is_other, behind_is_other}

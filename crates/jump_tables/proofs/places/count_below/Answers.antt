@@ -1,7 +1,7 @@
 use Rattle.std.proofs.Common.{arith, rules, tests}
 use Rattle.std.proofs.lemmas.List.Sorted.{IsPartitionPoint-from_clause}
 use Rattle.ot_base.specs.declared.place.Place.{Place}
-use Rattle.symbols_relocs.specs.Places.{is_before}
+use Rattle.ot_base.specs.Places.{is_before}
 use Rattle.jump_tables.proofs.Order.{parted}
 use Rattle.jump_tables.proofs.places.count_below.Goals as goal
 

@@ -2,7 +2,7 @@ use Rattle.std.proofs.Common.{ℕ, ◌<◌, ◌≤◌, List, length, get_or, inl
 use Rattle.std.proofs.lemmas.Bool.{cases_lt}
 use Rattle.std.proofs.lemmas.List.{get_or_default}
 use Rattle.ot_base.specs.declared.place.Place.{Place}
-use Rattle.symbols_relocs.specs.Places.{same_place}
+use Rattle.ot_base.specs.Places.{same_place}
 use Rattle.jump_tables.proofs.Order.{no_place, before_is_other, behind_is_other, same_is}
 use Rattle.jump_tables.proofs.places.find_first.Goals as goal
 

@@ -2,7 +2,7 @@ use Rattle.std.proofs.Common.{◌≡◌, subst, sym, ap, ◌∙◌, List}
 use Rattle.std.specs.List.{dedup, list_any}
 use Rattle.std.proofs.lemmas.List.Filters.{dedup_is}
 use Rattle.ot_base.specs.declared.place.Place.{Place}
-use Rattle.symbols_relocs.specs.Places.{same_place}
+use Rattle.ot_base.specs.Places.{same_place}
 use Rattle.jump_tables.specs.Kept.{AreRising}
 use Rattle.jump_tables.proofs.Starting.{rising, same_among}
 use Rattle.jump_tables.proofs.starts.sort_places.Goals as goal

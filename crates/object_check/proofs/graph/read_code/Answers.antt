@@ -4,7 +4,7 @@ use Rattle.flow_defs.specs.Coded.{Coded, coded_by}
 use Rattle.program_graph.specs.Tells.{Tells}
 use Rattle.flow_defs.specs.Faults.{IsFirstFlowFault, flow_faults}
 use Rattle.flow_defs.specs.Program.{program_of}
-use Rattle.flow_law.specs.Flows.{ObjectIsInOrder}
+use Rattle.object_law.specs.Flows.{ObjectIsInOrder}
 use Rattle.object_check.specs.Order.{no_memory}
 use Rattle.object_check.proofs.Faults.{flow_told, link_told}
 use Rattle.object_check.proofs.graph.read_code.Goals as goal

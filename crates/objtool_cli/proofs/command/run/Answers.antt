@@ -3,6 +3,7 @@ use Rattle.objtool_cli.proofs.ContentEnds.{changes, unchanged}
 use Rattle.objtool_cli.proofs.DemoEnds.{demo_sums_up}
 use Rattle.objtool_cli.proofs.FaultEnds.{file_fault, sink_fault}
 use Rattle.objtool_cli.proofs.ReadBackEnds.{dump_answered, rows_dumped, unwind_answered, walk_printed}
+use Rattle.objtool_cli.proofs.RefusalEnds.{refusal_answered, refusal_told}
 use Rattle.objtool_cli.proofs.TextEnds.{text_shown}
 use Rattle.objtool_cli.proofs.UsageEnds.{usage_answered}
 use Rattle.objtool_cli.proofs.AcceptsLemmas.{all_warned, left}
@@ -62,3 +63,9 @@ returns-clause-sums_up g c n asked = demo_sums_up _ _ _ _ _ _ n c.dispatch.ensur
 
 pub returns-clause-shows : goal.returns-clause-shows
 returns-clause-shows g c command asked told = text_shown _ _ _ _ _ _ command c.dispatch.ensures.ends asked told
+
+pub returns-clause-refused : goal.returns-clause-refused
+returns-clause-refused g c held e told = refusal_told _ held _ _ _ _ _ c.dispatch.ensures.ends e told
+
+pub returns-clause-refuses : goal.returns-clause-refuses
+returns-clause-refuses g c held stop told why = refusal_answered c.one_outcome.ensures _ held _ _ _ _ _ stop c.dispatch.ensures.ends told why

@@ -1,6 +1,6 @@
 use Rattle.std.proofs.Common.{ℕ, ◌≤◌, ◌∙◌, List, length, refl, sym, subst}
 use Rattle.elf_objects.specs.declared.TheConstants.{MAX_FILE_BYTES}
-use Rattle.command_base.specs.declared.stop.Stop.TheVariants as stop
+use Rattle.command_base.specs.declared.stop.CommandStop.TheVariants as stop
 use Rattle.command_base.specs.Printing.{silent}
 use Rattle.objtool_cli.specs.Summary.{stopped}
 use Rattle.objtool_cli.proofs.DemoBytes.{demo_short}

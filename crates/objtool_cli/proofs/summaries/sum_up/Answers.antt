@@ -1,5 +1,5 @@
 use Rattle.std.proofs.Common.{◌∙◌, refl, sym, subst}
-use Rattle.command_base.specs.declared.stop.Stop.TheVariants as stop
+use Rattle.command_base.specs.declared.stop.CommandStop.TheVariants as stop
 use Rattle.command_base.specs.Printing.{silent}
 use Rattle.flow_defs.specs.Coded.{coded_by}
 use Rattle.object_check.specs.Outcome.{IsOutcome}

@@ -1,4 +1,4 @@
-use Rattle.objtool_cli.proofs.SummaryEnds.{sums_done, sums_no_file_fault, sums_refused, sums_sink_fault, sums_warned}
+use Rattle.objtool_cli.proofs.SummaryEnds.{only_sink_fault, sums_done, sums_no_file_fault, sums_refused, sums_sink_fault, sums_warned}
 use Rattle.objtool_cli.proofs.SummaryLemmas.{sums_broken, sums_passed, sums_uncheckable}
 use Rattle.objtool_cli.proofs.UsageLemmas.{sums_no_usage}
 use Rattle.objtool_cli.proofs.summaries.summary.Goals as goal
@@ -29,3 +29,6 @@ returns-clause-no_file_fault g c = sums_no_file_fault _ _ _ _ _ c.sum_up.ensures
 
 pub returns-clause-sink_fault : goal.returns-clause-sink_fault
 returns-clause-sink_fault g c e = sums_sink_fault _ _ _ _ _ c.sum_up.ensures.ends e
+
+pub returns-clause-output_failed : goal.returns-clause-output_failed
+returns-clause-output_failed g c risen = only_sink_fault _ _ _ _ _ c.sum_up.ensures.ends (c.sum_up.ensures.output_failed risen)

@@ -1,4 +1,4 @@
-use Rattle.std.proofs.Common.{◌≡◌, ◌≤◌, take}
+use Rattle.std.proofs.Common.{◌≡◌, take}
 use Rattle.ot_files.specs.Output.{appending}
 use Rattle.objtool_cli.specs.Warnings.{warnings_text}
 use Rattle.objtool_cli.proofs.warnings.print_warnings.Given as goal
@@ -6,5 +6,5 @@ use Rattle.objtool_cli.proofs.warnings.print_warnings.Given as goal
 abbrev pub invariant-loop-warning : goal.invariant-loop-warning
 invariant-loop-warning g l = record {
   so_far : g.S.Sink.written l.out ≡ appending (g.S.Sink.written l.initial.out) (warnings_text l.object (take l.warning-index l.warnings));
-  later : g.S.Sink.faults l.initial.out ≤ g.S.Sink.faults l.out;
+  unfailed : g.S.Sink.faults l.out ≡ g.S.Sink.faults l.initial.out;
 }

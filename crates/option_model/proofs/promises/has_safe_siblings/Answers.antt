@@ -1,8 +1,8 @@
 use Rattle.std.proofs.Common.{◌≡◌, List, [], sym, ◌∙◌, subst}
 use Rattle.std.specs.Prelude.{Contains}
-use Rattle.program_defs.specs.declared.flow.Edge.{Edge}
-use Rattle.program_defs.specs.declared.flow.EdgeKind.TheVariants.{Sibling}
-use Rattle.program_defs.specs.Program.{edge}
+use Rattle.machine_defs.specs.declared.flow.Edge.{Edge}
+use Rattle.machine_defs.specs.declared.flow.EdgeKind.TheVariants.{Sibling}
+use Rattle.machine_defs.specs.Program.{edge}
 use Rattle.program_model.specs.Program.{of_point, program_of}
 use Rattle.program_model.proofs.Points.{of_point_is}
 use Rattle.option_model.specs.Allowed.{allowances_of}

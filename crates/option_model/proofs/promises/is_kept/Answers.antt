@@ -1,6 +1,6 @@
 use Rattle.std.proofs.Common.{sym, subst}
 use Rattle.std.specs.Prelude.{IsTrue}
-use Rattle.program_defs.specs.declared.flow.Role.{Role}
+use Rattle.machine_defs.specs.declared.flow.Role.{Role}
 use Rattle.program_model.specs.Program.{program_of}
 use Rattle.machine_model.specs.Standing.{standing_of}
 use Rattle.option_law.specs.Access.{HasSafeTarget}

@@ -2,7 +2,7 @@ use Rattle.std.proofs.Common.{ap, ◌∙◌}
 use Rattle.flow_defs.specs.Coded.{Coded}
 use Rattle.alternatives.specs.declared.point.Point.{Point}
 use Rattle.flow_defs.specs.Code.{point_at}
-use Rattle.place_lists.specs.Places.{is_among}
+use Rattle.object_points.specs.Places.{is_among}
 use Rattle.point_allowances.specs.Allowances.{is_safe_branch}
 use Rattle.point_allowances.proofs.branches.is_safe_branch.Goals as goal
 

@@ -4,7 +4,7 @@ use Rattle.special_sections.specs.Special.{special_of}
 use Rattle.alternatives.specs.declared.point.Point.{Point}
 use Rattle.alternatives.proofs.Opened.{variant_inside}
 use Rattle.flow_defs.specs.Code.{alternatives_of, point_at, texts_of}
-use Rattle.point_places.proofs.Points.{numbered_point}
+use Rattle.object_points.proofs.Points.{numbered_point}
 use Rattle.point_allowances.proofs.smap.is_smap_point.Goals as goal
 
 pub bounds-alternatives-point : goal.bounds-alternatives-point

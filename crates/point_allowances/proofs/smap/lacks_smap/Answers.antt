@@ -4,7 +4,7 @@ use Rattle.flow_defs.specs.Coded.{Coded}
 use Rattle.alternatives.specs.declared.point.Point.{Point}
 use Rattle.alternatives.specs.Points.{address_of_point}
 use Rattle.flow_defs.specs.Code.{alternatives_of, point_at}
-use Rattle.place_lists.specs.Places.{HaveSamePlaces, is_among}
+use Rattle.object_points.specs.Places.{HaveSamePlaces, is_among}
 use Rattle.point_allowances.specs.Allowances.{is_in_smap_site, is_smap_point, lacks_smap}
 use Rattle.point_allowances.specs.SmapSites.{IsSiteStart, smap_starts}
 use Rattle.point_allowances.proofs.SmapSites.{made_nowhere, made_there}

@@ -1,6 +1,6 @@
 use Rattle.std.proofs.Common.{sym, subst, ◌∷◌}
 use Rattle.std.specs.Prelude.{IsPermutation}
-use Rattle.orc_unwind.specs.Memory.{IsMemory, pieces_of}
+use Rattle.orc_walk.specs.Memory.{IsMemory, pieces_of}
 use Rattle.stack_image.proofs.PieceLemmas.{fits_from, more_memory, more_pieces, made}
 use Rattle.stack_image.proofs.ranges.add_piece.Goals as goal
 

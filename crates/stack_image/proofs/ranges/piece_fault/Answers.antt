@@ -1,6 +1,6 @@
 use Rattle.std.proofs.Common.{◌+◌, ◌<◌, ◌≤◌, ◌^◌, true, false, ltb, arith, ap, sym, ◌∙◌, length, Vec}
 use Rattle.std.specs.declared.alloc.Global.{Global}
-use Rattle.orc_unwind.specs.Memory.{Piece, end_of}
+use Rattle.orc_walk.specs.Memory.{Piece, end_of}
 use Rattle.stack_image.proofs.PieceLemmas.{fault_shared, none_begins, one_overlaps, last_ends, at_most, not_past, not_over, is_below, is_not_below}
 use Rattle.stack_image.proofs.ranges.piece_fault.Goals as goal
 

@@ -1,6 +1,6 @@
 use Rattle.std.proofs.Common.{◌≡◌, ℕ, ◌<◌, [], length, get_or}
 use Rattle.elf_objects.specs.Contents.{relocs_at}
-use Rattle.object_places.specs.Relocs.{IsIndexOf}
+use Rattle.symbols_relocs.specs.Relocs.{IsIndexOf}
 use Rattle.symbols_relocs.proofs.index.index_relocs.Given as goal
 
 abbrev pub invariant-loop-sec : goal.invariant-loop-sec

@@ -1,8 +1,8 @@
 use Rattle.std.proofs.Common.{not, arith, rules, tests}
 use Rattle.std.proofs.lemmas.List.Sorted.{IsPartitionPoint-from_clause}
+use Rattle.ot_base.specs.Places.{is_before}
 use Rattle.symbols_relocs.specs.declared.function.Function.{Function}
 use Rattle.symbols_relocs.specs.Lists.{no_function}
-use Rattle.symbols_relocs.specs.Places.{is_before}
 use Rattle.symbols_relocs.proofs.PlaceOrder.{rising_parts, not_true, not_false}
 use Rattle.symbols_relocs.proofs.order.count_to.Goals as goal
 

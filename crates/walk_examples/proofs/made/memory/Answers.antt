@@ -1,7 +1,7 @@
 use Rattle.std.proofs.Common.{◌≡◌, ℕ, ◌+◌, ◌<◌, ◌≤◌, ◌^◌, [], ◌∷◌, ◌++◌, Vec, arith, ap, sym, subst, ◌∙◌, length}
 use Rattle.std.specs.declared.alloc.Global.{Global}
 use Rattle.std.proofs.lemmas.List.Elements.{All-nil, All-cons}
-use Rattle.orc_unwind.specs.Memory.{IsMemory, pieces_of, piece_of, end_of}
+use Rattle.orc_walk.specs.Memory.{IsMemory, pieces_of, piece_of, end_of}
 use Rattle.walk_examples.proofs.made.memory.Goals as goal
 
 one_piece : (base : ℕ) (bytes : Vec ℕ Global) → 0 < length bytes.items → base + length bytes.items ≤ 2 ^ 64 → IsMemory (pieces_of ((base, bytes) ∷ []))

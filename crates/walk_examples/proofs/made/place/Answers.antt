@@ -1,7 +1,7 @@
 use Rattle.std.proofs.Common.{ℕ, ◌<◌, arith, below_more, get_or, rules, subst}
 use Rattle.std.proofs.lemmas.List.{get_or_default}
 use Rattle.ot_base.specs.declared.row.PlacedRow.{PlacedRow}
-use Rattle.orc_table.specs.Table.{IsWithin}
+use Rattle.orc_walk.specs.Table.{IsWithin}
 use Rattle.walk_examples.proofs.made.place.Goals as goal
 
 pub loop-placed-preserved : goal.loop-placed-preserved

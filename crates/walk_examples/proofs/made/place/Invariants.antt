@@ -1,6 +1,6 @@
 use Rattle.std.proofs.Common.{ℕ, ◌<◌, get_or}
 use Rattle.ot_base.specs.declared.row.PlacedRow.{PlacedRow}
-use Rattle.orc_table.specs.Table.{IsWithin}
+use Rattle.orc_walk.specs.Table.{IsWithin}
 use Rattle.walk_examples.proofs.made.place.Given as goal
 
 abbrev pub invariant-loop-placed : goal.invariant-loop-placed

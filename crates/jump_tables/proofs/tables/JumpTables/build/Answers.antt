@@ -1,7 +1,7 @@
 use Rattle.std.proofs.Common.{List, map, sym, ap, subst, ◌∙◌}
 use Rattle.std.specs.List.{list_any}
 use Rattle.ot_base.specs.declared.place.Place.{Place}
-use Rattle.symbols_relocs.specs.Places.{same_place}
+use Rattle.ot_base.specs.Places.{same_place}
 use Rattle.jump_tables.specs.declared.jump.Jump.{Jump}
 use Rattle.jump_tables.specs.Kept.{AreByPlace, AreStarts, AreTables}
 use Rattle.jump_tables.proofs.Starting.{by_place}

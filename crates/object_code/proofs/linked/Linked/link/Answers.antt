@@ -15,7 +15,7 @@ use Rattle.alternatives.specs.Texts.{AscendBySection, text_bytes}
 use Rattle.flow_defs.specs.Code.{alternatives_of, points_of_object, texts_of}
 use Rattle.object_code.specs.Kept.{IsKept}
 use Rattle.object_code.proofs.TextsLemmas.{few_alternatives, little_text, texts_ascend}
-use Rattle.object_code.specs.Linked.{site_fault, HasFunctions, IsLinked, IsLinkFault}
+use Rattle.object_code.specs.Linked.{site_fault, HasSoundFunctions, IsLinked, IsLinkFault}
 use Rattle.object_code.proofs.linked.Linked.link.Goals as goal
 
 -- what is built of an object that is linked is kept
@@ -68,7 +68,7 @@ invariant_of-result c =
     c.in_ok-sites.ensures.sites c.in_ok-sites.ensures.points c.in_ok-sites.ensures.insns c.in_ok-sites.ensures.entries)
 
 -- what is told of the sites is told of the object
-site_told : (o : Coded) (lent : List SectionText) (entries : List AltEntry) (fault : SiteFault) → lent ≡ texts_of o → entries ≡ alternatives_of o → HasFunctions o → IsFirstFault lent entries fault → IsLinkFault o (site_fault fault)
+site_told : (o : Coded) (lent : List SectionText) (entries : List AltEntry) (fault : SiteFault) → lent ≡ texts_of o → entries ≡ alternatives_of o → HasSoundFunctions o → IsFirstFault lent entries fault → IsLinkFault o (site_fault fault)
 site_told o lent entries (At entry why) texts all has first =
     (has, subst (λ (ts : List SectionText). IsFirstAt ts (alternatives_of o) entry why) texts (subst (λ (es : List AltEntry). IsFirstAt lent es entry why) all first))
 site_told o lent entries NoMemory texts all has first = tt
@@ -76,7 +76,7 @@ site_told o lent entries NoMemory texts all has first = tt
 pub returns-in_err-sites-clause-err : goal.returns-in_err-sites-clause-err
 returns-in_err-sites-clause-err c =
     let o : Coded = coded_by c.args.map c.args.object.now in
-    let has : HasFunctions o = record { before = record { code = c.in_ok-texts.ensures.code; special = c.in_ok-special.ensures.right }; functions = c.in_ok-index.ensures.right } in
+    let has : HasSoundFunctions o = record { before = record { code = c.in_ok-texts.ensures.code; special = c.in_ok-special.ensures.right }; functions = c.in_ok-index.ensures.right } in
     let told : IsLinkFault o (site_fault c.in_err-sites.field-0.0) =
     site_told o c.deref.result.now c.in_ok-special.special.alternatives c.in_err-sites.field-0.0 (c.deref.ensures.value ∙ c.in_ok-texts.ensures.read) (ap (λ s. s.alternatives) c.in_ok-special.ensures.ok) has c.in_err-sites.ensures.err in
     let p = err_from_is_err_and c.from_residual-in_err-sites.result c.from_residual-in_err-sites.ensures.1 in

@@ -1,8 +1,8 @@
 -- What is listed of the point says which other one has its edges.
 use Rattle.std.proofs.Common.{◌≡◌, ◌<◌, ℕ, List, [], ◌∷◌, Contains, get_or, ap, ◌∙◌, subst, sym}
-use Rattle.program_defs.specs.declared.flow.Edge.{Edge}
-use Rattle.program_defs.specs.declared.flow.EdgeKind.TheVariants.{Next, Table}
-use Rattle.program_defs.specs.Program.{edge}
+use Rattle.machine_defs.specs.declared.flow.Edge.{Edge}
+use Rattle.machine_defs.specs.declared.flow.EdgeKind.TheVariants.{Next, Table}
+use Rattle.machine_defs.specs.Program.{edge}
 use Rattle.program_graph.specs.Shape.{IsAlike, first_target}
 use Rattle.program_graph.proofs.graph.Graph.alike.Goals as goal
 

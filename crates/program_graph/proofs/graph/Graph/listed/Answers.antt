@@ -1,7 +1,7 @@
 -- All edges lead to points, so those that are listed of a point do.
 use Rattle.std.proofs.Common.{◌<◌, length, All}
 use Rattle.std.proofs.lemmas.List.Elements.{All-take, All-drop}
-use Rattle.program_defs.specs.declared.flow.Edge.{Edge}
+use Rattle.machine_defs.specs.declared.flow.Edge.{Edge}
 use Rattle.program_graph.proofs.graph.Graph.listed.Goals as goal
 
 pub returns-clause-within : goal.returns-clause-within

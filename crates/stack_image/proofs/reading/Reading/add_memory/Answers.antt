@@ -1,5 +1,5 @@
 use Rattle.std.proofs.Common.{sym, ◌∙◌, ap, refl}
-use Rattle.orc_unwind.specs.Memory.{Piece, pieces_of}
+use Rattle.orc_walk.specs.Memory.{Piece, pieces_of}
 use Rattle.stack_image.specs.ImageFile.{piece_fault}
 use Rattle.stack_image.proofs.SayingLemmas.{memory_fault, holds_memory}
 use Rattle.stack_image.proofs.reading.Reading.add_memory.Goals as goal

@@ -1,7 +1,7 @@
 use Rattle.std.proofs.Common.{◌≡◌, ℕ, ◌<◌, false, List, length, subst}
+use Rattle.ot_base.specs.Places.{same_place}
 use Rattle.symbols_relocs.specs.declared.function.Function.{Function}
 use Rattle.symbols_relocs.specs.Lists.{function}
-use Rattle.symbols_relocs.specs.Places.{same_place}
 use Rattle.symbols_relocs.proofs.Found.{no_index, starts_nowhere}
 use Rattle.symbols_relocs.proofs.index.Index.starts_at.Goals as goal
 

@@ -1,6 +1,0 @@
-use Rattle.std.proofs.Common.{◌∙◌}
-use Rattle.branch_check.proofs.Slots.{in_slot}
-use Rattle.branch_check.proofs.packed.PackedState.new.Goals as goal
-
-pub returns : goal.returns
-returns c = in_slot c.new.result c.of-parts.result c.new.ensures.shape c.new.ensures.numbers ∙ c.of-parts.ensures

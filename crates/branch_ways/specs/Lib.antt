@@ -1,2 +1,0 @@
-pub mod Displacements
-pub mod Jumps

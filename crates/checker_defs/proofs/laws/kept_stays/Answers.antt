@@ -1,5 +1,0 @@
-use Rattle.checker_defs.proofs.KeptLemmas as kept
-use Rattle.checker_defs.proofs.laws.kept_stays.Goals as goal
-
-pub returns : goal.returns
-returns c = kept.kept_stays

@@ -1,0 +1,18 @@
+-- The edges of one point more.
+use Rattle.std.proofs.Common.{◌≡◌, ◌<◌, ◌+◌, subst, arith}
+use Rattle.std.proofs.lemmas.List.{get_or_read}
+use Rattle.control_flow.specs.Told.{start_of}
+use Rattle.control_flow.specs.Shape.{points_of}
+use Rattle.control_flow.specs.Backward.{IsBackwardTo}
+use Rattle.control_flow.proofs.backward.Backward.new.Goals as goal
+
+pub loop-q-preserved : goal.loop-q-preserved
+loop-q-preserved c =
+    let flow = c.args.flow.now in
+    let starts = flow.starts.items in
+    let q = c.loop-q.q in
+    let inside : q < points_of flow = omega arith in
+    let from : (c.index-number.result).now ≡ start_of flow q = get_or_read starts q (c.index-number.result).now (omega (arith, inside, c.requires.starts)) c.index-number.ensures 0 in
+    let to : (c.index-number-end.result).now ≡ start_of flow (q + 1) = get_or_read starts (q + 1) (c.index-number-end.result).now (omega (arith, inside, c.requires.starts)) c.index-number-end.ensures 0 in
+    let end : c.edges.number ≡ start_of flow (q + 1) = omega (arith, from, to, c.requires.ascending q inside) in
+    subst (IsBackwardTo flow c.edges.backward (q + 1)) end c.edges.invariant

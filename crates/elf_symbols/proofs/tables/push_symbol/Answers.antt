@@ -1,8 +1,0 @@
-use Rattle.std.proofs.Common.{rules}
-use Rattle.std.proofs.lemmas.List.{append_assoc}
-use Rattle.elf_symbols.specs.Layout.{symbol_bytes}
-use Rattle.elf_symbols.proofs.tables.push_symbol.Goals as goal
-
-pub returns : goal.returns
-unfolding symbol_bytes
-returns c = search (rules, append_assoc)

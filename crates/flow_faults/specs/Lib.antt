@@ -1,3 +1,0 @@
-pub mod FaultText
-pub mod Few
-pub mod Judged

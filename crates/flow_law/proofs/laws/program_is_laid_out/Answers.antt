@@ -1,5 +1,0 @@
-use Rattle.flow_law.proofs.LaidOut as whole
-use Rattle.flow_law.proofs.laws.program_is_laid_out.Goals as goal
-
-pub returns : goal.returns
-returns c = whole.laid_out

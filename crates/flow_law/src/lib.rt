@@ -1,4 +1,0 @@
-//! What holds of the program of every object.
-#![tactic(auto)]
-
-pub mod laws;

@@ -1,4 +1,0 @@
-pub mod SaveOrder
-pub mod Hinted
-pub mod Meanings
-pub mod HintedCode

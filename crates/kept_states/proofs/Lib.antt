@@ -1,0 +1,13 @@
+pub mod StateOrder
+pub mod Least
+pub mod LevelSteps
+pub mod Places
+pub mod Firsts
+pub mod DonePoints
+pub mod Giving
+pub mod Ranks
+pub mod Rounds
+pub mod Short
+pub mod Slots
+pub mod NeutralMoves
+pub mod PassageLemmas

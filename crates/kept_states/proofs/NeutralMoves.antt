@@ -1,0 +1,59 @@
+-- A neutral operation leaves each state as it is whose numbers are near.
+use Rattle.std.proofs.Common.{◌≡◌, Bool, true, Option, [], ◌∷◌, Ok, refl}
+use Rattle.std.specs.Prelude.{ℤ}
+use Rattle.operation_defs.specs.declared.op.Op.{Op}
+use Rattle.operation_defs.specs.declared.op.Op.TheVariants.{Push, PushBp, Pop, PopBp, Popf, AddSp, AndSp, LeaSpBp, LeaBpSp, StoreBp, LoadBp, Leave, SpOther, BpOther, IretNext}
+use Rattle.state_defs.specs.declared.state.Depth.{Depth}
+use Rattle.state_defs.specs.declared.state.BpHome.{BpHome}
+use Rattle.state_defs.specs.declared.state.State.{State}
+use Rattle.state_defs.specs.declared.state.State.TheVariants.{Live, Ended, Regs}
+use Rattle.state_defs.specs.Move.{has_near_numbers, move, move_live, move_regs, to}
+use Rattle.machine_defs.specs.Kept.{moved}
+use Rattle.kept_states.specs.Neutral.{is_neutral}
+
+to_near : (s : State) → has_near_numbers s ≡ true → to s ≡ Ok s
+to_near s e = rw e refl
+
+live_stays : (depth : Depth) (fp : Option ℤ) (home : BpHome) (op : Op) → is_neutral op ≡ true → has_near_numbers (Live depth fp home) ≡ true → move_live depth fp home op ≡ Ok (Live depth fp home)
+live_stays depth fp home Push h e = absurd (let z : ⊥ = cc in z)
+live_stays depth fp home PushBp h e = absurd (let z : ⊥ = cc in z)
+live_stays depth fp home Pop h e = absurd (let z : ⊥ = cc in z)
+live_stays depth fp home Popf h e = absurd (let z : ⊥ = cc in z)
+live_stays depth fp home (AddSp by) h e = absurd (let z : ⊥ = cc in z)
+live_stays depth fp home PopBp h e = absurd (let z : ⊥ = cc in z)
+live_stays depth fp home (AndSp mask) h e = absurd (let z : ⊥ = cc in z)
+live_stays depth fp home (LeaSpBp by) h e = absurd (let z : ⊥ = cc in z)
+live_stays depth fp home (LeaBpSp by) h e = absurd (let z : ⊥ = cc in z)
+live_stays depth fp home (StoreBp at) h e = absurd (let z : ⊥ = cc in z)
+live_stays depth fp home (LoadBp at) h e = absurd (let z : ⊥ = cc in z)
+live_stays depth fp home Leave h e = absurd (let z : ⊥ = cc in z)
+live_stays depth fp home BpOther h e = absurd (let z : ⊥ = cc in z)
+live_stays depth fp home SpOther h e = absurd (let z : ⊥ = cc in z)
+live_stays depth fp home IretNext h e = absurd (let z : ⊥ = cc in z)
+live_stays depth fp home _ h e = to_near (Live depth fp home) e
+
+regs_stay : (full : Bool) (depth : ℤ) (op : Op) → is_neutral op ≡ true → has_near_numbers (Regs full depth) ≡ true → move_regs full depth op ≡ Ok (Regs full depth)
+regs_stay full depth Push h e = absurd (let z : ⊥ = cc in z)
+regs_stay full depth PushBp h e = absurd (let z : ⊥ = cc in z)
+regs_stay full depth Pop h e = absurd (let z : ⊥ = cc in z)
+regs_stay full depth Popf h e = absurd (let z : ⊥ = cc in z)
+regs_stay full depth (AddSp by) h e = absurd (let z : ⊥ = cc in z)
+regs_stay full depth PopBp h e = absurd (let z : ⊥ = cc in z)
+regs_stay full depth (LeaBpSp by) h e = absurd (let z : ⊥ = cc in z)
+regs_stay full depth (LoadBp at) h e = absurd (let z : ⊥ = cc in z)
+regs_stay full depth BpOther h e = absurd (let z : ⊥ = cc in z)
+regs_stay full depth (AndSp mask) h e = absurd (let z : ⊥ = cc in z)
+regs_stay full depth (LeaSpBp by) h e = absurd (let z : ⊥ = cc in z)
+regs_stay full depth Leave h e = absurd (let z : ⊥ = cc in z)
+regs_stay full depth SpOther h e = absurd (let z : ⊥ = cc in z)
+regs_stay full depth IretNext h e = absurd (let z : ⊥ = cc in z)
+regs_stay full depth _ h e = to_near (Regs full depth) e
+
+-- the state is the same after the operation
+pub move_stays : (s : State) (op : Op) → is_neutral op ≡ true → has_near_numbers s ≡ true → move s op ≡ Ok s
+move_stays (Live depth fp home) op h e = live_stays depth fp home op h e
+move_stays (Ended kind) op h e = refl
+move_stays (Regs full depth) op h e = regs_stay full depth op h e
+
+pub moved_stays : (s : State) (op : Op) → is_neutral op ≡ true → has_near_numbers s ≡ true → moved (move s op) ≡ s ∷ []
+moved_stays s op h e = let m : move s op ≡ Ok s = move_stays s op h e in rw m refl

@@ -1,0 +1,30 @@
+-- How states pass points, told of one after another.
+use Rattle.std.proofs.Common.{◌≡◌, ◌≢◌, ℕ, ◌+◌, ◌<◌, ◌&&◌, Bool, true, false, not, ◌⊎◌, inl, inr, List, [], if◌then◌else◌, length, get_or, set, refl, sym, ◌∙◌, subst, arith}
+use Rattle.std.proofs.lemmas.List.{get_or-set_same, get_or-set_other}
+use Rattle.machine_defs.specs.Program.{Program}
+use Rattle.kept_states.specs.declared.passages.Passage.{Passage}
+use Rattle.kept_states.specs.Passages.{ArePassages, IsPassage}
+use Rattle.kept_states.proofs.Places.{same_or_not}
+
+-- the points below n are told of
+abbrev pub AreToldBelow : Program → List Passage → ℕ → Type 0
+AreToldBelow p passages n = (k : ℕ) (d : Passage) → k < n → IsPassage p k (get_or passages k d)
+
+pub told_more : (p : Program) (passages : List Passage) (n : ℕ) (passage : Passage) → n < length passages → IsPassage p n passage → AreToldBelow p passages n → AreToldBelow p (set passages n passage) (n + 1)
+told_more p passages n passage inside own told k d less = elim (same_or_not n k) [
+  | inl e ↦ subst (λ (m : ℕ). IsPassage p m (get_or (set passages n passage) m d)) (sym e) (subst (IsPassage p n) (sym (get_or-set_same passages n passage d inside)) own)
+  | inr differ ↦ subst (IsPassage p k) (sym (get_or-set_other passages n k passage d differ)) (told k d (below differ))
+]
+  where
+    below : k ≢ n → k < n
+    below differ = elim (same_or_not n k) [ inl e ↦ absurd (differ e) | inr other ↦ (let h = other in grind arith) ]
+
+pub open_gives : {X : Type 0} (unchecked free : Bool) (gifts : List X) → (not unchecked && free) ≡ true → (if unchecked then [] else (if free then gifts else [])) ≡ gifts
+open_gives false true gifts h = refl
+open_gives false false gifts h = absurd (let bad : false ≡ true = h in cc)
+open_gives true free gifts h = absurd (let bad : false ≡ true = h in cc)
+
+pub closed_gives_none : {X : Type 0} (unchecked free : Bool) (gifts : List X) → (not unchecked && free) ≡ false → (if unchecked then [] else (if free then gifts else [])) ≡ []
+closed_gives_none true free gifts h = refl
+closed_gives_none false false gifts h = refl
+closed_gives_none false true gifts h = absurd (let bad : true ≡ false = h in cc)

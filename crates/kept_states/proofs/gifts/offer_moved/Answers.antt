@@ -1,0 +1,16 @@
+-- A neutral operation leaves a state with near numbers as it is.
+use Rattle.std.proofs.Common.{◌≡◌, true, List, ap, sym, ◌∙◌}
+use Rattle.operation_defs.specs.declared.insn.Insn.{Insn}
+use Rattle.state_defs.specs.declared.state.State.{State}
+use Rattle.state_defs.specs.Move.{has_near_numbers, move}
+use Rattle.machine_defs.specs.Kept.{moved}
+use Rattle.kept_states.specs.Neutral.{is_neutral}
+use Rattle.kept_states.specs.Told.{offer_all}
+use Rattle.kept_states.proofs.NeutralMoves.{moved_stays}
+use Rattle.kept_states.proofs.gifts.offer_moved.Goals as goal
+
+pub returns-then-is_short-clause-next : goal.returns-then-is_short-clause-next
+returns-then-is_short-clause-next c p s t has =
+    let neutral : is_neutral (p.insn c.args.from).op ≡ true = sym (c.passage_at.ensures p (c.requires.told p t)).neutral ∙ c.if-passage_at.true in
+    let near : has_near_numbers s ≡ true = c.is_short.ensures.near c.if-is_short.true s has in
+    c.pass_on.ensures.next s has ∙ ap (λ (gifts : List State). offer_all c.args.levels.now.kept c.args.levels.now.next c.args.to gifts) (sym (moved_stays s (p.insn c.args.from).op neutral near))

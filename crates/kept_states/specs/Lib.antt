@@ -1,0 +1,12 @@
+pub mod Batches
+pub mod Done
+pub mod Gives
+pub mod Least
+pub mod LevelStates
+pub mod Neutral
+pub mod Packed
+pub mod Passages
+pub mod Ranks
+pub mod Reached
+pub mod Region
+pub mod Told

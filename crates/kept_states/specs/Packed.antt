@@ -1,0 +1,57 @@
+-- The states of packed forms.
+use Rattle.std.specs.Prelude.{ℕ, List, [], ◌∷◌, Some, None, pos, slice_index_or, true, false, suc, if◌then◌else◌}
+use Rattle.state_defs.specs.declared.state.State.{State}
+use Rattle.state_defs.specs.declared.state.State.TheVariants.{Live, Ended}
+use Rattle.state_defs.specs.declared.state.State.TheVariants as states
+use Rattle.state_defs.specs.declared.state.EndKind.TheVariants as ends
+use Rattle.state_defs.specs.declared.state.Depth.TheVariants as depths
+use Rattle.state_defs.specs.declared.state.BpHome.TheVariants.{Same, Saved}
+use Rattle.kept_states.specs.declared.parts.Numbers.{Numbers}
+use Rattle.kept_states.specs.declared.parts.Shape.{Shape}
+use Rattle.kept_states.specs.declared.parts.Shape.TheVariants.{Known, KnownSaved, KnownFramed, KnownFramedSaved, AtLeast, AtLeastSaved, AtLeastFramed, AtLeastFramedSaved, Undefined, EndOfStack, Regs, FullRegs}
+use Rattle.kept_states.specs.declared.parts.Parts.{Parts}
+use Rattle.kept_states.specs.declared.packed.PackedState.{PackedState}
+use Rattle.kept_states.specs.declared.slot.Slot.{Slot}
+
+-- the state of this shape with these numbers
+abbrev pub with_numbers : Shape → Numbers → State
+with_numbers Known n = Live (depths.Known n.depth) None Same
+with_numbers KnownSaved n = Live (depths.Known n.depth) None (Saved n.home)
+with_numbers KnownFramed n = Live (depths.Known n.depth) (Some n.fp) Same
+with_numbers KnownFramedSaved n = Live (depths.Known n.depth) (Some n.fp) (Saved n.home)
+with_numbers AtLeast n = Live (depths.AtLeast n.depth) None Same
+with_numbers AtLeastSaved n = Live (depths.AtLeast n.depth) None (Saved n.home)
+with_numbers AtLeastFramed n = Live (depths.AtLeast n.depth) (Some n.fp) Same
+with_numbers AtLeastFramedSaved n = Live (depths.AtLeast n.depth) (Some n.fp) (Saved n.home)
+with_numbers Undefined n = Ended ends.Undefined
+with_numbers EndOfStack n = Ended ends.EndOfStack
+with_numbers Regs n = states.Regs false n.depth
+with_numbers FullRegs n = states.Regs true n.depth
+
+abbrev pub state_of_parts : Parts → State
+state_of_parts p = with_numbers p.shape p.numbers
+
+-- the numbers that stand in a slot
+abbrev pub short_numbers : Slot → Numbers
+short_numbers s = record { depth = s.depth; fp = s.fp; home = s.home }
+
+-- the state in a slot, where its numbers would be these if it is wide
+abbrev pub state_in : Slot → Numbers → State
+state_in s wide = with_numbers s.shape (if s.is_wide then wide else short_numbers s)
+
+-- the state of a packed form
+abbrev pub state_of : PackedState → State
+state_of p = state_in p.slot p.wide
+
+-- the states in some slots, with the numbers of the wide ones by place
+abbrev pub states_in : List Slot → (ℕ → Numbers) → List State
+states_in [] wide = []
+states_in (s ∷ slots) wide = state_in s (wide 0) ∷ states_in slots (λ place. wide (suc place))
+
+-- those of a state that has none
+abbrev pub no_numbers : Numbers
+no_numbers = record { depth = pos 0; fp = pos 0; home = pos 0 }
+
+-- the numbers at a place, and 0 behind a list's end
+abbrev pub numbers_at : List Numbers → ℕ → Numbers
+numbers_at wide place = slice_index_or wide place no_numbers

@@ -1,0 +1,126 @@
+//! What a kept point gives to others.
+
+ghost use Rattle.std.specs.Prelude.{◌≡◌, ◌<◌, Some, length};
+ghost use Rattle.state_defs.specs.declared.state.State.{State as StateValue};
+ghost use Rattle.state_defs.specs.Move.{move};
+ghost use Rattle.machine_defs.specs.Program.{Program};
+ghost use Rattle.machine_defs.specs.Kept.{brought_along, moved};
+ghost use Rattle.program_graph.specs.Tells.{Tells};
+ghost use Rattle.kept_states.specs.LevelStates.{StaysSame, at};
+ghost use Rattle.kept_states.specs.Passages.{ArePassages};
+ghost use Rattle.kept_states.specs.Told.{given_along, given_to_restore, offer_all};
+
+use crate::levels::Levels;
+use crate::packed::PackedState;
+use crate::passages::{Passage, passage_at};
+use machine_defs::{Edge, EdgeKind};
+use operation_defs::Op;
+use program_graph::Graph;
+use stack_state::step;
+
+/// Offers a point the state that another one keeps, moved by an operation, if that isn't refused.
+fn offer_stepped(levels: &mut Levels, from: u32, op: Op, to: u32)
+    requires from { from < length levels.old.kept }
+    requires point { to < length levels.old.kept }
+    ensures kept { levels.new.kept ≡ levels.old.kept }
+    ensures front { levels.new.front ≡ levels.old.front }
+    ensures done { levels.new.done ≡ levels.old.done }
+    ensures same { StaysSame levels.old levels.new }
+    ensures len { length levels.new.next.states ≡ length levels.old.next.states }
+    ensures next { (s : StateValue) → at levels.old.kept from ≡ Some s → levels.new.next ≡ offer_all levels.old.kept levels.old.next to (moved (move s op)) }
+{
+    let Some(state) = levels.state(from) else {
+        return;
+    };
+    if let Ok(after) = step(state, op) {
+        levels.offer(to, PackedState::new(after));
+    }
+}
+
+/// Offers a point the state that another one keeps, moved by its operation, if that isn't refused. Where the operation
+/// leaves the state as it is, it is handed on as it stands.
+fn offer_moved(graph: &Graph, passages: &[Passage], levels: &mut Levels, from: u32, to: u32)
+    requires points { length levels.old.kept ≡ length graph.now.parts.points.items }
+    requires passages { length passages.now ≡ length graph.now.parts.points.items }
+    requires told { (p : Program) → Tells p graph.now.parts → ArePassages p passages.now }
+    requires from { from < length graph.now.parts.points.items }
+    requires point { to < length graph.now.parts.points.items }
+    ensures kept { levels.new.kept ≡ levels.old.kept }
+    ensures front { levels.new.front ≡ levels.old.front }
+    ensures done { levels.new.done ≡ levels.old.done }
+    ensures same { StaysSame levels.old levels.new }
+    ensures len { length levels.new.next.states ≡ length levels.old.next.states }
+    ensures next { (p : Program) (s : StateValue) → Tells p graph.now.parts → at levels.old.kept from ≡ Some s → levels.new.next ≡ offer_all levels.old.kept levels.old.next to (moved (move s (p.insn from).op)) }
+{
+    if passage_at(passages, from).is_neutral && levels.is_short(from) {
+        levels.pass_on(to, from);
+    } else {
+        offer_stepped(levels, from, graph.insn(from).op, to);
+    }
+}
+
+/// Offers the point at an edge's end what is brought along it: to a fixup the state before the instruction, else the one
+/// after it; to another function none.
+fn bring_along(graph: &Graph, passages: &[Passage], levels: &mut Levels, from: u32, edge: Edge)
+    requires points { length levels.old.kept ≡ length graph.now.parts.points.items }
+    requires passages { length passages.now ≡ length graph.now.parts.points.items }
+    requires told { (p : Program) → Tells p graph.now.parts → ArePassages p passages.now }
+    requires from { from < length graph.now.parts.points.items }
+    requires point { edge.to < length graph.now.parts.points.items }
+    ensures kept { levels.new.kept ≡ levels.old.kept }
+    ensures front { levels.new.front ≡ levels.old.front }
+    ensures done { levels.new.done ≡ levels.old.done }
+    ensures same { StaysSame levels.old levels.new }
+    ensures len { length levels.new.next.states ≡ length levels.old.next.states }
+    ensures next { (p : Program) (s : StateValue) → Tells p graph.now.parts → at levels.old.kept from ≡ Some s → levels.new.next ≡ offer_all levels.old.kept levels.old.next edge.to (brought_along s (p.insn from).op edge.kind) }
+{
+    match edge.kind {
+        EdgeKind::Next | EdgeKind::Taken | EdgeKind::Table => {
+            offer_moved(graph, passages, levels, from, edge.to);
+        }
+        EdgeKind::Fixup => levels.pass_on(edge.to, from),
+        EdgeKind::Sibling => {}
+    }
+}
+
+/// Offers the point at an edge's end what a point that is kept gives along it.
+pub(crate) fn give_along(
+    graph: &Graph,
+    passages: &[Passage],
+    levels: &mut Levels,
+    from: u32,
+    edge: Edge,
+)
+    requires points { length levels.old.kept ≡ length graph.now.parts.points.items }
+    requires passages { length passages.now ≡ length graph.now.parts.points.items }
+    requires told { (p : Program) → Tells p graph.now.parts → ArePassages p passages.now }
+    requires from { from < length graph.now.parts.points.items }
+    requires point { edge.to < length graph.now.parts.points.items }
+    ensures kept { levels.new.kept ≡ levels.old.kept }
+    ensures front { levels.new.front ≡ levels.old.front }
+    ensures done { levels.new.done ≡ levels.old.done }
+    ensures same { StaysSame levels.old levels.new }
+    ensures len { length levels.new.next.states ≡ length levels.old.next.states }
+    ensures next { (p : Program) (s : StateValue) → Tells p graph.now.parts → at levels.old.kept from ≡ Some s → levels.new.next ≡ offer_all levels.old.kept levels.old.next edge.to (given_along p s (p.insn from).op edge) }
+{
+    if passage_at(passages, edge.to).is_open {
+        bring_along(graph, passages, levels, from, edge);
+    }
+}
+
+/// Offers a RESTORE the state of its SAVE, which is kept.
+pub(crate) fn give_to_restore(graph: &Graph, levels: &mut Levels, save: u32, restore: u32)
+    requires points { length levels.old.kept ≡ length graph.now.parts.points.items }
+    requires save { save < length graph.now.parts.points.items }
+    requires point { restore < length graph.now.parts.points.items }
+    ensures kept { levels.new.kept ≡ levels.old.kept }
+    ensures front { levels.new.front ≡ levels.old.front }
+    ensures done { levels.new.done ≡ levels.old.done }
+    ensures same { StaysSame levels.old levels.new }
+    ensures len { length levels.new.next.states ≡ length levels.old.next.states }
+    ensures next { (p : Program) (s : StateValue) → Tells p graph.now.parts → at levels.old.kept save ≡ Some s → levels.new.next ≡ offer_all levels.old.kept levels.old.next restore (given_to_restore p s restore) }
+{
+    if !graph.unchecked(restore) {
+        levels.pass_on(restore, save);
+    }
+}

@@ -1,0 +1,45 @@
+//! Operations that leave the stack as it is.
+
+ghost use Rattle.std.specs.Prelude.{◌≡◌};
+ghost use Rattle.kept_states.specs.Neutral.{is_neutral as is_neutral_op};
+
+use operation_defs::Op;
+
+/// Whether an operation leaves each state as it is, and isn't a way out that a state has to allow.
+pub fn is_neutral(op: Op) -> bool
+    ensures { result ≡ is_neutral_op op }
+{
+    match op {
+        Op::Plain
+        | Op::Nop
+        | Op::Endbr
+        | Op::Call { .. }
+        | Op::CallInd
+        | Op::Jmp { .. }
+        | Op::Jcc { .. }
+        | Op::JmpInd { .. }
+        | Op::Ud2
+        | Op::Int3
+        | Op::Stac
+        | Op::Clac => true,
+        Op::Push
+        | Op::PushBp
+        | Op::Pop
+        | Op::PopBp
+        | Op::Popf
+        | Op::AddSp { .. }
+        | Op::AndSp { .. }
+        | Op::LeaSpBp { .. }
+        | Op::LeaBpSp { .. }
+        | Op::StoreBp { .. }
+        | Op::LoadBp { .. }
+        | Op::Leave
+        | Op::SpOther
+        | Op::BpOther
+        | Op::Ret
+        | Op::RetImm
+        | Op::Iret
+        | Op::IretNext
+        | Op::Switch => false,
+    }
+}

@@ -1,0 +1,115 @@
+//! How states pass points, as far as that doesn't depend on them.
+//!
+//! What is told of all points stands in a list of its own, which is much shorter than the graph: while states spread, a
+//! level may have points far from each other, and most of them are passed without a look at the graph but for edges.
+
+ghost use Rattle.std.specs.Prelude.{◌≡◌, ◌<◌, ◌&&◌, ◌↔◌, ℕ, All, Contains, IfOk, false, length, not};
+ghost use Rattle.machine_defs.specs.Program.{Program};
+ghost use Rattle.machine_defs.specs.Kept.{is_free as is_free_hint};
+ghost use Rattle.program_graph.specs.Tells.{Means, Tells};
+ghost use Rattle.kept_states.specs.Passages.{ArePassages, IsPassage};
+
+use crate::neutral::is_neutral;
+use ot_base::NoMemory;
+use program_graph::Graph;
+use state_defs::HintState;
+use std::alloc::Global;
+
+/// How states pass a point.
+#[derive(Clone, Copy)]
+pub(crate) struct Passage {
+    /// Whether they come in along edges.
+    pub(crate) is_open: bool,
+    /// Whether its operation leaves each state as it is, and isn't a way out that a state has to allow.
+    pub(crate) is_neutral: bool,
+    /// Whether a RESTORE means it, to which its state is given.
+    pub(crate) is_meant: bool,
+}
+
+const _: () = prove!(size_of::<Passage>() == 3);
+
+/// That of a point of which nothing is told yet.
+const UNTOLD: Passage = Passage {
+    is_open: false,
+    is_neutral: false,
+    is_meant: true,
+};
+
+/// Whether states come in along edges at a point with this hint.
+fn is_free(hint: Option<HintState>) -> bool
+    ensures { result ≡ is_free_hint hint }
+{
+    match hint {
+        None | Some(HintState::Save) => true,
+        Some(HintState::Set(_) | HintState::Restore) => false,
+    }
+}
+
+/// Whether states come in along edges at a point.
+fn is_open(graph: &Graph, n: u32) -> bool
+    requires { n < length graph.now.parts.points.items }
+    ensures { (p : Program) → Tells p graph.now.parts → result ≡ (not (p.unchecked n) && is_free_hint (p.hint n)) }
+{
+    !graph.unchecked(n) && is_free(graph.hint(n))
+}
+
+/// Whether a RESTORE means a point.
+fn is_meant(graph: &Graph, n: u32) -> bool
+    requires { n < length graph.now.parts.points.items }
+    ensures { result ≡ false → (p : Program) → Tells p graph.now.parts → (r : ℕ) → Means p n r → ⊥ }
+{
+    !graph.restores(n).is_empty()
+}
+
+/// How states pass a point.
+fn passage_of(graph: &Graph, n: u32) -> Passage
+    requires { n < length graph.now.parts.points.items }
+    ensures { (p : Program) → Tells p graph.now.parts → IsPassage p n result }
+{
+    Passage {
+        is_open: is_open(graph, n),
+        is_neutral: is_neutral(graph.insn(n).op),
+        is_meant: is_meant(graph, n),
+    }
+}
+
+/// Memory for what is told of so many points.
+pub(crate) fn no_passages(alloc: Global, points: u32) -> Result<Vec<Passage>, NoMemory>
+    ensures { IfOk result (λ passages. length passages.items ≡ points) }
+{
+    Ok(vec![in alloc; UNTOLD; points as usize]?)
+}
+
+/// Tells of each point how states pass it.
+pub(crate) fn list_passages(graph: &Graph, passages: &mut Vec<Passage>)
+    requires { length passages.old.items ≡ length graph.now.parts.points.items }
+    ensures points { length passages.new.items ≡ length passages.old.items }
+    ensures told { (p : Program) → Tells p graph.now.parts → ArePassages p passages.new.items }
+{
+    for n in 0..graph.points() {
+        passages[n as usize] = passage_of(graph, n);
+    }
+}
+
+/// How states pass a point, of those that are told of.
+pub(crate) fn passage_at(passages: &[Passage], n: u32) -> Passage
+    requires { n < length passages.now }
+    ensures { (p : Program) → ArePassages p passages.now → IsPassage p n result }
+{
+    passages[n as usize]
+}
+
+/// The RESTORE points that mean a SAVE point.
+pub(crate) fn restores_of<'a>(graph: &'a Graph, passages: &[Passage], n: u32) -> &'a [u32]
+    requires points { length passages.now ≡ length graph.now.parts.points.items }
+    requires told { (p : Program) → Tells p graph.now.parts → ArePassages p passages.now }
+    requires point { n < length graph.now.parts.points.items }
+    ensures restores { (p : Program) → Tells p graph.now.parts → (r : ℕ) → Contains result.now r ↔ Means p n r }
+    ensures within { All (λ r. r < length graph.now.parts.points.items) result.now }
+{
+    if passage_at(passages, n).is_meant {
+        graph.restores(n)
+    } else {
+        &[]
+    }
+}

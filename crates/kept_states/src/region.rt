@@ -1,0 +1,157 @@
+//! States by place, in a region that is reserved once.
+
+ghost use Rattle.std.specs.Prelude.{◌≡◌, ◌≢◌, ◌<◌, ◌++◌, ◌∷◌, ℕ, [], IfOk, IsTrue, None, Some, length, slice_get, slice_set, true, vec_capacity};
+ghost use Rattle.state_defs.specs.Move.{has_near_numbers};
+ghost use Rattle.state_defs.specs.Row.{unfit_offset};
+ghost use Rattle.kept_states.specs.Packed.{numbers_at, state_of};
+ghost use Rattle.kept_states.specs.Region.{RegionStates};
+
+use crate::packed::PackedState;
+use crate::parts::{NO_NUMBERS, Numbers};
+use crate::slot::Slot;
+use ot_base::NoMemory;
+use state_defs::State;
+use std::alloc::Global;
+use std::marker::Model;
+
+/// States by place from 0 on. Contracts see it as the list of them, and how many there is room for (`RegionStates`).
+///
+/// A state takes 8 bytes, and 24 more up to the last one that was wide.
+#[derive(Drop)]
+pub(crate) struct Region {
+    slots: Vec<Slot>,
+    /// By place, the numbers of those states that are wide. Behind its end they are 0.
+    wide: Vec<Numbers>,
+}
+
+impl Model for Region {
+    ghost use Rattle.std.specs.Prelude.{◌≤◌, vec_capacity};
+    ghost use Rattle.kept_states.specs.Packed.{numbers_at, states_in};
+    ghost use Rattle.kept_states.specs.Region.{RegionStates};
+
+    ghost Value = { RegionStates };
+
+    ghost view = { λ r. record { list = states_in r.slots.items (numbers_at r.wide.items); room = vec_capacity r.slots } };
+
+    ghost invariant = { λ r. vec_capacity r.slots ≤ vec_capacity r.wide };
+}
+
+impl Region {
+    /// Room for so many states. No later call takes memory.
+    pub(crate) fn reserve(alloc: Global, room: u32) -> Result<Region, NoMemory>
+        ensures { IfOk result (λ region. region ≡ record { list = []; room = room }) }
+    {
+        Ok(Region {
+            slots: Vec::with_capacity(alloc, room as usize)?,
+            wide: Vec::with_capacity(alloc, room as usize)?,
+        })
+    }
+
+    /// How many states there are.
+    pub(crate) fn len(&self) -> usize
+        ensures { result ≡ length self.now.list }
+    {
+        self.slots.len()
+    }
+
+    /// The state at a place.
+    pub(crate) fn state(&self, place: usize) -> State
+        requires { place < length self.now.list }
+        ensures { slice_get self.now.list place ≡ Some result }
+    {
+        self.packed(place).state()
+    }
+
+    /// The state at a place, packed.
+    pub(crate) fn packed(&self, place: usize) -> PackedState
+        requires { place < length self.now.list }
+        ensures { slice_get self.now.list place ≡ Some (state_of result) }
+    {
+        let slot = self.slots[place];
+        if slot.is_wide() {
+            PackedState {
+                slot,
+                wide: wide_numbers(&self.wide, place),
+            }
+        } else {
+            PackedState {
+                slot,
+                wide: NO_NUMBERS,
+            }
+        }
+    }
+
+    /// Whether the numbers of the state at a place have 16 bits, and so have the offsets of its row.
+    pub(crate) fn is_short(&self, place: usize) -> bool
+        requires { place < length self.now.list }
+        ensures near { IsTrue result → (s : State) → slice_get self.now.list place ≡ Some s → has_near_numbers s ≡ true }
+        ensures fit { IsTrue result → (s : State) → slice_get self.now.list place ≡ Some s → unfit_offset s ≡ None }
+    {
+        self.slots[place].is_short()
+    }
+
+    /// A quick test whether the states at two places are the same.
+    pub(crate) fn are_alike(&self, one: usize, other: usize) -> bool
+        requires one { one < length self.now.list }
+        requires other { other < length self.now.list }
+        ensures { IsTrue result → slice_get self.now.list one ≡ slice_get self.now.list other }
+    {
+        self.slots[one].is_alike(self.slots[other])
+    }
+
+    /// Takes all states away.
+    pub(crate) fn clear(&mut self)
+        ensures { self.new ≡ record { list = []; room = self.old.room } }
+    {
+        self.slots.clear();
+        self.wide.clear();
+    }
+
+    /// Puts a state at a place in place of the one there.
+    pub(crate) fn set(&mut self, place: usize, state: PackedState)
+        requires { place < length self.old.list }
+        ensures { self.new ≡ record { list = slice_set self.old.list place (state_of state); room = self.old.room } }
+    {
+        self.slots[place] = state.slot;
+        if state.slot.is_wide() {
+            put_wide(&mut self.wide, place, state.wide);
+        }
+    }
+
+    /// Puts a state behind the others.
+    pub(crate) fn push(&mut self, state: PackedState)
+        requires { length self.old.list < self.old.room }
+        ensures { self.new ≡ record { list = self.old.list ++ state_of state ∷ []; room = self.old.room } }
+    {
+        let place = self.slots.len();
+        self.slots.push_reserved(state.slot);
+        if state.slot.is_wide() {
+            put_wide(&mut self.wide, place, state.wide);
+        }
+    }
+}
+
+/// The numbers of the wide state at a place.
+fn wide_numbers(wide: &Vec<Numbers>, place: usize) -> Numbers
+    ensures { result ≡ numbers_at wide.now.items place }
+{
+    if place < wide.len() {
+        wide[place]
+    } else {
+        NO_NUMBERS
+    }
+}
+
+/// Puts numbers at a place. There is room for it.
+#[inline(never)]
+fn put_wide(wide: &mut Vec<Numbers>, place: usize, numbers: Numbers)
+    requires { place < vec_capacity wide.old }
+    ensures capacity { vec_capacity wide.new ≡ vec_capacity wide.old }
+    ensures here { numbers_at wide.new.items place ≡ numbers }
+    ensures elsewhere { (k : ℕ) → k ≢ place → numbers_at wide.new.items k ≡ numbers_at wide.old.items k }
+{
+    while wide.len() <= place {
+        wide.push_reserved(NO_NUMBERS);
+    }
+    wide[place] = numbers;
+}

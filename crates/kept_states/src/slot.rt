@@ -1,0 +1,102 @@
+//! A state in 8 bytes.
+
+ghost use Rattle.std.specs.Prelude.{◌≡◌, IsTrue, None, false, true};
+ghost use Rattle.state_defs.specs.Move.{has_near_numbers};
+ghost use Rattle.state_defs.specs.Row.{has_16_bits as has_16_bits_spec, unfit_offset};
+ghost use Rattle.kept_states.specs.declared.parts.Numbers.{Numbers as NumbersValue};
+ghost use Rattle.kept_states.specs.Packed.{short_numbers, state_in};
+
+use crate::parts::{Numbers, Parts, Shape};
+
+/// A state whose numbers have 16 bits each, or a wide one, with a number that has more: its numbers stand elsewhere,
+/// and are 0 here.
+#[derive(Clone, Copy)]
+pub(crate) struct Slot {
+    shape: Shape,
+    is_wide: bool,
+    depth: i16,
+    fp: i16,
+    home: i16,
+}
+
+const _: () = prove!(size_of::<Slot>() == 8);
+
+fn has_16_bits(number: i64) -> bool
+    ensures { result ≡ has_16_bits_spec number }
+{
+    -32768 <= number && number <= 32767
+}
+
+impl Slot {
+    /// The slot of a state, by its parts.
+    pub(crate) fn new(parts: &Parts) -> Slot
+        ensures shape { result.shape ≡ parts.now.shape }
+        ensures numbers { result.is_wide ≡ false → short_numbers result ≡ parts.now.numbers }
+    {
+        let Numbers { depth, fp, home } = parts.numbers;
+        if has_16_bits(depth) && has_16_bits(fp) && has_16_bits(home) {
+            Slot {
+                shape: parts.shape,
+                is_wide: false,
+                depth: depth as i16,
+                fp: fp as i16,
+                home: home as i16,
+            }
+        } else {
+            Slot {
+                shape: parts.shape,
+                is_wide: true,
+                depth: 0,
+                fp: 0,
+                home: 0,
+            }
+        }
+    }
+
+    /// Whether the numbers of the state stand elsewhere.
+    pub(crate) fn is_wide(self) -> bool
+        ensures { result ≡ self.is_wide }
+    {
+        self.is_wide
+    }
+
+    /// The numbers here.
+    pub(crate) fn numbers(self) -> Numbers
+        ensures { result ≡ short_numbers self }
+    {
+        Numbers {
+            depth: self.depth as i64,
+            fp: self.fp as i64,
+            home: self.home as i64,
+        }
+    }
+
+    /// The state, with these numbers.
+    pub(crate) fn with(self, numbers: Numbers) -> Parts
+        ensures { result ≡ record { shape = self.shape; numbers = numbers } }
+    {
+        Parts {
+            shape: self.shape,
+            numbers,
+        }
+    }
+
+    /// Whether the numbers of the state have 16 bits, and so have the offsets of its row.
+    pub(crate) fn is_short(self) -> bool
+        ensures near { IsTrue result → (wide : NumbersValue) → has_near_numbers (state_in self wide) ≡ true }
+        ensures fit { IsTrue result → (wide : NumbersValue) → unfit_offset (state_in self wide) ≡ None }
+    {
+        !self.is_wide && -32767 <= self.home
+    }
+
+    /// A quick test whether two slots hold the same state, which isn't wide.
+    pub(crate) fn is_alike(self, other: Slot) -> bool
+        ensures { IsTrue result → (wide other_wide : NumbersValue) → state_in self wide ≡ state_in other other_wide }
+    {
+        !(self.is_wide | other.is_wide)
+            && (self.shape == other.shape)
+                & (self.depth == other.depth)
+                & (self.fp == other.fp)
+                & (self.home == other.home)
+    }
+}

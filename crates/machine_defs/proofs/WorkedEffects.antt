@@ -1,0 +1,48 @@
+-- What each operation does, from one core.
+use Rattle.std.proofs.Common.{◌≡◌, ℕ, refl}
+use Rattle.state_defs.specs.Region.{word_at, Stores}
+use Rattle.state_defs.specs.Frame.{protected_addresses}
+use Rattle.machine_defs.specs.WorkedEffects.{four_words, stored, before, HasEffects}
+use Rattle.machine_defs.proofs.WorkedBytes.{one_address, stays, stores_nothing}
+
+-- a store below spares the return address
+stores : Stores (protected_addresses before.shadow) four_words stored
+stores = record { addresses = record { lo = refl; size = refl }; spared = one_address (λ (address : ℕ). word_at stored address ≡ word_at four_words address) 0x8018 refl }
+
+pub effects : HasEffects
+effects = record {
+  plain = (stores, refl);
+  nop = refl;
+  endbr = refl;
+  push = (stays four_words 0x8000 8, refl);
+  push_bp = (record { only = stays four_words 0x8000 8; word = refl }, refl);
+  pop = (stores, refl);
+  pop_bp = (refl, refl);
+  pop_saved_bp = (refl, refl);
+  popf = refl;
+  add_sp = refl;
+  and_sp = refl;
+  lea_sp_bp = refl;
+  lea_bp_sp = refl;
+  store_bp = (record { only = stays four_words 0x8010 8; word = refl }, refl);
+  store_bp_below = (record { only = stays four_words 0x8000 8; word = refl }, (stores_nothing four_words _, refl));
+  load_bp = (refl, refl);
+  load_saved_bp = (refl, refl);
+  leave = (refl, refl);
+  sp_other = (stores, refl);
+  bp_other = (stores, refl);
+  jmp = refl;
+  jcc = refl;
+  jmp_ind = refl;
+  iret_next = refl;
+  ud2 = refl;
+  int3 = refl;
+  stac = refl;
+  clac = refl;
+  call = λ h. h;
+  call_ind = λ h. h;
+  ret = λ h. h;
+  ret_imm = λ h. h;
+  iret = λ h. h;
+  switch = λ h. h;
+}

@@ -1,0 +1,94 @@
+-- Runs from hints, over a stack of a struct pt_regs.
+use Rattle.std.proofs.Common.{ℕ, zero, suc, ◌<◌, ◌≤◌, false, true, List, [], ◌∷◌, Some, None, pos, refl, inl, inr, sym, arith, lit<, lit≤}
+use Rattle.machine_defs.specs.declared.flow.EdgeKind.TheVariants.{Next}
+use Rattle.state_defs.specs.declared.state.BpHome.TheVariants.{Same}
+use Rattle.state_defs.specs.declared.state.Depth.TheVariants.{Known}
+use Rattle.state_defs.specs.declared.state.EndKind.TheVariants.{EndOfStack}
+use Rattle.state_defs.specs.Region.{Holds}
+use Rattle.state_defs.specs.Frame.{FullAt, Frame, Protected, AreKept}
+use Rattle.state_defs.specs.Effect.{IsInStack}
+use Rattle.machine_defs.specs.Machine.{IsOutside, At}
+use Rattle.machine_defs.specs.Step.{goes_on}
+use Rattle.machine_defs.specs.Run.{outermost, MayStart, WasCalled, at_call_hint, at_regs_hint, at_end_hint, Run, started, stepped}
+use Rattle.machine_defs.specs.WorkedSteps.{base}
+use Rattle.machine_defs.specs.WorkedHints.{hinted, registers, at_hint, called, mark, RunsFromHints}
+use Rattle.machine_defs.proofs.WorkedBytes.{are_bytes, one, three}
+
+in_registers : (rsp : ℕ) (frames : List Frame) → 0x8000 ≤ rsp → rsp ≤ 0x80A8 → IsInStack (record { rsp = rsp; rbp = 0; region = registers; ac = false; shadow = frames })
+in_registers rsp frames low high = record { rbp = lit< tt; region = record { below_end = lit< tt; bytes = are_bytes registers.bytes refl }; above_lo = low; below_hi = high }
+
+-- the lowest and the highest address are outside
+low_outside : IsOutside hinted base 0
+low_outside text c = inl (lit< tt)
+
+high_outside : IsOutside hinted base 18446744073709551615
+high_outside text (zero, below, is) = inr (rw (sym is) (lit≤ tt))
+high_outside text (suc k, below, is) = absurd (omega (arith, below))
+
+may_start : (q : ℕ) → q < 5 → MayStart hinted q
+may_start q below = record { point = below; plain = refl; checked = refl; outside = λ site c. absurd (let none : c.0 < 0 = c.1 in omega arith) }
+
+slot : ℕ → ℕ → Protected
+slot at value = record { at = at; value = value }
+
+-- the return address is kept
+kept : AreKept 0x80A0 registers called
+unfolding slot
+kept = record { above = one (λ x. 0x80A0 ≤ x.at) (slot 0x80A0 0) (lit≤ tt); hold = one (λ x. Holds registers x.at x.value) (slot 0x80A0 0) refl }
+
+was_called : WasCalled hinted base (at_hint 0 0x80A0 called None None).core
+was_called = record { ra = 0; cfa = 0x80A8; bp = 0; shadow = refl; outside = high_outside; pushed = refl; below_hi = lit≤ tt }
+
+from_call : Run hinted base (At (at_hint 0 0x80A0 called None None))
+from_call =
+    started (at_hint 0 0x80A0 called None None)
+    (at_call_hint (at_hint 0 0x80A0 called None None) (at_hint 0 0x80A0 called None None) (Known (pos 8)) None Same (may_start 0 (lit< tt)) refl was_called
+    (record { ended = refl; mark = refl; hinted = at_hint 0 0x80A0 called None None; lands = (refl, record { depth = refl; fp = tt; bp = (refl, refl) }, kept); start = refl }))
+    (in_registers 0x80A0 called (lit≤ tt) (lit≤ tt))
+
+-- to the SAVE, and on to the RESTORE
+to_save : Run hinted base (At (at_hint 1 0x80A0 called None (Some mark)))
+to_save =
+    stepped (At (at_hint 0 0x80A0 called None None)) (At (at_hint 1 0x80A0 called None (Some mark))) from_call
+    (goes_on (at_hint 0 0x80A0 called None None) (at_hint 1 0x80A0 called None None) (at_hint 1 0x80A0 called None (Some mark))
+    (record { kind = Next; local = refl; along = (0, lit< tt, refl); effect = refl; level = record { ended = refl; mark = refl } }) refl)
+    (in_registers 0x80A0 called (lit≤ tt) (lit≤ tt))
+
+to_restore : Run hinted base (At (at_hint 2 0x80A0 called None (Some mark)))
+to_restore =
+    stepped (At (at_hint 1 0x80A0 called None (Some mark))) (At (at_hint 2 0x80A0 called None (Some mark))) to_save
+    (goes_on (at_hint 1 0x80A0 called None (Some mark)) (at_hint 2 0x80A0 called None (Some mark)) (at_hint 2 0x80A0 called None (Some mark))
+    (record { kind = Next; local = refl; along = (0, lit< tt, refl); effect = refl; level = record { ended = refl; mark = refl } })
+    (record { mark = mark; last = refl; meant = refl; rsp = refl; rbp = refl; slot = refl; after = refl; slots = kept }))
+    (in_registers 0x80A0 called (lit≤ tt) (lit≤ tt))
+
+-- over saved registers
+interrupted : List Frame
+interrupted = outermost 0 0x80A8 0 (FullAt 0x8000) false ∷ []
+
+registers_kept : AreKept 0x8000 registers interrupted
+unfolding interrupted slot
+registers_kept = record {
+  above = three (λ x. 0x8000 ≤ x.at) (slot 0x8020 0) (slot 0x8080 0) (slot 0x8098 0x80A8) (lit≤ tt) (lit≤ tt) (lit≤ tt);
+  hold = three (λ x. Holds registers x.at x.value) (slot 0x8020 0) (slot 0x8080 0) (slot 0x8098 0x80A8) refl refl refl;
+}
+
+from_regs : Run hinted base (At (at_hint 3 0x8000 interrupted None None))
+unfolding interrupted
+from_regs =
+    started (at_hint 3 0x8000 interrupted None None)
+    (at_regs_hint (at_hint 3 0x8000 interrupted None None) (at_hint 3 0x8000 interrupted None None) true (pos 0) (may_start 3 (lit< tt)) refl
+    (record { ra = 0; cfa = 0x80A8; bp = 0; slot = FullAt 0x8000; of_interrupt = refl; shadow = refl; outside = low_outside; below_hi = lit≤ tt })
+    (record { ended = refl; mark = refl; hinted = at_hint 3 0x8000 interrupted None None; lands = (refl, refl, record { at = 0x8000; slot = refl; depth = refl; floor = omega arith; below = lit≤ tt }, registers_kept); start = refl }))
+    (in_registers 0x8000 interrupted (lit≤ tt) (lit≤ tt))
+
+from_end : Run hinted base (At (at_hint 4 0x80A0 [] (Some EndOfStack) None))
+from_end =
+    started (at_hint 4 0x80A0 [] (Some EndOfStack) None)
+    (at_end_hint (at_hint 4 0x80A0 [] None None) (at_hint 4 0x80A0 [] (Some EndOfStack) None) EndOfStack (may_start 4 (lit< tt)) refl refl
+    (record { ended = refl; mark = refl; hinted = at_hint 4 0x80A0 [] (Some EndOfStack) None; lands = refl; start = refl }))
+    (in_registers 0x80A0 [] (lit≤ tt) (lit≤ tt))
+
+pub runs : RunsFromHints
+unfolding interrupted
+runs = record { at_call_hint = from_call; at_save = to_save; at_restore = to_restore; at_regs_hint = from_regs; at_end_hint = from_end }

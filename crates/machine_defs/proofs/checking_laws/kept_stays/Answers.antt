@@ -1,0 +1,5 @@
+use Rattle.machine_defs.proofs.KeptLemmas as kept
+use Rattle.machine_defs.proofs.checking_laws.kept_stays.Goals as goal
+
+pub returns : goal.returns
+returns c = kept.kept_stays

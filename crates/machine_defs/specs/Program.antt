@@ -1,0 +1,136 @@
+-- A program as the stack machine and the checker see it: a control-flow graph over numbered points.
+-- A point is an instruction of the object's code (variant 0), or one of a replacement that may be
+-- patched over an alternatives site (variant k for the k-th replacement). It mentions no byte of a file.
+use Rattle.std.specs.Prelude.{ℕ, zero, suc, ◌<◌, Bool, true, false, List, [], ◌∷◌, ◌++◌, Option}
+use Rattle.ot_base.specs.declared.place.Place.{Place}
+use Rattle.ot_base.specs.Places.{is_within}
+pub use Rattle.ot_base.specs.Section.{TextSection}
+use Rattle.operation_defs.specs.declared.op.Op.{Op}
+use Rattle.operation_defs.specs.declared.op.Op.TheVariants.{Call, CallInd}
+use Rattle.operation_defs.specs.declared.insn.Insn.{Insn}
+use Rattle.machine_defs.specs.declared.flow.Edge.{Edge}
+use Rattle.machine_defs.specs.declared.flow.EdgeKind.{EdgeKind}
+use Rattle.machine_defs.specs.declared.flow.EdgeKind.TheVariants.{Next, Taken, Fixup, Table, Sibling}
+use Rattle.machine_defs.specs.declared.flow.Role.{Role}
+use Rattle.machine_defs.specs.declared.flow.Role.TheVariants.{Plain, CallIn, CallEither, CallOut, CallAny, Return, JumpOut, JumpAny, Switch}
+use Rattle.machine_defs.specs.declared.flow.Marks.{Marks}
+use Rattle.state_defs.specs.declared.state.HintState.{HintState}
+
+-- an alternatives site: the code there may be replaced by any one of its replacements, or stay
+pub record Site : Type 0 where
+  pub start : Place
+  pub len : ℕ
+
+-- What a program is for an object. Its functions are the sized FUNC symbols of its text sections; a part
+-- (`f.cold`) belongs to its parent; the owner of a place is its function, or that function's parent; where a
+-- function of an owner is listed as one without a standard frame, all of that owner is unchecked.
+pub record Program : Type 0 where
+  -- How many points there are; they are numbered from 0 on. A plain point is an instruction of a text section.
+  -- Each replacement of a site has a point for each of its instructions, and where it is shorter than its site
+  -- one padding point more: a Nop over the rest of the site, which has no hint, static branch, exception entry
+  -- or mark of a list, whatever the object says of its place.
+  pub count : ℕ
+  -- The instruction of a point: as it is decoded, but that an Iret with an owner is an IretNext where there are
+  -- points after it and all of them have that owner.
+  pub insn : ℕ → Insn
+  -- Where its bytes stand: of a padding point, the end of its replacement.
+  pub place : ℕ → Place
+  -- Where it runs: a plain point at its place; any other at its site's start plus its distance from the start
+  -- of its replacement.
+  pub address : ℕ → Place
+  -- 0 of a plain point, else the number of its replacement, which is one more than the index of its entry of
+  -- the alternatives.
+  pub variant : ℕ → ℕ
+  -- The function that holds its address: of several, the one with the greatest start.
+  pub function : ℕ → Option ℕ
+  -- That function's parent, where it is a part, else the function itself.
+  pub owner : ℕ → Option ℕ
+  -- Whether its owner is unchecked. Such a point has no edges.
+  pub unchecked : ℕ → Bool
+  -- The plain point of the boundary right before a plain point, in its section.
+  pub previous : ℕ → Option ℕ
+  -- The unwind hint at its place.
+  pub hint : ℕ → Option HintState
+  -- The SAVE point that a RESTORE means: of its owner, in the section of its address, with the greatest address
+  -- below that, and of the least variant among those with one address.
+  pub save_of : ℕ → Option ℕ
+  -- The edges of a checked point (`EdgeKind`), with a Next for every call that isn't a dead end.
+  pub goes : ℕ → List Edge
+  -- What it is to its function (`Role`), also in an unchecked one.
+  pub role : ℕ → Role
+  -- Execution doesn't go on behind it, unless a static branch stands there: a Ud2, or an instruction that ends at
+  -- a place of `.discard.unreachable`, where no place of `.discard.reachable` is that end.
+  pub dead_end : ℕ → Bool
+  -- What is wrong with where it goes (`Marks`).
+  pub marks : ℕ → Marks
+  -- The points that follow a point, whatever it does: `arrive` of the boundary behind a plain point; the next
+  -- point of a replacement, its padding point included, and `arrive` of the site's end behind the last.
+  pub after : ℕ → List ℕ
+  -- Where control that comes to a place may stand: at the plain point there, and where a site starts there also
+  -- at the first point of each of its replacements.
+  pub arrive : Place → List ℕ
+  -- The plain points at the starts of functions that are neither parts nor unchecked.
+  pub entries : List ℕ
+  -- Whether the name of this symbol is listed as one that never returns.
+  pub never_returns : ℕ → Bool
+  -- Whether a point calls `__fentry__`, be it outside or a function of the object.
+  pub calls_fentry : ℕ → Bool
+  -- Whether a return may come from a point on, as the least such set (`MayReturn`).
+  pub may_return : ℕ → Bool
+  -- The alternatives sites: one for each original place with a length that isn't 0.
+  pub sites : List Site
+  -- The text sections (PROGBITS with EXECINSTR), in ascending order.
+  pub texts : List TextSection
+  -- The places of the FUNC symbols of text sections with the size 0.
+  pub unsized : List Place
+
+-- the points of a program
+abbrev pub IsPoint : Program → ℕ → Type 0
+IsPoint p q = q < p.count
+
+-- the numbers below n, ascending
+abbrev pub below : ℕ → List ℕ
+below zero = []
+below (suc n) = below n ++ n ∷ []
+
+-- whether a place lies in a site
+abbrev pub in_site : Site → Place → Bool
+in_site site place = is_within site.start site.len place
+
+-- the points where control that comes to an entry may stand
+abbrev pub entry_points : Program → ℕ → List ℕ
+entry_points p entry = p.arrive (p.place entry)
+
+-- whether a role is that of a call
+abbrev pub is_call : Role → Bool
+is_call Plain = false
+is_call (CallIn entry) = true
+is_call (CallEither entry sym) = true
+is_call (CallOut sym) = true
+is_call CallAny = true
+is_call Return = false
+is_call (JumpOut sym) = false
+is_call JumpAny = false
+is_call Switch = false
+
+-- whether an instruction is a call
+abbrev pub is_call_op : Op → Bool
+is_call_op (Call rel) = true
+is_call_op CallInd = true
+is_call_op _ = false
+
+-- an edge of this kind leads to this point
+abbrev pub edge : ℕ → EdgeKind → Edge
+edge q k = record { to = q; kind = k }
+
+-- whether control that goes along an edge of this kind has executed the instruction, and stays in its function
+abbrev pub is_local : EdgeKind → Bool
+is_local Next = true
+is_local Taken = true
+is_local Fixup = false
+is_local Table = true
+is_local Sibling = false
+
+-- nothing is wrong with where a point goes
+abbrev pub no_marks : Marks
+no_marks = record { bad = false; past_end = false; into_site = false; into_function = false; relocated = false }

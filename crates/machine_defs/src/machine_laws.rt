@@ -1,0 +1,47 @@
+//! What holds of the definitions of this crate.
+
+ghost use Rattle.machine_defs.specs.Worked.{HasWorkedFrames, HasWorkedRows, HasWorkedRun, HasWorkedStates};
+ghost use Rattle.machine_defs.specs.WorkedEffects.{HasEffects};
+ghost use Rattle.machine_defs.specs.WorkedHints.{RunsFromHints};
+ghost use Rattle.machine_defs.specs.WorkedSteps.{TakesEachStep};
+ghost use Rattle.machine_defs.specs.WorkedWrecks.{WrecksEachWay};
+
+/// The states of a function with a frame pointer.
+pub fn worked_states()
+    ensures { HasWorkedStates }
+{}
+
+/// Its rows.
+pub fn worked_rows()
+    ensures { HasWorkedRows }
+{}
+
+/// Frames, their protected slots, and the words of a small stack.
+pub fn worked_frames()
+    ensures { HasWorkedFrames }
+{}
+
+/// A run of that function: it starts, and steps.
+pub fn worked_run()
+    ensures { HasWorkedRun }
+{}
+
+/// A run that takes each step once.
+pub fn worked_steps()
+    ensures { TakesEachStep }
+{}
+
+/// What each operation does to registers, memory and slots.
+pub fn worked_effects()
+    ensures { HasEffects }
+{}
+
+/// A stack that is wrecked in each way.
+pub fn worked_wrecks()
+    ensures { WrecksEachWay }
+{}
+
+/// Runs that start at hints, and that pass a SAVE and a RESTORE.
+pub fn worked_hints()
+    ensures { RunsFromHints }
+{}

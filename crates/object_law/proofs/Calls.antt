@@ -1,0 +1,151 @@
+-- Calls: their roles, and what follows them; and that entries are checked.
+use Rattle.std.proofs.Common.{◌≡◌, ℕ, true, false, not, ◌&&◌, cond, List, [], ◌∷◌, ◌++◌, Option, Some, None, Contains, refl, sym, ap, ◌∙◌, subst}
+use Rattle.std.proofs.lemmas.Bool.{and_from, false≢true, not_from_false, or_right}
+use Rattle.std.proofs.lemmas.List.Elements.{Contains-append_left}
+use Rattle.ot_base.specs.declared.place.Place.{Place}
+use Rattle.ot_base.specs.NameLists.{NameLists}
+use Rattle.operation_defs.specs.declared.insn.Insn.{Insn}
+use Rattle.operation_defs.specs.declared.op.Op.{Op}
+use Rattle.operation_defs.specs.declared.op.Op.TheVariants as ops
+use Rattle.flow_defs.specs.Coded.{Coded}
+use Rattle.machine_defs.specs.declared.flow.EdgeKind.TheVariants.{Fixup, Next, Taken}
+use Rattle.machine_defs.specs.Program.{IsPoint, edge, entry_points, is_call, is_call_op}
+use Rattle.alternatives.specs.declared.point.Point.{Point}
+use Rattle.unwinding_law.proofs.Lists.{from_filter, in_map}
+use Rattle.flow_defs.specs.declared.aim.Destination.{Destination}
+use Rattle.flow_defs.specs.declared.aim.Destination.TheVariants.{ToPlace, ToOwnPoint, ToOutside, ToIndirectThunk, ToReturnThunk, ToNowhere}
+use Rattle.flow_defs.specs.declared.aim.Way.{Way}
+use Rattle.flow_defs.specs.declared.aim.Way.TheVariants as ways
+use Rattle.flow_defs.specs.Code.{is_plain, point_at, points_of_object}
+use Rattle.flow_defs.specs.Owners.{is_entry, is_unchecked, is_unchecked_point}
+use Rattle.flow_defs.specs.Arrival.{after, insn_of_object, is_dead_end}
+use Rattle.flow_defs.specs.Targets.{destination}
+use Rattle.flow_defs.specs.Ways.{jump_way}
+use Rattle.flow_defs.specs.Roles.{jump_by_table, jump_by_way, jump_role, role_by, role_of, table_of_point}
+use Rattle.flow_defs.specs.Edges.{branch_edges, edges_to, ends_flow, fixups, goes, goes_on, is_some_place, listed_edges, next_edges, static_targets, table_edges}
+use Rattle.flow_defs.specs.Program.{entries_of, graph_of, is_entry_point, program_of, returning_graph}
+use Rattle.object_law.proofs.Levels.{and_true}
+use Rattle.object_law.proofs.Numbers.{numbers_are}
+use Rattle.object_law.proofs.Owners.{arriving_owner, entry_is}
+
+-- no jump is a call
+jump_is_none : (w : Way) (weak : Option ℕ) → is_call (jump_by_way w weak) ≡ false
+jump_is_none ways.Bad weak = refl
+jump_is_none (ways.Outside f) weak = refl
+jump_is_none (ways.Along kind) None = refl
+jump_is_none (ways.Along kind) (Some sym) = refl
+
+role_is_none : (o : Coded) (point : Point) (to : Destination) → is_call (jump_role o point to) ≡ false
+role_is_none o point (ToPlace place weak crossing) = jump_is_none (jump_way o point crossing place) weak
+role_is_none o point (ToOwnPoint other) = refl
+role_is_none o point (ToOutside sym) = refl
+role_is_none o point ToIndirectThunk = refl
+role_is_none o point ToReturnThunk = refl
+role_is_none o point ToNowhere = refl
+
+table_is_none : (places : List Place) → is_call (jump_by_table places) ≡ false
+table_is_none [] = refl
+table_is_none (place ∷ places) = refl
+
+-- so the role of a call is that of a call
+call_by_op : (o : Coded) (point : Point) (insn : Insn) (op : Op) → is_call (role_by o point insn op) ≡ true → is_call_op op ≡ true
+call_by_op o point insn (ops.Call rel) e = refl
+call_by_op o point insn ops.CallInd e = refl
+call_by_op o point insn (ops.Jmp rel wide) e = absurd (false≢true (sym (role_is_none o point (destination o point insn)) ∙ e))
+call_by_op o point insn (ops.Jcc rel wide) e = absurd (false≢true (sym (role_is_none o point (destination o point insn)) ∙ e))
+call_by_op o point insn (ops.JmpInd field) e = absurd (false≢true (sym (table_is_none (table_of_point o point)) ∙ e))
+call_by_op o point insn ops.Plain e = absurd (false≢true e)
+call_by_op o point insn ops.Nop e = absurd (false≢true e)
+call_by_op o point insn ops.Endbr e = absurd (false≢true e)
+call_by_op o point insn ops.Push e = absurd (false≢true e)
+call_by_op o point insn ops.PushBp e = absurd (false≢true e)
+call_by_op o point insn ops.Pop e = absurd (false≢true e)
+call_by_op o point insn ops.PopBp e = absurd (false≢true e)
+call_by_op o point insn ops.Popf e = absurd (false≢true e)
+call_by_op o point insn (ops.AddSp by) e = absurd (false≢true e)
+call_by_op o point insn (ops.AndSp mask) e = absurd (false≢true e)
+call_by_op o point insn (ops.LeaSpBp by) e = absurd (false≢true e)
+call_by_op o point insn (ops.LeaBpSp by) e = absurd (false≢true e)
+call_by_op o point insn (ops.StoreBp at) e = absurd (false≢true e)
+call_by_op o point insn (ops.LoadBp at) e = absurd (false≢true e)
+call_by_op o point insn ops.Leave e = absurd (false≢true e)
+call_by_op o point insn ops.SpOther e = absurd (false≢true e)
+call_by_op o point insn ops.BpOther e = absurd (false≢true e)
+call_by_op o point insn ops.Ret e = absurd (false≢true e)
+call_by_op o point insn ops.RetImm e = absurd (false≢true e)
+call_by_op o point insn ops.Iret e = absurd (false≢true e)
+call_by_op o point insn ops.IretNext e = absurd (false≢true e)
+call_by_op o point insn ops.Switch e = absurd (false≢true e)
+call_by_op o point insn ops.Ud2 e = absurd (false≢true e)
+call_by_op o point insn ops.Int3 e = absurd (false≢true e)
+call_by_op o point insn ops.Stac e = absurd (false≢true e)
+call_by_op o point insn ops.Clac e = absurd (false≢true e)
+
+-- execution goes on behind calls
+call_goes_on : (op : Op) → is_call_op op ≡ true → ends_flow op ≡ false
+call_goes_on (ops.Call rel) e = refl
+call_goes_on ops.CallInd e = refl
+call_goes_on (ops.Jmp rel wide) e = absurd (false≢true e)
+call_goes_on (ops.Jcc rel wide) e = absurd (false≢true e)
+call_goes_on (ops.JmpInd field) e = absurd (false≢true e)
+call_goes_on ops.Plain e = refl
+call_goes_on ops.Nop e = refl
+call_goes_on ops.Endbr e = refl
+call_goes_on ops.Push e = refl
+call_goes_on ops.PushBp e = refl
+call_goes_on ops.Pop e = refl
+call_goes_on ops.PopBp e = refl
+call_goes_on ops.Popf e = refl
+call_goes_on (ops.AddSp by) e = refl
+call_goes_on (ops.AndSp mask) e = refl
+call_goes_on (ops.LeaSpBp by) e = refl
+call_goes_on (ops.LeaBpSp by) e = refl
+call_goes_on (ops.StoreBp at) e = refl
+call_goes_on (ops.LoadBp at) e = refl
+call_goes_on ops.Leave e = refl
+call_goes_on ops.SpOther e = refl
+call_goes_on ops.BpOther e = refl
+call_goes_on ops.Ret e = absurd (false≢true e)
+call_goes_on ops.RetImm e = absurd (false≢true e)
+call_goes_on ops.Iret e = absurd (false≢true e)
+call_goes_on ops.IretNext e = refl
+call_goes_on ops.Switch e = absurd (false≢true e)
+call_goes_on ops.Ud2 e = refl
+call_goes_on ops.Int3 e = refl
+call_goes_on ops.Stac e = refl
+call_goes_on ops.Clac e = refl
+
+passes_on : (o : Coded) (point : Point) → ends_flow (insn_of_object o point).op ≡ false → is_dead_end o point ≡ false → goes_on o point ≡ true
+unfolding goes_on
+passes_on o point flows alive =
+    or_right (is_some_place (static_targets o point)) (not (ends_flow (insn_of_object o point).op) && not (is_dead_end o point))
+    (and_from _ _ (not_from_false _ flows) (not_from_false _ alive))
+
+next_goes : (o : Coded) (point : Point) (r : ℕ) → is_unchecked_point o point ≡ false → goes_on o point ≡ true → Contains (after o point) r → Contains (goes o point) (edge r Next)
+unfolding goes
+next_goes o point r checked on c =
+    let first : Contains (next_edges o point) (edge r Next) = subst (λ b. Contains (cond b (edges_to Next (after o point)) []) (edge r Next)) (sym on) (in_map (λ q. edge q Next) (after o point) r c) in
+    let rest = branch_edges o point ++ (listed_edges o Taken point (static_targets o point) ++ (listed_edges o Fixup point (fixups o point) ++ table_edges o point)) in
+    subst (λ b. Contains (cond b [] (next_edges o point ++ rest)) (edge r Next)) (sym checked) (Contains-append_left (next_edges o point) rest (edge r Next) first)
+
+module _ (o : Coded) (lists : NameLists) where
+  -- the role of a call is that of a call instruction
+  pub calls : (q : ℕ) → IsPoint (program_of o lists) q → is_call ((program_of o lists).role q) ≡ true → is_call_op ((program_of o lists).insn q).op ≡ true
+  unfolding program_of returning_graph graph_of role_of
+  calls q here e = let insn = insn_of_object o (point_at o q) in call_by_op o (point_at o q) insn insn.op e
+
+  -- the points that follow a call which execution passes are its next points
+  pub call_next : (q r : ℕ) → IsPoint (program_of o lists) q → (program_of o lists).unchecked q ≡ false → is_call ((program_of o lists).role q) ≡ true → (program_of o lists).dead_end q ≡ false → Contains ((program_of o lists).after q) r → Contains ((program_of o lists).goes q) (edge r Next)
+  unfolding program_of returning_graph graph_of role_of
+  call_next q r here checked call alive c =
+      let point = point_at o q in
+      let insn = insn_of_object o point in
+      next_goes o point r checked (passes_on o point (call_goes_on insn.op (call_by_op o point insn insn.op call)) alive) c
+
+  -- no entry is in an unchecked function
+  pub entries_checked : (entry q : ℕ) → Contains (program_of o lists).entries entry → Contains (entry_points (program_of o lists) entry) q → (program_of o lists).unchecked q ≡ false
+  unfolding program_of returning_graph graph_of entries_of
+  entries_checked entry q listed arrives =
+      let point = point_at o entry in
+      let own = from_filter (is_entry_point o) (points_of_object o) point (numbers_are o _ entry listed).1 in
+      ap (is_unchecked o.elf) (arriving_owner o point.place q arrives) ∙ (entry_is o.elf point.place (and_true (is_plain point) (is_entry o.elf point.place) own.1).1).checked

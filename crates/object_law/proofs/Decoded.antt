@@ -1,0 +1,128 @@
+-- The instructions of points are decoded ones, or padding.
+use Rattle.std.proofs.Common.{◌≡◌, ℕ, zero, suc, ◌+◌, ◌-◌, Bool, true, false, not, cond, List, [], ◌∷◌, Option, Some, None, Contains, refl, sym, ap, ◌∙◌, subst, inl, inr}
+use Rattle.std.specs.Prelude.{Result, Ok, Err, option_and_then, unwrap_or, ◌==◌}
+use Rattle.ot_base.specs.NameLists.{NameLists}
+use Rattle.ot_base.specs.declared.place.Place.{Place}
+use Rattle.ot_base.specs.Places.{is_within}
+use Rattle.operation_defs.specs.declared.insn.Insn.{Insn}
+use Rattle.operation_defs.specs.declared.op.Op.{Op}
+use Rattle.operation_defs.specs.declared.op.Op.TheVariants as ops
+use Rattle.flow_defs.specs.Coded.{Coded}
+use Rattle.machine_defs.specs.Program.{IsPoint}
+use Rattle.state_defs.specs.Effect.{HasSignedNumber}
+use Rattle.special_sections.specs.declared.entries.AltEntry.{AltEntry}
+use Rattle.x86_map.specs.declared.map.Map.{Map}
+use Rattle.x86_decode.specs.Decoding.{decoded}
+use Rattle.x86_decode.specs.declared.DecodeFault.{DecodeFault}
+use Rattle.x86_decode.proofs.Languages.{IsBytes}
+use Rattle.x86_text.specs.Code.{Body, code_from, code_of, insn_listed, with_rest}
+use Rattle.alternatives.specs.declared.point.Point.{Point}
+use Rattle.alternatives.specs.declared.texts.SectionText.{SectionText}
+use Rattle.alternatives.specs.Originals.{counts}
+use Rattle.alternatives.specs.Points.{entry_of, insn_of_point, is_padded, padding_of, replacement_insn}
+use Rattle.alternatives.specs.Texts.{insn_at}
+use Rattle.table_law.proofs.Lists.{finds, some_is}
+use Rattle.flow_defs.specs.Code.{alternatives_of, point_at, texts_of}
+use Rattle.flow_defs.specs.Owners.{owner_of_point}
+use Rattle.flow_defs.specs.Arrival.{after, decoded_insn, goes_on_behind, insn_of_object, no_insn, op_of}
+use Rattle.flow_defs.specs.Program.{graph_of, program_of, returning_graph}
+use Rattle.object_law.specs.Flows.{HasBytes}
+use Rattle.object_law.proofs.Signed.{decoded_fits}
+
+-- the instructions that are listed in bytes fit
+listed_fits : (map : Map) (skip off : ℕ) (bytes : List ℕ) (at : ℕ) (insn : Insn) → IsBytes bytes → insn_listed (code_from map skip off bytes) at ≡ Some insn → HasSignedNumber insn.op
+listed_fits map skip off [] at insn are is = absurd (let k : ⊥ = cc in k)
+listed_fits map (suc skip) off (b ∷ bytes) at insn are is = listed_fits map skip (off + 1) bytes at insn are.1 is
+listed_fits map zero off (b ∷ bytes) at insn are is = go (decoded map (b ∷ bytes)) refl is (λ skip h. listed_fits map skip (off + 1) bytes at insn are.1 h)
+  where
+    by_place : (here : Insn) (found : Bool) → decoded map (b ∷ bytes) ≡ Ok here → cond found (Some here) (insn_listed (code_from map (here.len - 1) (off + 1) bytes) at) ≡ Some insn → ((skip : ℕ) → insn_listed (code_from map skip (off + 1) bytes) at ≡ Some insn → HasSignedNumber insn.op) → HasSignedNumber insn.op
+    by_place here true of h later = subst (λ (i : Insn). HasSignedNumber i.op) (some_is h) (decoded_fits map (b ∷ bytes) here are of)
+    by_place here false of h later = later (here.len - 1) h
+
+    go : (r : Result Insn DecodeFault) → decoded map (b ∷ bytes) ≡ r → insn_listed (with_rest off r (λ skip. code_from map skip (off + 1) bytes)) at ≡ Some insn → ((skip : ℕ) → insn_listed (code_from map skip (off + 1) bytes) at ≡ Some insn → HasSignedNumber insn.op) → HasSignedNumber insn.op
+    go (Ok here) of h later = by_place here (off == at) of h later
+    go (Err why) of h later = absurd (let k : ⊥ = cc in k)
+
+code_fits : (body : Body) (at : ℕ) (insn : Insn) → IsBytes body.bytes → insn_listed (code_of body) at ≡ Some insn → HasSignedNumber insn.op
+unfolding code_of
+code_fits body at insn are is = listed_fits body.map 0 0 body.bytes at insn are is
+
+-- the instruction at a place of texts whose items are bytes
+at_fits : (texts : List SectionText) (place : Place) (insn : Insn) → ((t : SectionText) → Contains texts t → IsBytes t.text.bytes) → insn_at texts place ≡ Some insn → HasSignedNumber insn.op
+at_fits texts place insn are is = elim (finds (λ t. t.sec == place.sec) texts) [
+  | inl none ↦ absurd (let e = ap (option_and_then (λ (t : SectionText). insn_listed (code_of t.text) place.off)) none.0 in let k : ⊥ = cc in k)
+  | inr one ↦ code_fits one.0.text place.off insn (are one.0 one.2) (sym (ap (option_and_then (λ (t : SectionText). insn_listed (code_of t.text) place.off)) one.1) ∙ is)
+]
+
+point_fits : (texts : List SectionText) (entries : List AltEntry) (point : Point) (insn : Insn) → ((t : SectionText) → Contains texts t → IsBytes t.text.bytes) → insn_of_point texts entries point ≡ Some insn → HasSignedNumber insn.op
+point_fits texts entries point insn are is = by_variant (point.variant == 0) is
+  where
+    a : AltEntry
+    a = entry_of entries point.variant
+
+    padded : (b : Bool) (p : Insn) → HasSignedNumber p.op → cond b (Some p) None ≡ Some insn → HasSignedNumber insn.op
+    padded true p fits e = subst (λ (i : Insn). HasSignedNumber i.op) (some_is e) fits
+    padded false p fits e = absurd (let k : ⊥ = cc in k)
+
+    within : (b : Bool) → cond b (insn_at texts point.place) (cond (is_padded texts (entry_of entries point.variant) point.place) (Some (padding_of (entry_of entries point.variant))) None) ≡ Some insn → HasSignedNumber insn.op
+    within true e = at_fits texts point.place insn are e
+    within false e = padded (is_padded texts (entry_of entries point.variant) point.place) (padding_of (entry_of entries point.variant)) tt e
+
+    counted : (b : Bool) → cond b None (cond (is_within (entry_of entries point.variant).replacement (entry_of entries point.variant).replacement_len point.place) (insn_at texts point.place) (cond (is_padded texts (entry_of entries point.variant) point.place) (Some (padding_of (entry_of entries point.variant))) None)) ≡ Some insn → HasSignedNumber insn.op
+    counted true e = absurd (let k : ⊥ = cc in k)
+    counted false e = within (is_within (entry_of entries point.variant).replacement (entry_of entries point.variant).replacement_len point.place) e
+
+    by_variant : (b : Bool) → cond b (insn_at texts point.place) (replacement_insn texts (entry_of entries point.variant) point.place) ≡ Some insn → HasSignedNumber insn.op
+    by_variant true e = at_fits texts point.place insn are e
+    by_variant false e = counted (not (counts (entry_of entries point.variant))) e
+
+-- an IRET that goes on behind itself has no number either
+iret_fits : (b : Bool) → HasSignedNumber (cond b ops.IretNext ops.Iret)
+iret_fits true = tt
+iret_fits false = tt
+
+op_fits : (o : Coded) (point : Point) (op : Op) → HasSignedNumber op → HasSignedNumber (op_of o point op)
+op_fits o point ops.Iret h = iret_fits (goes_on_behind o point (owner_of_point o point) (after o point))
+op_fits o point ops.Plain h = h
+op_fits o point ops.Nop h = h
+op_fits o point ops.Endbr h = h
+op_fits o point ops.Push h = h
+op_fits o point ops.PushBp h = h
+op_fits o point ops.Pop h = h
+op_fits o point ops.PopBp h = h
+op_fits o point ops.Popf h = h
+op_fits o point (ops.AddSp by) h = h
+op_fits o point (ops.AndSp mask) h = h
+op_fits o point (ops.LeaSpBp by) h = h
+op_fits o point (ops.LeaBpSp by) h = h
+op_fits o point (ops.StoreBp at) h = h
+op_fits o point (ops.LoadBp at) h = h
+op_fits o point ops.Leave h = h
+op_fits o point ops.SpOther h = h
+op_fits o point ops.BpOther h = h
+op_fits o point (ops.Call rel) h = h
+op_fits o point ops.CallInd h = h
+op_fits o point (ops.Jmp rel wide) h = h
+op_fits o point (ops.Jcc rel wide) h = h
+op_fits o point (ops.JmpInd field) h = h
+op_fits o point ops.Ret h = h
+op_fits o point ops.RetImm h = h
+op_fits o point ops.IretNext h = h
+op_fits o point ops.Switch h = h
+op_fits o point ops.Ud2 h = h
+op_fits o point ops.Int3 h = h
+op_fits o point ops.Stac h = h
+op_fits o point ops.Clac h = h
+
+found_fits : (o : Coded) (point : Point) → HasBytes o → HasSignedNumber (decoded_insn o point).op
+unfolding decoded_insn
+found_fits o point are = go (insn_of_point (texts_of o) (alternatives_of o) point) refl
+  where
+    go : (found : Option Insn) → insn_of_point (texts_of o) (alternatives_of o) point ≡ found → HasSignedNumber (unwrap_or found no_insn).op
+    go None is = tt
+    go (Some insn) is = point_fits (texts_of o) (alternatives_of o) point insn are is
+
+-- numbers in operations have 64 bits
+pub numbers : (o : Coded) (lists : NameLists) → HasBytes o → (q : ℕ) → IsPoint (program_of o lists) q → HasSignedNumber ((program_of o lists).insn q).op
+unfolding program_of returning_graph graph_of insn_of_object
+numbers o lists are q here = let point = point_at o q in op_fits o point (decoded_insn o point).op (found_fits o point are)

@@ -1,0 +1,228 @@
+-- The edges of a point that runs in a section in which a symbol is defined lead to points that run in such sections.
+use Rattle.std.proofs.Common.{◌≡◌, ℕ, Bool, true, false, ◌&&◌, cond, List, [], ◌∷◌, ◌++◌, map, Option, Some, None, Contains, refl, sym, subst, inl, inr}
+use Rattle.std.specs.Prelude.{filter, length, nat_lt, option_and_then, take_while, ◌*◌}
+use Rattle.std.specs.List.{range_with_len}
+use Rattle.std.proofs.lemmas.Bool.{eqb-true}
+use Rattle.std.proofs.lemmas.List.Elements.{Contains-append_cases}
+use Rattle.std.proofs.lemmas.List.Sums.{take_while-cons}
+use Rattle.ot_base.specs.declared.place.Place.{Place}
+use Rattle.ot_base.specs.Places.{same_place}
+use Rattle.operation_defs.specs.declared.insn.Insn.{Insn}
+use Rattle.operation_defs.specs.declared.op.Op.{Op}
+use Rattle.operation_defs.specs.declared.op.Op.TheVariants as ops
+use Rattle.elf_objects.specs.declared.TheConstants.{R_X86_64_64}
+use Rattle.elf_objects.specs.declared.symbol.Reloc.{Reloc}
+use Rattle.flow_defs.specs.Coded.{Coded}
+use Rattle.elf_objects.specs.Contents.{relocs_at}
+use Rattle.machine_defs.specs.declared.flow.Edge.{Edge}
+use Rattle.machine_defs.specs.declared.flow.EdgeKind.{EdgeKind}
+use Rattle.machine_defs.specs.declared.flow.EdgeKind.TheVariants.{Next, Taken, Fixup, Table}
+use Rattle.symbols_relocs.specs.NamedPlaces.{place_named}
+use Rattle.symbols_relocs.specs.Parts.{owner_at}
+use Rattle.special_sections.specs.declared.entries.BranchEntry.{BranchEntry}
+use Rattle.special_sections.specs.declared.entries.FixEntry.{FixEntry}
+use Rattle.special_sections.specs.Special.{special_faults, special_of}
+use Rattle.alternatives.specs.declared.point.Point.{Point}
+use Rattle.alternatives.specs.Texts.{behind, is_boundary}
+use Rattle.jump_tables.specs.Tables.{checked_behind as table_behind, boundary_named, entries_by, entries_of, table_entry_at, is_table, jump_table, reloc_of_kind, same_owner, up_to_none}
+use Rattle.unwinding_law.proofs.Lists.{cases, from_filter, from_flat_map, here, nowhere, there}
+use Rattle.table_law.proofs.Lists.{some_is}
+use Rattle.flow_defs.specs.declared.aim.Destination.{Destination}
+use Rattle.flow_defs.specs.declared.aim.Destination.TheVariants as destinations
+use Rattle.flow_defs.specs.declared.aim.Way.{Way}
+use Rattle.flow_defs.specs.declared.aim.Way.TheVariants as ways
+use Rattle.flow_defs.specs.Code.{is_plain, numbers_of, point_at, texts_of}
+use Rattle.flow_defs.specs.Owners.{is_unchecked_point, owner_of_point}
+use Rattle.flow_defs.specs.Sites.{is_into_site}
+use Rattle.flow_defs.specs.Arrival.{after, after_by, arrive, decoded_insn, insn_of_object, is_padding, next_of_replacement, place_behind, site_end}
+use Rattle.flow_defs.specs.Targets.{destination}
+use Rattle.flow_defs.specs.Ways.{jump_way, listed_way}
+use Rattle.flow_defs.specs.Roles.{table_of_point}
+use Rattle.flow_defs.specs.Edges.{branch_edges, branch_edges_by, edges_to, fixups, goes, goes_on, jump_edges, listed_edges, next_edges, static_targets, table_edges, table_edges_by, way_edges}
+use Rattle.object_law.proofs.Edges.{checked_edges}
+use Rattle.object_law.proofs.Numbers.{edges_lead, numbers_are}
+use Rattle.object_law.proofs.Overlays.{address_plain}
+use Rattle.object_law.proofs.Owners.{arrives_at, from_map}
+use Rattle.object_law.proofs.Replaced.{IsOfSame, next_within}
+use Rattle.object_law.proofs.Starts.{address_at, address_of}
+use Rattle.object_law.specs.Named.{IsNamed}
+use Rattle.object_law.proofs.Homes.{place_is_named}
+use Rattle.object_law.proofs.NamedEntries.{fixup_is_named, target_is_named}
+use Rattle.object_law.proofs.Aims.{DestinationIsNamed, destination_named, replaced_sec, same_sec}
+
+-- the entries of a jump table are places that relocations name
+taken_listed : {X : Type 0} (p : X → Bool) (xs : List X) (x : X) → Contains (take_while p xs) x → Contains xs x
+taken_listed p [] x c = nowhere x c
+taken_listed p (y ∷ xs) x c = go (p y) (subst (λ zs. Contains zs x) (take_while-cons p y xs) c) (λ d. taken_listed p xs x d)
+  where
+    go : (b : Bool) → Contains (cond b (y ∷ take_while p xs) []) x → (Contains (take_while p xs) x → Contains xs x) → Contains (y ∷ xs) x
+    go true c rest = elim (cases y (take_while p xs) x c) [
+      | inl same ↦ subst (λ z. Contains (y ∷ xs) z) same (here y xs)
+      | inr d ↦ there y xs x (rest d)
+    ]
+    go false c rest = nowhere x c
+
+-- what stands before the first that is none is an element
+up_to_listed : (xs : List (Option Place)) (place : Place) → Contains (up_to_none xs) place → Contains xs (Some place)
+up_to_listed [] place c = nowhere place c
+up_to_listed (None ∷ xs) place c = nowhere place c
+up_to_listed (Some first ∷ xs) place c = elim (cases first (up_to_none xs) place c) [
+  | inl same ↦ subst (λ (p : Place). Contains (Some first ∷ xs) (Some p)) same (here (Some first) xs)
+  | inr d ↦ there (Some first) xs (Some place) (up_to_listed xs place d)
+]
+
+module _ (o : Coded) where
+  boundary_is_named : (field place : Place) → boundary_named o.elf (texts_of o) field ≡ Some place → IsNamed o place.sec
+  boundary_is_named field place is = by_reloc (reloc_of_kind o.elf R_X86_64_64 field) is
+    where
+      by_boundary : (found : Place) (b : Bool) → cond b (Some found) None ≡ Some place → found ≡ place
+      by_boundary found true e = some_is e
+      by_boundary found false e = absurd (let z : ⊥ = cc in z)
+
+      by_place : (r : Reloc) (found : Option Place) → place_named o.elf r ≡ found → option_and_then (λ place. cond (is_boundary (texts_of o) place) (Some place) None) found ≡ Some place → IsNamed o place.sec
+      by_place r None named e = absurd (let z : ⊥ = cc in z)
+      by_place r (Some found) named e = subst (λ (p : Place). IsNamed o p.sec) (by_boundary found (is_boundary (texts_of o) found) e) (place_is_named o r found named)
+
+      by_reloc : (r : Option Reloc) → option_and_then (λ place. cond (is_boundary (texts_of o) place) (Some place) None) (option_and_then (place_named o.elf) r) ≡ Some place → IsNamed o place.sec
+      by_reloc None e = absurd (let z : ⊥ = cc in z)
+      by_reloc (Some r) e = by_place r (place_named o.elf r) refl e
+
+  entry_is_named : (table : Place) (i : ℕ) (place : Place) → table_entry_at o.elf (texts_of o) table i ≡ Some place → IsNamed o place.sec
+  entry_is_named table i place is = by_field (table_behind table (8 * i)) is
+    where
+      by_table : (field : Place) (b : Bool) → cond b None (boundary_named o.elf (texts_of o) field) ≡ Some place → IsNamed o place.sec
+      by_table field true e = absurd (let z : ⊥ = cc in z)
+      by_table field false e = boundary_is_named field place e
+
+      by_field : (field : Option Place) → option_and_then (λ field. cond (nat_lt 0 i && is_table o.elf (texts_of o) field) None (boundary_named o.elf (texts_of o) field)) field ≡ Some place → IsNamed o place.sec
+      by_field None e = absurd (let z : ⊥ = cc in z)
+      by_field (Some field) e = by_table field (nat_lt 0 i && is_table o.elf (texts_of o) field) e
+
+  table_is_named : (point : Point) (place : Place) → Contains (table_of_point o point) place → IsNamed o place.sec
+  unfolding table_of_point
+  table_is_named point place c = go (jump_table o.elf (texts_of o) point.place) c
+    where
+      go : (table : Option Place) → Contains (entries_by o.elf (texts_of o) (owner_of_point o point) table) place → IsNamed o place.sec
+      go None c = nowhere place c
+      go (Some table) c =
+          let listed = taken_listed (λ p. same_owner (owner_at o.elf p) (owner_of_point o point)) (entries_of o.elf (texts_of o) table) place c in
+          let one = from_map (table_entry_at o.elf (texts_of o) table) (range_with_len 0 (length (relocs_at o.elf table.sec))) (Some place) (up_to_listed _ place listed) in
+          entry_is_named table one.0 place one.2
+
+-- each of some edges leads to a point that runs in such a section
+abbrev LeadToNamed : Coded → List Edge → Type 0
+LeadToNamed o edges = (e : Edge) → Contains edges e → IsNamed o (address_at o e.to).sec
+
+module _ (o : Coded) where
+  none_lead : LeadToNamed o []
+  none_lead e c = nowhere e c
+
+  both_lead : (xs ys : List Edge) → LeadToNamed o xs → LeadToNamed o ys → LeadToNamed o (xs ++ ys)
+  both_lead xs ys a b e c = elim (Contains-append_cases xs ys e c) [ inl d ↦ a e d | inr d ↦ b e d ]
+
+  arriving_lead : (kind : EdgeKind) (place : Place) → IsNamed o place.sec → LeadToNamed o (edges_to kind (arrive o place))
+  arriving_lead kind place named e c = subst (λ (p : Place). IsNamed o p.sec) (sym (arrives_at o place e.to (edges_lead kind (arrive o place) e c).0)) named
+
+  module _ (point : Point) where
+    way_leads : (place : Place) (way : Way) → IsNamed o place.sec → LeadToNamed o (way_edges o point place way)
+    way_leads place ways.Bad named = none_lead
+    way_leads place (ways.Outside f) named = none_lead
+    way_leads place (ways.Along kind) named = go (is_into_site o point place)
+      where
+        go : (b : Bool) → LeadToNamed o (cond b [] (edges_to kind (arrive o place)))
+        go true = none_lead
+        go false = arriving_lead kind place named
+
+    listed_lead : (kind : EdgeKind) (places : List Place) → ((place : Place) → Contains places place → IsNamed o place.sec) → LeadToNamed o (listed_edges o kind point places)
+    listed_lead kind places each e c =
+        let way = λ (place : Place). listed_way o kind (owner_of_point o point) place in
+        let one = from_flat_map (λ place. way_edges o point place (way place)) places e c in
+        way_leads one.0 (way one.0) (each one.0 one.1) e one.2
+
+    table_leads : (op : Op) → LeadToNamed o (table_edges_by o point op)
+    table_leads (ops.JmpInd field) = λ e c. (
+        let one = from_flat_map (λ place. way_edges o point place (ways.Along Table)) (table_of_point o point) e c in
+        way_leads one.0 (ways.Along Table) (table_is_named o point one.0 one.1) e one.2)
+    table_leads _ = none_lead
+
+    module _ (none : special_faults o.elf ≡ []) where
+      static_named : (place : Place) → Contains (static_targets o point) place → IsNamed o place.sec
+      static_named place c = go (is_padding o point) c
+        where
+          go : (b : Bool) → Contains (cond b [] (map (λ (x : BranchEntry). x.target) (filter (λ (x : BranchEntry). same_place x.code point.place) (special_of o.elf).branches))) place → IsNamed o place.sec
+          go true c = nowhere place c
+          go false c =
+              let one = from_map (λ (x : BranchEntry). x.target) (filter (λ (x : BranchEntry). same_place x.code point.place) (special_of o.elf).branches) place c in
+              subst (λ (p : Place). IsNamed o p.sec) one.2 (target_is_named o none one.0 (from_filter (λ (x : BranchEntry). same_place x.code point.place) (special_of o.elf).branches one.0 one.1).0)
+
+      fixups_named : (place : Place) → Contains (fixups o point) place → IsNamed o place.sec
+      fixups_named place c = go (is_padding o point) c
+        where
+          go : (b : Bool) → Contains (cond b [] (map (λ (x : FixEntry). x.fixup) (filter (λ (x : FixEntry). same_place x.insn point.place) (special_of o.elf).fixes))) place → IsNamed o place.sec
+          go true c = nowhere place c
+          go false c =
+              let one = from_map (λ (x : FixEntry). x.fixup) (filter (λ (x : FixEntry). same_place x.insn point.place) (special_of o.elf).fixes) place c in
+              subst (λ (p : Place). IsNamed o p.sec) one.2 (fixup_is_named o none one.0 (from_filter (λ (x : FixEntry). same_place x.insn point.place) (special_of o.elf).fixes one.0 one.1).0)
+
+    module _ (named : IsNamed o (address_of o point).sec) where
+      -- edges to a point of the same replacement
+      same_lead : (kind : EdgeKind) (other : Point) → IsOfSame point other → LeadToNamed o (edges_to kind (numbers_of o (other ∷ [])))
+      same_lead kind other are e c =
+          let to : other ≡ point_at o e.to = only (point_at o e.to) (numbers_are o (other ∷ []) e.to (edges_lead kind (numbers_of o (other ∷ [])) e c).0).1 in
+          subst (λ (p : Point). IsNamed o (address_of o p).sec) to (subst (λ sec. IsNamed o sec) (same_sec o point other are) named)
+        where
+          only : (y : Point) → Contains (other ∷ []) y → other ≡ y
+          only y c = elim (cases other [] y c) [ inl e ↦ e | inr d ↦ nowhere y d ]
+
+      jump_leads : (to : Destination) → DestinationIsNamed o point to → LeadToNamed o (jump_edges o point to)
+      jump_leads (destinations.ToPlace place weak crossing) goes = way_leads place (jump_way o point crossing place) goes
+      jump_leads (destinations.ToOwnPoint other) goes = go (same_owner (owner_of_point o point) (owner_of_point o other))
+        where
+          go : (b : Bool) → LeadToNamed o (cond b (edges_to Taken (numbers_of o (other ∷ []))) [])
+          go true = same_lead Taken other goes
+          go false = none_lead
+      jump_leads _ goes = none_lead
+
+      branch_leads : (insn : Insn) (op : Op) → LeadToNamed o (branch_edges_by o point insn op)
+      branch_leads insn (ops.Jmp rel wide) = jump_leads (destination o point insn) (destination_named o point named insn)
+      branch_leads insn (ops.Jcc rel wide) = jump_leads (destination o point insn) (destination_named o point named insn)
+      branch_leads insn _ = none_lead
+
+      -- behind a point comes its own section, or that of its site
+      behind_named : IsNamed o (place_behind o point).sec
+      behind_named = go (is_plain point) refl
+        where
+          go : (b : Bool) → is_plain point ≡ b → IsNamed o (cond b (behind point.place (decoded_insn o point).len) (site_end o point)).sec
+          go true e = subst (λ (p : Place). IsNamed o p.sec) (address_plain o point (eqb-true point.variant 0 e)) named
+          go false e = subst (λ sec. IsNamed o sec) (replaced_sec o point e) named
+
+      after_leads : LeadToNamed o (edges_to Next (after o point))
+      unfolding after
+      after_leads = go (next_of_replacement o point) refl
+        where
+          go : (next : Option Point) → next_of_replacement o point ≡ next → LeadToNamed o (edges_to Next (after_by o point next))
+          go (Some next) is = same_lead Next next (next_within o point next is)
+          go None is = arriving_lead Next (place_behind o point) behind_named
+
+      next_leads : LeadToNamed o (next_edges o point)
+      next_leads = go (goes_on o point)
+        where
+          go : (b : Bool) → LeadToNamed o (cond b (edges_to Next (after o point)) [])
+          go true = after_leads
+          go false = none_lead
+
+      checked_lead : special_faults o.elf ≡ [] → LeadToNamed o (checked_edges o point)
+      checked_lead none =
+          let insn = insn_of_object o point in
+          both_lead (next_edges o point) _ next_leads
+          (both_lead (branch_edges o point) _ (branch_leads insn insn.op)
+          (both_lead (listed_edges o Taken point (static_targets o point)) _ (listed_lead Taken (static_targets o point) (static_named none))
+          (both_lead (listed_edges o Fixup point (fixups o point)) (table_edges o point) (listed_lead Fixup (fixups o point) (fixups_named none)) (table_leads insn.op))))
+
+      pub edges_lead_to_named : special_faults o.elf ≡ [] → LeadToNamed o (goes o point)
+      unfolding goes
+      edges_lead_to_named none = go (is_unchecked_point o point)
+        where
+          go : (b : Bool) → LeadToNamed o (cond b [] (checked_edges o point))
+          go true = none_lead
+          go false = checked_lead none

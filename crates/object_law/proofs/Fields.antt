@@ -1,0 +1,95 @@
+-- What the laws ask of programs, field by field: what needs no fact about the object.
+use Rattle.std.proofs.Common.{◌≡◌, ℕ, ◌<◌, Bool, true, false, cond, Option, Some, None, Contains, sym, ap}
+use Rattle.std.specs.Prelude.{◌↔◌, option_and_then}
+use Rattle.ot_base.specs.NameLists.{NameLists}
+use Rattle.ot_base.specs.declared.place.Place.{Place}
+use Rattle.operation_defs.specs.declared.op.Op.TheVariants as ops
+use Rattle.flow_defs.specs.Coded.{Coded}
+use Rattle.machine_defs.specs.declared.flow.Edge.{Edge}
+use Rattle.machine_defs.specs.declared.flow.Role.TheVariants as roles
+use Rattle.machine_defs.specs.Program.{IsPoint}
+use Rattle.machine_defs.specs.MayReturn.{MayReturn}
+use Rattle.alternatives.specs.declared.point.Point.{Point}
+use Rattle.flow_defs.specs.Code.{number_of, point_at}
+use Rattle.flow_defs.specs.Owners.{is_unchecked}
+use Rattle.flow_defs.specs.Arrival.{insn_of_object}
+use Rattle.flow_defs.specs.Hints.{hint_of, is_restore, nearest, save_of, saves_before}
+use Rattle.flow_defs.specs.Program.{graph_of, program_of, returning_graph}
+use Rattle.flow_defs.specs.Roles.{role_by, role_of}
+use Rattle.object_law.specs.Returning.{StaysAtPoints}
+use Rattle.object_law.proofs.Numbers.{numbered, point_count}
+use Rattle.object_law.proofs.Edges.{after_points, arrive_points, edges_inside}
+use Rattle.object_law.proofs.Levels.{levels_are_enough}
+
+module _ (o : Coded) (lists : NameLists) where
+  -- edges lead to points
+  pub edges : (q : ℕ) (e : Edge) → IsPoint (program_of o lists) q → Contains ((program_of o lists).goes q) e → IsPoint (program_of o lists) e.to
+  unfolding program_of returning_graph graph_of
+  edges q e here c = edges_inside o (point_at o q) e c
+
+  -- control arrives at points
+  pub arrivals : (place : Place) (q : ℕ) → Contains ((program_of o lists).arrive place) q → IsPoint (program_of o lists) q
+  unfolding program_of returning_graph graph_of
+  arrivals place q c = (arrive_points o place q c).0
+
+  -- points follow points
+  pub followers : (q r : ℕ) → IsPoint (program_of o lists) q → Contains ((program_of o lists).after q) r → IsPoint (program_of o lists) r
+  unfolding program_of returning_graph graph_of
+  followers q r here c = after_points o (point_at o q) r c
+
+  -- a RESTORE means a point
+  pub saves : (q r : ℕ) → IsPoint (program_of o lists) q → (program_of o lists).save_of q ≡ Some r → IsPoint (program_of o lists) r
+  unfolding program_of returning_graph graph_of save_of
+  saves q r here is = by_hint (is_restore (hint_of o (point_at o q))) is
+    where
+      of_one : (one : Option Point) → option_and_then (number_of o) one ≡ Some r → r < point_count o
+      of_one None e = absurd (let k : ⊥ = cc in k)
+      of_one (Some point) e = (numbered o point r e).0
+
+      by_hint : (b : Bool) → cond b (option_and_then (number_of o) (nearest o (saves_before o (point_at o q)))) None ≡ Some r → r < point_count o
+      by_hint true e = of_one (nearest o (saves_before o (point_at o q))) e
+      by_hint false e = absurd (let k : ⊥ = cc in k)
+
+  -- points without owner are checked
+  pub unowned : (q : ℕ) → IsPoint (program_of o lists) q → (program_of o lists).owner q ≡ None → (program_of o lists).unchecked q ≡ false
+  unfolding program_of returning_graph graph_of
+  unowned q here none = ap (is_unchecked o.elf) none
+
+  -- a return that drops bytes is a return
+  pub returns : (q : ℕ) → IsPoint (program_of o lists) q → ((program_of o lists).insn q).op ≡ ops.RetImm → (program_of o lists).role q ≡ roles.Return
+  unfolding program_of returning_graph graph_of role_of
+  returns q here is = let insn = insn_of_object o (point_at o q) in ap (role_by o (point_at o q) insn) is
+
+  stays : StaysAtPoints (graph_of o lists)
+  unfolding graph_of
+  stays = record {
+    edges = λ q e here c. edges_inside o (point_at o q) e c;
+    entries = λ entry q c. (arrive_points o (point_at o entry).place q c).0;
+  }
+
+  -- the least set speaks of the graph alone, not of what is told of it afterwards
+  to_program : (q : ℕ) → MayReturn (graph_of o lists) q → MayReturn (program_of o lists) q
+  unfolding program_of returning_graph
+  to_program _ (MayReturn.returns q is) = MayReturn.returns q is
+  to_program _ (MayReturn.jumps_anywhere q is) = MayReturn.jumps_anywhere q is
+  to_program _ (MayReturn.jumps_out q sym is back) = MayReturn.jumps_out q sym is back
+  to_program _ (MayReturn.goes_on q e plain c from) = MayReturn.goes_on q e plain c (to_program e.to from)
+  to_program _ (MayReturn.branches q e other c from) = MayReturn.branches q e other c (to_program e.to from)
+  to_program _ (MayReturn.comes_back q r back alive c from) = MayReturn.comes_back q r back alive c (to_program r from)
+  to_program _ (MayReturn.comes_back_in q r entry first is alive arrives inside c from) = MayReturn.comes_back_in q r entry first is alive arrives (to_program first inside) c (to_program r from)
+
+  to_graph : (q : ℕ) → MayReturn (program_of o lists) q → MayReturn (graph_of o lists) q
+  unfolding program_of returning_graph
+  to_graph _ (MayReturn.returns q is) = MayReturn.returns q is
+  to_graph _ (MayReturn.jumps_anywhere q is) = MayReturn.jumps_anywhere q is
+  to_graph _ (MayReturn.jumps_out q sym is back) = MayReturn.jumps_out q sym is back
+  to_graph _ (MayReturn.goes_on q e plain c from) = MayReturn.goes_on q e plain c (to_graph e.to from)
+  to_graph _ (MayReturn.branches q e other c from) = MayReturn.branches q e other c (to_graph e.to from)
+  to_graph _ (MayReturn.comes_back q r back alive c from) = MayReturn.comes_back q r back alive c (to_graph r from)
+  to_graph _ (MayReturn.comes_back_in q r entry first is alive arrives inside c from) = MayReturn.comes_back_in q r entry first is alive arrives (to_graph first inside) c (to_graph r from)
+
+  pub may_return : (q : ℕ) → IsPoint (program_of o lists) q → ((program_of o lists).may_return q ≡ true) ↔ MayReturn (program_of o lists) q
+  unfolding program_of returning_graph
+  may_return q here =
+      let enough = levels_are_enough (graph_of o lists) stays q here in
+      (λ passes. to_program q (enough.0 passes), λ from. enough.1 (to_graph q from))

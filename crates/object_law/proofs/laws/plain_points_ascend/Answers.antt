@@ -1,5 +1,0 @@
-use Rattle.object_law.proofs.Ascend.{points_ascend}
-use Rattle.object_law.proofs.laws.plain_points_ascend.Goals as goal
-
-pub returns : goal.returns
-returns c = points_ascend

@@ -1,5 +1,0 @@
-use Rattle.object_law.proofs.Enters.{enters_sites}
-use Rattle.object_law.proofs.laws.program_enters_sites.Goals as goal
-
-pub returns : goal.returns
-returns c = enters_sites

@@ -1,4 +1,0 @@
-mod Bounds
-mod Finding
-mod Runs
-mod Sorting

@@ -1,0 +1,22 @@
+pub mod Numbers
+pub mod Found
+pub mod Starts
+pub mod Points
+pub mod Items
+pub mod ListedFields
+pub mod FieldItems
+pub mod Made
+pub mod SitePlaces
+pub mod Entries
+pub mod AllSites
+mod Order
+mod Runs
+mod Marked
+pub mod HintOrder
+pub mod Below
+pub mod Run
+pub mod Finding
+pub mod ListedHints
+pub mod Nearest
+pub mod Listing
+pub mod Meant

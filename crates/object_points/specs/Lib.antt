@@ -1,0 +1,13 @@
+pub mod Unchecked
+pub mod Starts
+pub mod CodeOwners
+pub mod Kept
+pub mod Owners
+pub mod Functions
+pub mod Plain
+pub mod Places
+pub mod Marks
+pub mod SaveOrder
+pub mod Hinted
+pub mod Meanings
+pub mod HintedCode

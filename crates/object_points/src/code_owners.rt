@@ -1,0 +1,111 @@
+//! Whose code the points of an object are.
+
+ghost use Rattle.std.specs.Prelude.{◌≡◌, ◌<◌, None, Some, IfOk, length};
+ghost use Rattle.elf_objects.specs.Elf.{Elf};
+ghost use Rattle.symbols_relocs.specs.Lists.{symbol_of};
+ghost use Rattle.symbols_relocs.specs.Parts.{owner_of as owner_of_function};
+ghost use Rattle.alternatives.specs.Points.{address_of_point};
+ghost use Rattle.flow_defs.specs.Code.{alternatives_of, point_at, points_of_object};
+ghost use Rattle.object_points.specs.CodeOwners.{AreItems, IsItemBy, TellsOwner, TellOwners};
+ghost use Rattle.object_points.specs.Unchecked.{AreUnchecked};
+
+use crate::owner::owner_of;
+use crate::unchecked::is_among;
+use object_code::Linked;
+use ot_base::{NoMemory, Place};
+use std::alloc::Global;
+use symbols_relocs::Index;
+
+/// Whose code that of a function is, or code of no function.
+#[derive(Clone, Copy)]
+pub(crate) struct CodeOwner {
+    /// The function, by its symbol.
+    pub(crate) function: Option<u32>,
+    /// Its owner, by its symbol.
+    pub(crate) owner: Option<u32>,
+    /// Whether what that owns isn't checked.
+    pub(crate) is_unchecked: bool,
+}
+
+/// Whose code that of the function with an index is.
+fn item_of(index: &Index<'_, '_>, unchecked: &[u32], function: u32) -> CodeOwner
+    requires unchecked { AreUnchecked index.now.elf unchecked.now }
+    requires inside { function < length index.now.functions }
+    ensures { IsItemBy index.now.elf (Some (symbol_of index.now.functions function)) (Some (owner_of_function index.now.elf (symbol_of index.now.functions function))) result }
+{
+    let owner = owner_of(index, function);
+    CodeOwner {
+        function: Some(index.functions()[function as usize].sym),
+        owner: Some(owner),
+        is_unchecked: is_among(unchecked, owner),
+    }
+}
+
+/// Whose code that of no function is.
+fn no_item() -> CodeOwner
+    ensures { (o : Elf) → IsItemBy o None None result }
+{
+    CodeOwner {
+        function: None,
+        owner: None,
+        is_unchecked: false,
+    }
+}
+
+/// Whose code that of each function is, in the order of their starts, and behind these whose code of no function is.
+pub(crate) fn list_items(
+    alloc: Global,
+    index: &Index<'_, '_>,
+    unchecked: &[u32],
+) -> Result<Vec<CodeOwner>, NoMemory>
+    requires { AreUnchecked index.now.elf unchecked.now }
+    ensures { IfOk result (λ items. AreItems index.now.elf index.now.functions items.items) }
+{
+    let count = index.functions().len();
+    let mut items = Vec::with_capacity(alloc, count + 1)?;
+    for function in 0..count {
+        items.push(item_of(index, unchecked, function as u32))?;
+    }
+    items.push(no_item())?;
+    Ok(items)
+}
+
+/// The index of the item of a place, found at once where it is the guessed one.
+fn number_of(index: &Index<'_, '_>, items: &[CodeOwner], place: Place, guess: u32) -> u32
+    requires { AreItems index.now.elf index.now.functions items.now }
+    ensures { TellsOwner index.now.elf items.now place result }
+{
+    match index.function_by_guess(place, guess) {
+        Some(function) => function,
+        None => index.functions().len() as u32,
+    }
+}
+
+/// Where the point with a number runs.
+pub(crate) fn address_of(linked: &Linked<'_, '_>, n: u32) -> Place
+    requires { n < length (points_of_object linked.now) }
+    ensures { result ≡ address_of_point (alternatives_of linked.now) (point_at linked.now n) }
+{
+    linked.sites().address_of(n)
+}
+
+/// For each point the index of its item: that of the place where it runs.
+pub(crate) fn list_numbers(
+    alloc: Global,
+    linked: &Linked<'_, '_>,
+    index: &Index<'_, '_>,
+    items: &[CodeOwner],
+) -> Result<Vec<u32>, NoMemory>
+    requires object { index.now.elf ≡ linked.now.elf }
+    requires items { AreItems index.now.elf index.now.functions items.now }
+    ensures { IfOk result (λ numbers. TellOwners linked.now items.now numbers.items) }
+{
+    let count = linked.sites().point_count();
+    let mut numbers = Vec::with_capacity(alloc, count as usize)?;
+    let mut number = 0;
+    for n in 0..count {
+        number = number_of(index, items, address_of(linked, n), number);
+        numbers.push(number)?;
+    }
+    Ok(numbers)
+}

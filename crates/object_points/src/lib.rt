@@ -1,0 +1,31 @@
+//! The points of an object's code by their numbers: their instructions, where they run, their functions, owners, sites and
+//! hints, and what the names of symbols say of them.
+#![tactic(auto)]
+
+mod code_owners;
+mod function_starts;
+mod hint_points;
+mod hinted;
+mod marks;
+mod meanings;
+mod owner;
+mod owner_table;
+mod place_map;
+mod place_set;
+mod places;
+mod saves;
+mod site;
+mod sites;
+mod symbol_names;
+mod text_sections;
+mod unchecked;
+
+pub use hint_points::HintPoints;
+pub use owner_table::OwnerTable;
+pub use place_map::PlaceMap;
+pub use place_set::PlaceSet;
+pub use places::PointPlaces;
+pub use sites::{is_into_site, list_sites, site_at};
+pub use state_defs::HintState;
+pub use symbol_names::{calls_fentry, never_returns};
+pub use text_sections::{list_texts, list_without_size};

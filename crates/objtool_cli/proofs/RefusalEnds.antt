@@ -1,0 +1,282 @@
+-- A command ends with a refusal exactly where a step refuses it, and prints the line of one that does.
+use Rattle.std.proofs.Common.{◌≡◌, ℕ, List, refl, sym, ap, ◌∙◌, subst, inl, inr}
+use Rattle.std.specs.Prelude.{◌≢◌, ◌⊎◌, Option, Some, Result, Ok, Err}
+use Rattle.ot_base.specs.NameLists.{NameLists}
+use Rattle.ot_base.specs.NamesFile.{IsNamesFile}
+use Rattle.ot_base.specs.declared.lists.ListsFault.TheVariants as lists_fault
+use Rattle.ot_files.specs.Content.{Content, reading}
+use Rattle.ot_files.specs.Output.{appending}
+use Rattle.ot_files.specs.declared.access.FileError.{FileError}
+use Rattle.ot_files.specs.declared.access.FileError.TheVariants as file_error
+use Rattle.cli_words.specs.Grammar.{Command, check, dump, unwind}
+use Rattle.cli_words.specs.declared.options.CheckOptions.{CheckOptions}
+use Rattle.elf_objects.specs.declared.TheConstants.{MAX_FILE_BYTES}
+use Rattle.x86_decode.specs.Decoding.{OneOutcome}
+use Rattle.command_base.specs.declared.reading.TheConstants.{MAX_IMAGE_BYTES}
+use Rattle.command_base.specs.declared.refusal.Refusal.TheVariants as refusal
+use Rattle.command_base.specs.declared.status.Status.{Status}
+use Rattle.command_base.specs.declared.status.Status.TheVariants.{Done, Warnings, Refused, Usage, FileFault, SinkFault, NoMemory}
+use Rattle.command_base.specs.declared.stop.CommandStop.{CommandStop}
+use Rattle.command_base.specs.declared.stop.CommandStop.TheVariants as stop
+use Rattle.command_base.specs.Dump.{Dumps, EndsDump, HoldsNoRows, HoldsRows, IsDumped, printed, read as file_read, stopped as dump_stopped, unread as file_unread}
+use Rattle.command_base.specs.Outside.{Outside, Output}
+use Rattle.command_base.specs.Printing.{Concludes, Prints, fails, fault_stays, runs_out, silent, tells, whole}
+use Rattle.command_base.specs.Reading.{MayRead, StopsAtRead}
+use Rattle.command_base.specs.Stop.{line_of, status_of, usage_at}
+use Rattle.command_base.specs.Unwind.{EndsUnwind, HasNoWalk, IsPlaced, IsUnwound, Unwinds, no_file, no_text, read as files_read, stopped as unwind_stopped, walked}
+use Rattle.command_base.proofs.ConcludeLemmas.{concluded_no_warnings, concluded_not_done, printed_done}
+use Rattle.command_base.proofs.DumpLaws.{no_rows_excluded, same_read, told_read}
+use Rattle.command_base.proofs.UnwindLaws.{walk_excluded}
+use Rattle.objtool_cli.specs.Checked.{IsRefusal, Refuses}
+use Rattle.objtool_cli.specs.Command.{Ends, EndsCheck, IsFaulty, PrintsWarnings, Stops, at_fault, checked, demoed, done, dumped, faulty, of_check, of_demo, refused, shown, stopped, unfinished, unread, unwound, unwritten, warned, without_names}
+use Rattle.objtool_cli.specs.Lists.{HasNames, IsListsStop, StopsAtNames, names_unread, no_lists, no_names}
+use Rattle.objtool_cli.specs.Refused.{IsRefused, IsRefusedOrFails, IsUnreadable, RefusesCheck, RefusesDump, RefusesUnwind, TellsRefusal, by_check, by_demo, by_dump, by_unwind, image_unread, input_refused, input_unread, list_faulty, list_unread, object_unread, tables_unread, without_rows, without_walk}
+use Rattle.objtool_cli.specs.Summary.{IsOrFails, demo_bytes, demo_title}
+use Rattle.objtool_cli.specs.Words.{Meaning, told_text}
+use Rattle.objtool_cli.specs.Writing.{StopsAtWrite}
+use Rattle.objtool_cli.proofs.AcceptsLemmas.{IsUnrefused, accepted_unrefused, broken_unrefused, ends_as_check, given_names, no_faulty_line, same_names, warns_breaks}
+use Rattle.objtool_cli.proofs.CheckEnds.{warnings_printed}
+use Rattle.objtool_cli.proofs.DemoEnds.{demo_sums_up}
+use Rattle.objtool_cli.proofs.ReadBackEnds.{rows_dumped, walk_printed}
+use Rattle.objtool_cli.proofs.SameCommand.{no_check_dump, no_check_unwind, no_dump_demo, no_fault_and_command, no_unwind_demo}
+use Rattle.objtool_cli.proofs.StatusLemmas.{done_no_warnings, warnings_not_done}
+use Rattle.objtool_cli.proofs.SummaryEnds.{sums_refused}
+use Rattle.objtool_cli.proofs.SummaryLemmas.{sums_uncheckable}
+use Rattle.objtool_cli.proofs.UsageLemmas.{only_faulty}
+
+-- ---- statuses
+
+done_not_refused : Done ≢ Refused
+done_not_refused e = cc
+
+warnings_not_refused : Warnings ≢ Refused
+warnings_not_refused e = cc
+
+usage_not_refused : Usage ≢ Refused
+usage_not_refused e = cc
+
+file_fault_not_refused : FileFault ≢ Refused
+file_fault_not_refused e = cc
+
+sink_fault_not_refused : SinkFault ≢ Refused
+sink_fault_not_refused e = cc
+
+memory_not_refused : NoMemory ≢ Refused
+memory_not_refused e = cc
+
+not_memory : (s : CommandStop) → status_of s ≡ Refused → s ≢ stop.NoMemory
+not_memory s e is = memory_not_refused (sym (ap status_of is) ∙ e)
+
+-- ---- what is printed where a command ends with a refusal
+
+whole_text : (end : Status) (text : List ℕ) (out out' : Output) (x : Status) → Prints end text out out' x → x ≡ Refused → (end ≡ Refused) × (out'.written ≡ appending out.written text)
+whole_text end text out out' x (whole at all) e = (sym at ∙ e, all)
+whole_text end text out out' FileFault (fault_stays prefix rose at) e = absurd (file_fault_not_refused e)
+whole_text end text out out' SinkFault (fails prefix rose other) e = absurd (sink_fault_not_refused e)
+whole_text end text out out' NoMemory (runs_out prefix) e = absurd (memory_not_refused e)
+
+whole_line : (s : CommandStop) (out out' : Output) (x : Status) → Concludes s out out' x → x ≡ Refused → (status_of s ≡ Refused) × (out'.written ≡ appending out.written (line_of s))
+whole_line s out out' x (tells other t) e = whole_text _ _ out out' x t e
+whole_line s out out' NoMemory (silent none same) e = absurd (memory_not_refused e)
+
+of_stop : (meaning : Meaning) (held : Content) (s : CommandStop) (out out' : Output) (x : Status) → Concludes s out out' x → x ≡ Refused → (status_of s ≡ Refused → IsRefused meaning held s) → TellsRefusal meaning held out.written out'.written
+of_stop meaning held s out out' x t e is =
+    let told = whole_line s out out' x t e in
+    record { stop = s; is = is told.0; printed = told.1 }
+
+-- ---- each step that refuses
+
+unreadable : (limit : ℕ) (s : CommandStop) (name : List ℕ) (held : Content) (before after : Outside) → before.content ≡ Some held → StopsAtRead limit name before after s → status_of s ≡ Refused → IsUnreadable limit held name s
+unreadable limit (stop.Usage usage) name held before after c h e = absurd h
+unreadable limit (stop.Missing told) name held before after c h e = (h.0, sym (told_read limit before.content held name _ c h.1))
+unreadable limit (stop.TooLong told at) name held before after c h e = (h.0, (h.1.0, sym (told_read limit before.content held name _ c h.1.1)))
+unreadable limit (stop.Refused why) name held before after c h e = absurd h
+unreadable limit (stop.FileFault told) name held before after c h e = absurd (file_fault_not_refused e)
+unreadable limit stop.NoMemory name held before after c h e = absurd (memory_not_refused e)
+
+-- what was read of a name is what it holds
+is_read : (limit : ℕ) (name bytes : List ℕ) (held : Content) (content : Option Content) → content ≡ Some held → MayRead limit content name (Ok bytes) → reading held name limit ≡ Ok bytes
+is_read limit name bytes held content c may = sym (told_read limit content held name _ c may)
+
+faulty_line : (s : CommandStop) (input : List ℕ) (options : CheckOptions) (names : Option (List ℕ)) (held : Content) (read file text : List ℕ) → reading held input MAX_FILE_BYTES ≡ Ok read → names ≡ Some file → reading held file MAX_FILE_BYTES ≡ Ok text → IsListsStop text s → status_of s ≡ Refused → RefusesCheck input options names held s
+faulty_line (stop.Refused (refusal.Lists (lists_fault.Line line why))) input options names held read file text is given said h e = list_faulty read file text is given said h
+faulty_line (stop.Refused (refusal.Lists lists_fault.NoMemory)) input options names held read file text is given said h e = absurd h
+faulty_line (stop.Refused (refusal.Malformed fault)) input options names held read file text is given said h e = absurd h
+faulty_line (stop.Refused (refusal.Orc fault)) input options names held read file text is given said h e = absurd h
+faulty_line (stop.Refused (refusal.Image fault)) input options names held read file text is given said h e = absurd h
+faulty_line (stop.Refused (refusal.NoText sec)) input options names held read file text is given said h e = absurd h
+faulty_line (stop.Refused (refusal.Unplaced fault)) input options names held read file text is given said h e = absurd h
+faulty_line (stop.Refused (refusal.Unlinked told)) input options names held read file text is given said h e = absurd h
+faulty_line (stop.Refused (refusal.Unflowed told)) input options names held read file text is given said h e = absurd h
+faulty_line (stop.Refused (refusal.HasOrc sec)) input options names held read file text is given said h e = absurd h
+faulty_line (stop.Refused (refusal.TooMany what count)) input options names held read file text is given said h e = absurd h
+faulty_line stop.NoMemory input options names held read file text is given said h e = absurd (memory_not_refused e)
+faulty_line (stop.Usage usage) input options names held read file text is given said h e = absurd h
+faulty_line (stop.Missing told) input options names held read file text is given said h e = absurd h
+faulty_line (stop.TooLong told limit) input options names held read file text is given said h e = absurd h
+faulty_line (stop.FileFault told) input options names held read file text is given said h e = absurd h
+
+names_refuse : (s : CommandStop) (input : List ℕ) (options : CheckOptions) (names : Option (List ℕ)) (held : Content) (read : List ℕ) (before after : Outside) → before.content ≡ Some held → reading held input MAX_FILE_BYTES ≡ Ok read → StopsAtNames names before after s → status_of s ≡ Refused → RefusesCheck input options names held s
+names_refuse s input options names held read before after c is (names_unread file given h) e = list_unread read file is given (unreadable MAX_FILE_BYTES s file held before after c h e)
+names_refuse s input options names held read before after c is (no_names file text given may h) e = faulty_line s input options names held read file text is given (is_read MAX_FILE_BYTES file text held before.content c may) h e
+names_refuse stop.NoMemory input options names held read before after c is no_lists e = absurd (memory_not_refused e)
+
+bytes_refuse : (s : CommandStop) (input : List ℕ) (options : CheckOptions) (names : Option (List ℕ)) (held : Content) (read : List ℕ) (lists : NameLists) → reading held input MAX_FILE_BYTES ≡ Ok read → HasNames (Some held) names lists → IsRefusal read lists options s → status_of s ≡ Refused → RefusesCheck input options names held s
+bytes_refuse (stop.Refused why) input options names held read lists is has h e = input_refused read lists is has h
+bytes_refuse stop.NoMemory input options names held read lists is has h e = absurd (memory_not_refused e)
+bytes_refuse (stop.Usage usage) input options names held read lists is has h e = absurd h
+bytes_refuse (stop.Missing told) input options names held read lists is has h e = absurd h
+bytes_refuse (stop.TooLong told limit) input options names held read lists is has h e = absurd h
+bytes_refuse (stop.FileFault told) input options names held read lists is has h e = absurd h
+
+write_not_refused : (s : CommandStop) (name : List ℕ) (before after : Outside) → StopsAtWrite name before after s → status_of s ≢ Refused
+write_not_refused (stop.FileFault told) name before after h e = file_fault_not_refused e
+write_not_refused stop.NoMemory name before after h e = memory_not_refused e
+write_not_refused (stop.Refused why) name before after h e = h
+write_not_refused (stop.Usage usage) name before after h e = h
+write_not_refused (stop.Missing told) name before after h e = h
+write_not_refused (stop.TooLong told limit) name before after h e = h
+
+check_refuses : (s : CommandStop) (input output : List ℕ) (options : CheckOptions) (names : Option (List ℕ)) (held : Content) (before after : Outside) → before.content ≡ Some held → Stops input output options names before after s → status_of s ≡ Refused → RefusesCheck input options names held s
+check_refuses s input output options names held before after c (unread h kept) e = input_unread (unreadable MAX_FILE_BYTES s input held before after c h e)
+check_refuses s input output options names held before after c (without_names read may h kept) e = names_refuse s input options names held read before after c (is_read MAX_FILE_BYTES input read held before.content c may) h e
+check_refuses s input output options names held before after c (refused read lists is h kept) e =
+    bytes_refuse s input options names held read lists (is_read MAX_FILE_BYTES input read held before.content c is.may) (subst (λ (content : Option Content). HasNames content names lists) c is.named) h e
+check_refuses s input output options names held before after c (unwritten table accepted h others) e = absurd (write_not_refused s output before after h e)
+
+-- ---- the line that is printed
+
+by_check_told : (meaning : Meaning) (input output : List ℕ) (options : CheckOptions) (names : Option (List ℕ)) (held : Content) (before after : Outside) (out out' : Output) (x : Status) → meaning ≡ Ok (check input output options names) → before.content ≡ Some held → EndsCheck input output options names before after out out' x → x ≡ Refused → TellsRefusal meaning held out.written out'.written
+by_check_told meaning input output options names held before after out out' Done n c (done is same) e = absurd (done_not_refused e)
+by_check_told meaning input output options names held before after out out' x n c (warned o warnings is kept t) e = absurd (warnings_not_refused (whole_text Warnings _ out out' x t e).0)
+by_check_told meaning input output options names held before after out out' x n c (stopped s h t) e =
+    of_stop meaning held s out out' x t e (λ at. by_check input output options names n (check_refuses s input output options names held before after c h at))
+
+rows_refuse : (meaning : Meaning) (file bytes : List ℕ) (held : Content) (out out' : Output) (x : Status) → ((s : CommandStop) → RefusesDump file held s → IsRefused meaning held s) → reading held file MAX_FILE_BYTES ≡ Ok bytes → Dumps bytes out out' x → x ≡ Refused → TellsRefusal meaning held out.written out'.written
+rows_refuse meaning file bytes held out out' x by is (printed o rows holds t) e = absurd (done_not_refused (whole_text Done _ out out' x t e).0)
+rows_refuse meaning file bytes held out out' x by is (dump_stopped s h t) e = of_stop meaning held s out out' x t e (λ at. by s (without_rows bytes is h (not_memory s at)))
+
+by_dump_told : (meaning : Meaning) (file : List ℕ) (held : Content) (before after : Outside) (out out' : Output) (x : Status) → ((s : CommandStop) → RefusesDump file held s → IsRefused meaning held s) → before.content ≡ Some held → EndsDump file before after out out' x → x ≡ Refused → TellsRefusal meaning held out.written out'.written
+by_dump_told meaning file held before after out out' x by c (file_unread s h t) e = of_stop meaning held s out out' x t e (λ at. by s (object_unread (unreadable MAX_FILE_BYTES s file held before after c h at)))
+by_dump_told meaning file held before after out out' x by c (file_read bytes may h) e = rows_refuse meaning file bytes held out out' x by (is_read MAX_FILE_BYTES file bytes held before.content c may) h e
+
+walk_refuses : (meaning : Meaning) (file image bytes text : List ℕ) (held : Content) (out out' : Output) (x : Status) → ((s : CommandStop) → RefusesUnwind file image held s → IsRefused meaning held s) → reading held file MAX_FILE_BYTES ≡ Ok bytes → reading held image MAX_IMAGE_BYTES ≡ Ok text → Unwinds bytes text out out' x → x ≡ Refused → TellsRefusal meaning held out.written out'.written
+walk_refuses meaning file image bytes text held out out' x by is said (walked stack o rows frames s placed walks t) e = absurd (done_not_refused (whole_text Done _ out out' x t e).0)
+walk_refuses meaning file image bytes text held out out' x by is said (unwind_stopped s h t) e = of_stop meaning held s out out' x t e (λ at. by s (without_walk bytes text is said h (not_memory s at)))
+
+by_unwind_told : (meaning : Meaning) (file image : List ℕ) (held : Content) (before after : Outside) (out out' : Output) (x : Status) → ((s : CommandStop) → RefusesUnwind file image held s → IsRefused meaning held s) → before.content ≡ Some held → EndsUnwind file image before after out out' x → x ≡ Refused → TellsRefusal meaning held out.written out'.written
+by_unwind_told meaning file image held before after out out' x by c (no_file s h t) e = of_stop meaning held s out out' x t e (λ at. by s (tables_unread (unreadable MAX_FILE_BYTES s file held before after c h at)))
+by_unwind_told meaning file image held before after out out' x by c (no_text bytes s may h t) e =
+    of_stop meaning held s out out' x t e (λ at. by s (image_unread bytes (is_read MAX_FILE_BYTES file bytes held before.content c may) (unreadable MAX_IMAGE_BYTES s image held before after c h at)))
+by_unwind_told meaning file image held before after out out' x by c (files_read bytes text may may_text h) e =
+    walk_refuses meaning file image bytes text held out out' x by (is_read MAX_FILE_BYTES file bytes held before.content c may) (is_read MAX_IMAGE_BYTES image text held before.content c may_text) h e
+
+pub refusal_told : (meaning : Meaning) (held : Content) (before after : Outside) (out out' : Output) (x : Status) → Ends meaning before after out out' x → x ≡ Refused → before.content ≡ Some held → TellsRefusal meaning held out.written out'.written
+refusal_told meaning held before after out out' x (faulty word kind is same t) e c = absurd (usage_not_refused (whole_line (stop.Usage (usage_at word kind)) out out' x t e).0)
+refusal_told meaning held before after out out' x (unfinished same t) e c = absurd (memory_not_refused (whole_line stop.NoMemory out out' x t e).0)
+refusal_told meaning held before after out out' x (shown command is shows same t) e c = absurd (done_not_refused (whole_text Done (told_text command) out out' x t e).0)
+refusal_told meaning held before after out out' x (demoed n is same h) e c =
+    let told = sums_refused _ _ out out' x h e in
+    record { stop = stop.Refused told.refusal; is = by_demo n is told.uncheckable; printed = told.printed }
+refusal_told meaning held before after out out' x (dumped file is h kept) e c = by_dump_told meaning file held before after out out' x (λ s why. by_dump file is why) c h e
+refusal_told meaning held before after out out' x (unwound file image is h kept) e c = by_unwind_told meaning file image held before after out out' x (λ s why. by_unwind file image is why) c h e
+refusal_told meaning held before after out out' x (checked i o os ns is h) e c = by_check_told meaning i o os ns held before after out out' x is c h e
+
+-- ---- what is refused isn't done, nor warned of
+
+readable : (limit : ℕ) (s : CommandStop) (held : Content) (name bytes : List ℕ) → IsUnreadable limit held name s → reading held name limit ≡ Ok bytes → ⊥
+readable limit (stop.Missing told) held name bytes h is = let u : ◌≡◌ {A = Result (List ℕ) FileError} (Err file_error.Missing) (Ok bytes) = sym h.1 ∙ is in cc
+readable limit (stop.TooLong told at) held name bytes h is = let u : ◌≡◌ {A = Result (List ℕ) FileError} (Err (file_error.TooLong limit)) (Ok bytes) = sym h.1.1 ∙ is in cc
+readable limit (stop.Usage usage) held name bytes h is = h
+readable limit (stop.Refused why) held name bytes h is = h
+readable limit (stop.FileFault told) held name bytes h is = h
+readable limit stop.NoMemory held name bytes h is = h
+
+one_text : (limit : ℕ) (held : Content) (name a b : List ℕ) → reading held name limit ≡ Ok a → reading held name limit ≡ Ok b → a ≡ b
+one_text limit held name a b h k = same_read a b (sym h ∙ k)
+
+unrefused : (s : CommandStop) (input : List ℕ) (options : CheckOptions) (names : Option (List ℕ)) (held : Content) (read : List ℕ) (lists : NameLists) → reading held input MAX_FILE_BYTES ≡ Ok read → HasNames (Some held) names lists → IsUnrefused read lists options → RefusesCheck input options names held s → ⊥
+unrefused s input options names held read lists is has never (input_unread h) = readable MAX_FILE_BYTES s held input read h is
+unrefused s input options names held read lists is has never (list_unread other file was given h) =
+    let names_are = given_names held names file lists given has in
+    readable MAX_FILE_BYTES s held file names_are.text h (sym names_are.may)
+unrefused s input options names held read lists is has never (list_faulty other file text was given said fault) =
+    let names_are = given_names held names file lists given has in
+    no_faulty_line text _ _ (subst IsNamesFile (one_text MAX_FILE_BYTES held file names_are.text text (sym names_are.may) said) names_are.right) fault
+unrefused s input options names held read lists is has never (input_refused {refusal = told} other others was had h) =
+    never told (subst (λ (l : NameLists). Refuses read l options told) (same_names held names others lists had has)
+    (subst (λ (b : List ℕ). Refuses b others options told) (one_text MAX_FILE_BYTES held input other read was is) h))
+
+check_not_done : OneOutcome → (s : CommandStop) (input output : List ℕ) (options : CheckOptions) (names : Option (List ℕ)) (held : Content) (before after : Outside) (out out' : Output) (x : Status) → before.content ≡ Some held → RefusesCheck input options names held s → EndsCheck input output options names before after out out' x → x ≢ Done
+check_not_done one s input output options names held before after out out' Done c why (done d same) e =
+    unrefused s input options names held d.accepted.read d.accepted.lists (is_read MAX_FILE_BYTES input d.accepted.read held before.content c d.accepted.is_read.may) (subst (λ (content : Option Content). HasNames content names d.accepted.lists) c d.accepted.is_read.named)
+    (accepted_unrefused one d.accepted.read d.table d.accepted.lists options d.accepted.accepts) why
+check_not_done one s input output options names held before after out out' x c why (warned o warnings is kept t) e = warnings_not_done (printed_done Warnings _ out out' x t e)
+check_not_done one s input output options names held before after out out' x c why (stopped told h t) e = concluded_not_done told out out' x t e
+
+check_not_warned : OneOutcome → (s : CommandStop) (input output : List ℕ) (options : CheckOptions) (names : Option (List ℕ)) (held : Content) (before after : Outside) (out out' : Output) (x : Status) → before.content ≡ Some held → RefusesCheck input options names held s → EndsCheck input output options names before after out out' x → x ≢ Warnings
+check_not_warned one s input output options names held before after out out' Done c why (done d same) e = done_no_warnings e
+check_not_warned one s input output options names held before after out out' x c why (warned o warnings is kept t) e =
+    unrefused s input options names held is.read is.lists (is_read MAX_FILE_BYTES input is.read held before.content c is.is_read.may) (subst (λ (content : Option Content). HasNames content names is.lists) c is.is_read.named)
+    (broken_unrefused one is.read is.lists options (warns_breaks is.read is.lists options o warnings is.warns)) why
+check_not_warned one s input output options names held before after out out' x c why (stopped told h t) e = concluded_no_warnings told out out' x t e
+
+dump_not_done : (s : CommandStop) (file : List ℕ) (held : Content) (content : Option Content) (before after : Option (List ℕ)) → content ≡ Some held → RefusesDump file held s → IsDumped file content before after → ⊥
+dump_not_done s file held content before after c (object_unread h) d = readable MAX_FILE_BYTES s held file d.bytes h (is_read MAX_FILE_BYTES file d.bytes held content c d.may)
+dump_not_done s file held content before after c (without_rows bytes is h other) d =
+    other (no_rows_excluded bytes d.object d.rows s (subst (λ (b : List ℕ). HoldsRows b d.object d.rows) (one_text MAX_FILE_BYTES held file d.bytes bytes (is_read MAX_FILE_BYTES file d.bytes held content c d.may) is) d.held) h)
+
+unwind_not_done : (s : CommandStop) (file image : List ℕ) (held : Content) (content : Option Content) (before after : Option (List ℕ)) → content ≡ Some held → RefusesUnwind file image held s → IsUnwound file image content before after → ⊥
+unwind_not_done s file image held content before after c (tables_unread h) d = readable MAX_FILE_BYTES s held file d.bytes h (is_read MAX_FILE_BYTES file d.bytes held content c d.may)
+unwind_not_done s file image held content before after c (image_unread bytes is h) d = readable MAX_IMAGE_BYTES s held image d.text h (is_read MAX_IMAGE_BYTES image d.text held content c d.may_text)
+unwind_not_done s file image held content before after c (without_walk bytes text is said h other) d =
+    let placed = subst (λ (t : List ℕ). IsPlaced bytes t d.stack d.object d.rows) (one_text MAX_IMAGE_BYTES held image d.text text (is_read MAX_IMAGE_BYTES image d.text held content c d.may_text) said)
+    (subst (λ (b : List ℕ). IsPlaced b d.text d.stack d.object d.rows) (one_text MAX_FILE_BYTES held file d.bytes bytes (is_read MAX_FILE_BYTES file d.bytes held content c d.may) is) d.placed) in
+    other (walk_excluded bytes text d.stack d.object d.rows s placed h)
+
+dump_not_warned : (meaning : Meaning) (file : List ℕ) (content : Option Content) (before after : Option (List ℕ)) → meaning ≡ Ok (dump file) → PrintsWarnings meaning content before after → ⊥
+dump_not_warned meaning file content before after n (of_check i o os ns elf warnings is w p) = no_check_dump meaning i o os ns file is n
+dump_not_warned meaning file content before after n (of_demo k is p) = no_dump_demo meaning file k n is
+
+unwind_not_warned : (meaning : Meaning) (file image : List ℕ) (content : Option Content) (before after : Option (List ℕ)) → meaning ≡ Ok (unwind file image) → PrintsWarnings meaning content before after → ⊥
+unwind_not_warned meaning file image content before after n (of_check i o os ns elf warnings is w p) = no_check_unwind meaning i o os ns file image is n
+unwind_not_warned meaning file image content before after n (of_demo k is p) = no_unwind_demo meaning file image k n is
+
+not_faulty : (meaning : Meaning) (command : Command) → meaning ≡ Ok command → IsFaulty meaning → ⊥
+not_faulty meaning command n (at_fault word kind is) = no_fault_and_command meaning word kind command is n
+
+-- ---- what is left
+
+left : (x : Status) → x ≢ Done → x ≢ Warnings → x ≢ Usage → IsRefusedOrFails x
+left Done d w u = absurd (d refl)
+left Warnings d w u = absurd (w refl)
+left Refused d w u = inl refl
+left Usage d w u = absurd (u refl)
+left FileFault d w u = inr (inl refl)
+left SinkFault d w u = inr (inr (inl refl))
+left NoMemory d w u = inr (inr (inr refl))
+
+demo_left : (x : Status) → IsOrFails Refused x → IsRefusedOrFails x
+demo_left x (inl e) = inl e
+demo_left x (inr (inl e)) = inr (inr (inl e))
+demo_left x (inr (inr e)) = inr (inr (inr e))
+
+pub refusal_answered : OneOutcome → (meaning : Meaning) (held : Content) (before after : Outside) (out out' : Output) (x : Status) (s : CommandStop) → Ends meaning before after out out' x → before.content ≡ Some held → IsRefused meaning held s → IsRefusedOrFails x
+refusal_answered one meaning held before after out out' x s ends c (by_check i o os ns n why) =
+    let used : x ≢ Usage = λ u. not_faulty meaning _ n (only_faulty meaning before after out out' x ends u) in
+    elim (ends_as_check meaning i o os ns before after out out' x n ends) [
+      | inl h ↦ left x (check_not_done one s i o os ns held before after out out' x c why h) (check_not_warned one s i o os ns held before after out out' x c why h) used
+      | inr none ↦ inr (inr (inr none))
+    ]
+refusal_answered one meaning held before after out out' x s ends c (by_dump file n why) =
+    left x
+    (λ e. dump_not_done s file held before.content out.written out'.written c why (rows_dumped meaning before after out out' x file ends e n))
+    (λ e. dump_not_warned meaning file before.content out.written out'.written n (warnings_printed meaning before after out out' x ends e))
+    (λ e. not_faulty meaning _ n (only_faulty meaning before after out out' x ends e))
+refusal_answered one meaning held before after out out' x s ends c (by_unwind file image n why) =
+    left x
+    (λ e. unwind_not_done s file image held before.content out.written out'.written c why (walk_printed meaning before after out out' x file image ends e n))
+    (λ e. unwind_not_warned meaning file image before.content out.written out'.written n (warnings_printed meaning before after out out' x ends e))
+    (λ e. not_faulty meaning _ n (only_faulty meaning before after out out' x ends e))
+refusal_answered one meaning held before after out out' x s ends c (by_demo n is why) =
+    demo_left x (sums_uncheckable one (demo_title n) (demo_bytes n) _ out out' x (demo_sums_up meaning before after out out' x n ends is) why)

@@ -1,0 +1,106 @@
+-- Which commands are refused on files that hold this, and why: what the first step finds that fails, in the order of the steps.
+-- Faults of files and of the output, and want of memory, are no refusals.
+use Rattle.std.specs.Prelude.{◌≡◌, ◌≢◌, ◌⊎◌, ℕ, List, Option, Some, Ok, Err}
+use Rattle.ot_base.specs.NameLists.{NameLists}
+use Rattle.ot_base.specs.NamesFile.{IsFirstFault}
+use Rattle.ot_base.specs.declared.lists.ListsFault.TheVariants.{Line}
+use Rattle.ot_base.specs.declared.lists.ListsWhy.{ListsWhy}
+use Rattle.ot_files.specs.Content.{Content, reading}
+use Rattle.ot_files.specs.Output.{appending}
+use Rattle.ot_files.specs.declared.access.FileError.TheVariants as file
+use Rattle.cli_words.specs.Grammar.{check, demo, dump, unwind}
+use Rattle.cli_words.specs.declared.options.CheckOptions.{CheckOptions}
+use Rattle.elf_objects.specs.declared.TheConstants.{MAX_FILE_BYTES}
+use Rattle.command_base.specs.declared.reading.TheConstants.{MAX_IMAGE_BYTES}
+use Rattle.command_base.specs.declared.refusal.Refusal.{Refusal}
+use Rattle.command_base.specs.declared.refusal.Refusal.TheVariants.{Lists}
+use Rattle.command_base.specs.declared.status.Status.{Status}
+use Rattle.command_base.specs.declared.status.Status.TheVariants as status
+use Rattle.command_base.specs.declared.stop.CommandStop.{CommandStop}
+use Rattle.command_base.specs.declared.stop.CommandStop.TheVariants.{Missing, TooLong, Refused, NoMemory}
+use Rattle.command_base.specs.Dump.{HoldsNoRows}
+use Rattle.command_base.specs.Stop.{line_of}
+use Rattle.command_base.specs.Unwind.{HasNoWalk}
+use Rattle.objtool_cli.specs.Checked.{IsUncheckable, Refuses}
+use Rattle.objtool_cli.specs.Lists.{HasNames}
+use Rattle.objtool_cli.specs.Summary.{demo_bytes, no_options}
+use Rattle.objtool_cli.specs.Words.{Meaning}
+
+-- the file of this name isn't there, or is longer than the limit
+abbrev pub IsUnreadable : ℕ → Content → List ℕ → CommandStop → Type 0
+IsUnreadable limit held name (Missing told) = (told.now ≡ name) × (reading held name limit ≡ Err file.Missing)
+IsUnreadable limit held name (TooLong told at) = (told.now ≡ name) × ((at ≡ limit) × (reading held name limit ≡ Err (file.TooLong limit)))
+IsUnreadable limit held name _ = ⊥
+
+-- `check IN OUT`: IN is read; then the names file, where one is given, and its lines; then the bytes of IN are parsed, their code
+-- is read and checked, and the tables are made of what breaks no rule.
+pub data RefusesCheck (input : List ℕ) (options : CheckOptions) (names : Option (List ℕ)) (held : Content) : CommandStop → Type 0 where
+  input_unread : {stop : CommandStop} → IsUnreadable MAX_FILE_BYTES held input stop → RefusesCheck input options names held stop
+  list_unread :
+      {stop : CommandStop} (read file : List ℕ)
+      → reading held input MAX_FILE_BYTES ≡ Ok read
+      → names ≡ Some file
+      → IsUnreadable MAX_FILE_BYTES held file stop
+      → RefusesCheck input options names held stop
+  list_faulty :
+      {line : ℕ} {why : ListsWhy} (read file text : List ℕ)
+      → reading held input MAX_FILE_BYTES ≡ Ok read
+      → names ≡ Some file
+      → reading held file MAX_FILE_BYTES ≡ Ok text
+      → IsFirstFault text line why
+      → RefusesCheck input options names held (Refused (Lists (Line line why)))
+  input_refused :
+      {refusal : Refusal} (read : List ℕ) (lists : NameLists)
+      → reading held input MAX_FILE_BYTES ≡ Ok read
+      → HasNames (Some held) names lists
+      → Refuses read lists options refusal
+      → RefusesCheck input options names held (Refused refusal)
+
+-- `dump FILE`: FILE is read and parsed, and then its ORC sections are.
+pub data RefusesDump (file : List ℕ) (held : Content) : CommandStop → Type 0 where
+  object_unread : {stop : CommandStop} → IsUnreadable MAX_FILE_BYTES held file stop → RefusesDump file held stop
+  without_rows :
+      {stop : CommandStop} (bytes : List ℕ)
+      → reading held file MAX_FILE_BYTES ≡ Ok bytes
+      → HoldsNoRows bytes stop
+      → stop ≢ NoMemory
+      → RefusesDump file held stop
+
+-- `unwind FILE IMAGE`: FILE is read, and then IMAGE; the lines of IMAGE are parsed, and the rows of FILE; and the rows are placed as
+-- IMAGE says.
+pub data RefusesUnwind (file image : List ℕ) (held : Content) : CommandStop → Type 0 where
+  tables_unread : {stop : CommandStop} → IsUnreadable MAX_FILE_BYTES held file stop → RefusesUnwind file image held stop
+  image_unread :
+      {stop : CommandStop} (bytes : List ℕ)
+      → reading held file MAX_FILE_BYTES ≡ Ok bytes
+      → IsUnreadable MAX_IMAGE_BYTES held image stop
+      → RefusesUnwind file image held stop
+  without_walk :
+      {stop : CommandStop} (bytes text : List ℕ)
+      → reading held file MAX_FILE_BYTES ≡ Ok bytes
+      → reading held image MAX_IMAGE_BYTES ≡ Ok text
+      → HasNoWalk bytes text stop
+      → stop ≢ NoMemory
+      → RefusesUnwind file image held stop
+
+-- The command that the words mean is refused, and this is why. `--help` and `--version` never are, and `demo N` only where the object
+-- that it makes can't be checked.
+pub data IsRefused (meaning : Meaning) (held : Content) : CommandStop → Type 0 where
+  by_check :
+      {stop : CommandStop} (input output : List ℕ) (options : CheckOptions) (names : Option (List ℕ))
+      → meaning ≡ Ok (check input output options names)
+      → RefusesCheck input options names held stop
+      → IsRefused meaning held stop
+  by_dump : {stop : CommandStop} (file : List ℕ) → meaning ≡ Ok (dump file) → RefusesDump file held stop → IsRefused meaning held stop
+  by_unwind : {stop : CommandStop} (file image : List ℕ) → meaning ≡ Ok (unwind file image) → RefusesUnwind file image held stop → IsRefused meaning held stop
+  by_demo : {refusal : Refusal} (n : ℕ) → meaning ≡ Ok (demo n) → IsUncheckable no_options.map (demo_bytes n) refusal → IsRefused meaning held (Refused refusal)
+
+-- the command is refused, and exactly the line that says why was printed
+pub record TellsRefusal (meaning : Meaning) (held : Content) (before after : Option (List ℕ)) : Type 0 where
+  pub stop : CommandStop
+  pub is : IsRefused meaning held stop
+  pub printed : after ≡ appending before (line_of stop)
+
+-- what is answered of a command that is refused: that, unless a file or the output fails or memory runs out
+abbrev pub IsRefusedOrFails : Status → Type 0
+IsRefusedOrFails s = (s ≡ status.Refused) ⊎ ((s ≡ status.FileFault) ⊎ ((s ≡ status.SinkFault) ⊎ (s ≡ status.NoMemory)))

@@ -1,4 +1,0 @@
-pub mod Allowances
-pub mod Access
-pub mod AccessRules
-pub mod Asked

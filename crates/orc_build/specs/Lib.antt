@@ -1,4 +1,0 @@
-pub mod Fit
-pub mod Checked
-pub mod Changes
-pub mod Ends

@@ -1,9 +1,0 @@
-pub mod LastRow
-pub mod Halving
-pub mod Counts
-pub mod Near
-pub mod BaseLemmas
-pub mod Sorting
-pub mod Layouts
-pub mod Values
-pub mod Placing

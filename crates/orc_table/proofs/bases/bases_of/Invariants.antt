@@ -1,6 +1,0 @@
-use Rattle.std.proofs.Common.{take}
-use Rattle.orc_table.specs.Bases.{HasBases}
-use Rattle.orc_table.proofs.bases.bases_of.Given as goal
-
-abbrev pub invariant-loop-range : goal.invariant-loop-range
-invariant-loop-range l = HasBases (take l.range-index l.ranges) l.bases

@@ -1,0 +1,29 @@
+use Rattle.std.proofs.Common.{◌+◌, ◌<◌, ◌^◌, arith, ap, sym, subst, ◌∙◌, get_or, length, rules}
+use Rattle.std.specs.Prelude.{IfSome}
+use Rattle.std.proofs.lemmas.List.{length_push}
+use Rattle.orc_walk.specs.Rows.{rows_of}
+use Rattle.orc_walk.proofs.BaseLemmas.{row_added, row_left_out, some_placed}
+use Rattle.orc_walk.proofs.bases.addressed.Goals as goal
+use Rattle.orc_walk.proofs.bases.addressed.Goals.{in-Some+in_ok-push, in_default}
+
+pub overflow_add-base : goal.overflow_add-base
+overflow_add-base c =
+    let placed = get_or c.args.rows.now c.loop-placed.placed-index some_placed in
+    let sum : c.in-Some.base.now + placed.place.off < 2 ^ 64 = subst (λ o. IfSome o (λ base. base + placed.place.off < 2 ^ 64)) (sym c.in-Some.ensures.value) (c.requires c.loop-placed.placed-index some_placed c.loop-placed-test.true) in
+    search rules
+
+pub loop-placed-preserved : goal.loop-placed-preserved
+loop-placed-preserved c =
+    let i = c.loop-placed.placed-index in
+    elim c.match-get.branch [
+      | in-Some+in_ok-push w ↦
+          let items = ap (λ v. v.items) w.items-is ∙ w.in_ok-push.ensures.items in
+          record {
+            all = (λ ranges has. ap rows_of items ∙ row_added ranges c.args.bases.now c.args.rows.now i w.in-Some.base.now some_placed c.loop-placed.items.items c.loop-placed-test.true has (c.loop-placed.invariant.all ranges has) (sym w.in-Some.ensures.value));
+            number = omega (arith, ap length items, length_push c.loop-placed.items.items (w.in-Some.base.now + (get_or c.args.rows.now i some_placed).place.off, (get_or c.args.rows.now i some_placed).row), c.loop-placed.invariant.number);
+          }
+      | in_default w ↦ record {
+        all = (λ ranges has. ap (λ v. rows_of v.items) w.items-is ∙ row_left_out ranges c.args.bases.now c.args.rows.now i some_placed c.loop-placed.items.items c.loop-placed-test.true has (c.loop-placed.invariant.all ranges has) (sym w.in_default.ensures.value));
+        number = omega (arith, ap (λ v. length v.items) w.items-is, c.loop-placed.invariant.number);
+      }
+    ]

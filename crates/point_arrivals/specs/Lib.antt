@@ -1,6 +1,0 @@
-pub mod Low
-pub mod Next
-pub mod Lists
-pub mod Marks
-pub mod Straight
-pub mod Kinds

@@ -1,0 +1,10 @@
+pub mod Displacements
+pub mod Jumps
+pub mod Low
+pub mod Next
+pub mod Lists
+pub mod Marks
+pub mod Straight
+pub mod Kinds
+pub mod Entries
+pub mod Tables

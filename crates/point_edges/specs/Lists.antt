@@ -1,0 +1,29 @@
+-- What is kept of an object's lists of places.
+use Rattle.std.specs.Prelude.{List, map}
+use Rattle.ot_base.specs.declared.place.Place.{Place}
+use Rattle.flow_defs.specs.Coded.{Coded}
+use Rattle.special_sections.specs.declared.entries.AltEntry.{AltEntry}
+use Rattle.special_sections.specs.declared.entries.BranchEntry.{BranchEntry}
+use Rattle.special_sections.specs.declared.entries.FixEntry.{FixEntry}
+use Rattle.special_sections.specs.Special.{special_of}
+use Rattle.object_points.specs.Places.{HaveSamePlaces, HaveSameTargets}
+
+-- where the originals of alternatives begin
+abbrev pub original_places_of : List AltEntry → List Place
+original_places_of entries = map (λ a. a.original) entries
+
+-- static branches by their code, and exception entries by their instruction
+abbrev pub branch_pairs_of : List BranchEntry → List (Place × Place)
+branch_pairs_of branches = map (λ b. (b.code, b.target)) branches
+
+abbrev pub fix_pairs_of : List FixEntry → List (Place × Place)
+fix_pairs_of fixes = map (λ f. (f.insn, f.fixup)) fixes
+
+-- the places of originals; those behind which code is reachable, and isn't; where static branches lead, and exception
+-- entries
+pub record AreListsOf (o : Coded) (originals reachable unreachable : List Place) (branches fixes : List (Place × Place)) : Type 0 where
+  pub original_places : HaveSamePlaces (original_places_of (special_of o.elf).alternatives) originals
+  pub reachable_places : HaveSamePlaces (special_of o.elf).after_reachable reachable
+  pub unreachable_places : HaveSamePlaces (special_of o.elf).after_unreachable unreachable
+  pub branch_targets : HaveSameTargets (branch_pairs_of (special_of o.elf).branches) branches
+  pub fix_targets : HaveSameTargets (fix_pairs_of (special_of o.elf).fixes) fixes

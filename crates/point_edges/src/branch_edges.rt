@@ -1,0 +1,100 @@
+//! The edges of direct and indirect jumps.
+
+ghost use Rattle.std.specs.Prelude.{◌≡◌, ◌<◌, ◌++◌, length, OnOk};
+ghost use Rattle.flow_defs.specs.Code.{point_at, points_of_object};
+ghost use Rattle.flow_defs.specs.Edges.{branch_edges_by, jump_edges, table_edges_by};
+ghost use Rattle.flow_defs.specs.Targets.{destination};
+ghost use Rattle.point_edges.specs.Jumps.{destination_way, way_by};
+
+use crate::Branch;
+use crate::flow_points::FlowPoints;
+use crate::same_owner::is_same_owner;
+use crate::way_edges::{push_entries, push_way};
+use alternatives::Point;
+use flow_defs::Destination;
+use machine_defs::{Edge, EdgeKind};
+use operation_defs::{Insn, Op};
+use ot_base::NoMemory;
+use std::alloc::Global;
+
+/// Pushes the edges of a direct jump to another point of its replacement.
+fn push_within(
+    points: &FlowPoints<'_, '_, '_>,
+    n: u32,
+    other: Point,
+    into: &mut Vec<Edge>,
+) -> Result<(), NoMemory>
+    requires { n < length (points_of_object points.now) }
+    ensures { OnOk result (into.new.items ≡ into.old.items ++ jump_edges points.now (point_at points.now n) (Destination.ToOwnPoint other)) }
+{
+    let places = points.places();
+    let Some(to) = places.number_of(other) else {
+        return Ok(());
+    };
+    if is_same_owner(places.owner(n), places.owner(to)) {
+        let kind = EdgeKind::Taken;
+        into.push(Edge { to, kind })?;
+    }
+    Ok(())
+}
+
+/// Pushes the edges of a direct jump by where it goes.
+fn push_jump(
+    alloc: Global,
+    points: &FlowPoints<'_, '_, '_>,
+    n: u32,
+    branch: Branch,
+    into: &mut Vec<Edge>,
+) -> Result<(), NoMemory>
+    requires point { n < length (points_of_object points.now) }
+    requires way { branch.way ≡ destination_way points.now (point_at points.now n) branch.to }
+    ensures { OnOk result (into.new.items ≡ into.old.items ++ jump_edges points.now (point_at points.now n) branch.to) }
+{
+    match branch.to {
+        Destination::ToPlace { place, .. } => {
+            push_way(alloc, points, n, place, branch.way, into)
+        }
+        Destination::ToOwnPoint(other) => push_within(points, n, other, into),
+        Destination::ToOutside(_)
+        | Destination::ToIndirectThunk
+        | Destination::ToReturnThunk
+        | Destination::ToNowhere => Ok(()),
+    }
+}
+
+/// Pushes the edges of the direct jump at a point, which goes there. Any other instruction has none.
+pub(crate) fn push_branch(
+    alloc: Global,
+    points: &FlowPoints<'_, '_, '_>,
+    n: u32,
+    insn: Insn,
+    branch: Branch,
+    into: &mut Vec<Edge>,
+) -> Result<(), NoMemory>
+    requires point { n < length (points_of_object points.now) }
+    requires to { branch.to ≡ destination points.now (point_at points.now n) insn }
+    requires way { branch.way ≡ way_by points.now (point_at points.now n) insn insn.op }
+    ensures { OnOk result (into.new.items ≡ into.old.items ++ branch_edges_by points.now (point_at points.now n) insn insn.op) }
+{
+    match insn.op {
+        Op::Jmp { .. } | Op::Jcc { .. } => push_jump(alloc, points, n, branch, into),
+        _ => Ok(()),
+    }
+}
+
+/// Pushes the edges of the indirect jump with this operation through its table. Any other operation has none.
+pub(crate) fn push_table(
+    alloc: Global,
+    points: &FlowPoints<'_, '_, '_>,
+    n: u32,
+    op: Op,
+    into: &mut Vec<Edge>,
+) -> Result<(), NoMemory>
+    requires { n < length (points_of_object points.now) }
+    ensures { OnOk result (into.new.items ≡ into.old.items ++ table_edges_by points.now (point_at points.now n) op) }
+{
+    if !matches!(op, Op::JmpInd { .. }) {
+        return Ok(());
+    }
+    push_entries(alloc, points, n, points.table(n), into)
+}

@@ -1,0 +1,84 @@
+//! What direct calls are.
+
+ghost use Rattle.std.specs.Prelude.{◌≡◌, ◌<◌, length, true};
+ghost use Rattle.alternatives.specs.Points.{is_point};
+ghost use Rattle.flow_defs.specs.Code.{alternatives_of, point_at, points_of_object, texts_of};
+ghost use Rattle.flow_defs.specs.Roles.{call_role as call_role_of, entry_call as entry_call_of, place_call as place_call_of, plain_number as plain_number_of};
+ghost use Rattle.flow_defs.specs.Targets.{destination};
+
+use alternatives::Point;
+use flow_defs::Destination;
+use machine_defs::Role;
+use object_points::PointPlaces;
+use operation_defs::Insn;
+use ot_base::Place;
+
+/// The number of the plain point at a place; 0 where none is there.
+fn plain_number(places: &PointPlaces<'_, '_, '_>, place: Place) -> u32
+    ensures { result ≡ plain_number_of places.now place }
+{
+    let variant = 0;
+    places.number_of(Point { place, variant }).unwrap_or(0)
+}
+
+/// A call of an entry, by a weak symbol or not.
+fn entry_call(entry: u32, weak: Option<u32>) -> Role
+    ensures { result ≡ entry_call_of entry weak }
+{
+    match weak {
+        Some(sym) => Role::CallEither { entry, sym },
+        None => Role::CallIn { entry },
+    }
+}
+
+/// A call of a place, by a weak symbol or not.
+fn place_call(places: &PointPlaces<'_, '_, '_>, place: Place, weak: Option<u32>) -> Role
+    ensures { result ≡ place_call_of places.now place weak }
+{
+    if !places.is_boundary(place) {
+        return Role::Plain;
+    }
+    if let Some(sym) = places.unchecked_start(place) {
+        return Role::CallOut { sym };
+    }
+    if places.is_entry(place) {
+        entry_call(plain_number(places, place), weak)
+    } else {
+        Role::Plain
+    }
+}
+
+/// A call of a point of the caller's own replacement.
+fn call_within(places: &PointPlaces<'_, '_, '_>, point: Point) -> Role
+    requires { is_point (texts_of places.now) (alternatives_of places.now) point ≡ true }
+    ensures { result ≡ call_role_of places.now (Destination.ToOwnPoint point) }
+{
+    let Some(n) = places.number_of(point) else {
+        return Role::Plain;
+    };
+    if places.is_padding(n) {
+        Role::Plain
+    } else {
+        place_call(places, point.place, None)
+    }
+}
+
+/// What the direct call with this instruction at a point is, which goes `to` there.
+pub(crate) fn call_role(
+    places: &PointPlaces<'_, '_, '_>,
+    n: u32,
+    insn: Insn,
+    to: Destination,
+) -> Role
+    requires point { n < length (points_of_object places.now) }
+    requires to { to ≡ destination places.now (point_at places.now n) insn }
+    ensures { result ≡ call_role_of places.now to }
+{
+    match to {
+        Destination::ToPlace { place, weak, .. } => place_call(places, place, weak),
+        Destination::ToOwnPoint(point) => call_within(places, point),
+        Destination::ToOutside(sym) => Role::CallOut { sym },
+        Destination::ToIndirectThunk => Role::CallAny,
+        Destination::ToReturnThunk | Destination::ToNowhere => Role::Plain,
+    }
+}

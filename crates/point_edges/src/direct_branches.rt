@@ -1,0 +1,73 @@
+//! Where the direct call or branch of a point goes, and how a jump gets there.
+
+ghost use Rattle.std.specs.Prelude.{◌≡◌, ◌<◌, length};
+ghost use Rattle.flow_defs.specs.Code.{point_at, points_of_object};
+ghost use Rattle.flow_defs.specs.Targets.{destination as destination_of};
+ghost use Rattle.flow_defs.specs.Ways.{jump_way as jump_way_of};
+ghost use Rattle.point_edges.specs.Jumps.{destination_way as destination_way_of, way_by as way_by_op};
+
+use crate::destinations::destination;
+use crate::place_ways::branch_way;
+use flow_defs::{Crossing, Destination, Way};
+use machine_defs::EdgeKind;
+use object_points::PointPlaces;
+use operation_defs::{Insn, Op};
+use ot_base::Place;
+
+/// Where the direct call or branch of a point goes.
+#[derive(Clone, Copy)]
+pub struct Branch {
+    /// Where it goes.
+    pub to: Destination,
+    /// How a direct jump gets to the place that it goes to; [`Way::Bad`] where it goes to no place of the text, or inside its
+    /// replacement, and where it is no direct jump.
+    pub way: Way,
+}
+
+/// The way of a jump from a point to a place.
+fn jump_way(places: &PointPlaces<'_, '_, '_>, n: u32, crossing: Crossing, place: Place) -> Way
+    requires { n < length (points_of_object places.now) }
+    ensures { result ≡ jump_way_of places.now (point_at places.now n) crossing place }
+{
+    branch_way(places, crossing, EdgeKind::Taken, places.owner(n), place)
+}
+
+/// The way of a jump from a point to where it goes.
+fn destination_way(places: &PointPlaces<'_, '_, '_>, n: u32, to: Destination) -> Way
+    requires { n < length (points_of_object places.now) }
+    ensures { result ≡ destination_way_of places.now (point_at places.now n) to }
+{
+    match to {
+        Destination::ToPlace {
+            place,
+            crossing,
+            ..
+        } => jump_way(places, n, crossing, place),
+        _ => Way::Bad,
+    }
+}
+
+/// The way of the instruction at a point, which goes `to` there.
+fn way_by(places: &PointPlaces<'_, '_, '_>, n: u32, insn: Insn, to: Destination) -> Way
+    requires point { n < length (points_of_object places.now) }
+    requires to { to ≡ destination_of places.now (point_at places.now n) insn }
+    ensures { result ≡ way_by_op places.now (point_at places.now n) insn insn.op }
+{
+    match insn.op {
+        Op::Jmp { .. } | Op::Jcc { .. } => destination_way(places, n, to),
+        _ => Way::Bad,
+    }
+}
+
+/// Where the direct call or branch with this instruction at a point goes, and how a jump gets there.
+pub fn branch_at(places: &PointPlaces<'_, '_, '_>, n: u32, insn: Insn) -> Branch
+    requires { n < length (points_of_object places.now) }
+    ensures to { result.to ≡ destination_of places.now (point_at places.now n) insn }
+    ensures way { result.way ≡ way_by_op places.now (point_at places.now n) insn insn.op }
+{
+    let to = destination(places, n, insn);
+    Branch {
+        to,
+        way: way_by(places, n, insn, to),
+    }
+}

@@ -1,0 +1,81 @@
+//! The points of an object with all that is looked up to find where they go: where control may stand that comes to a place,
+//! what follows a point, and the jump tables.
+
+ghost use Rattle.std.specs.Prelude.{◌≡◌, ◌<◌, IfOk, length};
+ghost use Rattle.flow_defs.specs.Code.{point_at, points_of_object};
+ghost use Rattle.flow_defs.specs.Roles.{table_of_point};
+ghost use Rattle.point_edges.specs.Tables.{table_start_of};
+
+use crate::PointArrivals;
+use jump_tables::JumpTables;
+use object_points::PointPlaces;
+use ot_base::{NoMemory, Place};
+use std::alloc::Global;
+use std::marker::Model;
+
+/// The points of an object with all that is looked up to find where they go. Contracts see it as the object.
+#[derive(Drop)]
+pub struct FlowPoints<'l, 'o, 'a> {
+    arrivals: PointArrivals<'l, 'o, 'a>,
+    tables: JumpTables,
+}
+
+impl<'l, 'o, 'a> Model for FlowPoints<'l, 'o, 'a> {
+    ghost use Rattle.flow_defs.specs.Coded.{Coded};
+    ghost use Rattle.point_edges.specs.Tables.{AreTablesOf};
+
+    ghost Value = { Coded };
+
+    ghost view = { λ p. p.arrivals };
+
+    ghost invariant = { λ p. AreTablesOf p.arrivals p.tables };
+}
+
+impl<'l, 'o, 'a> FlowPoints<'l, 'o, 'a> {
+    /// The points of an object, with its jump tables.
+    ///
+    /// # Errors
+    ///
+    /// [`NoMemory`] may come at any object.
+    pub fn build(
+        alloc: Global,
+        arrivals: PointArrivals<'l, 'o, 'a>,
+    ) -> Result<FlowPoints<'l, 'o, 'a>, NoMemory>
+        ensures { IfOk result (λ points. points ≡ arrivals.entry) }
+    {
+        let linked = arrivals.places().linked();
+        let tables = JumpTables::build(alloc, linked.index(), linked.texts())?;
+        Ok(FlowPoints { arrivals, tables })
+    }
+
+    /// Where control comes to.
+    pub fn arrivals(&self) -> &PointArrivals<'l, 'o, 'a>
+        ensures { result.now ≡ self.now }
+    {
+        &self.arrivals
+    }
+
+    /// The points and who owns them.
+    pub fn places(&self) -> &PointPlaces<'l, 'o, 'a>
+        ensures { result.now ≡ self.now }
+    {
+        self.arrivals.places()
+    }
+
+    /// The entries of the jump table of a point; none where it is no jump through a recognised table.
+    pub fn table(&self, n: u32) -> &[Place]
+        requires { n < length (points_of_object self.now) }
+        ensures { result.now ≡ table_of_point self.now (point_at self.now n) }
+    {
+        let places = self.places();
+        self.tables.of(places.point(n).place, places.owner(n))
+    }
+
+    /// Where the jump table of a point begins; None where it is no jump that names one.
+    pub fn table_start(&self, n: u32) -> Option<Place>
+        requires { n < length (points_of_object self.now) }
+        ensures { result ≡ table_start_of self.now (point_at self.now n) }
+    {
+        self.tables.start_of(self.places().point(n).place)
+    }
+}

@@ -1,0 +1,73 @@
+//! Calls into functions.
+
+ghost use Rattle.std.specs.Prelude.{◌≡◌, ◌<◌, length, true};
+ghost use Rattle.alternatives.specs.Points.{is_point};
+ghost use Rattle.flow_defs.specs.Arrival.{insn_of_object};
+ghost use Rattle.flow_defs.specs.Code.{alternatives_of, point_at, points_of_object, texts_of};
+ghost use Rattle.flow_defs.specs.Marks.{calls_into_function as calls_into_a_function, is_inner_call as is_inner_called, is_inner_call_by, is_inner_call_of};
+ghost use Rattle.flow_defs.specs.Targets.{destination};
+
+use crate::flow_points::FlowPoints;
+use alternatives::Point;
+use flow_defs::Destination;
+use object_points::PointPlaces;
+use operation_defs::{Insn, Op};
+use ot_base::Place;
+
+/// Whether a place is a boundary at which no checked function is entered, and no unchecked one starts.
+fn is_inner_place(places: &PointPlaces<'_, '_, '_>, place: Place) -> bool
+    ensures { result ≡ is_inner_call_of places.now place }
+{
+    places.is_boundary(place) && places.unchecked_start(place).is_none() && !places.is_entry(place)
+}
+
+/// Whether a call of a point of the caller's own replacement goes into a function: of its padding it always does.
+fn is_inner_point(places: &PointPlaces<'_, '_, '_>, point: Point) -> bool
+    requires { is_point (texts_of places.now) (alternatives_of places.now) point ≡ true }
+    ensures { result ≡ is_inner_called places.now (Destination.ToOwnPoint point) }
+{
+    let Some(n) = places.number_of(point) else {
+        return false;
+    };
+    places.is_padding(n) || is_inner_place(places, point.place)
+}
+
+/// Whether a call with this instruction at a point, which goes `to` there, goes into a function.
+fn is_inner_call(places: &PointPlaces<'_, '_, '_>, n: u32, insn: Insn, to: Destination) -> bool
+    requires point { n < length (points_of_object places.now) }
+    requires to { to ≡ destination places.now (point_at places.now n) insn }
+    ensures { result ≡ is_inner_called places.now (destination places.now (point_at places.now n) insn) }
+{
+    match to {
+        Destination::ToPlace { place, .. } => is_inner_place(places, place),
+        Destination::ToOwnPoint(point) => is_inner_point(places, point),
+        _ => false,
+    }
+}
+
+/// Whether the instruction at a point, which goes `to` there, is a call that goes into a function.
+fn is_inner_branch(places: &PointPlaces<'_, '_, '_>, n: u32, insn: Insn, to: Destination) -> bool
+    requires point { n < length (points_of_object places.now) }
+    requires to { to ≡ destination places.now (point_at places.now n) insn }
+    ensures { result ≡ is_inner_call_by places.now (point_at places.now n) insn insn.op }
+{
+    match insn.op {
+        Op::Call { .. } => is_inner_call(places, n, insn, to),
+        _ => false,
+    }
+}
+
+/// Whether a point with this instruction, which goes `to` there, calls into a function.
+pub(crate) fn calls_into_function(
+    points: &FlowPoints<'_, '_, '_>,
+    n: u32,
+    insn: Insn,
+    to: Destination,
+) -> bool
+    requires point { n < length (points_of_object points.now) }
+    requires insn { insn ≡ insn_of_object points.now (point_at points.now n) }
+    requires to { to ≡ destination points.now (point_at points.now n) insn }
+    ensures { result ≡ calls_into_a_function points.now (point_at points.now n) }
+{
+    is_inner_branch(points.places(), n, insn, to)
+}

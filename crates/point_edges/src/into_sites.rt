@@ -1,0 +1,114 @@
+//! Targets inside alternatives sites.
+
+ghost use Rattle.std.specs.Prelude.{◌≡◌, ◌<◌, [], ◌∷◌, if◌then◌else◌, length};
+ghost use Rattle.std.specs.List.{list_any};
+ghost use Rattle.alternatives.specs.Texts.{is_boundary as is_boundary_of};
+ghost use Rattle.flow_defs.specs.Code.{point_at, points_of_object, texts_of};
+ghost use Rattle.flow_defs.specs.Marks.{call_places, jump_places, listed_places, places_by};
+ghost use Rattle.flow_defs.specs.Sites.{is_into_site as comes_into_site};
+ghost use Rattle.flow_defs.specs.Targets.{destination};
+ghost use Rattle.flow_defs.specs.Ways.{is_along as is_along_of};
+ghost use Rattle.point_edges.specs.Jumps.{destination_way, way_by};
+
+use crate::flow_points::FlowPoints;
+use crate::{Branch, listed_way};
+use flow_defs::{Destination, Way};
+use machine_defs::EdgeKind;
+use object_points::{PointPlaces, is_into_site};
+use operation_defs::{Insn, Op};
+use ot_base::Place;
+
+/// Whether a way leads along an edge.
+fn is_along(way: Way) -> bool
+    ensures { result ≡ is_along_of way }
+{
+    matches!(way, Way::Along(_))
+}
+
+/// Whether a call from a point of a place comes into a site.
+fn place_enters(places: &PointPlaces<'_, '_, '_>, n: u32, place: Place) -> bool
+    requires { n < length (points_of_object places.now) }
+    ensures { result ≡ list_any (comes_into_site places.now (point_at places.now n)) (if is_boundary_of (texts_of places.now) place then place ∷ [] else []) }
+{
+    places.is_boundary(place) && is_into_site(places, n, place)
+}
+
+/// Whether a call from a point comes into a site.
+fn call_enters(places: &PointPlaces<'_, '_, '_>, n: u32, to: Destination) -> bool
+    requires { n < length (points_of_object places.now) }
+    ensures { result ≡ list_any (comes_into_site places.now (point_at places.now n)) (call_places places.now to) }
+{
+    match to {
+        Destination::ToPlace { place, .. } => place_enters(places, n, place),
+        _ => false,
+    }
+}
+
+/// Whether a jump that goes this way from a point to a place comes into a site.
+fn way_enters(places: &PointPlaces<'_, '_, '_>, n: u32, place: Place, way: Way) -> bool
+    requires { n < length (points_of_object places.now) }
+    ensures { result ≡ list_any (comes_into_site places.now (point_at places.now n)) (if is_along_of way then place ∷ [] else []) }
+{
+    is_along(way) && is_into_site(places, n, place)
+}
+
+/// Whether a jump from a point comes into a site, which goes there. One inside its replacement doesn't.
+fn jump_enters(places: &PointPlaces<'_, '_, '_>, n: u32, branch: Branch) -> bool
+    requires point { n < length (points_of_object places.now) }
+    requires way { branch.way ≡ destination_way places.now (point_at places.now n) branch.to }
+    ensures { result ≡ list_any (comes_into_site places.now (point_at places.now n)) (jump_places places.now (point_at places.now n) branch.to) }
+{
+    match branch.to {
+        Destination::ToPlace { place, .. } => way_enters(places, n, place, branch.way),
+        _ => false,
+    }
+}
+
+/// Whether the jump table of a point leads into a site.
+fn table_enters(places: &PointPlaces<'_, '_, '_>, n: u32, table: &[Place]) -> bool
+    requires { n < length (points_of_object places.now) }
+    ensures { result ≡ list_any (comes_into_site places.now (point_at places.now n)) table.now }
+{
+    table.iter().any(|place| is_into_site(places, n, *place))
+}
+
+/// Whether the call or jump with this instruction at a point, which goes there, comes into a site.
+pub(crate) fn branch_enters(
+    points: &FlowPoints<'_, '_, '_>,
+    n: u32,
+    insn: Insn,
+    branch: Branch,
+) -> bool
+    requires point { n < length (points_of_object points.now) }
+    requires to { branch.to ≡ destination points.now (point_at points.now n) insn }
+    requires way { branch.way ≡ way_by points.now (point_at points.now n) insn insn.op }
+    ensures { result ≡ list_any (comes_into_site points.now (point_at points.now n)) (places_by points.now (point_at points.now n) insn insn.op) }
+{
+    let places = points.places();
+    match insn.op {
+        Op::Call { .. } => call_enters(places, n, branch.to),
+        Op::Jmp { .. } | Op::Jcc { .. } => jump_enters(places, n, branch),
+        Op::JmpInd { .. } => table_enters(places, n, points.table(n)),
+        _ => false,
+    }
+}
+
+/// Whether one of some static branches or exception entries at a point leads into a site.
+pub(crate) fn listed_enter(
+    places: &PointPlaces<'_, '_, '_>,
+    kind: EdgeKind,
+    n: u32,
+    listed: &[Place],
+) -> bool
+    requires { n < length (points_of_object places.now) }
+    ensures { result ≡ list_any (comes_into_site places.now (point_at places.now n)) (listed_places places.now kind (point_at places.now n) listed.now) }
+{
+    if listed.is_empty() {
+        return false;
+    }
+    let owner = places.owner(n);
+    listed
+        .iter()
+        .filter(|place| is_along(listed_way(places, kind, owner, **place)))
+        .any(|place| is_into_site(places, n, *place))
+}

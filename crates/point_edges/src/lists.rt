@@ -1,0 +1,205 @@
+//! Points with what an object's lists say of their places.
+
+ghost use Rattle.std.specs.Prelude.{◌≡◌, ◌<◌, ◌||◌, length, All, IfOk};
+ghost use Rattle.flow_defs.specs.Arrival.{after as points_following, arrive as points_coming_to, decoded_insn, ends_at, insn_of_object, is_at_end as is_at_an_end, is_dead_end as is_a_dead_end, is_ud2 as is_an_ud2};
+ghost use Rattle.special_sections.specs.Special.{special_of};
+ghost use Rattle.flow_defs.specs.Code.{point_at, points_of_object};
+ghost use Rattle.flow_defs.specs.Edges.{fixups as fixups_of, is_some_place, static_targets as static_targets_of};
+ghost use Rattle.point_edges.specs.Marks.{is_listed as is_listed_point};
+ghost use Rattle.point_edges.specs.Straight.{goes_straight as goes_straight_on};
+
+use crate::arrive::arrive;
+use crate::behind::{after, end_of, is_at_end};
+use crate::iret::insn;
+use crate::low::points_are_low;
+use crate::pairs::{branch_pairs, fix_pairs, original_places};
+use crate::straight::goes_straight;
+use object_points::{PlaceMap, PlaceSet, PointPlaces};
+use operation_defs::{Insn, Op};
+use ot_base::{NoMemory, Place};
+use smallvec::SmallVec;
+use std::alloc::Global;
+use std::marker::Model;
+
+/// The points of an object with its lists of places. Contracts see it as the object.
+#[derive(Drop)]
+pub(crate) struct PointLists<'l, 'o, 'a> {
+    places: PointPlaces<'l, 'o, 'a>,
+    originals: PlaceSet,
+    reachable: PlaceSet,
+    unreachable: PlaceSet,
+    branches: PlaceMap,
+    fixes: PlaceMap,
+}
+
+impl<'l, 'o, 'a> Model for PointLists<'l, 'o, 'a> {
+    ghost use Rattle.flow_defs.specs.Coded.{Coded};
+    ghost use Rattle.point_edges.specs.Low.{AreLow};
+    ghost use Rattle.point_edges.specs.Lists.{AreListsOf};
+
+    ghost Value = { Coded };
+
+    ghost view = { λ a. a.places };
+
+    ghost invariant = { λ a. AreLow a.places × AreListsOf a.places a.originals a.reachable a.unreachable a.branches a.fixes };
+}
+
+impl<'l, 'o, 'a> PointLists<'l, 'o, 'a> {
+    /// The points of an object, with its lists.
+    pub(crate) fn build(
+        alloc: Global,
+        places: PointPlaces<'l, 'o, 'a>,
+    ) -> Result<PointLists<'l, 'o, 'a>, NoMemory>
+        ensures { IfOk result (λ lists. lists ≡ places.entry) }
+    {
+        points_are_low(places.linked());
+        let special = places.linked().special();
+        let originals = original_places(alloc, special.alternatives())?;
+        let originals = PlaceSet::build(alloc, originals.as_slice())?;
+        let reachable = PlaceSet::build(alloc, special.after_reachable())?;
+        let unreachable = PlaceSet::build(alloc, special.after_unreachable())?;
+        let branches = PlaceMap::build(alloc, branch_pairs(alloc, special.branches())?)?;
+        let fixes = PlaceMap::build(alloc, fix_pairs(alloc, special.fixes())?)?;
+        Ok(PointLists {
+            places,
+            originals,
+            reachable,
+            unreachable,
+            branches,
+            fixes,
+        })
+    }
+
+    /// The points.
+    pub(crate) fn places(&self) -> &PointPlaces<'l, 'o, 'a>
+        ensures { result.now ≡ self.now }
+    {
+        &self.places
+    }
+
+    /// The points at which control may stand that comes to a place: the plain point there, and where a site starts there
+    /// also the first point of each of its replacements.
+    pub(crate) fn arrive(&self, alloc: Global, place: Place) -> Result<SmallVec<u32, 4>, NoMemory>
+        ensures points { IfOk result (λ points. points.items ≡ points_coming_to self.now place) }
+        ensures known { IfOk result (λ points. All (λ q. q < length (points_of_object self.now)) points.items) }
+    {
+        arrive(alloc, &self.places, &self.originals, place, 0)
+    }
+
+    /// The points that follow a point, whatever it does: the next of its replacement, and else those to which control
+    /// comes behind the point, or behind its site.
+    pub(crate) fn after(&self, alloc: Global, n: u32) -> Result<SmallVec<u32, 4>, NoMemory>
+        requires { n < length (points_of_object self.now) }
+        ensures points { IfOk result (λ points. points.items ≡ points_following self.now (point_at self.now n)) }
+        ensures known { IfOk result (λ points. All (λ q. q < length (points_of_object self.now)) points.items) }
+    {
+        after(alloc, &self.places, &self.originals, n)
+    }
+
+    /// Whether nothing follows a point: behind it its section ends.
+    pub(crate) fn is_at_end(&self, n: u32) -> bool
+        requires { n < length (points_of_object self.now) }
+        ensures { result ≡ is_at_an_end self.now (point_at self.now n) }
+    {
+        is_at_end(&self.places, n)
+    }
+
+    /// Whether execution doesn't go on behind a point, unless a static branch stands there: a Ud2, or an instruction that
+    /// ends at a place of `.discard.unreachable`, where no place of `.discard.reachable` is that end. The padding behind a
+    /// replacement is always passed.
+    #[inline(always)]
+    pub(crate) fn is_dead_end(&self, n: u32) -> bool
+        requires { n < length (points_of_object self.now) }
+        ensures { result ≡ is_a_dead_end self.now (point_at self.now n) }
+    {
+        if !self.may_end(n) {
+            return false;
+        }
+        if self.places.is_padding(n) {
+            return false;
+        }
+        let end = end_of(&self.places, n);
+        !self.reachable.contains(end)
+    }
+
+    /// Whether a point is a Ud2, or its instruction ends at a place of `.discard.unreachable`.
+    #[inline(always)]
+    fn may_end(&self, n: u32) -> bool
+        requires { n < length (points_of_object self.now) }
+        ensures { result ≡ (is_an_ud2 (decoded_insn self.now (point_at self.now n)).op || ends_at self.now (point_at self.now n) (special_of self.now.elf).after_unreachable) }
+    {
+        if is_ud2(self.places.decoded_insn(n).op) {
+            return true;
+        }
+        let end = end_of(&self.places, n);
+        self.unreachable.contains(end)
+    }
+
+    /// The instruction of a point: as it is decoded, but for an IRET of a function that goes on right behind itself in
+    /// that function, which is an `IretNext`.
+    #[inline(always)]
+    pub(crate) fn insn(&self, alloc: Global, n: u32) -> Result<Insn, NoMemory>
+        requires { n < length (points_of_object self.now) }
+        ensures { IfOk result (λ insn. insn ≡ insn_of_object self.now (point_at self.now n)) }
+    {
+        insn(alloc, &self.places, &self.originals, n)
+    }
+
+    /// Where the static branches at a point lead, in the order of `__jump_table`; nowhere from padding.
+    #[inline(always)]
+    pub(crate) fn static_targets(&self, n: u32) -> &[Place]
+        requires { n < length (points_of_object self.now) }
+        ensures { result.now ≡ static_targets_of self.now (point_at self.now n) }
+    {
+        if self.places.is_padding(n) {
+            return &[];
+        }
+        self.branches.targets(self.places.point(n).place)
+    }
+
+    /// Where the exception entries at a point lead, in the order of `__ex_table`; nowhere from padding.
+    #[inline(always)]
+    pub(crate) fn fixups(&self, n: u32) -> &[Place]
+        requires { n < length (points_of_object self.now) }
+        ensures { result.now ≡ fixups_of self.now (point_at self.now n) }
+    {
+        if self.places.is_padding(n) {
+            return &[];
+        }
+        self.fixes.targets(self.places.point(n).place)
+    }
+
+    /// Whether anything leads from a point beside what its instruction says, or it is a dead end.
+    #[inline(always)]
+    pub(crate) fn is_listed(&self, n: u32) -> bool
+        requires { n < length (points_of_object self.now) }
+        ensures { result ≡ is_listed_point self.now (point_at self.now n) }
+    {
+        has_place(self.static_targets(n)) || has_place(self.fixups(n)) || self.is_dead_end(n)
+    }
+
+    /// Whether control goes straight on from a point, where no list says anything of it: it is plain, it neither calls,
+    /// jumps nor returns, no relocation changes a number of the stack there, and the point with the next number alone
+    /// follows it.
+    #[inline(always)]
+    pub(crate) fn goes_straight(&self, n: u32) -> bool
+        requires { n < length (points_of_object self.now) }
+        ensures { result ≡ goes_straight_on self.now n }
+    {
+        goes_straight(&self.places, &self.originals, n)
+    }
+}
+
+/// Whether there is a place among these.
+fn has_place(places: &[Place]) -> bool
+    ensures { result ≡ is_some_place places.now }
+{
+    !places.is_empty()
+}
+
+/// Whether an operation is a Ud2.
+fn is_ud2(op: Op) -> bool
+    ensures { result ≡ is_an_ud2 op }
+{
+    matches!(op, Op::Ud2)
+}

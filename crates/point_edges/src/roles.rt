@@ -1,0 +1,50 @@
+//! What a point is to its function.
+
+ghost use Rattle.std.specs.Prelude.{◌≡◌, ℕ, ◌<◌, length};
+ghost use Rattle.flow_defs.specs.Arrival.{insn_of_object};
+ghost use Rattle.flow_defs.specs.Code.{point_at, points_of_object};
+ghost use Rattle.flow_defs.specs.Roles.{role_by as role_by_op, role_of};
+ghost use Rattle.flow_defs.specs.Targets.{destination};
+ghost use Rattle.point_edges.specs.Jumps.{way_by};
+
+use crate::Branch;
+use crate::call_roles::call_role;
+use crate::flow_points::FlowPoints;
+use crate::jump_roles::{indirect_role, jump_role};
+use machine_defs::Role;
+use operation_defs::{Insn, Op};
+
+/// What a point with this instruction is to its function, where its direct call or branch goes there.
+fn role_by(points: &FlowPoints<'_, '_, '_>, n: u32, insn: Insn, branch: Branch) -> Role
+    requires point { n < length (points_of_object points.now) }
+    requires to { branch.to ≡ destination points.now (point_at points.now n) insn }
+    requires way { branch.way ≡ way_by points.now (point_at points.now n) insn insn.op }
+    ensures { result ≡ role_by_op points.now (point_at points.now n) insn insn.op }
+{
+    let places = points.places();
+    match insn.op {
+        Op::Call { .. } => call_role(places, n, insn, branch.to),
+        Op::CallInd => Role::CallAny,
+        Op::Jmp { .. } | Op::Jcc { .. } => jump_role(places, n, branch),
+        Op::JmpInd { .. } => indirect_role(points, n),
+        Op::Ret | Op::RetImm => Role::Return,
+        Op::Iret | Op::Switch => Role::Switch,
+        _ => Role::Plain,
+    }
+}
+
+/// What a point with this instruction, whose direct call or branch goes there, is to its function: whether it calls,
+/// leaves, or neither.
+pub fn role(points: &FlowPoints<'_, '_, '_>, n: u32, insn: Insn, branch: Branch) -> Role
+    requires point { n < length (points_of_object points.now) }
+    requires insn { insn ≡ insn_of_object points.now (point_at points.now n) }
+    requires to { branch.to ≡ destination points.now (point_at points.now n) insn }
+    requires way { branch.way ≡ way_by points.now (point_at points.now n) insn insn.op }
+    ensures value { result ≡ role_of points.now (point_at points.now n) }
+
+    // The entries that calls go to are points.
+    ensures known { (entry : ℕ) → result ≡ Role.CallIn entry → entry < length (points_of_object points.now) }
+    ensures known_by_weak { (entry sym : ℕ) → result ≡ Role.CallEither entry sym → entry < length (points_of_object points.now) }
+{
+    role_by(points, n, insn, branch)
+}

@@ -1,9 +1,0 @@
-mod Numbered
-mod Pushing
-mod Going
-mod EdgesWithin
-mod Inside
-mod Within
-mod Entries
-mod MarksWithin
-mod Parts

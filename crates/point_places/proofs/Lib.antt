@@ -1,5 +1,0 @@
-pub mod Numbers
-pub mod Found
-pub mod Starts
-pub mod Points
-pub mod Items

@@ -1,9 +1,0 @@
-use Rattle.std.proofs.Common.{◌∙◌}
-use Rattle.std.proofs.lemmas.List.Sorted.{searched}
-use Rattle.point_places.proofs.Found.{among_searched}
-use Rattle.point_places.proofs.unchecked.is_among.Goals as goal
-
-pub returns : goal.returns
-returns c =
-    c.is_ok.ensures.value
-    ∙ among_searched c.args.owners.now c.args.owner c.binary_search.result (searched c.args.owners.now c.args.owner c.binary_search.result c.binary_search.ensures.position c.requires)

@@ -1,4 +1,0 @@
-pub mod Unchecked
-pub mod Starts
-pub mod CodeOwners
-pub mod Kept

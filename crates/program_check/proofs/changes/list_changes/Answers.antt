@@ -1,0 +1,105 @@
+-- Point after point, with the rows in sites before it.
+use Rattle.std.proofs.Common.{◌≡◌, ◌<◌, ◌≤◌, ℕ, All, length, true, false, pos, List, [], get_or, drop, sym, ap, subst, ◌∙◌, arith}
+use Rattle.std.specs.Prelude.{slice_range}
+use Rattle.std.proofs.lemmas.List.{drop-map, length-map, take_rest}
+use Rattle.std.proofs.lemmas.List.Elements.{All-drop}
+use Rattle.ot_base.specs.declared.place.Place.{Place}
+use Rattle.ot_base.specs.declared.row.PlacedRow.{PlacedRow}
+use Rattle.ot_base.specs.Places.{is_before}
+use Rattle.machine_defs.specs.Rows.{placed, row_of_point}
+use Rattle.kept_states.specs.LevelStates.{at}
+use Rattle.program_check.specs.Changes.{add_all, after_row, row_in_site, rows_in_sites}
+use Rattle.program_check.proofs.Merging.{none_so_far, no_row, step, whole}
+use Rattle.program_check.proofs.Kept.{kept_is_point}
+use Rattle.program_check.proofs.SiteRows.{row_there, rows_of_range}
+use Rattle.program_check.proofs.changes.list_changes.Goals as goal
+use Rattle.program_check.proofs.changes.list_changes.Goals.{in-Some+in_ok-next+in_ok-push_row, in_default}
+
+none : PlacedRow
+none = record { place = record { sec = 0; off = 0 }; row = record { sp_offset = pos 0; bp_offset = pos 0; sp_reg = 0; bp_reg = 0; kind = 0; signal = false } }
+
+pub loop-n-init : goal.loop-n-init
+loop-n-init c = record {
+  inside = tt;
+  held = tt;
+  within = omega arith;
+  merged = λ p checked index rows. ([], none_so_far p (at c.args.kept.now) (rows_in_sites p (at c.args.kept.now) c.args.in_sites.now), c.new-rows.ensures.items);
+}
+
+pub loop-n-preserved : goal.loop-n-preserved
+loop-n-preserved c =
+    let points : List ℕ = c.args.in_sites.now in
+    let n : ℕ = c.loop-n.n in
+    let next : ℕ = c.loop-n.next in
+    let states = at c.args.kept.now in
+    elim c.match-plain_place.branch [
+      | in-Some+in_ok-next+in_ok-push_row w ↦
+          let rows_is = w.rows-is in
+          let next_is = w.next-is in
+          let held_is = w.held-is in
+          let end : ℕ = w.in_ok-next.next in
+          rw (rows_is, next_is, held_is) (record {
+            inside = w.in_ok-push_row.ensures.inside;
+            held = w.in_ok-push_row.ensures.held;
+            within = w.in_ok-next.ensures.within;
+            merged = λ p checked index rows.
+                let in_sites : List PlacedRow = rows_in_sites p states points in
+                let long : length in_sites ≡ length points = length-map points (row_in_site p states) in
+                let row = w.in-Some.ensures p checked.tells index checked.laid in
+                let h = c.loop-n.invariant.merged p checked index rows in
+                let place : w.in-Some.place ≡ p.place n = row.1 in
+                let added : PlacedRow = placed w.in-Some.place (row_of_point states n) in
+                let within : end ≤ length points = w.in_ok-next.ensures.within in
+                let r = step p states in_sites checked.ascending checked.laid checked.kept
+                (kept_is_point p c.args.kept.now checked.kept (checked.tells.count ∙ sym c.requires.points)) rows.ascend rows n next end none h.0 h.1
+                w.in_ok-next.ensures.behind (omega (arith, long, within))
+                (λ k l m. ap (λ (x : PlacedRow). is_before x.place (p.place n)) (row_there p states points k none (omega (arith, m, within))) ∙ subst (λ (z : Place). is_before (p.address (get_or points k 0)) z ≡ true) place (w.in_ok-next.ensures.before p checked.tells k 0 l m))
+                (λ l. let inside : end < length points = omega (arith, l, long) in ap (λ (x : PlacedRow). is_before x.place (p.place n)) (row_there p states points end none inside) ∙ subst (λ (z : Place). is_before (p.address (get_or points end 0)) z ≡ false) place (w.in_ok-next.ensures.other p checked.tells 0 inside))
+                (omega (arith, c.loop-n-test.true, c.points-n-end.ensures.count p checked.tells)) row.0 in (
+                  r.0,
+                  r.1,
+                  w.in_ok-push_row.ensures.pushed
+                      ∙ ap (λ (xs : List PlacedRow). after_row xs added) (w.in_ok-next.ensures.pushed p checked.tells)
+                      ∙ ap (λ (xs : List PlacedRow). after_row (add_all c.loop-n.rows.items xs) added) (sym (rows_of_range p states points next end))
+                      ∙ ap (λ (xs : List PlacedRow). after_row (add_all xs (slice_range in_sites next end)) added) h.2
+                      ∙ ap (λ (z : Place). after_row (add_all (add_all [] h.0) (slice_range in_sites next end)) (placed z (row_of_point states n))) place
+                      ∙ sym r.2,
+                );
+          })
+      | in_default w ↦
+          let rows_is = w.rows-is in
+          let next_is = w.next-is in
+          let held_is = w.held-is in
+          rw (rows_is, next_is, held_is) (record {
+            inside = c.loop-n.invariant.inside;
+            held = c.loop-n.invariant.held;
+            within = c.loop-n.invariant.within;
+            merged = λ p checked index rows.
+                let h = c.loop-n.invariant.merged p checked index rows in
+                (h.0, no_row p states (rows_in_sites p states points) n next h.0 h.1 (w.in_default.ensures p checked.tells index checked.laid), h.2);
+          })
+    ]
+
+pub push_all-requires-clause-more : goal.push_all-requires-clause-more
+push_all-requires-clause-more c =
+    let P : ℕ → Type 0 = λ q. q < length c.args.graph.now.parts.points.items in
+    subst (All P) (sym (take_rest c.args.in_sites.now c.loop-n.next)) (All-drop P c.loop-n.next c.args.in_sites.now c.requires.in_sites)
+
+pub returns : goal.returns
+returns c p checked index rows =
+    let points : List ℕ = c.args.in_sites.now in
+    let states = at c.args.kept.now in
+    let in_sites : List PlacedRow = rows_in_sites p states points in
+    let long : length in_sites ≡ length points = length-map points (row_in_site p states) in
+    let h = c.loop-n.invariant.merged p checked index rows in
+    let last : c.loop-n.n ≡ p.count = omega (arith, c.loop-n-test.false, c.points-n-end.ensures.count p checked.tells) in
+    let within : c.loop-n.next ≤ length points = c.loop-n.invariant.within in
+    let r = whole p states in_sites c.loop-n.n c.loop-n.next none h.0 rows.ascend last (omega (arith, within, long)) h.1 in (
+      r.0,
+      r.1,
+      c.in_ok-push_all.ensures p checked.tells
+          ∙ ap (λ (xs : List ℕ). add_all c.loop-n.rows.items (rows_in_sites p states xs)) (take_rest points c.loop-n.next)
+          ∙ ap (λ (xs : List PlacedRow). add_all c.loop-n.rows.items xs) (sym (drop-map (row_in_site p states) c.loop-n.next points))
+          ∙ ap (λ (xs : List PlacedRow). add_all xs (drop c.loop-n.next in_sites)) h.2
+          ∙ sym r.2,
+    )

@@ -1,3 +1,0 @@
-pub mod Program
-pub mod MayReturn
-pub mod IsProgram

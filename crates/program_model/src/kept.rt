@@ -1,0 +1,165 @@
+use crate::returning::{may_return, target_may_return};
+use crate::{ModelPoint, Program};
+use machine_defs::{Edge, EdgeKind};
+use operation_defs::Op;
+use stack_state::{initial, step};
+use state_defs::{HintState, State};
+use std::alloc::{AllocError, Global};
+
+/// The state that is kept at each point, by its number, where one is.
+pub fn kept_states(alloc: Global, p: &Program) -> Result<Vec<Option<State>>, AllocError> {
+    Ok(Kept::of(alloc, p)?.states)
+}
+
+/// What a checker keeps of a program: for each point whether a return may come from it on, and the
+/// state before it, by levels.
+#[derive(Drop)]
+pub struct Kept {
+    /// By point, whether a return may come from it on.
+    pub may_return: Vec<bool>,
+    /// By point, its state, where it is kept.
+    pub states: Vec<Option<State>>,
+}
+
+/// What a state is brought along an edge as: to a fixup the state before the instruction, else the one
+/// after it; to another function none.
+fn brought_along(state: State, op: Op, kind: EdgeKind) -> Option<State> {
+    match kind {
+        EdgeKind::Next | EdgeKind::Taken | EdgeKind::Table => step(state, op).ok(),
+        EdgeKind::Fixup => Some(state),
+        EdgeKind::Sibling => None,
+    }
+}
+
+/// Level 0: the state that a hint sets, else the initial one at entries. A RESTORE isn't on it.
+fn first_state(p: &Program, q: u32, point: &ModelPoint) -> Option<State> {
+    if point.is_unchecked {
+        return None;
+    }
+    match point.hint {
+        Some(HintState::Set(state)) => Some(state),
+        Some(HintState::Restore) => None,
+        Some(HintState::Save) | None => { p.is_entry_point(q).then_some(initial()) }
+    }
+}
+
+impl Kept {
+    /// Level 0.
+    fn first(alloc: Global, p: &Program) -> Result<Kept, AllocError> {
+        let mut states = Vec::new(alloc);
+        for q in 0..p.count() {
+            if let Some(point) = p.point(q) {
+                states.push(first_state(p, q, point))?;
+            }
+        }
+        Ok(Kept {
+            may_return: may_return(alloc, p)?,
+            states,
+        })
+    }
+
+    /// What is kept of a program, after so many levels that no more adds a state.
+    pub fn of(alloc: Global, p: &Program) -> Result<Kept, AllocError> {
+        let mut kept = Kept::first(alloc, p)?;
+        // Each level but the last adds a state.
+        for _ in 0..p.points.len() {
+            let states = kept.next_level(alloc, p)?;
+            kept.states = states;
+        }
+        Ok(kept)
+    }
+
+    /// The state of a point, where it is kept.
+    pub fn state(&self, q: u32) -> Option<State> {
+        *self.states.get(q as usize)?
+    }
+
+    /// The edges of a point, without the Next of a call that can't come back.
+    pub fn edges_of(
+        &self,
+        alloc: Global,
+        p: &Program,
+        point: &ModelPoint,
+    ) -> Result<Vec<Edge>, AllocError> {
+        let comes_back = target_may_return(p, self.may_return.as_slice(), point.role);
+        let mut edges = Vec::new(alloc);
+        for edge in &point.goes {
+            if comes_back || edge.kind != EdgeKind::Next {
+                edges.push(*edge)?;
+            }
+        }
+        Ok(edges)
+    }
+
+    /// The states that a point with this state brings to point q.
+    pub fn brought_by(
+        &self,
+        alloc: Global,
+        p: &Program,
+        point: &ModelPoint,
+        state: State,
+        q: u32,
+    ) -> Result<Vec<State>, AllocError> {
+        let mut states = Vec::new(alloc);
+        for edge in &self.edges_of(alloc, p, point)? {
+            if edge.to == q {
+                if let Some(brought) = brought_along(state, point.insn.op, edge.kind) {
+                    states.push(brought)?;
+                }
+            }
+        }
+        Ok(states)
+    }
+
+    /// The least of the states that the kept points bring to point q.
+    fn least_brought(
+        &self,
+        alloc: Global,
+        p: &Program,
+        q: u32,
+    ) -> Result<Option<State>, AllocError> {
+        let mut least: Option<State> = None;
+        for from in 0..p.count() {
+            if let (Some(point), Some(state)) = (p.point(from), self.state(from)) {
+                for brought in &self.brought_by(alloc, p, point, state, q)? {
+                    least = Some(least.map_or(*brought, |best| best.min(*brought)));
+                }
+            }
+        }
+        Ok(least)
+    }
+
+    /// A further level, for a point that isn't kept yet: the least state that is brought to it, or at a
+    /// RESTORE the state of its SAVE.
+    fn later_state(
+        &self,
+        alloc: Global,
+        p: &Program,
+        q: u32,
+        point: &ModelPoint,
+    ) -> Result<Option<State>, AllocError> {
+        if point.is_unchecked {
+            return Ok(None);
+        }
+        match point.hint {
+            Some(HintState::Set(_)) => Ok(None),
+            Some(HintState::Restore) => Ok(point.save_of.and_then(|save| self.state(save))),
+            Some(HintState::Save) | None => self.least_brought(alloc, p, q),
+        }
+    }
+
+    /// The states of the next level. What is kept stays.
+    fn next_level(&self, alloc: Global, p: &Program) -> Result<Vec<Option<State>>, AllocError> {
+        let mut states = Vec::new(alloc);
+        for q in 0..p.count() {
+            if let Some(point) = p.point(q) {
+                let state = match self.state(q) {
+                    Some(state) => Some(state),
+                    None => self.later_state(alloc, p, q, point)?,
+                };
+                states.push(state)?;
+            }
+        }
+        Ok(states)
+    }
+}

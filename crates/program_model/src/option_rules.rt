@@ -1,0 +1,80 @@
+//! The rules that options ask for.
+
+use crate::Program;
+use crate::kept::Kept;
+use crate::point_rules::warning;
+use crate::site_rules::is_call_op;
+use crate::state_rules::call_rule;
+use operation_defs::Op;
+use ot_base::rules::UNREACHABLE_INSTRUCTION;
+use ot_base::{Options, Warning};
+use std::alloc::AllocError;
+
+/// The warnings of rule 21: a call without a frame.
+fn frame_warnings(warnings: &mut Vec<Warning>, p: &Program, kept: &Kept) -> Result<(), AllocError> {
+    for q in 0..p.count() {
+        if let (Some(point), Some(state)) = (p.point(q), kept.state(q)) {
+            let is_call = is_call_op(point.insn.op) && !point.calls_fentry;
+            if let (true, Some(rule)) = (is_call, call_rule(state)) {
+                warnings.push(warning(point.place, rule, 0, 0))?;
+            }
+        }
+    }
+    Ok(())
+}
+
+/// Whether a point is an instruction of a checked function that isn't reached.
+fn is_unreached(p: &Program, kept: &Kept, q: u32) -> bool {
+    let is_padding = |op| matches!(op, Op::Nop | Op::Int3 | Op::Ud2);
+    p.point(q).is_some_and(|point| {
+        point.variant == 0
+            && point.function.is_some()
+            && !point.is_unchecked
+            && !is_padding(point.insn.op)
+            && kept.state(q).is_none()
+    })
+}
+
+/// Whether it is the first of some unreached ones: the instruction before it is of another function,
+/// or isn't one.
+fn is_first_unreached(p: &Program, kept: &Kept, q: u32) -> bool {
+    let Some(point) = p.point(q) else {
+        return false;
+    };
+    let follows_one = point.previous.is_some_and(|before| {
+        p.point(before)
+            .is_some_and(|other| other.function == point.function)
+            && is_unreached(p, kept, before)
+    });
+    is_unreached(p, kept, q) && !follows_one
+}
+
+/// The warnings of rule 14: the first of some unreached instructions.
+fn unreached_warnings(
+    warnings: &mut Vec<Warning>,
+    p: &Program,
+    kept: &Kept,
+) -> Result<(), AllocError> {
+    for q in 0..p.count() {
+        if let (Some(point), true) = (p.point(q), is_first_unreached(p, kept, q)) {
+            warnings.push(warning(point.place, UNREACHABLE_INSTRUCTION, 0, 0))?;
+        }
+    }
+    Ok(())
+}
+
+/// The warnings that options ask for: 14, where nothing else warns yet, and 21.
+pub fn option_warnings(
+    warnings: &mut Vec<Warning>,
+    p: &Program,
+    kept: &Kept,
+    options: &Options,
+) -> Result<(), AllocError> {
+    if options.unreachable && warnings.is_empty() {
+        unreached_warnings(warnings, p, kept)?;
+    }
+    if options.fp {
+        frame_warnings(warnings, p, kept)?;
+    }
+    Ok(())
+}

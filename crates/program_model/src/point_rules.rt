@@ -1,0 +1,222 @@
+//! The rules of stack validation that speak of one kept point and where it goes.
+
+use crate::kept::Kept;
+use crate::state_row::StateRow;
+use crate::state_rules::{iret_rule, return_rule, sibling_rule, switch_rule};
+use crate::{ModelPoint, Program};
+use machine_defs::{Edge, EdgeKind, Role};
+use operation_defs::Op;
+use ot_base::{Place, Warning, rules};
+use stack_state::step;
+use state_defs::{Depth, HintState, State};
+use std::alloc::{AllocError, Global};
+
+/// A warning at a place.
+pub fn warning(place: Place, rule: u8, a: i64, b: i64) -> Warning {
+    Warning { place, rule, a, b }
+}
+
+/// The number that a warning tells of a state.
+fn depth_number(state: State) -> i64 {
+    match state {
+        State::Live {
+            depth: Depth::Known(n),
+            ..
+        } => n,
+        State::Live {
+            depth: Depth::AtLeast(n),
+            ..
+        } => 0i64.wrapping_sub(n),
+        State::Ended(_) => 0,
+        State::Regs { depth, .. } => depth,
+    }
+}
+
+/// The warnings of rules 1, 3, 13 and 16: where control of a kept point can't go; and of 19: its state is followed by a
+/// number that a relocation changes.
+fn mark_warnings(
+    warnings: &mut Vec<Warning>,
+    point: &ModelPoint,
+    state: State,
+) -> Result<(), AllocError> {
+    let marks = point.marks;
+    let is_followed = !matches!(state, State::Ended(_));
+    let is_relocated = marks.relocated && is_followed;
+    let marked = [
+        (marks.bad, rules::BAD_BRANCH_TARGET),
+        (marks.past_end, rules::RUNS_OFF_SECTION),
+        (marks.into_site, rules::JUMP_INTO_SITE),
+        (marks.into_function, rules::CALL_INTO_FUNCTION),
+        (is_relocated, rules::RELOCATED_STACK_OFFSET),
+    ];
+    for (is_marked, rule) in marked {
+        if is_marked {
+            warnings.push(warning(point.place, rule, 0, 0))?;
+        }
+    }
+    Ok(())
+}
+
+/// Whether states come in along edges: neither Set nor RESTORE.
+fn is_free(hint: Option<HintState>) -> bool {
+    matches!(hint, None | Some(HintState::Save))
+}
+
+/// The warnings of rule 4: an edge to a place brings other states than the one that is kept there.
+fn mismatch_warnings(
+    warnings: &mut Vec<Warning>,
+    place: Place,
+    there: State,
+    states: &[State],
+) -> Result<(), AllocError> {
+    for brought in states {
+        if *brought != there {
+            let (a, b) = (depth_number(there), depth_number(*brought));
+            warnings.push(warning(place, rules::STATE_MISMATCH, a, b))?;
+        }
+    }
+    Ok(())
+}
+
+/// The warnings of one edge: of rule 2, that the next instruction is of another function; 4, that it
+/// brings a kept point another state than the one that is kept there; and 18, that it leads to a RESTORE
+/// that has no state to restore.
+fn warnings_along(
+    warnings: &mut Vec<Warning>,
+    alloc: Global,
+    p: &Program,
+    kept: &Kept,
+    point: &ModelPoint,
+    state: State,
+    edge: Edge,
+) -> Result<(), AllocError> {
+    let Some(target) = p.point(edge.to) else {
+        return Ok(());
+    };
+    if edge.kind == EdgeKind::Next && target.owner != point.owner {
+        warnings.push(warning(point.place, rules::FALLS_THROUGH, 0, 0))?;
+    }
+    if let Some(there) = kept.state(edge.to) {
+        if is_free(target.hint) {
+            let states = kept.brought_by(alloc, p, point, state, edge.to)?;
+            mismatch_warnings(warnings, target.place, there, states.as_slice())?;
+        }
+    } else if target.hint == Some(HintState::Restore) {
+        warnings.push(warning(target.place, rules::RESTORE_WITHOUT_SAVE, 0, 0))?;
+    }
+    Ok(())
+}
+
+/// The warnings of the rules 2, 4 and 18, edge by edge.
+fn edge_warnings(
+    warnings: &mut Vec<Warning>,
+    alloc: Global,
+    p: &Program,
+    kept: &Kept,
+    point: &ModelPoint,
+    state: State,
+) -> Result<(), AllocError> {
+    for edge in &kept.edges_of(alloc, p, point)? {
+        warnings_along(warnings, alloc, p, kept, point, state, *edge)?;
+    }
+    Ok(())
+}
+
+/// The warning of a point that leaves its function by this rule, which tells the depth of a modified stack.
+fn leaving_warning(place: Place, rule: u8, state: State) -> Warning {
+    let a = if rule == rules::EXIT_NOT_ALLOWED {
+        0
+    } else {
+        depth_number(state)
+    };
+    warning(place, rule, a, 0)
+}
+
+/// The warnings of the rules 5 and 15 at a return.
+fn return_warnings(
+    warnings: &mut Vec<Warning>,
+    point: &ModelPoint,
+    state: State,
+) -> Result<(), AllocError> {
+    let drops_bytes = point.insn.op == Op::RetImm;
+    let broken = match return_rule(state) {
+        None if drops_bytes => Some(rules::MODIFIED_RETURN),
+        rule => rule,
+    };
+    if let (Role::Return, Some(rule)) = (point.role, broken) {
+        warnings.push(leaving_warning(point.place, rule, state))?;
+    }
+    Ok(())
+}
+
+/// Whether a point leaves its function by a jump.
+fn leaves_by_jump(
+    alloc: Global,
+    p: &Program,
+    kept: &Kept,
+    point: &ModelPoint,
+) -> Result<bool, AllocError> {
+    Ok(match point.role {
+        Role::JumpOut { .. } | Role::JumpAny => true,
+        _ => kept
+            .edges_of(alloc, p, point)?
+            .iter()
+            .any(|edge| edge.kind == EdgeKind::Sibling),
+    })
+}
+
+/// The warnings of the rules 6 and 15 at a jump to another function.
+fn sibling_warnings(
+    warnings: &mut Vec<Warning>,
+    alloc: Global,
+    p: &Program,
+    kept: &Kept,
+    point: &ModelPoint,
+    state: State,
+) -> Result<(), AllocError> {
+    if let (true, Some(rule)) = (leaves_by_jump(alloc, p, kept, point)?, sibling_rule(state)) {
+        warnings.push(leaving_warning(point.place, rule, state))?;
+    }
+    Ok(())
+}
+
+/// The warnings of an operation in its state: 7 to 11, where it is refused or an offset doesn't fit, and
+/// 15, where it leaves the code and isn't allowed to.
+fn operation_warnings(
+    warnings: &mut Vec<Warning>,
+    point: &ModelPoint,
+    state: State,
+) -> Result<(), AllocError> {
+    if let Err(rule) = step(state, point.insn.op) {
+        warnings.push(warning(point.place, rule, 0, 0))?;
+    }
+    if let Some(offset) = StateRow::of(state).unfit_offset() {
+        let a = i64::try_from(offset).unwrap_or(i64::MAX);
+        warnings.push(warning(point.place, rules::OFFSET_OUT_OF_RANGE, a, 0))?;
+    }
+    let unallowed = match point.insn.op {
+        Op::Switch => switch_rule(state),
+        Op::Iret => iret_rule(state),
+        _ => None,
+    };
+    if let Some(rule) = unallowed {
+        warnings.push(warning(point.place, rule, 0, 0))?;
+    }
+    Ok(())
+}
+
+/// The warnings of the rules that speak of one kept point and where it goes.
+pub fn point_warnings(
+    warnings: &mut Vec<Warning>,
+    alloc: Global,
+    p: &Program,
+    kept: &Kept,
+    point: &ModelPoint,
+    state: State,
+) -> Result<(), AllocError> {
+    mark_warnings(warnings, point, state)?;
+    edge_warnings(warnings, alloc, p, kept, point, state)?;
+    return_warnings(warnings, point, state)?;
+    sibling_warnings(warnings, alloc, p, kept, point, state)?;
+    operation_warnings(warnings, point, state)
+}

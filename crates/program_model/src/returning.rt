@@ -1,0 +1,97 @@
+//! From which points on a return may come: the least such set, found by rounds.
+
+use crate::{ModelPoint, Program};
+use machine_defs::{EdgeKind, Role};
+use std::alloc::{AllocError, Global};
+
+/// Whether a role is that of a call.
+fn is_call(role: Role) -> bool {
+    match role {
+        Role::CallIn { .. } | Role::CallEither { .. } | Role::CallOut { .. } | Role::CallAny => {
+            true
+        }
+        Role::Plain | Role::Return | Role::JumpOut { .. } | Role::JumpAny | Role::Switch => false,
+    }
+}
+
+/// Whether the number is in a set, which is a flag for each point.
+fn is_in(set: &[bool], q: u32) -> bool {
+    set.get(q as usize).copied().unwrap_or(false)
+}
+
+/// Whether one of the points where control that comes to an entry may stand is in the set.
+fn enters_set(p: &Program, set: &[bool], entry: u32) -> bool {
+    for q in 0..p.count() {
+        if is_in(set, q) && p.enters(entry, q) {
+            return true;
+        }
+    }
+    false
+}
+
+/// Whether the target of a call that isn't a dead end may return.
+fn target_returns(p: &Program, set: &[bool], role: Role) -> bool {
+    match role {
+        Role::CallIn { entry } => enters_set(p, set, entry),
+        Role::CallOut { sym } => !p.never_returns(sym),
+        Role::CallEither { .. } | Role::CallAny => true,
+        _ => false,
+    }
+}
+
+/// Whether a point leaves its function: a return, or a jump that may.
+fn leaves(p: &Program, role: Role) -> bool {
+    match role {
+        Role::Return | Role::JumpAny => true,
+        Role::JumpOut { sym } => !p.never_returns(sym),
+        _ => false,
+    }
+}
+
+/// Whether a point belongs to the set because of those that are in it.
+fn joins(p: &Program, set: &[bool], point: &ModelPoint) -> bool {
+    if leaves(p, point.role) {
+        return true;
+    }
+    let is_call = is_call(point.role);
+    let mut comes_back = false;
+    for edge in &point.goes {
+        if is_in(set, edge.to) {
+            if !is_call || edge.kind != EdgeKind::Next {
+                return true;
+            }
+            comes_back = true;
+        }
+    }
+    comes_back && !point.is_dead_end && target_returns(p, set, point.role)
+}
+
+/// The set after another round.
+fn another_round(alloc: Global, p: &Program, set: &[bool]) -> Result<Vec<bool>, AllocError> {
+    let mut next = Vec::new(alloc);
+    for q in 0..p.count() {
+        if let Some(point) = p.point(q) {
+            next.push(is_in(set, q) || joins(p, set, point))?;
+        }
+    }
+    Ok(next)
+}
+
+/// For each point whether a return may come from it on.
+pub fn may_return(alloc: Global, p: &Program) -> Result<Vec<bool>, AllocError> {
+    let mut set = vec![in alloc; false; p.points.len()]?;
+    // Each round but the last adds a point.
+    for _ in 0..p.points.len() {
+        set = another_round(alloc, p, set.as_slice())?;
+    }
+    Ok(set)
+}
+
+/// Whether the target of a call may return; what isn't a call passes.
+pub fn target_may_return(p: &Program, set: &[bool], role: Role) -> bool {
+    match role {
+        Role::CallIn { entry } => enters_set(p, set, entry),
+        Role::CallOut { sym } => !p.never_returns(sym),
+        _ => true,
+    }
+}

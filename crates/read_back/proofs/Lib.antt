@@ -1,4 +1,0 @@
-pub mod DumpLaws
-pub mod DumpLemmas
-pub mod UnwindLaws
-pub mod UnwindLemmas

@@ -1,5 +1,0 @@
-use Rattle.command_base.proofs.PrintLemmas.{nothing_sent}
-use Rattle.read_back.proofs.unwinding.print_stop.Goals as goal
-
-pub returns-in-Err-clause-err : goal.returns-in-Err-clause-err
-returns-in-Err-clause-err g c = nothing_sent _ _

@@ -1,3 +1,0 @@
-pub mod Dump
-pub mod Unwind
-pub mod WalkText

@@ -1,9 +1,0 @@
-pub mod Chaining
-pub mod Ranges
-pub mod Least
-pub mod Steps
-pub mod Keeping
-pub mod Dropping
-pub mod Passing
-pub mod Walks
-pub mod Leading

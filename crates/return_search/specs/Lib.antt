@@ -1,6 +1,0 @@
-pub mod Chained
-pub mod Told
-pub mod Shape
-pub mod Backward
-pub mod Search
-pub mod Stays

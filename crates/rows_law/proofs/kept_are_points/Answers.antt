@@ -1,5 +1,0 @@
-use Rattle.unwinding_law.proofs.KeptPoints as points
-use Rattle.rows_law.proofs.kept_are_points.Goals as goal
-
-pub returns : goal.returns
-returns c = points.kept_are_points

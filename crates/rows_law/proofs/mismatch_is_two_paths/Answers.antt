@@ -1,5 +1,0 @@
-use Rattle.rows_law.proofs.TwoPaths as paths
-use Rattle.rows_law.proofs.mismatch_is_two_paths.Goals as goal
-
-pub returns : goal.returns
-returns c = paths.mismatch_is_two_paths

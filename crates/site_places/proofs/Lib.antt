@@ -1,4 +1,0 @@
-pub mod Made
-pub mod Places
-pub mod Entries
-pub mod AllSites

@@ -1,6 +1,0 @@
-use Rattle.std.proofs.Common.{◌≡◌, ◌++◌, map, take}
-use Rattle.site_points.specs.declared.points.SitedPoint.{SitedPoint}
-use Rattle.site_points.proofs.points.push_numbers.Given as goal
-
-abbrev pub invariant-loop-sited : goal.invariant-loop-sited
-invariant-loop-sited l = l.points.items ≡ l.initial.points.items ++ map (λ (x : SitedPoint). x.point) (take l.sited-index l.more)

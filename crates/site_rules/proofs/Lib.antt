@@ -1,4 +1,0 @@
-pub mod Places
-pub mod OneInForce
-pub mod Disagreeing
-pub mod Pushed

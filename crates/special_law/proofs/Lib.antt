@@ -1,6 +1,0 @@
-pub mod Totals
-mod Intervals
-pub mod Relas
-mod Counted
-pub mod Unfaulted
-mod Few

@@ -1,0 +1,8 @@
+//! A law on the special sections of every object.
+
+ghost use Rattle.special_sections.specs.Laws.{AlternativesAreFew};
+
+/// Of the alternatives of an object each has two relocations of its own, of 24 bytes each.
+pub fn alternatives_are_few()
+    ensures { AlternativesAreFew }
+{}

@@ -1,0 +1,17 @@
+pub mod GainsLemmas
+pub mod MoveRules
+pub mod Consistency
+pub mod AllWarnings
+pub mod ByState
+pub mod WarningOrder
+pub mod QuietPoints
+pub mod Order
+pub mod Finding
+pub mod Permuted
+pub mod Steps
+pub mod ListedPoints
+pub mod Same
+pub mod Places
+pub mod OneInForce
+pub mod Disagreeing
+pub mod Pushed

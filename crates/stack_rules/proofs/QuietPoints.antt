@@ -1,0 +1,82 @@
+-- At a quiet point no rule is broken.
+use Rattle.std.proofs.Common.{◌≡◌, ◌≢◌, ℕ, true, false, All, get_or, arith, Option, Some, None, List, [], ◌∷◌, inl, inr, Ok, refl, sym, ◌∙◌, subst}
+use Rattle.std.specs.Prelude.{option_to_list}
+use Rattle.std.proofs.lemmas.List.Elements.{All-contains}
+use Rattle.ot_base.specs.declared.place.Place.{Place}
+use Rattle.ot_base.specs.declared.warning.Warning.{Warning}
+use Rattle.operation_defs.specs.declared.op.Op.{Op}
+use Rattle.operation_defs.specs.declared.op.Op.TheVariants.{Iret, Switch}
+use Rattle.machine_defs.specs.declared.flow.Edge.{Edge}
+use Rattle.machine_defs.specs.declared.flow.EdgeKind.{EdgeKind}
+use Rattle.machine_defs.specs.declared.flow.EdgeKind.TheVariants.{Next, Taken, Fixup, Table, Sibling}
+use Rattle.machine_defs.specs.declared.flow.Marks.{Marks}
+use Rattle.machine_defs.specs.declared.flow.Role.{Role}
+use Rattle.machine_defs.specs.declared.flow.Role.TheVariants.{Return, JumpOut, JumpAny}
+use Rattle.state_defs.specs.declared.state.State.{State}
+use Rattle.state_defs.specs.Move.{move, to}
+use Rattle.state_defs.specs.Row.{unfit_offset}
+use Rattle.machine_defs.specs.Program.{Program}
+use Rattle.machine_defs.specs.Kept.{brought_along, edges_of}
+use Rattle.kept_states.specs.LevelStates.{at}
+use Rattle.stack_rules.specs.PointWarns.{ArrivalWarns, EdgeWarns, IsBrought, KeptWarns, MarksWarn, OperationWarns, PointWarns, RoleWarns, RowWarns}
+use Rattle.stack_rules.specs.Quiet.{IsQuiet, Leads, Passes, is_exit, is_unmarked, stays}
+
+same_along : (s : State) (op : Op) (kind : EdgeKind) → kind ≢ Sibling → move s op ≡ Ok s → brought_along s op kind ≡ s ∷ []
+same_along s op Next other m = rw m refl
+same_along s op Taken other m = rw m refl
+same_along s op Fixup other m = refl
+same_along s op Table other m = rw m refl
+same_along s op Sibling other m = absurd (other refl)
+
+brings_only : (s t u : State) (op : Op) (kind : EdgeKind) (brought : Option State) → brought_along s op kind ≡ u ∷ [] → IsBrought s op kind brought → brought ≡ Some t → t ≡ u
+brings_only s t u op kind brought along is b =
+    let one : option_to_list (Some t) ≡ u ∷ [] = subst (λ (o : Option State). option_to_list o ≡ u ∷ []) b (is ∙ along) in
+    let same : t ≡ u = cc in same
+
+no_marks : (place : Place) (s : State) (marks : Marks) (w : Warning) → is_unmarked marks ≡ true → MarksWarn place s marks w → ⊥
+no_marks place s marks w h (inl (e, k)) = grind arith
+no_marks place s marks w h (inr (inl (e, k))) = grind arith
+no_marks place s marks w h (inr (inr (inl (e, k)))) = grind arith
+no_marks place s marks w h (inr (inr (inr (inl (e, k))))) = grind arith
+no_marks place s marks w h (inr (inr (inr (inr ((f, e), k))))) = grind arith
+
+no_role : (place : Place) (op : Op) (s : State) (role : Role) (w : Warning) → stays role ≡ true → RoleWarns place op s role w → ⊥
+no_role place op s Return w h k = let z : ⊥ = cc in z
+no_role place op s (JumpOut sym) w h k = let z : ⊥ = cc in z
+no_role place op s JumpAny w h k = let z : ⊥ = cc in z
+no_role place op s _ w h k = k
+
+no_operation : (place : Place) (op : Op) (s t : State) (w : Warning) → is_exit op ≡ false → move s op ≡ Ok t → OperationWarns place op s w → ⊥
+no_operation place op s t w h m (inl (rule, e, k)) = let z : ⊥ = cc in z
+no_operation place op s t w h m (inr (inl ((e, b), k))) = let n : is_exit Switch ≡ false = subst (λ (o : Op). is_exit o ≡ false) e h in let z : ⊥ = cc in z
+no_operation place op s t w h m (inr (inr ((e, b), k))) = let n : is_exit Iret ≡ false = subst (λ (o : Op). is_exit o ≡ false) e h in let z : ⊥ = cc in z
+
+no_row : (place : Place) (s : State) (w : Warning) → unfit_offset s ≡ None → RowWarns place s w → ⊥
+no_row place s w h (a, e, k) = let z : ⊥ = cc in z
+
+module _ (p : Program) (states : List (Option State)) (q : ℕ) where
+  no_arrival : (s : State) (to : ℕ) (brought : Option State) (w : Warning) → at states to ≡ Some s → ((t : State) → brought ≡ Some t → t ≡ s) → ArrivalWarns p states to brought w → ⊥
+  no_arrival s to brought w some same (inl ((h, none), e)) = let z : ⊥ = cc in z
+  no_arrival s to brought w some same (inr (u, (other, free), (t, (b, differs), e))) =
+      let kept : u ≡ s = cc in differs (same t b ∙ sym kept)
+
+  no_edge : (s : State) (e : Edge) (w : Warning) → Leads p states q s e → EdgeWarns p states q s e w → ⊥
+  no_edge s e w leads (inl (falls, k)) = leads.1 falls
+  no_edge s e w leads (inr (inl (sibling, k))) = leads.0 sibling
+  no_edge s e w leads (inr (inr (brought, is, arrival))) =
+      no_arrival leads.2.0 e.to brought w leads.2.1 (λ t b. brings_only s t leads.2.0 (p.insn q).op e.kind brought leads.2.2 is b) arrival
+
+  no_kept : (s : State) (w : Warning) → IsQuiet p states q → at states q ≡ Some s → KeptWarns p states q s w → ⊥
+  no_kept s w quiet some (inl k) = no_marks (p.place q) s (p.marks q) w quiet.unmarked k
+  no_kept s w quiet some (inr (inl k)) = no_role (p.place q) (p.insn q).op s (p.role q) w quiet.stays k
+  no_kept s w quiet some (inr (inr (inl k))) = let m = quiet.moves s some in no_operation (p.place q) (p.insn q).op s m.0 w quiet.exit m.1 k
+  no_kept s w quiet some (inr (inr (inr (inl k)))) = no_row (p.place q) s w (quiet.fit s some) k
+  no_kept s w quiet some (inr (inr (inr (inr (e, contains, k))))) = no_edge s e w (All-contains (Leads p states q s) (edges_of p q) e (quiet.leads s some) contains) k
+
+  pub quiet_warns_nothing : (w : Warning) → IsQuiet p states q → PointWarns p states q w → ⊥
+  quiet_warns_nothing w quiet (inl (s, some, k)) = no_kept s w quiet some k
+  quiet_warns_nothing w quiet (inr (none, k)) = let some = quiet.some in grind arith
+
+  -- where the operation leaves the state as it is, an edge leads on that passes
+  pub pass_leads : (s : State) (edges : List Edge) → at states q ≡ Some s → move s (p.insn q).op ≡ Ok s → All (Passes p states q) edges → All (Leads p states q s) edges
+  pass_leads s edges some m all = λ i d l. (let passes = all i d l in (passes.0, passes.1, (s, passes.2 ∙ some, same_along s (p.insn q).op (get_or edges i d).kind passes.0 m)))

@@ -1,0 +1,11 @@
+pub mod Base
+pub mod Checks
+pub mod Gains
+pub mod PointWarns
+pub mod Telling
+pub mod Unframed
+pub mod Before
+pub mod Quiet
+pub mod Sites
+pub mod Points
+pub mod Disagree

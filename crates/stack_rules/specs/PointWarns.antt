@@ -1,0 +1,119 @@
+-- The warnings of the rules that a graph and kept states decide, by the point at which they are found.
+use Rattle.std.specs.Prelude.{◌≡◌, ◌≢◌, ℕ, ◌⊎◌, true, List, Option, Some, None, Err, option_to_list, Contains, ℤ, pos}
+use Rattle.ot_base.specs.declared.place.Place.{Place}
+use Rattle.ot_base.specs.declared.warning.Warning.{Warning}
+use Rattle.ot_base.specs.declared.rules.TheConstants.{BAD_BRANCH_TARGET, FALLS_THROUGH, RUNS_OFF_SECTION, STATE_MISMATCH, MODIFIED_RETURN, MODIFIED_SIBLING_CALL, OFFSET_OUT_OF_RANGE, JUMP_INTO_SITE, EXIT_NOT_ALLOWED, CALL_INTO_FUNCTION, FUNCTION_WITHOUT_SIZE, RESTORE_WITHOUT_SAVE, RELOCATED_STACK_OFFSET}
+use Rattle.ot_base.specs.Warnings.{numbered_warning, bare_warning}
+use Rattle.operation_defs.specs.declared.op.Op.{Op}
+use Rattle.operation_defs.specs.declared.op.Op.TheVariants.{RetImm, Iret, Switch}
+use Rattle.machine_defs.specs.declared.flow.Edge.{Edge}
+use Rattle.machine_defs.specs.declared.flow.EdgeKind.{EdgeKind}
+use Rattle.machine_defs.specs.declared.flow.EdgeKind.TheVariants.{Next, Sibling}
+use Rattle.machine_defs.specs.declared.flow.Marks.{Marks}
+use Rattle.machine_defs.specs.declared.flow.Role.{Role}
+use Rattle.machine_defs.specs.declared.flow.Role.TheVariants.{Return, JumpOut, JumpAny}
+use Rattle.state_defs.specs.declared.state.State.{State}
+use Rattle.state_defs.specs.declared.state.HintState.TheVariants.{Restore}
+use Rattle.state_defs.specs.Move.{move}
+use Rattle.state_defs.specs.Row.{unfit_offset}
+use Rattle.state_defs.specs.Rules.{is_followed, return_rule, sibling_rule, switch_rule, iret_rule, depth_number}
+use Rattle.machine_defs.specs.Program.{Program}
+use Rattle.machine_defs.specs.Kept.{brought_along, edges_of, is_at_entry, is_free}
+use Rattle.kept_states.specs.LevelStates.{at}
+
+-- a warning that tells a state's depth
+abbrev pub depth_warning : Place → ℕ → State → Warning
+depth_warning place rule s = numbered_warning place rule (depth_number s) (pos 0)
+
+-- 1, 3, 13, 16: what is wrong with where control goes; 19: a relocation on a number by which the state is followed
+abbrev pub MarksWarn : Place → State → Marks → Warning → Type 0
+MarksWarn place s marks w =
+    (marks.bad ≡ true × w ≡ bare_warning place BAD_BRANCH_TARGET)
+    ⊎ (marks.past_end ≡ true × w ≡ bare_warning place RUNS_OFF_SECTION)
+    ⊎ (marks.into_site ≡ true × w ≡ bare_warning place JUMP_INTO_SITE)
+    ⊎ (marks.into_function ≡ true × w ≡ bare_warning place CALL_INTO_FUNCTION)
+    ⊎ ((is_followed s ≡ true × marks.relocated ≡ true) × w ≡ bare_warning place RELOCATED_STACK_OFFSET)
+
+-- 5, 15: a return
+abbrev pub ReturnWarns : Place → Op → State → Warning → Type 0
+ReturnWarns place op s w =
+    (return_rule s ≡ Some MODIFIED_RETURN × w ≡ depth_warning place MODIFIED_RETURN s)
+    ⊎ ((op ≡ RetImm × return_rule s ≢ Some EXIT_NOT_ALLOWED) × w ≡ depth_warning place MODIFIED_RETURN s)
+    ⊎ (return_rule s ≡ Some EXIT_NOT_ALLOWED × w ≡ bare_warning place EXIT_NOT_ALLOWED)
+
+-- 6, 15: a way to another function
+abbrev pub SiblingWarns : Place → State → Warning → Type 0
+SiblingWarns place s w =
+    (sibling_rule s ≡ Some MODIFIED_SIBLING_CALL × w ≡ depth_warning place MODIFIED_SIBLING_CALL s)
+    ⊎ (sibling_rule s ≡ Some EXIT_NOT_ALLOWED × w ≡ bare_warning place EXIT_NOT_ALLOWED)
+
+-- a way out of the function that the role has
+abbrev pub RoleWarns : Place → Op → State → Role → Warning → Type 0
+RoleWarns place op s Return w = ReturnWarns place op s w
+RoleWarns place op s (JumpOut sym) w = SiblingWarns place s w
+RoleWarns place op s JumpAny w = SiblingWarns place s w
+RoleWarns place op s _ w = ⊥
+
+-- 7, 8, 9, 10, 11, 15: the operation has no move
+abbrev pub RefusalWarns : Place → Op → State → Warning → Type 0
+RefusalWarns place op s w = (rule : ℕ) × (move s op ≡ Err rule) × (w ≡ bare_warning place rule)
+
+-- and is a way out that isn't allowed
+abbrev pub OperationWarns : Place → Op → State → Warning → Type 0
+OperationWarns place op s w =
+    RefusalWarns place op s w
+    ⊎ ((op ≡ Switch × switch_rule s ≡ Some EXIT_NOT_ALLOWED) × w ≡ bare_warning place EXIT_NOT_ALLOWED)
+    ⊎ ((op ≡ Iret × iret_rule s ≡ Some EXIT_NOT_ALLOWED) × w ≡ bare_warning place EXIT_NOT_ALLOWED)
+
+-- 10: the state's row
+abbrev pub RowWarns : Place → State → Warning → Type 0
+RowWarns place s w = (a : ℤ) × (unfit_offset s ≡ Some a) × (w ≡ numbered_warning place OFFSET_OUT_OF_RANGE a (pos 0))
+
+-- 4: the state that is brought to a place isn't the one that is kept there
+abbrev pub MismatchWarns : Place → State → Option State → Warning → Type 0
+MismatchWarns place kept brought w =
+    (t : State) × (brought ≡ Some t × t ≢ kept) × (w ≡ numbered_warning place STATE_MISMATCH (depth_number kept) (depth_number t))
+
+-- 18, 4: control comes along an edge to a point, whose place the warning names, and brings a state or none
+abbrev pub ArrivalWarns : Program → List (Option State) → ℕ → Option State → Warning → Type 0
+ArrivalWarns p states r brought w =
+    (p.hint r ≡ Some Restore × at states r ≡ None) × w ≡ bare_warning (p.place r) RESTORE_WITHOUT_SAVE
+    ⊎ ((u : State) × (at states r ≡ Some u × is_free (p.hint r) ≡ true) × MismatchWarns (p.place r) u brought w)
+
+-- the state that comes along an edge, if one does
+abbrev pub IsBrought : State → Op → EdgeKind → Option State → Type 0
+IsBrought s op kind brought = option_to_list brought ≡ brought_along s op kind
+
+-- 2, 4, 6, 15, 18: an edge of a point
+abbrev pub EdgeWarns : Program → List (Option State) → ℕ → State → Edge → Warning → Type 0
+EdgeWarns p states q s e w =
+    ((e.kind ≡ Next × p.owner e.to ≢ p.owner q) × w ≡ bare_warning (p.place q) FALLS_THROUGH)
+    ⊎ (e.kind ≡ Sibling × SiblingWarns (p.place q) s w)
+    ⊎ ((brought : Option State) × IsBrought s (p.insn q).op e.kind brought × ArrivalWarns p states e.to brought w)
+
+-- some edge of a point
+abbrev pub EdgesWarn : Program → List (Option State) → ℕ → State → Warning → Type 0
+EdgesWarn p states q s w = (e : Edge) × Contains (edges_of p q) e × EdgeWarns p states q s e w
+
+-- a point that keeps a state
+abbrev pub KeptWarns : Program → List (Option State) → ℕ → State → Warning → Type 0
+KeptWarns p states q s w =
+    MarksWarn (p.place q) s (p.marks q) w
+    ⊎ RoleWarns (p.place q) (p.insn q).op s (p.role q) w
+    ⊎ OperationWarns (p.place q) (p.insn q).op s w
+    ⊎ RowWarns (p.place q) s w
+    ⊎ EdgesWarn p states q s w
+
+-- 18: a point that keeps none, where it is an entered RESTORE
+abbrev pub UnkeptWarns : Program → ℕ → Warning → Type 0
+UnkeptWarns p q w = (p.hint q ≡ Some Restore × is_at_entry p q ≡ true) × w ≡ bare_warning (p.place q) RESTORE_WITHOUT_SAVE
+
+-- any point
+abbrev pub PointWarns : Program → List (Option State) → ℕ → Warning → Type 0
+PointWarns p states q w =
+    ((s : State) × (at states q ≡ Some s) × KeptWarns p states q s w)
+    ⊎ (at states q ≡ None × UnkeptWarns p q w)
+
+-- 17: functions without a size, at these places
+abbrev pub SizesWarn : List Place → Warning → Type 0
+SizesWarn places w = (place : Place) × Contains places place × (w ≡ bare_warning place FUNCTION_WITHOUT_SIZE)

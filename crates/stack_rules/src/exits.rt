@@ -1,0 +1,157 @@
+//! The rules that a point's marks, its role and its operation break.
+
+ghost use Rattle.std.specs.Prelude.{◌≡◌, ◌≢◌, ◌↔◌, IsTrue, OnOk, Some, true};
+ghost use Rattle.state_defs.specs.State.{IsConsistent};
+ghost use Rattle.state_defs.specs.Rules.{iret_rule as iret_rule_of, is_followed as is_followed_state, switch_rule as switch_rule_of};
+ghost use Rattle.stack_rules.specs.Gains.{Gains};
+ghost use Rattle.stack_rules.specs.PointWarns.{MarksWarn, OperationWarns, RefusalWarns, ReturnWarns, RoleWarns, SiblingWarns};
+
+use crate::listing::{bare_warning, is_rule, push, push_if};
+use crate::numbers::depth_warning;
+use crate::{iret_rule, return_rule, sibling_rule, switch_rule};
+use machine_defs::{Marks, Role};
+use operation_defs::Op;
+use ot_base::rules::{
+    BAD_BRANCH_TARGET, CALL_INTO_FUNCTION, EXIT_NOT_ALLOWED, JUMP_INTO_SITE, MODIFIED_RETURN,
+    MODIFIED_SIBLING_CALL, RELOCATED_STACK_OFFSET, RUNS_OFF_SECTION,
+};
+use ot_base::{NoMemory, Place, Warning};
+use stack_state::step;
+use state_defs::State;
+
+/// Whether registers and memory are followed in a state.
+fn is_followed(state: State) -> bool
+    ensures { result ≡ is_followed_state state }
+{
+    match state {
+        State::Live { .. } | State::Regs { .. } => true,
+        State::Ended(_) => false,
+    }
+}
+
+/// Whether a relocation changes a number by which a state is followed.
+fn is_relocated(state: State, marks: Marks) -> bool
+    ensures { IsTrue result ↔ (is_followed_state state ≡ true × marks.relocated ≡ true) }
+{
+    is_followed(state) && marks.relocated
+}
+
+/// The rules 1, 3, 13 and 16: what is wrong with where control goes; and 19: a relocation on a number by which the state is
+/// followed.
+pub(crate) fn push_marks(
+    into: &mut Vec<Warning>,
+    place: Place,
+    state: State,
+    marks: Marks,
+) -> Result<(), NoMemory>
+    ensures { OnOk result (Gains into.old.items into.new.items (MarksWarn place state marks)) }
+{
+    push_if(into, marks.bad, bare_warning(place, BAD_BRANCH_TARGET))?;
+    push_if(into, marks.past_end, bare_warning(place, RUNS_OFF_SECTION))?;
+    push_if(into, marks.into_site, bare_warning(place, JUMP_INTO_SITE))?;
+    push_if(
+        into,
+        marks.into_function,
+        bare_warning(place, CALL_INTO_FUNCTION),
+    )?;
+    push_if(
+        into,
+        is_relocated(state, marks),
+        bare_warning(place, RELOCATED_STACK_OFFSET),
+    )
+}
+
+/// Whether a return drops bytes, in a state in which it is allowed.
+fn is_allowed_drop(op: Op, broken: Option<u8>) -> bool
+    ensures { IsTrue result ↔ (op ≡ Op.RetImm × broken ≢ Some EXIT_NOT_ALLOWED) }
+{
+    matches!(op, Op::RetImm) && !is_rule(broken, EXIT_NOT_ALLOWED)
+}
+
+/// Whether an operation is a way out by a far branch or the system that its state doesn't allow.
+fn is_unallowed_switch(op: Op, state: State) -> bool
+    ensures { IsTrue result ↔ (op ≡ Op.Switch × switch_rule_of state ≡ Some EXIT_NOT_ALLOWED) }
+{
+    matches!(op, Op::Switch) && is_rule(switch_rule(state), EXIT_NOT_ALLOWED)
+}
+
+/// Whether an operation is a return from an interrupt that its state doesn't allow.
+fn is_unallowed_iret(op: Op, state: State) -> bool
+    ensures { IsTrue result ↔ (op ≡ Op.Iret × iret_rule_of state ≡ Some EXIT_NOT_ALLOWED) }
+{
+    matches!(op, Op::Iret) && is_rule(iret_rule(state), EXIT_NOT_ALLOWED)
+}
+
+/// The rules 5 and 15 at a return.
+fn push_return(into: &mut Vec<Warning>, place: Place, op: Op, state: State) -> Result<(), NoMemory>
+    ensures { OnOk result (IsConsistent state → Gains into.old.items into.new.items (ReturnWarns place op state)) }
+{
+    let broken = return_rule(state);
+    let modified = depth_warning(place, MODIFIED_RETURN, state);
+    let unallowed = bare_warning(place, EXIT_NOT_ALLOWED);
+    push_if(into, is_rule(broken, MODIFIED_RETURN), modified)?;
+    push_if(into, is_allowed_drop(op, broken), modified)?;
+    push_if(into, is_rule(broken, EXIT_NOT_ALLOWED), unallowed)
+}
+
+/// The rules 6 and 15 at a way to another function.
+pub(crate) fn push_sibling(
+    into: &mut Vec<Warning>,
+    place: Place,
+    state: State,
+) -> Result<(), NoMemory>
+    ensures { OnOk result (IsConsistent state → Gains into.old.items into.new.items (SiblingWarns place state)) }
+{
+    let broken = sibling_rule(state);
+    let modified = depth_warning(place, MODIFIED_SIBLING_CALL, state);
+    let unallowed = bare_warning(place, EXIT_NOT_ALLOWED);
+    push_if(into, is_rule(broken, MODIFIED_SIBLING_CALL), modified)?;
+    push_if(into, is_rule(broken, EXIT_NOT_ALLOWED), unallowed)
+}
+
+/// The rules 5, 6 and 15 at a way out that the point's role has.
+pub(crate) fn push_role(
+    into: &mut Vec<Warning>,
+    place: Place,
+    op: Op,
+    state: State,
+    role: Role,
+) -> Result<(), NoMemory>
+    ensures { OnOk result (IsConsistent state → Gains into.old.items into.new.items (RoleWarns place op state role)) }
+{
+    match role {
+        Role::Return => push_return(into, place, op, state),
+        Role::JumpOut { .. } | Role::JumpAny => push_sibling(into, place, state),
+        Role::Plain
+        | Role::CallIn { .. }
+        | Role::CallEither { .. }
+        | Role::CallOut { .. }
+        | Role::CallAny
+        | Role::Switch => Ok(()),
+    }
+}
+
+/// The rules 7 to 11 and 15, where the operation has no move in its state.
+fn push_refusal(into: &mut Vec<Warning>, place: Place, op: Op, state: State) -> Result<(), NoMemory>
+    ensures { OnOk result (Gains into.old.items into.new.items (RefusalWarns place op state)) }
+{
+    match step(state, op) {
+        Ok(_) => Ok(()),
+        Err(rule) => push(into, bare_warning(place, rule)),
+    }
+}
+
+/// The rules 7 to 11 and 15, as far as the operation breaks them in its state.
+pub(crate) fn push_operation(
+    into: &mut Vec<Warning>,
+    place: Place,
+    op: Op,
+    state: State,
+) -> Result<(), NoMemory>
+    ensures { OnOk result (Gains into.old.items into.new.items (OperationWarns place op state)) }
+{
+    let unallowed = bare_warning(place, EXIT_NOT_ALLOWED);
+    push_refusal(into, place, op, state)?;
+    push_if(into, is_unallowed_switch(op, state), unallowed)?;
+    push_if(into, is_unallowed_iret(op, state), unallowed)
+}

@@ -1,8 +1,0 @@
-use Rattle.std.proofs.Common.{arith}
-use Rattle.symbols_relocs.proofs.Numbers.{found_low}
-use Rattle.symbols_relocs.proofs.parents.parent_of.Goals as goal
-
-pub returns-then-symbol-symbols : goal.returns-then-symbol-symbols
-returns-then-symbol-symbols c = λ part w.
-    let low = found_low c.args.object.now part c.in_ok-symbol.symbol (c.in_ok-symbol.ensures c.args.object.now part w) in
-    absurd (omega (arith, low, c.symbols.ensures.value, c.if-symbol-symbols.true))

@@ -1,0 +1,59 @@
+//! Worked examples of the look-up and the walk, each computed from the definitions.
+
+ghost use Rattle.std.specs.Prelude.{◌≡◌, [], ◌∷◌, ◌++◌, Some, None};
+ghost use Rattle.table_defs.specs.Lookup.{find_row};
+ghost use Rattle.table_defs.specs.Walk.{Walks};
+ghost use Rattle.table_defs.specs.Worked.{end_to_end, first_section, second_section, gate_rows, last_call, placed_at, call_row, saved_row, memory_of, registers, frame, at_place, zero_row, full_row, frame_pointer_row, realigned_row, end_row};
+ghost use Rattle.table_defs.specs.declared.frame.Stop.TheVariants.{BaseUnknown, EndOfStack, NoRow, NotRising, Outside, Undefined, Unreadable};
+
+/// Two sections end to end: the row that ends the first gives way to the first row of the second,
+/// whichever section's rows stand first in the table.
+pub fn worked_lookups()
+    ensures in_order { find_row (first_section ++ second_section) end_to_end 0x1006
+        ≡ Some (call_row 24) }
+    ensures reversed { find_row (second_section ++ first_section) end_to_end 0x1006
+        ≡ Some (call_row 24) }
+    ensures last_byte { find_row (first_section ++ second_section) end_to_end 0x1005
+        ≡ Some (call_row 8) }
+    ensures between { find_row (first_section ++ second_section) end_to_end 0x1004
+        ≡ Some (saved_row 16) }
+    ensures below_all { find_row (first_section ++ second_section) end_to_end 0xFFF ≡ None }
+{}
+
+/// Walks over small tables, with the words that they read.
+pub fn worked_walks()
+    // From within a function that has saved rbp, to a caller outside.
+    ensures saved { Walks first_section (placed_at 1 0x1000 6 ∷ [])
+        (memory_of ((0x8008, 0xA0000000) ∷ (0x8000, 7) ∷ []))
+        (registers 0x1001 0x8000 5) (frame 0xA0000000 0x8010 7 ∷ []) Outside }
+    // An interrupted function: its address is looked up itself, its caller's less one.
+    ensures interrupted { Walks gate_rows (placed_at 1 0x1000 7 ∷ [])
+        (memory_of ((0x7FD8, 0x1001) ∷ (0x7FF0, 0x8000) ∷ (0x8008, 0xA0000000) ∷ []))
+        (registers 0x1004 0x7FD0 5) (frame 0x1001 0x8000 5 ∷ frame 0xA0000000 0x8010 5 ∷ []) Outside }
+    // A call that its function ends with: the row is that of the call, not that of the function behind it.
+    ensures called { Walks last_call (placed_at 1 0x1000 17 ∷ [])
+        (memory_of ((0x8000, 0x1006) ∷ (0x8008, 0xA0000000) ∷ []))
+        (registers 0x1010 0x8000 5) (frame 0x1006 0x8008 5 ∷ frame 0xA0000000 0x8010 5 ∷ []) Outside }
+    // All registers of the interrupted place are saved.
+    ensures full { Walks (at_place 1 0 full_row ∷ []) (placed_at 1 0x1000 2 ∷ [])
+        (memory_of ((0x8080, 0xA0000000) ∷ (0x8098, 0x9000) ∷ (0x8020, 7) ∷ []))
+        (registers 0x1001 0x8000 5) (frame 0xA0000000 0x9000 7 ∷ []) Outside }
+    ensures unreadable { Walks first_section (placed_at 1 0x1000 6 ∷ [])
+        (memory_of ((0x8008, 0xA0000000) ∷ []))
+        (registers 0x1001 0x8000 5) [] (Unreadable 0x8000) }
+    ensures undefined { Walks first_section (placed_at 1 0x1000 7 ∷ [])
+        (memory_of [])
+        (registers 0x1006 0x8000 5) [] Undefined }
+    ensures end_of_stack { Walks (at_place 1 0 end_row ∷ []) (placed_at 1 0x1000 2 ∷ [])
+        (memory_of [])
+        (registers 0x1000 0x8000 5) [] EndOfStack }
+    ensures no_row { Walks (at_place 1 1 zero_row ∷ []) (placed_at 1 0x1000 2 ∷ [])
+        (memory_of [])
+        (registers 0x1000 0x8000 5) [] NoRow }
+    ensures base_unknown { Walks (at_place 1 0 realigned_row ∷ []) (placed_at 1 0x1000 2 ∷ [])
+        (memory_of [])
+        (registers 0x1000 0x8000 5) [] (BaseUnknown 6) }
+    ensures not_rising { Walks (at_place 1 0 frame_pointer_row ∷ []) (placed_at 1 0x1000 2 ∷ [])
+        (memory_of ((0x7000, 0) ∷ (0x7008, 0) ∷ []))
+        (registers 0x1000 0x8000 0x7000) [] (NotRising 0x8000 0x7010) }
+{}

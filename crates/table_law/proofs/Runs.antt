@@ -1,0 +1,97 @@
+-- A run stands in a site only where the site's start is kept.
+use Rattle.std.proofs.Common.{◌≡◌, ℕ, Bool, true, false, List, ◌∷◌, Option, Some, IfSome, MatchBool, Contains, refl, sym, subst}
+use Rattle.std.proofs.lemmas.List.Elements.{All-head}
+use Rattle.ot_base.specs.declared.place.Place.{Place}
+use Rattle.machine_defs.specs.declared.flow.EdgeKind.TheVariants.{Next}
+use Rattle.machine_defs.specs.declared.flow.Role.{Role}
+use Rattle.machine_defs.specs.declared.flow.Role.TheVariants.{CallIn, CallEither, CallAny}
+use Rattle.state_defs.specs.declared.state.State.{State}
+use Rattle.state_defs.specs.Frame.{Frame}
+use Rattle.machine_defs.specs.Program.{Program, in_site, is_call, edge}
+use Rattle.machine_defs.specs.Machine.{Bases, Standing, point_address, return_address}
+use Rattle.machine_defs.specs.Step.{GoesOn, Faults, MayCall, CallsIn, CallsOut, Returns, JumpsTo, sibling, indirect, TailCalls, IsInterrupted, ReturnsFromInterrupt}
+use Rattle.machine_defs.specs.Run.{MayStart}
+use Rattle.machine_defs.specs.MayReturn.{target_may_return}
+use Rattle.machine_defs.specs.Kept.{Kept, AreKeptStates}
+use Rattle.machine_defs.specs.Broken.{IsAccepted}
+use Rattle.machine_defs.specs.IsProgram.{IsProgram, IsLaidOut}
+use Rattle.machine_defs.specs.Law.{IsInnerFrame, AreFrames, HasRunInvariant, HasFrameInvariant}
+use Rattle.table_defs.specs.Enters.{EntersSites}
+use Rattle.unwinding_law.proofs.Shadow.{effect_no_call}
+use Rattle.unwinding_law.proofs.Backs.{inner_of, comes_back_to}
+use Rattle.unwinding_law.proofs.Edges.{plain_role, may_go, call_next_in}
+use Rattle.unwinding_law.proofs.Passes.{out_calls}
+use Rattle.table_law.proofs.VisitedPlaces.{calls, AllHave}
+use Rattle.table_law.proofs.Enters.{IsEntered, entered_local, entered_fixup, entered_sibling, entered_entry}
+
+module _ (p : Program) (bases : Bases) (is : IsProgram p) (laid : IsLaidOut p) (acc : IsAccepted p) (states : ℕ → Option State) (kept : AreKeptStates p states) (enters : EntersSites p) where
+  -- a point at which a run may start by its hint is the start of its site
+  pub hint_entered_start : (q : ℕ) (s : State) → MayStart p q → Kept p q s → IsEntered p q
+  hint_entered_start q s may k site listed inside =
+      let at : site.start ≡ p.place q = may.outside site listed (subst (λ (z : Place). in_site site z ≡ true) (laid.plain q may.point may.plain) inside) in
+      record { start = q; point = may.point; plain = may.plain; place = sym at; state = s; kept = k }
+
+  module _ (s t : Standing) (r : HasRunInvariant p s) (f : HasFrameInvariant p bases s) (here : IsEntered p s.point) (behind : AllHave (IsEntered p) (calls s.core.shadow)) where
+    -- an instruction goes on
+    pub goes_on_entered : GoesOn p s t → IsEntered p t.point
+    goes_on_entered g =
+        let role = plain_role p is s.point r.point (is_call (p.role s.point)) refl (effect_no_call s.core t.core (p.insn s.point).op g.effect) in
+        entered_local p is acc states kept enters s.point t.point r.state g.kind here g.local r.point r.kept g.along (may_go p s.point g.kind g.local role)
+
+    -- it faults
+    pub faults_entered : Faults p s t → IsEntered p t.point
+    faults_entered g = entered_fixup p is acc states kept enters s.point t.point r.state here r.point r.kept g.along
+
+    -- a call goes to an entry
+    called_entry : (x : Role) (entry : ℕ) → p.role s.point ≡ x → MayCall p x entry → Contains p.entries entry
+    called_entry (CallIn target) entry h k = subst (λ (y : ℕ). Contains p.entries y) (sym k) (is.calls_entry s.point target r.point h)
+    called_entry (CallEither target symbol) entry h k = subst (λ (y : ℕ). Contains p.entries y) (sym k) (is.calls_weak_entry s.point target symbol r.point h)
+    called_entry CallAny entry h k = k
+    called_entry _ entry h k = absurd k
+
+    -- it calls an entry
+    pub calls_in_entered : CallsIn p bases s t → IsEntered p t.point
+    calls_in_entered g = entered_entry p is acc states kept enters g.entry t.point (called_entry (p.role s.point) g.entry refl g.target) g.arrives
+
+    -- it calls code outside
+    pub calls_out_entered : CallsOut p s t → IsEntered p t.point
+    calls_out_entered g =
+        let call = out_calls p (p.role s.point) g.target in
+        let next = call_next_in p is acc s.point t.point r.state r.point r.kept call.0 g.passed g.comes_back in
+        entered_local p is acc states kept enters s.point t.point r.state Next here refl r.point r.kept next call.1
+
+    -- the point where the top frame comes from
+    top_call : (g : Frame) (below : List Frame) (call : ℕ) → s.core.shadow ≡ g ∷ below → g.call ≡ Some call → IsEntered p call
+    top_call g below call shadow called =
+        let all : AllHave (IsEntered p) (calls (g ∷ below)) = subst (λ (x : List Frame). AllHave (IsEntered p) (calls x)) shadow behind in
+        subst (λ (o : Option ℕ). IfSome o (IsEntered p)) called (All-head (λ (o : Option ℕ). IfSome o (IsEntered p)) g.call (calls below) all)
+
+    -- it returns
+    pub returns_entered : Returns p s t → IsEntered p t.point
+    returns_entered h =
+        let both = inner_of p bases s.point h.call h.frame h.below (subst (λ (x : List Frame). AreFrames p bases s.point x) h.shadow f.frames) h.called in
+        let i : IsInnerFrame p bases s.point h.call h.frame h.below = both.0 in
+        let k = i.call_kept in
+        let call : is_call (p.role h.call) ≡ true = (subst (λ (b : Bool). MatchBool b ((h.frame.ra ≡ return_address p bases h.call) × (is_call (p.role h.call) ≡ true)) (h.frame.ra ≡ point_address p bases h.call)) h.ready.of_call i.goes_back).1 in
+        let back : target_may_return p (p.role h.call) ≡ true = comes_back_to p is s t r.point h (i.comes_back h.ready.of_call) in
+        let next : Contains (p.goes h.call) (edge t.point Next) = call_next_in p is acc h.call t.point k.state i.point k.kept call h.passed h.comes_back in
+        entered_local p is acc states kept enters h.call t.point k.state Next (top_call h.frame h.below h.call h.shadow h.called) refl i.point k.kept next back
+
+    -- it jumps to another function
+    pub tail_calls_entered : TailCalls p s t → IsEntered p t.point
+    tail_calls_entered h = jumps t.point h.target
+      where
+        jumps : (q : ℕ) → JumpsTo p s.point q → IsEntered p q
+        jumps q (sibling q2 c) = entered_sibling p is acc states kept enters s.point q here r.point c
+        jumps q (indirect q2 entry role c d) = entered_entry p is acc states kept enters entry q c d
+
+    -- a gate is outside sites
+    pub interrupted_entered : IsInterrupted p bases s t → IsEntered p t.point
+    interrupted_entered h site listed inside =
+        let out : in_site site (p.place t.point) ≡ false = h.gate.outside site listed in
+        let within : in_site site (p.place t.point) ≡ true = subst (λ (z : Place). in_site site z ≡ true) (laid.plain t.point h.gate.point h.gate.plain) inside in
+        absurd (let k : ⊥ = cc in k)
+
+    -- it returns from an interrupt
+    pub irets_entered : ReturnsFromInterrupt p s t → IsEntered p t.point
+    irets_entered h = top_call h.frame h.below t.point h.shadow h.interrupted

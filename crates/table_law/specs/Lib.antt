@@ -1,0 +1,3 @@
+pub mod WorkedWalks
+pub mod KeptPoints
+pub mod WorkedRows

@@ -1,4 +1,0 @@
-pub mod WaySets
-pub mod Finding
-pub mod Following
-pub mod AllWarnings

@@ -1,5 +1,0 @@
-pub mod Ways
-pub mod Tracks
-pub mod Search
-pub mod Exits
-pub mod PointWarns

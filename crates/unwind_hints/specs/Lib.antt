@@ -1,2 +1,0 @@
-pub mod HintStates
-pub mod Places

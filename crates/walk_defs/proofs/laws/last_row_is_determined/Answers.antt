@@ -1,5 +1,0 @@
-use Rattle.walk_defs.proofs.LastRow.{one_row_holds}
-use Rattle.walk_defs.proofs.laws.last_row_is_determined.Goals as goal
-
-pub returns : goal.returns
-returns c = one_row_holds

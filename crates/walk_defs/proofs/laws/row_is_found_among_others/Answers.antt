@@ -1,5 +1,0 @@
-use Rattle.walk_defs.proofs.AmongOthers.{row_among_others}
-use Rattle.walk_defs.proofs.laws.row_is_found_among_others.Goals as goal
-
-pub returns : goal.returns
-returns c = row_among_others

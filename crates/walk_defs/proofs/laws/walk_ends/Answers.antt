@@ -1,5 +1,0 @@
-use Rattle.walk_defs.proofs.WalkLaws.{walk_ends}
-use Rattle.walk_defs.proofs.laws.walk_ends.Goals as goal
-
-pub returns : goal.returns
-returns c = walk_ends

@@ -1,5 +1,0 @@
-use Rattle.walk_law.proofs.Walk as walk
-use Rattle.walk_law.proofs.walk_law.Goals as goal
-
-pub returns : goal.returns
-returns c = walk.walk_law c.unwinding_law.ensures c.move_is_consistent.ensures c.ranges_are_placement.ensures
