@@ -1,5 +1,6 @@
 //! Whole commands over files and an output in memory.
 
+mod calls;
 mod files;
 mod memory;
 mod objects;
