@@ -11,21 +11,23 @@ use Rattle.command_base.specs.declared.stop.CommandStop.TheVariants as stop
 use Rattle.command_base.specs.Stop.{line_of, status_of}
 use Rattle.command_base.specs.Outside.{Output}
 
--- This text was to be printed, and then the command to end with the status `end`. It was printed whole, and the command
--- ends so; or writing it failed, which changes no status of a file's fault, or memory ran out, and a beginning of it was
--- printed.
+-- This text was to be printed, and then the command to end with the status `end`.
 pub data Prints (end : Status) (text : List ℕ) (before after : Output) : Status → Type 0 where
+  -- It was printed whole, and the command ends so.
   whole : {s : Status} → s ≡ end → after.written ≡ appending before.written text → Prints end text before after s
+  -- Writing it failed behind a beginning of it. It is the line of a file's fault, which stays the answer.
   fault_stays :
       AppendsPrefix before.written after.written text
       → Rose before.faults after.faults
       → end ≡ FileFault
       → Prints end text before after FileFault
+  -- Writing it failed behind a beginning of it, and is answered in place of any other status.
   fails :
       AppendsPrefix before.written after.written text
       → Rose before.faults after.faults
       → end ≢ FileFault
       → Prints end text before after SinkFault
+  -- Memory ran out behind a beginning of it.
   runs_out : AppendsPrefix before.written after.written text → Prints end text before after NoMemory
 
 -- A part of a longer text was to be printed: writing it failed, or memory ran out, and a beginning of it was printed.

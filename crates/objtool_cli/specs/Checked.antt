@@ -13,7 +13,9 @@ use Rattle.elf_objects.specs.Object.{FirstFault, IsObject}
 use Rattle.elf_objects.specs.declared.TheConstants.{MAX_SYMBOLS}
 use Rattle.x86_map.specs.declared.map.Map.{Map}
 use Rattle.x86_text.specs.declared.fault.TextFault.{TextFault}
+use Rattle.machine_defs.specs.Allowances.{Allowances}
 use Rattle.machine_defs.specs.Asked.{IsWarned}
+use Rattle.machine_defs.specs.Program.{Program}
 use Rattle.flow_defs.specs.Coded.{Coded, coded_by}
 use Rattle.flow_defs.specs.Program.{program_of}
 use Rattle.point_allowances.specs.Allowances.{allowances_of}
@@ -29,6 +31,14 @@ use Rattle.command_base.specs.declared.stop.CommandStop.{CommandStop}
 use Rattle.command_base.specs.declared.stop.CommandStop.TheVariants.{Usage, Missing, TooLong, Refused, FileFault, NoMemory}
 use Rattle.objtool_cli.specs.Writing.{IsTable}
 
+-- the program of an object, read by the opcode map that the options ask for, under lists of names; and what the object allows
+-- code of it
+abbrev pub program_under : CheckOptions → NameLists → Elf → Program
+program_under options lists object = program_of (coded_by options.map object) lists
+
+abbrev pub allowances_under : CheckOptions → NameLists → Elf → Allowances
+allowances_under options lists object = allowances_of (coded_by options.map object) lists
+
 -- An input of these bytes is accepted under these lists of names and these options, and OUT is to hold the bytes `table`: the
 -- bytes are an object that is checked, whose program, read by the opcode map that the options ask for, breaks no rule that they
 -- ask for; and `table` is this object with the tables of the rows of its program.
@@ -36,9 +46,9 @@ pub record Accepts (bytes : List ℕ) (lists : NameLists) (options : CheckOption
   pub object : Elf
   pub is : IsObject bytes object
   pub checkable : IsCheckable (coded_by options.map object)
-  pub unbroken : IsUnbroken (program_of (coded_by options.map object) lists) (allowances_of (coded_by options.map object) lists) options.rules
+  pub unbroken : IsUnbroken (program_under options lists object) (allowances_under options lists object) options.rules
   pub rows : List PlacedRow
-  pub has_rows : HasRows (program_of (coded_by options.map object) lists) rows
+  pub has_rows : HasRows (program_under options lists object) rows
   pub table_is : IsTable object rows table
 
 -- They are this object, which is checked, and whose program breaks rules that are asked for: these are all warnings, in
@@ -46,7 +56,7 @@ pub record Accepts (bytes : List ℕ) (lists : NameLists) (options : CheckOption
 pub record Warns (bytes : List ℕ) (lists : NameLists) (options : CheckOptions) (o : Elf) (warnings : List Warning) : Type 0 where
   pub is : IsObject bytes o
   pub checkable : IsCheckable (coded_by options.map o)
-  pub are : AreWarnings (program_of (coded_by options.map o) lists) (allowances_of (coded_by options.map o) lists) options.rules warnings
+  pub are : AreWarnings (program_under options lists o) (allowances_under options lists o) options.rules warnings
 
 -- they are an object that is checked, and whose program breaks a rule that is asked for
 pub record BreaksRule (bytes : List ℕ) (lists : NameLists) (options : CheckOptions) : Type 0 where
@@ -57,7 +67,7 @@ pub record BreaksRule (bytes : List ℕ) (lists : NameLists) (options : CheckOpt
   pub rule : ℕ
   pub a : ℤ
   pub b : ℤ
-  pub broken : IsWarned (program_of (coded_by options.map object) lists) (allowances_of (coded_by options.map object) lists) options.rules place rule a b
+  pub broken : IsWarned (program_under options lists object) (allowances_under options lists object) options.rules place rule a b
 
 -- where a text section isn't code, it is told by its name and its body
 pub record NamesText (o : Elf) (told : LinkFaultText) (sec : ℕ) : Type 0 where
@@ -101,8 +111,8 @@ pub data Refuses (bytes : List ℕ) (lists : NameLists) (options : CheckOptions)
       {count : ℕ} (o : Elf) (rows : List PlacedRow)
       → IsObject bytes o
       → IsCheckable (coded_by options.map o)
-      → IsUnbroken (program_of (coded_by options.map o) lists) (allowances_of (coded_by options.map o) lists) options.rules
-      → HasRows (program_of (coded_by options.map o) lists) rows
+      → IsUnbroken (program_under options lists o) (allowances_under options lists o) options.rules
+      → HasRows (program_under options lists o) rows
       → MAX_SYMBOLS < symbols_needed o rows
       → count ≡ symbols_needed o rows
       → Refuses bytes lists options (TooMany Symbols count)

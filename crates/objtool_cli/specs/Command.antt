@@ -113,6 +113,22 @@ pub data Ends (meaning : Meaning) (before after : Outside) (out out' : Output) :
       → EndsCheck input output options names before after out out' s
       → Ends meaning before after out out' s
 
+-- What stands outside of a command: its files, and its output.
+pub record World : Type 0 where
+  pub files : Outside
+  pub output : Output
+
+-- such a world: what the files tell of their content, and their count of faults; what was written to the output, and its count
+abbrev pub world_of : Option Content → ℕ → Option (List ℕ) → ℕ → World
+world_of content faults written failed = record {
+  files = record { content = content; faults = faults };
+  output = record { written = written; faults = failed };
+}
+
+-- how the words that mean this change the world, and end
+abbrev pub EndsIn : Meaning → World → World → Status → Type 0
+EndsIn meaning before after s = Ends meaning before.files after.files before.output after.output s
+
 -- The command may have changed a file: it is `check`, its input was accepted, and only OUT has changed.
 pub data MayChange (meaning : Meaning) (before after : Option Content) : Type 0 where
   output_of_check :

@@ -12,8 +12,6 @@ use Rattle.elf_objects.specs.Object.{IsObject}
 use Rattle.demo_objects.specs.Demo.{demo_spec}
 use Rattle.demo_objects.specs.Made.{made}
 use Rattle.flow_defs.specs.Coded.{coded_by}
-use Rattle.flow_defs.specs.Program.{program_of}
-use Rattle.point_allowances.specs.Allowances.{allowances_of}
 use Rattle.object_check.specs.Counts.{IsCounted}
 use Rattle.object_check.specs.Order.{IsCheckable}
 use Rattle.object_check.specs.Outcome.{HasRows, IsUnbroken}
@@ -26,7 +24,7 @@ use Rattle.command_base.specs.declared.stop.CommandStop.TheVariants as stop
 use Rattle.command_base.specs.Outside.{Output}
 use Rattle.command_base.specs.Printing.{Concludes, Prints}
 use Rattle.command_base.specs.Stop.{line_of}
-use Rattle.objtool_cli.specs.Checked.{IsUncheckable, IsUncheckableStop, Warns}
+use Rattle.objtool_cli.specs.Checked.{IsUncheckable, IsUncheckableStop, Warns, allowances_under, program_under}
 use Rattle.objtool_cli.specs.Warnings.{warnings_text}
 
 -- the options of `check` where none is given
@@ -48,10 +46,10 @@ pub record Passes (bytes : List ℕ) (counts : CodeCounts) (rows : ℕ) : Type 0
   pub object : Elf
   pub is : IsObject bytes object
   pub checkable : IsCheckable (coded_by no_options.map object)
-  pub unbroken : IsUnbroken (program_of (coded_by no_options.map object) built_in) (allowances_of (coded_by no_options.map object) built_in) no_options.rules
+  pub unbroken : IsUnbroken (program_under no_options built_in object) (allowances_under no_options built_in object) no_options.rules
   pub counted : IsCounted (coded_by no_options.map object) counts
   pub all : List PlacedRow
-  pub has_rows : HasRows (program_of (coded_by no_options.map object) built_in) all
+  pub has_rows : HasRows (program_under no_options built_in object) all
   pub so_many : rows ≡ length all
 
 -- How the check of these bytes ends: they break no rule, and the line with the title is printed; or they break rules, and the

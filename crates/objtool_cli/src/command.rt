@@ -18,7 +18,7 @@ ghost use Rattle.objtool_cli.specs.Promises.{InKeepsPromises};
 ghost use Rattle.objtool_cli.specs.Refused.{IsRefused, IsRefusedOrFails, TellsRefusal};
 ghost use Rattle.command_base.specs.declared.stop.CommandStop.{CommandStop as StopValue};
 ghost use Rattle.objtool_cli.specs.Unwinding.{OutUnwinds};
-ghost use Rattle.objtool_cli.specs.Command.{Ends, EndsCheck, IsFaulty, IsUsageAnswer, MayChange, PrintsWarnings};
+ghost use Rattle.objtool_cli.specs.Command.{Ends, EndsCheck, EndsIn, IsFaulty, IsUsageAnswer, MayChange, PrintsWarnings, world_of};
 
 use crate::check::check;
 use crate::demo::demo;
@@ -161,11 +161,9 @@ fn dispatch<F: Files, S: Sink>(
 /// memory.
 pub fn run<F: Files, S: Sink>(alloc: Global, words: &[String], files: &mut F, out: &mut S) -> Status
     // What was done to the files and told to the output, and why.
-    ensures ends { Ends (meaning (map string_bytes words.now))
-        (record { content = F.content files.old; faults = F.faults files.old })
-        (record { content = F.content files.new; faults = F.faults files.new })
-        (record { written = S.written out.old; faults = S.faults out.old })
-        (record { written = S.written out.new; faults = S.faults out.new }) result }
+    ensures ends { EndsIn (meaning (map string_bytes words.now))
+        (world_of (F.content files.old) (F.faults files.old) (S.written out.old) (S.faults out.old))
+        (world_of (F.content files.new) (F.faults files.new) (S.written out.new) (S.faults out.new)) result }
 
     // Words at fault are answered as such, unless the line that says so can't be written or memory runs out; and no other words
     // are.
