@@ -17,7 +17,7 @@ destination_way o point (ToPlace place weak crossing) = jump_way o point crossin
 destination_way o point _ = Bad
 
 -- what is no direct jump has none
-abbrev pub way_by : Coded → Point → Insn → Op → Way
-way_by o point insn (Jmp rel wide) = destination_way o point (destination o point insn)
-way_by o point insn (Jcc rel wide) = destination_way o point (destination o point insn)
-way_by o point insn _ = Bad
+abbrev pub direct_way : Coded → Point → Insn → Op → Way
+direct_way o point insn (Jmp rel wide) = destination_way o point (destination o point insn)
+direct_way o point insn (Jcc rel wide) = destination_way o point (destination o point insn)
+direct_way o point insn _ = Bad

@@ -114,7 +114,7 @@ impl Program {
     ghost use Rattle.std.specs.Prelude.{◌≡◌, [], None, Some, MatchOption, IsTrue, Contains, List, Bool, false, ◌==◌, slice_get};
     ghost use Rattle.std.specs.List.{list_any};
     ghost use Rattle.machine_defs.specs.Program.{no_marks};
-    ghost use Rattle.program_model.specs.Program.{of_point, no_insn, no_place, starts_site, arrives, program_of, IsAtEntry};
+    ghost use Rattle.program_model.specs.Program.{of_point, no_insn, no_place, starts_site, arrives, program_of, StandsAtEntry};
     ghost use Rattle.machine_defs.specs.Program.{entry_points};
 
     /// How many points there are.
@@ -273,7 +273,7 @@ impl Program {
 
     /// Whether control that comes to some entry may stand at the point.
     pub fn is_at_entry(&self, q: u32) -> bool
-        ensures { (set : List Bool) → IsTrue result → IsAtEntry self.now set q }
+        ensures { (set : List Bool) → IsTrue result → StandsAtEntry self.now set q }
     {
         for entry in &self.entries {
             if self.enters(*entry, q) {
