@@ -73,7 +73,7 @@ pub struct ModelPoint {
 const NO_PLACE: Place = Place { sec: 0, off: 0 };
 
 /// Whether two places are one.
-fn is_same_place(one: Place, other: Place) -> bool
+fn same_place(one: Place, other: Place) -> bool
     ensures { result ≡ same_place one other }
 {
     one.sec == other.sec && one.off == other.off
@@ -238,9 +238,7 @@ impl Program {
     fn starts_site(&self, place: Place) -> bool
         ensures { result ≡ starts_site self.now place }
     {
-        self.sites
-            .iter()
-            .any(|site| is_same_place(site.start, place))
+        self.sites.iter().any(|site| same_place(site.start, place))
     }
 
     /// Whether control that comes to a place may stand at a point: at the start of a site at the first of
@@ -251,7 +249,7 @@ impl Program {
         let starts_site = self.starts_site(place);
         match self.point(q) {
             Some(point) => {
-                is_same_place(point.address, place) && (point.variant == 0 || starts_site)
+                same_place(point.address, place) && (point.variant == 0 || starts_site)
             }
             None => false,
         }
