@@ -22,7 +22,7 @@ before_on place p q n before (inr (same, less)) = on_off place.sec place.off p.s
 not_held : (a b c d n : ℕ) → is_lt (ordering_then (nat_cmp a c) (nat_cmp b d)) ≡ true → (eqb c a && (leb d b && ltb b (d + n))) ≡ false
 not_held a b c d n before = grind (arith, nat_tests)
 
--- no site in_alternatives_site a place before its start
+-- no site holds a place before its start
 pub before_not_held : (place : Place) (site : AlternativesSite) → is_before place site.start ≡ true → in_alternatives_site site place ≡ false
 before_not_held place site before = not_held place.sec place.off site.start.sec site.start.off site.len before
 

@@ -38,7 +38,7 @@ covered from to i (s ∷ sites) fill low high = elim (cases_lt i (from + s.count
       record { j = suc rest.j; inside = omega (arith, rest.inside); from = rest.from; below = rest.below }
 ]
 
--- ---- one site at most in_alternatives_site a place
+-- ---- one site at most holds a place
 never_both : (p q place : Place) (m n : ℕ) → EndsBefore p m q → (eqb p.sec place.sec && (leb p.off place.off && ltb place.off (p.off + m))) ≡ true → (eqb q.sec place.sec && (leb q.off place.off && ltb place.off (q.off + n))) ≡ true → ⊥
 never_both p q place m n (inl less) h k =
     let a : p.sec ≡ place.sec = same_sec p.sec place.sec p.off place.off m h in

@@ -90,8 +90,8 @@ impl Sites {
         &self.sites
     }
 
-    /// The number of the site that in_alternatives_site a place.
-    pub fn site_at(&self, place: Place) -> Option<u32>
+    /// The number of the site that holds a place.
+    pub fn site_number_at(&self, place: Place) -> Option<u32>
         ensures { MatchOption result ((k : ℕ) (d : AlternativesSite) → k < length self.now.sites → in_alternatives_site (slice_index_or self.now.sites k d) place ≡ false) (λ i. (i < length self.now.sites) × ((d : AlternativesSite) → in_alternatives_site (slice_index_or self.now.sites i d) place ≡ true)) }
     {
         let (near, _) = self.blocks.numbers(place);

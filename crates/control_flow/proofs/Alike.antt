@@ -24,7 +24,7 @@ use Rattle.alternatives.specs.declared.point.Point.{Point}
 use Rattle.alternatives.specs.declared.texts.SectionText.{SectionText}
 use Rattle.jump_tables.specs.Tables.{entries_by, entries_of, jump_table, same_owner}
 use Rattle.flow_defs.specs.Coded.{Coded}
-use Rattle.flow_defs.specs.declared.aim.Way.TheVariants.{Along}
+use Rattle.flow_defs.specs.declared.destination.Way.TheVariants.{Along}
 use Rattle.flow_defs.specs.Arrival.{after, arrive, insn_of_object, is_at_end, is_dead_end}
 use Rattle.flow_defs.specs.Code.{is_plain, texts_of}
 use Rattle.flow_defs.specs.Edges.{branch_edges, branch_edges_by, edges_to, ends_flow, fixups, goes, goes_on, is_some_place, listed_edges, next_edges, static_targets, table_edges, table_edges_by, way_edges}

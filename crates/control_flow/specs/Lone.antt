@@ -1,8 +1,7 @@
 -- Jumps that go nowhere but through their table.
 use Rattle.std.specs.Prelude.{◌≡◌, ◌<◌, ◌&&◌, ℕ, not, is_none, Bool, true, false, List, Some, All, Contains}
 use Rattle.std.specs.BTreeMap.{get}
-use Rattle.std.specs.Ordering.{nat_cmp, ordering_then}
-use Rattle.std.specs.declared.cmp.Ordering.{Ordering}
+use Rattle.ot_base.specs.Places.{place_cmp}
 use Rattle.ot_base.specs.declared.place.Place.{Place}
 use Rattle.operation_defs.specs.declared.op.Op.{Op}
 use Rattle.operation_defs.specs.declared.op.Op.TheVariants.{JmpInd}
@@ -60,10 +59,7 @@ pub record IsFirstJump (o : Coded) (alike : List ℕ) (n : ℕ) (start : Place) 
   pub lone : is_lone_jump o (point_at o r) ≡ true
   pub begins : table_start_of o (point_at o r) ≡ Some start
 
-abbrev pub place_order : Place → Place → Ordering
-place_order p q = ordering_then (nat_cmp p.sec q.sec) (nat_cmp p.off q.off)
-
 -- these are lone jumps of the first n points
 pub record AreLoneJumps (o : Coded) (jumps : LoneJumps) (n : ℕ) : Type 0 where
-  pub firsts : (start : Place) (r : ℕ) → get place_order jumps.firsts start ≡ Some r → IsFirstJump o jumps.alike.items n start r
+  pub firsts : (start : Place) (r : ℕ) → get place_cmp jumps.firsts start ≡ Some r → IsFirstJump o jumps.alike.items n start r
   pub earlier : All (λ q. q < n) jumps.alike.items

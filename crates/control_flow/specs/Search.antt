@@ -13,7 +13,7 @@ use Rattle.control_flow.specs.Told.{TellsFlow, exit_at, dead_end_at, entered_at}
 use Rattle.control_flow.specs.Shape.{points_of}
 use Rattle.control_flow.specs.Backward.{edge_at, IsEdgeOf}
 
--- whether a list of tests has one that is_set there
+-- whether a list of tests has one that holds there
 abbrev pub is_set : List Bool → ℕ → Bool
 is_set tests q = slice_index_or tests q false
 

@@ -33,7 +33,7 @@ fn entered_place(places: &PointPlaces<'_, '_, '_>, n: u32) -> Option<Place>
 
 /// The entry at which control may come to stand at a point, by the number of its plain point, if there is one. There is
 /// no other.
-pub fn entry_at(places: &PointPlaces<'_, '_, '_>, n: u32) -> Option<u32>
+pub fn entry_of_point(places: &PointPlaces<'_, '_, '_>, n: u32) -> Option<u32>
     requires { n < length (points_of_object places.now) }
     ensures is { (entry : ℕ) → IsEnteredAt places.now entry n ↔ (result ≡ Some entry) }
     ensures known { IfSome result (λ entry. entry < length (points_of_object places.now)) }

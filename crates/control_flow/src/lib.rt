@@ -31,7 +31,7 @@ mod starts;
 mod transfers;
 
 pub use check::check_flow;
-pub use entered::entry_at;
+pub use entered::entry_of_point;
 pub use fault_text::FlowFaultText;
 pub use found_returns::{Returns, find_returns};
 pub use graph::flow;

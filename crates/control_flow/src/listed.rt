@@ -5,7 +5,7 @@ ghost use Rattle.flow_defs.specs.Program.{program_of};
 ghost use Rattle.control_flow.specs.Told.{exit_of};
 ghost use Rattle.control_flow.specs.Listed.{AreDeadEnds, AreEntered, count_of};
 
-use crate::{Exit, entry_at};
+use crate::{Exit, entry_of_point};
 use machine_defs::Role;
 use object_code::Linked;
 use object_points::{PointPlaces, never_returns};
@@ -72,7 +72,7 @@ pub(crate) fn list_entered(
     let count = count_points(places);
     let mut entered = Vec::with_capacity(alloc, count as usize)?;
     for n in 0..count {
-        entered.push(entry_at(places, n))?;
+        entered.push(entry_of_point(places, n))?;
     }
     Ok(entered)
 }

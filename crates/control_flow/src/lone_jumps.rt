@@ -10,9 +10,9 @@ ghost use Rattle.flow_defs.specs.Edges.{is_some_place};
 ghost use Rattle.flow_defs.specs.Roles.{table_of_point};
 ghost use Rattle.point_edges.specs.Tables.{table_start_of};
 ghost use Rattle.control_flow.specs.Listed.{count_of};
-ghost use Rattle.control_flow.specs.Lone.{AreLoneJumps, GoAlike, HasEdgesOf, is_in_open_code as is_point_in_open_code, is_indirect_jump as is_indirect, is_lone_jump as is_lone, is_unlisted as is_unlisted_point, place_order};
+ghost use Rattle.control_flow.specs.Lone.{AreLoneJumps, GoAlike, HasEdgesOf, is_in_open_code as is_point_in_open_code, is_indirect_jump as is_indirect, is_lone_jump as is_lone, is_unlisted as is_unlisted_point};
 
-use object_points::site_at;
+use object_points::site_holding;
 use operation_defs::{Insn, Op};
 use ot_base::{NoMemory, Place};
 use point_edges::FlowPoints;
@@ -42,7 +42,9 @@ fn is_in_open_code(points: &FlowPoints<'_, '_, '_>, n: u32) -> bool
 {
     let places = points.places();
     let point = places.point(n);
-    point.variant == 0 && site_at(places, point.place).is_none() && !places.is_unchecked_point(n)
+    point.variant == 0
+        && site_holding(places, point.place).is_none()
+        && !places.is_unchecked_point(n)
 }
 
 /// Whether a point has a jump table that has entries.
@@ -95,7 +97,7 @@ impl LoneJumps {
 
     /// The first lone jump through the table that begins at a place.
     fn first(&self, start: Place) -> Option<u32>
-        ensures { result ≡ get place_order self.now.firsts start }
+        ensures { result ≡ get place_cmp self.now.firsts start }
     {
         Some(*self.firsts.get(&start)?)
     }

@@ -6,7 +6,7 @@ ghost use Rattle.control_flow.specs.Judged.{ends_text as ends_text_of, is_no_bra
 
 use alternatives::Point;
 use elf_objects::Object;
-use object_points::{PointPlaces, site_at};
+use object_points::{PointPlaces, site_holding};
 use operation_defs::Op;
 use ot_base::Place;
 
@@ -17,7 +17,7 @@ pub(crate) fn is_no_start(places: &PointPlaces<'_, '_, '_>, place: Place) -> boo
     if !places.is_boundary(place) {
         return true;
     }
-    match site_at(places, place) {
+    match site_holding(places, place) {
         Some(site) => !(site.start.sec == place.sec && site.start.off == place.off),
         None => false,
     }

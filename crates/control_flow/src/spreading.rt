@@ -16,7 +16,7 @@ use ot_base::NoMemory;
 use std::alloc::Global;
 
 /// Whether a return comes from a point.
-fn leaves(exit: Exit) -> bool
+fn is_leaving(exit: Exit) -> bool
     ensures { IsTrue result ↔ (exit ≡ Leaves) }
 {
     match exit {
@@ -240,7 +240,7 @@ fn find_leaving(flow: &Flow, search: &mut Search, q: u32)
     ensures sound { AreSound flow.now search.new.found.items search.new.known.items }
     ensures leaving { exit_at flow.now q ≡ Leaves → is_set search.new.found.items q ≡ true }
 {
-    if leaves(flow.exits[q as usize]) {
+    if is_leaving(flow.exits[q as usize]) {
         search.find(flow, q);
     }
 }

@@ -16,10 +16,10 @@ use Rattle.special_sections.specs.declared.entries.FixEntry.{FixEntry}
 use Rattle.special_sections.specs.Special.{special_of}
 use Rattle.alternatives.specs.declared.point.Point.{Point}
 use Rattle.jump_tables.specs.Tables.{same_owner}
-use Rattle.flow_defs.specs.declared.aim.Destination.{Destination}
-use Rattle.flow_defs.specs.declared.aim.Destination.TheVariants.{ToPlace, ToOwnPoint}
-use Rattle.flow_defs.specs.declared.aim.Way.{Way}
-use Rattle.flow_defs.specs.declared.aim.Way.TheVariants.{Along}
+use Rattle.flow_defs.specs.declared.destination.Destination.{Destination}
+use Rattle.flow_defs.specs.declared.destination.Destination.TheVariants.{ToPlace, ToOwnPoint}
+use Rattle.flow_defs.specs.declared.destination.Way.{Way}
+use Rattle.flow_defs.specs.declared.destination.Way.TheVariants.{Along}
 use Rattle.flow_defs.specs.Code.{numbers_of}
 use Rattle.flow_defs.specs.Owners.{owner_of_point, is_unchecked_point}
 use Rattle.flow_defs.specs.Sites.{is_into_site}

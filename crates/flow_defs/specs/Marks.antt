@@ -13,8 +13,8 @@ use Rattle.machine_defs.specs.declared.flow.Marks.{Marks}
 use Rattle.symbols_relocs.specs.NamedPlaces.{is_relocated}
 use Rattle.alternatives.specs.declared.point.Point.{Point}
 use Rattle.jump_tables.specs.Tables.{same_owner}
-use Rattle.flow_defs.specs.declared.aim.Destination.{Destination}
-use Rattle.flow_defs.specs.declared.aim.Destination.TheVariants.{ToPlace, ToOwnPoint, ToOutside, ToIndirectThunk, ToReturnThunk, ToNowhere}
+use Rattle.flow_defs.specs.declared.destination.Destination.{Destination}
+use Rattle.flow_defs.specs.declared.destination.Destination.TheVariants.{ToPlace, ToOwnPoint, ToOutside, ToIndirectThunk, ToReturnThunk, ToNowhere}
 use Rattle.flow_defs.specs.Code.{texts_of}
 use Rattle.flow_defs.specs.Owners.{owner_of_point, is_entry, unchecked_start}
 use Rattle.flow_defs.specs.Sites.{is_into_site}

@@ -34,7 +34,7 @@ leads_to_return p known q e =
 abbrev pub returns_by : Program → (ℕ → Bool) → ℕ → Bool
 returns_by p known q = may_leave p (p.role q) || list_any (leads_to_return p known q) (p.goes q)
 
--- within this many levels: at first none; then each point that may_leave, or leads to one of the level before
+-- within this many levels: at first none; then each point that may leave its function, or leads to one of the level before
 abbrev pub returns_within : Program → ℕ → ℕ → Bool
 returns_within p zero q = false
 returns_within p (suc n) q = returns_by p (returns_within p n) q

@@ -10,10 +10,10 @@ use Rattle.machine_defs.specs.declared.flow.Role.{Role}
 use Rattle.machine_defs.specs.declared.flow.Role.TheVariants.{Plain, CallIn, CallEither, CallOut, CallAny, Return, JumpOut, JumpAny, Switch}
 use Rattle.alternatives.specs.declared.point.Point.{Point}
 use Rattle.jump_tables.specs.Tables.{table_of}
-use Rattle.flow_defs.specs.declared.aim.Destination.{Destination}
-use Rattle.flow_defs.specs.declared.aim.Destination.TheVariants.{ToPlace, ToOwnPoint, ToOutside, ToIndirectThunk, ToReturnThunk, ToNowhere}
-use Rattle.flow_defs.specs.declared.aim.Way.{Way}
-use Rattle.flow_defs.specs.declared.aim.Way.TheVariants as ways
+use Rattle.flow_defs.specs.declared.destination.Destination.{Destination}
+use Rattle.flow_defs.specs.declared.destination.Destination.TheVariants.{ToPlace, ToOwnPoint, ToOutside, ToIndirectThunk, ToReturnThunk, ToNowhere}
+use Rattle.flow_defs.specs.declared.destination.Way.{Way}
+use Rattle.flow_defs.specs.declared.destination.Way.TheVariants as ways
 use Rattle.flow_defs.specs.Code.{texts_of, number_of, plain_point}
 use Rattle.flow_defs.specs.Owners.{owner_of_point, is_entry, unchecked_start}
 use Rattle.flow_defs.specs.Arrival.{insn_of_object, is_padding}

@@ -13,9 +13,9 @@ use Rattle.symbols_relocs.specs.declared.target.Target.TheVariants.{Inside, Eith
 use Rattle.symbols_relocs.specs.Targets.{branch_target, last_bytes}
 use Rattle.alternatives.specs.declared.point.Point.{Point}
 use Rattle.alternatives.specs.Points.{is_point}
-use Rattle.flow_defs.specs.declared.aim.Crossing.TheVariants.{MayCross, MayNotCross}
-use Rattle.flow_defs.specs.declared.aim.Destination.{Destination}
-use Rattle.flow_defs.specs.declared.aim.Destination.TheVariants.{ToPlace, ToOwnPoint, ToOutside, ToIndirectThunk, ToReturnThunk, ToNowhere}
+use Rattle.flow_defs.specs.declared.destination.Crossing.TheVariants.{MayCross, MayNotCross}
+use Rattle.flow_defs.specs.declared.destination.Destination.{Destination}
+use Rattle.flow_defs.specs.declared.destination.Destination.TheVariants.{ToPlace, ToOwnPoint, ToOutside, ToIndirectThunk, ToReturnThunk, ToNowhere}
 use Rattle.flow_defs.specs.Code.{texts_of, alternatives_of, is_plain}
 use Rattle.flow_defs.specs.Arrival.{site_end, replacement_end}
 

@@ -10,10 +10,10 @@ use Rattle.machine_defs.specs.declared.flow.EdgeKind.TheVariants.{Sibling, Taken
 use Rattle.symbols_relocs.specs.Parts.{owner_at}
 use Rattle.alternatives.specs.declared.point.Point.{Point}
 use Rattle.jump_tables.specs.Tables.{same_owner}
-use Rattle.flow_defs.specs.declared.aim.Crossing.{Crossing}
-use Rattle.flow_defs.specs.declared.aim.Crossing.TheVariants.{MayCross, MayNotCross}
-use Rattle.flow_defs.specs.declared.aim.Way.{Way}
-use Rattle.flow_defs.specs.declared.aim.Way.TheVariants.{Bad, Outside, Along}
+use Rattle.flow_defs.specs.declared.destination.Crossing.{Crossing}
+use Rattle.flow_defs.specs.declared.destination.Crossing.TheVariants.{MayCross, MayNotCross}
+use Rattle.flow_defs.specs.declared.destination.Way.{Way}
+use Rattle.flow_defs.specs.declared.destination.Way.TheVariants.{Bad, Outside, Along}
 use Rattle.flow_defs.specs.Code.{texts_of}
 use Rattle.flow_defs.specs.Owners.{is_unchecked, is_entry, owner_of_point, unchecked_start}
 

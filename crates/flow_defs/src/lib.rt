@@ -5,8 +5,8 @@
 //! alternatives, jump tables and hints.
 #![tactic(auto)]
 
-mod aim;
+mod destination;
 mod fault;
 
-pub use aim::{Crossing, Destination, Way};
+pub use destination::{Crossing, Destination, Way};
 pub use fault::FlowFault;

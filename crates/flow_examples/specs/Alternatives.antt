@@ -7,9 +7,9 @@ use Rattle.operation_defs.specs.declared.op.Op.TheVariants.{Nop}
 use Rattle.state_defs.specs.declared.state.HintState.TheVariants.{Restore, Save}
 use Rattle.machine_defs.specs.declared.flow.EdgeKind.TheVariants.{Next, Taken, Fixup, Table, Sibling}
 use Rattle.machine_defs.specs.declared.flow.Role.TheVariants.{Plain, CallIn, CallEither, CallOut, CallAny, Return, JumpOut, JumpAny, Switch}
-use Rattle.machine_defs.specs.Program.{edge}
+use Rattle.machine_defs.specs.Program.{edge, no_marks}
 use Rattle.flow_defs.specs.Program.{program_of}
-use Rattle.flow_examples.specs.Objects.{code_section, data_section, edges_of_points, fine, for_section, function_symbol, marks_of_points, object, outside, pair_at, reloc, returning_points, roles_of_points, zeros}
+use Rattle.flow_examples.specs.Objects.{code_section, data_section, edges_of_points, for_section, function_symbol, marks_of_points, object, outside, pair_at, reloc, returning_points, roles_of_points, zeros}
 
 -- f calls through a pointer and returns; a site over the call has a shorter replacement, pushf and a pop
 abbrev pub patched_call : Coded
@@ -27,7 +27,7 @@ pub record HasPatchedCall (lists : NameLists) : Type 0 where
   pub edges : edges_of_points (program_of patched_call lists)
       ≡ ((edge 1 Next ∷ []) ∷ [] ∷ (edge 4 Next ∷ []) ∷ (edge 5 Next ∷ []) ∷ [] ∷ (edge 6 Next ∷ []) ∷ (edge 1 Next ∷ []) ∷ [])
   pub roles : roles_of_points (program_of patched_call lists) ≡ (CallAny ∷ Return ∷ Plain ∷ Plain ∷ Plain ∷ Plain ∷ Plain ∷ [])
-  pub marks : marks_of_points (program_of patched_call lists) ≡ (fine ∷ fine ∷ fine ∷ fine ∷ record fine { past_end = true } ∷ fine ∷ fine ∷ [])
+  pub marks : marks_of_points (program_of patched_call lists) ≡ (no_marks ∷ no_marks ∷ no_marks ∷ no_marks ∷ record no_marks { past_end = true } ∷ no_marks ∷ no_marks ∷ [])
   pub returning : returning_points (program_of patched_call lists) ≡ (true ∷ true ∷ false ∷ true ∷ false ∷ true ∷ true ∷ [])
   pub entries : (program_of patched_call lists).entries ≡ 0 ∷ []
 
@@ -51,7 +51,7 @@ pub record HasPatchedJumps (lists : NameLists) : Type 0 where
       ∷ (edge 17 Taken ∷ []) ∷ (edge 1 Next ∷ []) ∷ (edge 1 Taken ∷ []) ∷ (edge 13 Next ∷ []) ∷ (edge 14 Next ∷ []) ∷ (edge 15 Next ∷ []) ∷ (edge 16 Next ∷ [])
       ∷ (edge 17 Next ∷ []) ∷ (edge 1 Next ∷ []) ∷ [] ∷ (edge 19 Taken ∷ []) ∷ (edge 1 Next ∷ []) ∷ [])
   pub arrives : (program_of patched_jumps lists).arrive (record { sec = 1; off = 0 }) ≡ 0 ∷ 3 ∷ 10 ∷ 18 ∷ []
-  pub bad : (program_of patched_jumps lists).marks 17 ≡ record fine { bad = true }
+  pub bad : (program_of patched_jumps lists).marks 17 ≡ record no_marks { bad = true }
   pub padding : (program_of patched_jumps lists).insn 19 ≡ record { len = 3; op = Nop }
   pub address : (program_of patched_jumps lists).address 19 ≡ record { sec = 1; off = 2 }
 

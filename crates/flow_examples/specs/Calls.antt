@@ -5,9 +5,9 @@ use Rattle.elf_objects.specs.declared.symbol.Reloc.{Reloc}
 use Rattle.flow_defs.specs.Coded.{Coded}
 use Rattle.machine_defs.specs.declared.flow.EdgeKind.TheVariants.{Next, Taken, Fixup, Table, Sibling}
 use Rattle.machine_defs.specs.declared.flow.Role.TheVariants.{Plain, CallIn, CallEither, CallOut, CallAny, Return, JumpOut, JumpAny, Switch}
-use Rattle.machine_defs.specs.Program.{edge}
+use Rattle.machine_defs.specs.Program.{edge, no_marks}
 use Rattle.flow_defs.specs.Program.{program_of}
-use Rattle.flow_examples.specs.Objects.{code_section, data_section, edges_of_points, fine, for_section, function_symbol, marks_of_points, object, outside, pair_at, reloc, returning_points, roles_of_points, zeros}
+use Rattle.flow_examples.specs.Objects.{code_section, data_section, edges_of_points, for_section, function_symbol, marks_of_points, object, outside, pair_at, reloc, returning_points, roles_of_points, zeros}
 
 -- the relocation PLT32 of a branch whose displacement begins at an offset: the place of a symbol itself
 abbrev pub before : ℕ → ℕ → Reloc
@@ -40,5 +40,5 @@ pub record HasCalls (lists : NameLists) : Type 0 where
       ≡ ((edge 1 Next ∷ []) ∷ (edge 2 Next ∷ []) ∷ (edge 3 Next ∷ []) ∷ (edge 4 Next ∷ []) ∷ (edge 5 Next ∷ []) ∷ (edge 6 Next ∷ []) ∷ (edge 7 Next ∷ [])
       ∷ (edge 10 Sibling ∷ []) ∷ (edge 9 Next ∷ []) ∷ [] ∷ [] ∷ [] ∷ [])
   pub marks : marks_of_points (program_of by_relocation lists)
-      ≡ (fine ∷ record fine { into_function = true } ∷ record fine { bad = true } ∷ fine ∷ fine ∷ fine ∷ fine ∷ fine ∷ fine ∷ fine ∷ fine ∷ fine ∷ [])
+      ≡ (no_marks ∷ record no_marks { into_function = true } ∷ record no_marks { bad = true } ∷ no_marks ∷ no_marks ∷ no_marks ∷ no_marks ∷ no_marks ∷ no_marks ∷ no_marks ∷ no_marks ∷ no_marks ∷ [])
   pub entries : (program_of by_relocation lists).entries ≡ 0 ∷ 10 ∷ []

@@ -8,10 +8,10 @@ use Rattle.operation_defs.specs.declared.op.Op.TheVariants.{Call, Jcc, Nop, Ret}
 use Rattle.operation_defs.specs.declared.insn.Insn.{Insn}
 use Rattle.machine_defs.specs.declared.flow.EdgeKind.TheVariants.{Next}
 use Rattle.machine_defs.specs.declared.flow.Role.TheVariants.{Plain, CallOut, Return}
-use Rattle.machine_defs.specs.Program.{Program, below, edge}
+use Rattle.machine_defs.specs.Program.{Program, below, edge, no_marks}
 use Rattle.flow_defs.specs.Coded.{Coded}
 use Rattle.flow_defs.specs.Program.{program_of}
-use Rattle.flow_examples.specs.Objects.{code_section, data_section, edges_of_points, fine, for_section, function_symbol, marks_of_points, object, outside, pair_at, reloc, roles_of_points, zeros}
+use Rattle.flow_examples.specs.Objects.{code_section, data_section, edges_of_points, for_section, function_symbol, marks_of_points, object, outside, pair_at, reloc, roles_of_points, zeros}
 use Rattle.flow_examples.specs.Calls.{before}
 
 -- f calls __fentry__ at 0, and has two no-ops at 5 and 6, for which a shorter replacement may stand, a conditional jump to the second
@@ -71,7 +71,7 @@ pub record HasFields (lists : NameLists) : Type 0 where
       ≡ ((edge 1 Next ∷ edge 9 Next ∷ []) ∷ (edge 2 Next ∷ []) ∷ (edge 3 Next ∷ []) ∷ (edge 4 Next ∷ []) ∷ [] ∷ [] ∷ [] ∷ [] ∷ [] ∷ (edge 10 Next ∷ []) ∷ (edge 3 Next ∷ []) ∷ [])
   pub roles : roles_of_points (program_of whole lists) ≡ (CallOut 7 ∷ Plain ∷ Plain ∷ Plain ∷ Return ∷ Return ∷ Return ∷ Return ∷ Plain ∷ Plain ∷ Plain ∷ [])
   pub marks : marks_of_points (program_of whole lists)
-      ≡ (fine ∷ fine ∷ fine ∷ record fine { into_site = true } ∷ fine ∷ fine ∷ fine ∷ fine ∷ record fine { past_end = true } ∷ fine ∷ fine ∷ [])
+      ≡ (no_marks ∷ no_marks ∷ no_marks ∷ record no_marks { into_site = true } ∷ no_marks ∷ no_marks ∷ no_marks ∷ no_marks ∷ record no_marks { past_end = true } ∷ no_marks ∷ no_marks ∷ [])
   pub after : of_points (program_of whole lists) (program_of whole lists).after
       ≡ ((1 ∷ 9 ∷ []) ∷ (2 ∷ []) ∷ (3 ∷ []) ∷ (4 ∷ []) ∷ (5 ∷ []) ∷ (6 ∷ []) ∷ (7 ∷ []) ∷ [] ∷ [] ∷ (10 ∷ []) ∷ (3 ∷ []) ∷ [])
   pub arrive_at_site : (program_of whole lists).arrive (in_text 5) ≡ 1 ∷ 9 ∷ []

@@ -4,9 +4,9 @@ use Rattle.ot_base.specs.NameLists.{NameLists}
 use Rattle.flow_defs.specs.Coded.{Coded}
 use Rattle.machine_defs.specs.declared.flow.EdgeKind.TheVariants.{Next, Taken, Fixup, Table, Sibling}
 use Rattle.machine_defs.specs.declared.flow.Role.TheVariants.{Plain, CallIn, CallEither, CallOut, CallAny, Return, JumpOut, JumpAny, Switch}
-use Rattle.machine_defs.specs.Program.{edge}
+use Rattle.machine_defs.specs.Program.{edge, no_marks}
 use Rattle.flow_defs.specs.Program.{program_of}
-use Rattle.flow_examples.specs.Objects.{code_section, data_section, edges_of_points, fine, for_section, function_symbol, marks_of_points, object, outside, pair_at, reloc, returning_points, roles_of_points, zeros}
+use Rattle.flow_examples.specs.Objects.{code_section, data_section, edges_of_points, for_section, function_symbol, marks_of_points, object, outside, pair_at, reloc, returning_points, roles_of_points, zeros}
 
 -- f is push, a no-op of 5 bytes, pop, ret; its cold part is a no-op and a jump back behind the static branch at the no-op
 abbrev pub static_branch : Coded
@@ -22,7 +22,7 @@ pub record HasStaticBranch (lists : NameLists) : Type 0 where
   pub edges : edges_of_points (program_of static_branch lists)
       ≡ ((edge 1 Next ∷ []) ∷ (edge 2 Next ∷ edge 4 Taken ∷ []) ∷ (edge 3 Next ∷ []) ∷ [] ∷ (edge 5 Next ∷ []) ∷ (edge 2 Taken ∷ []) ∷ [])
   pub roles : roles_of_points (program_of static_branch lists) ≡ (Plain ∷ Plain ∷ Plain ∷ Return ∷ Plain ∷ Plain ∷ [])
-  pub marks : marks_of_points (program_of static_branch lists) ≡ (fine ∷ fine ∷ fine ∷ fine ∷ fine ∷ fine ∷ [])
+  pub marks : marks_of_points (program_of static_branch lists) ≡ (no_marks ∷ no_marks ∷ no_marks ∷ no_marks ∷ no_marks ∷ no_marks ∷ [])
   pub entries : (program_of static_branch lists).entries ≡ 0 ∷ []
 
 -- f is push, a load that may fault, pop, ret; the fault goes on at the ret
@@ -34,7 +34,7 @@ exception_entry = object
 
 pub record HasExceptionEntry (lists : NameLists) : Type 0 where
   pub edges : edges_of_points (program_of exception_entry lists) ≡ ((edge 1 Next ∷ []) ∷ (edge 2 Next ∷ edge 3 Fixup ∷ []) ∷ (edge 3 Next ∷ []) ∷ [] ∷ [])
-  pub marks : marks_of_points (program_of exception_entry lists) ≡ (fine ∷ fine ∷ fine ∷ fine ∷ [])
+  pub marks : marks_of_points (program_of exception_entry lists) ≡ (no_marks ∷ no_marks ∷ no_marks ∷ no_marks ∷ [])
 
 -- f jumps by a table of three returns; g's table would begin right behind, so the fourth address is none of f's
 abbrev pub jump_table : Coded

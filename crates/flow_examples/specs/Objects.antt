@@ -1,5 +1,5 @@
 -- What worked objects are made of, and what is asked of their programs.
-use Rattle.std.specs.Prelude.{ℕ, ◌+◌, Bool, false, List, [], ◌∷◌, None, map, pos, replicate}
+use Rattle.std.specs.Prelude.{ℕ, ◌+◌, Bool, List, [], ◌∷◌, None, map, pos, replicate}
 use Rattle.elf_objects.specs.declared.symbol.Home.TheVariants as homes
 use Rattle.elf_objects.specs.declared.symbol.Reloc.{Reloc}
 use Rattle.elf_objects.specs.Elf.{SectionEntry, SymbolEntry}
@@ -47,10 +47,6 @@ marks_of_points p = map p.marks (below p.count)
 
 abbrev pub returning_points : Program → List Bool
 returning_points p = map p.may_return (below p.count)
-
--- nothing is wrong with a point
-abbrev pub fine : Marks
-fine = record { bad = false; past_end = false; into_site = false; into_function = false; relocated = false }
 
 -- where the parts of an entry are put by relocations, at an offset and 4 bytes behind it
 abbrev pub pair_at : ℕ → ℕ → ℕ → ℕ → ℕ → List Reloc

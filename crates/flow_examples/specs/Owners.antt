@@ -6,9 +6,9 @@ use Rattle.operation_defs.specs.declared.insn.Insn.{Insn}
 use Rattle.operation_defs.specs.declared.op.Op.TheVariants.{Iret, IretNext, Ret}
 use Rattle.machine_defs.specs.declared.flow.EdgeKind.TheVariants.{Next, Taken, Fixup, Table, Sibling}
 use Rattle.machine_defs.specs.declared.flow.Role.TheVariants.{Plain, CallIn, CallEither, CallOut, CallAny, Return, JumpOut, JumpAny, Switch}
-use Rattle.machine_defs.specs.Program.{edge}
+use Rattle.machine_defs.specs.Program.{edge, no_marks}
 use Rattle.flow_defs.specs.Program.{program_of}
-use Rattle.flow_examples.specs.Objects.{code_section, data_section, edges_of_points, fine, for_section, function_symbol, marks_of_points, object, outside, pair_at, reloc, returning_points, roles_of_points, zeros}
+use Rattle.flow_examples.specs.Objects.{code_section, data_section, edges_of_points, for_section, function_symbol, marks_of_points, object, outside, pair_at, reloc, returning_points, roles_of_points, zeros}
 
 -- f is listed as one without a standard frame, so neither it nor its part f.cold is checked. g jumps to f, calls it, and
 -- jumps to its part, which is no start of an entry but one of an unchecked function.
@@ -25,7 +25,7 @@ pub record HasUnchecked (lists : NameLists) : Type 0 where
   pub roles : roles_of_points (program_of unchecked lists) ≡ (JumpOut 3 ∷ CallOut 3 ∷ JumpOut 4 ∷ Plain ∷ Return ∷ Plain ∷ Plain ∷ Return ∷ Plain ∷ Return ∷ [])
   pub edges : edges_of_points (program_of unchecked lists)
       ≡ ((edge 1 Next ∷ []) ∷ (edge 2 Next ∷ []) ∷ (edge 3 Next ∷ []) ∷ (edge 4 Next ∷ []) ∷ [] ∷ (edge 6 Next ∷ []) ∷ (edge 7 Next ∷ []) ∷ [] ∷ [] ∷ [] ∷ [])
-  pub marks : marks_of_points (program_of unchecked lists) ≡ (fine ∷ fine ∷ fine ∷ fine ∷ fine ∷ fine ∷ fine ∷ fine ∷ fine ∷ fine ∷ [])
+  pub marks : marks_of_points (program_of unchecked lists) ≡ (no_marks ∷ no_marks ∷ no_marks ∷ no_marks ∷ no_marks ∷ no_marks ∷ no_marks ∷ no_marks ∷ no_marks ∷ no_marks ∷ [])
   pub entries : (program_of unchecked lists).entries ≡ 0 ∷ []
 
 -- f branches into code of no function, which comes back into its middle
@@ -38,7 +38,7 @@ without_owner = object
 pub record HasCodeWithoutOwner (lists : NameLists) : Type 0 where
   pub edges : edges_of_points (program_of without_owner lists) ≡ ((edge 1 Next ∷ edge 3 Taken ∷ []) ∷ (edge 2 Next ∷ []) ∷ [] ∷ (edge 1 Taken ∷ []) ∷ [])
   pub owners : map (program_of without_owner lists).owner (0 ∷ 1 ∷ 2 ∷ 3 ∷ []) ≡ (Some 3 ∷ Some 3 ∷ Some 3 ∷ None ∷ [])
-  pub marks : marks_of_points (program_of without_owner lists) ≡ (fine ∷ fine ∷ fine ∷ fine ∷ [])
+  pub marks : marks_of_points (program_of without_owner lists) ≡ (no_marks ∷ no_marks ∷ no_marks ∷ no_marks ∷ [])
 
 -- f is two undefined instructions, the second of which is listed as one behind which code goes on, a no-op that is listed as
 -- one behind which it doesn't, and a return
@@ -64,4 +64,4 @@ pub record HasIrets (lists : NameLists) : Type 0 where
   pub insns : map (program_of irets lists).insn (0 ∷ 1 ∷ 2 ∷ []) ≡ (record { len = 2; op = IretNext } ∷ record { len = 1; op = Ret } ∷ record { len = 2; op = Iret } ∷ [])
   pub roles : roles_of_points (program_of irets lists) ≡ (Plain ∷ Return ∷ Switch ∷ [])
   pub edges : edges_of_points (program_of irets lists) ≡ ((edge 1 Next ∷ []) ∷ [] ∷ [] ∷ [])
-  pub marks : marks_of_points (program_of irets lists) ≡ (fine ∷ fine ∷ fine ∷ [])
+  pub marks : marks_of_points (program_of irets lists) ≡ (no_marks ∷ no_marks ∷ no_marks ∷ [])

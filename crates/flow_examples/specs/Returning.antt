@@ -5,9 +5,9 @@ use Rattle.ot_base.specs.NameLists.{NameLists}
 use Rattle.flow_defs.specs.Coded.{Coded}
 use Rattle.machine_defs.specs.declared.flow.EdgeKind.TheVariants.{Next, Taken, Fixup, Table, Sibling}
 use Rattle.machine_defs.specs.declared.flow.Role.TheVariants.{Plain, CallIn, CallEither, CallOut, CallAny, Return, JumpOut, JumpAny, Switch}
-use Rattle.machine_defs.specs.Program.{edge}
+use Rattle.machine_defs.specs.Program.{edge, no_marks}
 use Rattle.flow_defs.specs.Program.{program_of}
-use Rattle.flow_examples.specs.Objects.{code_section, data_section, edges_of_points, fine, for_section, function_symbol, marks_of_points, object, outside, pair_at, reloc, returning_points, roles_of_points, zeros}
+use Rattle.flow_examples.specs.Objects.{code_section, data_section, edges_of_points, for_section, function_symbol, marks_of_points, object, outside, pair_at, reloc, returning_points, roles_of_points, zeros}
 
 -- f calls panic right before g, which calls f and goes on to its return; h calls itself before its return
 abbrev pub never_returning : Coded
@@ -32,4 +32,4 @@ last_call = object
 -- the call runs off its section exactly where panic isn't listed, the no-op always
 pub record HasLastCall (lists : NameLists) : Type 0 where
   pub marks : marks_of_points (program_of last_call lists)
-      ≡ (record fine { past_end = not (set.contains lists.never_returning (codes "panic")) } ∷ record fine { past_end = true } ∷ [])
+      ≡ (record no_marks { past_end = not (set.contains lists.never_returning (codes "panic")) } ∷ record no_marks { past_end = true } ∷ [])

@@ -39,7 +39,7 @@ is_read_only o place = bytes_eq (take (length rodata) (section_at o place.sec).n
 abbrev pub table_named : Elf → Place → Option Place
 table_named o field = option_and_then (λ table. if is_read_only o table then Some table else None) (named_by o R_X86_64_32S field)
 
--- the place so many bytes checked_behind another, where 64 bits hold the offset
+-- the place so many bytes behind another, where 64 bits hold the offset
 abbrev pub checked_behind : Place → ℕ → Option Place
 checked_behind place n = option_map (λ off. record { sec = place.sec; off = off }) (offset_of (pos place.off +ℤ pos n))
 

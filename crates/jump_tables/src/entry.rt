@@ -7,7 +7,7 @@ ghost use Rattle.alternatives.specs.Texts.{AscendBySection};
 ghost use Rattle.jump_tables.specs.Kept.{AreByPlace, AreStarts};
 ghost use Rattle.jump_tables.specs.Tables.{boundary_named as boundary_named_by, table_entry_at as entry_of_table};
 
-use crate::field::{behind, named_by};
+use crate::field::{checked_behind, named_by};
 use crate::places::contains;
 use crate::texts::is_boundary;
 use alternatives::SectionText;
@@ -39,7 +39,7 @@ fn is_cut(starts: &[Place], field: Place, i: u32) -> bool
 /// Entry `i` of the table that begins at a place: the boundary of a text section that the relocation
 /// `R_X86_64_64` of its field names. There is none where `i` is above 0 and the table of a jump begins at
 /// that field; `starts` are the places where such tables begin, in their order.
-pub(crate) fn entry_at(
+pub(crate) fn table_entry_at(
     index: &Index<'_, '_>,
     texts: &[SectionText<'_>],
     starts: &[Place],
@@ -51,7 +51,7 @@ pub(crate) fn entry_at(
     requires all { AreStarts index.now.elf texts.now starts.now }
     ensures { result ≡ entry_of_table index.now.elf texts.now table i }
 {
-    let field = behind(table, 8 * u64::from(i))?;
+    let field = checked_behind(table, 8 * u64::from(i))?;
     if is_cut(starts, field, i) {
         return None;
     }

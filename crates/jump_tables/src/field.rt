@@ -52,7 +52,7 @@ fn table_named(index: &Index<'_, '_>, field: Place) -> Option<Place>
 }
 
 /// The place so many bytes behind another, where 64 bits hold the offset.
-pub(crate) fn behind(place: Place, n: u64) -> Option<Place>
+pub(crate) fn checked_behind(place: Place, n: u64) -> Option<Place>
     ensures { result ≡ place_behind place n }
 {
     let off = u64::try_from(i128::from(place.off) + i128::from(n)).ok()?;
@@ -64,7 +64,7 @@ pub(crate) fn table_by(index: &Index<'_, '_>, place: Place, op: Op) -> Option<Pl
     ensures { result ≡ table_of_op index.now.elf place op }
 {
     match op {
-        Op::JmpInd { table: Some(n) } => table_named(index, behind(place, u64::from(n))?),
+        Op::JmpInd { table: Some(n) } => table_named(index, checked_behind(place, u64::from(n))?),
         _ => None,
     }
 }

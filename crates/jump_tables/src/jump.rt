@@ -8,7 +8,7 @@ ghost use Rattle.jump_tables.specs.declared.jump.Jump.{Jump};
 ghost use Rattle.jump_tables.specs.Jumps.{jump_by, jump_among, jumps_among, jumps_of, AreByJump, HaveSameJumps, IsAscending};
 
 use crate::field::table_by;
-use crate::places::is_same;
+use crate::places::same_place;
 use alternatives::SectionText;
 use operation_defs::Insn;
 use ot_base::{NoMemory, Place, is_before};
@@ -97,7 +97,7 @@ pub(crate) fn find_jump(jumps: &[Jump], place: Place) -> Option<Jump>
     if at >= jumps.len() {
         return None;
     }
-    if is_same(jumps[at].place, place) {
+    if same_place(jumps[at].place, place) {
         Some(jumps[at])
     } else {
         None

@@ -9,7 +9,7 @@ ghost use Rattle.jump_tables.specs.Kept.{AreByPlace, IsFirstOf};
 use ot_base::{Place, is_before};
 
 /// Whether two places are one.
-pub(crate) fn is_same(place: Place, other: Place) -> bool
+pub(crate) fn same_place(place: Place, other: Place) -> bool
     ensures { result ≡ same_place place other }
 {
     place.sec == other.sec && place.off == other.off
@@ -34,7 +34,7 @@ pub(crate) fn find_first(places: &[Place], place: Place) -> Option<usize>
     if at >= places.len() {
         return None;
     }
-    if is_same(places[at], place) {
+    if same_place(places[at], place) {
         Some(at)
     } else {
         None

@@ -6,7 +6,7 @@ ghost use Rattle.alternatives.specs.Texts.{AscendBySection};
 ghost use Rattle.jump_tables.specs.Tables.{entries_for as entries_of_table_for, table_entry_at as entry_of_table};
 ghost use Rattle.jump_tables.specs.Kept.{entry_for, kept_for, AreByPlace, AreStarts, AreTables, IsTableFrom};
 
-use crate::entry::entry_at;
+use crate::entry::table_entry_at;
 use crate::owner::{is_same_owner, owner_at};
 use alternatives::SectionText;
 use ot_base::{NoMemory, Place};
@@ -61,7 +61,7 @@ fn entry_of(
     requires all { AreStarts index.now.elf texts.now starts.now }
     ensures { result ≡ entry_for index.now.elf owner (entry_of_table index.now.elf texts.now table i) }
 {
-    let entry = entry_at(index, texts, starts, table, i)?;
+    let entry = table_entry_at(index, texts, starts, table, i)?;
     if is_same_owner(owner_at(index, entry), owner) {
         Some(entry)
     } else {
@@ -106,7 +106,7 @@ fn read_table(
     requires all { AreStarts index.now.elf texts.now starts.now }
     ensures { IfOk result (IsTableFrom index.now.elf texts.now start) }
 {
-    let Some(first) = entry_at(index, texts, starts, start, 0) else {
+    let Some(first) = table_entry_at(index, texts, starts, start, 0) else {
         return Ok(Table {
             owner: None,
             entries: Vec::new(alloc),

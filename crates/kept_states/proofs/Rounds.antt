@@ -5,7 +5,7 @@ use Rattle.state_defs.specs.declared.state.State.{State}
 use Rattle.machine_defs.specs.Program.{Program, IsPoint}
 use Rattle.machine_defs.specs.Kept.{kept_or, state_at}
 use Rattle.unwinding_law.proofs.Lists.{nowhere}
-use Rattle.kept_states.specs.Batches.{AreFirst, InBatch, IsClean}
+use Rattle.kept_states.specs.Batches.{AreFirst, InBatch, MetNoSettled}
 use Rattle.kept_states.specs.Gives.{Gives, IsGiven}
 use Rattle.kept_states.specs.Least.{IsLeast}
 use Rattle.kept_states.specs.LevelStates.{LevelStates, Offers, StaysSame, at, is_settled}
@@ -40,7 +40,7 @@ by_state None x y = y
 
 -- All points in front have given, and what was offered is kept. No settled point was met, or there is none.
 module _ (p : Program) (old : LevelStates) (waiting : List ℕ) (batch : InBatch p old waiting) (next : Offers) (given : AreLeast old.kept next (IsGiven p (at old.kept) (take (length old.front) old.front)))
-    (count : p.count ≡ length old.kept) (settled : next.settled ≡ old.next.settled) (clean : IsClean next) (new : LevelStates) (is_after : (q : ℕ) → at new.kept q ≡ kept_or (at old.kept q) (at next.states q))
+    (count : p.count ≡ length old.kept) (settled : next.settled ≡ old.next.settled) (clean : MetNoSettled next) (new : LevelStates) (is_after : (q : ℕ) → at new.kept q ≡ kept_or (at old.kept q) (at next.states q))
     (is_new : (q : ℕ) → IsSome (at next.states q) → Contains new.front q) (fresh : (q : ℕ) → Contains new.front q → (at old.kept q ≡ None) × IsSome (at new.kept q)) (still : new.next.settled ≡ next.settled) where
   abbrev kept : ℕ → Option State
   kept = at old.kept
@@ -180,20 +180,20 @@ module _ (p : Program) (old : LevelStates) (waiting : List ℕ) (batch : InBatch
               omega (arith, le, r)
 
 -- where nothing settled was met, none was before
-pub clean_before : (a b : LevelStates) → StaysSame a b → IsClean b.next → IsClean a.next
+pub clean_before : (a b : LevelStates) → StaysSame a b → MetNoSettled b.next → MetNoSettled a.next
 clean_before a b (f, s, m) (inl clear) = inl (m clear)
 clean_before a b (f, s, m) (inr none) = inr (λ q. subst (λ (l : List Bool). is_settled (record { states = []; settled = l; met = false }) q ≡ false) s (none q))
 
-clean_given_of : (given new : LevelStates) → new.next.settled ≡ given.next.settled → new.next.met ≡ given.next.met → IsClean new.next → IsClean given.next
+clean_given_of : (given new : LevelStates) → new.next.settled ≡ given.next.settled → new.next.met ≡ given.next.met → MetNoSettled new.next → MetNoSettled given.next
 clean_given_of given new settled met (inl clear) = inl (sym met ∙ clear)
 clean_given_of given new settled met (inr none) = inr (λ q. subst (λ (l : List Bool). is_settled (record { states = []; settled = l; met = false }) q ≡ false) settled (none q))
 
 -- a round: what is in front gives, and the next level is kept
-pub after_round : (p : Program) (old given new : LevelStates) (waiting : List ℕ) → p.count ≡ length old.kept → (IsClean old.next → InBatch p old waiting) → given.kept ≡ old.kept → given.front ≡ old.front → StaysSame old given → HaveGiven p given (length old.front)
+pub after_round : (p : Program) (old given new : LevelStates) (waiting : List ℕ) → p.count ≡ length old.kept → (MetNoSettled old.next → InBatch p old waiting) → given.kept ≡ old.kept → given.front ≡ old.front → StaysSame old given → HaveGiven p given (length old.front)
     → ((q : ℕ) → at new.kept q ≡ kept_or (at given.kept q) (at given.next.states q)) → ((q : ℕ) → IsSome (at given.next.states q) → Contains new.front q) → ((q : ℕ) → Contains new.front q → (at given.kept q ≡ None) × IsSome (at new.kept q))
-    → new.next.settled ≡ given.next.settled → new.next.met ≡ given.next.met → IsClean new.next → InBatch p new waiting
+    → new.next.settled ≡ given.next.settled → new.next.met ≡ given.next.met → MetNoSettled new.next → InBatch p new waiting
 after_round p old given new waiting count batch same_kept same_front same has is_after is_new fresh settled met clean =
-    let clean_given : IsClean given.next = clean_given_of given new settled met clean in
+    let clean_given : MetNoSettled given.next = clean_given_of given new settled met clean in
     let one : AreLeast old.kept given.next (IsGiven p (at old.kept) (take (length old.front) given.front)) =
     subst (λ (k : List (Option State)). AreLeast k given.next (IsGiven p (at k) (take (length old.front) given.front))) same_kept has in
     let two : AreLeast old.kept given.next (IsGiven p (at old.kept) (take (length old.front) old.front)) =

@@ -17,8 +17,8 @@ pub record InBatch (p : Program) (levels : LevelStates) (waiting : List ℕ) : T
   pub recent : (q : ℕ) (s : State) → IsPoint p q → at levels.kept q ≡ Some s → state_at p 0 q ≡ None → is_settled levels.next q ≡ false → rank q ≤ level
 
 -- no settled point was met, or there is none
-abbrev pub IsClean : Offers → Type 0
-IsClean next = (next.met ≡ false) ⊎ ((q : ℕ) → is_settled next q ≡ false)
+abbrev pub MetNoSettled : Offers → Type 0
+MetNoSettled next = (next.met ≡ false) ⊎ ((q : ℕ) → is_settled next q ≡ false)
 
 -- these points are of level 0
 abbrev pub AreFirst : Program → List ℕ → Type 0

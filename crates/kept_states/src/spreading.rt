@@ -12,7 +12,7 @@ ghost use Rattle.machine_defs.specs.Program.{Program, IsPoint};
 ghost use Rattle.machine_defs.specs.IsProgram.{IsProgram, HintsStandAtPoints};
 ghost use Rattle.machine_defs.specs.Kept.{AreKeptStates, state_at};
 ghost use Rattle.program_graph.specs.Tells.{Tells};
-ghost use Rattle.kept_states.specs.Batches.{AreFirst, InBatch, IsClean};
+ghost use Rattle.kept_states.specs.Batches.{AreFirst, InBatch, MetNoSettled};
 ghost use Rattle.kept_states.specs.Done.{HaveGivenAll};
 ghost use Rattle.kept_states.specs.LevelStates.{StaysSame, at};
 ghost use Rattle.kept_states.specs.Passages.{ArePassages};
@@ -168,7 +168,7 @@ pub(crate) fn spread_levels(graph: &Graph, passages: &[Passage], levels: &mut Le
     ensures next { length levels.new.next.states ≡ length levels.new.kept }
     ensures none { (q : ℕ) → at levels.new.next.states q ≡ None }
     ensures same { StaysSame levels.old levels.new }
-    ensures spread { (p : Program) (waiting : List ℕ) → Tells p graph.now.parts → IsProgram p → InBatch p levels.old waiting → IsClean levels.new.next → AreSpread p (at levels.new.kept) [] waiting }
+    ensures spread { (p : Program) (waiting : List ℕ) → Tells p graph.now.parts → IsProgram p → InBatch p levels.old waiting → MetNoSettled levels.new.next → AreSpread p (at levels.new.kept) [] waiting }
 {
     'rounds: loop {
         give_all(graph, passages, levels);

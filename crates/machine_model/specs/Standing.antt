@@ -37,7 +37,7 @@ pub record StoresAt (address : ℕ) (before after : Core) : Type 0 where
   pub others : after ≡ record before { region = after.region }
 
 -- rbp is a 64-bit number, the region is one, and rsp is in it or right behind it
-pub record IsWithin (sp bp : ℕ) (r : Region) : Type 0 where
+pub record IsInRegion (sp bp : ℕ) (r : Region) : Type 0 where
   pub rbp : bp < 2 ^ 64
   pub region : IsRegion r
   pub above_lo : r.lo ≤ sp

@@ -96,7 +96,7 @@ fn jumps_to(p: &Program, q: u32, to: u32) -> bool
         return true;
     }
     match p.role(q) {
-        Role::JumpAny => p.is_entry_point(to),
+        Role::JumpAny => p.is_at_entry(to),
         _ => false,
     }
 }

@@ -3,7 +3,7 @@
 ghost use Rattle.std.specs.Prelude.{◌≡◌, ◌∷◌, IfOk, IfSome, IsTrue, List, Bool};
 ghost use Rattle.state_defs.specs.Address.{up};
 ghost use Rattle.state_defs.specs.Frame.{Frame as DefinedFrame};
-ghost use Rattle.machine_defs.specs.Step.{IsAtReturn, MissesReturn, LeavesMemory, Returns, may_leave};
+ghost use Rattle.machine_defs.specs.Step.{IsAtReturn, MissesReturn, LeavesMemory, Returns};
 ghost use Rattle.program_model.specs.Region.{region_of};
 ghost use Rattle.machine_model.specs.Frame.{frame_of, frames_of};
 ghost use Rattle.machine_model.specs.Standing.{core_of, standing_of};
@@ -14,19 +14,8 @@ use crate::frame::Frame;
 use crate::shadow::protected_addresses;
 use crate::standing::{Core, Standing};
 use machine_defs::Role;
-use program_model::{Program, Region, Store, down, up};
+use program_model::{Program, Region, Store, down, may_leave, up};
 use std::alloc::{AllocError, Global};
-
-/// Whether a point may leave its function: by a return, or by a jump to code outside that returns.
-pub fn may_leave(p: &Program, role: Role) -> bool
-    ensures { (set : List Bool) → result ≡ may_leave (program_of p.now set) role }
-{
-    match role {
-        Role::Return | Role::JumpAny => true,
-        Role::JumpOut { sym } => !p.never_returns(sym),
-        _ => false,
-    }
-}
 
 /// Whether the stack may be as it has to be for a return from this frame.
 fn is_at_return(core: &Core, frame: &Frame) -> bool

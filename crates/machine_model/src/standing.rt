@@ -1,6 +1,6 @@
 ghost use Rattle.std.specs.Prelude.{IsTrue};
 ghost use Rattle.program_model.specs.Region.{region_of};
-ghost use Rattle.machine_model.specs.Standing.{IsWithin};
+ghost use Rattle.machine_model.specs.Standing.{IsInRegion};
 
 use crate::frame::{Frame, Mark};
 use crate::shadow::{are_kept, end_of, listed, protected_addresses, top_slot};
@@ -9,8 +9,8 @@ use state_defs::EndKind;
 use std::alloc::{AllocError, Global};
 
 /// Whether a region ends a gigabyte below the last address, and rsp is in it or right behind it.
-fn is_within(rsp: u64, rbp: u64, region: &Region) -> bool
-    ensures { IsTrue result → IsWithin rsp rbp (region_of region.now) }
+fn is_in_region(rsp: u64, rbp: u64, region: &Region) -> bool
+    ensures { IsTrue result → IsInRegion rsp rbp (region_of region.now) }
 {
     if !region.is_placed() || rsp < region.lo {
         return false;
@@ -51,7 +51,7 @@ impl Core {
     pub fn is_in_stack(&self) -> bool
         ensures { IsTrue result → IsInStack (core_of self.now) }
     {
-        is_within(self.rsp, self.rbp, &self.region)
+        is_in_region(self.rsp, self.rbp, &self.region)
     }
 }
 

@@ -5,10 +5,10 @@ ghost use Rattle.program_model.specs.Program.{program_of};
 
 use crate::choice::Wreck;
 use crate::interrupts::misses_iret;
-use crate::returns::{may_leave, misses_return};
+use crate::returns::misses_return;
 use crate::standing::Standing;
 use operation_defs::Op;
-use program_model::Program;
+use program_model::{Program, may_leave};
 
 /// Whether the stack may be wrecked in this way: it returns with a wrong stack, or goes where there is
 /// nothing to go to.

@@ -12,13 +12,13 @@ use Rattle.machine_defs.specs.Kept.{AreKeptStates}
 use Rattle.machine_defs.specs.Rows.{rows_of}
 use Rattle.program_graph.specs.declared.parts.GraphParts.{GraphParts}
 use Rattle.kept_states.specs.LevelStates.{at}
-use Rattle.program_check.specs.Checkable.{IsCheckable}
+use Rattle.program_check.specs.Checkable.{IsPrepared}
 use Rattle.option_rules.specs.declared.table.AllowanceTable.{AllowanceTable}
 use Rattle.option_rules.specs.Verdict.{IsAskable, IsFoundBroken, IsFoundClean}
 use Rattle.object_check.specs.Outcome.{AreWarnings, HasRows, IsUnbroken}
 use Rattle.object_check.specs.Ready.{IsReady, IsTableOf}
 
-pub can_check : (p : Program) (parts : GraphParts) (states : List (Option State)) → IsReady p parts → AreKeptStates p (at states) → length states ≡ length parts.points.items → IsCheckable p parts states
+pub can_check : (p : Program) (parts : GraphParts) (states : List (Option State)) → IsReady p parts → AreKeptStates p (at states) → length states ≡ length parts.points.items → IsPrepared p parts states
 can_check p parts states ready kept points = record {
   tells = ready.tells;
   is_program = ready.is_program;
@@ -28,16 +28,16 @@ can_check p parts states ready kept points = record {
   points = points ∙ sym ready.tells.count;
 }
 
-pub can_ask : (p : Program) (allowed : Allowances) (parts : GraphParts) (states : List (Option State)) (table : Option AllowanceTable) → IsReady p parts → IsTableOf p allowed table → IsCheckable p parts states → IsAskable p allowed parts states table
+pub can_ask : (p : Program) (allowed : Allowances) (parts : GraphParts) (states : List (Option State)) (table : Option AllowanceTable) → IsReady p parts → IsTableOf p allowed table → IsPrepared p parts states → IsAskable p allowed parts states table
 can_ask p allowed parts states table ready tells can = record { checkable = can; functions = ready.functions; allows = tells }
 
 -- the rows of what was accepted are those of the program
 pub accepted : (p : Program) (allowed : Allowances) (options : Options) (parts its : GraphParts) (states kept : List (Option State)) (rows : List PlacedRow)
-    → IsCheckable p parts states → IsFoundClean p allowed options parts its states kept
-    → ((q : Program) → IsCheckable q its kept → IsAccepted q → rows ≡ rows_of q (at kept))
+    → IsPrepared p parts states → IsFoundClean p allowed options parts its states kept
+    → ((q : Program) → IsPrepared q its kept → IsAccepted q → rows ≡ rows_of q (at kept))
     → IsUnbroken p allowed options × HasRows p rows
 accepted p allowed options parts its states kept rows can is are =
-    let own : IsCheckable p its kept = subst (λ (g : GraphParts). IsCheckable p g kept) (sym is.graph) (subst (λ (s : List (Option State)). IsCheckable p parts s) (sym is.kept) can) in
+    let own : IsPrepared p its kept = subst (λ (g : GraphParts). IsPrepared p g kept) (sym is.graph) (subst (λ (s : List (Option State)). IsPrepared p parts s) (sym is.kept) can) in
     (record { accepted = is.accepted; clean = is.clean }, record { states = at kept; kept = own.kept; is = are p own is.accepted })
 
 -- the warnings of what was refused are those of the program

@@ -21,9 +21,9 @@ use Rattle.symbols_relocs.specs.declared.target.Target.TheVariants as targets
 use Rattle.alternatives.specs.declared.point.Point.{Point}
 use Rattle.alternatives.specs.Points.{entry_of, is_point}
 use Rattle.alternatives.specs.Texts.{behind}
-use Rattle.flow_defs.specs.declared.aim.Crossing.TheVariants.{MayNotCross}
-use Rattle.flow_defs.specs.declared.aim.Destination.{Destination}
-use Rattle.flow_defs.specs.declared.aim.Destination.TheVariants as destinations
+use Rattle.flow_defs.specs.declared.destination.Crossing.TheVariants.{MayNotCross}
+use Rattle.flow_defs.specs.declared.destination.Destination.{Destination}
+use Rattle.flow_defs.specs.declared.destination.Destination.TheVariants as destinations
 use Rattle.flow_defs.specs.Code.{alternatives_of, is_plain, texts_of}
 use Rattle.flow_defs.specs.Arrival.{replacement_end, site_end}
 use Rattle.flow_defs.specs.Targets.{Displacement, destination, destination_by, displacement_of, jump_displacement, lacks_reloc, named_destination, own_destination, relative_place}

@@ -12,10 +12,10 @@ use Rattle.machine_defs.specs.declared.flow.EdgeKind.TheVariants.{Fixup, Next, T
 use Rattle.machine_defs.specs.Program.{IsPoint, edge, entry_points, is_call, is_call_op}
 use Rattle.alternatives.specs.declared.point.Point.{Point}
 use Rattle.unwinding_law.proofs.Lists.{from_filter, in_map}
-use Rattle.flow_defs.specs.declared.aim.Destination.{Destination}
-use Rattle.flow_defs.specs.declared.aim.Destination.TheVariants.{ToPlace, ToOwnPoint, ToOutside, ToIndirectThunk, ToReturnThunk, ToNowhere}
-use Rattle.flow_defs.specs.declared.aim.Way.{Way}
-use Rattle.flow_defs.specs.declared.aim.Way.TheVariants as ways
+use Rattle.flow_defs.specs.declared.destination.Destination.{Destination}
+use Rattle.flow_defs.specs.declared.destination.Destination.TheVariants.{ToPlace, ToOwnPoint, ToOutside, ToIndirectThunk, ToReturnThunk, ToNowhere}
+use Rattle.flow_defs.specs.declared.destination.Way.{Way}
+use Rattle.flow_defs.specs.declared.destination.Way.TheVariants as ways
 use Rattle.flow_defs.specs.Code.{is_plain, point_at, points_of_object}
 use Rattle.flow_defs.specs.Owners.{is_entry, is_unchecked, is_unchecked_point}
 use Rattle.flow_defs.specs.Arrival.{after, insn_of_object, is_dead_end}

@@ -16,10 +16,10 @@ use Rattle.symbols_relocs.specs.Parts.{owner_at}
 use Rattle.alternatives.specs.declared.point.Point.{Point}
 use Rattle.jump_tables.specs.Tables.{entries_by, entries_of, jump_table, same_owner}
 use Rattle.unwinding_law.proofs.Lists.{cases, nowhere}
-use Rattle.flow_defs.specs.declared.aim.Crossing.{Crossing}
-use Rattle.flow_defs.specs.declared.aim.Crossing.TheVariants.{MayCross}
-use Rattle.flow_defs.specs.declared.aim.Way.{Way}
-use Rattle.flow_defs.specs.declared.aim.Way.TheVariants as ways
+use Rattle.flow_defs.specs.declared.destination.Crossing.{Crossing}
+use Rattle.flow_defs.specs.declared.destination.Crossing.TheVariants.{MayCross}
+use Rattle.flow_defs.specs.declared.destination.Way.{Way}
+use Rattle.flow_defs.specs.declared.destination.Way.TheVariants as ways
 use Rattle.flow_defs.specs.Code.{point_at, texts_of}
 use Rattle.flow_defs.specs.Owners.{is_entry, is_unchecked, is_unchecked_point, owner_of_point, unchecked_start}
 use Rattle.flow_defs.specs.Roles.{table_of_point}

@@ -27,10 +27,10 @@ use Rattle.alternatives.specs.Texts.{behind, is_boundary}
 use Rattle.jump_tables.specs.Tables.{checked_behind as table_behind, boundary_named, entries_by, entries_of, table_entry_at, is_table, jump_table, reloc_of_kind, same_owner, up_to_none}
 use Rattle.unwinding_law.proofs.Lists.{cases, from_filter, from_flat_map, here, nowhere, there}
 use Rattle.table_law.proofs.Lists.{some_is}
-use Rattle.flow_defs.specs.declared.aim.Destination.{Destination}
-use Rattle.flow_defs.specs.declared.aim.Destination.TheVariants as destinations
-use Rattle.flow_defs.specs.declared.aim.Way.{Way}
-use Rattle.flow_defs.specs.declared.aim.Way.TheVariants as ways
+use Rattle.flow_defs.specs.declared.destination.Destination.{Destination}
+use Rattle.flow_defs.specs.declared.destination.Destination.TheVariants as destinations
+use Rattle.flow_defs.specs.declared.destination.Way.{Way}
+use Rattle.flow_defs.specs.declared.destination.Way.TheVariants as ways
 use Rattle.flow_defs.specs.Code.{is_plain, numbers_of, point_at, texts_of}
 use Rattle.flow_defs.specs.Owners.{is_unchecked_point, owner_of_point}
 use Rattle.flow_defs.specs.Sites.{is_into_site}

@@ -24,12 +24,12 @@ use Rattle.alternatives.proofs.Ascending.{contains_in}
 use Rattle.alternatives.proofs.Listing.{points_complete}
 use Rattle.unwinding_law.proofs.Lists.{in_filter}
 use Rattle.table_law.proofs.Lists.{in_filter_map}
-use Rattle.flow_defs.specs.declared.aim.Crossing.{Crossing}
-use Rattle.flow_defs.specs.declared.aim.Crossing.TheVariants.{MayCross}
-use Rattle.flow_defs.specs.declared.aim.Destination.{Destination}
-use Rattle.flow_defs.specs.declared.aim.Destination.TheVariants.{ToPlace, ToOwnPoint, ToOutside, ToIndirectThunk, ToReturnThunk, ToNowhere}
-use Rattle.flow_defs.specs.declared.aim.Way.{Way}
-use Rattle.flow_defs.specs.declared.aim.Way.TheVariants as ways
+use Rattle.flow_defs.specs.declared.destination.Crossing.{Crossing}
+use Rattle.flow_defs.specs.declared.destination.Crossing.TheVariants.{MayCross}
+use Rattle.flow_defs.specs.declared.destination.Destination.{Destination}
+use Rattle.flow_defs.specs.declared.destination.Destination.TheVariants.{ToPlace, ToOwnPoint, ToOutside, ToIndirectThunk, ToReturnThunk, ToNowhere}
+use Rattle.flow_defs.specs.declared.destination.Way.{Way}
+use Rattle.flow_defs.specs.declared.destination.Way.TheVariants as ways
 use Rattle.flow_defs.specs.Code.{alternatives_of, number_of, plain_point, point_at, points_of_object, same_point, texts_of}
 use Rattle.flow_defs.specs.Owners.{is_entry, owner_of_point, unchecked_start}
 use Rattle.flow_defs.specs.Arrival.{arrive, insn_of_object, is_padding}

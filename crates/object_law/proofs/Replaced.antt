@@ -17,9 +17,9 @@ use Rattle.alternatives.specs.Points.{entry_of, insn_of_point, is_point, next_po
 use Rattle.alternatives.specs.Texts.{behind}
 use Rattle.table_law.proofs.Equal.{equal_places}
 use Rattle.table_law.proofs.Lists.{some_is}
-use Rattle.flow_defs.specs.declared.aim.Crossing.TheVariants.{MayNotCross}
-use Rattle.flow_defs.specs.declared.aim.Destination.{Destination}
-use Rattle.flow_defs.specs.declared.aim.Destination.TheVariants as destinations
+use Rattle.flow_defs.specs.declared.destination.Crossing.TheVariants.{MayNotCross}
+use Rattle.flow_defs.specs.declared.destination.Destination.{Destination}
+use Rattle.flow_defs.specs.declared.destination.Destination.TheVariants as destinations
 use Rattle.flow_defs.specs.Code.{alternatives_of, is_plain, point_at, texts_of}
 use Rattle.flow_defs.specs.Arrival.{decoded_insn, next_of_replacement, place_behind, replacement_end, site_end}
 use Rattle.flow_defs.specs.Sites.{site_of_entry, sites_of}

@@ -39,7 +39,7 @@ ends_less p n q some (inr (same, ends)) = off_less p.sec q.sec p.off q.off same 
 at_start : (a b n : ℕ) → 0 < n → (eqb a a && (leb b b && ltb b (b + n))) ≡ true
 at_start a b n some = grind (arith, nat_tests)
 
--- a site in_alternatives_site its start
+-- a site holds its start
 holds_start : (s : AlternativesSite) (place : Place) → 0 < s.len → place ≡ s.start → in_alternatives_site s place ≡ true
 holds_start s place some is = subst (λ p. in_alternatives_site s p ≡ true) (sym is) (at_start s.start.sec s.start.off s.len some)
 
@@ -141,7 +141,7 @@ pub no_sites : (o : Coded) → texts_of o ≡ [] → sites_of o ≡ []
 unfolding sites_of
 no_sites o none = ap (λ texts. filter_map (site_starting_at o) (flat_map places_of_text texts)) none
 
--- ---- the site that in_alternatives_site a place
+-- ---- the site that holds a place
 module _ (o : Coded) (sites : List AlternativesSite) (place : Place) (all : AreAllSites o sites) where
   abbrev is_held : ProgramSite → Bool
   is_held s = in_site s place

@@ -25,7 +25,7 @@ pub use owner_table::OwnerTable;
 pub use place_map::PlaceMap;
 pub use place_set::PlaceSet;
 pub use places::PointPlaces;
-pub use sites::{is_into_site, list_sites, site_at};
+pub use sites::{is_into_site, list_sites, site_holding};
 pub use state_defs::HintState;
 pub use symbol_names::{calls_fentry, never_returns};
 pub use text_sections::{list_texts, list_without_size};

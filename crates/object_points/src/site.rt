@@ -38,7 +38,7 @@ pub(crate) fn starts_at(site: GraphSite, place: Place) -> bool
 }
 
 /// Whether a place lies in a site.
-pub(crate) fn holds(site: GraphSite, place: Place) -> bool
+pub(crate) fn is_in_site(site: GraphSite, place: Place) -> bool
     ensures { result ≡ in_site (site_of site) place }
 {
     let start = site.start;

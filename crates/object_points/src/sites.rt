@@ -7,7 +7,7 @@ ghost use Rattle.flow_defs.specs.Sites.{is_into_site as comes_into_site, site_ho
 ghost use Rattle.object_points.specs.Plain.{AreAllSites};
 
 use crate::PointPlaces;
-use crate::site::{holds, plain_site, plain_sites, starts_at};
+use crate::site::{is_in_site, plain_site, plain_sites, starts_at};
 use alternatives::Sites;
 use object_code::Linked;
 use ot_base::{NoMemory, Place};
@@ -43,11 +43,11 @@ pub fn list_sites(
 }
 
 /// The alternatives site that holds a place, its start included.
-pub fn site_at(places: &PointPlaces<'_, '_, '_>, place: Place) -> Option<GraphSite>
+pub fn site_holding(places: &PointPlaces<'_, '_, '_>, place: Place) -> Option<GraphSite>
     ensures { option_map site_of result ≡ site_holding places.now place }
 {
     let sites = sites_in_code(places.linked())?;
-    let n = sites.site_at(place)?;
+    let n = sites.site_number_at(place)?;
     Some(plain_site(&sites.sites()[n as usize]))
 }
 
@@ -57,9 +57,9 @@ pub fn is_into_site(places: &PointPlaces<'_, '_, '_>, n: u32, place: Place) -> b
     requires { n < length (points_of_object places.now) }
     ensures { result ≡ comes_into_site places.now (point_at places.now n) place }
 {
-    let Some(site) = site_at(places, place) else {
+    let Some(site) = site_holding(places, place) else {
         return false;
     };
     let point = places.point(n);
-    !starts_at(site, place) && !(point.variant == 0 && holds(site, point.place))
+    !starts_at(site, place) && !(point.variant == 0 && is_in_site(site, point.place))
 }

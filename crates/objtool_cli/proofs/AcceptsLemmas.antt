@@ -16,7 +16,7 @@ use Rattle.command_base.specs.Outside.{Outside, Output}
 use Rattle.command_base.specs.Printing.{Concludes, Prints, fails, fault_stays, runs_out, whole}
 use Rattle.command_base.specs.Reading.{MayRead, StopsAtRead}
 use Rattle.command_base.proofs.ConcludeLemmas.{concluded_after_fault, concluded_no_memory}
-use Rattle.objtool_cli.specs.Checked.{Accepts, BreaksRule, IsRefusal, Refuses, Warns, crowded, uncheckable}
+use Rattle.objtool_cli.specs.Checked.{Accepts, BreaksRule, IsRefusal, Refuses, HasWarnings, crowded, uncheckable}
 use Rattle.objtool_cli.specs.Command.{Ends, EndsCheck, IsRead, Stops, checked, demoed, done, dumped, faulty, refused, stopped, shown, unfinished, unread, unwound, unwritten, warned, without_names}
 use Rattle.objtool_cli.specs.Lists.{HasNames, HoldsNames, IsListsStop, StopsAtNames, names_unread, no_lists, no_names}
 use Rattle.objtool_cli.specs.Writing.{StopsAtWrite}
@@ -69,7 +69,7 @@ some_contained [] some = absurd (some refl)
 some_contained (w ∷ warnings) some = (w, (0, omega arith, refl))
 
 -- where there are warnings a rule is broken
-pub warns_breaks : (bytes : List ℕ) (lists : NameLists) (options : CheckOptions) (o : Elf) (warnings : List Warning) → Warns bytes lists options o warnings → BreaksRule bytes lists options
+pub warns_breaks : (bytes : List ℕ) (lists : NameLists) (options : CheckOptions) (o : Elf) (warnings : List Warning) → HasWarnings bytes lists options o warnings → BreaksRule bytes lists options
 warns_breaks bytes lists options o warnings warns =
     let first = some_contained warnings warns.are.some in
     record {
@@ -84,7 +84,7 @@ warns_breaks bytes lists options o warnings warns =
     }
 
 -- what is accepted has no warnings
-accepted_unwarned : (bytes table : List ℕ) (lists : NameLists) (options : CheckOptions) (o : Elf) (warnings : List Warning) → Accepts bytes lists options table → Warns bytes lists options o warnings → ⊥
+accepted_unwarned : (bytes table : List ℕ) (lists : NameLists) (options : CheckOptions) (o : Elf) (warnings : List Warning) → Accepts bytes lists options table → HasWarnings bytes lists options o warnings → ⊥
 accepted_unwarned bytes table lists options o warnings accepts warns = breaks_unbroken bytes lists options accepts.object (warns_breaks bytes lists options o warnings warns) accepts.is accepts.unbroken
 
 -- ---- what was read
@@ -215,7 +215,7 @@ Left x = (x ≡ status.Done) ⊎ Faults x
 left_by_check : OneOutcome → (input output : List ℕ) (options : CheckOptions) (names : Option (List ℕ)) (read table : List ℕ) (lists : NameLists) (before after : Outside) (out out' : Output) (x : Status) → IsKnown before input names read lists → Accepts read lists options table → EndsCheck input output options names before after out out' x → Left x
 left_by_check one input output options names read table lists before after out out' status.Done known accepts (done d same) = inl refl
 left_by_check one input output options names read table lists before after out out' x known accepts (warned o warnings is kept t) =
-    absurd (accepted_unwarned read table lists options o warnings accepts (one_reading (λ b l. Warns b l options o warnings) before input names read is.read lists is.lists known is.is_read is.warns))
+    absurd (accepted_unwarned read table lists options o warnings accepts (one_reading (λ b l. HasWarnings b l options o warnings) before input names read is.read lists is.lists known is.is_read is.warns))
 left_by_check one input output options names read table lists before after out out' x known accepts (stopped s h t) =
     inr (stop_faults s input output options names read lists before after out out' x known (accepted_unrefused one read table lists options accepts) h t)
 

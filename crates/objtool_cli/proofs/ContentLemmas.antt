@@ -16,7 +16,7 @@ use Rattle.ot_base.specs.NameLists.{NameLists}
 use Rattle.cli_words.specs.declared.options.CheckOptions.{CheckOptions}
 use Rattle.objtool_cli.specs.Command.{IsDone, IsRead}
 use Rattle.objtool_cli.specs.Promises.{InKeepsPromises}
-use Rattle.objtool_cli.specs.Unwinding.{OutUnwinds, Unwinds}
+use Rattle.objtool_cli.specs.Unwinding.{OutUnwinds, ReadUnwinds}
 use Rattle.elf_objects.specs.Elf.{Elf}
 use Rattle.elf_objects.specs.Object.{IsObject}
 use Rattle.x86_map.specs.declared.map.Map.{Map}
@@ -52,7 +52,7 @@ held_is limit (Some read) bytes is = within (nat_lt limit (length read)) is
     within false e = let u : ◌≡◌ {A = Result (List ℕ) FileError} (Ok bytes) (Ok read) = e in cc
 
 -- the bytes that are written unwind those that were read
-pub out_unwinds : (map : Map) (input output : List ℕ) (names : Option (List ℕ)) (bytes table : List ℕ) (lists : NameLists) (before after : Option Content) → IsRead before input names bytes lists → after ≡ writing before output table → Unwinds map bytes lists table → OutUnwinds map input output names before after
+pub out_unwinds : (map : Map) (input output : List ℕ) (names : Option (List ℕ)) (bytes table : List ℕ) (lists : NameLists) (before after : Option Content) → IsRead before input names bytes lists → after ≡ writing before output table → ReadUnwinds map bytes lists table → OutUnwinds map input output names before after
 out_unwinds map input output names bytes table lists None after read e h = tt
 out_unwinds map input output names bytes table lists (Some content) after read e h =
     subst (λ (c : Option Content). OutUnwinds map input output names (Some content) c) (sym e) (record {
@@ -79,7 +79,7 @@ in_keeps input options names bytes lists (Some content) o read is keeps = record
 }
 
 -- what stands where the command is done
-pub is_done : (input output : List ℕ) (options : CheckOptions) (names : Option (List ℕ)) (bytes table : List ℕ) (lists : NameLists) (before after : Outside) (o : Elf) → IsRead before.content input names bytes lists → IsObject bytes o → KeepsPromises (coded_by options.map o) lists options.rules → Accepts bytes lists options table → Unwinds options.map bytes lists table → after.content ≡ writing before.content output table → IsDone input output options names before after
+pub is_done : (input output : List ℕ) (options : CheckOptions) (names : Option (List ℕ)) (bytes table : List ℕ) (lists : NameLists) (before after : Outside) (o : Elf) → IsRead before.content input names bytes lists → IsObject bytes o → KeepsPromises (coded_by options.map o) lists options.rules → Accepts bytes lists options table → ReadUnwinds options.map bytes lists table → after.content ≡ writing before.content output table → IsDone input output options names before after
 is_done input output options names bytes table lists before after o read is keeps accepted unwinds e = record {
   table = table;
   accepted = record { read = bytes; lists = lists; is_read = read; accepts = accepted };

@@ -53,7 +53,7 @@ pub record Accepts (bytes : List ℕ) (lists : NameLists) (options : CheckOption
 
 -- They are this object, which is checked, and whose program breaks rules that are asked for: these are all warnings, in
 -- their order.
-pub record Warns (bytes : List ℕ) (lists : NameLists) (options : CheckOptions) (o : Elf) (warnings : List Warning) : Type 0 where
+pub record HasWarnings (bytes : List ℕ) (lists : NameLists) (options : CheckOptions) (o : Elf) (warnings : List Warning) : Type 0 where
   pub is : IsObject bytes o
   pub checkable : IsCheckable (coded_by options.map o)
   pub are : AreWarnings (program_under options lists o) (allowances_under options lists o) options.rules warnings

@@ -14,7 +14,7 @@ use Rattle.command_base.specs.Printing.{Concludes, Prints}
 use Rattle.command_base.specs.Reading.{MayRead, StopsAtRead}
 use Rattle.command_base.specs.Dump.{EndsDump}
 use Rattle.command_base.specs.Unwind.{EndsUnwind}
-use Rattle.objtool_cli.specs.Checked.{Accepts, IsRefusal, Warns}
+use Rattle.objtool_cli.specs.Checked.{Accepts, IsRefusal, HasWarnings}
 use Rattle.objtool_cli.specs.Promises.{InKeepsPromises}
 use Rattle.objtool_cli.specs.Unwinding.{OutUnwinds}
 use Rattle.cli_words.specs.Grammar.{Command, check, demo, dump, unwind}
@@ -35,24 +35,24 @@ pub record IsRead (content : Option Content) (input : List ℕ) (names : Option 
   pub named : HasNames content names lists
 
 -- the file may read as bytes that are accepted, and for which these are to be written
-pub record IsAccepted (content : Option Content) (input : List ℕ) (options : CheckOptions) (names : Option (List ℕ)) (table : List ℕ) : Type 0 where
+pub record MayBeAccepted (content : Option Content) (input : List ℕ) (options : CheckOptions) (names : Option (List ℕ)) (table : List ℕ) : Type 0 where
   pub read : List ℕ
   pub lists : NameLists
   pub is_read : IsRead content input names read lists
   pub accepts : Accepts read lists options table
 
 -- the file may read as the bytes of this object, which breaks rules: these are all warnings
-pub record IsWarned (content : Option Content) (input : List ℕ) (options : CheckOptions) (names : Option (List ℕ)) (o : Elf) (warnings : List Warning) : Type 0 where
+pub record MayBeWarned (content : Option Content) (input : List ℕ) (options : CheckOptions) (names : Option (List ℕ)) (o : Elf) (warnings : List Warning) : Type 0 where
   pub read : List ℕ
   pub lists : NameLists
   pub is_read : IsRead content input names read lists
-  pub warns : Warns read lists options o warnings
+  pub warns : HasWarnings read lists options o warnings
 
 -- `check` is done: IN was accepted, OUT holds its bytes with the tables, which unwind it, and every other name what it
 -- held; and IN keeps what the options promise.
 pub record IsDone (input output : List ℕ) (options : CheckOptions) (names : Option (List ℕ)) (before after : Outside) : Type 0 where
   pub table : List ℕ
-  pub accepted : IsAccepted before.content input options names table
+  pub accepted : MayBeAccepted before.content input options names table
   pub written : after.content ≡ writing before.content output table
   pub unwinds : OutUnwinds options.map input output names before.content after.content
   pub keeps : InKeepsPromises input options names before.content
@@ -76,7 +76,7 @@ pub data Stops (input output : List ℕ) (options : CheckOptions) (names : Optio
       → Stops input output options names before after stop
   unwritten :
       {stop : CommandStop} (table : List ℕ)
-      → IsAccepted before.content input options names table
+      → MayBeAccepted before.content input options names table
       → StopsAtWrite output before after stop
       → ChangesAtMost output before.content after.content
       → Stops input output options names before after stop
@@ -87,7 +87,7 @@ pub data EndsCheck (input output : List ℕ) (options : CheckOptions) (names : O
   done : IsDone input output options names before after → out' ≡ out → EndsCheck input output options names before after out out' status.Done
   warned :
       {s : Status} (o : Elf) (warnings : List Warning)
-      → IsWarned before.content input options names o warnings
+      → MayBeWarned before.content input options names o warnings
       → after.content ≡ before.content
       → Prints status.Warnings (warnings_text o warnings) out out' s
       → EndsCheck input output options names before after out out' s
@@ -134,7 +134,7 @@ pub data MayChange (meaning : Meaning) (before after : Option Content) : Type 0 
   output_of_check :
       (input output : List ℕ) (options : CheckOptions) (names : Option (List ℕ)) (table : List ℕ)
       → meaning ≡ Ok (check input output options names)
-      → IsAccepted before input options names table
+      → MayBeAccepted before input options names table
       → ChangesAtMost output before after
       → MayChange meaning before after
 
@@ -144,7 +144,7 @@ pub data PrintsWarnings (meaning : Meaning) (content : Option Content) (before a
   of_check :
       (input output : List ℕ) (options : CheckOptions) (names : Option (List ℕ)) (o : Elf) (warnings : List Warning)
       → meaning ≡ Ok (check input output options names)
-      → IsWarned content input options names o warnings
+      → MayBeWarned content input options names o warnings
       → after ≡ appending before (warnings_text o warnings)
       → PrintsWarnings meaning content before after
   of_demo : (n : ℕ) → meaning ≡ Ok (demo n) → PrintsWarningsOf (demo_bytes n) before after → PrintsWarnings meaning content before after

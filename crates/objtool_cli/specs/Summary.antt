@@ -24,7 +24,7 @@ use Rattle.command_base.specs.declared.stop.CommandStop.TheVariants as stop
 use Rattle.command_base.specs.Outside.{Output}
 use Rattle.command_base.specs.Printing.{Concludes, Prints}
 use Rattle.command_base.specs.Stop.{line_of}
-use Rattle.objtool_cli.specs.Checked.{IsUncheckable, IsUncheckableStop, Warns, allowances_under, program_under}
+use Rattle.objtool_cli.specs.Checked.{IsUncheckable, IsUncheckableStop, HasWarnings, allowances_under, program_under}
 use Rattle.objtool_cli.specs.Warnings.{warnings_text}
 
 -- the options of `check` where none is given
@@ -58,7 +58,7 @@ pub data SumsUp (title bytes : List ℕ) (out out' : Output) : Status → Type 0
   passed : {s : Status} (counts : CodeCounts) (rows : ℕ) → Passes bytes counts rows → Prints status.Done (summary_line title counts rows) out out' s → SumsUp title bytes out out' s
   warned :
       {s : Status} (o : Elf) (warnings : List Warning)
-      → Warns bytes built_in no_options o warnings
+      → HasWarnings bytes built_in no_options o warnings
       → Prints status.Warnings (warnings_text o warnings) out out' s
       → SumsUp title bytes out out' s
   stopped : {s : Status} (stop : CommandStop) → IsUncheckableStop no_options.map bytes stop → Concludes stop out out' s → SumsUp title bytes out out' s
@@ -67,7 +67,7 @@ pub data SumsUp (title bytes : List ℕ) (out out' : Output) : Status → Type 0
 pub record PrintsWarningsOf (bytes : List ℕ) (before after : Option (List ℕ)) : Type 0 where
   pub object : Elf
   pub warnings : List Warning
-  pub warns : Warns bytes built_in no_options object warnings
+  pub warns : HasWarnings bytes built_in no_options object warnings
   pub printed : after ≡ appending before (warnings_text object warnings)
 
 -- these bytes break no rule, and exactly their line was printed

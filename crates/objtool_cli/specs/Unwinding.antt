@@ -42,7 +42,7 @@ pub record UnwindsBy (o : Coded) (lists : NameLists) (written : List ℕ) : Type
       → WalksToFrames (program_of o lists) rows bases ranges m
 
 -- the same for the bytes that were read
-pub record Unwinds (map : Map) (read : List ℕ) (lists : NameLists) (written : List ℕ) : Type 0 where
+pub record ReadUnwinds (map : Map) (read : List ℕ) (lists : NameLists) (written : List ℕ) : Type 0 where
   pub object : Elf
   pub is_object : IsObject read object
   pub unwinds : UnwindsBy (coded_by map object) lists written
@@ -56,7 +56,7 @@ pub record LeavesTables (map : Map) (input output : List ℕ) (names : Option (L
   pub named : HasNames (Some before) names lists
   pub written : List ℕ
   pub left : get after output ≡ Some written
-  pub unwinds : Unwinds map read lists written
+  pub unwinds : ReadUnwinds map read lists written
 
 -- the same where the files tell their content
 abbrev pub OutUnwinds : Map → List ℕ → List ℕ → Option (List ℕ) → Option Content → Option Content → Type 0

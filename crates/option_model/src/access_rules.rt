@@ -6,8 +6,8 @@ use machine_defs::{EdgeKind, Role};
 use operation_defs::Op;
 use ot_base::Warning;
 use ot_base::rules::{
-    ACCESS_OFF_TWICE, ACCESS_ON_TWICE, CALL_WITH_ACCESS, POPF_WITH_ACCESS_TRACKED,
-    RETURN_WITH_ACCESS, RETURN_WITHOUT_ACCESS, SAFE_FUNCTION_ACCESS_OFF,
+    ACCESS_OFF_TWICE, ACCESS_ON_TWICE, POPF_WITH_ACCESS_TRACKED, RETURN_WITH_ACCESS,
+    RETURN_WITHOUT_ACCESS, SAFE_FUNCTION_ACCESS_OFF,
 };
 use program_model::{ModelPoint, Program};
 use std::alloc::{AllocError, Global};
@@ -70,7 +70,7 @@ fn unsafe_callees(
 }
 
 /// Whether a point leaves its function: by a return, by a jump to another one, or by one outside.
-fn leaves(point: &ModelPoint) -> bool {
+fn leaves_function(point: &ModelPoint) -> bool {
     match point.role {
         Role::Return | Role::JumpOut { .. } | Role::JumpAny => true,
         _ => point.goes.iter().any(|edge| edge.kind == EdgeKind::Sibling),
@@ -79,7 +79,7 @@ fn leaves(point: &ModelPoint) -> bool {
 
 /// The rule that a point breaks by leaving its function.
 fn broken_by_leaving(point: &ModelPoint, access: bool, home: bool) -> Option<u8> {
-    match (leaves(point), access, home) {
+    match (leaves_function(point), access, home) {
         (true, true, false) => Some(RETURN_WITH_ACCESS),
         (true, false, true) => Some(RETURN_WITHOUT_ACCESS),
         _ => None,
@@ -111,12 +111,7 @@ fn warnings_at(
     let place = point.place;
     if one.access {
         for callee in &unsafe_callees(alloc, p, allowed, point)? {
-            warnings.push(Warning {
-                place,
-                rule: CALL_WITH_ACCESS,
-                a: *callee,
-                b: 0,
-            })?;
+            warnings.push(Warning::call_with_access(place, *callee))?;
         }
     }
     let broken = [
@@ -125,12 +120,7 @@ fn warnings_at(
     ];
     for rule in broken {
         if let Some(rule) = rule {
-            warnings.push(Warning {
-                place,
-                rule,
-                a: 0,
-                b: 0,
-            })?;
+            warnings.push(Warning::bare(place, rule))?;
         }
     }
     Ok(())

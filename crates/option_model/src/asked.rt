@@ -42,12 +42,7 @@ fn branch_warnings(
         None
     };
     if let (Some(rule), false) = (broken, allowed.is_safe_branch(q)) {
-        warnings.push(Warning {
-            place: p.place(q),
-            rule,
-            a: 0,
-            b: 0,
-        })?;
+        warnings.push(Warning::bare(p.place(q), rule))?;
     }
     Ok(())
 }

@@ -5,7 +5,6 @@ ghost use Rattle.state_defs.specs.Region.{Holds};
 ghost use Rattle.state_defs.specs.Frame.{Frame as DefinedFrame, is_of_call};
 ghost use Rattle.machine_defs.specs.Program.{is_call_op};
 ghost use Rattle.machine_defs.specs.Machine.{At};
-ghost use Rattle.machine_defs.specs.Step.{may_leave};
 ghost use Rattle.option_law.specs.Frames.{HasFramePointer, CallsWithFrame};
 ghost use Rattle.option_law.specs.Access.{HasSafeTarget, top_of};
 ghost use Rattle.program_model.specs.Region.{region_of};
@@ -21,7 +20,7 @@ use machine_defs::{Edge, EdgeKind, Role};
 use machine_model::{Core, Frame, Standing};
 use operation_defs::Op;
 use ot_base::Options;
-use program_model::{Program, Region, down, up};
+use program_model::{Program, Region, down, may_leave, up};
 use std::alloc::{AllocError, Global};
 
 /// A promise of an option.
@@ -44,7 +43,7 @@ pub enum Promise {
 }
 
 /// Whether the word at an address is in the region, and is this one.
-fn holds(region: &Region, address: u64, word: u64) -> bool
+fn holds_word(region: &Region, address: u64, word: u64) -> bool
     ensures { IsTrue result ↔ Holds (region_of region.now) address word }
 {
     match region.word_at(address) {
@@ -58,8 +57,8 @@ fn has_frame_pointer(core: &Core, frame: &Frame) -> bool
     ensures { IsTrue result ↔ HasFramePointer (core_of core.now) (frame_of frame.now) }
 {
     core.rbp == down(frame.cfa, 16)
-        && holds(&core.region, core.rbp, frame.bp)
-        && holds(&core.region, up(core.rbp, 8), frame.ra)
+        && holds_word(&core.region, core.rbp, frame.bp)
+        && holds_word(&core.region, up(core.rbp, 8), frame.ra)
 }
 
 /// Whether an instruction is a call.
@@ -156,17 +155,6 @@ fn has_safe_siblings(p: &Program, allowed: &Allowed<'_>, q: u32) -> bool
     match p.point(q) {
         None => true,
         Some(point) => are_safe_siblings(p, allowed, point.goes.as_slice()),
-    }
-}
-
-/// Whether a point may leave its function: by a return, or by a jump to code outside that returns.
-fn may_leave(p: &Program, role: Role) -> bool
-    ensures { (set : List Bool) → result ≡ may_leave (program_of p.now set) role }
-{
-    match role {
-        Role::Return | Role::JumpAny => true,
-        Role::JumpOut { sym } => !p.never_returns(sym),
-        _ => false,
     }
 }
 

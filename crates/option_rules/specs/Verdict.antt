@@ -10,7 +10,7 @@ use Rattle.machine_defs.specs.Allowances.{Allowances, EntersFunctions}
 use Rattle.machine_defs.specs.Asked.{IsClean, IsWarned}
 use Rattle.program_graph.specs.declared.parts.GraphParts.{GraphParts}
 use Rattle.stack_rules.specs.Before.{ComesBefore}
-use Rattle.program_check.specs.Checkable.{IsCheckable}
+use Rattle.program_check.specs.Checkable.{IsPrepared}
 use Rattle.option_rules.specs.declared.table.AllowanceTable.{AllowanceTable}
 use Rattle.option_rules.specs.Allows.{Allows}
 use Rattle.option_rules.specs.declared.option_verdict.OptionVerdict.{OptionVerdict}
@@ -19,7 +19,7 @@ use Rattle.option_rules.specs.declared.option_verdict.OptionVerdict.TheVariants.
 -- A program that a check under options may be asked of: with its graph and its kept states, and with its functions; and the
 -- table, if there is one, tells what is allowed.
 pub record IsAskable (p : Program) (allowed : Allowances) (parts : GraphParts) (states : List (Option State)) (table : Option AllowanceTable) : Type 0 where
-  pub checkable : IsCheckable p parts states
+  pub checkable : IsPrepared p parts states
   pub functions : EntersFunctions p
   pub allows : IfSome table (λ t. Allows allowed t p.count)
 

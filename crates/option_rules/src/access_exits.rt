@@ -34,7 +34,7 @@ fn has_sibling(edges: &[Edge]) -> bool
 }
 
 /// Whether a point leaves its function.
-fn leaves(graph: &Graph, n: u32) -> bool
+fn leaves_function(graph: &Graph, n: u32) -> bool
     requires { n < length graph.now.parts.points.items }
     ensures { (p : Program) → Tells p graph.now.parts → IsTrue result ↔ Leaves p n }
 {
@@ -46,7 +46,7 @@ fn is_left_on(graph: &Graph, ways: Ways, n: u32) -> bool
     requires { n < length graph.now.parts.points.items }
     ensures { (p : Program) → Tells p graph.now.parts → IsTrue result ↔ (ways.other_on ≡ true × Leaves p n) }
 {
-    ways.other_on && leaves(graph, n)
+    ways.other_on && leaves_function(graph, n)
 }
 
 /// Whether control leaves a safe function with user access off.
@@ -54,7 +54,7 @@ fn is_left_off(graph: &Graph, ways: Ways, n: u32) -> bool
     requires { n < length graph.now.parts.points.items }
     ensures { (p : Program) → Tells p graph.now.parts → IsTrue result ↔ (ways.safe_off ≡ true × Leaves p n) }
 {
-    ways.safe_off && leaves(graph, n)
+    ways.safe_off && leaves_function(graph, n)
 }
 
 /// The rules 42 and 43 at a point.

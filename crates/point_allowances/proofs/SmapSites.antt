@@ -20,7 +20,7 @@ use Rattle.point_allowances.specs.Allowances.{makes_smap_site}
 use Rattle.point_allowances.specs.SmapSites.{IsSiteStart, is_start, smap_starts}
 
 -- ---- the site of a place
--- what the original of an entry in_alternatives_site is what its site does
+-- what the original of an entry holds is what its site does
 held_alike : (a : AltEntry) (s : AlternativesSite) (place : Place) → a.original ≡ s.start → a.original_len ≡ s.len → in_site (site_of_entry a) place ≡ in_alternatives_site s place
 held_alike a s place start len =
     ap (λ (p : Place). let one : ProgramSite = record { start = p; len = a.original_len } in in_site one place) start
@@ -29,11 +29,11 @@ held_alike a s place start len =
 at_start : (a b n : ℕ) → 0 < n → (eqb a a && (leb b b && ltb b (b + n))) ≡ true
 at_start a b n some = grind (arith, nat_tests)
 
--- a site in_alternatives_site its start
+-- a site holds its start
 holds_start : (s : AlternativesSite) (place : Place) → 0 < s.len → s.start ≡ place → in_alternatives_site s place ≡ true
 holds_start s place some is = subst (λ p. in_alternatives_site s p ≡ true) is (at_start s.start.sec s.start.off s.len some)
 
--- a site that in_alternatives_site a place has a byte
+-- a site that holds a place has a byte
 held_some : (s : AlternativesSite) (place : Place) → in_alternatives_site s place ≡ true → 0 < s.len
 held_some s place held =
     let from : s.start.off ≤ place.off = from_start s.start.sec place.sec s.start.off place.off s.len held in
@@ -59,7 +59,7 @@ module _ (entries : List AltEntry) (sites : List AlternativesSite) (numbers : Li
         len = ap (λ (e : AltEntry). e.original_len) (sym number.is) ∙ site.one.len;
       }
 
-  -- no site in_alternatives_site the place
+  -- no site holds the place
   pub starts_nowhere : ((k : ℕ) (d : AlternativesSite) → k < length sites → in_alternatives_site (get_or sites k d) place ≡ false) → IsSiteStart entries place None
   starts_nowhere none a c counting =
       let own = makes a c counting in

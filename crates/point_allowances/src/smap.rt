@@ -49,7 +49,7 @@ fn site_start(places: &PointPlaces<'_, '_, '_>, n: u32) -> Option<Place>
     ensures { IsSiteStart (alternatives_of places.now) (address_of_point (alternatives_of places.now) (point_at places.now n)) result }
 {
     let sites = places.linked().sites();
-    let site = sites.site_at(places.address(n))?;
+    let site = sites.site_number_at(places.address(n))?;
     Some(sites.sites()[site as usize].start)
 }
 

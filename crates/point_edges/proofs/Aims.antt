@@ -11,9 +11,9 @@ use Rattle.alternatives.specs.declared.point.Point.{Point}
 use Rattle.alternatives.specs.Points.{is_point, point_cmp, points_of}
 use Rattle.alternatives.proofs.Ascending.{contains_in}
 use Rattle.alternatives.proofs.Listing.{points_complete}
-use Rattle.flow_defs.specs.declared.aim.Crossing.TheVariants.{MayNotCross}
-use Rattle.flow_defs.specs.declared.aim.Destination.{Destination}
-use Rattle.flow_defs.specs.declared.aim.Destination.TheVariants.{ToPlace, ToOwnPoint, ToNowhere}
+use Rattle.flow_defs.specs.declared.destination.Crossing.TheVariants.{MayNotCross}
+use Rattle.flow_defs.specs.declared.destination.Destination.{Destination}
+use Rattle.flow_defs.specs.declared.destination.Destination.TheVariants.{ToPlace, ToOwnPoint, ToNowhere}
 use Rattle.flow_defs.specs.Arrival.{replacement_end, site_end}
 use Rattle.flow_defs.specs.Code.{alternatives_of, number_of, points_of_object, texts_of}
 use Rattle.flow_defs.specs.Targets.{own_destination}

@@ -12,10 +12,10 @@ use Rattle.flow_defs.specs.Coded.{Coded}
 use Rattle.machine_defs.specs.declared.flow.Role.{Role}
 use Rattle.machine_defs.specs.declared.flow.Role.TheVariants.{Plain, CallIn, CallEither}
 use Rattle.alternatives.specs.declared.point.Point.{Point}
-use Rattle.flow_defs.specs.declared.aim.Destination.{Destination}
-use Rattle.flow_defs.specs.declared.aim.Destination.TheVariants.{ToPlace, ToOwnPoint, ToOutside, ToIndirectThunk, ToReturnThunk, ToNowhere}
-use Rattle.flow_defs.specs.declared.aim.Way.{Way}
-use Rattle.flow_defs.specs.declared.aim.Way.TheVariants as ways
+use Rattle.flow_defs.specs.declared.destination.Destination.{Destination}
+use Rattle.flow_defs.specs.declared.destination.Destination.TheVariants.{ToPlace, ToOwnPoint, ToOutside, ToIndirectThunk, ToReturnThunk, ToNowhere}
+use Rattle.flow_defs.specs.declared.destination.Way.{Way}
+use Rattle.flow_defs.specs.declared.destination.Way.TheVariants as ways
 use Rattle.flow_defs.specs.Arrival.{insn_of_object, is_padding}
 use Rattle.flow_defs.specs.Code.{no_point, number_of, plain_point, points_of_object, same_point, texts_of}
 use Rattle.flow_defs.specs.Owners.{is_entry, unchecked_start}

@@ -11,9 +11,9 @@ use Rattle.symbols_relocs.specs.declared.target.Target.TheVariants as targets
 use Rattle.symbols_relocs.specs.Targets.{branch_target}
 use Rattle.alternatives.specs.declared.point.Point.{Point}
 use Rattle.alternatives.specs.Points.{is_point}
-use Rattle.flow_defs.specs.declared.aim.Crossing.TheVariants.{MayNotCross}
-use Rattle.flow_defs.specs.declared.aim.Destination.{Destination}
-use Rattle.flow_defs.specs.declared.aim.Destination.TheVariants.{ToPlace, ToOwnPoint, ToNowhere}
+use Rattle.flow_defs.specs.declared.destination.Crossing.TheVariants.{MayNotCross}
+use Rattle.flow_defs.specs.declared.destination.Destination.{Destination}
+use Rattle.flow_defs.specs.declared.destination.Destination.TheVariants.{ToPlace, ToOwnPoint, ToNowhere}
 use Rattle.flow_defs.specs.Arrival.{is_padding, replacement_end, site_end}
 use Rattle.flow_defs.specs.Code.{alternatives_of, is_plain, texts_of}
 use Rattle.flow_defs.specs.Targets.{destination, destination_by, displacement_of, lacks_reloc, named_destination, own_destination, relative_place, Displacement}

@@ -6,7 +6,7 @@ use Rattle.flow_defs.specs.Coded.{Coded}
 use Rattle.machine_defs.specs.declared.flow.Edge.{Edge}
 use Rattle.machine_defs.specs.declared.flow.EdgeKind.TheVariants.{Table}
 use Rattle.alternatives.specs.declared.point.Point.{Point}
-use Rattle.flow_defs.specs.declared.aim.Way.TheVariants.{Along}
+use Rattle.flow_defs.specs.declared.destination.Way.TheVariants.{Along}
 use Rattle.flow_defs.specs.Edges.{way_edges}
 
 -- the edges of an indirect jump to some entries of its table

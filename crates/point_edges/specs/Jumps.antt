@@ -4,10 +4,10 @@ use Rattle.operation_defs.specs.declared.op.Op.{Op}
 use Rattle.operation_defs.specs.declared.op.Op.TheVariants.{Jcc, Jmp}
 use Rattle.alternatives.specs.declared.point.Point.{Point}
 use Rattle.flow_defs.specs.Coded.{Coded}
-use Rattle.flow_defs.specs.declared.aim.Destination.{Destination}
-use Rattle.flow_defs.specs.declared.aim.Destination.TheVariants.{ToPlace}
-use Rattle.flow_defs.specs.declared.aim.Way.{Way}
-use Rattle.flow_defs.specs.declared.aim.Way.TheVariants.{Bad}
+use Rattle.flow_defs.specs.declared.destination.Destination.{Destination}
+use Rattle.flow_defs.specs.declared.destination.Destination.TheVariants.{ToPlace}
+use Rattle.flow_defs.specs.declared.destination.Way.{Way}
+use Rattle.flow_defs.specs.declared.destination.Way.TheVariants.{Bad}
 use Rattle.flow_defs.specs.Targets.{destination}
 use Rattle.flow_defs.specs.Ways.{jump_way}
 
@@ -17,7 +17,7 @@ destination_way o point (ToPlace place weak crossing) = jump_way o point crossin
 destination_way o point _ = Bad
 
 -- what is no direct jump has none
-abbrev pub way_by : Coded → Point → Insn → Op → Way
-way_by o point insn (Jmp rel wide) = destination_way o point (destination o point insn)
-way_by o point insn (Jcc rel wide) = destination_way o point (destination o point insn)
-way_by o point insn _ = Bad
+abbrev pub direct_way : Coded → Point → Insn → Op → Way
+direct_way o point insn (Jmp rel wide) = destination_way o point (destination o point insn)
+direct_way o point insn (Jcc rel wide) = destination_way o point (destination o point insn)
+direct_way o point insn _ = Bad

@@ -7,7 +7,7 @@ ghost use Rattle.flow_defs.specs.Code.{alternatives_of, point_at, points_of_obje
 ghost use Rattle.flow_defs.specs.Marks.{is_bad_by as is_bad_of_op, is_bad_call as is_bad_called, is_bad_jump as is_bad_jumped, is_bad_listed as is_bad_among};
 ghost use Rattle.flow_defs.specs.Targets.{destination};
 ghost use Rattle.flow_defs.specs.Ways.{is_bad as is_bad_of};
-ghost use Rattle.point_edges.specs.Jumps.{destination_way, way_by};
+ghost use Rattle.point_edges.specs.Jumps.{destination_way, direct_way};
 
 use crate::flow_points::FlowPoints;
 use crate::same_owner::is_same_owner;
@@ -82,7 +82,7 @@ pub(crate) fn is_bad_branch(
 ) -> bool
     requires point { n < length (points_of_object points.now) }
     requires to { branch.to ≡ destination points.now (point_at points.now n) insn }
-    requires way { branch.way ≡ way_by points.now (point_at points.now n) insn insn.op }
+    requires way { branch.way ≡ direct_way points.now (point_at points.now n) insn insn.op }
     ensures { result ≡ is_bad_of_op points.now (point_at points.now n) insn insn.op }
 {
     let places = points.places();

@@ -4,7 +4,7 @@ ghost use Rattle.std.specs.Prelude.{◌≡◌, ◌<◌, ◌++◌, length, OnOk};
 ghost use Rattle.flow_defs.specs.Code.{point_at, points_of_object};
 ghost use Rattle.flow_defs.specs.Edges.{branch_edges_by, jump_edges, table_edges_by};
 ghost use Rattle.flow_defs.specs.Targets.{destination};
-ghost use Rattle.point_edges.specs.Jumps.{destination_way, way_by};
+ghost use Rattle.point_edges.specs.Jumps.{destination_way, direct_way};
 
 use crate::Branch;
 use crate::flow_points::FlowPoints;
@@ -73,7 +73,7 @@ pub(crate) fn push_branch(
 ) -> Result<(), NoMemory>
     requires point { n < length (points_of_object points.now) }
     requires to { branch.to ≡ destination points.now (point_at points.now n) insn }
-    requires way { branch.way ≡ way_by points.now (point_at points.now n) insn insn.op }
+    requires way { branch.way ≡ direct_way points.now (point_at points.now n) insn insn.op }
     ensures { OnOk result (into.new.items ≡ into.old.items ++ branch_edges_by points.now (point_at points.now n) insn insn.op) }
 {
     match insn.op {

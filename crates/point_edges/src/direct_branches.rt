@@ -4,7 +4,7 @@ ghost use Rattle.std.specs.Prelude.{◌≡◌, ◌<◌, length};
 ghost use Rattle.flow_defs.specs.Code.{point_at, points_of_object};
 ghost use Rattle.flow_defs.specs.Targets.{destination as destination_of};
 ghost use Rattle.flow_defs.specs.Ways.{jump_way as jump_way_of};
-ghost use Rattle.point_edges.specs.Jumps.{destination_way as destination_way_of, way_by as way_by_op};
+ghost use Rattle.point_edges.specs.Jumps.{destination_way as destination_way_of, direct_way as direct_way_of};
 
 use crate::destinations::destination;
 use crate::place_ways::branch_way;
@@ -48,10 +48,10 @@ fn destination_way(places: &PointPlaces<'_, '_, '_>, n: u32, to: Destination) ->
 }
 
 /// The way of the instruction at a point, which goes `to` there.
-fn way_by(places: &PointPlaces<'_, '_, '_>, n: u32, insn: Insn, to: Destination) -> Way
+fn direct_way(places: &PointPlaces<'_, '_, '_>, n: u32, insn: Insn, to: Destination) -> Way
     requires point { n < length (points_of_object places.now) }
     requires to { to ≡ destination_of places.now (point_at places.now n) insn }
-    ensures { result ≡ way_by_op places.now (point_at places.now n) insn insn.op }
+    ensures { result ≡ direct_way_of places.now (point_at places.now n) insn insn.op }
 {
     match insn.op {
         Op::Jmp { .. } | Op::Jcc { .. } => destination_way(places, n, to),
@@ -63,11 +63,11 @@ fn way_by(places: &PointPlaces<'_, '_, '_>, n: u32, insn: Insn, to: Destination)
 pub fn branch_at(places: &PointPlaces<'_, '_, '_>, n: u32, insn: Insn) -> Branch
     requires { n < length (points_of_object places.now) }
     ensures to { result.to ≡ destination_of places.now (point_at places.now n) insn }
-    ensures way { result.way ≡ way_by_op places.now (point_at places.now n) insn insn.op }
+    ensures way { result.way ≡ direct_way_of places.now (point_at places.now n) insn insn.op }
 {
     let to = destination(places, n, insn);
     Branch {
         to,
-        way: way_by(places, n, insn, to),
+        way: direct_way(places, n, insn, to),
     }
 }

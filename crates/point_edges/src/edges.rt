@@ -5,7 +5,7 @@ ghost use Rattle.flow_defs.specs.Arrival.{insn_of_object};
 ghost use Rattle.flow_defs.specs.Code.{point_at, points_of_object};
 ghost use Rattle.flow_defs.specs.Edges.{goes};
 ghost use Rattle.flow_defs.specs.Targets.{destination};
-ghost use Rattle.point_edges.specs.Jumps.{way_by};
+ghost use Rattle.point_edges.specs.Jumps.{direct_way};
 
 use crate::Branch;
 use crate::branch_edges::{push_branch, push_table};
@@ -35,7 +35,7 @@ pub fn push_edges(
     requires point { n < length (points_of_object points.now) }
     requires insn { insn ≡ insn_of_object points.now (point_at points.now n) }
     requires to { branch.to ≡ destination points.now (point_at points.now n) insn }
-    requires way { branch.way ≡ way_by points.now (point_at points.now n) insn insn.op }
+    requires way { branch.way ≡ direct_way points.now (point_at points.now n) insn insn.op }
     ensures pushed { OnOk result (into.new.items ≡ into.old.items ++ goes points.now (point_at points.now n)) }
 
     // Edges lead to points.

@@ -8,7 +8,7 @@ ghost use Rattle.flow_defs.specs.Marks.{call_places, jump_places, listed_places,
 ghost use Rattle.flow_defs.specs.Sites.{is_into_site as comes_into_site};
 ghost use Rattle.flow_defs.specs.Targets.{destination};
 ghost use Rattle.flow_defs.specs.Ways.{is_along as is_along_of};
-ghost use Rattle.point_edges.specs.Jumps.{destination_way, way_by};
+ghost use Rattle.point_edges.specs.Jumps.{destination_way, direct_way};
 
 use crate::flow_points::FlowPoints;
 use crate::{Branch, listed_way};
@@ -81,7 +81,7 @@ pub(crate) fn branch_enters(
 ) -> bool
     requires point { n < length (points_of_object points.now) }
     requires to { branch.to ≡ destination points.now (point_at points.now n) insn }
-    requires way { branch.way ≡ way_by points.now (point_at points.now n) insn insn.op }
+    requires way { branch.way ≡ direct_way points.now (point_at points.now n) insn insn.op }
     ensures { result ≡ list_any (comes_into_site points.now (point_at points.now n)) (places_by points.now (point_at points.now n) insn insn.op) }
 {
     let places = points.places();

@@ -6,7 +6,7 @@ ghost use Rattle.flow_defs.specs.Code.{point_at, points_of_object};
 ghost use Rattle.flow_defs.specs.Edges.{goes_on as goes_on_of};
 ghost use Rattle.flow_defs.specs.Marks.{has_relocated_offset as has_relocated_offset_at, marks_of};
 ghost use Rattle.flow_defs.specs.Targets.{destination};
-ghost use Rattle.point_edges.specs.Jumps.{way_by};
+ghost use Rattle.point_edges.specs.Jumps.{direct_way};
 
 use crate::Branch;
 use crate::flow_points::FlowPoints;
@@ -64,7 +64,7 @@ pub fn marks(
     requires point { n < length (points_of_object points.now) }
     requires insn { insn ≡ insn_of_object points.now (point_at points.now n) }
     requires to { branch.to ≡ destination points.now (point_at points.now n) insn }
-    requires way { branch.way ≡ way_by points.now (point_at points.now n) insn insn.op }
+    requires way { branch.way ≡ direct_way points.now (point_at points.now n) insn insn.op }
     ensures { result ≡ marks_of points.now (point_at points.now n) comes_back }
 {
     Marks {

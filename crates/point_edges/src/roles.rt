@@ -5,7 +5,7 @@ ghost use Rattle.flow_defs.specs.Arrival.{insn_of_object};
 ghost use Rattle.flow_defs.specs.Code.{point_at, points_of_object};
 ghost use Rattle.flow_defs.specs.Roles.{role_by as role_by_op, role_of};
 ghost use Rattle.flow_defs.specs.Targets.{destination};
-ghost use Rattle.point_edges.specs.Jumps.{way_by};
+ghost use Rattle.point_edges.specs.Jumps.{direct_way};
 
 use crate::Branch;
 use crate::call_roles::call_role;
@@ -18,7 +18,7 @@ use operation_defs::{Insn, Op};
 fn role_by(points: &FlowPoints<'_, '_, '_>, n: u32, insn: Insn, branch: Branch) -> Role
     requires point { n < length (points_of_object points.now) }
     requires to { branch.to ≡ destination points.now (point_at points.now n) insn }
-    requires way { branch.way ≡ way_by points.now (point_at points.now n) insn insn.op }
+    requires way { branch.way ≡ direct_way points.now (point_at points.now n) insn insn.op }
     ensures { result ≡ role_by_op points.now (point_at points.now n) insn insn.op }
 {
     let places = points.places();
@@ -39,7 +39,7 @@ pub fn role(points: &FlowPoints<'_, '_, '_>, n: u32, insn: Insn, branch: Branch)
     requires point { n < length (points_of_object points.now) }
     requires insn { insn ≡ insn_of_object points.now (point_at points.now n) }
     requires to { branch.to ≡ destination points.now (point_at points.now n) insn }
-    requires way { branch.way ≡ way_by points.now (point_at points.now n) insn insn.op }
+    requires way { branch.way ≡ direct_way points.now (point_at points.now n) insn insn.op }
     ensures value { result ≡ role_of points.now (point_at points.now n) }
 
     // The entries that calls go to are points.

@@ -8,7 +8,7 @@ ghost use Rattle.flow_defs.specs.Edges.{fixups as fixups_of, static_targets as s
 ghost use Rattle.flow_defs.specs.Marks.{has_bad_target as has_a_bad_target, has_target_in_site as has_a_target_in_site, is_bad_listed as is_bad_among, listed_places};
 ghost use Rattle.flow_defs.specs.Sites.{is_into_site as comes_into_site};
 ghost use Rattle.flow_defs.specs.Targets.{destination};
-ghost use Rattle.point_edges.specs.Jumps.{way_by};
+ghost use Rattle.point_edges.specs.Jumps.{direct_way};
 
 use crate::Branch;
 use crate::bad_targets::{is_bad_branch, is_bad_listed};
@@ -38,7 +38,7 @@ pub(crate) fn has_bad_target(
     requires point { n < length (points_of_object points.now) }
     requires insn { insn ≡ insn_of_object points.now (point_at points.now n) }
     requires to { branch.to ≡ destination points.now (point_at points.now n) insn }
-    requires way { branch.way ≡ way_by points.now (point_at points.now n) insn insn.op }
+    requires way { branch.way ≡ direct_way points.now (point_at points.now n) insn insn.op }
     ensures { result ≡ has_a_bad_target points.now (point_at points.now n) }
 {
     is_bad_branch(points, n, insn, branch) || has_bad_entry(points, n)
@@ -66,7 +66,7 @@ pub(crate) fn has_target_in_site(
     requires point { n < length (points_of_object points.now) }
     requires insn { insn ≡ insn_of_object points.now (point_at points.now n) }
     requires to { branch.to ≡ destination points.now (point_at points.now n) insn }
-    requires way { branch.way ≡ way_by points.now (point_at points.now n) insn insn.op }
+    requires way { branch.way ≡ direct_way points.now (point_at points.now n) insn insn.op }
     ensures { result ≡ has_a_target_in_site points.now (point_at points.now n) }
 {
     branch_enters(points, n, insn, branch) || has_entry_in_site(points, n)

@@ -1,4 +1,4 @@
--- Whether a point of the object's code begins a row, from the site that in_own_site it.
+-- Whether a point of the object's code begins a row, from the site that holds it.
 use Rattle.std.proofs.Common.{◌≡◌, ◌⊎◌, ℕ, true, false, not, List, Option, None, IsSome, Contains, inl, inr, ap, sym, ◌∙◌, subst}
 use Rattle.std.proofs.lemmas.Bool.{both_ways, cases_Bool, not-true, not-false}
 use Rattle.ot_base.specs.declared.place.Place.{Place}
@@ -13,11 +13,11 @@ use Rattle.stack_rules.specs.Sites.{in_own_site, IsIndexOf}
 use Rattle.program_check.specs.Changes.{BeginsRow, IsUnkeptStart, LiesOutside}
 
 module _ (p : Program) (states : ℕ → Option State) (n : ℕ) (place : Place) (at : place ≡ p.place n) (sites : List OwnSite) (index : IsIndexOf p sites) (laid : IsLaidOut p) where
-  -- a site that in_own_site the place is one of the program
+  -- a site that holds the place is one of the program
   inside_of : (site : OwnSite) → in_own_site site place ≡ true → in_site (site_of site) (p.place n) ≡ true
   inside_of site held = subst (λ (z : Place). in_site (site_of site) z ≡ true) at held
 
-  -- where a site in_own_site it, the point begins a row only if it isn't kept and the site begins there
+  -- where a site holds it, the point begins a row only if it isn't kept and the site begins there
   held_start : (site : OwnSite) → Contains sites site → in_own_site site place ≡ true → BeginsRow p states n → (states n ≡ None) × (site.start ≡ place)
   held_start site listed held begins = go begins.begins
     where

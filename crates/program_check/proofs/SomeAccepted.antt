@@ -12,13 +12,13 @@ use Rattle.stack_rules.specs.Checks.{Checks}
 use Rattle.program_check.specs.Checked.{IsCheckedBy}
 use Rattle.program_check.specs.Fit.{Fit}
 use Rattle.program_check.proofs.Kept.{accepted_fit}
-use Rattle.program_check.specs.Checkable.{AreOfSomeAccepted, IsCheckable}
+use Rattle.program_check.specs.Checkable.{AreOfSomeAccepted, IsPrepared}
 
 -- what rules are checked over, and rows are made of
-pub checks : (p : Program) (parts : GraphParts) (states : List (Option State)) → IsCheckable p parts states → Checks p parts states
+pub checks : (p : Program) (parts : GraphParts) (states : List (Option State)) → IsPrepared p parts states → Checks p parts states
 checks p parts states c = record { tells = c.tells; is_program = c.is_program; hints = c.laid.hint_points; kept = c.kept; points = c.points }
 
-pub is_checked_by : (p : Program) (parts : GraphParts) (states : List (Option State)) → IsCheckable p parts states → IsAccepted p → IsCheckedBy p parts (at states)
+pub is_checked_by : (p : Program) (parts : GraphParts) (states : List (Option State)) → IsPrepared p parts states → IsAccepted p → IsCheckedBy p parts (at states)
 is_checked_by p parts states c accepted = record { tells = c.tells; laid = c.laid; ascending = c.ascending; kept = c.kept; accepted = accepted }
 
 module _ (parts : GraphParts) (states : List (Option State)) (some : AreOfSomeAccepted parts states) where

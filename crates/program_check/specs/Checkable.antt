@@ -12,7 +12,7 @@ use Rattle.kept_states.specs.LevelStates.{at}
 
 -- The graph tells the program, which is one as the laws ask and whose instructions lie in order, and the states are those
 -- that are kept, by point.
-pub record IsCheckable (p : Program) (parts : GraphParts) (states : List (Option State)) : Type 0 where
+pub record IsPrepared (p : Program) (parts : GraphParts) (states : List (Option State)) : Type 0 where
   pub tells : Tells p parts
   pub is_program : IsProgram p
   pub laid : IsLaidOut p
@@ -22,4 +22,4 @@ pub record IsCheckable (p : Program) (parts : GraphParts) (states : List (Option
 
 -- there is a program in which no rule is broken, with this graph and these states
 abbrev pub AreOfSomeAccepted : GraphParts → List (Option State) → Type 0
-AreOfSomeAccepted parts states = ∥ ((p : Program) × IsCheckable p parts states × IsAccepted p) ∥₁
+AreOfSomeAccepted parts states = ∥ ((p : Program) × IsPrepared p parts states × IsAccepted p) ∥₁

@@ -26,6 +26,6 @@ pub record IsRefusal (p : Program) (options : Options) (parts refused : GraphPar
   pub ascending : AllPairs ComesBefore warnings
   pub broken : AreBroken p options warnings
 
-abbrev pub IsVerdict : Program → Options → GraphParts → List (Option State) → StackVerdict → Type 0
-IsVerdict p options parts states (Accepted checked) = IsAcceptance p options parts checked.graph.parts states checked.kept
-IsVerdict p options parts states (Broken graph warnings) = IsRefusal p options parts graph.parts warnings.items
+abbrev pub IsStackVerdict : Program → Options → GraphParts → List (Option State) → StackVerdict → Type 0
+IsStackVerdict p options parts states (Accepted checked) = IsAcceptance p options parts checked.graph.parts states checked.kept
+IsStackVerdict p options parts states (Broken graph warnings) = IsRefusal p options parts graph.parts warnings.items

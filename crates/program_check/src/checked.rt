@@ -6,7 +6,7 @@ ghost use Rattle.machine_defs.specs.Broken.{IsAccepted};
 ghost use Rattle.machine_defs.specs.Rows.{rows_of};
 ghost use Rattle.kept_states.specs.LevelStates.{at};
 ghost use Rattle.stack_rules.specs.Points.{AreSitePointsOf};
-ghost use Rattle.program_check.specs.Checkable.{AreOfSomeAccepted, IsCheckable};
+ghost use Rattle.program_check.specs.Checkable.{AreOfSomeAccepted, IsPrepared};
 
 use crate::table::rows;
 use kept_states::Kept;
@@ -65,8 +65,8 @@ impl Checked {
     ///
     /// [`NoMemory`] may come at any program.
     pub fn rows(&self, alloc: Global) -> Result<Vec<PlacedRow>, NoMemory>
-        ensures each { IfOk result (λ rows. (p : Program) → IsCheckable p self.now.graph.parts self.now.kept → IsAccepted p → rows.items ≡ rows_of p (at self.now.kept)) }
-        ensures some { IfOk result (λ rows. ∥ ((p : Program) × IsCheckable p self.now.graph.parts self.now.kept × IsAccepted p × (rows.items ≡ rows_of p (at self.now.kept))) ∥₁) }
+        ensures each { IfOk result (λ rows. (p : Program) → IsPrepared p self.now.graph.parts self.now.kept → IsAccepted p → rows.items ≡ rows_of p (at self.now.kept)) }
+        ensures some { IfOk result (λ rows. ∥ ((p : Program) × IsPrepared p self.now.graph.parts self.now.kept × IsAccepted p × (rows.items ≡ rows_of p (at self.now.kept))) ∥₁) }
     {
         rows(alloc, &self.graph, &self.kept, &self.site_points)
     }

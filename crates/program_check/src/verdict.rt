@@ -2,8 +2,8 @@
 
 ghost use Rattle.std.specs.Prelude.{◌≡◌, ◌^◌, ◌<◌, All, IfOk, length};
 ghost use Rattle.machine_defs.specs.Program.{Program};
-ghost use Rattle.program_check.specs.Checkable.{IsCheckable};
-ghost use Rattle.program_check.specs.Verdict.{IsVerdict};
+ghost use Rattle.program_check.specs.Checkable.{IsPrepared};
+ghost use Rattle.program_check.specs.Verdict.{IsStackVerdict};
 
 use crate::checked::Checked;
 use crate::warnings::list_warnings;
@@ -39,9 +39,9 @@ pub fn check(
     kept: Kept,
     options: Options,
 ) -> Result<StackVerdict, NoMemory>
-    requires program { (p : Program) × IsCheckable p graph.parts kept }
+    requires program { (p : Program) × IsPrepared p graph.parts kept }
     requires sites { All (λ site. site.len < 2 ^ 63) graph.parts.sites.items }
-    ensures { IfOk result (λ verdict. (p : Program) → IsCheckable p graph.parts kept → IsVerdict p options graph.parts kept verdict) }
+    ensures { IfOk result (λ verdict. (p : Program) → IsPrepared p graph.parts kept → IsStackVerdict p options graph.parts kept verdict) }
 {
     let points = list_site_points(alloc, &graph, &kept)?;
     let warnings = list_warnings(alloc, &graph, &kept, &points, options)?;

@@ -7,7 +7,7 @@ ghost use Rattle.stack_rules.specs.Checks.{Checks};
 ghost use Rattle.stack_rules.specs.Gains.{Gains};
 ghost use Rattle.stack_rules.specs.Points.{AreSitePointsOf};
 ghost use Rattle.program_check.specs.Asked.{AreBroken, AreUnasked, UnframedWarns, UnreachedWarns};
-ghost use Rattle.program_check.specs.Checkable.{IsCheckable};
+ghost use Rattle.program_check.specs.Checkable.{IsPrepared};
 
 use kept_states::Kept;
 use ot_base::{NoMemory, Options, Warning};
@@ -27,7 +27,7 @@ fn list_unasked(
     requires points { length kept.now ≡ length graph.now.parts.points.items }
     requires listed { AreSitePointsOf graph.now.parts kept.now points.now }
     requires sites { All (λ site. site.len < 2 ^ 63) graph.now.parts.sites.items }
-    ensures { IfOk result (λ warnings. (p : Program) → IsCheckable p graph.now.parts kept.now → AreUnasked p warnings.items) }
+    ensures { IfOk result (λ warnings. (p : Program) → IsPrepared p graph.now.parts kept.now → AreUnasked p warnings.items) }
 {
     let mut warnings = Vec::new(alloc);
     push_warnings(graph, kept, &mut warnings)?;
@@ -82,7 +82,7 @@ pub(crate) fn list_warnings(
     requires points { length kept.now ≡ length graph.now.parts.points.items }
     requires listed { AreSitePointsOf graph.now.parts kept.now points.now }
     requires sites { All (λ site. site.len < 2 ^ 63) graph.now.parts.sites.items }
-    ensures broken { IfOk result (λ warnings. (p : Program) → IsCheckable p graph.now.parts kept.now → AreBroken p options warnings.items) }
+    ensures broken { IfOk result (λ warnings. (p : Program) → IsPrepared p graph.now.parts kept.now → AreBroken p options warnings.items) }
     ensures ascending { IfOk result (λ warnings. AllPairs ComesBefore warnings.items) }
 {
     let mut warnings = list_unasked(alloc, graph, kept, points)?;

@@ -74,7 +74,7 @@ program_of p may_return = record {
 }
 
 -- control that comes to some entry may stand at the point
-pub record IsEntryPoint (p : OwnProgram) (may_return : List Bool) (q : ℕ) : Type 0 where
+pub record StandsAtEntry (p : OwnProgram) (may_return : List Bool) (q : ℕ) : Type 0 where
   pub entry : ℕ
   pub listed : Contains p.entries.items entry
   pub arrives : Contains (entry_points (program_of p may_return) entry) q

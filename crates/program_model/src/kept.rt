@@ -39,7 +39,7 @@ fn first_state(p: &Program, q: u32, point: &ModelPoint) -> Option<State> {
     match point.hint {
         Some(HintState::Set(state)) => Some(state),
         Some(HintState::Restore) => None,
-        Some(HintState::Save) | None => { p.is_entry_point(q).then_some(initial()) }
+        Some(HintState::Save) | None => { p.is_at_entry(q).then_some(initial()) }
     }
 }
 

@@ -2,7 +2,6 @@
 
 use crate::Program;
 use crate::kept::Kept;
-use crate::point_rules::warning;
 use crate::site_rules::is_call_op;
 use crate::state_rules::call_rule;
 use operation_defs::Op;
@@ -16,7 +15,7 @@ fn frame_warnings(warnings: &mut Vec<Warning>, p: &Program, kept: &Kept) -> Resu
         if let (Some(point), Some(state)) = (p.point(q), kept.state(q)) {
             let is_call = is_call_op(point.insn.op) && !point.calls_fentry;
             if let (true, Some(rule)) = (is_call, call_rule(state)) {
-                warnings.push(warning(point.place, rule, 0, 0))?;
+                warnings.push(Warning::bare(point.place, rule))?;
             }
         }
     }
@@ -57,7 +56,7 @@ fn unreached_warnings(
 ) -> Result<(), AllocError> {
     for q in 0..p.count() {
         if let (Some(point), true) = (p.point(q), is_first_unreached(p, kept, q)) {
-            warnings.push(warning(point.place, UNREACHABLE_INSTRUCTION, 0, 0))?;
+            warnings.push(Warning::bare(point.place, UNREACHABLE_INSTRUCTION))?;
         }
     }
     Ok(())

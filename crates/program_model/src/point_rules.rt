@@ -11,11 +11,6 @@ use stack_state::step;
 use state_defs::{Depth, HintState, State};
 use std::alloc::{AllocError, Global};
 
-/// A warning at a place.
-pub fn warning(place: Place, rule: u8, a: i64, b: i64) -> Warning {
-    Warning { place, rule, a, b }
-}
-
 /// The number that a warning tells of a state.
 fn depth_number(state: State) -> i64 {
     match state {
@@ -51,7 +46,7 @@ fn mark_warnings(
     ];
     for (is_marked, rule) in marked {
         if is_marked {
-            warnings.push(warning(point.place, rule, 0, 0))?;
+            warnings.push(Warning::bare(point.place, rule))?;
         }
     }
     Ok(())
@@ -71,8 +66,8 @@ fn mismatch_warnings(
 ) -> Result<(), AllocError> {
     for brought in states {
         if *brought != there {
-            let (a, b) = (depth_number(there), depth_number(*brought));
-            warnings.push(warning(place, rules::STATE_MISMATCH, a, b))?;
+            let (kept, found) = (depth_number(there), depth_number(*brought));
+            warnings.push(Warning::state_mismatch(place, kept, found))?;
         }
     }
     Ok(())
@@ -94,7 +89,7 @@ fn warnings_along(
         return Ok(());
     };
     if edge.kind == EdgeKind::Next && target.owner != point.owner {
-        warnings.push(warning(point.place, rules::FALLS_THROUGH, 0, 0))?;
+        warnings.push(Warning::bare(point.place, rules::FALLS_THROUGH))?;
     }
     if let Some(there) = kept.state(edge.to) {
         if is_free(target.hint) {
@@ -102,7 +97,7 @@ fn warnings_along(
             mismatch_warnings(warnings, target.place, there, states.as_slice())?;
         }
     } else if target.hint == Some(HintState::Restore) {
-        warnings.push(warning(target.place, rules::RESTORE_WITHOUT_SAVE, 0, 0))?;
+        warnings.push(Warning::bare(target.place, rules::RESTORE_WITHOUT_SAVE))?;
     }
     Ok(())
 }
@@ -124,12 +119,11 @@ fn edge_warnings(
 
 /// The warning of a point that leaves its function by this rule, which tells the depth of a modified stack.
 fn leaving_warning(place: Place, rule: u8, state: State) -> Warning {
-    let a = if rule == rules::EXIT_NOT_ALLOWED {
-        0
+    if rule == rules::EXIT_NOT_ALLOWED {
+        Warning::bare(place, rule)
     } else {
-        depth_number(state)
-    };
-    warning(place, rule, a, 0)
+        Warning::modified_stack(place, rule, depth_number(state))
+    }
 }
 
 /// The warnings of the rules 5 and 15 at a return.
@@ -188,11 +182,11 @@ fn operation_warnings(
     state: State,
 ) -> Result<(), AllocError> {
     if let Err(rule) = step(state, point.insn.op) {
-        warnings.push(warning(point.place, rule, 0, 0))?;
+        warnings.push(Warning::bare(point.place, rule))?;
     }
     if let Some(offset) = StateRow::of(state).unfit_offset() {
-        let a = i64::try_from(offset).unwrap_or(i64::MAX);
-        warnings.push(warning(point.place, rules::OFFSET_OUT_OF_RANGE, a, 0))?;
+        let offset = i64::try_from(offset).unwrap_or(i64::MAX);
+        warnings.push(Warning::offset_out_of_range(point.place, offset))?;
     }
     let unallowed = match point.insn.op {
         Op::Switch => switch_rule(state),
@@ -200,7 +194,7 @@ fn operation_warnings(
         _ => None,
     };
     if let Some(rule) = unallowed {
-        warnings.push(warning(point.place, rule, 0, 0))?;
+        warnings.push(Warning::bare(point.place, rule))?;
     }
     Ok(())
 }

@@ -73,7 +73,7 @@ pub struct ModelPoint {
 const NO_PLACE: Place = Place { sec: 0, off: 0 };
 
 /// Whether two places are one.
-fn is_same_place(one: Place, other: Place) -> bool
+fn same_place(one: Place, other: Place) -> bool
     ensures { result ≡ same_place one other }
 {
     one.sec == other.sec && one.off == other.off
@@ -114,7 +114,7 @@ impl Program {
     ghost use Rattle.std.specs.Prelude.{◌≡◌, [], None, Some, MatchOption, IsTrue, Contains, List, Bool, false, ◌==◌, slice_get};
     ghost use Rattle.std.specs.List.{list_any};
     ghost use Rattle.machine_defs.specs.Program.{no_marks};
-    ghost use Rattle.program_model.specs.Program.{of_point, no_insn, no_place, starts_site, arrives, program_of, IsEntryPoint};
+    ghost use Rattle.program_model.specs.Program.{of_point, no_insn, no_place, starts_site, arrives, program_of, StandsAtEntry};
     ghost use Rattle.machine_defs.specs.Program.{entry_points};
 
     /// How many points there are.
@@ -238,9 +238,7 @@ impl Program {
     fn starts_site(&self, place: Place) -> bool
         ensures { result ≡ starts_site self.now place }
     {
-        self.sites
-            .iter()
-            .any(|site| is_same_place(site.start, place))
+        self.sites.iter().any(|site| same_place(site.start, place))
     }
 
     /// Whether control that comes to a place may stand at a point: at the start of a site at the first of
@@ -251,7 +249,7 @@ impl Program {
         let starts_site = self.starts_site(place);
         match self.point(q) {
             Some(point) => {
-                is_same_place(point.address, place) && (point.variant == 0 || starts_site)
+                same_place(point.address, place) && (point.variant == 0 || starts_site)
             }
             None => false,
         }
@@ -272,8 +270,8 @@ impl Program {
     }
 
     /// Whether control that comes to some entry may stand at the point.
-    pub fn is_entry_point(&self, q: u32) -> bool
-        ensures { (set : List Bool) → IsTrue result → IsEntryPoint self.now set q }
+    pub fn is_at_entry(&self, q: u32) -> bool
+        ensures { (set : List Bool) → IsTrue result → StandsAtEntry self.now set q }
     {
         for entry in &self.entries {
             if self.enters(*entry, q) {

@@ -1,5 +1,9 @@
 //! From which points on a return may come: the least such set, found by rounds.
 
+ghost use Rattle.std.specs.Prelude.{◌≡◌, List, Bool};
+ghost use Rattle.machine_defs.specs.Step.{may_leave};
+ghost use Rattle.program_model.specs.Program.{program_of};
+
 use crate::{ModelPoint, Program};
 use machine_defs::{EdgeKind, Role};
 use std::alloc::{AllocError, Global};
@@ -39,8 +43,10 @@ fn target_returns(p: &Program, set: &[bool], role: Role) -> bool {
     }
 }
 
-/// Whether a point leaves its function: a return, or a jump that may.
-fn leaves(p: &Program, role: Role) -> bool {
+/// Whether a point may leave its function: by a return, or by a jump to code outside that returns.
+pub fn may_leave(p: &Program, role: Role) -> bool
+    ensures { (set : List Bool) → result ≡ may_leave (program_of p.now set) role }
+{
     match role {
         Role::Return | Role::JumpAny => true,
         Role::JumpOut { sym } => !p.never_returns(sym),
@@ -50,7 +56,7 @@ fn leaves(p: &Program, role: Role) -> bool {
 
 /// Whether a point belongs to the set because of those that are in it.
 fn joins(p: &Program, set: &[bool], point: &ModelPoint) -> bool {
-    if leaves(p, point.role) {
+    if may_leave(p, point.role) {
         return true;
     }
     let is_call = is_call(point.role);

@@ -3,7 +3,7 @@
 use crate::Program;
 use crate::kept::Kept;
 use crate::option_rules::option_warnings;
-use crate::point_rules::{point_warnings, warning};
+use crate::point_rules::point_warnings;
 use crate::site_rules::site_warnings;
 use ot_base::rules::{FUNCTION_WITHOUT_SIZE, RESTORE_WITHOUT_SAVE};
 use ot_base::{Options, Warning};
@@ -18,8 +18,8 @@ fn entry_warnings(warnings: &mut Vec<Warning>, p: &Program, kept: &Kept) -> Resu
             continue;
         };
         let is_empty_restore = point.hint == Some(HintState::Restore) && kept.state(q).is_none();
-        if is_empty_restore && p.is_entry_point(q) {
-            warnings.push(warning(point.place, RESTORE_WITHOUT_SAVE, 0, 0))?;
+        if is_empty_restore && p.is_at_entry(q) {
+            warnings.push(Warning::bare(point.place, RESTORE_WITHOUT_SAVE))?;
         }
     }
     Ok(())
@@ -39,7 +39,7 @@ fn stack_warnings(
     }
     site_warnings(warnings, p, kept)?;
     for place in &p.without_size {
-        warnings.push(warning(*place, FUNCTION_WITHOUT_SIZE, 0, 0))?;
+        warnings.push(Warning::bare(*place, FUNCTION_WITHOUT_SIZE))?;
     }
     entry_warnings(warnings, p, kept)
 }

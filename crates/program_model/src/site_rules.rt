@@ -1,13 +1,11 @@
 //! Rule 12: the variants of an alternatives site agree on the rows.
 
 use crate::kept::Kept;
-use crate::point_rules::warning;
 use crate::state_row::StateRow;
 use crate::table_rows::is_kept_site;
 use crate::{ModelPoint, ModelSite, Program};
 use operation_defs::Op;
 use ot_base::Warning;
-use ot_base::rules::ALTERNATIVES_DISAGREE;
 use state_defs::State;
 use std::alloc::AllocError;
 
@@ -30,7 +28,7 @@ fn kept_in_site<'a>(
 
 /// The warning of a site at this offset of its section.
 fn disagrees_at(site: ModelSite, off: u64) -> Warning {
-    warning(site.start, ALTERNATIVES_DISAGREE, offset_in(site, off), 0)
+    Warning::alternatives_disagree(site.start, offset_in(site, off))
 }
 
 /// The bytes from a site's start to an offset of its section.

@@ -1,4 +1,4 @@
--- Which site in_own_site a place.
+-- Which site holds a place.
 use Rattle.std.proofs.Common.{◌≡◌, ℕ, ◌+◌, ◌-◌, ◌<◌, ◌≤◌, true, false, not, ◌&&◌, ◌||◌, eqb, ltb, leb, List, length, get_or, Contains, inl, inr, arith, ap, sym, ◌∙◌, subst}
 use Rattle.std.specs.Ordering.{nat_cmp, is_lt, ordering_then}
 use Rattle.std.specs.List.Sorted.{IsPartitionedBy}
@@ -40,28 +40,28 @@ unbegun sites place indexed n k d order inside h =
 before_start : (a b c d n : ℕ) → is_lt (ordering_then (nat_cmp a c) (nat_cmp b d)) ≡ true → (eqb c a && (leb d b && ltb b (d + n))) ≡ false
 before_start a b c d n h = grind (arith, nat_tests)
 
--- no site in_own_site a place before its start
+-- no site holds a place before its start
 pub before_not_held : (place : Place) (site : OwnSite) → is_before place site.start ≡ true → in_own_site site place ≡ false
 before_not_held place site h = before_start place.sec place.off site.start.sec site.start.off site.len h
 
 some_there : (a b c d n : ℕ) → (eqb c a && (leb d b && ltb b (d + n))) ≡ true → 0 < n
 some_there a b c d n h = grind (arith, nat_tests)
 
--- a site that in_own_site a place has a byte
+-- a site that holds a place has a byte
 pub held_some : (place : Place) (site : OwnSite) → in_own_site site place ≡ true → 0 < site.len
 held_some place site h = some_there place.sec place.off site.start.sec site.start.off site.len h
 
 start_there : (a b n : ℕ) → 0 < n → (eqb a a && (leb b b && ltb b (b + n))) ≡ true
 start_there a b n h = grind (arith, nat_tests)
 
--- a site with a byte in_own_site its start
+-- a site with a byte holds its start
 pub start_held : (site : OwnSite) → 0 < site.len → in_own_site site site.start ≡ true
 start_held site h = start_there site.start.sec site.start.off site.len h
 
 between_there : (a b c d n e f : ℕ) → (eqb c a && (leb d b && ltb b (d + n))) ≡ true → is_lt (ordering_then (nat_cmp e c) (nat_cmp f d)) ≡ false → is_lt (ordering_then (nat_cmp a e) (nat_cmp b f)) ≡ false → (eqb c e && (leb d f && ltb f (d + n))) ≡ true
 between_there a b c d n e f h k l = grind (arith, nat_tests)
 
--- a site that in_own_site a place in_own_site what stands between its start and the place
+-- a site that holds a place holds what stands between its start and the place
 between_held : (place other : Place) (site : OwnSite) → in_own_site site place ≡ true → is_before other site.start ≡ false → is_before place other ≡ false → in_own_site site other ≡ true
 between_held place other site h k l = between_there place.sec place.off site.start.sec site.start.off site.len other.sec other.off h k l
 
@@ -88,7 +88,7 @@ none_holds sites place n last indexed apart inside is from behind not_held site 
         let same : site ≡ last = apart site last last.start (k, l, at) listed there (start_held last some) in
         both_ways (in_own_site last place) not_held (subst (λ (s : OwnSite). in_own_site s place ≡ true) same held)
 
--- no site in_own_site a place before the one with a number, and behind the one before that
+-- no site holds a place before the one with a number, and behind the one before that
 pub none_between : (sites : List OwnSite) (place : Place) (near : ℕ) (d : OwnSite) → AreIndexed sites → AreApart sites → near ≤ length sites
     → (0 < near → (is_before place (get_or sites (near - 1) d).start ≡ false) × (in_own_site (get_or sites (near - 1) d) place ≡ false))
     → (near < length sites → is_before place (get_or sites near d).start ≡ true)

@@ -84,7 +84,7 @@ module _ (p : Program) (laid : IsLaidOut p) (kept : List (Option State)) (states
     pub starts_apart : AreApart starts
     starts_apart one other place c d h k = apart one other place (kept_in.each one c).0 (kept_in.each other d).0 h k
 
-    -- a site that is listed in_own_site its kept points
+    -- a site that is listed holds its kept points
     each_point : (q : ℕ) → IsSome (at kept q) → (site : OwnSite) → Contains starts site → in_own_site site (p.address q) ≡ true → IsSitePoint p q
     each_point q some site listed inside =
         let r = (kept_in.each site listed).1 in

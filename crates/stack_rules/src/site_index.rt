@@ -13,7 +13,7 @@ use std::alloc::Global;
 use std::marker::Model;
 
 /// Whether a place lies in a site.
-fn holds(site: &GraphSite, place: Place) -> bool
+fn is_in_site(site: &GraphSite, place: Place) -> bool
     ensures { result ≡ is_held site.now place }
 {
     let start = site.start;
@@ -101,7 +101,7 @@ fn site_before(sites: &[GraphSite], place: Place, count: usize) -> Option<GraphS
         return None;
     }
     let site = sites[count - 1];
-    if holds(&site, place) {
+    if is_in_site(&site, place) {
         Some(site)
     } else {
         None
@@ -133,7 +133,7 @@ fn site_near(sites: &[GraphSite], place: Place, near: usize) -> Option<GraphSite
         return None;
     }
     let site = sites[near - 1];
-    if holds(&site, place) {
+    if is_in_site(&site, place) {
         Some(site)
     } else {
         None

@@ -1,5 +1,5 @@
-//! Different states of the stack by number, in a region that is reserved once, and how many of them a checker keeps,
-//! which tests ask for. Tests ask for it.
+//! Different states of the stack by number, in a region that is reserved once, and how many of them a checker keeps. Only
+//! tests ask for it.
 #![tactic(auto)]
 
 mod counting;

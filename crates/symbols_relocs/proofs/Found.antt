@@ -119,7 +119,7 @@ module _ (o : Elf) (fs : List Function) (all : AreFunctions o fs) where
   pub known_symbols : HaveSymbols o fs
   known_symbols i inside = let w = all.each i inside in (least_below-some (is_symbol_at o (function fs i).start) (length o.symbols) (function fs i).sym w.sym).below
 
-  -- a function in_function the place from so many bytes before
+  -- a function holds the place from so many bytes before
   record Holder (place : Place) (bytes : ℕ) : Type 0 where
     index : ℕ
     inside : index < length fs

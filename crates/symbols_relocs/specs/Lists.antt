@@ -64,7 +64,7 @@ AreRising fs = (i j : ℕ) → i < j → j < length fs → is_before (function f
 abbrev pub AreByStart : List Function → Type 0
 AreByStart fs = (i j : ℕ) → i ≤ j → j < length fs → is_before (function fs j).start (function fs i).start ≡ false
 
--- the function in_function the place
+-- the function holds the place
 abbrev pub in_function : Function → Place → Bool
 in_function f place = is_within f.start f.size place
 

@@ -56,7 +56,7 @@ pub(crate) fn link_outer(alloc: Global, functions: &[Function]) -> Result<Vec<us
     Ok(outer)
 }
 
-/// Whether a function in_function a place.
+/// Whether a function holds a place.
 fn in_function(function: &Function, place: Place) -> bool
     ensures { result ≡ holds_place function.now place }
 {
@@ -65,7 +65,7 @@ fn in_function(function: &Function, place: Place) -> bool
         && u128::from(place.off) < end_of(function)
 }
 
-/// Whether the one with an index in_function a place, and the next one starts behind that, or there is none.
+/// Whether the one with an index holds a place, and the next one starts behind that, or there is none.
 pub(crate) fn is_holder(functions: &[Function], index: usize, place: Place) -> bool
     ensures { result ≡ is_one_holder functions.now index place }
 {
@@ -74,7 +74,7 @@ pub(crate) fn is_holder(functions: &[Function], index: usize, place: Place) -> b
         && is_behind(functions, index + 1, place)
 }
 
-/// The index of the last function that in_function a place.
+/// The index of the last function that holds a place.
 pub(crate) fn find_holder(
     functions: &[Function],
     outer: &[usize],

@@ -23,7 +23,7 @@ const NO_MARK: Mark = Mark {
 };
 
 /// No marks, with slots for a table.
-pub(crate) fn no_marks(alloc: Global, pieces: &Pieces<'_>) -> Result<Vec<Mark>, NoMemory>
+pub(crate) fn unmarked_slots(alloc: Global, pieces: &Pieces<'_>) -> Result<Vec<Mark>, NoMemory>
     ensures { IfOk result (λ marks. AreMarks pieces.now marks.items) }
 {
     let slots = 2 * (pieces.table().len() / 64 + 1);

@@ -3,7 +3,7 @@
 ghost use Rattle.std.specs.Prelude.{◌≡◌, ◌<◌, ◌≤◌, ◌^◌, [], ◌∷◌, Some, length, slice_get, slice_range, IfOk};
 ghost use Rattle.text_numbers.specs.Texts.{AreDifferent, AreKept};
 
-use crate::marks::{Mark, no_marks, number_whole};
+use crate::marks::{Mark, number_whole, unmarked_slots};
 use crate::pieces::Pieces;
 use ot_base::NoMemory;
 use std::alloc::Global;
@@ -34,7 +34,7 @@ impl<'a> Texts<'a> {
         ensures table { IfOk result (λ texts. texts.table ≡ table.now) }
     {
         let pieces = Pieces::new(alloc, table);
-        let marks = no_marks(alloc, &pieces)?;
+        let marks = unmarked_slots(alloc, &pieces)?;
         Ok(Texts { pieces, marks })
     }
 

@@ -14,7 +14,7 @@ fn range_of(ranges: &[Range], sec: u32) -> Option<Range>
     ranges.iter().copied().find(|range| range.sec == sec)
 }
 
-fn is_within(ranges: &[Range], placed: PlacedRow) -> bool
+fn is_in_range(ranges: &[Range], placed: PlacedRow) -> bool
     ensures { result ≡ true → IsWithin ranges.now placed }
 {
     match range_of(ranges, placed.place.sec) {
@@ -30,7 +30,7 @@ pub fn place(
     ranges: &[Range],
 ) -> Result<Table, PlaceFault> {
     for placed in rows {
-        let within = is_within(ranges, *placed);
+        let within = is_in_range(ranges, *placed);
         assert!(rt; within);
     }
     assert!(rt; rows.len() < 1000);

@@ -18,7 +18,7 @@ use Rattle.x86_map.specs.Form.{allows, accepts, takes, has_modrm, shape_of, look
 use Rattle.x86_map.specs.OpcodeMap.{forms_at}
 use Rattle.x86_map.specs.Apart.{FitsOnce, FormsAreApart}
 use Rattle.x86_map.proofs.Accepting.{and_left, and_right, or_true}
-use Rattle.x86_map.proofs.EachOpcode.{conflict, uses_apart, holds, may_answer, apart_from, all_apart, are_apart, is_uniform, each_opcode}
+use Rattle.x86_map.proofs.EachOpcode.{conflict, uses_apart, takes_modrm, may_answer, apart_from, all_apart, are_apart, is_uniform, each_opcode}
 use Rattle.x86_map.proofs.Modrm.{refused_form, accepted_form}
 
 -- ---- uses of prefixes that no prefixes meet both
@@ -84,7 +84,7 @@ cond_needs : (b : Bool) (s t : Shape) → cond b NeedModrm (Fits s) ≡ Fits t �
 cond_needs true s t h = absurd cc
 cond_needs false s t h = refl
 
-operand_holds : (o : Operand) (modrm : Option ℕ) (s t : Shape) → look_operand o modrm s ≡ Fits t → holds modrm o ≡ true
+operand_holds : (o : Operand) (modrm : Option ℕ) (s t : Shape) → look_operand o modrm s ≡ Fits t → takes_modrm modrm o ≡ true
 operand_holds o None s t h = cond_needs (has_modrm o) s t h
 operand_holds o (Some m) s t h = cond_fits (takes o m) s t h
 
@@ -94,7 +94,7 @@ operand_refuses o (Some m) s h = rw h
 
 record FormFits (f : Form) (p : Prefixes) (modrm : Option ℕ) : Type 0 where
   accept : accepts f.prefixes p ≡ true
-  hold : holds modrm f.operand ≡ true
+  hold : takes_modrm modrm f.operand ≡ true
 
 form_fits : (f : Form) (p : Prefixes) (modrm : Option ℕ) (s : Shape) → look_form f p modrm ≡ Fits s → FormFits f p modrm
 form_fits f p modrm s h = elim (accepts f.prefixes p) as (λ b. accepts f.prefixes p ≡ b → FormFits f p modrm) [
@@ -126,8 +126,8 @@ fits_once modrm [] p h = tt
 fits_once modrm (f ∷ forms) p h = (
   λ shape e.
       let fits = form_fits f p modrm shape e in
-      others_refuse modrm f forms p (holds_then (holds modrm f.operand) (apart_from modrm f forms) (and_left (not (holds modrm f.operand) || apart_from modrm f forms) (all_apart modrm forms) h) fits.hold) fits.accept,
-  fits_once modrm forms p (and_right (not (holds modrm f.operand) || apart_from modrm f forms) (all_apart modrm forms) h),
+      others_refuse modrm f forms p (holds_then (takes_modrm modrm f.operand) (apart_from modrm f forms) (and_left (not (takes_modrm modrm f.operand) || apart_from modrm f forms) (all_apart modrm forms) h) fits.hold) fits.accept,
+  fits_once modrm forms p (and_right (not (takes_modrm modrm f.operand) || apart_from modrm f forms) (all_apart modrm forms) h),
 )
 
 list_all-at : (test : ℕ → Bool) (xs : List ℕ) (i : ℕ) → list_all test xs ≡ true → i < length xs → test (get_or xs i 0) ≡ true

@@ -53,10 +53,10 @@ conflict Allowed r = false
 abbrev pub uses_apart : PrefixUses → PrefixUses → Bool
 uses_apart r q = conflict r.of_66 q.of_66 || (conflict r.of_f3 q.of_f3 || (conflict r.of_f2 q.of_f2 || conflict r.of_rex_b q.of_rex_b))
 
--- the operand takes the ModRM byte, or has none where there is none
-abbrev pub holds : Option ℕ → Operand → Bool
-holds None o = not (has_modrm o)
-holds (Some m) o = takes o m
+-- the operand takes the ModRM byte, or wants none where there is none
+abbrev pub takes_modrm : Option ℕ → Operand → Bool
+takes_modrm None o = not (has_modrm o)
+takes_modrm (Some m) o = takes o m
 
 -- a form of this operand may answer otherwise than by refusing
 abbrev pub may_answer : Option ℕ → Operand → Bool
@@ -70,7 +70,7 @@ apart_from modrm f (g ∷ forms) = (not (may_answer modrm g.operand) || uses_apa
 
 abbrev pub all_apart : Option ℕ → List Form → Bool
 all_apart modrm [] = true
-all_apart modrm (f ∷ forms) = (not (holds modrm f.operand) || apart_from modrm f forms) && all_apart modrm forms
+all_apart modrm (f ∷ forms) = (not (takes_modrm modrm f.operand) || apart_from modrm f forms) && all_apart modrm forms
 
 abbrev pub are_apart : List Form → Bool
 are_apart [] = true

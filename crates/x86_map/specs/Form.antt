@@ -43,14 +43,15 @@ is_in_mode Either field = true
 is_in_mode Memory field = nat_lt field 3
 is_in_mode Register field = field == 3
 
-abbrev pub is_within : ℕ → ℕ → ℕ → Bool
-is_within first last n = nat_le first n && nat_le n last
+-- the number is the first, the last or one between
+abbrev pub is_from_to : ℕ → ℕ → ℕ → Bool
+is_from_to first last n = nat_le first n && nat_le n last
 
 -- whether the operand takes this ModRM byte
 abbrev pub takes : Operand → ℕ → Bool
 takes NoModrm modrm = false
-takes (Digits mode first last) modrm = is_in_mode mode (modrm_mod modrm) && is_within first last (modrm_reg modrm)
-takes (Bytes first last) modrm = is_within first last modrm
+takes (Digits mode first last) modrm = is_in_mode mode (modrm_mod modrm) && is_from_to first last (modrm_reg modrm)
+takes (Bytes first last) modrm = is_from_to first last modrm
 
 abbrev pub has_modrm : Operand → Bool
 has_modrm NoModrm = false

@@ -3,7 +3,7 @@ ghost use Rattle.x86_map.specs.Form.{
   allows,
   accepts,
   is_in_mode,
-  is_within,
+  is_from_to,
   takes,
   has_modrm,
   imm_len,
@@ -137,7 +137,8 @@ impl PrefixUses {
 }
 
 impl Mode {
-    fn holds(self, modrm_mod: u8) -> bool
+    /// Whether the mod field of a ModRM byte may be this.
+    fn includes(self, modrm_mod: u8) -> bool
         ensures { result ≡ is_in_mode self modrm_mod }
     {
         match self {
@@ -165,7 +166,7 @@ impl Operand {
             Operand::NoModrm => false,
             Operand::Digits { mode, first, last } => {
                 let reg = modrm / 8 % 8;
-                mode.holds(modrm / 64) && first <= reg && reg <= last
+                mode.includes(modrm / 64) && first <= reg && reg <= last
             }
             Operand::Bytes { first, last } => first <= modrm && modrm <= last,
         }

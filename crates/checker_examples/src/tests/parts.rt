@@ -133,7 +133,7 @@ fn add_point(
         len: point.insn.len,
         is_dead_end: point.is_dead_end,
         may_return: returning.get(q as usize).copied().unwrap_or(false),
-        is_entered: p.is_entry_point(q),
+        is_entered: p.is_at_entry(q),
     })?;
     parts.points.push(GraphPoint {
         section: point.place.sec,

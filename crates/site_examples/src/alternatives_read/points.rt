@@ -179,9 +179,9 @@ fn sites_of_entries(rt: HostRuntime) -> Result<(), Fail> {
     let sites = built(&rt, rt.alloc())?;
     assert!(rt; sites.sites() == SITES.as_slice());
     assert!(rt; sites.entry_numbers() == [4u32, 1, 3, 0].as_slice());
-    assert_eq!(rt; sites.site_at(Place { sec: 1, off: 3 }), None);
-    assert_eq!(rt; sites.site_at(Place { sec: 1, off: 7 }), Some(1));
-    assert_eq!(rt; sites.site_at(replacement(0)), None);
+    assert_eq!(rt; sites.site_number_at(Place { sec: 1, off: 3 }), None);
+    assert_eq!(rt; sites.site_number_at(Place { sec: 1, off: 7 }), Some(1));
+    assert_eq!(rt; sites.site_number_at(replacement(0)), None);
     Ok(())
 }
 

@@ -8,7 +8,7 @@ pub loop-n-preserved : goal.loop-n-preserved
 loop-n-preserved c =
     let o : Coded = c.args.places.now in
     subst (λ (items : List (Option ℕ)). AreEntered o items (c.loop-n.n + 1)) (sym c.in_ok-push.ensures.items)
-    (entered_more o c.loop-n.entered.items c.loop-n.n c.entry_at.result c.loop-n.invariant c.entry_at.ensures.is (known_entry o c.entry_at.result c.entry_at.ensures.known))
+    (entered_more o c.loop-n.entered.items c.loop-n.n c.entry_of_point.result c.loop-n.invariant c.entry_of_point.ensures.is (known_entry o c.entry_of_point.result c.entry_of_point.ensures.known))
 
 pub returns : goal.returns
 returns c =

@@ -13,14 +13,14 @@ pub returns-then-at-jumps : goal.returns-then-at-jumps
 returns-then-at-jumps c =
     sym (none_passes (λ (j : Jump). same_place j.place c.args.place) c.args.jumps.now none (λ k inside. before_is_other (get_or c.args.jumps.now k none).place c.args.place (c.count_before-at.ensures.below k none (omega (arith, c.if-at-jumps.true)))))
 
-pub returns-then-is_same : goal.returns-then-is_same
-returns-then-is_same c =
+pub returns-then-same_place : goal.returns-then-same_place
+returns-then-same_place c =
     let jumps : List Jump = c.args.jumps.now in
     let at : ℕ = c.count_before-at.result in
-    sym (found_at (λ (j : Jump). same_place j.place c.args.place) jumps at none c.if-at-jumps.false (λ k lower. before_is_other (get_or jumps k none).place c.args.place (c.count_before-at.ensures.below k none lower)) (sym c.if-is_same.ensures))
+    sym (found_at (λ (j : Jump). same_place j.place c.args.place) jumps at none c.if-at-jumps.false (λ k lower. before_is_other (get_or jumps k none).place c.args.place (c.count_before-at.ensures.below k none lower)) (sym c.if-same_place.ensures))
 
-pub returns-else-is_same : goal.returns-else-is_same
-returns-else-is_same c =
+pub returns-else-same_place : goal.returns-else-same_place
+returns-else-same_place c =
     let jumps : List Jump = c.args.jumps.now in
     let at : ℕ = c.count_before-at.result in
     let here : at < length jumps = c.if-at-jumps.false in
@@ -30,6 +30,6 @@ returns-else-is_same c =
       | inr not_lower ↦
           behind_is_other c.args.place (get_or jumps at none).place (get_or jumps k none).place
           (c.count_before-at.ensures.from at none (omega arith) here)
-          (sym c.if-is_same.ensures)
+          (sym c.if-same_place.ensures)
           (c.requires at k none not_lower inside)
     ]))

@@ -10,18 +10,18 @@ pub returns-then-at-places : goal.returns-then-at-places
 returns-then-at-places c =
     λ k d inside. before_is_other c.args.place (get_or c.args.places.now k d) (c.count_below-at.ensures.below k d (omega (arith, c.if-at-places.true)))
 
-pub returns-then-is_same : goal.returns-then-is_same
-returns-then-is_same c =
+pub returns-then-same_place : goal.returns-then-same_place
+returns-then-same_place c =
     let places : List Place = c.args.places.now in
     let n : ℕ = c.count_below-at.result in
     let inside : n < length places = c.if-at-places.false in (
       inside,
-      (λ d. get_or_default places n d no_place inside ∙ same_is (get_or places n no_place) c.args.place (sym c.if-is_same.ensures)),
+      (λ d. get_or_default places n d no_place inside ∙ same_is (get_or places n no_place) c.args.place (sym c.if-same_place.ensures)),
       (λ k d lower. before_is_other c.args.place (get_or places k d) (c.count_below-at.ensures.below k d lower)),
     )
 
-pub returns-else-is_same : goal.returns-else-is_same
-returns-else-is_same c =
+pub returns-else-same_place : goal.returns-else-same_place
+returns-else-same_place c =
     let places : List Place = c.args.places.now in
     let n : ℕ = c.count_below-at.result in
     let here : n < length places = c.if-at-places.false in
@@ -31,6 +31,6 @@ returns-else-is_same c =
           let order : n ≤ k = omega arith in
           behind_is_other c.args.place (get_or places n d) (get_or places k d)
           (c.count_below-at.ensures.from n d (omega arith) here)
-          (ap (λ p. same_place p c.args.place) (get_or_default places n d no_place here) ∙ sym c.if-is_same.ensures)
+          (ap (λ p. same_place p c.args.place) (get_or_default places n d no_place here) ∙ sym c.if-same_place.ensures)
           (c.requires n k d order inside)
     ]

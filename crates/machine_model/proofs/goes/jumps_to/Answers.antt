@@ -7,5 +7,5 @@ returns-then-has_edge c = λ set _. sibling c.args.to (c.if-has_edge.ensures ref
 
 pub returns-in-JumpAny : goal.returns-in-JumpAny
 returns-in-JumpAny c = λ set h.
-    let e = c.is_entry_point.ensures set h in
+    let e = c.is_at_entry.ensures set h in
     indirect c.args.to e.entry (sym c.in-JumpAny.ensures) e.listed e.arrives

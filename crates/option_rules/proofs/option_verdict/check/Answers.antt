@@ -1,7 +1,7 @@
 -- Where a rule of the stack is broken, its warnings are among all.
 use Rattle.std.proofs.Common.{option_copied, sym, subst, inl}
 use Rattle.program_graph.specs.declared.parts.GraphParts.{GraphParts}
-use Rattle.program_check.specs.Verdict.{IsVerdict}
+use Rattle.program_check.specs.Verdict.{IsStackVerdict}
 use Rattle.program_check.proofs.Empty.{element}
 use Rattle.option_rules.specs.AskedRules.{IsTracked}
 use Rattle.option_rules.proofs.Sums.{all_warned, has_some}
@@ -11,7 +11,7 @@ use Rattle.option_rules.proofs.option_verdict.check.Goals as goal
 pub returns-in_ok-with_asked-in-Broken : goal.returns-in_ok-with_asked-in-Broken
 returns-in_ok-with_asked-in-Broken c = λ p allowed ask.
     let parts = c.args.graph.parts in
-    let verdict = subst (IsVerdict p c.args.options parts c.args.kept) c.in-Broken.is (c.in_ok-checked.ensures p ask.checkable) in
+    let verdict = subst (IsStackVerdict p c.args.options parts c.args.kept) c.in-Broken.is (c.in_ok-checked.ensures p ask.checkable) in
     let stack = c.in-Broken.warnings.items in
     let all = c.in_ok-with_asked-in-Broken.field-0.items in
     let t = subst (λ (g : GraphParts). IsTracked p allowed g (option_copied c.args.table)) (sym verdict.graph) (tracked p allowed parts c.args.kept (option_copied c.args.table) ask) in

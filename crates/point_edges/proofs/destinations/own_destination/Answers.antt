@@ -8,8 +8,8 @@ use Rattle.special_sections.specs.Special.{special_of}
 use Rattle.alternatives.specs.declared.point.Point.{Point}
 use Rattle.alternatives.specs.Points.{entry_of}
 use Rattle.alternatives.specs.Texts.{behind}
-use Rattle.flow_defs.specs.declared.aim.Crossing.TheVariants.{MayNotCross}
-use Rattle.flow_defs.specs.declared.aim.Destination.TheVariants.{ToPlace}
+use Rattle.flow_defs.specs.declared.destination.Crossing.TheVariants.{MayNotCross}
+use Rattle.flow_defs.specs.declared.destination.Destination.TheVariants.{ToPlace}
 use Rattle.flow_defs.specs.Arrival.{replacement_end}
 use Rattle.flow_defs.specs.Code.{alternatives_of, is_plain, number_of, point_at}
 use Rattle.flow_defs.specs.Targets.{own_destination}

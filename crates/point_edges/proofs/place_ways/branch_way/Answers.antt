@@ -3,8 +3,8 @@ use Rattle.ot_base.specs.declared.place.Place.{Place}
 use Rattle.alternatives.specs.Texts.{is_boundary}
 use Rattle.machine_defs.specs.declared.flow.EdgeKind.{EdgeKind}
 use Rattle.flow_defs.specs.Coded.{Coded}
-use Rattle.flow_defs.specs.declared.aim.Crossing.{Crossing}
-use Rattle.flow_defs.specs.declared.aim.Way.TheVariants.{Bad}
+use Rattle.flow_defs.specs.declared.destination.Crossing.{Crossing}
+use Rattle.flow_defs.specs.declared.destination.Way.TheVariants.{Bad}
 use Rattle.flow_defs.specs.Code.{texts_of}
 use Rattle.flow_defs.specs.Owners.{unchecked_start}
 use Rattle.flow_defs.specs.Ways.{branch_way, way_by}

@@ -8,9 +8,9 @@ use Rattle.stack_rules.proofs.site_index.site_before.Goals as goal
 none : GraphSite
 none = record { start = record { sec = 0; off = 0 }; len = 0 }
 
-pub returns-else-holds-clause-none : goal.returns-else-holds-clause-none
+pub returns-else-is_in_site-clause-none : goal.returns-else-is_in_site-clause-none
 unfolding none
-returns-else-holds-clause-none c apart =
+returns-else-is_in_site-clause-none c apart =
     let sites : List GraphSite = c.args.sites.now in
     let n : ℕ = c.args.count - 1 in
     let inside : n < length sites = omega (arith, c.if-count-eq0.false, c.requires.within) in
@@ -18,4 +18,4 @@ returns-else-holds-clause-none c apart =
     none_holds sites c.args.place n last c.requires.indexed apart inside (get_or_default sites n none last inside)
     (c.requires.from n none (omega (arith, c.if-count-eq0.false)))
     (λ k d above l. c.requires.behind k d (omega arith) l)
-    (sym c.holds.ensures ∙ c.if-holds.false)
+    (sym c.is_in_site.ensures ∙ c.if-is_in_site.false)

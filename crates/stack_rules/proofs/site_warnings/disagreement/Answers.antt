@@ -1,4 +1,4 @@
--- The site that in_own_site where the point runs is the point's.
+-- The site that holds where the point runs is the point's.
 use Rattle.std.proofs.Common.{◌≡◌, ◌≤◌, ◌<◌, ◌^◌, ◌+◌, ◌-◌, true, pos, subst, sym, ap, ◌∙◌}
 use Rattle.std.proofs.lemmas.Bool.{both_ways}
 use Rattle.ot_base.specs.declared.place.Place.{Place}

@@ -7,7 +7,7 @@ use Rattle.flow_defs.specs.Sites.{site_holding}
 use Rattle.object_points.specs.Plain.{program_site}
 use Rattle.object_points.proofs.AllSites.{held_by_none, held_nowhere, held_there}
 use Rattle.object_points.proofs.Entries.{no_site}
-use Rattle.object_points.proofs.sites.site_at.Goals as goal
+use Rattle.object_points.proofs.sites.site_holding.Goals as goal
 
 pub returns-in_err-sites : goal.returns-in_err-sites
 returns-in_err-sites c =

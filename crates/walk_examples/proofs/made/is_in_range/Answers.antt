@@ -1,7 +1,7 @@
 use Rattle.std.proofs.Common.{◌≤◌, rules, subst, sym, ◌∙◌}
 use Rattle.std.specs.Prelude.{IfSome}
 use Rattle.std.proofs.lemmas.Bool.{leb-true}
-use Rattle.walk_examples.proofs.made.is_within.Goals as goal
+use Rattle.walk_examples.proofs.made.is_in_range.Goals as goal
 
 pub returns-in-Some : goal.returns-in-Some
 returns-in-Some c = λ h. subst (λ o. IfSome o (λ range. c.args.placed.place.off ≤ range.size)) (sym c.in-Some.is ∙ c.range_of.ensures) (leb-true _ _ h)

@@ -5,7 +5,7 @@ use Rattle.machine_defs.specs.declared.flow.Edge.{Edge}
 use Rattle.machine_defs.specs.Kept.{edges_of}
 use Rattle.option_rules.specs.Exits.{is_sibling, is_way_out}
 use Rattle.option_rules.proofs.AllWarnings.{leaves_by_tests}
-use Rattle.option_rules.proofs.access_exits.leaves.Goals as goal
+use Rattle.option_rules.proofs.access_exits.leaves_function.Goals as goal
 
 pub returns-then-is_way_out : goal.returns-then-is_way_out
 returns-then-is_way_out c p t =

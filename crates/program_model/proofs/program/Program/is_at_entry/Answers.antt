@@ -1,7 +1,7 @@
 use Rattle.std.proofs.Common.{ℕ, List, get_or, refl, subst}
 use Rattle.std.specs.Prelude.{Contains}
 use Rattle.std.proofs.lemmas.List.Elements.{Contains-get_or}
-use Rattle.program_model.proofs.program.Program.is_entry_point.Goals as goal
+use Rattle.program_model.proofs.program.Program.is_at_entry.Goals as goal
 
 pub returns-then-enters : goal.returns-then-enters
 returns-then-enters c = λ set _. record {
