@@ -55,7 +55,8 @@ after_by o point None = arrive o (place_behind o point)
 unfoldable pub after : Coded → Point → List ℕ
 after o point = after_by o point (next_of_replacement o point)
 
--- nothing follows it: behind it its section ends
+-- Nothing follows a point: there is no next point in its replacement, and the place to which control comes behind it is no
+-- boundary, as that section ends there.
 unfoldable pub is_at_end : Coded → Point → Bool
 is_at_end o point = is_none (next_of_replacement o point) && not (is_boundary (texts_of o) (place_behind o point))
 

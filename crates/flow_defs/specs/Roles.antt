@@ -29,8 +29,11 @@ abbrev pub entry_call : ℕ → Option ℕ → Role
 entry_call entry None = CallIn entry
 entry_call entry (Some sym) = CallEither entry sym
 
+-- What a call of a boundary is, by a WEAK symbol or not, told whether an unchecked function starts there.
 abbrev pub call_by : Coded → Place → Option ℕ → Option ℕ → Role
+-- where one does, a call of code outside, by that function's symbol
 call_by o place weak (Some f) = CallOut f
+-- else a call of the entry that stands there, or of none
 call_by o place weak None = if is_entry o.elf place then entry_call (plain_number o place) weak else Plain
 
 -- a call of a place, by a WEAK symbol or not: of code outside where an unchecked function starts there
