@@ -1,5 +1,5 @@
 //! Tests of the checker against the plain reading of the definitions, over the same programs of a few points: kept
-//! states, warnings and rows have to be equal.
+//! states and warnings have to be equal, and the plain reading's rows tell the states.
 #![tactic(auto)]
 
 #[cfg(test)]
