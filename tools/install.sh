@@ -8,7 +8,6 @@ binutils as ld readelf
 gcc gcc
 libc6-dev /usr/include/dlfcn.h
 python3 python3
-pypy3 pypy3
 mawk awk
 sed sed
 grep grep

@@ -3,7 +3,7 @@
 # lines, what is written, and its rows by `dump`.
 #   made-up-objects.sh [COUNT [SEED [PROGRAM]]]
 # COUNT is 1000 and SEED is 1 where they aren't given; PROGRAM is what tools/build.sh builds. The same COUNT and SEED make the same objects.
-# PYTHON names the interpreter, python3 where it isn't given: pypy3 is several times as fast. JOBS is how many processes share them,
+# PYTHON names the interpreter, python3 where it isn't given. JOBS is how many processes share them,
 # one a processor where it isn't given. KEPT names the folder in which
 # objects with different answers are kept. OBJECTS names a folder of real objects, NAME.o, that are changed by lot too. Ends with
 # status 1 where an answer is different.
