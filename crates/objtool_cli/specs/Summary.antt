@@ -26,7 +26,7 @@ use Rattle.command_base.specs.declared.stop.CommandStop.TheVariants as stop
 use Rattle.command_base.specs.Outside.{Output}
 use Rattle.command_base.specs.Printing.{Concludes, Prints}
 use Rattle.command_base.specs.Stop.{line_of}
-use Rattle.objtool_cli.specs.Checked.{IsUncheckable, IsUncheckableStop, HasWarnings}
+use Rattle.objtool_cli.specs.Checked.{HasWarnings, IsUncheckable, IsUncheckableStop}
 use Rattle.objtool_cli.specs.Warnings.{warnings_text}
 
 -- the options of `check` where none is given
