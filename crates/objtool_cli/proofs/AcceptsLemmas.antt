@@ -16,7 +16,7 @@ use Rattle.command_base.specs.Outside.{Outside, Output}
 use Rattle.command_base.specs.Printing.{Concludes, Prints, fails, fault_stays, runs_out, whole}
 use Rattle.command_base.specs.Reading.{MayRead, StopsAtRead}
 use Rattle.command_base.proofs.ConcludeLemmas.{concluded_after_fault, concluded_no_memory}
-use Rattle.objtool_cli.specs.Checked.{Accepts, BreaksRule, IsRefusal, Refuses, HasWarnings, crowded, uncheckable}
+use Rattle.objtool_cli.specs.Checked.{Accepts, BreaksRule, HasWarnings, IsRefusal, Refuses, crowded, uncheckable}
 use Rattle.objtool_cli.specs.Command.{Ends, EndsCheck, IsRead, Stops, checked, demoed, done, dumped, faulty, refused, stopped, shown, unfinished, unread, unwound, unwritten, warned, without_names}
 use Rattle.objtool_cli.specs.Lists.{HasNames, HoldsNames, IsListsStop, StopsAtNames, names_unread, no_lists, no_names}
 use Rattle.objtool_cli.specs.Writing.{StopsAtWrite}

@@ -14,7 +14,7 @@ use Rattle.command_base.specs.Printing.{Concludes, Prints}
 use Rattle.command_base.specs.Reading.{MayRead, StopsAtRead}
 use Rattle.command_base.specs.Dump.{EndsDump}
 use Rattle.command_base.specs.Unwind.{EndsUnwind}
-use Rattle.objtool_cli.specs.Checked.{Accepts, IsRefusal, HasWarnings}
+use Rattle.objtool_cli.specs.Checked.{Accepts, HasWarnings, IsRefusal}
 use Rattle.objtool_cli.specs.Promises.{InKeepsPromises}
 use Rattle.objtool_cli.specs.Unwinding.{OutUnwinds}
 use Rattle.cli_words.specs.Grammar.{Command, check, demo, dump, unwind}
