@@ -7,6 +7,7 @@
 
 mod aim;
 mod fault;
+pub mod laws;
 
 pub use aim::{Crossing, Destination, Way};
 pub use fault::FlowFault;
