@@ -12,3 +12,10 @@ pub mod Hints
 pub mod Returning
 pub mod Program
 pub mod Faults
+pub mod WorkedObjects
+pub mod WorkedAlternatives
+pub mod WorkedListed
+pub mod WorkedCalls
+pub mod WorkedReturning
+pub mod WorkedOwners
+pub mod WorkedFields

@@ -7,6 +7,7 @@
 
 mod destination;
 mod fault;
+pub mod laws;
 
 pub use destination::{Crossing, Destination, Way};
 pub use fault::FlowFault;

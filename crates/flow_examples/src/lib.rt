@@ -1,10 +1,9 @@
-//! Worked objects with the edges, roles and marks of their points, computed and written down by hand, and tests of
-//! `object_code`.
+//! Tests of `object_code`: small objects, of which it refuses some; and how many different states are kept of objects that
+//! `demo` makes.
 #![tactic(auto)]
 
 #[cfg(test)]
 mod code_objects;
-pub mod laws;
 #[cfg(test)]
 mod states;
 #[cfg(test)]

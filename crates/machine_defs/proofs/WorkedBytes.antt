@@ -1,9 +1,9 @@
--- Bytes of worked stacks, memory that stays as it is, and facts on each of a few slots.
-use Rattle.std.proofs.Common.{◌≡◌, ℕ, ◌<◌, Bool, true, false, ◌&&◌, List, [], ◌∷◌, All, nat_lt, refl}
+-- Bytes of worked stacks, memory that stays as it is or of which some bytes are written, and facts on each of a few slots.
+use Rattle.std.proofs.Common.{◌≡◌, ◌≢◌, ℕ, zero, suc, ◌+◌, ◌-◌, ◌%◌, ◌^◌, ◌<◌, ◌≤◌, Bool, true, false, ◌&&◌, List, [], ◌∷◌, ◌++◌, All, length, slice_get, nat_le, nat_lt, refl, ap, arith, leb-true, mod-eq_of_lt}
 use Rattle.std.specs.List.{list_all}
 use Rattle.std.proofs.lemmas.Bool.{ltb-true}
 use Rattle.std.proofs.lemmas.List.Elements.{All-nil, All-cons}
-use Rattle.state_defs.specs.Region.{Region, word_at, WritesOnly, Stores}
+use Rattle.state_defs.specs.Region.{Region, byte_at, word_at, IsBeside, WritesOnly, Stores}
 use Rattle.state_defs.specs.Frame.{Protected}
 
 both : (x y : Bool) → (x && y) ≡ true → (x ≡ true) × (y ≡ true)
@@ -20,6 +20,32 @@ are_bytes (x ∷ xs) h =
 -- what is written may be what stands there
 pub stays : (r : Region) (start size : ℕ) → WritesOnly start size r r
 stays r start size = record { addresses = record { lo = refl; size = refl }; others = λ address h. refl }
+
+-- what lies behind other bytes stays where these are written, and so does what lies before them
+behind : (xs ys back : List ℕ) (k : ℕ) → length ys ≡ length xs → ((j : ℕ) → j < length xs → k ≢ j) → slice_get (ys ++ back) k ≡ slice_get (xs ++ back) k
+behind [] [] back k same beside = refl
+behind [] (y ∷ ys) back k same beside = absurd (omega (arith, same))
+behind (x ∷ xs) [] back k same beside = absurd (omega (arith, same))
+behind (x ∷ xs) (y ∷ ys) back zero same beside = absurd (beside 0 (omega arith) refl)
+behind (x ∷ xs) (y ∷ ys) back (suc k) same beside = behind xs ys back k (omega (arith, same)) (λ j l e. beside (suc j) (omega arith) (ap suc e))
+
+among : (front xs ys back : List ℕ) (k : ℕ) → length ys ≡ length xs → ((j : ℕ) → j < length xs → k ≢ length front + j) → slice_get (front ++ (ys ++ back)) k ≡ slice_get (front ++ (xs ++ back)) k
+among [] xs ys back k same beside = behind xs ys back k same (λ j l e. beside j l (omega (arith, e)))
+among (x ∷ front) xs ys back zero same beside = refl
+among (x ∷ front) xs ys back (suc k) same beside = among front xs ys back k same (λ j l e. beside j l (omega (arith, e)))
+
+-- bytes between others are written, as many as stand there
+pub writes : (lo : ℕ) (front xs ys back : List ℕ) → length ys ≡ length xs → length (front ++ (ys ++ back)) ≡ length (front ++ (xs ++ back)) → lo + (length front + length xs) ≤ 2 ^ 64 → WritesOnly (lo + length front) (length xs) (record { lo = lo; bytes = front ++ (xs ++ back) }) (record { lo = lo; bytes = front ++ (ys ++ back) })
+writes lo front xs ys back same size wraps = record { addresses = record { lo = refl; size = size }; others = λ address beside. at address beside (nat_le lo address) refl }
+  where
+    apart : (address : ℕ) → lo ≤ address → IsBeside (lo + length front) (length xs) address → (j : ℕ) → j < length xs → address - lo ≢ length front + j
+    apart address above beside j l e =
+        let k : (lo + length front + j) % 2 ^ 64 ≡ lo + length front + j = mod-eq_of_lt (omega arith) in
+        beside j l (omega arith)
+
+    at : (address : ℕ) → IsBeside (lo + length front) (length xs) address → (b : Bool) → nat_le lo address ≡ b → byte_at (record { lo = lo; bytes = front ++ (ys ++ back) }) address ≡ byte_at (record { lo = lo; bytes = front ++ (xs ++ back) }) address
+    at address beside true e = let l : lo ≤ address = leb-true lo address e in rw e (among front xs ys back (address - lo) same (apart address l beside))
+    at address beside false e = rw e refl
 
 spares : (r : Region) (slots : List ℕ) → All (λ address. word_at r address ≡ word_at r address) slots
 spares r [] = All-nil (λ address. word_at r address ≡ word_at r address)

@@ -1,21 +1,32 @@
 -- What each operation does, from one core.
-use Rattle.std.proofs.Common.{◌≡◌, ℕ, refl}
-use Rattle.state_defs.specs.Region.{word_at, Stores}
+use Rattle.std.proofs.Common.{◌≡◌, ℕ, [], ◌++◌, refl, lit≤}
+use Rattle.state_defs.specs.Region.{word_at, Stores, WritesOnly}
 use Rattle.state_defs.specs.Frame.{protected_addresses}
-use Rattle.machine_defs.specs.WorkedEffects.{four_words, stored, before, HasEffects}
-use Rattle.machine_defs.proofs.WorkedBytes.{one_address, stays, stores_nothing}
+use Rattle.machine_defs.specs.WorkedSteps.{word}
+use Rattle.machine_defs.specs.WorkedEffects.{stack, four_words, stored, rbp_below, rbp_third, before, HasEffects}
+use Rattle.machine_defs.proofs.WorkedBytes.{one_address, writes}
 
 -- a store below spares the return address
 stores : Stores (protected_addresses before.shadow) four_words stored
 stores = record { addresses = record { lo = refl; size = refl }; spared = one_address (λ (address : ℕ). word_at stored address ≡ word_at four_words address) 0x8018 refl }
+
+stores_rbp : Stores (protected_addresses before.shadow) four_words rbp_below
+stores_rbp = record { addresses = record { lo = refl; size = refl }; spared = one_address (λ (address : ℕ). word_at rbp_below address ≡ word_at four_words address) 0x8018 refl }
+
+-- the lowest word is written alone, and the third one
+lowest : (low high : ℕ) → WritesOnly 0x8000 8 four_words (stack (word low high) (word 9 0))
+lowest low high = writes 0x8000 [] (word 5 0) (word low high) (word 7 0 ++ word 9 0 ++ word 0 0) refl refl (lit≤ tt)
+
+third : WritesOnly 0x8010 8 four_words rbp_third
+third = writes 0x8000 (word 5 0 ++ word 7 0) (word 9 0) (word 16 128) (word 0 0) refl refl (lit≤ tt)
 
 pub effects : HasEffects
 effects = record {
   plain = (stores, refl);
   nop = refl;
   endbr = refl;
-  push = (stays four_words 0x8000 8, refl);
-  push_bp = (record { only = stays four_words 0x8000 8; word = refl }, refl);
+  push = (lowest 1 2, refl);
+  push_bp = (record { only = lowest 16 128; word = refl }, refl);
   pop = (stores, refl);
   pop_bp = (refl, refl);
   pop_saved_bp = (refl, refl);
@@ -24,8 +35,8 @@ effects = record {
   and_sp = refl;
   lea_sp_bp = refl;
   lea_bp_sp = refl;
-  store_bp = (record { only = stays four_words 0x8010 8; word = refl }, refl);
-  store_bp_below = (record { only = stays four_words 0x8000 8; word = refl }, (stores_nothing four_words _, refl));
+  store_bp = (record { only = third; word = refl }, refl);
+  store_bp_below = (record { only = lowest 16 128; word = refl }, (stores_rbp, refl));
   load_bp = (refl, refl);
   load_saved_bp = (refl, refl);
   leave = (refl, refl);

@@ -1,5 +1,5 @@
 -- What each operation does, from one core: rsp is at the second of four words, rbp at the third, and the caller's rbp isn't saved.
-use Rattle.std.specs.Prelude.{true, false, List, [], ◌∷◌, ◌++◌, None, pos, negsuc}
+use Rattle.std.specs.Prelude.{ℕ, true, false, List, [], ◌∷◌, ◌++◌, None, pos, negsuc}
 use Rattle.operation_defs.specs.declared.op.Op.TheVariants.{Plain, Nop, Endbr, Push, PushBp, Pop, PopBp, Popf, AddSp, AndSp, LeaSpBp, LeaBpSp, StoreBp, LoadBp, Leave, SpOther, BpOther, Call, CallInd, Jmp, Jcc, JmpInd, Ret, RetImm, Iret, IretNext, Switch, Ud2, Int3, Stac, Clac}
 use Rattle.state_defs.specs.Region.{Region}
 use Rattle.state_defs.specs.Frame.{Slot, Unsaved, SavedAt, Frame}
@@ -7,13 +7,22 @@ use Rattle.state_defs.specs.Effect.{Core, Effect}
 use Rattle.machine_defs.specs.Run.{outermost}
 use Rattle.machine_defs.specs.WorkedSteps.{word}
 
--- four words: rbp as it is, 7, rbp as it is, and the return address 0
-abbrev pub four_words : Region
-four_words = record { lo = 0x8000; bytes = word 16 128 ++ word 7 0 ++ word 16 128 ++ word 0 0 }
+-- four words: one below rsp, 7, one at rbp, and the return address 0
+abbrev pub stack : List ℕ → List ℕ → Region
+stack lowest third = record { lo = 0x8000; bytes = lowest ++ word 7 0 ++ third ++ word 0 0 }
 
--- with another word at the lowest address
+abbrev pub four_words : Region
+four_words = stack (word 5 0) (word 9 0)
+
+-- with another word at the lowest address, and with rbp there, or in the third word
 abbrev pub stored : Region
-stored = record { lo = 0x8000; bytes = word 1 2 ++ word 7 0 ++ word 16 128 ++ word 0 0 }
+stored = stack (word 1 2) (word 9 0)
+
+abbrev pub rbp_below : Region
+rbp_below = stack (word 16 128) (word 9 0)
+
+abbrev pub rbp_third : Region
+rbp_third = stack (word 5 0) (word 16 128)
 
 abbrev pub frame : Slot → List Frame
 frame slot = outermost 0 0x8020 0x8010 slot false ∷ []
@@ -25,8 +34,8 @@ pub record HasEffects : Type 0 where
   pub plain : Effect Plain before (record before { region = stored })
   pub nop : Effect Nop before before
   pub endbr : Effect Endbr before before
-  pub push : Effect Push before (record before { rsp = 0x8000 })
-  pub push_bp : Effect PushBp before (record before { rsp = 0x8000; shadow = frame (SavedAt 0x8000) })
+  pub push : Effect Push before (record before { rsp = 0x8000; region = stored })
+  pub push_bp : Effect PushBp before (record before { rsp = 0x8000; region = rbp_below; shadow = frame (SavedAt 0x8000) })
   pub pop : Effect Pop before (record before { rsp = 0x8010; region = stored })
   pub pop_bp : Effect PopBp before (record before { rsp = 0x8010; rbp = 7 })
   -- rbp is back, and isn't saved any more
@@ -35,13 +44,13 @@ pub record HasEffects : Type 0 where
   pub add_sp : Effect (AddSp (negsuc 7)) before (record before { rsp = 0x8000 })
   pub and_sp : Effect (AndSp (negsuc 15)) before (record before { rsp = 0x8000 })
   pub lea_sp_bp : Effect (LeaSpBp (pos 8)) before (record before { rsp = 0x8018 })
-  pub lea_bp_sp : Effect (LeaBpSp (pos 8)) before before
+  pub lea_bp_sp : Effect (LeaBpSp (pos 16)) before (record before { rbp = 0x8018 })
   -- a store between rsp and the return address saves rbp, one below rsp doesn't
-  pub store_bp : Effect (StoreBp (pos 8)) before (record before { shadow = frame (SavedAt 0x8010) })
-  pub store_bp_below : Effect (StoreBp (negsuc 7)) before before
+  pub store_bp : Effect (StoreBp (pos 8)) before (record before { region = rbp_third; shadow = frame (SavedAt 0x8010) })
+  pub store_bp_below : Effect (StoreBp (negsuc 7)) before (record before { region = rbp_below })
   pub load_bp : Effect (LoadBp (pos 0)) before (record before { rbp = 7 })
   pub load_saved_bp : Effect (LoadBp (pos 0)) (record before { shadow = frame (SavedAt 0x8008) }) (record before { rbp = 7 })
-  pub leave : Effect Leave (record before { shadow = frame (SavedAt 0x8010) }) (record before { rsp = 0x8018 })
+  pub leave : Effect Leave (record before { shadow = frame (SavedAt 0x8010) }) (record before { rsp = 0x8018; rbp = 9 })
   pub sp_other : Effect SpOther before (record before { rsp = 1; rbp = 2; region = stored })
   pub bp_other : Effect BpOther before (record before { rbp = 2; region = stored })
   pub jmp : Effect (Jmp (pos 0) false) before before

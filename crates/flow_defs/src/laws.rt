@@ -1,0 +1,94 @@
+//! What the definitions say of each worked object.
+
+ghost use Rattle.ot_base.specs.NameLists.{NameLists};
+ghost use Rattle.flow_defs.specs.WorkedAlternatives.{HasPadded, HasPatchedCall, HasPatchedJumps, HasPatchedWithCalls, HasSaves};
+ghost use Rattle.flow_defs.specs.WorkedCalls.{HasCalls};
+ghost use Rattle.flow_defs.specs.WorkedFields.{HasFields, HasRelocated};
+ghost use Rattle.flow_defs.specs.WorkedListed.{HasExceptionEntry, HasJumpTable, HasStaticBranch};
+ghost use Rattle.flow_defs.specs.WorkedOwners.{HasCodeWithoutOwner, HasDeadEnds, HasIrets, HasUnchecked};
+ghost use Rattle.flow_defs.specs.WorkedReturning.{HasLastCall, HasNeverReturning};
+
+/// A site over a call, whose replacement is shorter.
+pub fn patched_call()
+    ensures { (lists : NameLists) → HasPatchedCall lists }
+{}
+
+/// A static branch into a cold part, which jumps back.
+pub fn static_branch()
+    ensures { (lists : NameLists) → HasStaticBranch lists }
+{}
+
+/// An exception entry.
+pub fn exception_entry()
+    ensures { (lists : NameLists) → HasExceptionEntry lists }
+{}
+
+/// A jump table, cut by the next one, whose address is of another owner.
+pub fn jump_table()
+    ensures { (lists : NameLists) → HasJumpTable lists }
+{}
+
+/// Calls and jumps by relocations.
+pub fn calls()
+    ensures { (lists : NameLists) → HasCalls lists }
+{}
+
+/// A call that can't return, and what calls it.
+pub fn never_returning()
+    ensures { (lists : NameLists) → HasNeverReturning lists }
+{}
+
+/// A call that can't return, at the end of a section.
+pub fn last_call()
+    ensures { (lists : NameLists) → HasLastCall lists }
+{}
+
+/// An unchecked function and its part.
+pub fn unchecked()
+    ensures { (lists : NameLists) → HasUnchecked lists }
+{}
+
+/// Code of no function, which a function branches into.
+pub fn code_without_owner()
+    ensures { (lists : NameLists) → HasCodeWithoutOwner lists }
+{}
+
+/// What execution never passes.
+pub fn dead_ends()
+    ensures { (lists : NameLists) → HasDeadEnds lists }
+{}
+
+/// An IRET that goes on behind itself, and one that doesn't.
+pub fn irets()
+    ensures { (lists : NameLists) → HasIrets lists }
+{}
+
+/// Jumps within replacements, to their ends and to padding.
+pub fn patched_jumps()
+    ensures { (lists : NameLists) → HasPatchedJumps lists }
+{}
+
+/// Calls within replacements of functions that aren't checked.
+pub fn patched_with_calls()
+    ensures { (lists : NameLists) → HasPatchedWithCalls lists }
+{}
+
+/// A replacement's padding, at the place of another's code.
+pub fn padded()
+    ensures { (lists : NameLists) → HasPadded lists }
+{}
+
+/// Two SAVEs at one address, and the RESTORE behind them.
+pub fn saves()
+    ensures { (lists : NameLists) → HasSaves lists }
+{}
+
+/// An object with each field of its program.
+pub fn fields()
+    ensures { (lists : NameLists) → HasFields lists }
+{}
+
+/// A relocation on the number by which an instruction moves rsp.
+pub fn relocated()
+    ensures { (lists : NameLists) → HasRelocated lists }
+{}
