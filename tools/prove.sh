@@ -1,7 +1,7 @@
 #!/usr/bin/env bash
 # Proves and builds one program and the crates that it stands on, and nothing else: `rt ci` over a copy of these crates alone,
-# without their must-fail edits, as many side by side as there are processors. What it proves is kept for the whole `rt ci`, and
-# what that proved isn't proved again.
+# without their must-fail edits, as many side by side as there are processors. Where the kit's `rt ci` keeps what it proved, that
+# isn't proved again.
 #   prove.sh FOLDER NAME [FILE]
 # FOLDER is where the copy is laid, unless it was laid there before; the program then is FOLDER/crates/NAME/out/NAME, and what
 # Rattle's own compiler makes of it stands beside it as NAME.by-rattle. NAME is a program of crates.txt. With FILE it is a program
