@@ -1,4 +1,5 @@
 pub mod Program
+pub mod Ways
 pub mod MayReturn
 pub mod IsProgram
 pub mod Kept

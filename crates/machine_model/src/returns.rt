@@ -3,7 +3,7 @@
 ghost use Rattle.std.specs.Prelude.{◌≡◌, ◌∷◌, IfOk, IfSome, IsTrue, List, Bool};
 ghost use Rattle.state_defs.specs.Address.{up};
 ghost use Rattle.state_defs.specs.Frame.{Frame as DefinedFrame};
-ghost use Rattle.machine_defs.specs.Step.{IsAtReturn, MissesReturn, LeavesMemory, Returns, may_leave};
+ghost use Rattle.machine_defs.specs.Step.{IsAtReturn, MissesReturn, LeavesMemory, Returns, may_go_back};
 ghost use Rattle.program_model.specs.Region.{region_of};
 ghost use Rattle.machine_model.specs.Frame.{frame_of, frames_of};
 ghost use Rattle.machine_model.specs.Standing.{core_of, standing_of};
@@ -18,8 +18,8 @@ use program_model::{Program, Region, Store, down, up};
 use std::alloc::{AllocError, Global};
 
 /// Whether a point may leave its function: by a return, or by a jump to code outside that returns.
-pub fn may_leave(p: &Program, role: Role) -> bool
-    ensures { (set : List Bool) → result ≡ may_leave (program_of p.now set) role }
+pub fn may_go_back(p: &Program, role: Role) -> bool
+    ensures { (set : List Bool) → result ≡ may_go_back (program_of p.now set) role }
 {
     match role {
         Role::Return | Role::JumpAny => true,
@@ -122,7 +122,7 @@ pub fn returns(
     ensures { (set : List Bool) → IfOk result (λ left. IfSome left (λ t. Returns (program_of p.now set) (standing_of s) (standing_of t))) }
 {
     let role = p.role(s.point);
-    if !may_leave(p, role) {
+    if !may_go_back(p, role) {
         return Ok(None);
     }
     let Some((frame, popped)) = pop_frame(s) else {

@@ -5,7 +5,7 @@ ghost use Rattle.program_model.specs.Program.{program_of};
 
 use crate::choice::Wreck;
 use crate::interrupts::misses_iret;
-use crate::returns::{may_leave, misses_return};
+use crate::returns::{may_go_back, misses_return};
 use crate::standing::Standing;
 use operation_defs::Op;
 use program_model::Program;
@@ -17,7 +17,7 @@ pub fn may_wreck(p: &Program, s: &Standing, wreck: Wreck) -> bool
 {
     let marks = p.marks(s.point);
     match (wreck, p.insn(s.point).op) {
-        (Wreck::WrongReturn, _) => may_leave(p, p.role(s.point)) && misses_return(&s.core),
+        (Wreck::WrongReturn, _) => may_go_back(p, p.role(s.point)) && misses_return(&s.core),
         (Wreck::WrongIret, Op::Iret) => s.ended.is_none() && misses_iret(&s.core),
         (Wreck::WrongIret, _) => false,
         (Wreck::DropsBytes, Op::RetImm) => true,

@@ -7,7 +7,7 @@ use Rattle.machine_defs.specs.declared.flow.Role.{Role}
 use Rattle.machine_defs.specs.declared.flow.Role.TheVariants.{Plain, CallIn, CallEither, CallOut, CallAny, Return, JumpOut, JumpAny, Switch}
 use Rattle.machine_defs.specs.Program.{Program, IsPoint, entry_points, edge}
 use Rattle.machine_defs.specs.IsProgram.{IsProgram}
-use Rattle.machine_defs.specs.Step.{may_leave, MayCall, JumpsTo, sibling, indirect}
+use Rattle.machine_defs.specs.Step.{may_go_back, IsTarget, JumpsTo, sibling, indirect}
 use Rattle.machine_defs.specs.Kept.{can_go, edges_of}
 use Rattle.machine_defs.specs.Broken.{LeavesByJump}
 use Rattle.machine_defs.specs.Broken as broken
@@ -24,7 +24,7 @@ pub sibling_edge : (p : Program) (q r : ℕ) → Contains (p.goes q) (edge r Sib
 sibling_edge p q r c = in_filter (λ (e : Edge). can_go p q e.kind) (p.goes q) (edge r Sibling) c refl
 
 -- where control may return, the function is left
-pub leaves_there : (p : Program) (q : ℕ) (x : Role) → p.role q ≡ x → may_leave p x ≡ true → Leaves p q
+pub leaves_there : (p : Program) (q : ℕ) (x : Role) → p.role q ≡ x → may_go_back p x ≡ true → Leaves p q
 leaves_there p q Return e l = by_return e
 leaves_there p q JumpAny e l = by_jump (broken.anywhere e)
 leaves_there p q (JumpOut sym) e l = by_jump (broken.outside sym e)
@@ -32,7 +32,7 @@ leaves_there p q _ e l = absurd (let k : ⊥ = cc in k)
 
 module _ (p : Program) (is : IsProgram p) where
   -- a call in the program goes to an entry
-  pub called_entry : (q entry : ℕ) → IsPoint p q → (x : Role) → p.role q ≡ x → MayCall p x entry → Contains p.entries entry
+  pub called_entry : (q entry : ℕ) → IsPoint p q → (x : Role) → p.role q ≡ x → IsTarget p x entry → Contains p.entries entry
   called_entry q entry point (CallIn e) h k = subst (λ (y : ℕ). Contains p.entries y) (sym k) (is.calls_entry q e point h)
   called_entry q entry point (CallEither e symbol) h k = subst (λ (y : ℕ). Contains p.entries y) (sym k) (is.calls_weak_entry q e symbol point h)
   called_entry q entry point CallAny h k = k
@@ -87,10 +87,10 @@ module _ (p : Program) (allowed : Allowances) (is : IsProgram p) (functions : En
     safe_jump r (sibling r2 c) = safe_sibling r c
     safe_jump r (indirect r2 entry role c d) = absurd (none_unsafe _ (rules.jumps_anywhere role))
 
-    pub safe_call : (entry : ℕ) → MayCall p (p.role q) entry → is_safe p allowed entry ≡ true
+    pub safe_call : (entry : ℕ) → IsTarget p (p.role q) entry → is_safe p allowed entry ≡ true
     safe_call entry h = go (p.role q) h (safe_target (p.role q) refl)
       where
-        go : (x : Role) → MayCall p x entry → HasSafeTarget p allowed x → is_safe p allowed entry ≡ true
+        go : (x : Role) → IsTarget p x entry → HasSafeTarget p allowed x → is_safe p allowed entry ≡ true
         go (CallIn e) k safe = subst (λ (y : ℕ). is_safe p allowed y ≡ true) (sym k) safe
         go (CallEither e symbol) k safe = subst (λ (y : ℕ). is_safe p allowed y ≡ true) (sym k) safe.0
         go CallAny k safe = absurd safe

@@ -5,7 +5,7 @@ ghost use Rattle.state_defs.specs.Region.{Holds};
 ghost use Rattle.state_defs.specs.Frame.{Frame as DefinedFrame, is_of_call};
 ghost use Rattle.machine_defs.specs.Program.{is_call_op};
 ghost use Rattle.machine_defs.specs.Machine.{At};
-ghost use Rattle.machine_defs.specs.Step.{may_leave};
+ghost use Rattle.machine_defs.specs.Step.{may_go_back};
 ghost use Rattle.option_law.specs.Frames.{HasFramePointer, CallsWithFrame};
 ghost use Rattle.option_law.specs.Access.{HasSafeTarget, top_of};
 ghost use Rattle.program_model.specs.Region.{region_of};
@@ -160,8 +160,8 @@ fn has_safe_siblings(p: &Program, allowed: &Allowed<'_>, q: u32) -> bool
 }
 
 /// Whether a point may leave its function: by a return, or by a jump to code outside that returns.
-fn may_leave(p: &Program, role: Role) -> bool
-    ensures { (set : List Bool) → result ≡ may_leave (program_of p.now set) role }
+fn may_go_back(p: &Program, role: Role) -> bool
+    ensures { (set : List Bool) → result ≡ may_go_back (program_of p.now set) role }
 {
     match role {
         Role::Return | Role::JumpAny => true,
@@ -241,7 +241,7 @@ pub fn is_kept(
         Promise::SafeTarget => is_safe_with(s.core.ac, has_safe_target(p, allowed, role)),
         Promise::SafeTailCall => is_safe_with(s.core.ac, has_safe_siblings(p, allowed, s.point)),
         Promise::StaysOff => stays_off(shadow, top_of(homes), s.core.ac),
-        Promise::LeavesAsFound => leaves_as_found(shadow, may_leave(p, role), s.core.ac),
+        Promise::LeavesAsFound => leaves_as_found(shadow, may_go_back(p, role), s.core.ac),
     }
 }
 

@@ -9,7 +9,7 @@ use Rattle.state_defs.specs.declared.state.State.{State}
 use Rattle.state_defs.specs.Frame.{Frame}
 use Rattle.machine_defs.specs.Program.{Program, in_site, is_call, edge}
 use Rattle.machine_defs.specs.Machine.{Bases, Standing, point_address, return_address}
-use Rattle.machine_defs.specs.Step.{GoesOn, Faults, MayCall, CallsIn, CallsOut, Returns, JumpsTo, sibling, indirect, TailCalls, IsInterrupted, ReturnsFromInterrupt}
+use Rattle.machine_defs.specs.Step.{GoesOn, Faults, IsTarget, CallsIn, CallsOut, Returns, JumpsTo, sibling, indirect, TailCalls, IsInterrupted, ReturnsFromInterrupt}
 use Rattle.machine_defs.specs.Run.{MayStart}
 use Rattle.machine_defs.specs.MayReturn.{target_may_return}
 use Rattle.machine_defs.specs.Kept.{Kept, AreKeptStates}
@@ -43,7 +43,7 @@ module _ (p : Program) (bases : Bases) (is : IsProgram p) (laid : IsLaidOut p) (
     faults_entered g = entered_fixup p is acc states kept enters s.point t.point r.state here r.point r.kept g.along
 
     -- a call goes to an entry
-    called_entry : (x : Role) (entry : ℕ) → p.role s.point ≡ x → MayCall p x entry → Contains p.entries entry
+    called_entry : (x : Role) (entry : ℕ) → p.role s.point ≡ x → IsTarget p x entry → Contains p.entries entry
     called_entry (CallIn target) entry h k = subst (λ (y : ℕ). Contains p.entries y) (sym k) (is.calls_entry s.point target r.point h)
     called_entry (CallEither target symbol) entry h k = subst (λ (y : ℕ). Contains p.entries y) (sym k) (is.calls_weak_entry s.point target symbol r.point h)
     called_entry CallAny entry h k = k

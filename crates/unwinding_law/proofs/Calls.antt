@@ -11,7 +11,7 @@ use Rattle.state_defs.specs.Effect.{Core, IsInStack}
 use Rattle.state_defs.specs.State.{initial, MeansTop}
 use Rattle.machine_defs.specs.Program.{Program, IsPoint, entry_points, is_call}
 use Rattle.machine_defs.specs.Machine.{Bases, Standing, return_address}
-use Rattle.machine_defs.specs.Step.{MayCall, call_frame, CallsIn, interrupt_frame, IsInterrupted}
+use Rattle.machine_defs.specs.Step.{IsTarget, call_frame, CallsIn, interrupt_frame, IsInterrupted}
 use Rattle.machine_defs.specs.MayReturn.{target_may_return}
 use Rattle.machine_defs.specs.Kept.{is_free, Kept}
 use Rattle.machine_defs.specs.IsProgram.{IsProgram}
@@ -34,25 +34,25 @@ module _ (p : Program) (bases : Bases) (s : Standing) (r : HasRunInvariant p s) 
     slots = subst (λ (x : ℕ). LieAbove x (listed f.ended_caller s.core.shadow)) (sym cfa) (subst (λ (x : Option EndKind). LieAbove s.core.rsp (listed x s.core.shadow)) (sym ended) r.slots.above);
   }
 
-  called_role : (x : Role) (entry : ℕ) → MayCall p x entry → is_call x ≡ true
+  called_role : (x : Role) (entry : ℕ) → IsTarget p x entry → is_call x ≡ true
   called_role (CallIn e) entry h = refl
   called_role (CallEither e sym) entry h = refl
   called_role CallAny entry h = refl
   called_role _ entry h = absurd h
 
-  called_entry : IsProgram p → (x : Role) (entry : ℕ) → p.role s.point ≡ x → MayCall p x entry → Contains p.entries entry
+  called_entry : IsProgram p → (x : Role) (entry : ℕ) → p.role s.point ≡ x → IsTarget p x entry → Contains p.entries entry
   called_entry is (CallIn e) entry h k = subst (λ (y : ℕ). Contains p.entries y) (sym k) (is.calls_entry s.point e r.point h)
   called_entry is (CallEither e symbol) entry h k = subst (λ (y : ℕ). Contains p.entries y) (sym k) (is.calls_weak_entry s.point e symbol r.point h)
   called_entry is CallAny entry h k = k
   called_entry is _ entry h k = absurd k
 
-  may_come_back : (x : Role) (entry q : ℕ) → MayCall p x entry → Contains (entry_points p entry) q → p.may_return q ≡ true → target_may_return p x ≡ true
+  may_come_back : (x : Role) (entry q : ℕ) → IsTarget p x entry → Contains (entry_points p entry) q → p.may_return q ≡ true → target_may_return p x ≡ true
   may_come_back (CallIn e) entry q h c k = found p.may_return (entry_points p e) q (subst (λ (y : ℕ). Contains (entry_points p y) q) h c) k
   may_come_back (CallEither e sym) entry q h c k = refl
   may_come_back CallAny entry q h c k = refl
   may_come_back _ entry q h c k = absurd h
 
-  call_returns : (entry q : ℕ) → MayCall p (p.role s.point) entry → Contains (entry_points p entry) q → (b : Bool) → p.may_return q ≡ b → CallReturns p s.point q
+  call_returns : (entry q : ℕ) → IsTarget p (p.role s.point) entry → Contains (entry_points p entry) q → (b : Bool) → p.may_return q ≡ b → CallReturns p s.point q
   call_returns entry q h c true e = inr (inl (may_come_back (p.role s.point) entry q h c e))
   call_returns entry q h c false e = inr (inr e)
 

@@ -11,7 +11,7 @@ use Rattle.state_defs.specs.State.{initial, ended_by}
 use Rattle.state_defs.specs.Move.{int_same}
 use Rattle.state_defs.specs.Rules.{is_initial, return_rule, sibling_rule, iret_rule}
 use Rattle.machine_defs.specs.Program.{Program}
-use Rattle.machine_defs.specs.Step.{may_leave}
+use Rattle.machine_defs.specs.Step.{may_go_back}
 use Rattle.machine_defs.specs.MayReturn.{MayReturn}
 use Rattle.machine_defs.specs.MayReturn as may
 use Rattle.machine_defs.specs.Kept.{Kept}
@@ -50,7 +50,7 @@ module _ (p : Program) (acc : IsAccepted p) (a : ℕ) (s : State) (kept : Kept p
   pub at_jump : LeavesByJump p a → s ≡ initial
   at_jump l = sibling_initial s (λ e. acc _ _ _ _ (modified_sibling a s kept l e)) (λ e. acc _ _ _ _ (unallowed_sibling a s kept l e))
 
-  pub at_leave : (r : Role) → p.role a ≡ r → may_leave p r ≡ true → s ≡ initial
+  pub at_leave : (r : Role) → p.role a ≡ r → may_go_back p r ≡ true → s ≡ initial
   at_leave Return e l = return_initial s (λ h. acc _ _ _ _ (modified_return a s kept e h)) (λ h. acc _ _ _ _ (unallowed_return a s kept e h))
   at_leave JumpAny e l = at_jump (anywhere e)
   at_leave (JumpOut sym) e l = at_jump (outside sym e)
@@ -60,7 +60,7 @@ module _ (p : Program) (acc : IsAccepted p) (a : ℕ) (s : State) (kept : Kept p
   at_iret e live = iret_partial s live (λ h. acc _ _ _ _ (unallowed_iret a s kept e h))
 
 -- from where control leaves its function a return may come
-pub leaves_may_return : (p : Program) (a : ℕ) (r : Role) → p.role a ≡ r → may_leave p r ≡ true → MayReturn p a
+pub leaves_may_return : (p : Program) (a : ℕ) (r : Role) → p.role a ≡ r → may_go_back p r ≡ true → MayReturn p a
 leaves_may_return p a Return e l = may.returns a e
 leaves_may_return p a JumpAny e l = may.jumps_anywhere a e
 leaves_may_return p a (JumpOut sym) e l = may.jumps_out a sym e (returns (p.never_returns sym) l)
