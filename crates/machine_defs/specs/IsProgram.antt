@@ -15,6 +15,10 @@ use Rattle.machine_defs.specs.Program.{Program, TextSection, Site, IsPoint, in_s
 use Rattle.machine_defs.specs.Ways.{MayCall}
 use Rattle.machine_defs.specs.MayReturn.{MayReturn}
 
+-- what a call inside the program may go to: an entry, or what code of no function may call
+abbrev pub IsCallee : Program → ℕ → ℕ → Type 0
+IsCallee p q entry = Contains p.entries entry ⊎ MayCall p q entry
+
 pub record IsProgram (p : Program) : Type 0 where
   -- edges lead to points, control arrives at points, points follow points, and a RESTORE means a point
   pub edges : (q : ℕ) (e : Edge) → IsPoint p q → Contains (p.goes q) e → IsPoint p e.to
@@ -29,8 +33,8 @@ pub record IsProgram (p : Program) : Type 0 where
   pub unowned : (q : ℕ) → IsPoint p q → p.owner q ≡ None → p.unchecked q ≡ false
   -- no entry is in an unchecked function; calls inside the program go to entries, or to what code of no function may call
   pub entries_checked : (entry q : ℕ) → Contains p.entries entry → Contains (entry_points p entry) q → p.unchecked q ≡ false
-  pub calls_entry : (q entry : ℕ) → IsPoint p q → p.role q ≡ CallIn entry → Contains p.entries entry ⊎ MayCall p q entry
-  pub calls_weak_entry : (q entry sym : ℕ) → IsPoint p q → p.role q ≡ CallEither entry sym → Contains p.entries entry ⊎ MayCall p q entry
+  pub calls_entry : (q entry : ℕ) → IsPoint p q → p.role q ≡ CallIn entry → IsCallee p q entry
+  pub calls_weak_entry : (q entry sym : ℕ) → IsPoint p q → p.role q ≡ CallEither entry sym → IsCallee p q entry
   -- tail calls go to entries
   pub siblings : (q r : ℕ) → IsPoint p q → Contains (p.goes q) (edge r Sibling) → (entry : ℕ) × Contains p.entries entry × Contains (entry_points p entry) r
   -- the role of a call is that of a call instruction; the points that follow one which execution passes
