@@ -1,5 +1,5 @@
 -- What each operation does, from one core.
-use Rattle.std.proofs.Common.{◌≡◌, ℕ, refl}
+use Rattle.std.proofs.Common.{◌≡◌, ℕ, ◌≤◌, refl, arith, lit≤}
 use Rattle.state_defs.specs.Region.{word_at, Stores}
 use Rattle.state_defs.specs.Frame.{protected_addresses}
 use Rattle.machine_defs.specs.WorkedEffects.{four_words, stored, before, HasEffects}
@@ -24,6 +24,10 @@ effects = record {
   and_sp = refl;
   lea_sp_bp = refl;
   lea_bp_sp = refl;
+  lea_bp_room = refl;
+  sub_sp = (lit≤ tt, refl);
+  sp_reg = (lit≤ tt, refl);
+  sub_sp_rises = λ h. let e : 0x8010 ≤ 0x8008 = h.0 in absurd (omega arith);
   store_bp = (record { only = stays four_words 0x8010 8; word = refl }, refl);
   store_bp_below = (record { only = stays four_words 0x8000 8; word = refl }, (stores_nothing four_words _, refl));
   load_bp = (refl, refl);
@@ -31,6 +35,7 @@ effects = record {
   leave = (refl, refl);
   sp_other = (stores, refl);
   bp_other = (stores, refl);
+  hop = (stays four_words 0x8000 8, refl);
   jmp = refl;
   jcc = refl;
   jmp_ind = refl;

@@ -13,7 +13,6 @@ use Rattle.state_defs.specs.Order.{least}
 use Rattle.state_defs.specs.Move.{move}
 use Rattle.machine_defs.specs.Program.{Program, entry_points, below}
 use Rattle.machine_defs.specs.MayReturn.{target_may_return}
-pub use Rattle.machine_defs.specs.Ways.{is_free}
 
 -- whether control may go along an edge of this kind: a call that can't come back has no Next
 abbrev pub can_go : Program → ℕ → EdgeKind → Bool
@@ -104,6 +103,13 @@ NotKept p q = (level : ℕ) → state_at p level q ≡ None
 -- these are the states that are kept
 abbrev pub AreKeptStates : Program → (ℕ → Option State) → Type 0
 AreKeptStates p states = (q : ℕ) (s : State) → (states q ≡ Some s) ↔ Kept p q s
+
+-- whether states come in along edges: neither Set nor RESTORE
+abbrev pub is_free : Option HintState → Bool
+is_free None = true
+is_free (Some Save) = true
+is_free (Some (Set s)) = false
+is_free (Some Restore) = false
 
 -- A path brings this state to this point: it begins at a point of level 0, or at a kept RESTORE, goes
 -- along edges, and passes neither Set nor RESTORE after its first point.

@@ -8,8 +8,7 @@ use Rattle.state_defs.specs.State.{ended_by, MeansTop}
 use Rattle.machine_defs.specs.Program.{Program, IsPoint, is_call}
 use Rattle.machine_defs.specs.Machine.{Bases, IsPlacement, IsOutside, Standing, Machine, Wrecked, At, point_address, return_address}
 use Rattle.machine_defs.specs.Run.{Run}
-use Rattle.machine_defs.specs.Ways.{is_listed}
-use Rattle.machine_defs.specs.MayReturn.{target_may_return}
+use Rattle.machine_defs.specs.MayReturn.{is_listed, target_may_return}
 use Rattle.machine_defs.specs.Kept.{Kept}
 use Rattle.machine_defs.specs.Broken.{IsAccepted}
 use Rattle.machine_defs.specs.IsProgram.{IsProgram}

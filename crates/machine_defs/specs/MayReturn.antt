@@ -1,12 +1,23 @@
 -- From which points on a return may come.
-use Rattle.std.specs.Prelude.{◌≡◌, ◌≢◌, ℕ, ◌&&◌, Bool, true, false, not, Contains}
+use Rattle.std.specs.Prelude.{◌≡◌, ◌≢◌, ℕ, ◌&&◌, ◌||◌, Bool, true, false, not, Option, Some, None, Contains}
 use Rattle.std.specs.List.{list_any}
 use Rattle.machine_defs.specs.declared.flow.Edge.{Edge}
 use Rattle.machine_defs.specs.declared.flow.EdgeKind.TheVariants.{Next}
 use Rattle.machine_defs.specs.declared.flow.Role.{Role}
 use Rattle.machine_defs.specs.declared.flow.Role.TheVariants.{CallIn, CallEither, CallOut, CallAny, Return, JumpOut, JumpAny}
 use Rattle.machine_defs.specs.Program.{Program, entry_points, is_call, edge}
-use Rattle.machine_defs.specs.Ways.{is_listed}
+
+-- A call is listed: the name of its symbol, or of the function whose start is its entry, is listed as one that never returns.
+-- What isn't a call isn't listed.
+abbrev pub is_listed_function : Program → Option ℕ → Bool
+is_listed_function p None = false
+is_listed_function p (Some function) = p.never_returns function
+
+abbrev pub is_listed : Program → Role → Bool
+is_listed p (CallIn entry) = is_listed_function p (p.function entry)
+is_listed p (CallEither entry sym) = p.never_returns sym || is_listed_function p (p.function entry)
+is_listed p (CallOut sym) = p.never_returns sym
+is_listed p _ = false
 
 -- whether a role is that of a call that may go to code outside
 abbrev pub calls_outside : Role → Bool

@@ -15,8 +15,8 @@ use Rattle.state_defs.specs.Region.{Region, Reads, WritesOnly, WritesWord, Store
 use Rattle.state_defs.specs.Frame.{Unsaved, PartialAt, is_of_call, Frame, protected_addresses}
 use Rattle.state_defs.specs.Effect.{Core, StoresOrdinarily, Effect}
 use Rattle.machine_defs.specs.Program.{Program, IsPoint, Site, in_site, entry_points, edge, is_local}
-use Rattle.machine_defs.specs.Ways.{is_before_hint, is_listed, may_leave}
-use Rattle.machine_defs.specs.MayReturn.{may_call_out}
+use Rattle.machine_defs.specs.MayReturn.{is_listed, may_call_out}
+use Rattle.machine_defs.specs.Ways.{is_before_hint, may_leave}
 use Rattle.machine_defs.specs.Machine.{Bases, Standing, Machine, Wrecked, At, point_address, return_address}
 use Rattle.machine_defs.specs.Hint.{Lands}
 

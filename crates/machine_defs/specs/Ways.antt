@@ -1,5 +1,4 @@
--- The ways that lead on from a point: which calls come back, which code may leave or be called where no function is, and what
--- stands right before a hint.
+-- The ways that lead on from a point: what stands right before a hint, and what code of no function may call, and how it may leave.
 use Rattle.std.specs.Prelude.{◌≡◌, ℕ, ◌&&◌, ◌||◌, not, Bool, true, false, Option, Some, None, is_none, Contains}
 use Rattle.std.specs.List.{list_any, list_all}
 use Rattle.operation_defs.specs.declared.op.Op.{Op}
@@ -8,18 +7,12 @@ use Rattle.machine_defs.specs.declared.flow.Edge.{Edge}
 use Rattle.machine_defs.specs.declared.flow.EdgeKind.{EdgeKind}
 use Rattle.machine_defs.specs.declared.flow.EdgeKind.TheVariants.{Next, Taken, Fixup, Table, Sibling}
 use Rattle.machine_defs.specs.declared.flow.Role.{Role}
-use Rattle.machine_defs.specs.declared.flow.Role.TheVariants.{CallIn, CallEither, CallOut, Return, JumpOut, JumpAny}
+use Rattle.machine_defs.specs.declared.flow.Role.TheVariants.{Return, JumpOut, JumpAny}
 use Rattle.state_defs.specs.declared.state.HintState.{HintState}
 use Rattle.state_defs.specs.declared.state.HintState.TheVariants.{Set, Save, Restore}
 use Rattle.state_defs.specs.Rules.{may_be_called}
 use Rattle.machine_defs.specs.Program.{Program, IsPoint, Site, in_site}
-
--- whether states come in along edges: neither Set nor RESTORE
-abbrev pub is_free : Option HintState → Bool
-is_free None = true
-is_free (Some Save) = true
-is_free (Some (Set s)) = false
-is_free (Some Restore) = false
+use Rattle.machine_defs.specs.Kept.{edges_of, is_free}
 
 abbrev pub is_fixup : EdgeKind → Bool
 is_fixup Next = false
@@ -39,20 +32,8 @@ is_sibling Sibling = true
 -- restores the state. No instruction comes in between, so what the point leaves in rsp is what the hint tells.
 abbrev pub is_before_hint : Program → ℕ → Bool
 is_before_hint p q =
-    list_any (λ e. not (is_fixup e.kind)) (p.goes q)
-    && list_all (λ e. is_fixup e.kind || not (is_free (p.hint e.to))) (p.goes q)
-
--- A call is listed: the name of its symbol, or of the function whose start is its entry, is listed as one that never returns.
--- What isn't a call isn't listed.
-abbrev pub is_listed_function : Program → Option ℕ → Bool
-is_listed_function p None = false
-is_listed_function p (Some function) = p.never_returns function
-
-abbrev pub is_listed : Program → Role → Bool
-is_listed p (CallIn entry) = is_listed_function p (p.function entry)
-is_listed p (CallEither entry sym) = p.never_returns sym || is_listed_function p (p.function entry)
-is_listed p (CallOut sym) = p.never_returns sym
-is_listed p _ = false
+    list_any (λ e. not (is_fixup e.kind)) (edges_of p q)
+    && list_all (λ e. is_fixup e.kind || not (is_free (p.hint e.to))) (edges_of p q)
 
 -- whether a hint tells a call frame, or ends the stack
 abbrev pub is_call_hint : Option HintState → Bool
@@ -89,4 +70,4 @@ may_leave p q =
     is_none (p.owner q)
     && (leads_out (p.role q)
     && (not (drops_bytes (p.insn q).op)
-    && not (list_any (λ e. is_sibling e.kind) (p.goes q))))
+    && not (list_any (λ e. is_sibling e.kind) (edges_of p q))))

@@ -16,9 +16,8 @@ use Rattle.state_defs.specs.Effect.{Core, IsInStack}
 use Rattle.state_defs.specs.State.{initial, ended_by, MeansTop}
 use Rattle.machine_defs.specs.Program.{Program, IsPoint, entry_points, is_call, edge}
 use Rattle.machine_defs.specs.Machine.{Bases, Standing, At, return_address, point_address}
-use Rattle.machine_defs.specs.Ways.{is_listed}
 use Rattle.machine_defs.specs.Step.{ends_run, LeavesMemory, Returns, JumpsTo, sibling, indirect, TailCalls, ReturnsFromInterrupt}
-use Rattle.machine_defs.specs.MayReturn.{MayReturn, target_may_return, may_call_out}
+use Rattle.machine_defs.specs.MayReturn.{MayReturn, target_may_return, may_call_out, is_listed}
 use Rattle.machine_defs.specs.MayReturn as may
 use Rattle.machine_defs.specs.Kept.{Kept}
 use Rattle.machine_defs.specs.Broken.{IsAccepted, LeavesByJump}

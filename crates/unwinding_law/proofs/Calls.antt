@@ -12,8 +12,7 @@ use Rattle.state_defs.specs.State.{initial, MeansTop}
 use Rattle.machine_defs.specs.Program.{Program, IsPoint, entry_points, is_call}
 use Rattle.machine_defs.specs.Machine.{Bases, Standing, return_address}
 use Rattle.machine_defs.specs.Step.{IsTarget, call_frame, CallsIn, interrupt_frame, IsInterrupted}
-use Rattle.machine_defs.specs.Ways.{is_listed}
-use Rattle.machine_defs.specs.MayReturn.{code_may_return}
+use Rattle.machine_defs.specs.MayReturn.{code_may_return, is_listed}
 use Rattle.machine_defs.specs.Kept.{is_free, Kept}
 use Rattle.machine_defs.specs.IsProgram.{IsCallee, IsProgram}
 use Rattle.machine_defs.specs.Law.{IsCallKept, CallReturns, AreMarksKept, IsInnerFrame, AreFrames, HasRunInvariant, HasFrameInvariant}

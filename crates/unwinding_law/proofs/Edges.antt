@@ -107,5 +107,5 @@ module _ (p : Program) (is : IsProgram p) (acc : IsAccepted p) where
 
   pub past_call : (a q : ℕ) (s : State) → IsPoint p a → Kept p a s → is_call (p.role a) ≡ true → target_may_return p (p.role a) ≡ true → Contains (p.goes a) (edge q Next) → is_free (p.hint q) ≡ true → Kept p q s
   past_call a q s pa kept call back c free =
-      let m = moves a s kept (no_hint_behind p a q Next refl c free) in
+      let m = moves a s kept (no_hint_behind p a q Next refl c back free) in
       local_kept a q s s Next refl pa kept c back (call_moves s m.0 (p.insn a).op (is.calls a pa call) m.1) free

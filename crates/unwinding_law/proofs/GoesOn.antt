@@ -82,7 +82,7 @@ module _ (p : Program) (bases : Bases) (is : IsProgram p) (acc : IsAccepted p) (
         frames = frame_invariant p bases s t (effect_shape s.core t.core (op_at p s) g.effect) (effect_hi s.core t.core (op_at p s) g.effect) g.level.mark
             (stays_out p bases is s.point t.point r.point point (λ h. may.goes_on s.point (edge t.point g.kind) role g.along h)) f;
         told = λ free.
-            let before = no_hint_behind p s.point t.point g.kind g.local g.along free in
+            let before = no_hint_behind p s.point t.point g.kind g.local g.along can free in
             let m = moves p is acc s.point r.state r.kept before in
             let told : IsToldAfter t.point m.0 t = told_after p bases is sound keeps s t r f stack g.effect before g.level after r.state m.0 refl m.1 in
             record {

@@ -10,8 +10,7 @@ use Rattle.state_defs.specs.State.{MeansTop}
 use Rattle.machine_defs.specs.Program.{Program, IsPoint, is_call, edge}
 use Rattle.machine_defs.specs.Machine.{Bases, Standing}
 use Rattle.machine_defs.specs.Step.{SameLevel, Faults, CallsOut}
-use Rattle.machine_defs.specs.Ways.{is_listed}
-use Rattle.machine_defs.specs.MayReturn.{may_call_out, target_may_return}
+use Rattle.machine_defs.specs.MayReturn.{may_call_out, target_may_return, is_listed}
 use Rattle.machine_defs.specs.MayReturn as may
 use Rattle.machine_defs.specs.Kept.{Kept}
 use Rattle.machine_defs.specs.Broken.{IsAccepted}

@@ -16,11 +16,12 @@ use Rattle.state_defs.specs.Frame.{is_of_call, Frame}
 use Rattle.state_defs.specs.State.{ended_by, MeansTop}
 use Rattle.state_defs.specs.Rules.{is_initial, return_rule, sibling_rule, is_followed}
 use Rattle.machine_defs.specs.Program.{Program, entry_points, is_call_op, edge, is_local}
-use Rattle.machine_defs.specs.Ways.{is_free, is_fixup, is_sibling, is_before_hint, is_call_hint, MayCall, leads_out, drops_bytes, may_leave}
+use Rattle.machine_defs.specs.Kept.{can_go, edges_of, is_free}
+use Rattle.machine_defs.specs.Ways.{is_fixup, is_sibling, is_before_hint, is_call_hint, MayCall, leads_out, drops_bytes, may_leave}
 use Rattle.machine_defs.specs.Machine.{Standing}
 use Rattle.machine_defs.specs.Step.{as_any_write, op_at, is_in_interrupt, ends_run}
 use Rattle.machine_defs.specs.IsProgram.{IsProgram}
-use Rattle.unwinding_law.proofs.Lists.{each_passes, found}
+use Rattle.unwinding_law.proofs.Lists.{each_passes, found, in_filter}
 
 -- along a local edge, to where states come in along edges, no hint follows right behind
 local_no_fixup : (kind : EdgeKind) → is_local kind ≡ true → is_fixup kind ≡ false
@@ -40,10 +41,10 @@ untold true free f g h = let k : ⊥ = cc in k
 untold false true f g h = let k : ⊥ = cc in k
 untold false false f g h = let k : ⊥ = cc in k
 
-pub no_hint_behind : (p : Program) (a q : ℕ) (kind : EdgeKind) → is_local kind ≡ true → Contains (p.goes a) (edge q kind) → is_free (p.hint q) ≡ true → is_before_hint p a ≡ false
-no_hint_behind p a q kind l c free =
-    not_before (list_any (λ e. not (is_fixup e.kind)) (p.goes a)) (list_all (λ e. is_fixup e.kind || not (is_free (p.hint e.to))) (p.goes a))
-    (λ all. untold (is_fixup kind) (is_free (p.hint q)) (local_no_fixup kind l) free (each_passes (λ e. is_fixup e.kind || not (is_free (p.hint e.to))) (p.goes a) (edge q kind) all c))
+pub no_hint_behind : (p : Program) (a q : ℕ) (kind : EdgeKind) → is_local kind ≡ true → Contains (p.goes a) (edge q kind) → can_go p a kind ≡ true → is_free (p.hint q) ≡ true → is_before_hint p a ≡ false
+no_hint_behind p a q kind l c can free =
+    not_before (list_any (λ e. not (is_fixup e.kind)) (edges_of p a)) (list_all (λ e. is_fixup e.kind || not (is_free (p.hint e.to))) (edges_of p a))
+    (λ all. untold (is_fixup kind) (is_free (p.hint q)) (local_no_fixup kind l) free (each_passes (λ e. is_fixup e.kind || not (is_free (p.hint e.to))) (edges_of p a) (edge q kind) all (in_filter (λ (e : Edge). can_go p a e.kind) (p.goes a) (edge q kind) c can)))
 
 -- what makes room is no call, as whatever it acts
 pub acts_no_call : (p : Program) (s : Standing) → is_call_op (op_at p s) ≡ false → is_call_op (p.insn s.point).op ≡ false
@@ -63,10 +64,10 @@ acts_as_it_is p s live h = ap (λ (b : Bool). if b then as_any_write (p.insn s.p
     both = rw (live, h) refl
 
 -- a point that may leave has no way to another function of the program, and drops no bytes
-pub sibling_stays : (p : Program) (a q : ℕ) → Contains (p.goes a) (edge q Sibling) → may_leave p a ≡ false
-sibling_stays p a q c =
-    let any : list_any (λ e. is_sibling e.kind) (p.goes a) ≡ true = found (λ e. is_sibling e.kind) (p.goes a) (edge q Sibling) c refl in
-    last (is_none (p.owner a)) (leads_out (p.role a)) (not (drops_bytes (p.insn a).op)) (list_any (λ e. is_sibling e.kind) (p.goes a)) any
+pub sibling_edge_stays : (p : Program) (a q : ℕ) → Contains (edges_of p a) (edge q Sibling) → may_leave p a ≡ false
+sibling_edge_stays p a q along =
+    let any : list_any (λ e. is_sibling e.kind) (edges_of p a) ≡ true = found (λ e. is_sibling e.kind) (edges_of p a) (edge q Sibling) along refl in
+    last (is_none (p.owner a)) (leads_out (p.role a)) (not (drops_bytes (p.insn a).op)) (list_any (λ e. is_sibling e.kind) (edges_of p a)) any
   where
     last : (x y z w : Bool) → w ≡ true → (x && (y && (z && not w))) ≡ false
     last false y z w e = refl
@@ -76,7 +77,7 @@ sibling_stays p a q c =
     last true true true false e = absurd (let k : ⊥ = cc in k)
 
 pub dropping_stays : (p : Program) (a : ℕ) → (p.insn a).op ≡ RetImm → may_leave p a ≡ false
-dropping_stays p a op = third (is_none (p.owner a)) (leads_out (p.role a)) (drops_bytes (p.insn a).op) (not (list_any (λ e. is_sibling e.kind) (p.goes a))) (ap drops_bytes op)
+dropping_stays p a op = third (is_none (p.owner a)) (leads_out (p.role a)) (drops_bytes (p.insn a).op) (not (list_any (λ e. is_sibling e.kind) (edges_of p a))) (ap drops_bytes op)
   where
     third : (x y z w : Bool) → z ≡ true → (x && (y && (not z && w))) ≡ false
     third false y z w e = refl
