@@ -25,7 +25,7 @@ pub data CallsUnsafe (p : Program) (allowed : Allowances) (q : ℕ) : ℤ → Ty
   weak_outside : (entry sym : ℕ) → p.role q ≡ CallEither entry sym → allowed.safe_name sym ≡ false → CallsUnsafe p allowed q (pos sym)
   outside : (sym : ℕ) → p.role q ≡ CallOut sym → allowed.safe_name sym ≡ false → CallsUnsafe p allowed q (pos sym)
   jumps_outside : (sym : ℕ) → p.role q ≡ JumpOut sym → allowed.safe_name sym ≡ false → CallsUnsafe p allowed q (pos sym)
-  tail_call : (r function : ℕ) → Contains (edges_of p q) (edge r Sibling) → is_safe p allowed r ≡ false → p.function r ≡ Some function → CallsUnsafe p allowed q (pos function)
+  tail_call : (r : ℕ) → Contains (edges_of p q) (edge r Sibling) → is_safe p allowed r ≡ false → CallsUnsafe p allowed q (function_number (p.function r))
   indirect : p.role q ≡ CallAny → CallsUnsafe p allowed q (negsuc 0)
   jumps_anywhere : p.role q ≡ JumpAny → CallsUnsafe p allowed q (negsuc 0)
 

@@ -31,7 +31,9 @@ pub record Program : Type 0 where
   -- or mark of a list, whatever the object says of its place.
   pub count : ℕ
   -- The instruction of a point: its length, and what a program makes of its decoded operation (`made`, in
-  -- `operation_defs`).
+  -- `operation_defs`). Premise *ways out come back*: an IRET, or a way out by the system, of which a program makes an
+  -- IretNext or an SpOther, goes on right behind itself, with user access and protected slots as they were; the
+  -- first finds rsp right above the five words that were pushed before it.
   pub insn : ℕ → Insn
   -- Where its bytes stand: of a padding point, the end of its replacement.
   pub place : ℕ → Place

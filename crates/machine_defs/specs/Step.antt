@@ -31,8 +31,9 @@ as_any_write SubSp = SpOther
 as_any_write SpReg = SpOther
 as_any_write op = op
 
--- The operation of a point as the machine executes it. That rsp doesn't rise where a register is subtracted from it, or put into
--- it, is a premise where the stack hasn't ended and no hint follows right behind; elsewhere such an operation is any write of rsp.
+-- The operation of a point as the machine executes it. Premise *registers make room*: rsp doesn't rise where a register is
+-- subtracted from it, or put into it. It is asked where the stack hasn't ended and no hint follows right behind; elsewhere such an
+-- operation is any write of rsp.
 abbrev pub op_at : Program → Standing → Op
 op_at p s = if is_some s.ended || is_before_hint p s.point then as_any_write (p.insn s.point).op else (p.insn s.point).op
 
@@ -131,8 +132,8 @@ abbrev pub ends_run : Program → Standing → Bool
 ends_run p s = may_leave p s.point && (is_some s.ended || is_in_interrupt s.core.shadow)
 
 -- 5. It returns to the caller in the program, itself or by code outside. With a frame that was there
--- at the start the run ends. No listed name returns, and nothing goes on behind a dead end. Where a run ends, it goes on all
--- the same if the caller's stack had ended too.
+-- at the start the run ends. Premise *listed names don't return*: nothing comes back to a call of such a name, be it outside or a
+-- function of the program; nor does it to a dead end. Where a run ends, it comes back all the same if the caller's stack had ended.
 pub record Returns (p : Program) (s t : Standing) : Type 0 where
   pub leaves : IsTrue (may_go_back p (p.role s.point))
   pub frame : Frame

@@ -95,10 +95,7 @@ module _ (p : Program) (allowed : Allowances) (is : IsProgram p) (functions : En
 
     -- and so does a tail call
     pub safe_sibling : (r : ℕ) → Contains (p.goes q) (edge r Sibling) → is_safe p allowed r ≡ true
-    safe_sibling r c =
-        let t = is.siblings q r point c in
-        let f = functions.entries t.0 t.1 in
-        unless_false (is_safe p allowed r) (λ n. none_unsafe _ (rules.tail_call r f.0 (sibling_edge p q r c) n ((functions.arrivals t.0 r t.1 t.2).0 ∙ f.1)))
+    safe_sibling r c = unless_false (is_safe p allowed r) (λ n. none_unsafe _ (rules.tail_call r (sibling_edge p q r c) n))
 
     pub safe_jump : (r : ℕ) → JumpsTo p q r → is_safe p allowed r ≡ true
     safe_jump r (sibling r2 c) = safe_sibling r c

@@ -71,7 +71,7 @@ calls_safe q callee (rules.weak_inside entry symbol e n) = let k : CallEither en
 calls_safe q callee (rules.weak_outside entry symbol e n) = let k : CallEither entry symbol ≡ CallIn 7 = role_there q (CallEither entry symbol) refl e in cc
 calls_safe q callee (rules.outside symbol e n) = let k : CallOut symbol ≡ CallIn 7 = role_there q (CallOut symbol) refl e in cc
 calls_safe q callee (rules.jumps_outside symbol e n) = no_jump q (ap is_jump e)
-calls_safe q callee (rules.tail_call r function c n f) = no_tail q r (from_filter (λ (e : Edge). can_go worked q e.kind) (worked.goes q) (edge r Sibling) c).0
+calls_safe q callee (rules.tail_call r c n) = no_tail q r (from_filter (λ (e : Edge). can_go worked q e.kind) (worked.goes q) (edge r Sibling) c).0
 calls_safe q callee (rules.indirect e) = let k : CallAny ≡ CallIn 7 = role_there q CallAny refl e in cc
 calls_safe q callee (rules.jumps_anywhere e) = no_jump q (ap is_jump e)
 
