@@ -1,7 +1,8 @@
-ghost use Rattle.std.specs.Prelude.{◌≡◌, ◌++◌, ◌+◌, ◌<◌, ◌≤◌, ◌↔◌, ℕ, true, All, [], ◌∷◌, length, drop, filter, slice_get, slice_index_or, slice_range, Contains, is_some, IfOk, IfErr, OnOk, IfSome, IfNone, MatchBool, MatchOption};
+ghost use Rattle.std.specs.Prelude.{◌≡◌, ◌++◌, ◌+◌, ◌^◌, ◌<◌, ◌≤◌, ◌↔◌, ℕ, true, All, [], ◌∷◌, length, drop, filter, slice_get, slice_index_or, slice_range, Contains, is_some, IfOk, IfErr, OnOk, IfSome, IfNone, MatchBool, MatchOption};
 ghost use Rattle.std.specs.List.Sorted.{IsNonDecreasingBy};
 ghost use Rattle.x86_decode.specs.Decoding.{StandsInFront};
 ghost use Rattle.x86_text.specs.Code.{may_use_table as may_use_a_table, read_by, code_of, insn_listed, insns_of, offsets_of, table_jumps_of, IsBoundary, IsCode, IsNextBoundary, IsPreviousBoundary, LeadsTo};
+ghost use Rattle.x86_text.specs.declared.placed.PlacedInsn.{PlacedInsn};
 ghost use Rattle.x86_text.specs.Refused.{IsTextFault};
 ghost use Rattle.x86_text.specs.declared.fault.TextFault.TheVariants.{NoMemory};
 
@@ -109,12 +110,23 @@ impl<'a> Text<'a> {
         requires { i < length (code_of self.now) }
         ensures listed { slice_get (code_of self.now) i ≡ Some (record { off = result.0; insn = result.1 }) }
         ensures stands { StandsInFront self.now.map (drop result.0 self.now.bytes) result.1 }
+        ensures low { result.0 < 2 ^ 32 }
     {
         let off = self.offsets[i as usize];
         match decode(self.map, &self.body[off as usize..]) {
             Ok(insn) => (u64::from(off), insn),
             Err(_) => unreachable!(),
         }
+    }
+
+    /// How many of its instructions begin before an offset.
+    pub fn count_before(&self, off: u64) -> u32
+        ensures within { result ≤ length (code_of self.now) }
+        ensures before { (k : ℕ) (d : PlacedInsn) → k < result → (slice_index_or (code_of self.now) k d).off < off }
+        ensures others { (k : ℕ) (d : PlacedInsn) → result ≤ k → k < length (code_of self.now) → off ≤ (slice_index_or (code_of self.now) k d).off }
+    {
+        let offsets = self.offsets.as_slice();
+        count_below(offsets, off) as u32
     }
 
     /// The bytes of the instruction with this number.
