@@ -31,6 +31,12 @@ fill_some from to (s ∷ sites) (suc j) d fill inside = fill_some (from + s.coun
 has_byte : (a b c d n : ℕ) → (eqb a c && (leb b d && ltb d (b + n))) ≡ true → not (eqb n 0) ≡ true
 has_byte a b c d n h = grind (arith, nat_tests)
 
+-- the number of the site that holds a place, or that none does
+abbrev pub Finds : List AlternativesSite → Place → Option ℕ → Type 0
+Finds sites place found =
+    MatchOption found ((k : ℕ) (d : AlternativesSite) → k < length sites → in_alternatives_site (get_or sites k d) place ≡ false)
+    (λ i. (i < length sites) × ((d : AlternativesSite) → in_alternatives_site (get_or sites i d) place ≡ true))
+
 -- an entry has the original that is a site
 record IsSiteOf (entries : List AltEntry) (sites : List AlternativesSite) (k j : ℕ) : Type 0 where
   inside : j < length sites
@@ -98,6 +104,6 @@ module _ (entries : List AltEntry) (sites : List AlternativesSite) (numbers : Li
   ]
 
   -- whether a site is found
-  pub found_is : (found : Option ℕ) → MatchOption found ((k : ℕ) (d : AlternativesSite) → k < length sites → in_alternatives_site (get_or sites k d) place ≡ false) (λ i. (i < length sites) × ((d : AlternativesSite) → in_alternatives_site (get_or sites i d) place ≡ true)) → is_some found ≡ is_in_site entries place
+  pub found_is : (found : Option ℕ) → Finds sites place found → is_some found ≡ is_in_site entries place
   found_is None none = sym (none_holds none)
   found_is (Some i) one = sym (some_holds i one.0 one.1)
