@@ -1,5 +1,5 @@
 -- A place lies in a site exactly where it lies in the original of an entry.
-use Rattle.std.proofs.Common.{◌≡◌, ℕ, zero, suc, ◌+◌, ◌<◌, ◌≤◌, Bool, true, false, eqb, leb, ltb, ◌&&◌, not, List, [], ◌∷◌, length, get_or, Option, Some, None, Contains, inl, inr, refl, sym, ap, ◌∙◌, subst, arith}
+use Rattle.std.proofs.Common.{◌≡◌, ℕ, zero, suc, ◌+◌, ◌<◌, ◌≤◌, Bool, true, false, eqb, leb, ltb, ◌&&◌, ◌||◌, not, List, [], ◌∷◌, length, get_or, Option, Some, None, Contains, inl, inr, refl, sym, ap, ◌∙◌, subst, arith}
 use Rattle.std.specs.Prelude.{is_some, MatchOption}
 use Rattle.std.specs.List.{list_any, range_with_len}
 use Rattle.std.proofs.lemmas.Bool.{cases_Bool, false≢true}
@@ -57,13 +57,9 @@ holder [] place any = absurd (false≢true any)
 holder (a ∷ entries) place any = elim (cases_Bool (is_within a.original a.original_len place)) [
   | inl held ↦ record { k = 0; listed = omega arith; held = held }
   | inr other ↦
-      let rest : Holder entries place = holder entries place (sym (ap (λ b. or b (is_in_site entries place)) other) ∙ any) in
+      let rest : Holder entries place = holder entries place (sym (ap (λ b. b || is_in_site entries place) other) ∙ any) in
       record { k = suc rest.k; listed = omega (arith, rest.listed); held = rest.held }
 ]
-  where
-    or : Bool → Bool → Bool
-    or true b = true
-    or false b = b
 
 module _ (entries : List AltEntry) (sites : List AlternativesSite) (numbers : List ℕ) (are : AreSitesOf entries sites numbers) (place : Place) where
   its_site : (k : ℕ) → counts (entry_at entries k) ≡ true → (j : ℕ) × IsSiteOf entries sites k j
