@@ -1,5 +1,5 @@
 -- A place lies in a site exactly where it lies in the original of an entry.
-use Rattle.std.proofs.Common.{◌≡◌, ℕ, zero, suc, ◌+◌, ◌<◌, ◌≤◌, Bool, true, false, eqb, leb, ltb, ◌&&◌, not, List, [], ◌∷◌, length, get_or, Option, Some, None, Contains, inl, inr, refl, sym, ap, ◌∙◌, subst, arith}
+use Rattle.std.proofs.Common.{◌≡◌, ℕ, zero, suc, ◌+◌, ◌<◌, ◌≤◌, Bool, true, false, eqb, leb, ltb, ◌&&◌, ◌||◌, not, List, [], ◌∷◌, length, get_or, Option, Some, None, Contains, inl, inr, refl, sym, ap, ◌∙◌, subst, arith}
 use Rattle.std.specs.Prelude.{is_some, MatchOption}
 use Rattle.std.specs.List.{list_any, range_with_len}
 use Rattle.std.proofs.lemmas.Bool.{cases_Bool, false≢true}
@@ -31,6 +31,12 @@ fill_some from to (s ∷ sites) (suc j) d fill inside = fill_some (from + s.coun
 has_byte : (a b c d n : ℕ) → (eqb a c && (leb b d && ltb d (b + n))) ≡ true → not (eqb n 0) ≡ true
 has_byte a b c d n h = grind (arith, nat_tests)
 
+-- the number of the site that holds a place, or that none does
+abbrev pub Finds : List AlternativesSite → Place → Option ℕ → Type 0
+Finds sites place found =
+    MatchOption found ((k : ℕ) (d : AlternativesSite) → k < length sites → in_alternatives_site (get_or sites k d) place ≡ false)
+    (λ i. (i < length sites) × ((d : AlternativesSite) → in_alternatives_site (get_or sites i d) place ≡ true))
+
 -- an entry has the original that is a site
 record IsSiteOf (entries : List AltEntry) (sites : List AlternativesSite) (k j : ℕ) : Type 0 where
   inside : j < length sites
@@ -51,13 +57,9 @@ holder [] place any = absurd (false≢true any)
 holder (a ∷ entries) place any = elim (cases_Bool (is_within a.original a.original_len place)) [
   | inl held ↦ record { k = 0; listed = omega arith; held = held }
   | inr other ↦
-      let rest : Holder entries place = holder entries place (sym (ap (λ b. or b (is_in_site entries place)) other) ∙ any) in
+      let rest : Holder entries place = holder entries place (sym (ap (λ b. b || is_in_site entries place) other) ∙ any) in
       record { k = suc rest.k; listed = omega (arith, rest.listed); held = rest.held }
 ]
-  where
-    or : Bool → Bool → Bool
-    or true b = true
-    or false b = b
 
 module _ (entries : List AltEntry) (sites : List AlternativesSite) (numbers : List ℕ) (are : AreSitesOf entries sites numbers) (place : Place) where
   its_site : (k : ℕ) → counts (entry_at entries k) ≡ true → (j : ℕ) × IsSiteOf entries sites k j
@@ -98,6 +100,6 @@ module _ (entries : List AltEntry) (sites : List AlternativesSite) (numbers : Li
   ]
 
   -- whether a site is found
-  pub found_is : (found : Option ℕ) → MatchOption found ((k : ℕ) (d : AlternativesSite) → k < length sites → in_alternatives_site (get_or sites k d) place ≡ false) (λ i. (i < length sites) × ((d : AlternativesSite) → in_alternatives_site (get_or sites i d) place ≡ true)) → is_some found ≡ is_in_site entries place
+  pub found_is : (found : Option ℕ) → Finds sites place found → is_some found ≡ is_in_site entries place
   found_is None none = sym (none_holds none)
   found_is (Some i) one = sym (some_holds i one.0 one.1)

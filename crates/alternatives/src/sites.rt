@@ -102,7 +102,8 @@ impl Sites {
     pub fn is_in_site(&self, place: Place) -> bool
         ensures { result ≡ lies_in_site self.now.entries place }
     {
-        self.site_at(place).is_some()
+        let (near, _) = self.blocks.numbers(place);
+        find_site(self.sites.as_slice(), place, near as usize).is_some()
     }
 
     /// The numbers of the entries that have an original, by site, and those of one site ascending.

@@ -131,6 +131,10 @@ bool_cases : (b : Bool) → (b ≡ true) ⊎ (b ≡ false)
 bool_cases true = inl refl
 bool_cases false = inr refl
 
+none_either_way : (b : Bool) (table : Option Place) → table ≡ None → cond b table None ≡ None
+none_either_way true table none = none
+none_either_way false table none = refl
+
 tables_cons : (op : Op) (here : Place) (table : Option Place) (rest : List Jump) → map (λ (j : Jump). j.table) (cons_option (option_map (jump op here) table) rest) ≡ cons_option table (map (λ (j : Jump). j.table) rest)
 tables_cons op here None rest = refl
 tables_cons op here (Some t) rest = refl
@@ -138,11 +142,7 @@ tables_cons op here (Some t) rest = refl
 module _ (o : Elf) (texts : List SectionText) (entries : List AltEntry) where
   -- where the table begins that a jump at a point has
   by_variant : (variant : ℕ) (op : Op) (place : Place) (table : Option Place) → option_and_then (start_at variant) (option_map (jump op place) table) ≡ cond (eqb variant 0 || names_table op) table None
-  by_variant variant op place None = sym (never (eqb variant 0 || names_table op))
-    where
-      never : (b : Bool) → cond {A = Option Place} b None None ≡ None
-      never true = refl
-      never false = refl
+  by_variant variant op place None = sym (none_either_way (eqb variant 0 || names_table op) None refl)
   by_variant variant op place (Some t) = refl
 
   by_insn_at : (body : Body) (point : Point) (insn : Option Insn) → option_and_then (start_at point.variant) (option_and_then (jump_by o texts entries body point.place) insn) ≡ option_and_then (start_by o texts entries body point) insn

@@ -64,7 +64,7 @@ ends_search _ = false
 abbrev pub is_searched : Elf → List AltEntry → Option ℕ → ℕ → PlacedInsn → Bool
 is_searched o entries owner sec p =
     let place : Place = record { sec = sec; off = p.off } in
-    same_owner (owner_at o place) owner && (not (is_in_site entries place) && not (ends_search p.insn.op))
+    same_owner (owner_at o place) owner && not (is_in_site entries place) && not (ends_search p.insn.op)
 
 -- the instructions of a body before an offset, the nearest first
 abbrev pub insns_before : Body → ℕ → List PlacedInsn

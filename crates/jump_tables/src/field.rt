@@ -31,7 +31,7 @@ fn find_kind(relocs: &[Reloc], kind: u32) -> Option<Reloc>
 }
 
 /// The place that the first relocation of a type at a field names.
-pub(crate) fn named_by(index: &Index<'_, '_>, kind: u32, field: Place) -> Option<Place>
+fn named_by(index: &Index<'_, '_>, kind: u32, field: Place) -> Option<Place>
     ensures { result ≡ named_by_reloc index.now.elf kind field }
 {
     let reloc = find_kind(index.relocs_at(field), kind)?;

@@ -83,6 +83,7 @@ fn add_jumps(
     ensures added { OnOk result (jumps.new.items ≡ jumps.old.items ++ jumps_among code.now.index.now.elf code.now.texts.now code.now.sites.now.entries text.now.text text.now.sec (code_of text.now.text)) }
     ensures ascending { OnOk result (IsAscending (code_of text.now.text)) }
 {
+    let _size = text.text.size();
     let table_jumps = text.text.table_jumps();
     for placed in table_jumps {
         let Some(jump) = jump_at(code, text, *placed) else {

@@ -1,6 +1,6 @@
 //! Jumps to where a register points, and the tables whose addresses are taken right before them.
 
-ghost use Rattle.std.specs.Prelude.{◌≡◌, ◌+◌, ◌<◌, ◌^◌};
+ghost use Rattle.std.specs.Prelude.{◌≡◌, ◌+◌, ◌<◌, ◌^◌, ◌==◌, length, position, slice_index, IfSome};
 ghost use Rattle.jump_tables.specs.Registers.{ends_search as ends_the_search, is_on_register as is_a_register_jump, is_searched as is_searched_insn, is_thunk as is_a_thunk, jumps_to_register as jumps_to_a_register, register_table as register_table_of, table_before as table_before_offset, table_before_jump as table_before_place};
 
 use crate::bytes::bytes_from;
@@ -17,13 +17,28 @@ use x86_text::PlacedInsn;
 /// How many instructions before a jump are searched.
 const STEPS: u32 = 4;
 
+/// The byte with an index, 0 where there is none.
+fn byte_at(bytes: &[u8], at: usize) -> u8
+    ensures { result ≡ slice_index bytes.now at }
+{
+    bytes.get(at).copied().unwrap_or(0)
+}
+
+/// The index of the first byte FF.
+fn opcode_at(bytes: &[u8]) -> Option<usize>
+    ensures first { result ≡ position (λ b. b == 255) bytes.now }
+    ensures within { IfSome result (λ at. at < length bytes.now) }
+{
+    bytes.iter().position(|byte| *byte == 0xFF)
+}
+
 /// Whether the indirect jump at a place is on a register: the mod of its ModRM byte, behind the opcode FF, is 3.
 fn is_on_register(object: &Object<'_>, place: Place) -> bool
     ensures { result ≡ is_a_register_jump object.now place }
 {
     let bytes = bytes_from(object, place);
-    match bytes.iter().position(|byte| *byte == 0xFF) {
-        Some(at) => at + 1 < bytes.len() && bytes[at + 1] >= 0xC0,
+    match opcode_at(bytes) {
+        Some(at) => byte_at(bytes, at + 1) >= 0xC0,
         None => false,
     }
 }

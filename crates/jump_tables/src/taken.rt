@@ -1,7 +1,8 @@
 //! The tables whose addresses instructions take.
 
-ghost use Rattle.std.specs.Prelude.{◌≡◌, ◌+◌, ◌<◌, ◌^◌, slice_get};
+ghost use Rattle.std.specs.Prelude.{◌≡◌, ◌+◌, ◌+ℤ◌, ◌<◌, ◌^◌, pos, slice_get};
 ghost use Rattle.std.specs.List.{filter_map};
+ghost use Rattle.symbols_relocs.specs.NamedPlaces.{offset_of};
 ghost use Rattle.alternatives.specs.Texts.{AscendBySection};
 ghost use Rattle.jump_tables.specs.Registers.{address_taken as address_taken_by, begins_table as begins_a_table, is_of_owner as is_of_the_owner, place_moved as place_moved_by, table_taken as table_taken_by, tables_taken};
 
@@ -14,6 +15,14 @@ use ot_base::Place;
 use symbols_relocs::{Index, named_place};
 use x86_text::PlacedInsn;
 
+/// The sum of a symbol's value, an addend and so many bytes, where 64 bits hold it.
+fn sum_of(value: u64, addend: i64, by: u64) -> Option<u64>
+    ensures { result ≡ offset_of (pos value +ℤ addend +ℤ pos by) }
+{
+    let sum = i128::from(value) + i128::from(addend) + i128::from(by);
+    u64::try_from(sum).ok()
+}
+
 /// The place that a relocation names, moved on by so many bytes.
 fn place_moved(object: &Object<'_>, reloc: Reloc, by: u64) -> Option<Place>
     ensures { result ≡ place_moved_by object.now reloc by }
@@ -25,8 +34,7 @@ fn place_moved(object: &Object<'_>, reloc: Reloc, by: u64) -> Option<Place>
     let Home::Section(sec) = symbol.home else {
         return None;
     };
-    let sum = i128::from(symbol.value) + i128::from(reloc.addend) + i128::from(by);
-    let off = u64::try_from(sum).ok()?;
+    let off = sum_of(symbol.value, reloc.addend, by)?;
     Some(Place { sec, off })
 }
 
@@ -34,10 +42,12 @@ fn place_moved(object: &Object<'_>, reloc: Reloc, by: u64) -> Option<Place>
 fn address_taken(object: &Object<'_>, end: u64, reloc: Reloc) -> Option<Place>
     ensures { result ≡ address_taken_by object.now end reloc }
 {
-    match reloc.kind {
-        R_X86_64_32S => named_place(object, reloc),
-        R_X86_64_PC32 => place_moved(object, reloc, end.saturating_sub(reloc.offset)),
-        _ => None,
+    if reloc.kind == R_X86_64_32S {
+        named_place(object, reloc)
+    } else if reloc.kind == R_X86_64_PC32 {
+        place_moved(object, reloc, end.saturating_sub(reloc.offset))
+    } else {
+        None
     }
 }
 

@@ -9,4 +9,4 @@ mod Few
 mod Order
 mod Finding
 mod Nesting
-mod Written
+pub mod Written

@@ -73,7 +73,7 @@ fn hint_in(
     let mut pieces = Vec::new(alloc);
     for body in bodies {
         let (here, _) = relocs.split_at((body.len() / 12).min(2));
-        pieces.push(piece(b".discard.unwind_hints", body, here))?;
+        pieces.push(piece(b".discard.unwind_hints", *body, here))?;
     }
     let special = read(rt, alloc, &pieces)?.expect(rt, "hints");
     let hints = Hints::build(alloc, &special).expect(rt, "memory");

@@ -75,9 +75,9 @@ fn points_of_nested_alternatives(rt: HostRuntime) -> Result<(), Fail> {
     assert!(rt; are_told(&sites, &ROWS));
     let places = [0u64, 4, 5];
     let inside = [true, true, false];
-    for (off, is) in places.iter().zip(inside) {
+    for (off, is) in places.iter().zip(inside.iter()) {
         let place = Place { sec: 1, off: *off };
-        assert_eq!(rt; sites.is_in_site(place), is);
+        assert_eq!(rt; sites.is_in_site(place), *is);
     }
     Ok(())
 }

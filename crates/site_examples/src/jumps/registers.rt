@@ -57,7 +57,7 @@ fn where_tables_may_stand(rt: HostRuntime) -> Result<(), Fail> {
     Ok(())
 }
 
-/// The mov, so many nops or other bytes, and then the jump.
+/// The mov, what stands between, the jump, and then ret.
 fn code_with(alloc: Global, between: &[u8], jump: &[u8]) -> Result<Vec<u8>, Fail> {
     let mut code = Vec::from_slice(alloc, &TAKES)?;
     code.extend_from_slice(between)?;
@@ -66,7 +66,7 @@ fn code_with(alloc: Global, between: &[u8], jump: &[u8]) -> Result<Vec<u8>, Fail
     Ok(code)
 }
 
-// What stands between, and the jump; where the entry is, and whether the table is found.
+/// What stands between, the jump, and whether its table is found.
 const BETWEEN: [(&[u8], &[u8], bool); 9] = [
     (&[], &[0xFF, 0xE2], true),
     // A prefix and REX, and a jump through memory.
@@ -88,9 +88,10 @@ fn what_stands_between(rt: HostRuntime) -> Result<(), Fail> {
         let code = code_with(rt.alloc(), between, jump)?;
         let at = (TAKES.len() as u64).wrapping_add(between.len() as u64);
         let entry = at.wrapping_add(jump.len() as u64);
-        let fields: [Field; 2] = [(1, 4, 11, 2, 0), (2, 0, 1, 1, entry as i64 & 63)];
-        let (entries, none): (&[u64], &[u64]) = (&[entry], &[]);
-        let told = if found { entries } else { none };
+        let addend = i64::try_from(entry).unwrap_or(0);
+        let fields: [Field; 2] = [(1, 4, 11, 2, 0), (2, 0, 1, 1, addend)];
+        let entries = [entry];
+        let told: &[u64] = if found { &entries } else { &[] };
         expect_table(&rt, rt.alloc(), &code, b".rodata", &fields, at, told)?;
     }
     Ok(())

@@ -1,4 +1,4 @@
-use Rattle.std.proofs.Common.{◌≡◌, ◌++◌, ◌≤◌, ◌∷◌, [], ℕ, List, Some, length, get_or, ap, sym, subst, append_assoc, append-nil, arith, ◌∙◌}
+use Rattle.std.proofs.Common.{◌≡◌, ◌++◌, ◌+◌, ◌<◌, ◌≤◌, ◌∷◌, [], ℕ, List, Some, length, get_or, ap, sym, subst, append_assoc, append-nil, arith, ◌∙◌}
 use Rattle.std.specs.Prelude.{slice_get}
 use Rattle.std.proofs.lemmas.List.{take_all}
 use Rattle.operation_defs.specs.declared.op.Op.TheVariants.{Plain}
@@ -52,4 +52,12 @@ pub returns-clause-ascending : goal.returns-clause-ascending
 returns-clause-ascending c = ascends 0 (code_of c.args.text.now.text) _ c.table_jumps-table_jumps.ensures.whole c.table_jumps-table_jumps.ensures.some
 
 pub jump_at-requires : goal.jump_at-requires
-jump_at-requires c = ?
+jump_at-requires c =
+    let jumps : List PlacedInsn = table_jumps_of c.args.text.now.text in
+    let k : ℕ = c.loop-placed.placed-index in
+    let body = c.args.text.now.text in
+    let inside : k < length jumps = subst (λ (ps : List PlacedInsn). k < length ps) c.table_jumps-table_jumps.ensures.jumps c.loop-placed-test.true in
+    let low = filtered_low (λ (p : PlacedInsn). may_use_table p.insn.op) 0 (code_of body) (length body.bytes) c.table_jumps-table_jumps.ensures.whole k nothing inside in
+    let ends : (get_or c.table_jumps-table_jumps.result.now k nothing).off + (get_or c.table_jumps-table_jumps.result.now k nothing).insn.len ≤ length body.bytes =
+    subst (λ (ps : List PlacedInsn). (get_or ps k nothing).off + (get_or ps k nothing).insn.len ≤ length body.bytes) (sym c.table_jumps-table_jumps.ensures.jumps) low in
+    omega (arith, ends, c.size-_size.ensures)
