@@ -8,7 +8,7 @@ use Rattle.machine_defs.specs.declared.flow.EdgeKind.TheVariants.{Next, Sibling}
 use Rattle.machine_defs.specs.declared.flow.Role.{Role}
 use Rattle.machine_defs.specs.declared.flow.Role.TheVariants.{CallIn, CallEither, Return, JumpOut, JumpAny}
 use Rattle.state_defs.specs.Effect.{HasSignedNumber}
-use Rattle.machine_defs.specs.Program.{TextSection, below, entry_points, is_call, is_call_op, edge}
+use Rattle.machine_defs.specs.Program.{TextSection, below, entry_points, is_call, is_call_op, edge, Site, in_site}
 use Rattle.machine_defs.specs.MayReturn.{MayReturn}
 use Rattle.machine_defs.specs.MayReturn as may
 use Rattle.machine_defs.specs.IsProgram.{IsProgram}
@@ -18,7 +18,7 @@ use Rattle.unwinding_law.specs.Worked.{place_at, base}
 use Rattle.unwinding_law.proofs.Elements.{each, none, one, two}
 use Rattle.unwinding_law.proofs.Lists.{here, cases, nowhere, from_filter, from_below}
 use Rattle.unwinding_law.proofs.WorkedProgram.{never, is_jump, is_imm_or_switch, is_iret}
-use Rattle.option_law.specs.Worked.{point, worked}
+use Rattle.option_law.specs.Worked.{point, worked, site}
 
 -- what holds of all edges of a point
 pub along : (P : Edge → Type 0) (q : ℕ) → All P (worked.goes q) → (e : Edge) → Contains (worked.goes q) e → P e
