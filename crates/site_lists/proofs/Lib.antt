@@ -1,0 +1,5 @@
+pub mod Slots
+pub mod OneChoice
+pub mod Decoding
+pub mod Excluded
+pub mod Held

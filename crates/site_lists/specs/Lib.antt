@@ -1,0 +1,6 @@
+pub mod Listed
+pub mod Sections
+pub mod Faults
+pub mod Parts
+pub mod FaultText
+pub mod Laws
