@@ -3,6 +3,7 @@
 #![tactic(auto)]
 
 mod bodies;
+mod code_sites;
 mod fault;
 mod fault_text;
 mod laws;
@@ -11,6 +12,7 @@ mod reading;
 mod relocs;
 
 pub use bodies::{SiteSection, SiteSections, encode};
+pub use code_sites::sites;
 pub use fault::SitesFault;
 pub use laws::{bodies_are_held, lists_are_determined};
 pub use lists::SiteLists;
