@@ -6,6 +6,7 @@ use Rattle.std.specs.List.{range_with_len, sum_by}
 use Rattle.std.proofs.lemmas.Bool.{and_parts, eqb-true}
 use Rattle.std.proofs.lemmas.List.{length-map}
 use Rattle.std.proofs.lemmas.List.Elements.{All-append, All-cons, All-filter, All-head, All-map, All-nil, All-tail, All-weaker, filter_passes}
+use Rattle.std.proofs.lemmas.List.Sums.{sum_by-cons}
 use Rattle.std.proofs.lemmas.List.FromFn.{get_or-range_with_len, length-range_with_len}
 use Rattle.std.proofs.lemmas.Option.{slice_get-get_or}
 use Rattle.ot_base.specs.declared.place.Place.{Place}
@@ -93,6 +94,16 @@ body_within o i ok inside text =
     let is = slice.body (λ e. absurd (omega arith)) (λ e. absurd (omega arith)) in
     omega (arith, ap length is, length-take {A = ℕ})
 
+-- a text whose section relocations can name
+abbrev nameable : Coded → SectionText → Bool
+nameable o t = can_have_symbol o.elf t.sec
+
+filter_keeps : {X : Type 0} (p : X → Bool) (x : X) (xs : List X) → p x ≡ true → filter p (x ∷ xs) ≡ x ∷ filter p xs
+filter_keeps p x xs e = rw e refl
+
+filter_drops : {X : Type 0} (p : X → Bool) (x : X) (xs : List X) → p x ≡ false → filter p (x ∷ xs) ≡ filter p xs
+filter_drops p x xs e = rw e refl
+
 module _ (o : Coded) (ok : IsObject o.elf.bytes o.elf) where
   abbrev Good : PlacedCode → Type 0
   Good x = IsSiteIn o.elf x.place
@@ -111,16 +122,15 @@ module _ (o : Coded) (ok : IsObject o.elf.bytes o.elf) where
       All-map Good (λ (p : PlacedInsn). record { place = record { sec = t.sec; off = p.off }; insn = p.insn }) (code_of t.text)
       (All-weaker (λ (p : PlacedInsn). p.off ≤ length t.text.bytes) (λ (p : PlacedInsn). Good (record { place = record { sec = t.sec; off = p.off }; insn = p.insn })) (λ p below. insn_good t is can p below) (code_of t.text) (code_below t.text).below)
 
-  all_good : (texts : List SectionText) → All (IsTextOf o) texts → All Good (flat_map placed_code (filter (λ (t : SectionText). can_have_symbol o.elf t.sec) texts))
-  all_good [] all = All-nil Good
-  all_good (t ∷ texts) all = by_test (can_have_symbol o.elf t.sec) refl
-    where
-      rest : All Good (flat_map placed_code (filter (λ (u : SectionText). can_have_symbol o.elf u.sec) texts))
-      rest = all_good texts (All-tail (IsTextOf o) t texts all)
+  good_step : (t : SectionText) (texts : List SectionText) (b : Bool) → IsTextOf o t → nameable o t ≡ b
+      → All Good (flat_map placed_code (filter (nameable o) texts)) → All Good (flat_map placed_code (filter (nameable o) (t ∷ texts)))
+  good_step t texts true is can rest =
+      subst (λ (ts : List SectionText). All Good (flat_map placed_code ts)) (sym (filter_keeps (nameable o) t texts can)) (All-append Good (placed_code t) _ (text_good t is can) rest)
+  good_step t texts false is can rest = subst (λ (ts : List SectionText). All Good (flat_map placed_code ts)) (sym (filter_drops (nameable o) t texts can)) rest
 
-      by_test : (b : Bool) → can_have_symbol o.elf t.sec ≡ b → All Good (flat_map placed_code (cond b (t ∷ filter (λ (u : SectionText). can_have_symbol o.elf u.sec) texts) (filter (λ (u : SectionText). can_have_symbol o.elf u.sec) texts)))
-      by_test true can = All-append Good (placed_code t) _ (text_good t (All-head (IsTextOf o) t texts all) can) rest
-      by_test false can = rest
+  all_good : (texts : List SectionText) → All (IsTextOf o) texts → All Good (flat_map placed_code (filter (nameable o) texts))
+  all_good [] all = All-nil Good
+  all_good (t ∷ texts) all = good_step t texts (nameable o t) (All-head (IsTextOf o) t texts all) refl (all_good texts (All-tail (IsTextOf o) t texts all))
 
   places_good : (passes : PlacedCode → Bool) (code : List PlacedCode) → All Good code → All (IsSiteIn o.elf) (places_of passes code)
   places_good passes code all = All-map (IsSiteIn o.elf) (λ (x : PlacedCode). x.place) (filter passes code) (All-filter passes Good code all)
@@ -146,16 +156,23 @@ filter_shorter p (x ∷ xs) =
       | false ↦ omega arith
     ]
 
-code_few : (o : Coded) (texts : List SectionText) → length (flat_map placed_code (filter (λ (t : SectionText). can_have_symbol o.elf t.sec) texts)) ≤ sum_by (λ (t : SectionText). length t.text.bytes) texts
-code_few o [] = omega arith
-code_few o (t ∷ texts) =
-    let rest = code_few o texts in
+few_step : (o : Coded) (t : SectionText) (texts : List SectionText) (n : ℕ) (b : Bool) → nameable o t ≡ b
+    → length (flat_map placed_code (filter (nameable o) texts)) ≤ n → length (flat_map placed_code (filter (nameable o) (t ∷ texts))) ≤ length t.text.bytes + n
+few_step o t texts n true can rest =
     let own = (code_below t.text).few in
     let same = length-map (code_of t.text) (λ (p : PlacedInsn). let x : PlacedCode = record { place = record { sec = t.sec; off = p.off }; insn = p.insn } in x) in
-    elim (can_have_symbol o.elf t.sec) as (λ b. length (flat_map placed_code (cond b (t ∷ filter (λ (u : SectionText). can_have_symbol o.elf u.sec) texts) (filter (λ (u : SectionText). can_have_symbol o.elf u.sec) texts))) ≤ length t.text.bytes + sum_by (λ (u : SectionText). length u.text.bytes) texts) [
-      | true ↦ omega (arith, length-append (placed_code t) (flat_map placed_code (filter (λ (u : SectionText). can_have_symbol o.elf u.sec) texts)))
-      | false ↦ omega arith
-    ]
+    let both = length-append (placed_code t) (flat_map placed_code (filter (nameable o) texts)) in
+    let is : length (flat_map placed_code (filter (nameable o) (t ∷ texts))) ≡ length (placed_code t ++ flat_map placed_code (filter (nameable o) texts)) = ap (λ (ts : List SectionText). length (flat_map placed_code ts)) (filter_keeps (nameable o) t texts can) in
+    omega (arith, own, same, both, is, rest)
+few_step o t texts n false can rest =
+    let is : length (flat_map placed_code (filter (nameable o) (t ∷ texts))) ≡ length (flat_map placed_code (filter (nameable o) texts)) = ap (λ (ts : List SectionText). length (flat_map placed_code ts)) (filter_drops (nameable o) t texts can) in
+    omega (arith, is, rest)
+
+code_few : (o : Coded) (texts : List SectionText) → length (flat_map placed_code (filter (nameable o) texts)) ≤ sum_by (λ (t : SectionText). length t.text.bytes) texts
+code_few o [] = omega arith
+code_few o (t ∷ texts) =
+    subst (λ (n : ℕ). length (flat_map placed_code (filter (nameable o) (t ∷ texts))) ≤ n) (sym (sum_by-cons (λ (u : SectionText). length u.text.bytes) t texts))
+    (few_step o t texts (sum_by (λ (u : SectionText). length u.text.bytes) texts) (nameable o t) refl (code_few o texts))
 
 places_few : (passes : PlacedCode → Bool) (code : List PlacedCode) (n : ℕ) → length code ≤ n → length (places_of passes code) ≤ n
 places_few passes code n h =

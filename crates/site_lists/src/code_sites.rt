@@ -2,6 +2,7 @@
 
 ghost use Rattle.std.specs.Prelude.{◌≡◌, ◌==◌, ◌+◌, ◌++◌, ◌<◌, ◌≤◌, ◌^◌, [], ◌∷◌, length, IfOk, OnOk};
 ghost use Rattle.std.specs.List.{list_any};
+ghost use Rattle.elf_objects.specs.Object.{IsObject};
 ghost use Rattle.elf_objects.specs.declared.TheConstants.{SHT_SYMTAB_SHNDX as section_numbers};
 ghost use Rattle.site_lists.specs.Listed.{listed};
 ghost use Rattle.site_lists.specs.Sites.{AreFew, AreSitesIn, can_have_symbol as can_have_symbol_in, is_direct_call as is_direct_call_op, joined, listed_of, placed_code, sites_of};
@@ -17,7 +18,8 @@ use symbols_relocs::Target;
 
 /// Whether an object has a table of section numbers, for symbols of sections whose number is 0xFF00 or above.
 fn has_section_numbers(object: &Object<'_>) -> bool
-    ensures { result ≡ list_any (λ s. s.kind == section_numbers) object.now.sections }
+    ensures value { result ≡ list_any (λ s. s.kind == section_numbers) object.now.sections }
+    ensures object { IsObject object.now.bytes object.now }
 {
     for i in 0..object.sections() {
         if object.section(i).kind == SHT_SYMTAB_SHNDX {
