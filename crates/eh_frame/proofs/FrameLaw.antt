@@ -37,7 +37,7 @@ use Rattle.eh_frame.proofs.EntryLemmas.{entry_length}
 use Rattle.eh_frame.specs.RuleAt.{rule_in, HasRule}
 use Rattle.eh_frame.specs.Laws.{HoldsFrames, RuleIsOfLastRow, RowsAreReadBack, rules_of_rows}
 use Rattle.eh_frame.proofs.Listing.{listed_same}
-use Rattle.eh_frame.proofs.RowSpelling.{AreTold, IsTold, padding, rows_short, section_spelled, section_aligned}
+use Rattle.eh_frame.proofs.RowSpelling.{AreTold, IsTold, padding, section_spelled, section_aligned, spelled_bound}
 
 -- The rows of a section ascend by their offsets.
 
@@ -310,26 +310,7 @@ rows_told : (object : Elf) (rows : List PlacedRow) → All (IsFrameRowOf object)
 rows_told object rows each = All-weaker (IsFrameRowOf object) (λ (placed : PlacedRow). IsTold (rule_of_row placed.row) × (placed.place.off < 2 ^ 32)) (λ placed h. (row_told placed.row h.row, let a = h.inside in let b = h.short in omega arith)) rows each
 
 spelled_short : (size : ℕ) (rows : List PlacedRow) → length rows ≤ 67108865 → 17 + length (spelled_rows size rows) < 2 ^ 32
-unfolding spelled_rows rows_below
-spelled_short size rows few =
-    let kept : length (rows_below size rows) ≤ length rows = filter_short rows in
-    let a = rows_short (rows_below size rows) 0 in
-    let b = length-append (start_bytes rows) (rows_bytes 0 (rows_below size rows)) in
-    let c = start_short rows in
-    let d = length-append (start_bytes rows ++ rows_bytes 0 (rows_below size rows)) (replicate (7 - length (start_bytes rows ++ rows_bytes 0 (rows_below size rows)) % 8) 0) in
-    let e = length-replicate (7 - length (start_bytes rows ++ rows_bytes 0 (rows_below size rows)) % 8) 0 in
-    omega arith
-  where
-    start_short : (rows : List PlacedRow) → length (start_bytes rows) ≤ 2
-    start_short [] = omega arith
-    start_short (placed ∷ rows) = go (placed.place.off == 0)
-      where
-        go : (b : Bool) → length (cond b [] (0x07 ∷ 0x10 ∷ [])) ≤ 2
-        go true = omega arith
-        go false = omega arith
-
-    filter_short : (rows : List PlacedRow) → length (filter (λ placed. ltb placed.place.off size) rows) ≤ length rows
-    filter_short rows = let e = length-filter (λ (placed : PlacedRow). ltb placed.place.off size) rows in let f = count_by-le-length (λ (placed : PlacedRow). ltb placed.place.off size) rows in omega arith
+spelled_short size rows few = let bound = spelled_bound size rows in omega arith
 
 -- the section with a number, as it is found
 found_at : (sections : List SectionEntry) (i : ℕ) (section : SectionEntry) → slice_get sections i ≡ Some section → get_or sections i no_section ≡ section

@@ -10,3 +10,4 @@ pub mod RowRules
 pub mod EntryReads
 pub mod RowSpelling
 pub mod FrameLaw
+pub mod EncodeSteps

@@ -4,6 +4,7 @@ use Rattle.std.specs.Prelude.{◌==◌, ◌≤ℤ◌, neg_ℤ, unsigned_abs, fil
 use Rattle.std.proofs.lemmas.Bool.{ltb-true, ltb-false, ne_eqb, cases_Bool, false≢true}
 use Rattle.std.proofs.lemmas.List.Elements.{All-head, All-tail}
 use Rattle.std.proofs.lemmas.List.{length-replicate}
+use Rattle.std.proofs.lemmas.List.Sums.{length-filter, count_by-le-length}
 use Rattle.std.proofs.lemmas.Int.{ints}
 use Rattle.std.proofs.Math.Dec.{ltb}
 use Rattle.byteorder.specs.Endian.{little_bytes}
@@ -171,4 +172,25 @@ unfolding spelled_rows rows_below
 section_aligned size rows =
     let n : ℕ = length (start_bytes rows ++ rows_bytes 0 (rows_below size rows)) in
     let e : length (spelled_rows size rows) ≡ n + (7 - n % 8) = length-append (start_bytes rows ++ rows_bytes 0 (rows_below size rows)) (replicate (7 - n % 8) 0) ∙ ap (λ (k : ℕ). n + k) (length-replicate (7 - n % 8) 0) in
+    omega arith
+
+start_short : (rows : List PlacedRow) → length (start_bytes rows) ≤ 2
+start_short [] = omega arith
+start_short (placed ∷ rows) = go (placed.place.off == 0)
+  where
+    go : (b : Bool) → length (cond b [] (0x07 ∷ 0x10 ∷ [])) ≤ 2
+    go true = omega arith
+    go false = omega arith
+
+-- how many bytes the rows of a section take at most
+pub spelled_bound : (size : ℕ) (rows : List PlacedRow) → length (spelled_rows size rows) ≤ 9 + 16 * length rows
+unfolding spelled_rows rows_below
+spelled_bound size rows =
+    let kept : length (filter (λ placed. ltb placed.place.off size) rows) ≤ length rows =
+      (let e = length-filter (λ (placed : PlacedRow). ltb placed.place.off size) rows in let f = count_by-le-length (λ (placed : PlacedRow). ltb placed.place.off size) rows in omega arith) in
+    let a = rows_short (rows_below size rows) 0 in
+    let b = length-append (start_bytes rows) (rows_bytes 0 (rows_below size rows)) in
+    let c = start_short rows in
+    let d = length-append (start_bytes rows ++ rows_bytes 0 (rows_below size rows)) (replicate (7 - length (start_bytes rows ++ rows_bytes 0 (rows_below size rows)) % 8) 0) in
+    let e = length-replicate (7 - length (start_bytes rows ++ rows_bytes 0 (rows_below size rows)) % 8) 0 in
     omega arith
