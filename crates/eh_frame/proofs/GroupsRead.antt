@@ -1,6 +1,7 @@
 -- A number in groups of seven bits is read back, and what is read is one.
-use Rattle.std.proofs.Common.{◌≡◌, ℕ, zero, suc, ◌+◌, ◌-◌, ◌*◌, ◌<◌, ◌≤◌, ◌^◌, ◌⊎◌, Bool, true, false, cond, List, [], ◌∷◌, ◌++◌, length, take, get_or, min, Option, Some, None, refl, sym, ◌∙◌, ap, subst, inl, inr, arith, append_assoc}
+use Rattle.std.proofs.Common.{◌≡◌, ℕ, zero, suc, ◌+◌, ◌-◌, ◌*◌, ◌<◌, ◌≤◌, ◌^◌, ◌⊎◌, Bool, true, false, cond, List, [], ◌∷◌, ◌++◌, length, take, drop, get_or, Option, Some, None, refl, sym, ◌∙◌, ap, subst, inl, inr, arith, append_assoc}
 use Rattle.std.proofs.lemmas.Bool.{lt-ltb, le-ltb, ltb-true, ltb-false, cases_Bool}
+use Rattle.std.proofs.lemmas.List.{take_rest, length-drop}
 use Rattle.std.proofs.lemmas.Option.{none-some}
 use Rattle.std.proofs.Math.Dec.{ltb}
 use Rattle.eh_frame.specs.declared.groups.Number.{Number}
@@ -223,11 +224,17 @@ few_bits limit (suc k) (byte ∷ bytes) x are l e = go (most-some k) (λ high f.
     go h again true t f = subst (λ (y : Number). y.bits < 128 * most 1 k) (some_alike f) (let one = last_bits limit byte (ltb-true byte 128 t) in omega arith)
     go h again false t f = further again (read_groups limit bytes) refl (ltb-false byte 128 t) f
 
--- four bytes have numbers of 28 bits, and five of 35
+-- four bytes have numbers of 28 bits
 pub four_groups : (limit : ℕ) (bytes : List ℕ) (x : Number) → AreBytes bytes → length bytes ≤ 4 → read_groups limit bytes ≡ Some x → x.bits < 2 ^ 28
 unfolding most
 four_groups limit bytes x are l e = few_bits limit 4 bytes x are l e
 
-pub five_groups : (limit : ℕ) (bytes : List ℕ) (x : Number) → AreBytes bytes → length bytes ≤ 5 → read_groups limit bytes ≡ Some x → x.bits < 2 ^ 35
-unfolding most
-five_groups limit bytes x are l e = few_bits limit 5 bytes x are l e
+drop_first : (bytes : List ℕ) → AreBytes bytes → AreBytes (drop 1 bytes)
+drop_first [] are k = omega arith
+drop_first (byte ∷ bytes) are k = are (suc k)
+
+-- of at most five bytes, those behind the first
+pub further_groups : (limit : ℕ) (bytes : List ℕ) (x : Number) → AreBytes bytes → length bytes ≤ 5 → Some x ≡ read_groups limit (take (length bytes - 1) (drop 1 bytes)) → x.bits < 2 ^ 28
+further_groups limit bytes x are few e =
+    let l = length-drop 1 bytes in
+    four_groups limit (drop 1 bytes) x (drop_first bytes are) (omega arith) (sym (e ∙ ap (read_groups limit) (take_rest bytes 1)))

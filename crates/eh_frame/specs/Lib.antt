@@ -13,3 +13,4 @@ pub mod RowFrames
 pub mod ShortRules
 pub mod RuleAt
 pub mod Laws
+pub mod WorkedRows

@@ -34,6 +34,7 @@ fn read_groups(bytes: &[u8], limit: u8) -> Option<Number>
     requires few { length bytes.now ≤ 5 }
     requires limit { limit ≤ 128 }
     ensures value { result ≡ read_groups limit bytes.now }
+    ensures bound { IfSome result (λ n. n.bits < 2 ^ 35) }
     ensures len { IfSome result (λ n. n.len ≤ length bytes.now) }
 {
     match bytes {
@@ -51,7 +52,8 @@ fn one_more(byte: u8, limit: u8, high: Number) -> Option<Number>
     requires byte { 128 ≤ byte }
     requires bits { high.bits < 2 ^ 28 }
     requires len { high.len ≤ 5 }
-    ensures { result ≡ one_more_group limit byte high }
+    ensures value { result ≡ one_more_group limit byte high }
+    ensures bound { IfSome result (λ n. n.bits < 2 ^ 35) }
 {
     let low = if high.turned { 255 - byte } else { byte - 128 };
     let bits = u64::from(low) + 128 * high.bits;
@@ -68,7 +70,8 @@ fn one_more(byte: u8, limit: u8, high: Number) -> Option<Number>
 /// The number of one byte.
 fn last(byte: u8, limit: u8) -> Number
     requires { byte < 128 }
-    ensures { result ≡ last_group limit byte }
+    ensures value { result ≡ last_group limit byte }
+    ensures bound { result.bits < 2 ^ 35 }
 {
     if byte < limit {
         Number {

@@ -2,7 +2,7 @@
 
 ghost use Rattle.std.specs.Prelude.{◌≡◌, ◌≤◌, ◌<◌, ◌^◌, ◌⊎◌, ◌+◌, length};
 ghost use Rattle.eh_frame.specs.Spelling.{offset};
-ghost use Rattle.eh_frame.specs.ReadInstruction.{read_advance, read_def_cfa, read_def_cfa_sf, read_instruction, read_pair, read_saved_rbp, register_of};
+ghost use Rattle.eh_frame.specs.ReadInstruction.{read_advance, read_def_cfa, read_def_cfa_sf, read_instruction, read_operands, read_pair, read_saved_rbp, register_of};
 
 use crate::groups::read_number;
 use crate::rule::CfaReg;
@@ -39,17 +39,24 @@ pub(crate) struct Read {
 pub(crate) fn read_instruction(bytes: &[u8]) -> Option<Read>
     ensures { result ≡ read_instruction bytes.now }
 {
-    let [code, rest @ ..] = bytes else {
-        return None;
-    };
-    match *code {
+    match bytes {
+        [] => None,
+        [code, rest @ ..] => read_operands(*code, rest),
+    }
+}
+
+/// The same, behind its first byte.
+fn read_operands(code: u8, rest: &[u8]) -> Option<Read>
+    ensures { result ≡ read_operands code rest.now }
+{
+    match code {
         0x00 => Some(Read {
             instruction: Instruction::Nop,
             len: 1,
         }),
         0x41..=0x7F => Some(Read {
             instruction: Instruction::AdvanceLoc {
-                delta: u32::from(*code - 0x40),
+                delta: u32::from(code - 0x40),
             },
             len: 1,
         }),

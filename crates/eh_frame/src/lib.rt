@@ -15,6 +15,7 @@ mod rule;
 mod rule_text;
 mod rules;
 mod state;
+mod worked;
 mod writing;
 
 pub use fault::EhFault;
@@ -22,4 +23,5 @@ pub use laws::{rows_are_read_back, rule_is_of_last_row};
 pub use reading::decode;
 pub use rule::{CfaReg, CfaRule, PlacedRule};
 pub use rule_text::RuleLine;
+pub use worked::worked_entries;
 pub use writing::{EhSections, encode};

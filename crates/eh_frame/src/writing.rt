@@ -6,7 +6,7 @@ ghost use Rattle.elf_objects.specs.Contents.{section_symbol_of};
 ghost use Rattle.orc_bytes.specs.RelocBytes.{bytes_of_reloc, IsReloc};
 ghost use Rattle.table_defs.specs.Order.{ComesBefore};
 ghost use Rattle.eh_frame.specs.Records.{entry_bytes};
-ghost use Rattle.eh_frame.specs.RowFrames.{address_slot, frame_rela, frame_section, spelled_rows, CanHaveFrames, IsFrameRow};
+ghost use Rattle.eh_frame.specs.RowFrames.{address_slot, frame_rela, frame_section, padded, spelled_rows, start_bytes, CanHaveFrames, IsFrameRow};
 
 use crate::entry::{CIE, TERMINATOR};
 use crate::rows::{push_move, push_rule, rule_of_row};
@@ -101,18 +101,39 @@ fn reloc_bytes(reloc: &Reloc) -> [u8; 24]
     bytes
 }
 
+/// Appends what holds at the beginning of a section that has these rows: where the first isn't there, nothing is known.
+fn push_start(spelled: &mut Vec<u8>, rows: &[PlacedRow]) -> Result<(), NoMemory>
+    ensures { OnOk result (spelled.new.items ≡ spelled.old.items ++ start_bytes rows.now) }
+{
+    match rows {
+        [] => Ok(()),
+        [first, ..] => {
+            if first.place.off == 0 {
+                return Ok(());
+            }
+            Ok(spelled.extend_from_slice(&[0x07, 0x10])?)
+        }
+    }
+}
+
+/// Appends instructions that do nothing, up to a record of a multiple of 8 bytes.
+fn pad(spelled: &mut Vec<u8>) -> Result<(), NoMemory>
+    ensures { OnOk result (spelled.new.items ≡ padded spelled.old.items) }
+{
+    let zeros = [0; 7];
+    let count = 7 - spelled.len() % 8;
+    Ok(spelled.extend_from_slice(&zeros[..count])?)
+}
+
 /// The instructions for the rows of a section of this size.
+#[tactic(auto, unfolding(crate::specs::RowFrames::spelled_rows))]
 fn spell_rows(alloc: Global, rows: &[PlacedRow], size: u32) -> Result<Vec<u8>, NoMemory>
     requires each { All (λ placed. IsFrameRow placed.row) rows.now }
     requires ascend { AllPairs (λ one other. one.place.off < other.place.off) rows.now }
     ensures { IfOk result (λ spelled. spelled.items ≡ spelled_rows size rows.now) }
 {
     let mut spelled = Vec::new(alloc);
-    if let [first, ..] = rows {
-        if first.place.off != 0 {
-            spelled.extend_from_slice(&[0x07, 0x10])?;
-        }
-    }
+    push_start(&mut spelled, rows)?;
     let mut location = 0;
     for placed in rows {
         let off = placed.place.off;
@@ -122,9 +143,7 @@ fn spell_rows(alloc: Global, rows: &[PlacedRow], size: u32) -> Result<Vec<u8>, N
             location = off;
         }
     }
-    for _ in 0..7 - spelled.len() % 8 {
-        spelled.push(0)?;
-    }
+    pad(&mut spelled)?;
     Ok(spelled)
 }
 
