@@ -53,10 +53,7 @@ module _ (rows : List AddressedRow) (is : IsMergedTable rows) where
   second = ap (drop 8) begins
 
   third : drop 16 (table_bytes rows) ≡ address_bytes rows ++ row_section rows
-  third =
-      sym (drop-drop 8 8 (table_bytes rows)) ∙ ap (drop 8) second
-      ∙ ap (λ (n : ℕ). drop n (little_bytes 8 (length rows) ++ (address_bytes rows ++ row_section rows))) (let e = length_eight (length rows) in omega (arith, e))
-      ∙ drop-append-add (little_bytes 8 (length rows)) (address_bytes rows ++ row_section rows) 0
+  third = sym (drop-drop 8 8 (table_bytes rows)) ∙ ap (drop 8) second
 
   long_addresses : length (address_bytes rows) ≡ 8 * length rows
   long_addresses = length_each (λ (row : AddressedRow). little_bytes 8 row.address) 8 rows (λ row. length_eight row.address)
