@@ -28,33 +28,32 @@ wrong_magic_first bytes at is = ap (λ o. option_or o (option_or (too_short byte
 pub short_first : (bytes : List ℕ) → wrong_magic bytes ≡ None → length bytes < 16 → head_fault bytes ≡ Some (length bytes)
 short_first bytes none lt = magic_first bytes none ∙ ap (λ b. option_or (cond b (Some (length bytes)) None) (wrong_count bytes)) (lt-ltb (length bytes) 16 lt)
 
-counts : (a b : Bool) → a ≡ true → b ≡ true → cond (a && b) None (Some 8) ≡ None
-counts a b h k = ap (λ t. cond (t && b) None (Some 8)) h ∙ ap (λ t. cond t None (Some 8)) k
+-- the number of rows is tested
+abbrev pub counts_test : List ℕ → ℕ → Bool
+counts_test bytes count = leb count MOST_ROWS && eqb (length bytes) (row_offset count count)
 
-eqb_same : (n : ℕ) → eqb n n ≡ true
-eqb_same n = grind (arith, nat_tests)
-
-pub head_of : (bytes : List ℕ) (count : ℕ) → wrong_magic bytes ≡ None → 16 ≤ length bytes → count ≡ row_count bytes → count ≤ MOST_ROWS → length bytes ≡ 16 + 8 * count + 6 * count → HasHead bytes count
-head_of bytes count none long is few whole = record {
-  fits = magic_first bytes none ∙ ap (λ o. option_or o (wrong_count bytes)) (long_enough bytes long)
-      ∙ counts (leb (row_count bytes) MOST_ROWS) (eqb (length bytes) (row_offset (row_count bytes) (row_count bytes)))
-      (ap (λ (n : ℕ). leb n MOST_ROWS) (sym is) ∙ le-leb count MOST_ROWS few)
-      (ap (λ (n : ℕ). eqb (length bytes) (16 + 8 * n + 6 * n)) (sym is) ∙ ap (λ (n : ℕ). eqb n (16 + 8 * count + 6 * count)) whole ∙ eqb_same (16 + 8 * count + 6 * count));
-  count_is = sym is;
-  few = few;
-  long = whole;
-}
-
-pub count_first : (bytes : List ℕ) (count : ℕ) → wrong_magic bytes ≡ None → 16 ≤ length bytes → count ≡ row_count bytes → (count ≤ MOST_ROWS → length bytes ≡ 16 + 8 * count + 6 * count → ⊥) → head_fault bytes ≡ Some 8
-count_first bytes count none long is wrong =
+count_tested : (bytes : List ℕ) (count : ℕ) (b : Bool) → wrong_magic bytes ≡ None → 16 ≤ length bytes → count ≡ row_count bytes → counts_test bytes count ≡ b → head_fault bytes ≡ cond b None (Some 8)
+count_tested bytes count b none long is test =
     magic_first bytes none ∙ ap (λ o. option_or o (wrong_count bytes)) (long_enough bytes long)
-    ∙ ap (λ (n : ℕ). cond (leb n MOST_ROWS && eqb (length bytes) (16 + 8 * n + 6 * n)) None (Some 8)) (sym is)
-    ∙ go (leb count MOST_ROWS) (eqb (length bytes) (16 + 8 * count + 6 * count)) refl refl
-  where
-    go : (a b : Bool) → leb count MOST_ROWS ≡ a → eqb (length bytes) (16 + 8 * count + 6 * count) ≡ b → cond (leb count MOST_ROWS && eqb (length bytes) (16 + 8 * count + 6 * count)) None (Some 8) ≡ Some 8
-    go true true h k = absurd (wrong (leb-true _ _ h) (eqb-true _ _ k))
-    go true false h k = ap (λ t. cond (t && eqb (length bytes) (16 + 8 * count + 6 * count)) None (Some 8)) h ∙ ap (λ t. cond t None (Some 8)) k
-    go false b h k = ap (λ t. cond (t && eqb (length bytes) (16 + 8 * count + 6 * count)) None (Some 8)) h
+    ∙ ap (λ (n : ℕ). cond (counts_test bytes n) None (Some 8)) (sym is)
+    ∙ ap (λ t. cond t None (Some 8)) test
+
+and_parts : (a b : Bool) → (a && b) ≡ true → (a ≡ true) × (b ≡ true)
+and_parts true b h = (refl, h)
+and_parts false b h = absurd (let e : false ≡ true = h in cc)
+
+pub head_of : (bytes : List ℕ) (count : ℕ) → wrong_magic bytes ≡ None → 16 ≤ length bytes → count ≡ row_count bytes → counts_test bytes count ≡ true → HasHead bytes count
+head_of bytes count none long is test =
+    let parts = and_parts (leb count MOST_ROWS) (eqb (length bytes) (row_offset count count)) test in
+    record {
+      fits = count_tested bytes count true none long is test;
+      count_is = sym is;
+      few = leb-true count MOST_ROWS parts.0;
+      long = eqb-true (length bytes) (row_offset count count) parts.1;
+    }
+
+pub count_first : (bytes : List ℕ) (count : ℕ) → wrong_magic bytes ≡ None → 16 ≤ length bytes → count ≡ row_count bytes → counts_test bytes count ≡ false → head_fault bytes ≡ Some 8
+count_first bytes count none long is test = count_tested bytes count false none long is test
 
 -- eight bytes in which none is wrong
 take_same : (xs ys : List ℕ) → length ys ≤ length xs → ((k : ℕ) → k < length ys → get_or xs k 0 ≡ get_or ys k 0) → take (length ys) xs ≡ ys

@@ -1,9 +1,9 @@
 //! What the bytes of a table hold.
 
-ghost use Rattle.std.specs.Prelude.{◌≡◌, ◌⊎◌, ◌+◌, ◌*◌, ◌≤◌, ℕ, None, Some, IfErr, IfOk, OnOk, length};
+ghost use Rattle.std.specs.Prelude.{◌≡◌, ◌⊎◌, ◌+◌, ◌*◌, ◌≤◌, ℕ, None, Some, IfErr, IfOk, OnOk, length, nat_le, ◌==◌, ◌&&◌};
 ghost use Rattle.orc_walk.specs.Rows.{rows_of};
 ghost use Rattle.elf_objects.specs.Number.{xword};
-ghost use Rattle.orc_merge.specs.TableFaults.{address_of, first_bad, head_fault, row_count, wrong_address, wrong_magic, wrong_row};
+ghost use Rattle.orc_merge.specs.TableFaults.{address_of, head_fault, row_offset, wrong_address, wrong_magic, wrong_row};
 ghost use Rattle.orc_merge.specs.TableRows.{HasHead, rows_read};
 ghost use Rattle.orc_merge.specs.declared.faults.TableFault.TheVariants.{Bad, NoMemory as no_memory};
 
@@ -41,6 +41,13 @@ fn wrong_magic(bytes: &[u8]) -> Option<usize>
     None
 }
 
+/// Whether there may be so many rows, and a table of them has this length.
+fn fits_length(count: u64, len: u64) -> bool
+    ensures { result ≡ (nat_le count MOST_ROWS && len == row_offset count count) }
+{
+    count <= MOST_ROWS && len == 16 + 8 * count + 6 * count
+}
+
 /// The number of rows, where it gives the length; or what is wrong in front of the addresses.
 pub(crate) fn read_count(bytes: &[u8]) -> Result<usize, TableFault>
     ensures head { IfOk result (HasHead bytes.now) }
@@ -55,7 +62,7 @@ pub(crate) fn read_count(bytes: &[u8]) -> Result<usize, TableFault>
         });
     }
     let count = LittleEndian::read_u64(&bytes[8..]);
-    if count <= MOST_ROWS && bytes.len() as u64 == 16 + 8 * count + 6 * count {
+    if fits_length(count, bytes.len() as u64) {
         Ok(count as usize)
     } else {
         Err(TableFault::Bad { off: 8 })

@@ -2,18 +2,17 @@ use Rattle.std.proofs.Common.{◌≡◌, ◌≤◌, sym, ap, ◌∙◌, refl, le
 use Rattle.byteorder.specs.Endian.{little_number}
 use Rattle.elf_objects.specs.Number.{xword}
 use Rattle.orc_bytes.proofs.Decoding.{tail_is}
-use Rattle.orc_merge.specs.TableFaults.{row_count, wrong_magic}
 use Rattle.orc_merge.proofs.TableSteps.{head_of, count_first}
 use Rattle.orc_merge.proofs.table_reading.read_count.Goals as goal
 
-pub returns-then-bytes-count-clause-head : goal.returns-then-bytes-count-clause-head
+pub returns-then-fits_length-clause-head : goal.returns-then-fits_length-clause-head
 unfolding xword
-returns-then-bytes-count-clause-head c =
+returns-then-fits_length-clause-head c =
     let is = c.read_u64-count.ensures ∙ ap (little_number 8) (tail_is 8 c.args.bytes.now) in
-    head_of c.args.bytes.now c.read_u64-count.result (sym c.wrong_magic.ensures ∙ c.in_default.is) (omega arith) is (omega arith) (omega arith)
+    head_of c.args.bytes.now c.read_u64-count.result (sym c.wrong_magic.ensures ∙ c.in_default.is) (omega arith) is (sym c.fits_length.ensures ∙ c.if-fits_length.true)
 
-pub returns-else-count-le-MOST_ROWS-clause-fault : goal.returns-else-count-le-MOST_ROWS-clause-fault
+pub returns-else-fits_length-clause-fault : goal.returns-else-fits_length-clause-fault
 unfolding xword
-returns-else-count-le-MOST_ROWS-clause-fault c =
+returns-else-fits_length-clause-fault c =
     let is = c.read_u64-count.ensures ∙ ap (little_number 8) (tail_is 8 c.args.bytes.now) in
-    (8, count_first c.args.bytes.now c.read_u64-count.result (sym c.wrong_magic.ensures ∙ c.in_default.is) (omega arith) is (λ few whole. ?), refl)
+    (8, count_first c.args.bytes.now c.read_u64-count.result (sym c.wrong_magic.ensures ∙ c.in_default.is) (omega arith) is (sym c.fits_length.ensures ∙ c.if-fits_length.false), refl)
