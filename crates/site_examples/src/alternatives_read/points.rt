@@ -56,20 +56,20 @@ const FIRST: Entry = Entry {
 
 const ENTRIES: [Entry; 5] = [LAST, MIDDLE, NOTHING, MIDDLE_TOO, FIRST];
 
-const SITES: [Site; 3] = [
-    Site {
+const SITES: [AlternativesSite; 3] = [
+    AlternativesSite {
         start: Place { sec: 1, off: 0 },
         len: 1,
         first: 0,
         count: 1,
     },
-    Site {
+    AlternativesSite {
         start: Place { sec: 1, off: 4 },
         len: 4,
         first: 1,
         count: 2,
     },
-    Site {
+    AlternativesSite {
         start: Place { sec: 1, off: 8 },
         len: 2,
         first: 3,
