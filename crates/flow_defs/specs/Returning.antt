@@ -1,7 +1,7 @@
 -- From which points of a program a return may come, by levels.
 use Rattle.std.specs.Prelude.{ℕ, zero, suc, ◌&&◌, ◌||◌, not, Bool, true, false}
 use Rattle.std.specs.List.{list_any}
-use Rattle.machine_defs.specs.Step.{may_leave}
+use Rattle.machine_defs.specs.Step.{may_go_back}
 use Rattle.machine_defs.specs.declared.flow.Edge.{Edge}
 use Rattle.machine_defs.specs.declared.flow.EdgeKind.{EdgeKind}
 use Rattle.machine_defs.specs.declared.flow.EdgeKind.TheVariants.{Next, Taken, Fixup, Table, Sibling}
@@ -32,9 +32,9 @@ leads_to_return p known q e =
     || (not (p.dead_end q) && call_returns p known (p.role q))))
 
 abbrev pub returns_by : Program → (ℕ → Bool) → ℕ → Bool
-returns_by p known q = may_leave p (p.role q) || list_any (leads_to_return p known q) (p.goes q)
+returns_by p known q = may_go_back p (p.role q) || list_any (leads_to_return p known q) (p.goes q)
 
--- within this many levels: at first none; then each point that may leave its function, or leads to one of the level before
+-- within this many levels: at first none; then each point that may go back to the caller, or leads to one of the level before
 abbrev pub returns_within : Program → ℕ → ℕ → Bool
 returns_within p zero q = false
 returns_within p (suc n) q = returns_by p (returns_within p n) q

@@ -4,5 +4,6 @@ pub mod WorkedBytes
 pub mod WorkedSteps
 pub mod WorkedWrecks
 pub mod WorkedHints
+pub mod WorkedWays
 pub mod WorkedWarnings
 pub mod WorkedEffects

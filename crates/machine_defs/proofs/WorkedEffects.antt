@@ -1,5 +1,5 @@
 -- What each operation does, from one core.
-use Rattle.std.proofs.Common.{◌≡◌, ℕ, [], ◌++◌, refl, lit≤}
+use Rattle.std.proofs.Common.{◌≡◌, ℕ, ◌≤◌, [], ◌++◌, refl, arith, lit≤}
 use Rattle.state_defs.specs.Region.{word_at, Stores, WritesOnly}
 use Rattle.state_defs.specs.Frame.{protected_addresses}
 use Rattle.machine_defs.specs.WorkedSteps.{word}
@@ -35,6 +35,10 @@ effects = record {
   and_sp = refl;
   lea_sp_bp = refl;
   lea_bp_sp = refl;
+  lea_bp_room = refl;
+  sub_sp = (lit≤ tt, refl);
+  sp_reg = (lit≤ tt, refl);
+  sub_sp_rises = λ h. let e : 0x8010 ≤ 0x8008 = h.0 in absurd (omega arith);
   store_bp = (record { only = third; word = refl }, refl);
   store_bp_below = (record { only = lowest 16 128; word = refl }, (stores_rbp, refl));
   load_bp = (refl, refl);
@@ -42,6 +46,7 @@ effects = record {
   leave = (refl, refl);
   sp_other = (stores, refl);
   bp_other = (stores, refl);
+  hop = (stays four_words 0x8000 8, refl);
   jmp = refl;
   jcc = refl;
   jmp_ind = refl;

@@ -82,6 +82,8 @@ comes_back = returns at_return (in_f 1) (in_f 1) (record {
   call = 0;
   called = refl;
   passed = refl;
+  unlisted = refl;
+  still_ended = λ e. absurd (let k : ⊥ = cc in k);
   comes_back = (0, lit< tt, refl);
   memory = refl;
   core = refl;
@@ -96,7 +98,7 @@ goes_to_fixup : Step stepping base (At (in_f 2)) (At (in_f 4))
 goes_to_fixup = faults (in_f 2) (in_f 4) (in_f 4) (record { along = (1, lit< tt, refl); stores = stores_nothing stack _; core = refl; level = record { ended = refl; mark = refl } }) refl
 
 jumps : Step stepping base (At (in_f 4)) (At (in_f 5))
-jumps = tail_calls (in_f 4) (in_f 5) (in_f 5) (record { target = sibling 5 (0, lit< tt, refl); core = refl; level = record { ended = refl; mark = refl } }) refl
+jumps = tail_calls (in_f 4) (in_f 5) (in_f 5) (record { target = sibling 5 (0, lit< tt, refl); followed = refl; core = refl; level = record { ended = refl; mark = refl } }) refl
 
 -- one run takes all of them, one behind the other
 next : (one other : Standing) → Run stepping base (At one) → Step stepping base (At one) (At other) → IsInStack other.core → Run stepping base (At other)

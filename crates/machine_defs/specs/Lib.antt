@@ -1,7 +1,8 @@
 pub mod Program
 pub mod MayReturn
-pub mod IsProgram
 pub mod Kept
+pub mod Ways
+pub mod IsProgram
 pub mod Broken
 pub mod Rows
 pub mod Machine
@@ -14,6 +15,7 @@ pub mod WorkedSteps
 pub mod WorkedEffects
 pub mod WorkedWrecks
 pub mod WorkedHints
+pub mod WorkedWays
 pub mod WorkedWarnings
 pub mod Allowances
 pub mod Access

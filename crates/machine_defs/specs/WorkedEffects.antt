@@ -1,6 +1,6 @@
 -- What each operation does, from one core: rsp is at the second of four words, rbp at the third, and the caller's rbp isn't saved.
 use Rattle.std.specs.Prelude.{ℕ, true, false, List, [], ◌∷◌, ◌++◌, None, pos, negsuc}
-use Rattle.operation_defs.specs.declared.op.Op.TheVariants.{Plain, Nop, Endbr, Push, PushBp, Pop, PopBp, Popf, AddSp, AndSp, LeaSpBp, LeaBpSp, StoreBp, LoadBp, Leave, SpOther, BpOther, Call, CallInd, Jmp, Jcc, JmpInd, Ret, RetImm, Iret, IretNext, Switch, Ud2, Int3, Stac, Clac}
+use Rattle.operation_defs.specs.declared.op.Op.TheVariants.{Plain, Nop, Endbr, Push, PushBp, Pop, PopBp, Popf, AddSp, AndSp, LeaSpBp, LeaBpSp, LeaBpRoom, SubSp, SpReg, StoreBp, LoadBp, Leave, SpOther, BpOther, Call, Hop, CallInd, Jmp, Jcc, JmpInd, Ret, RetImm, Iret, IretNext, Switch, Ud2, Int3, Stac, Clac}
 use Rattle.state_defs.specs.Region.{Region}
 use Rattle.state_defs.specs.Frame.{Slot, Unsaved, SavedAt, Frame}
 use Rattle.state_defs.specs.Effect.{Core, Effect}
@@ -45,6 +45,11 @@ pub record HasEffects : Type 0 where
   pub and_sp : Effect (AndSp (negsuc 15)) before (record before { rsp = 0x8000 })
   pub lea_sp_bp : Effect (LeaSpBp (pos 8)) before (record before { rsp = 0x8018 })
   pub lea_bp_sp : Effect (LeaBpSp (pos 16)) before (record before { rbp = 0x8018 })
+  pub lea_bp_room : Effect (LeaBpRoom (pos 16)) before (record before { rbp = 0x8018 })
+  -- a register makes room, or leaves rsp, and doesn't raise it
+  pub sub_sp : Effect SubSp before (record before { rsp = 0x8001 })
+  pub sp_reg : Effect SpReg before before
+  pub sub_sp_rises : Effect SubSp before (record before { rsp = 0x8010 }) → ⊥
   -- a store between rsp and the return address saves rbp, one below rsp doesn't
   pub store_bp : Effect (StoreBp (pos 8)) before (record before { region = rbp_third; shadow = frame (SavedAt 0x8010) })
   pub store_bp_below : Effect (StoreBp (negsuc 7)) before (record before { region = rbp_below })
@@ -53,6 +58,8 @@ pub record HasEffects : Type 0 where
   pub leave : Effect Leave (record before { shadow = frame (SavedAt 0x8010) }) (record before { rsp = 0x8018; rbp = 9 })
   pub sp_other : Effect SpOther before (record before { rsp = 1; rbp = 2; region = stored })
   pub bp_other : Effect BpOther before (record before { rbp = 2; region = stored })
+  -- a call within the function pushes a word, which may be anything
+  pub hop : Effect Hop before (record before { rsp = 0x8000 })
   pub jmp : Effect (Jmp (pos 0) false) before before
   pub jcc : Effect (Jcc (pos 0) false) before before
   pub jmp_ind : Effect (JmpInd None) before before

@@ -4,6 +4,7 @@ ghost use Rattle.machine_defs.specs.Worked.{HasWorkedFrames, HasWorkedRows, HasW
 ghost use Rattle.machine_defs.specs.WorkedEffects.{HasEffects};
 ghost use Rattle.machine_defs.specs.WorkedHints.{RunsFromHints};
 ghost use Rattle.machine_defs.specs.WorkedSteps.{TakesEachStep};
+ghost use Rattle.machine_defs.specs.WorkedWays.{LeadsOn};
 ghost use Rattle.machine_defs.specs.WorkedWrecks.{WrecksEachWay};
 
 /// The states of a function with a frame pointer.
@@ -44,4 +45,9 @@ pub fn worked_wrecks()
 /// Runs that start at hints, and that pass a SAVE and a RESTORE.
 pub fn worked_hints()
     ensures { RunsFromHints }
+{}
+
+/// Which points may leave, be called, come back, and stand right before a hint.
+pub fn worked_ways()
+    ensures { LeadsOn }
 {}

@@ -2,7 +2,7 @@
 
 ghost use Rattle.std.specs.Prelude.{◌≡◌, ◌≤◌, ◌^◌, not, IfOk, IfSome, IsTrue, List, Bool};
 ghost use Rattle.state_defs.specs.Region.{hi_of};
-ghost use Rattle.machine_defs.specs.Step.{MayCall, CallsIn, CallsOut};
+ghost use Rattle.machine_defs.specs.Step.{IsTarget, CallsIn, CallsOut};
 ghost use Rattle.machine_defs.specs.MayReturn.{may_call_out};
 ghost use Rattle.program_model.specs.Region.{region_of};
 ghost use Rattle.machine_model.specs.Standing.{standing_of};
@@ -22,7 +22,7 @@ use table_defs::Range;
 
 /// Whether a call may go to this entry.
 fn may_call(p: &Program, role: Role, target: u32) -> bool
-    ensures { (set : List Bool) → IsTrue result → MayCall (program_of p.now set) role target }
+    ensures { (set : List Bool) → IsTrue result → IsTarget (program_of p.now set) role target }
 {
     match role {
         Role::CallIn { entry } | Role::CallEither { entry, .. } => target == entry,

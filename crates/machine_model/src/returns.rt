@@ -14,7 +14,7 @@ use crate::frame::Frame;
 use crate::shadow::protected_addresses;
 use crate::standing::{Core, Standing};
 use machine_defs::Role;
-use program_model::{Program, Region, Store, down, may_leave, up};
+use program_model::{Program, Region, Store, down, may_go_back, up};
 use std::alloc::{AllocError, Global};
 
 /// Whether the stack may be as it has to be for a return from this frame.
@@ -111,7 +111,7 @@ pub fn returns(
     ensures { (set : List Bool) → IfOk result (λ left. IfSome left (λ t. Returns (program_of p.now set) (standing_of s) (standing_of t))) }
 {
     let role = p.role(s.point);
-    if !may_leave(p, role) {
+    if !may_go_back(p, role) {
         return Ok(None);
     }
     let Some((frame, popped)) = pop_frame(s) else {

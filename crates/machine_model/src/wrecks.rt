@@ -8,7 +8,7 @@ use crate::interrupts::misses_iret;
 use crate::returns::misses_return;
 use crate::standing::Standing;
 use operation_defs::Op;
-use program_model::{Program, may_leave};
+use program_model::{Program, may_go_back};
 
 /// Whether the stack may be wrecked in this way: it returns with a wrong stack, or goes where there is
 /// nothing to go to.
@@ -17,7 +17,7 @@ pub fn may_wreck(p: &Program, s: &Standing, wreck: Wreck) -> bool
 {
     let marks = p.marks(s.point);
     match (wreck, p.insn(s.point).op) {
-        (Wreck::WrongReturn, _) => may_leave(p, p.role(s.point)) && misses_return(&s.core),
+        (Wreck::WrongReturn, _) => may_go_back(p, p.role(s.point)) && misses_return(&s.core),
         (Wreck::WrongIret, Op::Iret) => s.ended.is_none() && misses_iret(&s.core),
         (Wreck::WrongIret, _) => false,
         (Wreck::DropsBytes, Op::RetImm) => true,

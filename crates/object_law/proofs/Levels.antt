@@ -4,7 +4,7 @@ use Rattle.std.specs.Prelude.{◌≢◌, ◌↔◌, Contains}
 use Rattle.std.specs.List.{list_any}
 use Rattle.std.proofs.lemmas.Bool.{cases_lt, false≢true, true≢false, and_from, or_left, or_right, not_from_false}
 use Rattle.std.proofs.lemmas.List.Folds.{Any-from_list_any, list_any-from_Any}
-use Rattle.machine_defs.specs.Step.{may_leave}
+use Rattle.machine_defs.specs.Step.{may_go_back}
 use Rattle.machine_defs.specs.declared.flow.Edge.{Edge}
 use Rattle.machine_defs.specs.declared.flow.EdgeKind.{EdgeKind}
 use Rattle.machine_defs.specs.declared.flow.EdgeKind.TheVariants.{Next, Taken, Fixup, Table, Sibling}
@@ -44,7 +44,7 @@ and_more false y x' y' f g e = absurd (false≢true e)
 abbrev pub Sound : Program → (ℕ → Bool) → Type 0
 Sound p known = (r : ℕ) → known r ≡ true → MayReturn p r
 
-leaves_sound : (p : Program) (q : ℕ) (r : Role) → p.role q ≡ r → may_leave p r ≡ true → MayReturn p q
+leaves_sound : (p : Program) (q : ℕ) (r : Role) → p.role q ≡ r → may_go_back p r ≡ true → MayReturn p q
 leaves_sound p q Return is e = MayReturn.returns q is
 leaves_sound p q JumpAny is e = MayReturn.jumps_anywhere q is
 leaves_sound p q (JumpOut sym) is e = MayReturn.jumps_out q sym is (not_true (p.never_returns sym) e)
@@ -135,7 +135,7 @@ edge_more p f g q e more =
 
 by_more : (p : Program) (f g : ℕ → Bool) (q : ℕ) → Within f g → returns_by p f q ≡ true → returns_by p g q ≡ true
 by_more p f g q more =
-    or_more (may_leave p (p.role q)) (list_any (leads_to_return p f q) (p.goes q)) (may_leave p (p.role q)) (list_any (leads_to_return p g q) (p.goes q)) (λ h. h)
+    or_more (may_go_back p (p.role q)) (list_any (leads_to_return p f q) (p.goes q)) (may_go_back p (p.role q)) (list_any (leads_to_return p g q) (p.goes q)) (λ h. h)
     (any_more (leads_to_return p f q) (leads_to_return p g q) (p.goes q) (λ e. edge_more p f g q e more))
 
 -- each level has what the one before has
@@ -158,8 +158,8 @@ OnLevel p q = (n : ℕ) × (returns_within p n q ≡ true)
 along : (p : Program) (q n : ℕ) (e : Edge) → Contains (p.goes q) e → leads_to_return p (returns_within p n) q e ≡ true → OnLevel p q
 along p q n e listed passes = (suc n, or_right _ _ (list_any-from_Any (leads_to_return p (returns_within p n) q) (p.goes q) (listed.0, e, listed.1, listed.2, passes)))
 
-out : (p : Program) (q : ℕ) (r : Role) → p.role q ≡ r → may_leave p r ≡ true → OnLevel p q
-out p q r is passes = (1, or_left _ _ (ap (may_leave p) is ∙ passes))
+out : (p : Program) (q : ℕ) (r : Role) → p.role q ≡ r → may_go_back p r ≡ true → OnLevel p q
+out p q r is passes = (1, or_left _ _ (ap (may_go_back p) is ∙ passes))
 
 is_kind : (e : Edge) → e.kind ≢ Next → is_next e.kind ≡ false
 is_kind e other = go (is_next e.kind) refl
@@ -242,7 +242,7 @@ edge_same p f g q e stays there more =
 
 by_same : (p : Program) (f g : ℕ → Bool) (q : ℕ) → StaysAtPoints p → IsPoint p q → WithinPoints p f g → returns_by p f q ≡ true → returns_by p g q ≡ true
 by_same p f g q stays here more =
-    or_more (may_leave p (p.role q)) (list_any (leads_to_return p f q) (p.goes q)) (may_leave p (p.role q)) (list_any (leads_to_return p g q) (p.goes q)) (λ h. h)
+    or_more (may_go_back p (p.role q)) (list_any (leads_to_return p f q) (p.goes q)) (may_go_back p (p.role q)) (list_any (leads_to_return p g q) (p.goes q)) (λ h. h)
     (any_same (leads_to_return p f q) (leads_to_return p g q) (p.goes q) (λ e listed. edge_same p f g q e stays (stays.edges q e here listed) more))
 
 -- a level that has no more points than the one before is the last

@@ -102,6 +102,8 @@ comes_back =
       call = 3;
       called = refl;
       passed = refl;
+      unlisted = refl;
+      still_ended = λ e. absurd (let k : ⊥ = cc in k);
       comes_back = (0, lit< tt, refl);
       memory = refl;
       core = refl;

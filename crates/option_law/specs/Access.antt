@@ -11,7 +11,7 @@ use Rattle.state_defs.specs.Effect.{IsInStack}
 use Rattle.machine_defs.specs.Program.{Program, entry_points, edge}
 use Rattle.machine_defs.specs.IsProgram.{IsProgram}
 use Rattle.machine_defs.specs.Machine.{Bases, IsPlacement, Standing, Machine, Wrecked, At}
-use Rattle.machine_defs.specs.Step.{Step, calls_in, returns, tail_calls, interrupted, irets, may_leave}
+use Rattle.machine_defs.specs.Step.{Step, calls_in, returns, tail_calls, interrupted, irets, may_go_back}
 use Rattle.machine_defs.specs.Run.{Start, StaysInStack}
 use Rattle.machine_defs.specs.Allowances.{Allowances, EntersFunctions, is_safe}
 use Rattle.machine_defs.specs.Asked.{IsClean}
@@ -76,7 +76,7 @@ pub record KeepsAccess (p : Program) (allowed : Allowances) (s : Standing) (home
   -- a safe function that was entered with user access off keeps it off
   pub stays_off : (f : Frame) (fs : List Frame) → s.core.shadow ≡ f ∷ fs → top_of homes ≡ true → f.ac ≡ false → s.core.ac ≡ false
   -- where control may return, user access is as it was when the frame was made
-  pub leaves : (f : Frame) (fs : List Frame) → s.core.shadow ≡ f ∷ fs → IsTrue (may_leave p (p.role s.point)) → s.core.ac ≡ f.ac
+  pub leaves : (f : Frame) (fs : List Frame) → s.core.shadow ≡ f ∷ fs → IsTrue (may_go_back p (p.role s.point)) → s.core.ac ≡ f.ac
 
 abbrev pub IsAccessKept : Program → Allowances → List Bool → Machine → Type 0
 IsAccessKept p allowed homes Wrecked = ⊥

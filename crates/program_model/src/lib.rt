@@ -25,7 +25,7 @@ pub use kept::kept_states;
 pub use placement::{address_of, is_inside, point_address, return_address};
 pub use program::{ModelPoint, ModelSite, Program, TextSection};
 pub use region::{Region, Store};
-pub use returning::{may_leave, may_return};
+pub use returning::{may_go_back, may_return};
 pub use rules::warnings;
 pub use state_row::StateRow;
 pub use table_rows::rows;

@@ -1,7 +1,7 @@
 //! From which points on a return may come: the least such set, found by rounds.
 
 ghost use Rattle.std.specs.Prelude.{◌≡◌, List, Bool};
-ghost use Rattle.machine_defs.specs.Step.{may_leave};
+ghost use Rattle.machine_defs.specs.Step.{may_go_back};
 ghost use Rattle.program_model.specs.Program.{program_of};
 
 use crate::{ModelPoint, Program};
@@ -44,8 +44,8 @@ fn target_returns(p: &Program, set: &[bool], role: Role) -> bool {
 }
 
 /// Whether a point may leave its function: by a return, or by a jump to code outside that returns.
-pub fn may_leave(p: &Program, role: Role) -> bool
-    ensures { (set : List Bool) → result ≡ may_leave (program_of p.now set) role }
+pub fn may_go_back(p: &Program, role: Role) -> bool
+    ensures { (set : List Bool) → result ≡ may_go_back (program_of p.now set) role }
 {
     match role {
         Role::Return | Role::JumpAny => true,
@@ -56,7 +56,7 @@ pub fn may_leave(p: &Program, role: Role) -> bool
 
 /// Whether a point belongs to the set because of those that are in it.
 fn joins(p: &Program, set: &[bool], point: &ModelPoint) -> bool {
-    if may_leave(p, point.role) {
+    if may_go_back(p, point.role) {
         return true;
     }
     let is_call = is_call(point.role);

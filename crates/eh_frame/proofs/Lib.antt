@@ -1,0 +1,13 @@
+pub mod GroupsRead
+pub mod InstructionsRead
+pub mod Listing
+pub mod FollowedSteps
+pub mod RelocOrder
+pub mod EntryLemmas
+pub mod Excluded
+pub mod RecordsRead
+pub mod RowRules
+pub mod EntryReads
+pub mod RowSpelling
+pub mod FrameLaw
+pub mod EncodeSteps
