@@ -8,7 +8,7 @@ use Rattle.machine_defs.specs.declared.flow.EdgeKind.TheVariants.{Next, Taken, F
 use Rattle.machine_defs.specs.declared.flow.Role.{Role}
 use Rattle.machine_defs.specs.declared.flow.Role.TheVariants.{CallIn}
 use Rattle.machine_defs.specs.Program.{Program, entry_points, is_call}
-use Rattle.machine_defs.specs.MayReturn.{may_call_out}
+use Rattle.machine_defs.specs.MayReturn.{is_listed, may_call_out}
 
 abbrev pub is_next : EdgeKind → Bool
 is_next Next = true
@@ -17,9 +17,10 @@ is_next Fixup = false
 is_next Table = false
 is_next Sibling = false
 
--- the target of a call may return, where some points are known from which a return may come
+-- The target of a call may return, where some points are known from which a return may come: an entry from whose code a return may
+-- come, or code outside; and the call isn't listed.
 abbrev pub call_returns : Program → (ℕ → Bool) → Role → Bool
-call_returns p known (CallIn entry) = list_any known (entry_points p entry)
+call_returns p known (CallIn entry) = list_any known (entry_points p entry) && not (is_listed p (CallIn entry))
 call_returns p known role = may_call_out p role
 
 -- execution goes along the edge to a point from which a return may come: by any edge but a call's Next, and by that where the
