@@ -72,9 +72,11 @@ jump_by_way (ways.Outside f) weak = JumpOut f
 jump_by_way (ways.Along kind) None = Plain
 jump_by_way (ways.Along kind) (Some sym) = JumpOut sym
 
--- the entries of the jump table of a point; there are none where it is no indirect jump, or where no table is recognised
+-- the entries of the jump table of a point; there are none where it is padding or no indirect jump, or where no table is recognised
 unfoldable pub table_of_point : Coded → Point → List Place
-table_of_point o point = table_of o.elf (texts_of o) (alternatives_of o) point (owner_of_point o point)
+table_of_point o point =
+    if is_padding o point then []
+    else table_of o.elf (texts_of o) (alternatives_of o) point (owner_of_point o point)
 
 -- an indirect jump through no recognised table may go anywhere
 abbrev pub jump_by_table : List Place → Role
