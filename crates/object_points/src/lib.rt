@@ -10,6 +10,7 @@ mod marks;
 mod meanings;
 mod owner;
 mod owner_table;
+mod patch_sections;
 mod place_map;
 mod place_set;
 mod places;

@@ -7,13 +7,13 @@ ghost use Rattle.flow_defs.specs.Code.{point_at, points_of_object};
 ghost use Rattle.flow_defs.specs.Edges.{fixups as fixups_of, static_targets as static_targets_of};
 ghost use Rattle.flow_defs.specs.Marks.{has_bad_target as has_a_bad_target, has_target_in_site as has_a_target_in_site, is_bad_listed as is_bad_among, listed_places};
 ghost use Rattle.flow_defs.specs.Sites.{is_into_site as comes_into_site};
-ghost use Rattle.flow_defs.specs.Targets.{destination};
+ghost use Rattle.flow_defs.specs.Targets.{destination_of};
 ghost use Rattle.point_edges.specs.Jumps.{direct_way};
 
 use crate::Branch;
 use crate::bad_targets::{is_bad_branch, is_bad_listed};
 use crate::flow_points::FlowPoints;
-use crate::into_sites::{branch_enters, listed_enter};
+use crate::into_sites::{branch_enters, listed_enter, table_enters};
 use machine_defs::EdgeKind;
 use operation_defs::Insn;
 
@@ -37,11 +37,11 @@ pub(crate) fn has_bad_target(
 ) -> bool
     requires point { n < length (points_of_object points.now) }
     requires insn { insn ≡ insn_of_object points.now (point_at points.now n) }
-    requires to { branch.to ≡ destination points.now (point_at points.now n) insn }
-    requires way { branch.way ≡ direct_way points.now (point_at points.now n) insn insn.op }
+    requires to { branch.to ≡ destination_of points.now (point_at points.now n) }
+    requires way { branch.way ≡ direct_way points.now (point_at points.now n) insn.op }
     ensures { result ≡ has_a_bad_target points.now (point_at points.now n) }
 {
-    is_bad_branch(points, n, insn, branch) || has_bad_entry(points, n)
+    is_bad_branch(points, n, insn.op, branch) || has_bad_entry(points, n)
 }
 
 /// Whether a static branch or an exception entry at a point leads into a site.
@@ -65,9 +65,11 @@ pub(crate) fn has_target_in_site(
 ) -> bool
     requires point { n < length (points_of_object points.now) }
     requires insn { insn ≡ insn_of_object points.now (point_at points.now n) }
-    requires to { branch.to ≡ destination points.now (point_at points.now n) insn }
-    requires way { branch.way ≡ direct_way points.now (point_at points.now n) insn insn.op }
+    requires to { branch.to ≡ destination_of points.now (point_at points.now n) }
+    requires way { branch.way ≡ direct_way points.now (point_at points.now n) insn.op }
     ensures { result ≡ has_a_target_in_site points.now (point_at points.now n) }
 {
-    branch_enters(points, n, insn, branch) || has_entry_in_site(points, n)
+    branch_enters(points, n, insn.op, branch)
+        || table_enters(points, n, insn)
+        || has_entry_in_site(points, n)
 }

@@ -3,15 +3,13 @@ use Rattle.std.proofs.Common.{◌≡◌, Bool, true, false, cond, List, [], ◌�
 use Rattle.std.proofs.lemmas.Bool.{eqb-true}
 use Rattle.ot_base.specs.declared.place.Place.{Place}
 use Rattle.special_sections.specs.declared.entries.HintEntry.{HintEntry}
-use Rattle.special_sections.specs.declared.special.Special.{Special}
-use Rattle.special_sections.specs.Special.{special_of}
+use Rattle.special_sections.specs.Special.{SpecialEntries, special_of}
 use Rattle.state_defs.specs.declared.state.HintState.{HintState}
 use Rattle.special_sections.specs.HintStates.{hint_at}
 use Rattle.flow_defs.specs.Coded.{Coded}
-use Rattle.flow_defs.specs.Arrival.{is_padding}
+use Rattle.flow_defs.specs.Arrival.{hint_of, is_padding}
 use Rattle.flow_defs.specs.Code.{point_at}
-use Rattle.flow_defs.specs.Hints.{hint_of}
-use Rattle.object_points.proofs.hinted.hint_of.Goals as goal
+use Rattle.object_points.proofs.places.PointPlaces.hint.Goals as goal
 
 none_at : (hints : List HintEntry) (place : Place) → length hints ≡ 0 → hint_at hints place ≡ None
 none_at [] place e = refl
@@ -24,7 +22,7 @@ either_way false hint e = e
 pub returns-then-is_empty : goal.returns-then-is_empty
 unfolding hint_of
 returns-then-is_empty c =
-    let o : Coded = c.args.places.now in
-    let listed : c.hints.result.now ≡ (special_of o.elf).hints = c.hints.ensures ∙ ap (λ (special : Special). special.hints) (c.special.ensures ∙ ap (λ (coded : Coded). special_of coded.elf) c.linked.ensures) in
+    let o : Coded = c.args.self.now in
+    let listed : c.hints.result.now ≡ (special_of o.elf).hints = c.hints.ensures ∙ ap (λ (s : SpecialEntries). s.hints) (c.special.ensures ∙ ap (λ (e : Coded). special_of e.elf) c.self.view_is) in
     let none : length c.hints.result.now ≡ 0 = eqb-true (length c.hints.result.now) 0 (sym c.is_empty.ensures ∙ c.if-is_empty.true) in
     sym (either_way (is_padding o (point_at o c.args.n)) (hint_at (special_of o.elf).hints (point_at o c.args.n).place) (none_at (special_of o.elf).hints (point_at o c.args.n).place (sym (ap length listed) ∙ none)))

@@ -1,13 +1,13 @@
 use Rattle.std.proofs.Common.{Bool, cond, Option, None, sym, ap, ◌∙◌}
-use Rattle.std.specs.Prelude.{option_and_then}
+use Rattle.ot_base.specs.declared.place.Place.{Place}
 use Rattle.flow_defs.specs.Coded.{Coded}
 use Rattle.special_sections.specs.Special.{special_of}
 use Rattle.alternatives.specs.declared.point.Point.{Point}
 use Rattle.state_defs.specs.declared.state.HintState.{HintState}
-use Rattle.special_sections.specs.HintStates.{hint_at, hint_state}
-use Rattle.flow_defs.specs.Code.{point_at}
-use Rattle.flow_defs.specs.Hints.{hint_of}
-use Rattle.object_points.proofs.hinted.search_hint.Goals as goal
+use Rattle.special_sections.specs.HintStates.{hint_at}
+use Rattle.flow_defs.specs.Arrival.{hint_of}
+use Rattle.flow_defs.specs.Code.{plain_point, point_at}
+use Rattle.object_points.proofs.places.PointPlaces.search_hint.Goals as goal
 
 abbrev unless : Bool → Option HintState → Option HintState
 unless padding hint = cond padding None hint
@@ -15,14 +15,13 @@ unless padding hint = cond padding None hint
 pub returns-then-is_padding : goal.returns-then-is_padding
 unfolding hint_of
 returns-then-is_padding c =
-    let o : Coded = c.args.places.now in
+    let o : Coded = c.args.self.now in
     sym (ap (λ b. unless b (hint_at (special_of o.elf).hints (point_at o c.args.n).place)) (sym c.is_padding.ensures ∙ c.if-is_padding.true))
 
 pub returns : goal.returns
 unfolding hint_of
 returns c =
-    let o : Coded = c.args.places.now in
-    c.hint_at.ensures
-    ∙ ap (option_and_then hint_state) (c.requires.hints.same c.point.result.place)
+    let o : Coded = c.args.self.now in
+    c.plain_hint.ensures
     ∙ ap (λ (q : Point). hint_at (special_of o.elf).hints q.place) c.point.ensures
     ∙ sym (ap (λ b. unless b (hint_at (special_of o.elf).hints (point_at o c.args.n).place)) (sym c.is_padding.ensures ∙ c.if-is_padding.false))

@@ -3,7 +3,7 @@ use Rattle.std.proofs.lemmas.List.Folds.{list_all_at}
 use Rattle.flow_defs.specs.Coded.{Coded}
 use Rattle.jump_tables.specs.Tables.{same_owner}
 use Rattle.point_edges.proofs.Ending.{has_owner, one_other}
-use Rattle.point_edges.proofs.iret.goes_on_behind.Goals as goal
+use Rattle.point_edges.proofs.remade.goes_on_behind.Goals as goal
 
 pub returns-then-not-is_owner : goal.returns-then-not-is_owner
 returns-then-not-is_owner c =
