@@ -164,7 +164,7 @@ module _ (p : Program) (parts : GraphParts) (states : List (Option State)) (c : 
   telling_found place rule a b (modified_return q s k r h) ne = at_role _ q s k Return r (inl (h, refl))
   telling_found place rule a b (drops_bytes q s k r o h) ne = at_role _ q s k Return r (inr (inl ((o, h), refl)))
   telling_found place rule a b (modified_sibling q s k l h) ne = at_jump _ q s k l (λ leaves m. inl (h, refl))
-  telling_found place rule a b (refused q r s k h b) ne = at_kept _ q s k (inr (inr (inl (inl (r, (h, b), refl)))))
+  telling_found place rule a b (refused q r s k h f) ne = at_kept _ q s k (inr (inr (inl (inl (r, (h, f), refl)))))
   telling_found place rule a b (unfit q s n k h) ne = at_kept _ q s k (inr (inr (inr (inl (n, h, refl)))))
   telling_found place rule a b (variants_disagree site q r s t k l e h) ne = absurd (ne refl)
   telling_found place rule a b (call_disagrees site q r s t k o f h) ne = absurd (ne refl)

@@ -34,12 +34,12 @@ brings_only s t u op kind brought along is b =
     let one : option_to_list (Some t) ≡ u ∷ [] = subst (λ (o : Option State). option_to_list o ≡ u ∷ []) b (is ∙ along) in
     let same : t ≡ u = cc in same
 
-no_marks : (place : Place) (s : State) (owner : Option ℕ) (marks : Marks) (w : Warning) → is_unmarked marks ≡ true → MarksWarn place s owner marks w → ⊥
-no_marks place s owner marks w h (inl (e, k)) = grind arith
-no_marks place s owner marks w h (inr (inl ((e, f), k))) = grind arith
-no_marks place s owner marks w h (inr (inr (inl (e, k)))) = grind arith
-no_marks place s owner marks w h (inr (inr (inr (inl (e, k))))) = grind arith
-no_marks place s owner marks w h (inr (inr (inr (inr ((f, e), k))))) = grind arith
+unmarked_warns_none : (place : Place) (s : State) (owner : Option ℕ) (marks : Marks) (w : Warning) → is_unmarked marks ≡ true → MarksWarn place s owner marks w → ⊥
+unmarked_warns_none place s owner marks w h (inl (e, k)) = grind arith
+unmarked_warns_none place s owner marks w h (inr (inl ((e, f), k))) = grind arith
+unmarked_warns_none place s owner marks w h (inr (inr (inl (e, k)))) = grind arith
+unmarked_warns_none place s owner marks w h (inr (inr (inr (inl (e, k))))) = grind arith
+unmarked_warns_none place s owner marks w h (inr (inr (inr (inr ((f, e), k))))) = grind arith
 
 no_role : (place : Place) (op : Op) (s : State) (leaves : Bool) (role : Role) (w : Warning) → stays role ≡ true → RoleWarns place op s leaves role w → ⊥
 no_role place op s leaves Return w h k = let z : ⊥ = cc in z
@@ -68,7 +68,7 @@ module _ (p : Program) (states : List (Option State)) (q : ℕ) where
       no_arrival leads.2.0 e.to brought w leads.2.1 (λ t b. brings_only s t leads.2.0 (p.insn q).op e.kind brought leads.2.2 is b) arrival
 
   no_kept : (s : State) (w : Warning) → IsQuiet p states q → at states q ≡ Some s → KeptWarns p states q s w → ⊥
-  no_kept s w quiet some (inl k) = no_marks (p.place q) s (p.owner q) (p.marks q) w quiet.unmarked k
+  no_kept s w quiet some (inl k) = unmarked_warns_none (p.place q) s (p.owner q) (p.marks q) w quiet.unmarked k
   no_kept s w quiet some (inr (inl k)) = no_role (p.place q) (p.insn q).op s (may_leave p q) (p.role q) w quiet.stays k
   no_kept s w quiet some (inr (inr (inl k))) = let m = quiet.moves s some in no_operation (p.place q) (p.insn q).op s m.0 (is_before_hint p q) w quiet.exit m.1 k
   no_kept s w quiet some (inr (inr (inr (inl k)))) = no_row (p.place q) s w (quiet.fit s some) k
