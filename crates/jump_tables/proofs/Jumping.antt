@@ -54,7 +54,7 @@ both a b c d e f = grind (arith, nat_tests)
 -- a jump at another place is passed by
 pass : (op : Op) (place here : Place) (table : Option Place) (rest : List Jump) → same_place here place ≡ false → jump_among (cons_option (option_map (jump op here) table) rest) place ≡ jump_among rest place
 pass op place here None rest other = refl
-pass op place here (Some t) rest other = ap (λ b. cond b (Some (jump here t)) (jump_among rest place)) other
+pass op place here (Some t) rest other = ap (λ b. cond b (Some (jump op here t)) (jump_among rest place)) other
 
 -- one at the place is the first there
 meet : (op : Op) (place here : Place) (table : Option Place) (rest : List Jump) → same_place here place ≡ true → jump_among rest place ≡ None → jump_among (cons_option (option_map (jump op here) table) rest) place ≡ option_map (jump op here) table

@@ -15,17 +15,22 @@ ends_low off (p ∷ ps) to leads zero d inside =
     omega arith
 ends_low off (p ∷ ps) to leads (suc k) d inside = ends_low (off + p.insn.len) ps to leads.1 k d (omega arith)
 
-pub filtered_low : (f : PlacedInsn → Bool) (off : ℕ) (code : List PlacedInsn) (to : ℕ) → LeadsTo off code to → (k : ℕ) (d : PlacedInsn) → k < length (filter f code) → (get_or (filter f code) k d).off + (get_or (filter f code) k d).insn.len ≤ to
-filtered_low f off [] to leads k d inside = absurd (omega arith)
-filtered_low f off (p ∷ ps) to leads k d inside =
-    elim (f p) as (λ b. k < length (cond b (p ∷ filter f ps) (filter f ps)) → (get_or (cond b (p ∷ filter f ps) (filter f ps)) k d).off + (get_or (cond b (p ∷ filter f ps) (filter f ps)) k d).insn.len ≤ to) [
-      | true ↦ λ within. kept k within
-      | false ↦ λ within. filtered_low f (off + p.insn.len) ps to leads.1 k d within
-    ] inside
-  where
-    kept : (j : ℕ) → j < length (p ∷ filter f ps) → (get_or (p ∷ filter f ps) j d).off + (get_or (p ∷ filter f ps) j d).insn.len ≤ to
-    kept zero within =
-        let here : p.off ≡ off = leads.0 in
-        let rest : off + p.insn.len ≤ to = leads_up (off + p.insn.len) ps to leads.1 in
-        omega arith
-    kept (suc j) within = filtered_low f (off + p.insn.len) ps to leads.1 j d (omega arith)
+-- each of these ends there, or before
+abbrev pub EndLow : List PlacedInsn → ℕ → Type 0
+EndLow code to = (k : ℕ) (d : PlacedInsn) → k < length code → (get_or code k d).off + (get_or code k d).insn.len ≤ to
+
+one_more : (p : PlacedInsn) (ps : List PlacedInsn) (to : ℕ) → p.off + p.insn.len ≤ to → EndLow ps to → EndLow (p ∷ ps) to
+one_more p ps to here rest zero d inside = here
+one_more p ps to here rest (suc k) d inside = rest k d (omega arith)
+
+pub filtered_low : (f : PlacedInsn → Bool) (off : ℕ) (code : List PlacedInsn) (to : ℕ) → LeadsTo off code to → EndLow (filter f code) to
+filtered_low f off [] to leads = λ k d inside. absurd (omega arith)
+filtered_low f off (p ∷ ps) to leads =
+    let here : p.off + p.insn.len ≤ to =
+    let at : p.off ≡ off = leads.0 in
+    let rest : off + p.insn.len ≤ to = leads_up (off + p.insn.len) ps to leads.1 in
+    omega arith in
+    elim (f p) as (λ b. EndLow (cond b (p ∷ filter f ps) (filter f ps)) to) [
+      | true ↦ one_more p (filter f ps) to here (filtered_low f (off + p.insn.len) ps to leads.1)
+      | false ↦ filtered_low f (off + p.insn.len) ps to leads.1
+    ]

@@ -60,4 +60,4 @@ jump_at-requires c =
     let low = filtered_low (λ (p : PlacedInsn). may_use_table p.insn.op) 0 (code_of body) (length body.bytes) c.table_jumps-table_jumps.ensures.whole k nothing inside in
     let ends : (get_or c.table_jumps-table_jumps.result.now k nothing).off + (get_or c.table_jumps-table_jumps.result.now k nothing).insn.len ≤ length body.bytes =
     subst (λ (ps : List PlacedInsn). (get_or ps k nothing).off + (get_or ps k nothing).insn.len ≤ length body.bytes) (sym c.table_jumps-table_jumps.ensures.jumps) low in
-    omega (arith, ends, c.size-_size.ensures)
+    omega (arith, ends, c.size-size.ensures)

@@ -9,8 +9,8 @@ use Rattle.jump_tables.specs.Registers.{is_searched, tables_taken}
 use Rattle.jump_tables.proofs.Searching.{first_given, front_kept, goes_on, none_there, none_where_not}
 use Rattle.jump_tables.proofs.registers.table_before.Goals as goal
 
-pub loop-_step-init : goal.loop-_step-init
-loop-_step-init c =
+pub loop-step-init : goal.loop-step-init
+loop-step-init c =
     let o = c.args.code.now.index.now.elf in
     let passes : PlacedInsn → Bool = is_searched o c.args.code.now.sites.now.entries c.args.owner c.args.text.now.sec in
     let gives : PlacedInsn → List Place = tables_taken o c.args.code.now.texts.now c.args.owner c.args.text.now.sec in
@@ -29,9 +29,12 @@ returns-then-next-eq0 c =
     let gives : PlacedInsn → List Place = tables_taken o c.args.code.now.texts.now c.args.owner c.args.text.now.sec in
     let insns : List PlacedInsn = code_of c.args.text.now.text in
     sym
-    (c.loop-_step.invariant.1
-    ∙ ap (λ m. first_given passes gives (4 - c.loop-_step._step) (reverse (take m insns))) {x = c.loop-_step.next} {y = 0} (omega (arith, c.if-next-eq0.true))
-    ∙ none_there passes gives (4 - c.loop-_step._step))
+    (c.loop-step.invariant.1
+    ∙ ap (λ m. first_given passes gives (4 - c.loop-step._step) (reverse (take m insns))) {x = c.loop-step.next} {y = 0} (omega (arith, c.if-next-eq0.true))
+    ∙ none_there passes gives (4 - c.loop-step._step))
+
+pub insn-off-requires : goal.insn-off-requires
+insn-off-requires c = omega (arith, c.loop-step.invariant.0, c.if-next-eq0.false)
 
 pub returns-then-not-is_searched : goal.returns-then-not-is_searched
 returns-then-not-is_searched c =
@@ -39,13 +42,13 @@ returns-then-not-is_searched c =
     let passes : PlacedInsn → Bool = is_searched o c.args.code.now.sites.now.entries c.args.owner c.args.text.now.sec in
     let gives : PlacedInsn → List Place = tables_taken o c.args.code.now.texts.now c.args.owner c.args.text.now.sec in
     let insns : List PlacedInsn = code_of c.args.text.now.text in
-    let next : ℕ = c.loop-_step.next in
-    let left : ℕ = 4 - c.loop-_step._step in
-    let here : PlacedInsn = record { off = c.insn.result.0; insn = c.insn.result.1 } in
+    let next : ℕ = c.loop-step.next in
+    let left : ℕ = 4 - c.loop-step._step in
+    let here : PlacedInsn = record { off = c.insn-off.result.0; insn = c.insn-off.result.1 } in
     let rest : Option Place = first_given passes gives (left - 1) (reverse (take (next - 1) insns)) in
     let step : first_given passes gives left (reverse (take next insns)) ≡ cond (passes here) (option_or (slice_get (gives here) 0) rest) None =
-    goes_on passes gives insns next left here (omega (arith, c.if-next-eq0.false)) c.loop-_step.invariant.0 (omega (arith, c.loop-_step-test.true)) c.insn.ensures.listed in
-    sym (c.loop-_step.invariant.1 ∙ step ∙ ap (λ b. cond b (option_or (slice_get (gives here) 0) rest) None) (sym c.if-not-is_searched.ensures))
+    goes_on passes gives insns next left here (omega (arith, c.if-next-eq0.false)) c.loop-step.invariant.0 (omega (arith, c.loop-step-test.true)) c.insn-off.ensures.listed in
+    sym (c.loop-step.invariant.1 ∙ step ∙ ap (λ b. cond b (option_or (slice_get (gives here) 0) rest) None) (sym c.if-not-is_searched.ensures))
 
 pub returns-in-Some : goal.returns-in-Some
 returns-in-Some c =
@@ -53,37 +56,37 @@ returns-in-Some c =
     let passes : PlacedInsn → Bool = is_searched o c.args.code.now.sites.now.entries c.args.owner c.args.text.now.sec in
     let gives : PlacedInsn → List Place = tables_taken o c.args.code.now.texts.now c.args.owner c.args.text.now.sec in
     let insns : List PlacedInsn = code_of c.args.text.now.text in
-    let next : ℕ = c.loop-_step.next in
-    let left : ℕ = 4 - c.loop-_step._step in
-    let here : PlacedInsn = record { off = c.insn.result.0; insn = c.insn.result.1 } in
+    let next : ℕ = c.loop-step.next in
+    let left : ℕ = 4 - c.loop-step._step in
+    let here : PlacedInsn = record { off = c.insn-off.result.0; insn = c.insn-off.result.1 } in
     let rest : Option Place = first_given passes gives (left - 1) (reverse (take (next - 1) insns)) in
     let step : first_given passes gives left (reverse (take next insns)) ≡ cond (passes here) (option_or (slice_get (gives here) 0) rest) None =
-    goes_on passes gives insns next left here (omega (arith, c.if-next-eq0.false)) c.loop-_step.invariant.0 (omega (arith, c.loop-_step-test.true)) c.insn.ensures.listed in
+    goes_on passes gives insns next left here (omega (arith, c.if-next-eq0.false)) c.loop-step.invariant.0 (omega (arith, c.loop-step-test.true)) c.insn-off.ensures.listed in
     sym
-    (c.loop-_step.invariant.1
+    (c.loop-step.invariant.1
     ∙ step
     ∙ ap (λ b. cond b (option_or (slice_get (gives here) 0) rest) None) (sym c.if-not-is_searched.ensures)
     ∙ ap (λ found. option_or found rest) (sym c.in-Some.ensures))
 
-pub loop-_step-preserved : goal.loop-_step-preserved
-loop-_step-preserved c =
+pub loop-step-preserved : goal.loop-step-preserved
+loop-step-preserved c =
     let o = c.args.code.now.index.now.elf in
     let passes : PlacedInsn → Bool = is_searched o c.args.code.now.sites.now.entries c.args.owner c.args.text.now.sec in
     let gives : PlacedInsn → List Place = tables_taken o c.args.code.now.texts.now c.args.owner c.args.text.now.sec in
     let insns : List PlacedInsn = code_of c.args.text.now.text in
-    let next : ℕ = c.loop-_step.next in
-    let left : ℕ = 4 - c.loop-_step._step in
-    let here : PlacedInsn = record { off = c.insn.result.0; insn = c.insn.result.1 } in
+    let next : ℕ = c.loop-step.next in
+    let left : ℕ = 4 - c.loop-step._step in
+    let here : PlacedInsn = record { off = c.insn-off.result.0; insn = c.insn-off.result.1 } in
     let rest : Option Place = first_given passes gives (left - 1) (reverse (take (next - 1) insns)) in
     let step : first_given passes gives left (reverse (take next insns)) ≡ cond (passes here) (option_or (slice_get (gives here) 0) rest) None =
-    goes_on passes gives insns next left here (omega (arith, c.if-next-eq0.false)) c.loop-_step.invariant.0 (omega (arith, c.loop-_step-test.true)) c.insn.ensures.listed in
+    goes_on passes gives insns next left here (omega (arith, c.if-next-eq0.false)) c.loop-step.invariant.0 (omega (arith, c.loop-step-test.true)) c.insn-off.ensures.listed in
     let fails : slice_get (gives here) 0 ≡ None = sym c.first_taken.ensures ∙ none_where_not c.first_taken.result c.in_default.not-Some in (
-      omega (arith, c.loop-_step.invariant.0),
-      c.loop-_step.invariant.1
+      omega (arith, c.loop-step.invariant.0),
+      c.loop-step.invariant.1
           ∙ step
           ∙ ap (λ b. cond b (option_or (slice_get (gives here) 0) rest) None) (sym c.if-not-is_searched.ensures)
           ∙ ap (λ found. option_or found rest) fails
-          ∙ ap (λ n. first_given passes gives n (reverse (take (next - 1) insns))) {x = left - 1} {y = 4 - (c.loop-_step._step + 1)} (omega arith),
+          ∙ ap (λ n. first_given passes gives n (reverse (take (next - 1) insns))) {x = left - 1} {y = 4 - (c.loop-step._step + 1)} (omega arith),
     )
 
 pub returns : goal.returns
@@ -93,5 +96,5 @@ returns c =
     let gives : PlacedInsn → List Place = tables_taken o c.args.code.now.texts.now c.args.owner c.args.text.now.sec in
     let insns : List PlacedInsn = code_of c.args.text.now.text in
     sym
-    (c.loop-_step.invariant.1
-    ∙ ap (λ n. first_given passes gives n (reverse (take c.loop-_step.next insns))) {x = 4 - c.loop-_step._step} {y = 0} (omega (arith, c.loop-_step-test.false)))
+    (c.loop-step.invariant.1
+    ∙ ap (λ n. first_given passes gives n (reverse (take c.loop-step.next insns))) {x = 4 - c.loop-step._step} {y = 0} (omega (arith, c.loop-step-test.false)))

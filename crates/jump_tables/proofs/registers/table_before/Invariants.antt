@@ -4,8 +4,8 @@ use Rattle.jump_tables.specs.Registers.{is_searched, table_before, tables_taken}
 use Rattle.jump_tables.proofs.Searching.{first_given}
 use Rattle.jump_tables.proofs.registers.table_before.Given as goal
 
-abbrev pub invariant-loop-_step : goal.invariant-loop-_step
-invariant-loop-_step l =
+abbrev pub invariant-loop-step : goal.invariant-loop-step
+invariant-loop-step l =
     let o = l.code.index.now.elf in
     let entries = l.code.sites.now.entries in
     let insns = code_of l.text.text in

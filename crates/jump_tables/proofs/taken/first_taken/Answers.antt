@@ -23,7 +23,9 @@ returns-in-Some c =
     let taken : Reloc → Option Place = table_taken o c.args.code.now.texts.now c.args.owner end in
     let given : ℕ → List Place = λ at. filter_map taken (at_offset at (relocs_at o c.args.sec)) in
     let here : slice_get (given c.loop-off.off) 0 ≡ Some c.in-Some.table =
-    ap (λ (rs : List Reloc). slice_get (filter_map taken rs) 0) (sym c.relocs_at-relocs.ensures) ∙ sym c.in-Some.ensures in
+    ap (λ (rs : List Reloc). slice_get (filter_map taken rs) 0) (sym c.relocs_at-relocs.ensures)
+    ∙ ap (λ n. slice_get (filter_map (table_taken o c.args.code.now.texts.now c.args.owner (c.args.placed.off + n)) c.relocs_at-relocs.result.now) 0) {x = c.args.placed.insn.len} {y = c.from.result} (omega arith)
+    ∙ sym c.in-Some.ensures in
     sym (c.loop-off.invariant ∙ found_from given c.loop-off.off end c.in-Some.table (omega (arith, c.loop-off-test.true)) here)
 
 pub loop-off-preserved : goal.loop-off-preserved
@@ -33,7 +35,10 @@ loop-off-preserved c =
     let taken : Reloc → Option Place = table_taken o c.args.code.now.texts.now c.args.owner end in
     let given : ℕ → List Place = λ at. filter_map taken (at_offset at (relocs_at o c.args.sec)) in
     let fails : slice_get (given c.loop-off.off) 0 ≡ None =
-    ap (λ (rs : List Reloc). slice_get (filter_map taken rs) 0) (sym c.relocs_at-relocs.ensures) ∙ sym c.first_by.ensures ∙ none_where_not c.first_by.result c.in_default.not-Some in
+    ap (λ (rs : List Reloc). slice_get (filter_map taken rs) 0) (sym c.relocs_at-relocs.ensures)
+    ∙ ap (λ n. slice_get (filter_map (table_taken o c.args.code.now.texts.now c.args.owner (c.args.placed.off + n)) c.relocs_at-relocs.result.now) 0) {x = c.args.placed.insn.len} {y = c.from.result} (omega arith)
+    ∙ sym c.first_by.ensures
+    ∙ none_where_not c.first_by.result c.in_default.not-Some in
     c.loop-off.invariant ∙ later_from given c.loop-off.off end (omega (arith, c.loop-off-test.true)) fails
 
 pub returns : goal.returns
