@@ -11,7 +11,7 @@ use Rattle.machine_defs.specs.declared.flow.EdgeKind.TheVariants.{Next, Taken, F
 use Rattle.machine_defs.specs.declared.flow.Role.{Role}
 use Rattle.machine_defs.specs.declared.flow.Role.TheVariants.{Plain, CallIn, CallEither, CallOut, CallAny, Return, JumpOut, JumpAny, Switch}
 use Rattle.machine_defs.specs.Program.{Program, IsPoint, edge, entry_points, is_call}
-use Rattle.machine_defs.specs.MayReturn.{MayReturn, may_call_out}
+use Rattle.machine_defs.specs.MayReturn.{MayReturn, is_listed, may_call_out}
 use Rattle.flow_defs.specs.Returning.{call_returns, is_next, leads_to_return, returns_at_last, returns_by, returns_within}
 use Rattle.object_law.specs.Returning.{StaysAtPoints}
 use Rattle.object_law.proofs.Counting.{count, Agree, grows, all_pass}
@@ -67,8 +67,9 @@ next_edge p q e listed is = subst (λ (k : EdgeKind). Contains (p.goes q) (edge 
 
 comes_back_sound : (p : Program) (known : ℕ → Bool) (q : ℕ) (e : Edge) (r : Role) → Sound p known → p.role q ≡ r → call_returns p known r ≡ true → p.dead_end q ≡ false → Contains (p.goes q) (edge e.to Next) → MayReturn p e.to → MayReturn p q
 comes_back_sound p known q e (CallIn entry) sound is passes dead listed from =
-    let first = Any-from_list_any known (entry_points p entry) passes in
-    MayReturn.comes_back_in q e.to entry first.1 is dead (first.0, first.2, first.3) (sound first.1 first.4) listed from
+    let parts = and_true (list_any known (entry_points p entry)) (not (is_listed p (CallIn entry))) passes in
+    let first = Any-from_list_any known (entry_points p entry) parts.0 in
+    MayReturn.comes_back_in q e.to entry first.1 is (not_true (is_listed p (CallIn entry)) parts.1) dead (first.0, first.2, first.3) (sound first.1 first.4) listed from
 comes_back_sound p known q e Plain sound is passes dead listed from = absurd (false≢true passes)
 comes_back_sound p known q e (CallEither entry sym) sound is passes dead listed from = MayReturn.comes_back q e.to (ap (may_call_out p) is ∙ passes) dead listed from
 comes_back_sound p known q e (CallOut sym) sound is passes dead listed from = MayReturn.comes_back q e.to (ap (may_call_out p) is ∙ passes) dead listed from
@@ -111,7 +112,9 @@ any_more : {X : Type 0} (f g : X → Bool) (xs : List X) → ((x : X) → f x �
 any_more f g xs more passes = let one = Any-from_list_any f xs passes in list_any-from_Any g xs (one.0, one.1, one.2, one.3, more one.1 one.4)
 
 call_more : (p : Program) (f g : ℕ → Bool) (r : Role) → Within f g → call_returns p f r ≡ true → call_returns p g r ≡ true
-call_more p f g (CallIn entry) more passes = any_more f g (entry_points p entry) more passes
+call_more p f g (CallIn entry) more passes =
+    let unlisted = not (is_listed p (CallIn entry)) in
+    and_more (list_any f (entry_points p entry)) unlisted (list_any g (entry_points p entry)) unlisted (any_more f g (entry_points p entry) more) (λ h. h) passes
 call_more p f g Plain more passes = passes
 call_more p f g (CallEither entry sym) more passes = passes
 call_more p f g (CallOut sym) more passes = passes
@@ -201,13 +204,13 @@ on_level p _ (MayReturn.comes_back q r back alive listed from) =
     let there = on_level p r from in
     let known = returns_within p there.0 in
     along p q there.0 (edge r Next) listed (back_edge p known q r there.1 alive (called_out p known (p.role q) back))
-on_level p _ (MayReturn.comes_back_in q r entry first is alive arrives from_first listed from) =
+on_level p _ (MayReturn.comes_back_in q r entry first is unlisted alive arrives from_first listed from) =
     let there = on_level p r from in
     let inside = on_level p first from_first in
     let n = there.0 + inside.0 in
     let known = returns_within p n in
     let passes : list_any known (entry_points p entry) ≡ true = list_any-from_Any known (entry_points p entry) (arrives.0, first, arrives.1, arrives.2, up_to p inside.0 n first (omega arith) inside.1) in
-    along p q n (edge r Next) listed (back_edge p known q r (up_to p there.0 n r (omega arith) there.1) alive (ap (call_returns p known) is ∙ passes))
+    along p q n (edge r Next) listed (back_edge p known q r (up_to p there.0 n r (omega arith) there.1) alive (ap (call_returns p known) is ∙ and_from (list_any known (entry_points p entry)) (not (is_listed p (CallIn entry))) passes (not_from_false (is_listed p (CallIn entry)) unlisted)))
 
 -- tests that agree on points lead to the same
 any_same : {X : Type 0} (f g : X → Bool) (xs : List X) → ((x : X) → Contains xs x → f x ≡ true → g x ≡ true) → list_any f xs ≡ true → list_any g xs ≡ true
@@ -218,7 +221,9 @@ abbrev pub WithinPoints : Program → (ℕ → Bool) → (ℕ → Bool) → Type
 WithinPoints p f g = (r : ℕ) → IsPoint p r → f r ≡ true → g r ≡ true
 
 call_same : (p : Program) (f g : ℕ → Bool) (r : Role) → StaysAtPoints p → WithinPoints p f g → call_returns p f r ≡ true → call_returns p g r ≡ true
-call_same p f g (CallIn entry) stays more passes = any_same f g (entry_points p entry) (λ x listed. more x (stays.entries entry x listed)) passes
+call_same p f g (CallIn entry) stays more passes =
+    let unlisted = not (is_listed p (CallIn entry)) in
+    and_more (list_any f (entry_points p entry)) unlisted (list_any g (entry_points p entry)) unlisted (any_same f g (entry_points p entry) (λ x listed. more x (stays.entries entry x listed))) (λ h. h) passes
 call_same p f g Plain stays more passes = passes
 call_same p f g (CallEither entry sym) stays more passes = passes
 call_same p f g (CallOut sym) stays more passes = passes
