@@ -7,8 +7,8 @@ pub enum FlowFault {
     FuncStart { sym: u32 },
     /// A place of a list is no boundary. The lists are 1 the code of static branches, 2 the instructions of
     /// exception entries, 3 the hints, 4 `.discard.reachable`, 5 `.discard.unreachable`, 6
-    /// `.discard.retpoline_safe`, and 7 `.discard.intra_function_calls`. The places of 4 and 5 are ends of instructions: the size of a section is one,
-    /// and its beginning is none.
+    /// `.discard.retpoline_safe`, and 7 `.discard.intra_function_calls`. The places of 4 and 5 are ends of
+    /// instructions: the size of a section is one, and its beginning is none.
     NotBoundary { list: u8, entry: u32 },
     /// The code of a static branch is neither a Nop nor a Jmp.
     StaticSite { entry: u32 },
