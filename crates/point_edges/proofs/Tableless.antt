@@ -86,16 +86,15 @@ of_insn o p (Some i) is some = is ∙ ap (λ (x : Option Insn). Some (unwrap_or 
 
 pub tableless : (o : Coded) (n : ℕ) → n < length (points_of_object o) → may_have_table (decoded_insn o (point_at o n)).op ≡ false → table_of_point o (point_at o n) ≡ []
 unfolding table_of_point
-tableless o n inside h = elim (cases_Bool (is_padding o p)) [
-  | inl padding ↦ ap (λ b. if b then [] else table_of o.elf (texts_of o) (alternatives_of o) p (owner_of_point o p)) padding
-  | inr other ↦
-      ap (λ b. if b then [] else table_of o.elf (texts_of o) (alternatives_of o) p (owner_of_point o p)) other
-      ∙ no_table o.elf (texts_of o) (alternatives_of o) p (owner_of_point o p)
-      (λ i here. ap (λ (x : Insn). may_have_table x.op) (stands_here o.elf (texts_of o) (alternatives_of o) p (eqb p.variant 0) (decoded_insn o p) i refl other here (of_insn o p (insn_of_point (texts_of o) (alternatives_of o) p) refl (numbered_point o n inside))) ∙ h)
-]
-  where
-    abbrev p : Point
-    p = point_at o n
+tableless o n inside h =
+    let p : Point = point_at o n in
+    elim (cases_Bool (is_padding o p)) [
+      | inl padding ↦ ap (λ b. if b then [] else table_of o.elf (texts_of o) (alternatives_of o) p (owner_of_point o p)) padding
+      | inr other ↦
+          ap (λ b. if b then [] else table_of o.elf (texts_of o) (alternatives_of o) p (owner_of_point o p)) other
+          ∙ no_table o.elf (texts_of o) (alternatives_of o) p (owner_of_point o p)
+          (λ i here. ap (λ (x : Insn). may_have_table x.op) (stands_here o.elf (texts_of o) (alternatives_of o) p (eqb p.variant 0) (decoded_insn o p) i refl other here (of_insn o p (insn_of_point (texts_of o) (alternatives_of o) p) refl (numbered_point o n inside))) ∙ h)
+    ]
 
 -- by the operation of the program
 pub tableless_by : (o : Coded) (n : ℕ) → n < length (points_of_object o) → may_have_table (insn_of_object o (point_at o n)).op ≡ false → table_of_point o (point_at o n) ≡ []

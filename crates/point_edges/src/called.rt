@@ -16,7 +16,7 @@ fn may_be_called(state: State) -> bool
     ensures { result ≡ may_be_called_in state }
 {
     match state {
-        State::Live { .. } | State::Ended { .. } => true,
+        State::Live { .. } | State::Ended(_) => true,
         State::Regs { .. } => false,
     }
 }

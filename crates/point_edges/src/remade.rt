@@ -53,10 +53,10 @@ fn goes_on_behind(places: &PointPlaces<'_, '_, '_>, owner: u32, next: &[u32]) ->
 fn tells_frame(hint: Option<HintState>) -> bool
     ensures { result ≡ tells_a_frame hint }
 {
-    matches!(
-        hint,
-        Some(HintState::Set(State::Live { .. }) | HintState::Restore)
-    )
+    match hint {
+        Some(HintState::Set(State::Live { .. })) | Some(HintState::Restore) => true,
+        _ => false,
+    }
 }
 
 /// Whether hints tell the stack at all of these points.
