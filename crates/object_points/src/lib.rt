@@ -30,3 +30,4 @@ pub use sites::{is_into_site, list_sites, site_holding};
 pub use state_defs::HintState;
 pub use symbol_names::{calls_fentry, never_returns};
 pub use text_sections::{list_texts, list_without_size};
+pub use unchecked::is_among;
