@@ -5,6 +5,7 @@ pub mod Points
 pub mod Items
 pub mod ListedFields
 pub mod OwnerPairs
+mod PatchMarks
 pub mod Made
 pub mod SitePlaces
 pub mod Entries

@@ -1,6 +1,6 @@
 //! Whose code points are.
 
-ghost use Rattle.std.specs.Prelude.{◌≡◌, ◌<◌, ◌+◌, ◌*◌, None, Some, true, false, IfOk, IfSome, IsTrue, length, slice_get, unwrap_or};
+ghost use Rattle.std.specs.Prelude.{◌≡◌, ◌<◌, ◌≤◌, ◌+◌, ◌*◌, None, Some, true, false, IfOk, IfSome, IsTrue, length, slice_get, unwrap_or};
 ghost use Rattle.elf_objects.specs.Elf.{Elf};
 ghost use Rattle.flow_defs.specs.Code.{point_at, points_of_object};
 ghost use Rattle.flow_defs.specs.Program.{is_patch_section};
@@ -108,16 +108,25 @@ fn list_owners(
     Ok(owners)
 }
 
+/// The index of a function, or that behind so many for none.
+fn number_or(function: Option<u32>, count: u32) -> u32
+    requires { IfSome function (λ f. f < count) }
+    ensures value { result ≡ unwrap_or function count }
+    ensures low { result ≤ count }
+{
+    match function {
+        Some(function) => function,
+        None => count,
+    }
+}
+
 /// Where the item stands of the function with an index, or of none.
 fn place_of_item(index: &Index<'_, '_>, function: Option<u32>, in_patches: bool) -> u32
     requires { IfSome function (λ f. f < length index.now.functions) }
     ensures outside { in_patches ≡ false → result ≡ 2 * unwrap_or function (length index.now.functions) }
     ensures patched { in_patches ≡ true → result ≡ 2 * unwrap_or function (length index.now.functions) + 1 }
 {
-    let number = match function {
-        Some(function) => function,
-        None => index.functions().len() as u32,
-    };
+    let number = number_or(function, index.functions().len() as u32);
     if in_patches {
         2 * number + 1
     } else {
