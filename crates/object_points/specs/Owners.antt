@@ -1,6 +1,5 @@
 -- Whose code places are, in a list.
 use Rattle.std.specs.Prelude.{◌≡◌, ℕ, Bool, false, List, Option, slice_index_or}
-use Rattle.ot_base.specs.declared.place.Place.{Place}
 use Rattle.elf_objects.specs.Elf.{Elf}
 use Rattle.program_graph.specs.declared.parts.Owner.{Owner}
 use Rattle.flow_defs.specs.Code.{point_at}

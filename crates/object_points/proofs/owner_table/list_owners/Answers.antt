@@ -11,8 +11,8 @@ loop-number-preserved c =
     let o : Elf = c.args.places.now.elf in
     let fs : List Function = c.args.index.now.functions in
     let n : ℕ = c.loop-number.number in
-    subst (λ (items : List Owner). ArePairs o fs items (n + 1)) (sym (c.in_ok-push-2.ensures.items ∙ ap (λ (items : List Owner). items ++ c.item_at-2.result ∷ []) c.in_ok-push.ensures.items))
-    (pairs_more o fs c.loop-number.owners.items n c.item_at.result c.item_at-2.result c.loop-number.invariant c.item_at.ensures c.item_at-2.ensures)
+    subst (λ (items : List Owner). ArePairs o fs items (n + 1)) (sym (c.in_ok-push-2.ensures.items ∙ ap (λ (items : List Owner). items ++ c.item_at-in-loop-number.result ∷ []) c.in_ok-push.ensures.items))
+    (pairs_more o fs c.loop-number.owners.items n c.item_at.result c.item_at-in-loop-number.result c.loop-number.invariant c.item_at.ensures c.item_at-in-loop-number.ensures)
 
 pub returns : goal.returns
 returns c =

@@ -12,5 +12,5 @@ loop-sec-preserved c =
 pub returns : goal.returns
 returns c =
     let o : Elf = c.args.object.now in
-    let whole : c.loop-sec.sec ≡ length o.sections = omega (arith, c.loop-sec-test.false, c.sections.ensures.value) in
+    let whole : c.loop-sec.sec ≡ length o.sections = omega (arith, c.loop-sec-test.false, c.sections-sec-end.ensures.value) in
     all_marked o c.loop-sec.marks.items (subst (AreMarked o c.loop-sec.marks.items) whole c.loop-sec.invariant)

@@ -1,12 +1,11 @@
 use Rattle.std.proofs.Common.{Bool, cond, Option, None, sym, ap, ◌∙◌}
-use Rattle.ot_base.specs.declared.place.Place.{Place}
 use Rattle.flow_defs.specs.Coded.{Coded}
 use Rattle.special_sections.specs.Special.{special_of}
 use Rattle.alternatives.specs.declared.point.Point.{Point}
 use Rattle.state_defs.specs.declared.state.HintState.{HintState}
 use Rattle.special_sections.specs.HintStates.{hint_at}
 use Rattle.flow_defs.specs.Arrival.{hint_of}
-use Rattle.flow_defs.specs.Code.{plain_point, point_at}
+use Rattle.flow_defs.specs.Code.{point_at}
 use Rattle.object_points.proofs.places.PointPlaces.search_hint.Goals as goal
 
 abbrev unless : Bool → Option HintState → Option HintState
