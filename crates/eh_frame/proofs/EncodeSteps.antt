@@ -12,8 +12,8 @@ use Rattle.elf_objects.specs.Elf.{Elf}
 use Rattle.elf_objects.specs.Contents.{section_at, section_symbol_of}
 use Rattle.table_defs.specs.Order.{ComesBefore}
 use Rattle.orc_bytes.specs.RelocBytes.{bytes_of_reloc}
-use Rattle.eh_frame.specs.Records.{cie, entry_bytes}
-use Rattle.eh_frame.specs.RowFrames.{address_slot, entries_bytes, has_row, rows_in, slots_from, spelled_in, spelled_rows}
+use Rattle.eh_frame.specs.Records.{cie, entry_bytes, terminator}
+use Rattle.eh_frame.specs.RowFrames.{address_slot, entries_bytes, frame_rela, frame_section, frame_slots, has_row, rows_in, slots_from, spelled_in, spelled_rows}
 use Rattle.elf_objects.specs.declared.symbol.Reloc.{Reloc}
 use Rattle.eh_frame.proofs.EntryLemmas.{entry_length}
 use Rattle.eh_frame.proofs.RowSpelling.{spelled_bound}
@@ -34,7 +34,7 @@ pub record EncodedTo (object : Elf) (rows : List PlacedRow) (sec from : ℕ) (bo
   pub relocated : rela ≡ flat_map bytes_of_reloc (slots_from object rows 24 (sections_before rows sec))
   pub short : length body ≤ 24 + 26 * sec + 16 * from
 
-no_row : PlacedRow
+pub no_row : PlacedRow
 no_row = record {
   place = record { sec = 0; off = 0 };
   row = record { sp_offset = pos 0; bp_offset = pos 0; sp_reg = 0; bp_reg = 0; kind = 0; signal = false };
@@ -51,8 +51,22 @@ none_encoded object rows = record {
   short = omega arith;
 }
 
+-- when all sections are written
+pub all_written : (object : Elf) (rows : List PlacedRow) (sec from : ℕ) (body rela new : List ℕ) → sec ≡ length object.sections → EncodedTo object rows sec from body rela → new ≡ body ++ terminator → new ≡ frame_section object rows
+unfolding frame_section sections_before
+all_written object rows sec from body rela new same encoded e =
+    e
+    ∙ ap (λ (bs : List ℕ). bs ++ terminator) encoded.written
+    ∙ ap (λ (n : ℕ). (cie ++ entries_bytes object rows 24 (sections_before rows n)) ++ terminator) same
+    ∙ append_assoc cie (entries_bytes object rows 24 (sections_before rows (length object.sections))) terminator
+
+pub all_relocated : (object : Elf) (rows : List PlacedRow) (sec from : ℕ) (body rela : List ℕ) → sec ≡ length object.sections → EncodedTo object rows sec from body rela → rela ≡ frame_rela object rows
+unfolding frame_slots sections_before
+all_relocated object rows sec from body rela same encoded =
+    encoded.relocated ∙ ap (λ (n : ℕ). flat_map bytes_of_reloc (slots_from object rows 24 (sections_before rows n))) same
+
 -- one number more
-range_more : (n from : ℕ) → range_with_len from (suc n) ≡ range_with_len from n ++ (from + n) ∷ []
+pub range_more : (n from : ℕ) → range_with_len from (suc n) ≡ range_with_len from n ++ (from + n) ∷ []
 range_more zero from = ap (λ (k : ℕ). k ∷ []) (omega arith)
 range_more (suc n) from = ap (λ (ks : List ℕ). from ∷ ks) (range_more n (from + 1) ∙ ap (λ (k : ℕ). range_with_len (from + 1) n ++ k ∷ []) (let e : from + 1 + n ≡ from + suc n = omega arith in e))
 

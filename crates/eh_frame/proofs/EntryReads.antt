@@ -69,11 +69,11 @@ entry_reads at size bytes spelled behind h is =
     let aligned = is.aligned in
     let long = entry_bytes_length at bytes size spelled behind is in
     record {
-      len = ap (little_number 4) is.whole ∙ little_number-reads_back 4 (13 + length spelled) _ (omega arith);
+      len = ap (little_number 4) is.whole ∙ little_number-reads_back 4 (13 + length spelled) ((little_bytes 4 (at + 4) ++ (little_bytes 4 0 ++ (little_bytes 4 size ++ 0 ∷ spelled))) ++ behind) (omega arith);
       least = omega arith;
       most = omega arith;
       aligned = omega arith;
-      back = ap (λ (bs : List ℕ). little_number 4 (drop 4 bs)) is.whole ∙ little_number-reads_back 4 (at + 4) _ (omega arith);
-      address = ap (λ (bs : List ℕ). little_number 4 (drop 8 bs)) is.whole ∙ little_number-reads_back 4 0 _ (omega arith);
+      back = ap (λ (bs : List ℕ). little_number 4 (drop 4 bs)) is.whole ∙ little_number-reads_back 4 (at + 4) ((little_bytes 4 0 ++ (little_bytes 4 size ++ 0 ∷ spelled)) ++ behind) (omega arith);
+      address = ap (λ (bs : List ℕ). little_number 4 (drop 8 bs)) is.whole ∙ little_number-reads_back 4 0 ((little_bytes 4 size ++ 0 ∷ spelled) ++ behind) (omega arith);
       augmentation = ap (λ (bs : List ℕ). get_or bs 16 0) is.whole;
     }

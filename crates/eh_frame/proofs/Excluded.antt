@@ -40,10 +40,10 @@ goes_on size spelled stop is all inside s =
 
 -- entries and the terminator have no fault where they begin
 record_excludes : {object : Elf} {relocs : List Reloc} {at least : ℕ} {es : List Entry} {bytes : List ℕ} (rest : List ℕ) (fault : EhFault) → Entries object relocs at least es bytes → relocs_from relocs (at + length bytes) ≡ [] → rest ≡ bytes ++ terminator → RecordFault object relocs at least rest fault → ⊥
-record_excludes rest fault (records.none a l) last e (faults.record_bytes further no) = further e
+record_excludes rest fault (records.none a l) last e (faults.record_bytes further isnt) = further e
 record_excludes {relocs = relocs} {at = at} rest fault (records.none a l) last e (faults.last_reloc is some) = let here : at + 0 ≡ at = omega arith in some (subst (λ (n : ℕ). relocs_from relocs n ≡ []) here last)
-record_excludes {at = at} rest fault (records.none a l) last e (faults.entry_reloc size spelled behind is no) = no_terminator at size spelled behind (subst (λ (bs : List ℕ). IsEntry at bs size spelled behind) e is)
-record_excludes {at = at} rest fault (records.none a l) last e (faults.entry_section size spelled behind sec section is names no) = no_terminator at size spelled behind (subst (λ (bs : List ℕ). IsEntry at bs size spelled behind) e is)
+record_excludes {at = at} rest fault (records.none a l) last e (faults.entry_reloc size spelled behind is isnt) = no_terminator at size spelled behind (subst (λ (bs : List ℕ). IsEntry at bs size spelled behind) e is)
+record_excludes {at = at} rest fault (records.none a l) last e (faults.entry_section size spelled behind sec section is names isnt) = no_terminator at size spelled behind (subst (λ (bs : List ℕ). IsEntry at bs size spelled behind) e is)
 record_excludes {at = at} rest fault (records.none a l) last e (faults.instruction size spelled behind sec section stop is names order s) = no_terminator at size spelled behind (subst (λ (bs : List ℕ). IsEntry at bs size spelled behind) e is)
 record_excludes {object} {relocs} {at} {least} {es} {bytes} rest fault (records.next a l entry entries spelled bs behind own said further) last e fault_is =
     go fault fault_is
@@ -55,15 +55,15 @@ record_excludes {object} {relocs} {at} {least} {es} {bytes} rest fault (records.
     names_at spelled' f = subst (λ (bs : List ℕ). NamesSection object relocs at (at + 17 + length bs) entry.sec said.section) f said.names
 
     go : (fault : EhFault) → RecordFault object relocs at least rest fault → ⊥
-    go fault (faults.record_bytes other no) = no entry.size spelled (behind ++ terminator) here
+    go fault (faults.record_bytes other isnt) = isnt entry.size spelled (behind ++ terminator) here
     go fault (faults.last_reloc is some) = no_terminator at entry.size spelled (behind ++ terminator) (subst (λ (bs : List ℕ). IsEntry at bs entry.size spelled (behind ++ terminator)) is here)
-    go fault (faults.entry_reloc size spelled' behind' is no) =
+    go fault (faults.entry_reloc size spelled' behind' is isnt) =
         let same = one_entry at rest entry.size size spelled spelled' (behind ++ terminator) behind' here is in
-        no entry.sec said.section (names_at spelled' same.spelled)
-    go fault (faults.entry_section size spelled' behind' sec section is names no) =
+        isnt entry.sec said.section (names_at spelled' same.spelled)
+    go fault (faults.entry_section size spelled' behind' sec section is names isnt) =
         let same = one_entry at rest entry.size size spelled spelled' (behind ++ terminator) behind' here is in
         let sections = one_section object relocs at (at + 17 + length spelled') entry.sec sec said.section section (names_at spelled' same.spelled) names in
-        no (record {
+        isnt (record {
           whole = sym same.size ∙ said.size ∙ ap (λ (s : SectionEntry). s.size) sections.1;
           later = subst (λ (n : ℕ). least ≤ n) sections.0 said.later;
         })
@@ -80,7 +80,7 @@ no_body object name body h e = go (section_named object name) h e
 
 pub fault_excludes : (object : Elf) (entries : List Entry) (fault : EhFault) → FirstFault object fault → HoldsEntries object entries → ⊥
 fault_excludes object entries fault (faults.no_section none) holds = no_body object (codes ".eh_frame") _ none holds.body
-fault_excludes object entries fault (faults.cie_bytes body relocs has no) holds = no (holds.bytes ++ terminator) (some_alike (sym has.bytes ∙ holds.body))
+fault_excludes object entries fault (faults.cie_bytes body relocs has isnt) holds = isnt (holds.bytes ++ terminator) (some_alike (sym has.bytes ∙ holds.body))
 fault_excludes object entries fault (faults.cie_reloc relocs behind has some) holds =
     let same : relocs ≡ holds.relocs = some_alike (sym has.told ∙ holds.told) in
     some (subst (λ (rs : List Reloc). relocs_in rs 0 24 ≡ []) (sym same) holds.first)

@@ -16,6 +16,7 @@ use Rattle.eh_frame.specs.Followed.{first_followed, moved_on, moved_rules, read_
 use Rattle.eh_frame.specs.Faults.{StopsAt}
 use Rattle.eh_frame.proofs.GroupsRead.{AreBytes}
 use Rattle.eh_frame.proofs.InstructionsRead.{spelling_read, reading_spelled, BeginsAs}
+use Rattle.eh_frame.proofs.EntryLemmas.{spelling_long}
 use Rattle.eh_frame.proofs.Listing.{lists, lists_listed}
 
 -- So many bytes are instructions that were followed, and what is still listed behind `new` completes the rules behind `old`.
@@ -58,6 +59,16 @@ within_room (Some x) room r e = go (leb (moves x.instruction) room) refl e
     go : (b : Bool) → leb (moves x.instruction) room ≡ b → cond b (Some x) None ≡ Some r → (Some x ≡ Some r) × (moves r.instruction ≤ room)
     go true t f = (f, subst (λ (y : Read). moves y.instruction ≤ room) (some_alike f) (leb-true _ _ t))
     go false t f = absurd (none-some _ f)
+
+-- it takes a byte at least
+pub read_some : (bytes : List ℕ) (room : ℕ) (r : Read) → AreBytes bytes → read_within bytes room ≡ Some r → 1 ≤ r.len
+read_some bytes room r are e =
+    let begins = reading_spelled bytes r are (within_room (read_instruction bytes) room r e).0 in
+    long begins.own begins.spelled begins.len
+  where
+    long : (own : List ℕ) → Spells r.instruction own → length own ≡ r.len → 1 ≤ r.len
+    long [] s l = absurd (spelling_long r.instruction [] s)
+    long (b ∷ bs) s l = omega arith
 
 pub drop_bytes : (pos : ℕ) (bytes : List ℕ) → AreBytes bytes → AreBytes (drop pos bytes)
 drop_bytes pos bytes are k = rw get_or-drop (are (pos + k))

@@ -35,7 +35,7 @@ use Rattle.eh_frame.specs.ShortRules.{IsShortSaved}
 use Rattle.eh_frame.proofs.RowRules.{Ascend, Ascend-looser, below_ascends, move_to, rows_below, save, set_rule, set_rows, set_section, set_start, section_followed}
 use Rattle.eh_frame.proofs.EntryLemmas.{entry_length}
 use Rattle.eh_frame.specs.RuleAt.{rule_in, HasRule}
-use Rattle.eh_frame.specs.Laws.{HoldsFrames, RuleIsOfLastRow, RowsAreReadBack, rules_of_rows}
+use Rattle.eh_frame.specs.Laws.{HoldsFrames, NoRuleBehind, RuleIsOfLastRow, RowsAreReadBack, rules_of_rows}
 use Rattle.eh_frame.proofs.Listing.{listed_same}
 use Rattle.eh_frame.proofs.RowSpelling.{AreTold, IsTold, padding, section_spelled, section_aligned, spelled_bound}
 
@@ -158,7 +158,7 @@ pub record IsReady (object : Elf) (rows : List PlacedRow) (sec : ℕ) : Type 0 w
   pub ascends : Ascend 0 (rows_in rows sec)
 
 -- sections that ascend from a least one on
-AscendFrom : ℕ → List ℕ → Type 0
+unfoldable pub AscendFrom : ℕ → List ℕ → Type 0
 AscendFrom least [] = Unit {0}
 AscendFrom least (sec ∷ secs) = (least ≤ sec) × AscendFrom (sec + 1) secs
 
@@ -252,7 +252,7 @@ entries_hold object rows (sec ∷ secs) front at least h up ready =
 
 -- What holds of each section that has rows.
 
-cons-nil : {X : Type 0} {a : X} {as : List X} → (a ∷ as) ≡ [] → ⊥
+cons-nil : {X : Type 0} {a : X} {xs : List X} → (a ∷ xs) ≡ [] → ⊥
 cons-nil h = cc
 
 any_passes : {X : Type 0} (p : X → Bool) (xs : List X) → list_any p xs ≡ true → filter p xs ≢ []
@@ -292,8 +292,8 @@ row_told row h = go (row.kind == KIND_CALL) refl
     lower true e call reg off s f = subst (λ (z : ℤ). z ≤ℤ pos 0) (same_saved f) (at_top (h.bp_reg call))
       where
         at_top : (row.bp_reg ≡ REG_UNDEFINED) ⊎ ((row.bp_reg ≡ REG_PREV_SP) × (row.bp_offset ≤ℤ pos 0)) → row.bp_offset ≤ℤ pos 0
-        at_top (inl no) = let is = eqb-true row.bp_reg REG_PREV_SP e in absurd (omega arith)
-        at_top (inr yes) = yes.1
+        at_top (inl none) = let is = eqb-true row.bp_reg REG_PREV_SP e in absurd (omega arith)
+        at_top (inr saved) = saved.1
     lower false e call reg off s f = absurd (none_saved f)
 
     no_call : (reg : CfaReg) (off s : ℤ) → Undefined ≡ Cfa reg off (Some s) → s ≤ℤ pos 0
@@ -322,6 +322,7 @@ found_at (s ∷ sections) zero section e = some_alike e
 found_at (s ∷ sections) (suc i) section e = found_at sections i section e
 
 ready : (object : Elf) (rows : List PlacedRow) (sec : ℕ) → CanHaveFrames object rows → has_row rows sec ≡ true → IsReady object rows sec
+unfolding rows_below
 ready object rows sec can h = go (rows_in rows sec) refl
   where
     some_rows : rows_in rows sec ≢ []
@@ -367,7 +368,7 @@ unfolding AscendFrom
 AscendFrom-looser a b [] h up = tt
 AscendFrom-looser a b (sec ∷ secs) h up = (let k = up.0 in omega arith, up.1)
 
-range_ascends : (p : ℕ → Bool) (n from : ℕ) → AscendFrom from (filter p (range_with_len from n))
+pub range_ascends : (p : ℕ → Bool) (n from : ℕ) → AscendFrom from (filter p (range_with_len from n))
 unfolding AscendFrom
 range_ascends p zero from = tt
 range_ascends p (suc n) from = go (range_ascends p n (from + 1)) (p from)
@@ -376,7 +377,7 @@ range_ascends p (suc n) from = go (range_ascends p n (from + 1)) (p from)
     go further true = (omega arith, further)
     go further false = AscendFrom-looser from (from + 1) (filter p (range_with_len (from + 1) n)) (omega arith) further
 
-all_ready : (object : Elf) (rows : List PlacedRow) → CanHaveFrames object rows → All (IsReady object rows) (sections_with object rows)
+pub all_ready : (object : Elf) (rows : List PlacedRow) → CanHaveFrames object rows → All (IsReady object rows) (sections_with object rows)
 all_ready object rows can = All-weaker (λ (sec : ℕ). has_row rows sec ≡ true) (IsReady object rows) (λ sec h. ready object rows sec can h) (sections_with object rows) (filter_passes (has_row rows) (range_with_len 0 (length object.sections)))
 
 abbrev pub entries_of : Elf → List PlacedRow → List Entry
@@ -457,6 +458,7 @@ rule_is_of_last_row object rows place h inside = record {
 
     go : (b : Bool) → has_row rows place.sec ≡ b → cond (list_any (λ sec. sec == place.sec) (sections_with object rows)) (rule_by_rows rows place.sec place.off) Undefined ≡ rule_by_rows rows place.sec place.off
     go true e =
+        let below = known in
         let found = in_range (has_row rows) place.sec (length object.sections) 0 e (omega arith) (omega arith) in
         ap (λ (b : Bool). cond b (rule_by_rows rows place.sec place.off) Undefined) found
     go false e =
@@ -464,6 +466,27 @@ rule_is_of_last_row object rows place h inside = record {
         let none = none_passes (λ (placed : PlacedRow). placed.place.sec == place.sec) rows e in
         ap (λ (b : Bool). cond b (rule_by_rows rows place.sec place.off) Undefined) missing
         ∙ sym (ap (λ (rs : List PlacedRow). rule_of_last Undefined rs place.off) none)
+
+none_behind : (object : Elf) (rows : List PlacedRow) (secs : List ℕ) (place : Place) → (section_at object place.sec).size ≤ place.off → rule_in (map (entry_of object rows) secs) place ≡ Undefined
+none_behind object rows [] place h = refl
+none_behind object rows (sec ∷ secs) place h = go (none_behind object rows secs place h) (sec == place.sec) refl
+  where
+    here : sec ≡ place.sec → cond (ltb place.off (section_at object sec).size) (rule_at (entry_of object rows sec).instructions place.off) Undefined ≡ Undefined
+    here e =
+        let above : (section_at object sec).size ≤ place.off = subst (λ (n : ℕ). (section_at object n).size ≤ place.off) (sym e) h in
+        let no : ltb place.off (section_at object sec).size ≡ false = le-ltb place.off (section_at object sec).size above in
+        ap (λ (b : Bool). cond b (rule_at (entry_of object rows sec).instructions place.off) Undefined) no
+
+    go : rule_in (map (entry_of object rows) secs) place ≡ Undefined → (b : Bool) → (sec == place.sec) ≡ b → cond b (cond (ltb place.off (section_at object sec).size) (rule_at (entry_of object rows sec).instructions place.off) Undefined) (rule_in (map (entry_of object rows) secs) place) ≡ Undefined
+    go again true e = here (eqb-true sec place.sec e)
+    go again false e = again
+
+pub no_rule_behind : NoRuleBehind
+no_rule_behind object rows place h above = record {
+  entries = entries_of object rows;
+  holds = holds_entries object rows h;
+  is = sym (none_behind object rows (sections_with object rows) place above);
+}
 
 rules_alike : (object : Elf) (rows : List PlacedRow) (secs : List ℕ) → All (IsReady object rows) secs → flat_map (λ sec. listed sec (section_at object sec).size (rule_by_rows rows sec)) secs ≡ flat_map rules_of_entry (map (entry_of object rows) secs)
 rules_alike object rows [] ready = refl

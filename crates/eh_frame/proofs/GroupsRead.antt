@@ -64,7 +64,7 @@ most : ℕ → ℕ → ℕ
 most limit zero = limit
 most limit (suc k) = 128 * most limit k
 
-few_groups : (k : ℕ) {limit : ℕ} {turned : Bool} {n : ℕ} {s : List ℕ} → Groups limit turned n s → n < most limit k → length s ≤ k + 1
+few_groups : {limit : ℕ} {turned : Bool} (k : ℕ) {n : ℕ} {s : List ℕ} → Groups limit turned n s → n < most limit k → length s ≤ k + 1
 unfolding most
 few_groups k (last n h) bound = omega arith
 few_groups zero (more low high bytes l h further) bound = absurd (omega arith)

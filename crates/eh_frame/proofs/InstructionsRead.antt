@@ -301,8 +301,8 @@ at_code code n rest r e h = subst (λ (m : ℕ). BeginsAs r (m ∷ rest)) (sym (
 short_sound : (code : ℕ) (rest : List ℕ) (r : Read) → (leb 0x41 code && leb code 0x7F) ≡ true → read_as (AdvanceLoc (code - 64)) 1 ≡ Some r → BeginsAs r (code ∷ rest)
 short_sound code rest r t e =
     let both = and_parts _ _ t in
-    let low = leb-true _ _ both.0 in
-    let high = leb-true _ _ both.1 in
+    let low : 0x41 ≤ code = leb-true 0x41 code both.0 in
+    let high : code ≤ 0x7F = leb-true code 0x7F both.1 in
     let back : 64 + (code - 64) ≡ code = omega arith in
     subst (λ (m : ℕ). BeginsAs r (m ∷ rest)) back (begins (AdvanceLoc (code - 64)) ((64 + (code - 64)) ∷ []) rest 1 r (advance_loc (code - 64) (omega arith) (omega arith)) refl e)
 

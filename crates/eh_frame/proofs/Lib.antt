@@ -6,8 +6,14 @@ pub mod RelocOrder
 pub mod EntryLemmas
 pub mod Excluded
 pub mod RecordsRead
+pub mod Decoded
 pub mod RowRules
 pub mod EntryReads
 pub mod RowSpelling
 pub mod FrameLaw
 pub mod EncodeSteps
+pub mod EncodeReady
+pub mod SpellSteps
+pub mod EntryFound
+pub mod FrameBound
+pub mod FrameSame

@@ -120,7 +120,7 @@ news_step sec g last r from (suc m) n same =
     first is = rw is refl
 
 -- The rules that are listed behind a location that was reached.
-pub lists : ℕ → ℕ → List Instruction → Followed → List PlacedRule
+unfoldable pub lists : ℕ → ℕ → List Instruction → Followed → List PlacedRule
 lists sec size [] f = moved_rules sec (size - f.location) f
 lists sec size (i ∷ is) f = moved_rules sec (moves i) f ++ lists sec size is (moved_on (moves i) (after i f.state) f)
 

@@ -16,28 +16,28 @@ use Rattle.eh_frame.specs.RowFrames.{rule_of_row, rule_of_last}
 
 -- The instructions for rows.
 
-pub move_to : ℕ → List Instruction
+unfoldable pub move_to : ℕ → List Instruction
 move_to zero = []
 move_to (suc delta) = AdvanceLoc (suc delta) ∷ []
 
-pub save : Option ℤ → Instruction
+unfoldable pub save : Option ℤ → Instruction
 save None = SameRbp
 save (Some off) = SavedRbp off
 
-pub set_rule : CfaRule → List Instruction
+unfoldable pub set_rule : CfaRule → List Instruction
 set_rule Undefined = UndefinedReturn ∷ []
 set_rule (Cfa reg off bp) = DefCfa reg off ∷ SavedReturn ∷ save bp ∷ []
 
-pub set_rows : ℕ → List PlacedRow → List Instruction
+unfoldable pub set_rows : ℕ → List PlacedRow → List Instruction
 set_rows location [] = []
 set_rows location (placed ∷ rows) = move_to (placed.place.off - location) ++ (set_rule (rule_of_row placed.row) ++ set_rows placed.place.off rows)
 
-pub set_start : List PlacedRow → List Instruction
+unfoldable pub set_start : List PlacedRow → List Instruction
 set_start [] = []
 set_start (placed ∷ rows) = cond (placed.place.off == 0) [] (UndefinedReturn ∷ [])
 
 -- Rows ascend from an offset on.
-pub Ascend : ℕ → List PlacedRow → Type 0
+unfoldable pub Ascend : ℕ → List PlacedRow → Type 0
 Ascend least [] = Unit {0}
 Ascend least (placed ∷ rows) = (least ≤ placed.place.off) × Ascend (placed.place.off + 1) rows
 
@@ -118,7 +118,7 @@ padding_followed [] n location s off = nops_followed n location s off
 padding_followed (i ∷ is) n location s off = ap (λ (t : FrameState). cond (ltb off (location + moves i)) s t) (padding_followed is n (location + moves i) (after i s) off)
 
 -- from the beginning of a section on
-pub set_section : List PlacedRow → List PlacedRow → ℕ → List Instruction
+unfoldable pub set_section : List PlacedRow → List PlacedRow → ℕ → List Instruction
 set_section rows below n = (set_start rows ++ set_rows 0 below) ++ replicate n Nop
 
 -- the rule before the first row counts for nothing where this is at or below an offset
@@ -126,7 +126,7 @@ first_counts : (placed : PlacedRow) (rows : List PlacedRow) (one other : CfaRule
 first_counts placed rows one other off h = let no : ltb off placed.place.off ≡ false = le-ltb off placed.place.off h in rw no refl
 
 -- those of rows below an offset
-pub rows_below : ℕ → List PlacedRow → List PlacedRow
+unfoldable pub rows_below : ℕ → List PlacedRow → List PlacedRow
 rows_below size rows = filter (λ placed. ltb placed.place.off size) rows
 
 none_below : (size least : ℕ) (rows : List PlacedRow) → size ≤ least → Ascend least rows → rows_below size rows ≡ []

@@ -178,7 +178,7 @@ start_short : (rows : List PlacedRow) → length (start_bytes rows) ≤ 2
 start_short [] = omega arith
 start_short (placed ∷ rows) = go (placed.place.off == 0)
   where
-    go : (b : Bool) → length (cond b [] (0x07 ∷ 0x10 ∷ [])) ≤ 2
+    go : (b : Bool) → length {A = ℕ} (cond b [] (0x07 ∷ 0x10 ∷ [])) ≤ 2
     go true = omega arith
     go false = omega arith
 
@@ -191,6 +191,6 @@ spelled_bound size rows =
     let a = rows_short (rows_below size rows) 0 in
     let b = length-append (start_bytes rows) (rows_bytes 0 (rows_below size rows)) in
     let c = start_short rows in
-    let d = length-append (start_bytes rows ++ rows_bytes 0 (rows_below size rows)) (replicate (7 - length (start_bytes rows ++ rows_bytes 0 (rows_below size rows)) % 8) 0) in
+    let d : length (spelled_rows size rows) ≡ length (start_bytes rows ++ rows_bytes 0 (rows_below size rows)) + length (replicate (7 - length (start_bytes rows ++ rows_bytes 0 (rows_below size rows)) % 8) 0) = length-append (start_bytes rows ++ rows_bytes 0 (rows_below size rows)) (replicate (7 - length (start_bytes rows ++ rows_bytes 0 (rows_below size rows)) % 8) 0) in
     let e = length-replicate (7 - length (start_bytes rows ++ rows_bytes 0 (rows_below size rows)) % 8) 0 in
     omega arith

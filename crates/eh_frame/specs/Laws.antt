@@ -1,10 +1,11 @@
 -- What holds of every object that has the call frame information of rows.
-use Rattle.std.specs.Prelude.{◌≡◌, ◌<◌, ◌^◌, List, Some, codes, flat_map, length}
+use Rattle.std.specs.Prelude.{◌≡◌, ◌<◌, ◌≤◌, List, Some, codes, flat_map, length}
 use Rattle.ot_base.specs.declared.place.Place.{Place}
 use Rattle.ot_base.specs.declared.row.PlacedRow.{PlacedRow}
 use Rattle.elf_objects.specs.Elf.{Elf}
 use Rattle.elf_objects.specs.Contents.{section_at}
 use Rattle.orc_bytes.specs.Sections.{body_named, relocs_named}
+use Rattle.eh_frame.specs.declared.rule.CfaRule.TheVariants.{Undefined}
 use Rattle.eh_frame.specs.declared.rule.PlacedRule.{PlacedRule}
 use Rattle.eh_frame.specs.Records.{HoldsRules}
 use Rattle.eh_frame.specs.Rules.{listed}
@@ -20,6 +21,10 @@ pub record HoldsFrames (object : Elf) (rows : List PlacedRow) : Type 0 where
 -- At every place of a section the rule is that of the last row at or below it in its section.
 abbrev pub RuleIsOfLastRow : Type 0
 RuleIsOfLastRow = (object : Elf) (rows : List PlacedRow) (place : Place) → HoldsFrames object rows → place.off < (section_at object place.sec).size → HasRule object place (rule_by_rows rows place.sec place.off)
+
+-- From a section's size on there is none.
+abbrev pub NoRuleBehind : Type 0
+NoRuleBehind = (object : Elf) (rows : List PlacedRow) (place : Place) → HoldsFrames object rows → (section_at object place.sec).size ≤ place.off → HasRule object place Undefined
 
 -- the rules of rows: for each section that has some, that at its beginning, and each that isn't the one before
 abbrev pub rules_of_rows : Elf → List PlacedRow → List PlacedRule

@@ -19,7 +19,7 @@ mod worked;
 mod writing;
 
 pub use fault::EhFault;
-pub use laws::{rows_are_read_back, rule_is_of_last_row};
+pub use laws::{no_rule_behind, rows_are_read_back, rule_is_of_last_row};
 pub use reading::decode;
 pub use rule::{CfaReg, CfaRule, PlacedRule};
 pub use rule_text::RuleLine;

@@ -2,11 +2,12 @@
 
 ghost use Rattle.std.specs.Prelude.{◌≡◌, ◌≤◌, ◌<◌, ◌+◌, ◌^◌, [], List, length, drop, take, All, IsPermutation, IfOk, IfErr, IfSome, IsOkUnless};
 ghost use Rattle.std.specs.List.Sorted.{IsNonDecreasingBy};
+ghost use Rattle.eh_frame.specs.declared.fault.EhFault.{EhFault as EhFaultValue};
 ghost use Rattle.eh_frame.specs.declared.rule.PlacedRule.{PlacedRule as PlacedRuleValue};
 ghost use Rattle.elf_objects.specs.Contents.{relocs_at};
 ghost use Rattle.orc_bytes.specs.Sections.{section_named};
 ghost use Rattle.eh_frame.specs.Records.{cie, relocs_in, terminator, HoldsRules};
-ghost use Rattle.eh_frame.specs.Faults.{HasFrames, RecordFault, Refuses};
+ghost use Rattle.eh_frame.specs.Faults.{FirstFault, HasFrames, RecordFault, Refuses};
 ghost use Rattle.eh_frame.specs.Cursor.{AreFrom};
 ghost use Rattle.eh_frame.specs.Found.{IsFound, ReadsRecords};
 
@@ -44,21 +45,23 @@ pub(crate) struct Found<'a> {
 }
 
 /// The entry at the beginning of some bytes, which stand at an offset of a section and aren't those that end it; or what is wrong
-/// with it. `relocs` are the section's relocations from that offset on, ascending, and `least` the least section that may come.
+/// with it, which is what is wrong with the object. `relocs` are the section's relocations from that offset on, ascending, and
+/// `least` the least section that may come.
 fn find_entry<'a>(
     object: &Object<'_>,
     section: u32,
     bytes: &'a [u8],
     at: usize,
     relocs: &[Reloc],
-    least: u32,
+    least: u64,
 ) -> Result<Found<'a>, EhFault>
     requires short { at + length bytes.now < 2 ^ 32 }
     requires ascending { IsNonDecreasingBy (λ r. r.offset) relocs.now }
     requires from { AreFrom (relocs_at object.now section) at relocs.now }
     requires further { bytes.now ≡ terminator → ⊥ }
+    requires first { (fault : EhFaultValue) → RecordFault object.now (relocs_at object.now section) at least bytes.now fault → FirstFault object.now fault }
     ensures ok { IfOk result (λ found. IsFound object.now (relocs_at object.now section) at least bytes.now relocs.now found) }
-    ensures err { IfErr result (RecordFault object.now (relocs_at object.now section) at least bytes.now) }
+    ensures err { IfErr result (Refuses object.now) }
 {
     let off = at as u64;
     let Some(entry) = read_entry(bytes, at) else {
@@ -71,7 +74,7 @@ fn find_entry<'a>(
     let Some(sec) = addressed_text(object, &reloc, off) else {
         return Err(EhFault::BadReloc { off });
     };
-    if object.section_size(sec) != u64::from(entry.size) || sec < least {
+    if object.section_size(sec) != u64::from(entry.size) || u64::from(sec) < least {
         return Err(EhFault::BadRecord { off });
     }
     Ok(Found {
@@ -116,7 +119,7 @@ fn read_records(
         }
         at += 17 + found.spelled.len();
         next += 1;
-        least = found.sec + 1;
+        least = u64::from(found.sec) + 1;
     }
     if next < relocs.len() {
         return Err(EhFault::BadReloc { off: at as u64 });

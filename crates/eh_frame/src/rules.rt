@@ -2,7 +2,7 @@
 
 ghost use Rattle.std.specs.Prelude.{◌≡◌, ◌≤◌, ◌<◌, ◌+◌, ◌++◌, ◌^◌, length, IfErr, OnOk};
 ghost use Rattle.eh_frame.specs.Followed.{first_followed, moved_on, moved_rules, read_within, IsListFault, ListsRules};
-ghost use Rattle.eh_frame.specs.Rules.{after};
+ghost use Rattle.eh_frame.specs.Rules.{after, moves};
 
 use crate::instruction::{Instruction, Read, read_instruction};
 use crate::rule::{CfaRule, PlacedRule};
