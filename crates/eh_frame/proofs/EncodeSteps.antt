@@ -84,8 +84,8 @@ entries_more object rows (s ∷ secs) at sec =
     let own : List ℕ = entry_bytes at (section_at object s).size (spelled_in object rows s) in
     let next : ℕ = at + 17 + length (spelled_in object rows s) in
     let long : length (entry_bytes at (section_at object s).size (spelled_in object rows s) ++ entries_bytes object rows (at + 17 + length (spelled_in object rows s)) secs) ≡ 17 + length (spelled_in object rows s) + length (entries_bytes object rows (at + 17 + length (spelled_in object rows s)) secs) =
-      length-append (entry_bytes at (section_at object s).size (spelled_in object rows s)) (entries_bytes object rows (at + 17 + length (spelled_in object rows s)) secs)
-      ∙ ap (λ (k : ℕ). k + length (entries_bytes object rows (at + 17 + length (spelled_in object rows s)) secs)) (entry_length at (section_at object s).size (spelled_in object rows s)) in
+    length-append (entry_bytes at (section_at object s).size (spelled_in object rows s)) (entries_bytes object rows (at + 17 + length (spelled_in object rows s)) secs)
+    ∙ ap (λ (k : ℕ). k + length (entries_bytes object rows (at + 17 + length (spelled_in object rows s)) secs)) (entry_length at (section_at object s).size (spelled_in object rows s)) in
     let place : at + 17 + length (spelled_in object rows s) + length (entries_bytes object rows (at + 17 + length (spelled_in object rows s)) secs) ≡ at + length (entry_bytes at (section_at object s).size (spelled_in object rows s) ++ entries_bytes object rows (at + 17 + length (spelled_in object rows s)) secs) = omega arith in
     ap (λ (bs : List ℕ). entry_bytes at (section_at object s).size (spelled_in object rows s) ++ bs) (entries_more object rows secs (at + 17 + length (spelled_in object rows s)) sec)
     ∙ sym (append_assoc (entry_bytes at (section_at object s).size (spelled_in object rows s)) (entries_bytes object rows (at + 17 + length (spelled_in object rows s)) secs) (entry_bytes (at + 17 + length (spelled_in object rows s) + length (entries_bytes object rows (at + 17 + length (spelled_in object rows s)) secs)) (section_at object sec).size (spelled_in object rows sec)))
@@ -95,8 +95,8 @@ entries_more object rows (s ∷ secs) at sec =
 in_three : (rows : List PlacedRow) (from to sec : ℕ) → from ≤ to → to ≤ length rows → All (λ placed. placed.place.sec < sec) (take from rows) → All (λ placed. placed.place.sec ≡ sec) (take (to - from) (drop from rows)) → All (λ placed. sec < placed.place.sec) (drop to rows) → rows_in rows sec ≡ take (to - from) (drop from rows)
 in_three rows from to sec h k before own behind =
     let front : rows ≡ take from rows ++ (take (to - from) (drop from rows) ++ drop to rows) =
-      sym (take-append-drop from rows)
-      ∙ ap (λ (rs : List PlacedRow). take from rows ++ rs) (sym (take-append-drop (to - from) (drop from rows)) ∙ ap (λ (rs : List PlacedRow). take (to - from) (drop from rows) ++ rs) (drop-drop (to - from) from rows ∙ ap (λ (n : ℕ). drop n rows) (let e : from + (to - from) ≡ to = omega arith in e))) in
+    sym (take-append-drop from rows)
+    ∙ ap (λ (rs : List PlacedRow). take from rows ++ rs) (sym (take-append-drop (to - from) (drop from rows)) ∙ ap (λ (rs : List PlacedRow). take (to - from) (drop from rows) ++ rs) (drop-drop (to - from) from rows ∙ ap (λ (n : ℕ). drop n rows) (let e : from + (to - from) ≡ to = omega arith in e))) in
     ap (λ (rs : List PlacedRow). rows_in rs sec) front
     ∙ filter-append (λ (placed : PlacedRow). placed.place.sec == sec) (take from rows) (take (to - from) (drop from rows) ++ drop to rows)
     ∙ ap (λ (rs : List PlacedRow). rs ++ rows_in (take (to - from) (drop from rows) ++ drop to rows) sec) (none_in (take from rows) (All-weaker (λ (placed : PlacedRow). placed.place.sec < sec) (λ (placed : PlacedRow). placed.place.sec ≢ sec) (λ placed l e. absurd (omega arith)) (take from rows) before))
@@ -139,7 +139,7 @@ run_behind rows from to sec up run behind = All-from_get_or (λ (placed : Placed
     let k = length-drop from rows in
     let inside : to < length rows = omega arith in
     let first : sec ≤ (get_or rows to no_row).place.sec =
-      subst (λ (placed : PlacedRow). sec ≤ placed.place.sec) (get_or-drop from rows (to - from) no_row ∙ ap (λ (n : ℕ). get_or rows n no_row) (let e : from + (to - from) ≡ to = omega arith in e)) (All-get_or (λ (placed : PlacedRow). sec ≤ placed.place.sec) (drop from rows) (to - from) no_row (omega arith) behind) in
+    subst (λ (placed : PlacedRow). sec ≤ placed.place.sec) (get_or-drop from rows (to - from) no_row ∙ ap (λ (n : ℕ). get_or rows n no_row) (let e : from + (to - from) ≡ to = omega arith in e)) (All-get_or (λ (placed : PlacedRow). sec ≤ placed.place.sec) (drop from rows) (to - from) no_row (omega arith) behind) in
     let other = run.next no_row inside in
     let above : sec < (get_or rows to no_row).place.sec = further first other in
     subst (λ (placed : PlacedRow). sec < placed.place.sec) (sym (get_or-drop to rows i no_row)) (later i (omega arith) inside above))
@@ -167,15 +167,15 @@ apart : (rows : List PlacedRow) (from sec : ℕ) → All (λ placed. placed.plac
 apart rows from sec before behind =
     subst (λ (rs : List PlacedRow). All (λ placed. placed.place.sec ≢ sec) rs) (take-append-drop from rows)
     (All-append (λ (placed : PlacedRow). placed.place.sec ≢ sec) (take from rows) (drop from rows)
-      (All-weaker (λ (placed : PlacedRow). placed.place.sec < sec) (λ (placed : PlacedRow). placed.place.sec ≢ sec) (λ placed l e. absurd (omega arith)) (take from rows) before)
-      (All-weaker (λ (placed : PlacedRow). sec < placed.place.sec) (λ (placed : PlacedRow). placed.place.sec ≢ sec) (λ placed l e. absurd (omega arith)) (drop from rows) behind))
+    (All-weaker (λ (placed : PlacedRow). placed.place.sec < sec) (λ (placed : PlacedRow). placed.place.sec ≢ sec) (λ placed l e. absurd (omega arith)) (take from rows) before)
+    (All-weaker (λ (placed : PlacedRow). sec < placed.place.sec) (λ (placed : PlacedRow). placed.place.sec ≢ sec) (λ placed l e. absurd (omega arith)) (drop from rows) behind))
 
 slots_more : (object : Elf) (rows : List PlacedRow) (secs : List ℕ) (at sec : ℕ) → slots_from object rows at (secs ++ sec ∷ []) ≡ slots_from object rows at secs ++ address_slot (section_symbol_of object) (at + length (entries_bytes object rows at secs)) sec ∷ []
 slots_more object rows [] at sec = ap (λ (k : ℕ). address_slot (section_symbol_of object) k sec ∷ []) (let z : at ≡ at + 0 = omega arith in z)
 slots_more object rows (s ∷ secs) at sec =
     let long : length (entry_bytes at (section_at object s).size (spelled_in object rows s) ++ entries_bytes object rows (at + 17 + length (spelled_in object rows s)) secs) ≡ 17 + length (spelled_in object rows s) + length (entries_bytes object rows (at + 17 + length (spelled_in object rows s)) secs) =
-      length-append (entry_bytes at (section_at object s).size (spelled_in object rows s)) (entries_bytes object rows (at + 17 + length (spelled_in object rows s)) secs)
-      ∙ ap (λ (k : ℕ). k + length (entries_bytes object rows (at + 17 + length (spelled_in object rows s)) secs)) (entry_length at (section_at object s).size (spelled_in object rows s)) in
+    length-append (entry_bytes at (section_at object s).size (spelled_in object rows s)) (entries_bytes object rows (at + 17 + length (spelled_in object rows s)) secs)
+    ∙ ap (λ (k : ℕ). k + length (entries_bytes object rows (at + 17 + length (spelled_in object rows s)) secs)) (entry_length at (section_at object s).size (spelled_in object rows s)) in
     let place : at + 17 + length (spelled_in object rows s) + length (entries_bytes object rows (at + 17 + length (spelled_in object rows s)) secs) ≡ at + length (entry_bytes at (section_at object s).size (spelled_in object rows s) ++ entries_bytes object rows (at + 17 + length (spelled_in object rows s)) secs) = omega arith in
     ap (λ (rs : List Reloc). address_slot (section_symbol_of object) at s ∷ rs) (slots_more object rows secs (at + 17 + length (spelled_in object rows s)) sec
     ∙ ap (λ (k : ℕ). slots_from object rows (at + 17 + length (spelled_in object rows s)) secs ++ address_slot (section_symbol_of object) k sec ∷ []) place)
@@ -193,10 +193,10 @@ module _ (object : Elf) (rows : List PlacedRow) (sec from to : ℕ) (body rela :
       let l : length (take to rows) ≡ to = length-take-le to rows high in
       subst (λ (placed : PlacedRow). placed.place.sec < sec + 1) (sym (get_or-take to rows i no_row (omega arith))) (elim (cases_lt i from) [
         | inl front ↦
-          let w = encoded.within in
-          let k : length (take from rows) ≡ from = length-take-le from rows w in
-          let below : (get_or rows i no_row).place.sec < sec = subst (λ (placed : PlacedRow). placed.place.sec < sec) (get_or-take from rows i no_row front) (All-get_or (λ (placed : PlacedRow). placed.place.sec < sec) (take from rows) i no_row (omega arith) encoded.before) in
-          omega arith
+            let w = encoded.within in
+            let k : length (take from rows) ≡ from = length-take-le from rows w in
+            let below : (get_or rows i no_row).place.sec < sec = subst (λ (placed : PlacedRow). placed.place.sec < sec) (get_or-take from rows i no_row front) (All-get_or (λ (placed : PlacedRow). placed.place.sec < sec) (take from rows) i no_row (omega arith) encoded.before) in
+            omega arith
         | inr later ↦ let is = run.own i no_row later (omega arith) in omega arith
       ]))
 
@@ -238,20 +238,20 @@ module _ (object : Elf) (rows : List PlacedRow) (sec from to : ℕ) (body rela :
         before = next_before;
         behind = next_behind;
         written =
-          more
-          ∙ ap (λ (bs : List ℕ). body ++ entry_bytes (length body) (section_at object sec).size bs) bytes
-          ∙ ap (λ (k : ℕ). body ++ entry_bytes k (section_at object sec).size (spelled_in object rows sec)) at
-          ∙ ap (λ (bs : List ℕ). bs ++ entry_bytes (24 + length (entries_bytes object rows 24 (sections_before rows sec))) (section_at object sec).size (spelled_in object rows sec)) encoded.written
-          ∙ append_assoc cie (entries_bytes object rows 24 (sections_before rows sec)) (entry_bytes (24 + length (entries_bytes object rows 24 (sections_before rows sec))) (section_at object sec).size (spelled_in object rows sec))
-          ∙ ap (λ (bs : List ℕ). cie ++ bs) (sym (entries_more object rows (sections_before rows sec) 24 sec))
-          ∙ ap (λ (ss : List ℕ). cie ++ entries_bytes object rows 24 ss) (sym secs);
+            more
+            ∙ ap (λ (bs : List ℕ). body ++ entry_bytes (length body) (section_at object sec).size bs) bytes
+            ∙ ap (λ (k : ℕ). body ++ entry_bytes k (section_at object sec).size (spelled_in object rows sec)) at
+            ∙ ap (λ (bs : List ℕ). bs ++ entry_bytes (24 + length (entries_bytes object rows 24 (sections_before rows sec))) (section_at object sec).size (spelled_in object rows sec)) encoded.written
+            ∙ append_assoc cie (entries_bytes object rows 24 (sections_before rows sec)) (entry_bytes (24 + length (entries_bytes object rows 24 (sections_before rows sec))) (section_at object sec).size (spelled_in object rows sec))
+            ∙ ap (λ (bs : List ℕ). cie ++ bs) (sym (entries_more object rows (sections_before rows sec) 24 sec))
+            ∙ ap (λ (ss : List ℕ). cie ++ entries_bytes object rows 24 ss) (sym secs);
         relocated =
-          moved
-          ∙ ap (λ (bs : List ℕ). bs ++ bytes_of_reloc (address_slot (section_symbol_of object) (length body) sec)) encoded.relocated
-          ∙ ap (λ (k : ℕ). flat_map bytes_of_reloc (slots_from object rows 24 (sections_before rows sec)) ++ bytes_of_reloc (address_slot (section_symbol_of object) k sec)) at
-          ∙ ap (λ (bs : List ℕ). flat_map bytes_of_reloc (slots_from object rows 24 (sections_before rows sec)) ++ bs) (sym (append-nil (bytes_of_reloc (address_slot (section_symbol_of object) (24 + length (entries_bytes object rows 24 (sections_before rows sec))) sec))))
-          ∙ sym (flat_map-append bytes_of_reloc (slots_from object rows 24 (sections_before rows sec)) (address_slot (section_symbol_of object) (24 + length (entries_bytes object rows 24 (sections_before rows sec))) sec ∷ []))
-          ∙ ap (flat_map bytes_of_reloc) (sym (slots_more object rows (sections_before rows sec) 24 sec))
-          ∙ ap (λ (ss : List ℕ). flat_map bytes_of_reloc (slots_from object rows 24 ss)) (sym secs);
+            moved
+            ∙ ap (λ (bs : List ℕ). bs ++ bytes_of_reloc (address_slot (section_symbol_of object) (length body) sec)) encoded.relocated
+            ∙ ap (λ (k : ℕ). flat_map bytes_of_reloc (slots_from object rows 24 (sections_before rows sec)) ++ bytes_of_reloc (address_slot (section_symbol_of object) k sec)) at
+            ∙ ap (λ (bs : List ℕ). flat_map bytes_of_reloc (slots_from object rows 24 (sections_before rows sec)) ++ bs) (sym (append-nil (bytes_of_reloc (address_slot (section_symbol_of object) (24 + length (entries_bytes object rows 24 (sections_before rows sec))) sec))))
+            ∙ sym (flat_map-append bytes_of_reloc (slots_from object rows 24 (sections_before rows sec)) (address_slot (section_symbol_of object) (24 + length (entries_bytes object rows 24 (sections_before rows sec))) sec ∷ []))
+            ∙ ap (flat_map bytes_of_reloc) (sym (slots_more object rows (sections_before rows sec) 24 sec))
+            ∙ ap (λ (ss : List ℕ). flat_map bytes_of_reloc (slots_from object rows 24 ss)) (sym secs);
         short = let s = encoded.short in omega arith;
       }

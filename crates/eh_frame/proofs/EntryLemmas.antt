@@ -139,9 +139,9 @@ one_section object relocs at end sec sec' section section' one two =
     let listed : (one.reloc ∷ []) ≡ (two.reloc ∷ []) = sym one.one ∙ two.one in
     let same : one.reloc ≡ two.reloc = first listed in
     let here : home.Section sec ≡ home.Section sec' =
-      sym (symbol_home object sec one.reloc.sym one.address.symbol.symbol)
-      ∙ ap (λ (r : Reloc). (symbol_at object r.sym).home) same
-      ∙ symbol_home object sec' two.reloc.sym two.address.symbol.symbol in
+    sym (symbol_home object sec one.reloc.sym one.address.symbol.symbol)
+    ∙ ap (λ (r : Reloc). (symbol_at object r.sym).home) same
+    ∙ symbol_home object sec' two.reloc.sym two.address.symbol.symbol in
     let number : sec ≡ sec' = same_number here in
     (number, some_alike (sym one.address.symbol.at ∙ ap (λ (k : ℕ). slice_get object.sections k) number ∙ two.address.symbol.at))
   where
@@ -227,8 +227,8 @@ entries_more {object} {relocs} {at} {least} {es} {front} entry spelled own (reco
     (entry_before at front first.size spelled' behind own own')
     said'
     (entries_more entry spelled own further
-      (subst (λ (n : ℕ). IsEntry n own entry.size spelled []) here is)
-      (subst (λ (n : ℕ). EntryAt object relocs n (least_behind (first.sec + 1) entries) entry spelled) here said))
+    (subst (λ (n : ℕ). IsEntry n own entry.size spelled []) here is)
+    (subst (λ (n : ℕ). EntryAt object relocs n (least_behind (first.sec + 1) entries) entry spelled) here said))
 
 pub no_entries : {object : Elf} {relocs : List Reloc} {at least : ℕ} {es : List Entry} {bytes : List ℕ} → Entries object relocs at least es bytes → bytes ≡ [] → es ≡ []
 no_entries (records.none a l) e = refl

@@ -44,19 +44,19 @@ entry_found at n bytes spelled are h has is fits =
     let long : length spelled ≡ n - 13 = ap length is ∙ length-take-le (n - 13) (drop 17 bytes) (omega arith) in
     let size : ℕ = little_number 4 (drop 12 bytes) in
     let tail : drop 17 bytes ≡ spelled ++ drop (17 + length spelled) bytes =
-      sym (take-append-drop (n - 13) (drop 17 bytes))
-      ∙ ap (λ (bs : List ℕ). bs ++ drop (n - 13) (drop 17 bytes)) (sym is)
-      ∙ ap (λ (bs : List ℕ). spelled ++ bs) (drop-drop (n - 13) 17 bytes)
-      ∙ ap (λ (k : ℕ). spelled ++ drop (17 + k) bytes) (sym long) in
+    sym (take-append-drop (n - 13) (drop 17 bytes))
+    ∙ ap (λ (bs : List ℕ). bs ++ drop (n - 13) (drop 17 bytes)) (sym is)
+    ∙ ap (λ (bs : List ℕ). spelled ++ bs) (drop-drop (n - 13) 17 bytes)
+    ∙ ap (λ (k : ℕ). spelled ++ drop (17 + k) bytes) (sym long) in
     let byte : drop 16 bytes ≡ 0 ∷ drop 17 bytes = drop_more bytes 16 0 (omega arith) ∙ ap (λ (b : ℕ). b ∷ drop 17 bytes) has.augmentation in
     record {
       whole =
-        four_split bytes 0 n are (omega arith) has.len
-        ∙ ap (λ (k : ℕ). little_bytes 4 k ++ drop 4 bytes) (let k : n ≡ 13 + length spelled = omega arith in k)
-        ∙ ap (λ (bs : List ℕ). little_bytes 4 (13 + length spelled) ++ bs) (four_split bytes 4 (at + 4) are (omega arith) has.back
-        ∙ ap (λ (bs : List ℕ). little_bytes 4 (at + 4) ++ bs) (four_split bytes 8 0 are (omega arith) has.address
-        ∙ ap (λ (bs : List ℕ). little_bytes 4 0 ++ bs) (four_split bytes 12 size are (omega arith) refl
-        ∙ ap (λ (bs : List ℕ). little_bytes 4 size ++ bs) (byte ∙ ap (λ (bs : List ℕ). 0 ∷ bs) tail))));
+          four_split bytes 0 n are (omega arith) has.len
+          ∙ ap (λ (k : ℕ). little_bytes 4 k ++ drop 4 bytes) (let k : n ≡ 13 + length spelled = omega arith in k)
+          ∙ ap (λ (bs : List ℕ). little_bytes 4 (13 + length spelled) ++ bs) (four_split bytes 4 (at + 4) are (omega arith) has.back
+          ∙ ap (λ (bs : List ℕ). little_bytes 4 (at + 4) ++ bs) (four_split bytes 8 0 are (omega arith) has.address
+          ∙ ap (λ (bs : List ℕ). little_bytes 4 0 ++ bs) (four_split bytes 12 size are (omega arith) refl
+          ∙ ap (λ (bs : List ℕ). little_bytes 4 size ++ bs) (byte ∙ ap (λ (bs : List ℕ). 0 ∷ bs) tail))));
       aligned = omega arith;
       short = omega arith;
       fits = fits;

@@ -104,9 +104,9 @@ module _ (sec size : ℕ) (spelled : List ℕ) (pos : ℕ) (f : Followed) (old n
         within = further_within spelled begins.own begins.behind pos r.len p.within begins.whole begins.len;
         inside = omega arith;
         told = λ todo.
-          append_assoc new (moved_rules sec (moves r.instruction) f) (lists sec size todo (moved_on (moves r.instruction) (after r.instruction f.state) f))
-          ∙ p.told (r.instruction ∷ todo)
-          ∙ ap (λ is. old ++ lists sec size is first_followed) (sym (append_assoc p.before (r.instruction ∷ []) todo));
+            append_assoc new (moved_rules sec (moves r.instruction) f) (lists sec size todo (moved_on (moves r.instruction) (after r.instruction f.state) f))
+            ∙ p.told (r.instruction ∷ todo)
+            ∙ ap (λ is. old ++ lists sec size is first_followed) (sym (append_assoc p.before (r.instruction ∷ []) todo));
       }
 
   -- at the end
@@ -120,9 +120,9 @@ module _ (sec size : ℕ) (spelled : List ℕ) (pos : ℕ) (f : Followed) (old n
         read = subst (λ (bs : List ℕ). SpellsAll p.before bs) (take_all pos spelled end) p.read;
         inside = omega arith;
         told =
-          p.told []
-          ∙ ap (λ is. old ++ lists sec size is first_followed) (append-nil p.before)
-          ∙ ap (λ rs. old ++ rs) (lists_listed sec size p.before (omega arith));
+            p.told []
+            ∙ ap (λ is. old ++ lists sec size is first_followed) (append-nil p.before)
+            ∙ ap (λ rs. old ++ rs) (lists_listed sec size p.before (omega arith));
       }
 
   -- at an instruction that isn't one of the profile, or goes too far
@@ -137,11 +137,11 @@ module _ (sec size : ℕ) (spelled : List ℕ) (pos : ℕ) (f : Followed) (old n
     inside = let location = p.location in let inside = p.inside in omega arith;
     more = λ is. let long : length (drop pos spelled) ≡ 0 = ap length is in let d = length-drop pos spelled in absurd (omega arith);
     none = λ i own behind s whole fits.
-      let location = p.location in
-      let room : moves i ≤ size - f.location = omega arith in
-      let read : read_instruction (drop pos spelled) ≡ Some (record { instruction = i; len = length own }) = ap read_instruction whole ∙ spelling_read s behind in
-      let small : leb (moves i) (size - f.location) ≡ true = le-leb _ _ room in
-      none-some _ (sym e ∙ ap (λ o. kept_within o (size - f.location)) read ∙ kept small (record { instruction = i; len = length own }) refl);
+        let location = p.location in
+        let room : moves i ≤ size - f.location = omega arith in
+        let read : read_instruction (drop pos spelled) ≡ Some (record { instruction = i; len = length own }) = ap read_instruction whole ∙ spelling_read s behind in
+        let small : leb (moves i) (size - f.location) ≡ true = le-leb _ _ room in
+        none-some _ (sym e ∙ ap (λ o. kept_within o (size - f.location)) read ∙ kept small (record { instruction = i; len = length own }) refl);
   }
     where
       kept : {b : Bool} → b ≡ true → (r : Read) {o : Option Read} → o ≡ cond b (Some r) None → o ≡ Some r

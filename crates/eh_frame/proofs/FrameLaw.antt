@@ -192,8 +192,8 @@ slots_within object rows [] at = All-nil (λ (r : Reloc). r.offset < at + 0)
 slots_within object rows (sec ∷ secs) at =
     let n : ℕ = at + 17 + length (spelled_in object rows sec) in
     let whole : length (entries_bytes object rows at (sec ∷ secs)) ≡ 17 + length (spelled_in object rows sec) + length (entries_bytes object rows (at + 17 + length (spelled_in object rows sec)) secs) =
-      length-append (entry_bytes at (section_at object sec).size (spelled_in object rows sec)) (entries_bytes object rows (at + 17 + length (spelled_in object rows sec)) secs)
-      ∙ ap (λ (k : ℕ). k + length (entries_bytes object rows (at + 17 + length (spelled_in object rows sec)) secs)) (entry_length at (section_at object sec).size (spelled_in object rows sec)) in
+    length-append (entry_bytes at (section_at object sec).size (spelled_in object rows sec)) (entries_bytes object rows (at + 17 + length (spelled_in object rows sec)) secs)
+    ∙ ap (λ (k : ℕ). k + length (entries_bytes object rows (at + 17 + length (spelled_in object rows sec)) secs)) (entry_length at (section_at object sec).size (spelled_in object rows sec)) in
     let end : at + 17 + length (spelled_in object rows sec) + length (entries_bytes object rows (at + 17 + length (spelled_in object rows sec)) secs) ≡ at + length (entries_bytes object rows at (sec ∷ secs)) = omega arith in
     All-cons (λ (r : Reloc). r.offset < at + length (entries_bytes object rows at (sec ∷ secs))) (address_slot (section_symbol_of object) at sec) (slots_from object rows (at + 17 + length (spelled_in object rows sec)) secs)
     (omega arith)
@@ -360,7 +360,6 @@ ready object rows sec can h = go (rows_in rows sec) refl
           ascends = section_ascends rows sec can.ascend;
         }
 
-
 -- The whole section.
 
 AscendFrom-looser : (a b : ℕ) (secs : List ℕ) → a ≤ b → AscendFrom b secs → AscendFrom a secs
@@ -423,9 +422,9 @@ in_range p sec zero from h low high = absurd (omega arith)
 in_range p sec (suc n) from h low high =
     elim (cases_eq from sec) [
       | inl same ↦
-        let kept : p from ≡ true = ap p same ∙ h in
-        let is : (from == sec) ≡ true = eq-eqb from sec same in
-        rw (kept, is) refl
+          let kept : p from ≡ true = ap p same ∙ h in
+          let is : (from == sec) ≡ true = eq-eqb from sec same in
+          rw (kept, is) refl
       | inr other ↦ go (in_range p sec n (from + 1) h (omega arith) (omega arith)) (p from)
     ]
   where
@@ -451,9 +450,9 @@ rule_is_of_last_row object rows place h inside = record {
     known = elim (cases_lt place.sec (length object.sections)) [
       | inl below ↦ below
       | inr past ↦
-        let none : section_at object place.sec ≡ no_section = get_or_past object.sections place.sec no_section past in
-        let empty : (section_at object place.sec).size ≡ 0 = ap (λ (s : SectionEntry). s.size) none in
-        absurd (omega arith)
+          let none : section_at object place.sec ≡ no_section = get_or_past object.sections place.sec no_section past in
+          let empty : (section_at object place.sec).size ≡ 0 = ap (λ (s : SectionEntry). s.size) none in
+          absurd (omega arith)
     ]
 
     go : (b : Bool) → has_row rows place.sec ≡ b → cond (list_any (λ sec. sec == place.sec) (sections_with object rows)) (rule_by_rows rows place.sec place.off) Undefined ≡ rule_by_rows rows place.sec place.off

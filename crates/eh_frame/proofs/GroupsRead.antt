@@ -168,7 +168,7 @@ one_more_sound limit byte high bytes x h k begins e = go (ltb (low_bits high.tur
           behind = begins.behind;
           whole = ap (λ (bs : List ℕ). byte ∷ bs) begins.whole;
           groups = subst (λ (b : ℕ). Groups limit high.turned (low_bits high.turned byte + 128 * high.bits) (b ∷ begins.own)) (back high.turned)
-            (more (low_bits high.turned byte) high.bits begins.own (low_fits high.turned) (ltb-false _ _ t) begins.groups);
+              (more (low_bits high.turned byte) high.bits begins.own (low_fits high.turned) (ltb-false _ _ t) begins.groups);
           len = let l = begins.len in omega arith;
           sign = begins.sign;
         })

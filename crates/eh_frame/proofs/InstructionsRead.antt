@@ -114,8 +114,8 @@ pair_sound code operand i [] r s e = absurd (none-some _ e)
 pair_sound code operand i (byte ∷ rest) r s e =
     elim (split (byte == operand) (read_as i 2) None r e) [
       | inl w ↦
-        let same = eqb-true byte operand w.0 in
-        subst (λ (b : ℕ). BeginsAs r (code ∷ b ∷ rest)) (sym same) (begins i (code ∷ operand ∷ []) rest 2 r s refl w.1)
+          let same = eqb-true byte operand w.0 in
+          subst (λ (b : ℕ). BeginsAs r (code ∷ b ∷ rest)) (sym same) (begins i (code ∷ operand ∷ []) rest 2 r s refl w.1)
       | inr w ↦ absurd (none-some _ w.1)
     ]
 
@@ -217,9 +217,9 @@ unfolding read_as
 numbered front bytes x limit bound n i r has long spells e =
     elim (split (ltb x.bits bound) (read_as i (n + x.len)) None r e) [
       | inl w ↦
-        let l = has.len in
-        subst (λ (bs : List ℕ). BeginsAs r bs) (append_assoc front has.own has.behind ∙ ap (λ (bs : List ℕ). front ++ bs) (sym has.whole))
-        (begins i (front ++ has.own) has.behind (n + x.len) r (spells has.own (ltb-true _ _ w.0) has.groups) (simp length-append (omega arith)) w.1)
+          let l = has.len in
+          subst (λ (bs : List ℕ). BeginsAs r bs) (append_assoc front has.own has.behind ∙ ap (λ (bs : List ℕ). front ++ bs) (sym has.whole))
+          (begins i (front ++ has.own) has.behind (n + x.len) r (spells has.own (ltb-true _ _ w.0) has.groups) (simp length-append (omega arith)) w.1)
       | inr w ↦ absurd (none-some _ w.1)
     ]
 
@@ -309,18 +309,50 @@ short_sound code rest r t e =
 operands_sound : (code : ℕ) (rest : List ℕ) (r : Read) → AreBytes rest → read_operands code rest ≡ Some r → BeginsAs r (code ∷ rest)
 unfolding read_as
 operands_sound code rest r are e0 =
-    elim (split (code == 0x00) _ _ r e0) [ | inl w ↦ at_code code 0x00 rest r w.0 (begins Nop (0x00 ∷ []) rest 1 r nop refl w.1) | inr w0 ↦
-    elim (split (leb 0x41 code && leb code 0x7F) _ _ r w0.1) [ | inl w ↦ short_sound code rest r w.0 w.1 | inr w1 ↦
-    elim (split (code == 0x02) _ _ r w1.1) [ | inl w ↦ at_code code 0x02 rest r w.0 (one_move 0x02 rest r are advance_loc1 w.1) | inr w2 ↦
-    elim (split (code == 0x03) _ _ r w2.1) [ | inl w ↦ at_code code 0x03 rest r w.0 (two_move 0x03 rest r are advance_loc2 w.1) | inr w3 ↦
-    elim (split (code == 0x04) _ _ r w3.1) [ | inl w ↦ at_code code 0x04 rest r w.0 (four_move 0x04 rest r are advance_loc4 w.1) | inr w4 ↦
-    elim (split (code == 0x0C) _ _ r w4.1) [ | inl w ↦ at_code code 0x0C rest r w.0 (def_cfa_from rest r are w.1) | inr w5 ↦
-    elim (split (code == 0x12) _ _ r w5.1) [ | inl w ↦ at_code code 0x12 rest r w.0 (def_cfa_sf_from rest r are w.1) | inr w6 ↦
-    elim (split (code == 0x90) _ _ r w6.1) [ | inl w ↦ at_code code 0x90 rest r w.0 (pair_sound 0x90 0x08 SavedReturn rest r offset_return w.1) | inr w7 ↦
-    elim (split (code == 0x07) _ _ r w7.1) [ | inl w ↦ at_code code 0x07 rest r w.0 (pair_sound 0x07 0x10 UndefinedReturn rest r undefined_return w.1) | inr w8 ↦
-    elim (split (code == 0x08) _ _ r w8.1) [ | inl w ↦ at_code code 0x08 rest r w.0 (pair_sound 0x08 0x06 SameRbp rest r same_value_rbp w.1) | inr w9 ↦
-    elim (split (code == 0x86) _ _ r w9.1) [ | inl w ↦ at_code code 0x86 rest r w.0 (saved_rbp_sound rest r are w.1) | inr w10 ↦ absurd (none-some _ w10.1)
-    ] ] ] ] ] ] ] ] ] ] ]
+    elim (split (code == 0x00) _ _ r e0) [
+      | inl w ↦ at_code code 0x00 rest r w.0 (begins Nop (0x00 ∷ []) rest 1 r nop refl w.1)
+      | inr w0 ↦
+          elim (split (leb 0x41 code && leb code 0x7F) _ _ r w0.1) [
+            | inl w ↦ short_sound code rest r w.0 w.1
+            | inr w1 ↦
+                elim (split (code == 0x02) _ _ r w1.1) [
+                  | inl w ↦ at_code code 0x02 rest r w.0 (one_move 0x02 rest r are advance_loc1 w.1)
+                  | inr w2 ↦
+                      elim (split (code == 0x03) _ _ r w2.1) [
+                        | inl w ↦ at_code code 0x03 rest r w.0 (two_move 0x03 rest r are advance_loc2 w.1)
+                        | inr w3 ↦
+                            elim (split (code == 0x04) _ _ r w3.1) [
+                              | inl w ↦ at_code code 0x04 rest r w.0 (four_move 0x04 rest r are advance_loc4 w.1)
+                              | inr w4 ↦
+                                  elim (split (code == 0x0C) _ _ r w4.1) [
+                                    | inl w ↦ at_code code 0x0C rest r w.0 (def_cfa_from rest r are w.1)
+                                    | inr w5 ↦
+                                        elim (split (code == 0x12) _ _ r w5.1) [
+                                          | inl w ↦ at_code code 0x12 rest r w.0 (def_cfa_sf_from rest r are w.1)
+                                          | inr w6 ↦
+                                              elim (split (code == 0x90) _ _ r w6.1) [
+                                                | inl w ↦ at_code code 0x90 rest r w.0 (pair_sound 0x90 0x08 SavedReturn rest r offset_return w.1)
+                                                | inr w7 ↦
+                                                    elim (split (code == 0x07) _ _ r w7.1) [
+                                                      | inl w ↦ at_code code 0x07 rest r w.0 (pair_sound 0x07 0x10 UndefinedReturn rest r undefined_return w.1)
+                                                      | inr w8 ↦
+                                                          elim (split (code == 0x08) _ _ r w8.1) [
+                                                            | inl w ↦ at_code code 0x08 rest r w.0 (pair_sound 0x08 0x06 SameRbp rest r same_value_rbp w.1)
+                                                            | inr w9 ↦
+                                                                elim (split (code == 0x86) _ _ r w9.1) [
+                                                                  | inl w ↦ at_code code 0x86 rest r w.0 (saved_rbp_sound rest r are w.1)
+                                                                  | inr w10 ↦ absurd (none-some _ w10.1)
+                                                                ]
+                                                          ]
+                                                    ]
+                                              ]
+                                        ]
+                                  ]
+                            ]
+                      ]
+                ]
+          ]
+    ]
 
 pub reading_spelled : (bytes : List ℕ) (r : Read) → AreBytes bytes → read_instruction bytes ≡ Some r → BeginsAs r bytes
 unfolding read_instruction

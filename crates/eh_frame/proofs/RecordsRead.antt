@@ -43,8 +43,8 @@ none_read object relocs sorted body h k = record {
   whole = sym (take-append-drop 24 body) ∙ ap (λ (bs : List ℕ). bs ++ drop 24 body) h;
   here = refl;
   within =
-    let l : length body ≡ 24 + length (drop 24 body) = ap length (sym (take-append-drop 24 body) ∙ ap (λ (bs : List ℕ). bs ++ drop 24 body) h) ∙ length-append cie (drop 24 body) in
-    omega arith;
+      let l : length body ≡ 24 + length (drop 24 body) = ap length (sym (take-append-drop 24 body) ∙ ap (λ (bs : List ℕ). bs ++ drop 24 body) h) ∙ length-append cie (drop 24 body) in
+      omega arith;
   each = records.none 24 0;
   lower = refl;
   cursor = record { before = All-nil (λ (r : Reloc). r.offset < 24); behind = k };
@@ -109,8 +109,8 @@ module _ (object : Elf) (relocs sorted : List Reloc) (body : List ℕ) (at next 
         elim (cases_lt x.offset end) [
           | inl below ↦ below
           | inr above ↦
-            let none : relocs_below (x ∷ xs) end ≡ [] = all_above end (x ∷ xs) (All-cons (λ (r : Reloc). end ≤ r.offset) x xs above h) in
-            absurd (clash (sym none ∙ e))
+              let none : relocs_below (x ∷ xs) end ≡ [] = all_above end (x ∷ xs) (All-cons (λ (r : Reloc). end ≤ r.offset) x xs above h) in
+              absurd (clash (sym none ∙ e))
         ]
       where
         clash : {a : Reloc} → [] ≡ (a ∷ []) → ⊥
@@ -155,10 +155,10 @@ module _ (object : Elf) (relocs sorted : List Reloc) (body : List ℕ) (at next 
       lower = sym (least_more 0 read.entries entry);
       cursor = record { before = below; behind = above };
       told =
-        lists.told
-        ∙ ap (λ (rs : List PlacedRule). rs ++ rules_of_entry entry) read.told
-        ∙ ap (λ (rs : List PlacedRule). flat_map rules_of_entry read.entries ++ rs) (sym (append-nil (rules_of_entry entry)))
-        ∙ sym (flat_map-append rules_of_entry read.entries (entry ∷ []));
+          lists.told
+          ∙ ap (λ (rs : List PlacedRule). rs ++ rules_of_entry entry) read.told
+          ∙ ap (λ (rs : List PlacedRule). flat_map rules_of_entry read.entries ++ rs) (sym (append-nil (rules_of_entry entry)))
+          ∙ sym (flat_map-append rules_of_entry read.entries (entry ∷ []));
     }
 
   -- a fault of the next record is the first one

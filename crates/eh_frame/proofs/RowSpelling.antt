@@ -37,7 +37,7 @@ groups_spelled limit n h k l = go (ltb n limit) (ltb n (limit * 128)) refl refl
         let whole : n % 128 + 128 * (n / 128 % 128 + 128 * (n / 16384)) ≡ n = omega arith in
         subst (λ (m : ℕ). Groups limit false m ((128 + n % 128) ∷ (128 + n / 128 % 128) ∷ n / 16384 ∷ [])) whole
         (more (n % 128) (n / 128 % 128 + 128 * (n / 16384)) ((128 + n / 128 % 128) ∷ n / 16384 ∷ []) (omega arith) (omega arith)
-          (more (n / 128 % 128) (n / 16384) (n / 16384 ∷ []) (omega arith) (omega arith) (last (n / 16384) (omega arith))))
+        (more (n / 128 % 128) (n / 16384) (n / 16384 ∷ []) (omega arith) (omega arith) (last (n / 16384) (omega arith))))
 
     go : (b c : Bool) → ltb n limit ≡ b → ltb n (limit * 128) ≡ c → Groups limit false n (cond b (n ∷ []) (cond c ((128 + n % 128) ∷ n / 128 ∷ []) ((128 + n % 128) ∷ (128 + n / 128 % 128) ∷ n / 16384 ∷ [])))
     go true c e f = last n (ltb-true n limit e)
@@ -187,10 +187,10 @@ pub spelled_bound : (size : ℕ) (rows : List PlacedRow) → length (spelled_row
 unfolding spelled_rows rows_below
 spelled_bound size rows =
     let kept : length (filter (λ placed. ltb placed.place.off size) rows) ≤ length rows =
-      (let e = length-filter (λ (placed : PlacedRow). ltb placed.place.off size) rows in let f = count_by-le-length (λ (placed : PlacedRow). ltb placed.place.off size) rows in omega arith) in
+    (let e = length-filter (λ (placed : PlacedRow). ltb placed.place.off size) rows in let f = count_by-le-length (λ (placed : PlacedRow). ltb placed.place.off size) rows in omega arith) in
+    let n : ℕ = length (start_bytes rows ++ rows_bytes 0 (rows_below size rows)) in
     let a = rows_short (rows_below size rows) 0 in
-    let b = length-append (start_bytes rows) (rows_bytes 0 (rows_below size rows)) in
+    let b : length (start_bytes rows ++ rows_bytes 0 (rows_below size rows)) ≡ length (start_bytes rows) + length (rows_bytes 0 (rows_below size rows)) = length-append (start_bytes rows) (rows_bytes 0 (rows_below size rows)) in
     let c = start_short rows in
-    let d : length (spelled_rows size rows) ≡ length (start_bytes rows ++ rows_bytes 0 (rows_below size rows)) + length (replicate (7 - length (start_bytes rows ++ rows_bytes 0 (rows_below size rows)) % 8) 0) = length-append (start_bytes rows ++ rows_bytes 0 (rows_below size rows)) (replicate (7 - length (start_bytes rows ++ rows_bytes 0 (rows_below size rows)) % 8) 0) in
-    let e = length-replicate (7 - length (start_bytes rows ++ rows_bytes 0 (rows_below size rows)) % 8) 0 in
+    let d : length (spelled_rows size rows) ≡ n + (7 - n % 8) = length-append (start_bytes rows ++ rows_bytes 0 (rows_below size rows)) (replicate (7 - n % 8) 0) ∙ ap (λ (k : ℕ). n + k) (length-replicate (7 - n % 8) 0) in
     omega arith

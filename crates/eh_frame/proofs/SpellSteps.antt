@@ -31,17 +31,17 @@ module _ (size : ℕ) (rows : List PlacedRow) (index location : ℕ) (spelled : 
   one_spelled new up below e =
       let yes : ltb placed.place.off size ≡ true = lt-ltb placed.place.off size below in
       let rest : rows_below size (drop index rows) ≡ placed ∷ rows_below size (drop (index + 1) rows) =
-        ap (rows_below size) next ∙ ap (λ (b : Bool). cond b (placed ∷ rows_below size (drop (index + 1) rows)) (rows_below size (drop (index + 1) rows))) yes in
+      ap (rows_below size) next ∙ ap (λ (b : Bool). cond b (placed ∷ rows_below size (drop (index + 1) rows)) (rows_below size (drop (index + 1) rows))) yes in
       record {
         written =
-          ap (λ (bs : List ℕ). bs ++ rows_bytes placed.place.off (rows_below size (drop (index + 1) rows))) e
-          ∙ append_assoc (spelled ++ move_bytes (placed.place.off - location)) (rule_bytes (rule_of_row placed.row)) (rows_bytes placed.place.off (rows_below size (drop (index + 1) rows)))
-          ∙ append_assoc spelled (move_bytes (placed.place.off - location)) (rule_bytes (rule_of_row placed.row) ++ rows_bytes placed.place.off (rows_below size (drop (index + 1) rows)))
-          ∙ ap (λ (ps : List PlacedRow). spelled ++ rows_bytes location ps) (sym rest)
-          ∙ done.written;
+            ap (λ (bs : List ℕ). bs ++ rows_bytes placed.place.off (rows_below size (drop (index + 1) rows))) e
+            ∙ append_assoc (spelled ++ move_bytes (placed.place.off - location)) (rule_bytes (rule_of_row placed.row)) (rows_bytes placed.place.off (rows_below size (drop (index + 1) rows)))
+            ∙ append_assoc spelled (move_bytes (placed.place.off - location)) (rule_bytes (rule_of_row placed.row) ++ rows_bytes placed.place.off (rows_below size (drop (index + 1) rows)))
+            ∙ ap (λ (ps : List PlacedRow). spelled ++ rows_bytes location ps) (sym rest)
+            ∙ done.written;
         above = λ k d h within. (let low = subst (λ (p : PlacedRow). p.place.off < (get_or rows k placed).place.off) is (up index k placed (omega arith) within) in
-          let same : get_or rows k placed ≡ get_or rows k d = get_or_default rows k placed d within in
-          subst (λ (p : PlacedRow). placed.place.off ≤ p.place.off) same (omega arith));
+            let same : get_or rows k placed ≡ get_or rows k d = get_or_default rows k placed d within in
+            subst (λ (p : PlacedRow). placed.place.off ≤ p.place.off) same (omega arith));
       }
 
   -- a row at the section's size
@@ -50,7 +50,7 @@ module _ (size : ℕ) (rows : List PlacedRow) (index location : ℕ) (spelled : 
   one_passed above =
       let beyond : ltb placed.place.off size ≡ false = le-ltb placed.place.off size above in
       let rest : rows_below size (drop index rows) ≡ rows_below size (drop (index + 1) rows) =
-        ap (rows_below size) next ∙ ap (λ (b : Bool). cond b (placed ∷ rows_below size (drop (index + 1) rows)) (rows_below size (drop (index + 1) rows))) beyond in
+      ap (rows_below size) next ∙ ap (λ (b : Bool). cond b (placed ∷ rows_below size (drop (index + 1) rows)) (rows_below size (drop (index + 1) rows))) beyond in
       record {
         written = ap (λ (ps : List PlacedRow). spelled ++ rows_bytes location ps) (sym rest) ∙ done.written;
         above = λ k d h within. done.above k d (omega arith) within;
@@ -76,5 +76,5 @@ unfolding rows_below spelled_rows
 all_spelled size rows index location spelled new end done e =
     let none : drop index rows ≡ [] = drop_all index rows end in
     let whole : spelled ≡ start_bytes rows ++ rows_bytes 0 (rows_below size rows) =
-      sym (append-nil spelled) ∙ ap (λ (ps : List PlacedRow). spelled ++ rows_bytes location (rows_below size ps)) (sym none) ∙ done.written in
+    sym (append-nil spelled) ∙ ap (λ (ps : List PlacedRow). spelled ++ rows_bytes location (rows_below size ps)) (sym none) ∙ done.written in
     e ∙ ap padded whole

@@ -28,11 +28,7 @@ pub(crate) fn sorted_relocs(
 }
 
 /// The relocations of a section, as they stand in the file.
-fn list_relocs(
-    alloc: Global,
-    object: &Object<'_>,
-    section: u32,
-) -> Result<Vec<Reloc>, NoMemory>
+fn list_relocs(alloc: Global, object: &Object<'_>, section: u32) -> Result<Vec<Reloc>, NoMemory>
     requires { section < length object.now.sections }
     ensures { IfOk result (λ relocs. relocs.items ≡ relocs_at object.now section) }
 {

@@ -54,14 +54,14 @@ returns-clause-some c =
     let short = c.read_u32.type_inv in
     subst (λ (size : ℕ). IsEntry c.args.at c.args.bytes.now size (take (4 + c.read_u32-length.result - 17) (drop 17 c.args.bytes.now)) (drop (17 + length (take (4 + c.read_u32-length.result - 17) (drop 17 c.args.bytes.now))) c.args.bytes.now)) (sym number)
     (entry_found at n bytes (take (4 + c.read_u32-length.result - 17) (drop 17 c.args.bytes.now)) (λ k. (c.type_inv.bytes k).fits) (omega arith)
-      (record {
-        len = sym c.read_u32-length.ensures;
-        least = least;
-        most = omega arith;
-        aligned = c.if-length-ne4.false;
-        back = sym (c.read_u32-back.ensures ∙ ap (little_number 4) (take_rest c.args.bytes.now 4)) ∙ c.if-back-at.false;
-        address = sym (c.read_u32-address.ensures ∙ ap (little_number 4) (take_rest c.args.bytes.now 8)) ∙ c.if-address-ne0.false;
-        augmentation = c.if-bytes-ne0.false;
-      })
-      (ap (λ (k : ℕ). take k (drop 17 c.args.bytes.now)) cut)
-      (subst (λ (k : ℕ). k < 2 ^ 32) number short))
+    (record {
+      len = sym c.read_u32-length.ensures;
+      least = least;
+      most = omega arith;
+      aligned = c.if-length-ne4.false;
+      back = sym (c.read_u32-back.ensures ∙ ap (little_number 4) (take_rest c.args.bytes.now 4)) ∙ c.if-back-at.false;
+      address = sym (c.read_u32-address.ensures ∙ ap (little_number 4) (take_rest c.args.bytes.now 8)) ∙ c.if-address-ne0.false;
+      augmentation = c.if-bytes-ne0.false;
+    })
+    (ap (λ (k : ℕ). take k (drop 17 c.args.bytes.now)) cut)
+    (subst (λ (k : ℕ). k < 2 ^ 32) number short))

@@ -7,7 +7,8 @@ use Rattle.eh_frame.specs.declared.fault.EhFault.TheVariants.{BadOp, BadReloc}
 use Rattle.eh_frame.specs.declared.reading.Found.{Found}
 use Rattle.eh_frame.specs.declared.rule.PlacedRule.{PlacedRule}
 use Rattle.eh_frame.specs.Cursor.{AreFrom}
-use Rattle.eh_frame.specs.Faults.{Refuses, RecordFault}
+use Rattle.eh_frame.specs.Faults.{Refuses, RecordFault, StopsAt}
+use Rattle.eh_frame.specs.Followed.{IsListFault}
 use Rattle.eh_frame.specs.Faults as faults
 use Rattle.eh_frame.specs.Found.{IsFound}
 use Rattle.eh_frame.specs.Records.{terminator}
@@ -39,8 +40,12 @@ found_there object relocs at least body sorted next found is =
 
 pub returns-in-Err-Bad-clause-err : goal.returns-in-Err-Bad-clause-err
 returns-in-Err-Bad-clause-err c =
-    let h = c.in-Err-Bad in
-    ?
+    let is = found_there c.args.object.now (relocs_at c.args.object.now c.args.section) c.records.at c.records.least c.args.body.now c.args.relocs.now c.records.next c.in_ok-found.found c.in_ok-found.ensures.ok in
+    let stops : StopsAt c.in_ok-found.found.size c.in_ok-found.found.spelled.now c.in-Err-Bad.stop = subst (IsListFault c.in_ok-found.found.size c.in_ok-found.found.spelled.now) c.in-Err-Bad.field-0-is c.in-Err-Bad.ensures.err in
+    let refuses : Refuses c.args.object.now (BadOp (c.records.at + 17 + c.in-Err-Bad.stop)) =
+    inr (fault_first c.args.object.now (relocs_at c.args.object.now c.args.section) c.args.relocs.now c.args.body.now c.records.at c.records.next c.records.least c.records.rules.items c.records.invariant.read (BadOp (c.records.at + 17 + c.in-Err-Bad.stop)) c.requires.has c.requires.none
+    (faults.instruction c.in_ok-found.found.size c.in_ok-found.found.spelled.now _ c.in_ok-found.found.sec (section_at c.args.object.now c.in_ok-found.found.sec) c.in-Err-Bad.stop is.entry is.names is.order stops)) in
+    rw c.in-Err-Bad.field-0-is refuses
 
 pub records-preserved : goal.records-preserved
 records-preserved c =
@@ -48,7 +53,7 @@ records-preserved c =
     record {
       read = subst (λ (n : ℕ). RecordsRead c.args.object.now (relocs_at c.args.object.now c.args.section) c.args.relocs.now c.args.body.now (c.records.at + (17 + length c.in_ok-found.found.spelled.now)) (c.records.next + 1) (n + 1) c.list_rules.new.rules.items) (sym c.from-least.ensures)
           (one_read c.args.object.now (relocs_at c.args.object.now c.args.section) c.args.relocs.now c.args.body.now c.records.at c.records.next c.records.least c.records.rules.items c.records.invariant.read
-            c.in_ok-found.found c.list_rules.new.rules.items is c.in-Ok.ensures.ok c.requires.permutation);
+          c.in_ok-found.found c.list_rules.new.rules.items is c.in-Ok.ensures.ok c.requires.permutation);
       few = (let one = is.one in let left = length-drop c.records.next c.args.relocs.now in omega arith);
     }
 
@@ -56,7 +61,7 @@ pub returns-then-next-relocs-clause-err : goal.returns-then-next-relocs-clause-e
 returns-then-next-relocs-clause-err c =
     let end : drop c.records.at c.args.body.now ≡ terminator = sym (take_rest c.args.body.now c.records.at) ∙ c.is_terminator.ensures.0 c.records-test.false in
     inr (fault_first c.args.object.now (relocs_at c.args.object.now c.args.section) c.args.relocs.now c.args.body.now c.records.at c.records.next c.records.least c.records.rules.items c.records.invariant.read (BadReloc c.records.at) c.requires.has c.requires.none
-      (left_over c.args.object.now (relocs_at c.args.object.now c.args.section) c.args.relocs.now c.args.body.now c.records.at c.records.next c.records.least c.records.rules.items c.records.invariant.read c.requires.permutation end c.if-next-relocs.true))
+    (left_over c.args.object.now (relocs_at c.args.object.now c.args.section) c.args.relocs.now c.args.body.now c.records.at c.records.next c.records.least c.records.rules.items c.records.invariant.read c.requires.permutation end c.if-next-relocs.true))
 
 pub returns-clause-ok : goal.returns-clause-ok
 returns-clause-ok c =

@@ -28,7 +28,7 @@ returns-in_default-clause-err c =
 pub overflow_add-pos : goal.overflow_add-pos
 overflow_add-pos c =
     let further = one_more c.args.sec c.args.size c.args.spelled.now c.loop-pos.pos c.loop-pos.followed c.args.rules.now.items c.loop-pos.rules.items c.in-Some.read (λ k. (c.type_inv.spelled k).fits) c.loop-pos.invariant
-      (read_there c.args.spelled.now c.loop-pos.pos (c.args.size - c.loop-pos.followed.location) c.in-Some.read c.in-Some.ensures) in
+    (read_there c.args.spelled.now c.loop-pos.pos (c.args.size - c.loop-pos.followed.location) c.in-Some.read c.in-Some.ensures) in
     let within = further.within in
     record { fits = omega arith }
 
@@ -37,7 +37,7 @@ loop-pos-smaller c =
     let room : ℕ = c.args.size - c.loop-pos.followed.location in
     let here = c.loop-pos-test.true in
     let some = read_some (drop c.loop-pos.pos c.args.spelled.now) (c.args.size - c.loop-pos.followed.location) c.in-Some.read (drop_bytes c.loop-pos.pos c.args.spelled.now (λ k. (c.type_inv.spelled k).fits))
-      (read_there c.args.spelled.now c.loop-pos.pos (c.args.size - c.loop-pos.followed.location) c.in-Some.read c.in-Some.ensures) in
+    (read_there c.args.spelled.now c.loop-pos.pos (c.args.size - c.loop-pos.followed.location) c.in-Some.read c.in-Some.ensures) in
     omega arith
 
 -- what the calls give together
@@ -47,9 +47,9 @@ stepped r bytes state f moved e g h = h ∙ ap (λ (n : ℕ). moved_on n state f
 pub loop-pos-preserved : goal.loop-pos-preserved
 loop-pos-preserved c =
     let further = one_more c.args.sec c.args.size c.args.spelled.now c.loop-pos.pos c.loop-pos.followed c.args.rules.now.items c.loop-pos.rules.items c.in-Some.read (λ k. (c.type_inv.spelled k).fits) c.loop-pos.invariant
-      (read_there c.args.spelled.now c.loop-pos.pos (c.args.size - c.loop-pos.followed.location) c.in-Some.read c.in-Some.ensures) in
+    (read_there c.args.spelled.now c.loop-pos.pos (c.args.size - c.loop-pos.followed.location) c.in-Some.read c.in-Some.ensures) in
     let listed : c.list_moved.new.rules.items ≡ c.loop-pos.rules.items ++ moved_rules c.args.sec (moves c.in-Some.read.instruction) c.loop-pos.followed =
-      c.in_ok-list_moved.ensures ∙ ap (λ (n : ℕ). c.loop-pos.rules.items ++ moved_rules c.args.sec n c.loop-pos.followed) c.moves-bytes.ensures in
+    c.in_ok-list_moved.ensures ∙ ap (λ (n : ℕ). c.loop-pos.rules.items ++ moved_rules c.args.sec n c.loop-pos.followed) c.moves-bytes.ensures in
     let moved = stepped c.in-Some.read c.moves-bytes.result c.after.result c.loop-pos.followed c.moved-followed.result c.moves-bytes.ensures c.after.ensures c.moved-followed.ensures in
     subst (λ (f : Followed). Progress c.args.sec c.args.size c.args.spelled.now (c.loop-pos.pos + c.in-Some.read.len) f c.args.rules.now.items c.list_moved.new.rules.items) (sym moved)
     (subst (λ (rs : List PlacedRule). Progress c.args.sec c.args.size c.args.spelled.now (c.loop-pos.pos + c.in-Some.read.len) (moved_on (moves c.in-Some.read.instruction) (after c.in-Some.read.instruction c.loop-pos.followed.state) c.loop-pos.followed) c.args.rules.now.items rs) (sym listed) further)

@@ -52,16 +52,16 @@ loop-sec-preserved c =
     let run : IsRun c.args.rows.now c.loop-sec.from c.end_of_section-to.result c.loop-sec.sec = record { low = to.low; high = to.high; own = to.own; next = to.next } in
     elim c.if-from-to.branch [
       | then-from-to+in_ok-extend_from_slice+in_ok-spelled+in_ok-push_entry w ↦
-        let len : w.len.result ≡ length c.loop-sec.body.items = w.len.ensures ∙ c.loop-sec.body.ok.0 in
-        rw (w.body-is, w.rela-is)
-        (one_more object rows sec c.loop-sec.from c.end_of_section-to.result c.loop-sec.body.items c.loop-sec.rela.items c.requires.ascend c.loop-sec.invariant run _ _ w.deref.result.now w.if-from-to.true
+          let len : w.len.result ≡ length c.loop-sec.body.items = w.len.ensures ∙ c.loop-sec.body.ok.0 in
+          rw (w.body-is, w.rela-is)
+          (one_more object rows sec c.loop-sec.from c.end_of_section-to.result c.loop-sec.body.items c.loop-sec.rela.items c.requires.ascend c.loop-sec.invariant run _ _ w.deref.result.now w.if-from-to.true
           (w.deref.ensures.value ∙ w.in_ok-spelled.ensures ∙ ap (λ (n : ℕ). spelled_rows n (take (c.end_of_section-to.result - c.loop-sec.from) (drop c.loop-sec.from c.args.rows.now))) w.section_size-size.ensures)
           (w.in_ok-push_entry.ensures ∙ ap (λ (n : ℕ). c.loop-sec.body.items ++ entry_bytes (length c.loop-sec.body.items) n w.deref.result.now) w.section_size-size.ensures)
           (w.in_ok-extend_from_slice.ensures.items
           ∙ ap (λ (bs : List ℕ). c.loop-sec.rela.items ++ bs) (w.reloc_bytes.ensures ∙ ap bytes_of_reloc (w.slot_of.ensures ∙ ap (λ (n : ℕ). address_slot (section_symbol_of object) n sec) len))))
       | else-from-to w ↦
-        rw (w.body-is, w.rela-is)
-        (none_more object rows sec c.loop-sec.from c.end_of_section-to.result c.loop-sec.body.items c.loop-sec.rela.items c.requires.ascend c.loop-sec.invariant run w.if-from-to.false)
+          rw (w.body-is, w.rela-is)
+          (none_more object rows sec c.loop-sec.from c.end_of_section-to.result c.loop-sec.body.items c.loop-sec.rela.items c.requires.ascend c.loop-sec.invariant run w.if-from-to.false)
     ]
 
 pub returns-clause-body : goal.returns-clause-body

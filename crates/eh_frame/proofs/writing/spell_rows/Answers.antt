@@ -13,12 +13,12 @@ pub loop-placed-preserved : goal.loop-placed-preserved
 loop-placed-preserved c =
     elim c.if-off-from.branch [
       | then-off-from+in_ok-push_move+in_ok-push_rule w ↦
-        rw (w.location-is, w.spelled-is)
-        (row_spelled c.args.size c.from.result c.args.rows.now c.loop-placed.placed-index c.loop-placed.location c.loop-placed.spelled.items _ _ c.loop-placed-test.true c.loop-placed.invariant c.requires.ascend c.from.ensures w.if-off-from.true
-          (both_appended _ _ _ _ _ _ w.in_ok-push_move.ensures w.in_ok-push_rule.ensures w.rule_of_row.ensures))
+          rw (w.location-is, w.spelled-is)
+          (row_spelled c.args.size c.from.result c.args.rows.now c.loop-placed.placed-index c.loop-placed.location c.loop-placed.spelled.items _ _ c.loop-placed-test.true c.loop-placed.invariant c.requires.ascend c.from.ensures w.if-off-from.true
+          (both_appended c.loop-placed.spelled.items _ _ _ _ _ w.in_ok-push_move.ensures w.in_ok-push_rule.ensures w.rule_of_row.ensures))
       | else-off-from w ↦
-        rw (w.location-is, w.spelled-is)
-        (row_passed c.args.size c.from.result c.args.rows.now c.loop-placed.placed-index c.loop-placed.location c.loop-placed.spelled.items _ c.loop-placed-test.true c.loop-placed.invariant c.from.ensures w.if-off-from.false)
+          rw (w.location-is, w.spelled-is)
+          (row_passed c.args.size c.from.result c.args.rows.now c.loop-placed.placed-index c.loop-placed.location c.loop-placed.spelled.items _ c.loop-placed-test.true c.loop-placed.invariant c.from.ensures w.if-off-from.false)
     ]
 
 pub returns : goal.returns
