@@ -64,11 +64,7 @@ fn each_type(rt: HostRuntime) -> Result<(), Fail> {
 }
 
 /// What the hint at `.text` 0 does, where sections of hints stand with these bodies of one hint each, or more.
-fn hint_in(
-    rt: &impl Abort,
-    alloc: Global,
-    bodies: &[&[u8]],
-) -> Result<Option<HintState>, Fail> {
+fn hint_in(rt: &impl Abort, alloc: Global, bodies: &[&[u8]]) -> Result<Option<HintState>, Fail> {
     let relocs = [to_text(0, 0), to_text(12, 0)];
     let mut pieces = Vec::new(alloc);
     for body in bodies {
