@@ -1,3 +1,4 @@
+pub mod Before
 pub mod Chosen
 pub mod Frames
 pub mod Hints
