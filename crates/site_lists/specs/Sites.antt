@@ -1,7 +1,8 @@
 -- The places of an object's own code that site lists name.
-use Rattle.std.specs.Prelude.{◌≡◌, ℕ, ◌≤◌, ◌++◌, ◌&&◌, ◌||◌, nat_lt, Bool, true, false, All, List, Some, slice_get, map, filter, flat_map, length, ◌==◌}
+use Rattle.std.specs.Prelude.{◌≡◌, ℕ, ◌≤◌, ◌++◌, ◌&&◌, ◌||◌, nat_lt, not, Bool, true, false, All, List, Some, slice_get, map, filter, flat_map, length, ◌==◌}
 use Rattle.std.specs.List.{list_any}
 use Rattle.ot_base.specs.declared.place.Place.{Place}
+use Rattle.ot_base.specs.Places.{same_place}
 use Rattle.operation_defs.specs.declared.insn.Insn.{Insn}
 use Rattle.operation_defs.specs.declared.op.Op.{Op}
 use Rattle.operation_defs.specs.declared.op.Op.TheVariants as ops
@@ -13,6 +14,7 @@ use Rattle.alternatives.specs.declared.texts.SectionText.{SectionText}
 use Rattle.symbols_relocs.specs.declared.target.Target.{Target}
 use Rattle.symbols_relocs.specs.declared.target.Target.TheVariants.{Inside, Either, Outside, ThunkIndirect, ThunkReturn, Bad}
 use Rattle.symbols_relocs.specs.Targets.{branch_target}
+use Rattle.special_sections.specs.Special.{special_of}
 use Rattle.flow_defs.specs.Code.{texts_of}
 use Rattle.flow_defs.specs.Coded.{Coded}
 use Rattle.site_lists.specs.Listed.{Listed}
@@ -68,9 +70,13 @@ is_retpoline_site o x = is_indirect_thunk (goes_to o x)
 abbrev pub is_return_site : Coded → PlacedCode → Bool
 is_return_site o x = is_return_thunk (goes_to o x)
 
--- a call site: a direct call of code in this object or outside
+-- the object lists the instruction as a call within a function, which pushes an address and goes on there
+abbrev pub is_intra_call : Coded → PlacedCode → Bool
+is_intra_call o x = list_any (same_place x.place) (special_of o.elf).intra_calls
+
+-- a call site: a direct call of code in this object or outside, but none within a function
 abbrev pub is_call_site : Coded → PlacedCode → Bool
-is_call_site o x = is_direct_call x.insn.op && is_code_target (goes_to o x)
+is_call_site o x = is_direct_call x.insn.op && (not (is_intra_call o x) && is_code_target (goes_to o x))
 
 -- the places of the instructions that pass, in their order
 abbrev pub places_of : (PlacedCode → Bool) → List PlacedCode → List Place

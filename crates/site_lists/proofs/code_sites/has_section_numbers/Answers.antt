@@ -13,5 +13,5 @@ returns-clause-value c =
     sym
     (list_any_none is c.args.object.now.sections
     (λ k d inside.
-      ap is (get_or_default c.args.object.now.sections k d no_section inside)
-      ∙ c.loop-i.invariant k (omega (arith, c.loop-i-test.false, c.sections-i-end.ensures.value))))
+    ap is (get_or_default c.args.object.now.sections k d no_section inside)
+    ∙ c.loop-i.invariant k (omega (arith, c.loop-i-test.false, c.sections-i-end.ensures.value))))
