@@ -1,7 +1,8 @@
 -- The least number that passes a test.
-use Rattle.std.proofs.Common.{◌≡◌, ℕ, zero, suc, ◌+◌, ◌<◌, ◌≤◌, Bool, true, false, cond, Option, Some, None, refl, sym, ◌∙◌, ap, subst, inl, inr, add-one, arith}
+use Rattle.std.proofs.Common.{◌≡◌, ◌≢◌, ℕ, zero, suc, ◌+◌, ◌<◌, ◌≤◌, Bool, true, false, cond, not, eqb, Option, Some, None, refl, sym, ◌∙◌, ap, subst, inl, inr, add-one, arith}
 use Rattle.std.specs.Option.{option_or}
 use Rattle.std.proofs.lemmas.Bool.{cases_lt}
+use Rattle.std.proofs.lemmas.Bool.Decides.{nat_tests}
 use Rattle.orc_merge.specs.TableFaults.{first_below}
 
 -- one more that fails
@@ -39,3 +40,10 @@ first_below-all p zero fails = refl
 first_below-all p (suc n) fails =
     ap (λ o. option_or o (cond (p n) (Some n) None)) (first_below-all p n (λ k lt. fails k (omega arith)))
     ∙ ap (λ b. cond b (Some n) None) (fails n (omega arith))
+
+-- two numbers as a test
+pub is_equal : (a b : ℕ) → a ≡ b → not (eqb a b) ≡ false
+is_equal a b h = grind (arith, nat_tests)
+
+pub is_unequal : (a b : ℕ) → a ≢ b → not (eqb a b) ≡ true
+is_unequal a b h = grind (arith, nat_tests)

@@ -1,24 +1,27 @@
 -- What is known of a layout, with each line that is read.
 use Rattle.std.proofs.Common.{◌≡◌, ℕ, zero, suc, ◌+◌, ◌-◌, ◌<◌, ◌≤◌, Bool, true, false, cond, ◌&&◌, ◌||◌, not, List, [], ◌∷◌, ◌++◌, Option, Some, None, Result, Ok, Err, refl, sym, ◌∙◌, ap, subst, inl, inr, eqb, leb, length, get_or, take, map, arith, below_more}
 use Rattle.std.proofs.Math.ListN.{set}
-use Rattle.std.specs.Prelude.{filter_map, fold}
+use Rattle.std.specs.Prelude.{filter_map, fold, string_bytes}
 use Rattle.std.specs.List.{cons_option, list_all, list_any}
 use Rattle.std.specs.Result.{result_ok}
-use Rattle.std.specs.Ordering.{nat_cmp}
-use Rattle.std.specs.BTreeSet.{contains}
+use Rattle.std.specs.Ordering.{nat_cmp, is_eq}
+use Rattle.std.specs.BTreeSet.{BTreeSet, contains, Updates}
 use Rattle.std.specs.Str.{IsUtf8, IsAscii}
 use Rattle.std.proofs.lemmas.Bool.{leb-true}
+use Rattle.std.proofs.lemmas.Bool.Decides.{nat_tests}
 use Rattle.std.proofs.lemmas.List.{get_or-map, length-map, take_more, take_all}
 use Rattle.std.proofs.lemmas.List.Elements.{filter_map-append}
+use Rattle.std.proofs.lemmas.List.Folds.{list_any-append}
 use Rattle.std.proofs.lemmas.Str.{IsUtf8-from_ascii}
 use Rattle.ot_base.specs.NamesFile.{lines, is_name, is_name_byte}
+use Rattle.orc_walk.proofs.BaseLemmas.{same_key}
 use Rattle.orc_merge.specs.declared.faults.LayoutWhy.{LayoutWhy}
 use Rattle.orc_merge.specs.declared.faults.LayoutWhy.TheVariants.{Number, Repeated}
 use Rattle.orc_merge.specs.declared.faults.LineFault.{LineFault}
 use Rattle.orc_merge.specs.declared.faults.LineFault.TheVariants.{Why, NoMemory}
 use Rattle.orc_merge.specs.declared.layout.LayoutFile.{LayoutFile}
 use Rattle.orc_merge.specs.declared.layout.Reading.{Reading}
-use Rattle.orc_merge.specs.LayoutLines.{Said, said}
+use Rattle.orc_merge.specs.LayoutLines.{Said, place, said}
 use Rattle.orc_merge.specs.LayoutFile.{FileSaid, new_file, with_place, last_places, with_saying, files_said, saying_fault, fault_behind, line_fault, fault_at, IsLayout, IsLayoutFault}
 use Rattle.orc_merge.specs.LayoutReading.{file_of, files_of, Holds, Adds, ReadsLine, IsLineFault, fault_at_line}
 
@@ -49,10 +52,12 @@ last_of_more [] one = refl
 last_of_more (x ∷ []) one = refl
 last_of_more (x ∷ y ∷ files) one = last_of_more (y ∷ files) one
 
-pub file_added : (said_files : List FileSaid) (old new : Reading) (one : LayoutFile) → Holds said_files old → new.files.items ≡ old.files.items ++ one ∷ [] → one.places.items ≡ [] → ((section : ℕ) → contains nat_cmp new.sections section ≡ false) → Holds (said_files ++ file_of one ∷ []) new
+pub file_added : (said_files : List FileSaid) (old new : Reading) (one : LayoutFile) → Holds said_files old → new.files.items ≡ old.files.items ++ one ∷ [] → one.places.items ≡ [] → ((section : ℕ) → contains nat_cmp new.sections section ≡ false) → Holds (said_files ++ new_file (string_bytes one.name) ∷ []) new
 file_added said_files old new one is files none empty = record {
-  files = ap files_of files ∙ files_push old.files.items one ∙ ap (λ xs. xs ++ file_of one ∷ []) is.files;
-  sections = λ section. empty section ∙ sym (ap (list_any (λ other. eqb other.0 section)) (last_of_more said_files (file_of one) ∙ none));
+  files =
+      ap files_of files ∙ files_push old.files.items one ∙ ap (λ xs. xs ++ file_of one ∷ []) is.files
+      ∙ ap (λ (places : List (ℕ × ℕ)). said_files ++ record { name = string_bytes one.name; places = places } ∷ []) none;
+  sections = λ section. empty section ∙ sym (ap (list_any (λ other. eqb other.0 section)) (last_of_more said_files (new_file (string_bytes one.name))));
 }
 
 -- a place more
@@ -68,6 +73,50 @@ last_with_place [] at some = absurd (omega arith)
 last_with_place (x ∷ []) at some = refl
 last_with_place (x ∷ y ∷ []) at some = refl
 last_with_place (x ∷ y ∷ z ∷ files) at some = last_with_place (y ∷ z ∷ files) at (omega arith)
+
+not_zero : (n : ℕ) → 0 < n → eqb n 0 ≡ false
+not_zero n some = grind (arith, nat_tests)
+
+files_there : (said_files : List FileSaid) (r : Reading) → Holds said_files r → length said_files ≡ length r.files.items
+files_there said_files r is = sym (ap length is.files) ∙ length-map r.files.items file_of
+
+pub not_again : (is_new found : Bool) → is_new ≡ not found → is_new ≡ true → found ≡ false
+not_again is_new true is h = absurd (let e : false ≡ true = sym is ∙ h in cc)
+not_again is_new false is h = refl
+
+pub new_has_none : (sections : BTreeSet ℕ) → sections.keys ≡ [] → (section : ℕ) → contains nat_cmp sections section ≡ false
+new_has_none sections empty section = ap (list_any (λ k. is_eq (nat_cmp section k))) empty
+
+abbrev pub with_places : List ℕ → List (ℕ × ℕ) → FileSaid
+with_places name places = record { name = name; places = places }
+
+-- of a section that no place of the last file has
+pub place_fits : (said_files : List FileSaid) (r : Reading) (section base : ℕ) → Holds said_files r → 0 < length r.files.items → contains nat_cmp r.sections section ≡ false → saying_fault said_files (place section base) ≡ None
+place_fits said_files r section base is some new =
+    ap (λ (b : Bool). cond b (Some Number) (cond (list_any (λ other. eqb other.0 section) (last_places said_files)) (Some Repeated) None)) (not_zero (length said_files) (subst (λ n. 0 < n) (sym (files_there said_files r is)) some))
+    ∙ ap (λ (b : Bool). cond b (Some Repeated) None) (sym (is.sections section) ∙ new)
+
+any_more : (places : List (ℕ × ℕ)) (section base s : ℕ) → cond (eqb section s) true (list_any (λ (other : ℕ × ℕ). eqb other.0 s) places) ≡ list_any (λ (other : ℕ × ℕ). eqb other.0 s) (places ++ (section, base) ∷ [])
+any_more places section base s =
+    go (eqb section s) (list_any (λ (other : ℕ × ℕ). eqb other.0 s) places)
+    ∙ sym (list_any-append (λ (other : ℕ × ℕ). eqb other.0 s) places ((section, base) ∷ []))
+  where
+    go : (a b : Bool) → cond a true b ≡ (b || (a || false))
+    go true true = refl
+    go true false = refl
+    go false true = refl
+    go false false = refl
+
+pub place_held : (said_files : List FileSaid) (old new : Reading) (section base k : ℕ) (one made : LayoutFile) → Holds said_files old → k + 1 ≡ length old.files.items → get_or old.files.items k one ≡ one → new.files.items ≡ set old.files.items k made → file_of made ≡ record { name = (file_of one).name; places = (file_of one).places ++ (section, base) ∷ [] } → Updates nat_cmp old.sections new.sections section true → Holds (with_place said_files (section, base)) new
+place_held said_files old new section base k one made is long at changed is_made updates = record {
+  files = ap files_of changed ∙ places_added old.files.items k one made (section, base) long at is_made ∙ ap (λ fs. with_place fs (section, base)) is.files;
+  sections = λ s.
+      updates.0 s
+      ∙ ap (λ b. cond b true (contains nat_cmp old.sections s)) (same_key section s)
+      ∙ ap (λ b. cond (eqb section s) true b) (is.sections s)
+      ∙ any_more (last_places said_files) section base s
+      ∙ sym (ap (list_any (λ (other : ℕ × ℕ). eqb other.0 s)) (last_with_place said_files (section, base) (let there = files_there said_files old is in omega arith)));
+}
 
 -- what one more line says
 append_nil : {X : Type 0} (xs : List X) → xs ++ [] ≡ xs

@@ -5,6 +5,7 @@ pub mod Bounds
 pub mod Stable
 pub mod Apartness
 pub mod AlikeLemmas
+pub mod WalkLemmas
 pub mod NumberBytes
 pub mod Firsts
 pub mod TableLemmas

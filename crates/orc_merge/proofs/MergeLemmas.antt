@@ -1,5 +1,5 @@
 -- The merged rows of objects are those of a table.
-use Rattle.std.proofs.Common.{◌≡◌, ℕ, ◌+◌, ◌*◌, ◌^◌, ◌<◌, ◌≤◌, Bool, true, false, cond, List, [], ◌∷◌, ◌++◌, Option, Some, None, refl, sym, ◌∙◌, ap, subst, eqb, length, length-append, arith}
+use Rattle.std.proofs.Common.{◌≡◌, ℕ, suc, ◌+◌, ◌*◌, ◌^◌, ◌<◌, ◌≤◌, Bool, true, false, cond, List, [], ◌∷◌, ◌++◌, Option, Some, None, refl, sym, ◌∙◌, ap, subst, eqb, length, length-append, arith}
 use Rattle.std.specs.Prelude.{All, Contains, IfSome, IsPermutation, find, filter, filter_map, nat_le, option_map}
 use Rattle.std.specs.List.{cons_option}
 use Rattle.std.specs.Option.{option_or}
@@ -7,6 +7,7 @@ use Rattle.std.specs.List.Sorted.{IsStableBy, ties as tied}
 use Rattle.std.proofs.lemmas.Bool.{leb-true}
 use Rattle.std.proofs.lemmas.List.Elements.{All-nil, All-head, All-tail, All-append, All-contains, All-contains_itself, All-weaker}
 use Rattle.std.proofs.lemmas.List.Sorted.{All-permutation, length_permutation}
+use Rattle.std.proofs.lemmas.List.Sums.{sum_by-cons}
 use Rattle.ot_base.specs.declared.row.PlacedRow.{PlacedRow}
 use Rattle.table_defs.specs.declared.range.Range.{Range}
 use Rattle.table_defs.specs.Lookup.{AddressedRow, addressed, addressed_row, comes_before}
@@ -58,7 +59,7 @@ no_more : {A B : Type 0} (h : A → Option B) (xs : List A) → length (filter_m
 no_more h [] = omega arith
 no_more h (x ∷ xs) = let rest = no_more h xs in one (h x) (filter_map h xs) (length xs) rest
   where
-    one : {B : Type 0} (o : Option B) (ys : List B) (n : ℕ) → length ys ≤ n → length (cons_option o ys) ≤ n + 1
+    one : {B : Type 0} (o : Option B) (ys : List B) (n : ℕ) → length ys ≤ n → length (cons_option o ys) ≤ suc n
     one None ys n le = omega arith
     one (Some y) ys n le = omega arith
 
@@ -68,7 +69,9 @@ few_rows [] = omega arith
 few_rows (part ∷ parts) =
     let front = no_more (addressed_row part.ranges.items) part.rows.items in
     let back = few_rows parts in
-    omega (arith, length-append (rows_of_part part) (all_rows parts), front, back)
+    let whole : length (all_rows (part ∷ parts)) ≡ length (rows_of_part part) + length (all_rows parts) = length-append (rows_of_part part) (all_rows parts) in
+    let counted : number_of_rows (part ∷ parts) ≡ length part.rows.items + number_of_rows parts = sum_by-cons (λ (p : Part). length p.rows.items) part parts in
+    omega (arith, whole, counted, front, back)
 
 number_fits : (parts : List Part) → too_many parts ≡ None → number_of_rows parts ≤ MOST_ROWS
 number_fits parts h = go (nat_le (number_of_rows parts) MOST_ROWS) refl h

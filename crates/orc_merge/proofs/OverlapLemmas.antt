@@ -13,8 +13,8 @@ use Rattle.table_defs.specs.Placement.{covers}
 use Rattle.orc_walk.specs.declared.faults.PlaceWhy.{PlaceWhy}
 use Rattle.orc_walk.specs.declared.faults.PlaceWhy.TheVariants.{Wraps, Overlaps as OverlapsWhy}
 use Rattle.orc_walk.specs.declared.faults.PlaceFault.{PlaceFault}
-use Rattle.orc_walk.specs.declared.faults.PlaceFault.TheVariants.{At}
-use Rattle.orc_walk.specs.Faults.{overlap, range_fault, first_faulty}
+use Rattle.orc_walk.specs.declared.faults.PlaceFault.TheVariants.{At, NoMemory}
+use Rattle.orc_walk.specs.Faults.{overlap, range_fault, first_faulty, place_fault}
 use Rattle.orc_walk.specs.Table.{IsLaidOut}
 use Rattle.orc_merge.specs.declared.part.Part.{Part}
 use Rattle.orc_merge.specs.Parts.{OwnedRange, owned_ranges, ranges_from}
@@ -225,3 +225,16 @@ all_are_ahead k (part ∷ parts) all =
     (All-head (λ part. IsLaidOut part.ranges.items) part parts all).apart
     (All-weaker (λ (other : OwnedRange). k + 1 ≤ other.0) (λ (other : OwnedRange). k < other.0) (λ other le. omega arith) (ranges_from (k + 1) parts) (later_owners (k + 1) parts))
     (all_are_ahead (k + 1) parts (All-tail (λ part. IsLaidOut part.ranges.items) part parts all))
+
+-- What placing all of them, with no row, says of them.
+pub placing_told : (parts : List Part) (owned : List OwnedRange) (ranges : List Range) (fault : PlaceFault) (sec other : ℕ) (d : OwnedRange) → All (λ part. IsLaidOut part.ranges.items) parts → owned ≡ ranges_from 0 parts → ranges ≡ numbered 0 owned → (fault ≡ NoMemory) ⊎ (place_fault [] ranges ≡ Some fault) → fault ≡ At sec (OverlapsWhy other)
+    → (sec < length owned) × (other < length owned) × (first_overlap [] (ranges_from 0 parts) ≡ Some (overlapped (get_or owned sec d) (get_or owned other d)))
+placing_told parts owned ranges fault sec other d laid owned_is ranges_is (inl want) is = absurd (let e : NoMemory ≡ At sec (OverlapsWhy other) = sym want ∙ is in cc)
+placing_told parts owned ranges fault sec other d laid owned_is ranges_is (inr says) is =
+    let first : first_faulty [] (numbered 0 owned) ≡ Some (At sec (OverlapsWhy other)) = ap (first_faulty []) (sym ranges_is) ∙ says ∙ ap Some is in
+    let ahead : AllPairs IsAhead owned = subst (AllPairs IsAhead) (sym owned_is) (all_are_ahead 0 parts laid) in
+    let (one, two, three) = overlap_told owned sec other d ahead first in
+    (one, two, ap (first_overlap []) (sym owned_is) ∙ three)
+
+pub placing_fits : (parts : List Part) (owned : List OwnedRange) (ranges : List Range) → owned ≡ ranges_from 0 parts → ranges ≡ numbered 0 owned → place_fault [] ranges ≡ None → first_overlap [] (ranges_from 0 parts) ≡ None
+placing_fits parts owned ranges owned_is ranges_is fits = ap (first_overlap []) (sym owned_is) ∙ no_overlap owned (ap (first_faulty []) (sym ranges_is) ∙ fits)

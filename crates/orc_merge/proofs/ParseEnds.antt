@@ -1,5 +1,5 @@
 -- How reading a table's bytes ends.
-use Rattle.std.proofs.Common.{◌≡◌, ℕ, ◌+◌, ◌*◌, ◌^◌, ◌<◌, ◌≤◌, List, Option, Some, None, refl, sym, ◌∙◌, ap, subst, length, get_or, map, arith}
+use Rattle.std.proofs.Common.{◌≡◌, ℕ, ◌+◌, ◌*◌, ◌^◌, ◌<◌, ◌≤◌, ◌⊎◌, List, Option, Some, None, inl, inr, refl, sym, ◌∙◌, ap, subst, length, get_or, map, arith}
 use Rattle.std.proofs.lemmas.List.{length-map}
 use Rattle.ot_base.specs.declared.row.Row.{Row}
 use Rattle.table_defs.specs.Lookup.{AddressedRow}
@@ -24,8 +24,12 @@ head_told bytes fault told = subst (IsTableFault bytes) (sym told.2) (head_is_ba
 pub address_told : (bytes : List ℕ) (count : ℕ) (fault : TableFault) → HasHead bytes count → IsToldAt (wrong_address bytes) fault → IsTableFault bytes fault
 address_told bytes count fault head told = subst (IsTableFault bytes) (sym told.2) (address_is_bad bytes told.0 head.fits told.1)
 
-pub row_told : (bytes : List ℕ) (count : ℕ) (fault : TableFault) → HasHead bytes count → wrong_address bytes ≡ None → IsToldAt (wrong_row bytes) fault → IsTableFault bytes fault
+row_told : (bytes : List ℕ) (count : ℕ) (fault : TableFault) → HasHead bytes count → wrong_address bytes ≡ None → IsToldAt (wrong_row bytes) fault → IsTableFault bytes fault
 row_told bytes count fault head rises told = subst (IsTableFault bytes) (sym told.2) (row_is_bad bytes told.0 head.fits rises told.1)
+
+pub items_told : (bytes : List ℕ) (count : ℕ) (fault : TableFault) → HasHead bytes count → wrong_address bytes ≡ None → (fault ≡ NoMemory) ⊎ IsToldAt (wrong_row bytes) fault → IsTableFault bytes fault
+items_told bytes count fault head rises (inl want) = subst (IsTableFault bytes) (sym want) tt
+items_told bytes count fault head rises (inr told) = row_told bytes count fault head rises told
 
 -- bytes of a table have no such fault
 pub no_table : (bytes : List ℕ) (fault : TableFault) → IsTableFault bytes fault → (rows : List AddressedRow) → IsMergedTable rows → bytes ≡ table_bytes rows → fault ≡ NoMemory

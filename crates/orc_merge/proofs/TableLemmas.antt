@@ -1,5 +1,5 @@
 -- The bytes of a table, and what is read of them.
-use Rattle.std.proofs.Common.{◌≡◌, ℕ, zero, suc, ◌+◌, ◌*◌, ◌^◌, ◌<◌, ◌≤◌, ◌⊎◌, Bool, true, false, cond, not, ◌&&◌, ◌||◌, List, [], ◌∷◌, ◌++◌, Option, Some, None, refl, sym, ◌∙◌, ap, subst, inl, inr, leb, ltb, eqb, length, get_or, take, drop, map, append_assoc, length-append, length-drop, length-take, add-one, arith, w16, Fits, FitsSigned, to_z}
+use Rattle.std.proofs.Common.{◌≡◌, ℕ, zero, suc, ◌+◌, ◌*◌, ◌/◌, ◌%◌, ◌^◌, ◌<◌, ◌≤◌, ◌⊎◌, Bool, true, false, cond, not, ◌&&◌, ◌||◌, List, [], ◌∷◌, ◌++◌, Option, Some, None, refl, sym, ◌∙◌, ap, subst, inl, inr, leb, ltb, eqb, length, get_or, take, drop, map, append_assoc, length-append, length-drop, length-take, add-one, arith, w16, Fits, FitsSigned, to_z}
 use Rattle.std.proofs.Math.Seq.{take-add, drop-append-add}
 use Rattle.std.proofs.Math.Facts.{sfits_to_z}
 use Rattle.std.specs.Prelude.{All, flat_map, position, option_map, nat_le}
@@ -76,6 +76,28 @@ row_tested bytes is =
   where
     all_true : (a b c d : Bool) → a ≡ true → b ≡ true → c ≡ true → d ≡ true → ((a && (b && c)) && d) ≡ true
     all_true a b c d h1 h2 h3 h4 = ap (λ t. (t && (b && c)) && d) h1 ∙ ap (λ t. (t && c) && d) h2 ∙ ap (λ t. t && d) h3 ∙ h4
+
+half_fits : (ys : List ℕ) → AreBytes ys → Fits w16 (little_number 2 ys)
+half_fits ys low = record { fits = little_from-lt 0 2 ys low }
+
+-- six bytes hold the row that is read of them
+held_row : (xs : List ℕ) → AreBytes xs → HasRow xs → IsRow (row_in xs)
+unfolding half
+held_row xs few is = record {
+  fields = is.fields;
+  sp_offset = sfits_to_z (half_fits xs few);
+  bp_offset = sfits_to_z (half_fits (drop 2 xs) (tail_bytes 2 xs few));
+}
+
+-- a row that isn't one
+pub row_refused : (bytes : List ℕ) (fields : ℕ) → fields ≡ half bytes 4 → (fields % 16 ≤ 9 → fields / 16 % 16 ≤ 9 → fields / 256 % 8 ≤ 4 → fields < 4096 → ⊥) → holds_row bytes ≡ false
+row_refused bytes fields f none = go (holds_row bytes) refl
+  where
+    go : (b : Bool) → holds_row bytes ≡ b → holds_row bytes ≡ false
+    go true is =
+        let h = row_held bytes is in
+        absurd (none (subst (λ (n : ℕ). n % 16 ≤ 9) (sym f) h.fields.sp_reg) (subst (λ (n : ℕ). n / 16 % 16 ≤ 9) (sym f) h.fields.bp_reg) (subst (λ (n : ℕ). n / 256 % 8 ≤ 4) (sym f) h.fields.kind) (subst (λ (n : ℕ). n < 4096) (sym f) h.unused))
+    go false is = is
 
 -- What is read: the first i rows.
 pub length_read : (bytes : List ℕ) (i : ℕ) → length (rows_read bytes i) ≡ i
@@ -180,17 +202,6 @@ module _ (bytes : List ℕ) (count : ℕ) (small : AreBytes bytes) (head : HasHe
       address = xword_fits bytes (16 + 8 * k) (tail_bytes (16 + 8 * k) bytes small);
       held = held_row (drop (row_offset (row_count bytes) k) bytes) (tail_bytes (row_offset (row_count bytes) k) bytes small) (row_held _ (fine k lt).0);
     }
-      where
-        held_row : (xs : List ℕ) → AreBytes xs → HasRow xs → IsRow (row_in xs)
-        unfolding half
-        held_row xs few is = record {
-          fields = is.fields;
-          sp_offset = sfits_to_z (half_fits xs few);
-          bp_offset = sfits_to_z (half_fits (drop 2 xs) (tail_bytes 2 xs few));
-        }
-          where
-            half_fits : (ys : List ℕ) → AreBytes ys → Fits w16 (little_number 2 ys)
-            half_fits ys low = record { fits = little_from-lt 0 2 ys low }
 
     rows_fit : (i : ℕ) → i ≤ count → All IsTableRow (rows_read bytes i)
     rows_fit zero le = All-nil _
@@ -208,11 +219,14 @@ module _ (bytes : List ℕ) (count : ℕ) (small : AreBytes bytes) (head : HasHe
       few = subst (λ n. n ≤ MOST_ROWS) (sym (length_read bytes count)) head.few;
     }
       where
+        step : (k : ℕ) (d : AddressedRow) → k + 1 < length (rows_read bytes count) → rank (get_or (rows_read bytes count) k d) ≤ rank (get_or (rows_read bytes count) (k + 1) d)
+        step k d lt =
+            let inside : k + 1 < count = subst (λ n. k + 1 < n) (length_read bytes count) lt in
+            subst (λ r. rank r ≤ rank (get_or (rows_read bytes count) (k + 1) d)) (sym (read_at bytes count k d (omega arith)))
+            (subst (λ r. rank (table_row bytes k) ≤ rank r) (sym (read_at bytes count (k + 1) d inside)) (rises k inside))
+
         up : IsNonDecreasingBy rank (rows_read bytes count)
-        up = IsNonDecreasingBy-from_all_adjacent rank (rows_read bytes count) (λ k d lt.
-        let inside : k + 1 < count = subst (λ n. k + 1 < n) (length_read bytes count) lt in
-        subst (λ r. rank r ≤ rank (get_or (rows_read bytes count) (k + 1) d)) (sym (read_at bytes count k d (omega arith)))
-        (subst (λ r. rank (table_row bytes k) ≤ rank r) (sym (read_at bytes count (k + 1) d inside)) (rises k inside)))
+        up = IsNonDecreasingBy-from_all_adjacent rank (rows_read bytes count) step
 
         ordered : IsInOrder (rows_read bytes count)
         ordered i j d less lt = is_not_lower (get_or (rows_read bytes count) j d) (get_or (rows_read bytes count) i d) (up i j d (omega arith) lt)

@@ -149,9 +149,11 @@ module _ (rows : List AddressedRow) (is : IsMergedTable rows) where
       counts : (a b : Bool) → a ≡ true → b ≡ true → cond (a && b) None (Some 8) ≡ None
       counts a b h k = ap (λ t. cond (t && b) None (Some 8)) h ∙ ap (λ t. cond t None (Some 8)) k
 
+      right : (k : ℕ) → k < min 8 (length (table_bytes rows)) → not (eqb (get_or (table_bytes rows) k 0) (get_or magic k 0)) ≡ false
+      right k lt = ap (λ xs. not (eqb (get_or xs k 0) (get_or magic k 0))) begins ∙ magic_fits (little_bytes 8 (length rows) ++ (address_bytes rows ++ row_section rows)) k (omega arith)
+
       first : wrong_magic (table_bytes rows) ≡ None
-      first = first_below-all (λ i. not (eqb (get_or (table_bytes rows) i 0) (get_or magic i 0))) (min 8 (length (table_bytes rows))) (λ k lt.
-      ap (λ xs. not (eqb (get_or xs k 0) (get_or magic k 0))) begins ∙ magic_fits (little_bytes 8 (length rows) ++ (address_bytes rows ++ row_section rows)) k (omega arith))
+      first = first_below-all (λ i. not (eqb (get_or (table_bytes rows) i 0) (get_or magic i 0))) (min 8 (length (table_bytes rows))) right
 
   address_fits : wrong_address (table_bytes rows) ≡ None
   address_fits = ap (option_map (λ (i : ℕ). 16 + 8 * i)) (first_below-all (λ i. ltb (address_of (table_bytes rows) i) (address_before (table_bytes rows) i)) (row_count (table_bytes rows)) (λ k lt. ascends k (subst (λ n. k < n) counted lt)))

@@ -4,6 +4,7 @@ pub mod Overlaps
 pub mod MergeFaults
 pub mod Merged
 pub mod Alike
+pub mod MergedWalk
 pub mod TableBytes
 pub mod TableFaults
 pub mod TableRows

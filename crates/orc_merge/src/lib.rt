@@ -19,7 +19,7 @@ mod row_bytes;
 mod table_reading;
 
 pub use faults::{LayoutFault, LayoutWhy, MergeFault, TableFault};
-pub use laws::{merged_rows_are_determined, merged_rows_find_alike};
+pub use laws::{merged_rows_are_determined, merged_rows_find_alike, merged_rows_walk_alike};
 pub use layout::{Layout, LayoutFile};
 pub use merged::{MOST_ROWS, Merged};
 pub use orc_walk::{PlaceFault, PlaceWhy, Range};

@@ -41,7 +41,8 @@ fn numbered(alloc: Global, owned: &[(u32, Range)]) -> Result<Vec<Range>, NoMemor
     ensures { IfOk result (λ ranges. ranges.items ≡ numbered 0 owned.now) }
 {
     let mut ranges = Vec::with_capacity(alloc, owned.len())?;
-    for (number, (_part, range)) in owned.iter().enumerate() {
+    for (number, one) in owned.iter().enumerate() {
+        let (_part, range) = *one;
         ranges.push(Range {
             sec: number as u32,
             base: range.base,

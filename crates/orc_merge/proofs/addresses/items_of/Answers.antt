@@ -1,8 +1,12 @@
 use Rattle.std.proofs.Common.{ap, sym, subst, ◌∙◌, ◌++◌, get_or, take}
 use Rattle.orc_walk.specs.Rows.{rows_of}
+use Rattle.orc_walk.specs.Table.{IsLaidOut}
 use Rattle.orc_merge.specs.Parts.{all_rows, rows_of_part}
 use Rattle.orc_merge.proofs.PartLemmas.{flat_map-more}
 use Rattle.orc_merge.proofs.addresses.items_of.Goals as goal
+
+pub add_part-requires-clause-laid_out : goal.add_part-requires-clause-laid_out
+add_part-requires-clause-laid_out c = subst (λ p. IsLaidOut p.ranges.items) (sym c.part-item.is) (c.requires.laid_out c.loop-part.part-index c.part-item.result c.loop-part-test.true)
 
 pub loop-part-preserved : goal.loop-part-preserved
 loop-part-preserved c =

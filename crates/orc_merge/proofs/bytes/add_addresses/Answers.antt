@@ -9,7 +9,7 @@ use Rattle.orc_merge.proofs.Writing.{next_address}
 use Rattle.orc_merge.proofs.bytes.add_addresses.Goals as goal
 
 pub read-address-requires : goal.read-address-requires
-read-address-requires c = omega (arith, ap length c.loop-i.invariant.same, c.len.ensures)
+read-address-requires c = omega (arith, ap length c.loop-i.invariant.same, c.len-i-end.ensures)
 
 pub loop-i-init : goal.loop-i-init
 loop-i-init c = record { bytes = sym (append_nil _); same = refl }
@@ -21,6 +21,7 @@ loop-i-preserved c =
     record {
       bytes =
           c.in_ok-extend_from_slice.ensures.items
+          ∙ ap (λ bs. c.loop-i.bytes.items ++ bs) c.to_le_bytes.ensures
           ∙ ap (λ bs. bs ++ little_bytes 8 c.read-address.result.0) c.loop-i.invariant.bytes
           ∙ append_assoc c.args.bytes.now.items (address_bytes (rows_of (take c.loop-i.i items))) (little_bytes 8 c.read-address.result.0)
           ∙ ap (λ bs. c.args.bytes.now.items ++ bs) (sym (next_address items c.loop-i.i c.read-address.result read));
@@ -28,4 +29,4 @@ loop-i-preserved c =
     }
 
 pub returns-clause-bytes : goal.returns-clause-bytes
-returns-clause-bytes c = c.loop-i.invariant.bytes ∙ ap (λ items. c.args.bytes.now.items ++ address_bytes (rows_of items)) (take_all c.loop-i.i c.args.tape.now.items (omega (arith, c.len.ensures)))
+returns-clause-bytes c = c.loop-i.invariant.bytes ∙ ap (λ items. c.args.bytes.now.items ++ address_bytes (rows_of items)) (take_all c.loop-i.i c.args.tape.now.items (omega (arith, c.len-i-end.ensures)))

@@ -9,7 +9,7 @@ use Rattle.orc_merge.proofs.Writing.{next_row, row_known}
 use Rattle.orc_merge.proofs.bytes.add_rows.Goals as goal
 
 pub read-address-requires : goal.read-address-requires
-read-address-requires c = omega (arith, ap length c.loop-i.invariant.same, c.len.ensures)
+read-address-requires c = omega (arith, ap length c.loop-i.invariant.same, c.len-i-end.ensures)
 
 pub row_bytes-requires : goal.row_bytes-requires
 row_bytes-requires c =
@@ -34,4 +34,4 @@ loop-i-preserved c =
     }
 
 pub returns-clause-bytes : goal.returns-clause-bytes
-returns-clause-bytes c = c.loop-i.invariant.bytes ∙ ap (λ items. c.args.bytes.now.items ++ row_section (rows_of items)) (take_all c.loop-i.i c.args.tape.now.items (omega (arith, c.len.ensures)))
+returns-clause-bytes c = c.loop-i.invariant.bytes ∙ ap (λ items. c.args.bytes.now.items ++ row_section (rows_of items)) (take_all c.loop-i.i c.args.tape.now.items (omega (arith, c.len-i-end.ensures)))

@@ -6,7 +6,7 @@ pub overflow_add-count : goal.overflow_add-count
 overflow_add-count c =
     let part = c.part-item.result in
     let few : length part.rows.items < 2 ^ 32 = subst (λ p. length p.rows.items < 2 ^ 32) (sym c.part-item.is) (c.requires.rows c.loop-part.part-index part c.loop-part-test.true) in
-    omega (arith, few, c.len.ensures, ap length c.as_slice.ensures.value, c.loop-part.invariant.few, c.requires.number)
+    omega (arith, few, ap length c.as_slice.ensures.value, c.loop-part.invariant.few, c.requires.number)
 
 pub loop-part-preserved : goal.loop-part-preserved
 loop-part-preserved c =
@@ -15,6 +15,6 @@ loop-part-preserved c =
     let same = ap (λ p. length p.rows.items) c.part-item.is in
     let more = sum_by_more (λ p. length p.rows.items) c.args.parts.now c.loop-part.part-index part c.loop-part-test.true in
     record {
-      counted = omega (arith, c.loop-part.invariant.counted, c.len.ensures, ap length c.as_slice.ensures.value, same, more);
-      few = omega (arith, few, c.len.ensures, ap length c.as_slice.ensures.value, c.loop-part.invariant.few);
+      counted = omega (arith, c.loop-part.invariant.counted, ap length c.as_slice.ensures.value, same, more);
+      few = omega (arith, few, ap length c.as_slice.ensures.value, c.loop-part.invariant.few);
     }

@@ -4,14 +4,14 @@ use Rattle.std.proofs.lemmas.Result.{err_from_is_err_and}
 use Rattle.std.proofs.lemmas.List.{length-map}
 use Rattle.ot_base.specs.CountedItems.{CountedItems}
 use Rattle.orc_walk.specs.Rows.{addressed_row, rows_of}
-use Rattle.orc_merge.specs.Merged.{IsMergeOf}
+use Rattle.orc_merge.specs.Merged.{IsMergeOf, IsMergedTable}
 use Rattle.orc_merge.specs.Alike.{TellsAlike}
 use Rattle.orc_merge.proofs.MergeLemmas.{merge_of, merged_table, clean, unplaced_first, unended_first, overlap_first, too_many_first, all_alike}
 use Rattle.orc_merge.proofs.merged.Merged.merge.Goals as goal
 
 pub returns-in_err-check_places-clause-fault : goal.returns-in_err-check_places-clause-fault
 returns-in_err-check_places-clause-fault c =
-    let p = err_from_is_err_and c.from_residual-in_err-check_places.result c.from_residual-in_err-check_places.ensures.1 in
+    let p = err_from_is_err_and c.from_residual.result c.from_residual.ensures.1 in
     rw (p.1, p.2) (elim c.in_err-check_places.ensures.fault [
       | inl want ↦ inl want
       | inr is ↦ inr (unplaced_first c.args.parts.now _ is)
@@ -59,3 +59,9 @@ returns-clause-alike c =
     (all_alike c.args.parts.now (rows_of c.sort.new.items.items)
     (clean c.args.parts.now c.in_ok-check_places.ensures.fits c.in_ok-check_ends.ensures.fits c.in_ok-check_overlaps.ensures.fits c.in_ok-count.ensures.fits)
     (merge_of c.args.parts.now _ (rows_of c.sort.new.items.items) c.in_ok-items.ensures c.sort.ensures.moved c.in_ok-sort.ensures.in_order c.sort.ensures.ties))
+
+pub invariant_of-result : goal.invariant_of-result
+invariant_of-result c =
+    let merge = merge_of c.args.parts.now _ (rows_of c.sort.new.items.items) c.in_ok-items.ensures c.sort.ensures.moved c.in_ok-sort.ensures.in_order c.sort.ensures.ties in
+    subst (λ (t : CountedItems). IsMergedTable (rows_of t.items)) (sym c.build.ensures)
+    (merged_table c.args.parts.now (rows_of c.sort.new.items.items) c.requires.within c.requires.held c.in_ok-check_places.ensures.laid_out c.in_ok-count.ensures.fits merge.all c.in_ok-sort.ensures.in_order)
