@@ -1,5 +1,5 @@
 -- The program of an object by the object's own words.
-use Rattle.std.proofs.Common.{◌≡◌, ℕ, Bool, true, false, cond, Some, None, refl, sym, ap, ◌∙◌}
+use Rattle.std.proofs.Common.{◌≡◌, ℕ, ◌||◌, Bool, true, false, cond, Some, None, refl, sym, ap, ◌∙◌}
 use Rattle.std.proofs.lemmas.Bool.{false≢true}
 use Rattle.ot_base.specs.NameLists.{NameLists}
 use Rattle.flow_defs.specs.Coded.{Coded}
@@ -46,12 +46,6 @@ module _ (p : Program) (role : Role) (unlisted : is_listed p role ≡ false) whe
   pub entry_exit : (entry : ℕ) → role ≡ roles.CallIn entry → exits.Calls entry ≡ exit_of p role
   entry_exit entry is = sym (ap (exit_of p) is ∙ ap (λ (b : Bool). cond b exits.CallsNever (exits.Calls entry)) (unlisted_as (roles.CallIn entry) is))
 
-  pub either_exit : (entry name : ℕ) → role ≡ roles.CallEither entry name → exits.CallsOut ≡ exit_of p role
-  either_exit entry name is = sym (ap (exit_of p) is ∙ ap (λ (b : Bool). cond b exits.CallsNever exits.CallsOut) (unlisted_as (roles.CallEither entry name) is))
-
-  pub out_exit : (name : ℕ) → role ≡ roles.CallOut name → exits.CallsOut ≡ exit_of p role
-  out_exit name is = sym (ap (exit_of p) is ∙ ap (λ (b : Bool). cond b exits.CallsNever exits.CallsOut) (unlisted_as (roles.CallOut name) is))
-
 -- whether a function is listed, by its symbol
 pub listed_name : (o : Coded) (lists : NameLists) (n name : ℕ) → function_of_point o (point_at o n) ≡ Some name → is_listed_function (program_of o lists) ((program_of o lists).function n) ≡ never_returns_by o.elf lists name
 unfolding program_of returning_graph graph_of
@@ -60,3 +54,21 @@ listed_name o lists n name is = ap (is_listed_function (program_of o lists)) is
 pub no_listed_name : (o : Coded) (lists : NameLists) (n : ℕ) → function_of_point o (point_at o n) ≡ None → is_listed_function (program_of o lists) ((program_of o lists).function n) ≡ false
 unfolding program_of returning_graph graph_of
 no_listed_name o lists n is = ap (is_listed_function (program_of o lists)) is
+
+-- whether a call is listed, by the names that it is by
+module _ (o : Coded) (lists : NameLists) (role : Role) where
+  pub out_listed : (name : ℕ) (never : Bool) → role ≡ roles.CallOut name → never ≡ never_returns_by o.elf lists name → never ≡ is_listed (program_of o lists) role
+  out_listed name never is by = by ∙ sym (never_returns_is o lists name) ∙ sym (ap (is_listed (program_of o lists)) is)
+
+  module _ (entry name : ℕ) (is : role ≡ roles.CallEither entry name) where
+    abbrev by_entry : Bool
+    by_entry = is_listed_function (program_of o lists) ((program_of o lists).function entry)
+
+    by_name : (never b : Bool) → never ≡ never_returns_by o.elf lists name → never ≡ b → is_listed (program_of o lists) role ≡ (b || by_entry)
+    by_name never b by known = ap (is_listed (program_of o lists)) is ∙ ap (λ (n : Bool). n || by_entry) (never_returns_is o lists name ∙ sym by ∙ known)
+
+    pub name_listed : (never : Bool) → never ≡ never_returns_by o.elf lists name → never ≡ true → never ≡ is_listed (program_of o lists) role
+    name_listed never by listed = listed ∙ sym (by_name never true by listed)
+
+    pub entry_listed : (never found : Bool) → never ≡ never_returns_by o.elf lists name → never ≡ false → found ≡ by_entry → found ≡ is_listed (program_of o lists) role
+    entry_listed never found by unlisted own = own ∙ sym (by_name never false by unlisted)

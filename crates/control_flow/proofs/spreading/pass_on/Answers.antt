@@ -1,5 +1,5 @@
 -- The point is passed on: along the edges that lead to it, and to its calls.
-use Rattle.std.proofs.Common.{◌≡◌, ◌<◌, Bool, true, false, List, length, sym, ap, ◌∙◌, subst, arith}
+use Rattle.std.proofs.Common.{◌≡◌, ◌<◌, ℕ, Bool, true, false, List, length, sym, ap, ◌∙◌, subst, arith}
 use Rattle.std.proofs.lemmas.List.{get_or_read}
 use Rattle.control_flow.specs.declared.searched_flow.Flow.{Flow}
 use Rattle.control_flow.specs.declared.return_search.Search.{Search}
@@ -16,9 +16,6 @@ is_point flow s x taken = omega (arith, holds_inside s.found.items x taken.found
 
 pub find_along-requires-clause-point : goal.find_along-requires-clause-point
 find_along-requires-clause-point c = is_point c.args.flow.now c.args.search.now c.args.x c.requires.taken
-
-pub callee-requires-clause-point : goal.callee-requires-clause-point
-callee-requires-clause-point c = is_point c.args.flow.now c.args.search.now c.args.x c.requires.taken
 
 pub index-requires : goal.index-requires
 index-requires c = omega (arith, c.callee-callee.ensures.inside, c.find_along.ensures.listed.known)
