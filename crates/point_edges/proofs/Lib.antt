@@ -7,8 +7,7 @@ pub mod Following
 pub mod Ending
 pub mod KindOf
 mod Remaking
-mod Along
-mod Rooms
+mod AllRooms
 mod Tableless
 pub mod StraightOn
 mod Numbered

@@ -2,7 +2,7 @@ use Rattle.std.proofs.Common.{◌≡◌, ℕ, List, eqb, sym, ap, ◌∙◌}
 use Rattle.std.proofs.lemmas.List.Sorted.{list_any-IsPermutation, IsNonDecreasingBy-from_sort}
 use Rattle.flow_defs.specs.Coded.{Coded}
 use Rattle.object_points.specs.Unchecked.{is_among}
-use Rattle.point_edges.proofs.Rooms.{all_rooms}
+use Rattle.point_edges.proofs.AllRooms.{all_rooms}
 use Rattle.point_edges.proofs.rooms.list_rooms.Goals as goal
 
 pub returns : goal.returns

@@ -26,4 +26,4 @@ returns-else-not-is_padding c =
     let o : Coded = c.args.self.now in
     let p : Point = point_at o c.args.n in
     let padding : c.is_padding.result ≡ is_padding o p = c.is_padding.ensures ∙ ap (λ (e : Coded). is_padding e (point_at e c.args.n)) c.self.view_is in
-    ap (λ b. not b && is_among (special_of o.elf).intra_calls p.place) (sym (sym padding ∙ c.if-not-is_padding.false))
+    ap not c.if-not-is_padding.false ∙ ap (λ b. not b && is_among (special_of o.elf).intra_calls p.place) (sym (sym padding ∙ c.if-not-is_padding.false))

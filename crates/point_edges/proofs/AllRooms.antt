@@ -1,7 +1,9 @@
 -- The owners that make room.
-use Rattle.std.proofs.Common.{◌≡◌, ℕ, Bool, true, false, eqb, ◌&&◌, ◌||◌, List, [], ◌∷◌, length, map, Option, Some, None, if◌then◌else◌, refl, sym, ap, ◌∙◌}
+use Rattle.std.proofs.Common.{◌≡◌, ℕ, Bool, true, false, ◌+◌, ◌++◌, ◌&&◌, ◌||◌, List, [], ◌∷◌, length, map, Option, Some, None, if◌then◌else◌, refl, sym, ap, ◌∙◌}
 use Rattle.std.specs.Prelude.{filter_map}
-use Rattle.std.specs.List.{list_any, range_with_len}
+use Rattle.std.specs.List.{cons_option, list_any, range_with_len}
+use Rattle.std.proofs.lemmas.List.Elements.{filter_map-append}
+use Rattle.alternatives.proofs.Ranges.{range_more}
 use Rattle.std.proofs.lemmas.List.FromFn.{fill_by_all}
 use Rattle.jump_tables.specs.Tables.{same_owner}
 use Rattle.alternatives.specs.declared.point.Point.{Point}
@@ -32,6 +34,13 @@ without_room false = refl
 one_room : (room : Bool) (own : Option ℕ) (owner : ℕ) → same_owner (if room then own else None) (Some owner) ≡ (same_owner own (Some owner) && room)
 one_room true own owner = with_room (same_owner own (Some owner))
 one_room false own owner = without_room (same_owner own (Some owner))
+
+-- one more number
+pub made_next : (h : ℕ → Option ℕ) (n : ℕ) (made : Option ℕ) → h n ≡ made → filter_map h (range_with_len 0 (n + 1)) ≡ filter_map h (range_with_len 0 n) ++ cons_option made []
+made_next h n made is =
+    ap (filter_map h) (range_more n)
+    ∙ filter_map-append h (range_with_len 0 n) (n ∷ [])
+    ∙ ap (λ o. filter_map h (range_with_len 0 n) ++ cons_option o []) is
 
 -- it is among the owners of points that make room where it is that of one of them
 pub all_rooms : (o : Coded) (owner : ℕ) → is_among (filter_map (room_owner o) (range_with_len 0 (length (points_of_object o)))) owner ≡ makes_room o (Some owner)
