@@ -27,6 +27,9 @@ use Rattle.object_points.proofs.Points.{numbered_point}
 use Rattle.point_edges.specs.Remade.{may_have_table}
 use Rattle.point_edges.proofs.Remaking.{made_table}
 
+abbrev no_place : Option Place
+no_place = None
+
 no_field : (o : Elf) (place : Place) (op : Op) → may_have_table op ≡ false → field_table o place op ≡ None
 no_field o place (JmpInd table) h = absurd (false≢true (sym h))
 no_field o place op h = refl
@@ -44,7 +47,7 @@ module _ (o : Elf) (texts : List SectionText) (entries : List AltEntry) (point :
       ∙ ap (λ b. if b then table_before_jump o texts entries body point.place else None) (no_register o point.place insn insn.op h))
       ∙ by (eqb point.variant 0 || names_table insn.op)
     where
-      by : (b : Bool) → (if b then None else None {A = Place}) ≡ None
+      by : (b : Bool) → (if b then no_place else no_place) ≡ None
       by true = refl
       by false = refl
 

@@ -6,6 +6,7 @@ ghost use Rattle.flow_defs.specs.Arrival.{insn_of_object};
 ghost use Rattle.flow_defs.specs.Code.{point_at, points_of_object};
 ghost use Rattle.flow_defs.specs.Edges.{fixups as fixups_of, static_targets as static_targets_of};
 ghost use Rattle.flow_defs.specs.Marks.{has_bad_target as has_a_bad_target, has_target_in_site as has_a_target_in_site, is_bad_listed as is_bad_among, listed_places};
+ghost use Rattle.flow_defs.specs.Roles.{table_of_point};
 ghost use Rattle.flow_defs.specs.Sites.{is_into_site as comes_into_site};
 ghost use Rattle.flow_defs.specs.Targets.{destination_of};
 ghost use Rattle.point_edges.specs.Jumps.{direct_way};
@@ -55,6 +56,15 @@ fn has_entry_in_site(points: &FlowPoints<'_, '_, '_>, n: u32) -> bool
         || listed_enter(places, EdgeKind::Fixup, n, arrivals.fixups(n))
 }
 
+/// Whether the jump table of a point with this instruction, a static branch or an exception entry at it leads into a site.
+fn leads_into_site(points: &FlowPoints<'_, '_, '_>, n: u32, insn: Insn) -> bool
+    requires point { n < length (points_of_object points.now) }
+    requires insn { insn ≡ insn_of_object points.now (point_at points.now n) }
+    ensures { let point = point_at points.now n in result ≡ (list_any (comes_into_site points.now point) (table_of_point points.now point) || (list_any (comes_into_site points.now point) (listed_places points.now EdgeKind.Taken point (static_targets_of points.now point)) || list_any (comes_into_site points.now point) (listed_places points.now EdgeKind.Fixup point (fixups_of points.now point)))) }
+{
+    table_enters(points, n, insn) || has_entry_in_site(points, n)
+}
+
 /// Whether a target of a point with this instruction, whose direct call or branch goes there, lies in a site, past its start,
 /// and the point is none of that site's original code.
 pub(crate) fn has_target_in_site(
@@ -69,7 +79,5 @@ pub(crate) fn has_target_in_site(
     requires way { branch.way ≡ direct_way points.now (point_at points.now n) insn.op }
     ensures { result ≡ has_a_target_in_site points.now (point_at points.now n) }
 {
-    branch_enters(points, n, insn.op, branch)
-        || table_enters(points, n, insn)
-        || has_entry_in_site(points, n)
+    branch_enters(points, n, insn.op, branch) || leads_into_site(points, n, insn)
 }

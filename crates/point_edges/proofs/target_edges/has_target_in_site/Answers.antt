@@ -8,3 +8,8 @@ pub returns-then-branch_enters : goal.returns-then-branch_enters
 returns-then-branch_enters c =
     let o : Coded = c.args.points.now in
     or_first _ _ _ c.if-branch_enters.true c.branch_enters.ensures ∙ parts_in_site o (point_at o c.args.n) c.args.insn c.requires.insn
+
+pub returns-else-branch_enters : goal.returns-else-branch_enters
+returns-else-branch_enters c =
+    let o : Coded = c.args.points.now in
+    or_second _ _ _ _ c.if-branch_enters.false c.branch_enters.ensures c.leads_into_site.ensures ∙ parts_in_site o (point_at o c.args.n) c.args.insn c.requires.insn
