@@ -1,5 +1,5 @@
 -- Points that are no jumps by a table have none.
-use Rattle.std.proofs.Common.{◌≡◌, ℕ, ◌<◌, Bool, true, false, not, eqb, ◌&&◌, ◌||◌, cond, List, [], length, Option, Some, None, if◌then◌else◌, inl, inr, refl, sym, ap, ◌∙◌}
+use Rattle.std.proofs.Common.{◌≡◌, ℕ, ◌<◌, Bool, true, false, not, eqb, ◌&&◌, ◌||◌, List, [], length, Option, Some, None, if◌then◌else◌, inl, inr, refl, sym, ap, ◌∙◌}
 use Rattle.std.specs.Prelude.{find, is_some, option_and_then, unwrap_or}
 use Rattle.std.specs.Option.{option_or}
 use Rattle.std.proofs.lemmas.Bool.{cases_Bool, false≢true}
@@ -13,11 +13,11 @@ use Rattle.special_sections.specs.declared.entries.AltEntry.{AltEntry}
 use Rattle.alternatives.specs.declared.point.Point.{Point}
 use Rattle.alternatives.specs.declared.texts.SectionText.{SectionText}
 use Rattle.alternatives.specs.Originals.{counts}
-use Rattle.alternatives.specs.Points.{entry_of, insn_of_point, is_padded, is_padding_point, is_point, padding_of, replacement_insn}
+use Rattle.alternatives.specs.Points.{entry_of, insn_of_point, is_padded, is_padding_point, padding_of, replacement_insn}
 use Rattle.alternatives.specs.Texts.{insn_at}
 use Rattle.ot_base.specs.Places.{is_within}
 use Rattle.jump_tables.specs.Registers.{jumps_to_register, register_table, table_before_jump}
-use Rattle.jump_tables.specs.Tables.{entries_by, field_table, jump_table, names_table, start_by, table_by, table_of}
+use Rattle.jump_tables.specs.Tables.{entries_by, field_table, names_table, start_by, table_of}
 use Rattle.flow_defs.specs.Coded.{Coded}
 use Rattle.flow_defs.specs.Arrival.{around, decoded_insn, insn_of_object, is_padding, no_insn}
 use Rattle.flow_defs.specs.Code.{alternatives_of, point_at, points_of_object, texts_of}

@@ -1,5 +1,4 @@
 use Rattle.std.proofs.Common.{◌≡◌, sym, ap, ◌∙◌}
-use Rattle.operation_defs.specs.declared.insn.Insn.{Insn}
 use Rattle.flow_defs.specs.Coded.{Coded}
 use Rattle.flow_defs.specs.Arrival.{decoded_insn}
 use Rattle.flow_defs.specs.Code.{point_at}

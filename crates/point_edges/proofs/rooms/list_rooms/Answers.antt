@@ -1,4 +1,4 @@
-use Rattle.std.proofs.Common.{◌≡◌, ℕ, List, eqb, sym, ap, ◌∙◌}
+use Rattle.std.proofs.Common.{ℕ, List, eqb, sym, ap, ◌∙◌}
 use Rattle.std.proofs.lemmas.List.Sorted.{list_any-IsPermutation, IsNonDecreasingBy-from_sort}
 use Rattle.flow_defs.specs.Coded.{Coded}
 use Rattle.object_points.specs.Unchecked.{is_among}

@@ -1,4 +1,4 @@
-use Rattle.std.proofs.Common.{◌≡◌, true, false, not, ◌&&◌, sym, ap, ◌∙◌}
+use Rattle.std.proofs.Common.{◌≡◌, not, ◌&&◌, sym, ap, ◌∙◌}
 use Rattle.flow_defs.specs.Coded.{Coded}
 use Rattle.special_sections.specs.Special.{special_of}
 use Rattle.alternatives.specs.declared.point.Point.{Point}
