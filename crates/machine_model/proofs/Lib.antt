@@ -1,3 +1,4 @@
+pub mod Back
 pub mod Before
 pub mod Chosen
 pub mod Frames
