@@ -146,8 +146,8 @@ module _ (rows : List AddressedRow) (is : IsMergedTable rows) where
       (ap (λ (n : ℕ). leb n MOST_ROWS) counted ∙ le-leb (length rows) MOST_ROWS is.few)
       (ap (λ (n : ℕ). eqb (length (table_bytes rows)) (16 + 8 * n + 6 * n)) counted ∙ ap (λ (n : ℕ). eqb n (16 + 8 * length rows + 6 * length rows)) long ∙ eqb_same (16 + 8 * length rows + 6 * length rows))
     where
-      counts : (a b : Bool) → a ≡ true → b ≡ true → cond (a && b) None (Some 8) ≡ None
-      counts a b h k = ap (λ t. cond (t && b) None (Some 8)) h ∙ ap (λ t. cond t None (Some 8)) k
+      counts : (a b : Bool) → a ≡ true → b ≡ true → cond {A = Option ℕ} (a && b) None (Some 8) ≡ None
+      counts a b h k = ap (λ (t : Bool). cond {A = Option ℕ} (t && b) None (Some 8)) h ∙ ap (λ (t : Bool). cond {A = Option ℕ} t None (Some 8)) k
 
       right : (k : ℕ) → k < min 8 (length (table_bytes rows)) → not (eqb (get_or (table_bytes rows) k 0) (get_or magic k 0)) ≡ false
       right k lt = ap (λ xs. not (eqb (get_or xs k 0) (get_or magic k 0))) begins ∙ magic_fits (little_bytes 8 (length rows) ++ (address_bytes rows ++ row_section rows)) k (omega arith)

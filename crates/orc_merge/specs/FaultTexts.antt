@@ -13,8 +13,8 @@ use Rattle.orc_merge.specs.declared.faults.LayoutFault.TheVariants as layout
 
 abbrev pub merge_text : MergeFault → List ℕ
 merge_text (merge.Place part fault) = codes "file " ++ decimal part ++ codes ": " ++ fault_text fault
-merge_text (merge.NotEnded part sec) = codes "file " ++ decimal part ++ codes " section " ++ decimal sec ++ codes ": not ended"
-merge_text (merge.Overlaps part sec other_part other_sec) = codes "file " ++ decimal part ++ codes " section " ++ decimal sec ++ codes ": overlaps file " ++ decimal other_part ++ codes " section " ++ decimal other_sec
+merge_text (merge.NotEnded part sec) = codes "file " ++ (decimal part ++ (codes " section " ++ (decimal sec ++ codes ": not ended")))
+merge_text (merge.Overlaps part sec other_part other_sec) = codes "file " ++ (decimal part ++ (codes " section " ++ (decimal sec ++ (codes ": overlaps file " ++ (decimal other_part ++ (codes " section " ++ decimal other_sec))))))
 merge_text (merge.TooMany count) = codes "too many rows: " ++ decimal count
 merge_text merge.NoMemory = []
 

@@ -33,7 +33,9 @@ loop-i-preserved c =
     }
 
 pub returns-clause-rows : goal.returns-clause-rows
-returns-clause-rows c = c.loop-i.invariant.rows ∙ ap (rows_read c.args.bytes.now) (omega arith)
+returns-clause-rows c =
+    let all : c.loop-i.i ≡ c.args.count = omega arith in
+    c.loop-i.invariant.rows ∙ ap (rows_read c.args.bytes.now) all
 
 pub returns-clause-clean : goal.returns-clause-clean
 returns-clause-clean c = right_rows c.args.bytes.now c.args.count c.loop-i.i c.requires (omega arith) c.loop-i.invariant.clean
