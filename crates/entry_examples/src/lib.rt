@@ -3,10 +3,10 @@
 #![tactic(auto)]
 
 #[cfg(test)]
+mod listed;
+#[cfg(test)]
 mod lists;
 #[cfg(test)]
 mod objects;
 #[cfg(test)]
 mod rules;
-#[cfg(test)]
-mod listed;

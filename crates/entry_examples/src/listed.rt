@@ -1,7 +1,7 @@
 //! The sites of objects, and what is read of the objects with them.
 
-use crate::objects::{CODE, G, Piece, RAX_THUNK, RETURN_THUNK, object};
-use elf_objects::{MAX_SECTIONS, Object, R_X86_64_PLT32, Reloc};
+use crate::objects::{CODE, DATA, F, G, Piece, RAX_THUNK, RETURN_THUNK, object};
+use elf_objects::{MAX_SECTIONS, Object, R_X86_64_PC32, R_X86_64_PLT32, Reloc};
 use object_code::{Linked, Map};
 use ot_base::{NoMemory, Place};
 use site_lists::{SiteLists, decode, sites};
@@ -14,6 +14,8 @@ use std::test::Fail;
 struct Example {
     code: &'static [u8],
     relocs: &'static [Reloc],
+    /// Where `.discard.intra_function_calls` says that calls within functions stand.
+    intra_calls: &'static [Reloc],
     retpoline: &'static [u64],
     returns: &'static [u64],
     calls: &'static [u64],
@@ -38,6 +40,7 @@ const TAIL: Example = Example {
             ..CALL
         },
     ],
+    intra_calls: &[],
     retpoline: &[],
     returns: &[5],
     calls: &[0],
@@ -66,9 +69,25 @@ const THUNKS: Example = Example {
         },
         Reloc { offset: 22, ..CALL },
     ],
+    intra_calls: &[],
     retpoline: &[0],
     returns: &[5, 16],
     calls: &[11],
+};
+
+/// call 6f; int3; 6: call g; ret; the first call is listed as one within its function.
+const HOP: Example = Example {
+    code: &[0xE8, 1, 0, 0, 0, 0xCC, 0xE8, 0, 0, 0, 0, 0xC3],
+    relocs: &[Reloc { offset: 7, ..CALL }],
+    intra_calls: &[Reloc {
+        offset: 0,
+        kind: R_X86_64_PC32,
+        sym: F,
+        addend: 0,
+    }],
+    retpoline: &[],
+    returns: &[],
+    calls: &[6],
 };
 
 /// Whether places are those at these offsets of section 1.
@@ -135,7 +154,13 @@ fn is_right(alloc: Global, example: &Example) -> Result<bool, NoMemory> {
         body: example.code,
         relocs: example.relocs,
     };
-    let Some(bytes) = object(alloc, &[text], example.code.len() as u64)? else {
+    let listed = Piece {
+        name: b".discard.intra_function_calls",
+        flags: DATA,
+        body: &[0; 4],
+        relocs: example.intra_calls,
+    };
+    let Some(bytes) = object(alloc, &[text, listed], example.code.len() as u64)? else {
         return Ok(false);
     };
     if bytes.len() > 67_108_864 {
@@ -159,5 +184,11 @@ fn call_and_return_are_listed(rt: HostRuntime) -> Result<(), Fail> {
 #[test]
 fn thunks_are_listed(rt: HostRuntime) -> Result<(), Fail> {
     assert!(rt; is_right(rt.alloc(), &THUNKS)?);
+    Ok(())
+}
+
+#[test]
+fn calls_within_functions_are_not_listed(rt: HostRuntime) -> Result<(), Fail> {
+    assert!(rt; is_right(rt.alloc(), &HOP)?);
     Ok(())
 }

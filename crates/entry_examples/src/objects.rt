@@ -1,9 +1,7 @@
 //! Small objects in memory.
 
 use demo_objects::{RelSpec, Spec, SymSpec, build, section};
-use elf_objects::{
-    Home, Reloc, SHF_ALLOC, SHF_EXECINSTR, STB_GLOBAL, STT_FUNC, STT_NOTYPE,
-};
+use elf_objects::{Home, Reloc, SHF_ALLOC, SHF_EXECINSTR, STB_GLOBAL, STT_FUNC, STT_NOTYPE};
 use ot_base::NoMemory;
 use std::alloc::Global;
 
