@@ -1,5 +1,5 @@
 -- A return, from what the model does.
-use Rattle.std.proofs.Common.{◌≡◌, ℕ, true, ◌∷◌, List, Some, is_some, sym, ap, ◌∙◌, subst}
+use Rattle.std.proofs.Common.{◌≡◌, ℕ, true, List, Some, is_some, sym, ap, subst}
 use Rattle.std.specs.Prelude.{Contains, IsTrue}
 use Rattle.machine_defs.specs.declared.flow.Role.{Role}
 use Rattle.state_defs.specs.Address.{up}

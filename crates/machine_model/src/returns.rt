@@ -1,6 +1,6 @@
 //! Returns.
 
-ghost use Rattle.std.specs.Prelude.{◌≡◌, ◌∷◌, IfOk, IfSome, IsTrue, List, Bool};
+ghost use Rattle.std.specs.Prelude.{◌≡◌, ◌∷◌, IfOk, IfSome, IsTrue, List, Bool, true, is_some};
 ghost use Rattle.state_defs.specs.Address.{up};
 ghost use Rattle.state_defs.specs.Frame.{Frame as DefinedFrame};
 ghost use Rattle.machine_defs.specs.Step.{IsAtReturn, MissesReturn, LeavesMemory, Returns};
@@ -108,6 +108,13 @@ fn comes_back(p: &Program, call: u32, to: u32) -> bool
     !p.is_dead_end(call) && !is_listed(p, p.role(call)) && p.follows(call, to)
 }
 
+/// Whether a return goes back to the caller of a frame: where no run ends, or the caller's stack had ended.
+fn goes_back(ends: bool, frame: &Frame) -> bool
+    ensures { IsTrue result → ends ≡ true → is_some frame.now.ended_caller ≡ true }
+{
+    !ends || frame.ended_caller.is_some()
+}
+
 /// It returns to the caller in the program, itself or by code outside. Where a run ends it does so if the caller's stack had
 /// ended.
 pub fn returns(
@@ -130,8 +137,7 @@ pub fn returns(
     let Some(call) = frame.call else {
         return Ok(None);
     };
-    let is_followed = !ends || frame.ended_caller.is_some();
-    if !is_followed || !is_at_return(&popped.core, &frame) || !comes_back(p, call, to) {
+    if !goes_back(ends, &frame) || !is_at_return(&popped.core, &frame) || !comes_back(p, call, to) {
         return Ok(None);
     }
     let below = popped.core.shadow.as_slice();
