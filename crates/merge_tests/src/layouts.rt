@@ -33,7 +33,11 @@ const FAULTY: [(&[u8], u64, LayoutWhy); 12] = [
     (b"file a\nplace 4294967296 0\n", 2, LayoutWhy::Number),
     (b"file a\nplace 1 A\n", 2, LayoutWhy::Number),
     (b"file a\nplace 1 0 \n", 2, LayoutWhy::Number),
-    (b"file a\nplace 1 0\nfile b\nplace 1 0\nplace 01 5\n", 5, LayoutWhy::Repeated),
+    (
+        b"file a\nplace 1 0\nfile b\nplace 1 0\nplace 01 5\n",
+        5,
+        LayoutWhy::Repeated,
+    ),
 ];
 
 #[test]

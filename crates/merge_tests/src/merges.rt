@@ -66,7 +66,13 @@ fn first_cause_is_told(rt: HostRuntime) -> Result<(), Fail> {
     let other = range(2, 0x1000, 1);
     let not_ended = MergeFault::NotEnded { part: 1, sec: 2 };
     let refused = merge(&rt, alloc, (&ended, &[place]), (&open, &[other]));
-    expect_fault(&rt, rt.alloc(), refused, not_ended, "file 1 section 2: not ended")?;
+    expect_fault(
+        &rt,
+        rt.alloc(),
+        refused,
+        not_ended,
+        "file 1 section 2: not ended",
+    )?;
     let unplaced = MergeFault::Place {
         part: 1,
         fault: PlaceFault::At {
@@ -75,6 +81,12 @@ fn first_cause_is_told(rt: HostRuntime) -> Result<(), Fail> {
         },
     };
     let refused = merge(&rt, alloc, (&open, &[other]), (&open, &[place]));
-    expect_fault(&rt, alloc, refused, unplaced, "file 1: section 2: not placed")?;
+    expect_fault(
+        &rt,
+        alloc,
+        refused,
+        unplaced,
+        "file 1: section 2: not placed",
+    )?;
     Ok(())
 }

@@ -161,10 +161,12 @@ faulted earlier (x ∷ ranges) sec other d pairs h =
         → (sec < length (earlier ++ x ∷ ranges)) × (other < length (earlier ++ x ∷ ranges)) × (first_overlap earlier (x ∷ ranges) ≡ Some (overlapped (get_or (earlier ++ x ∷ ranges) sec d) (get_or (earlier ++ x ∷ ranges) other d)))
     go None is onward rest =
         let shape : (earlier ++ x ∷ []) ++ ranges ≡ earlier ++ x ∷ ranges = append_assoc earlier (x ∷ []) ranges in
-        let (sec_lt, other_lt, says) = onward (sym (next_tail earlier x ranges) ∙ rest) in
-        (subst (λ all. sec < length all) shape sec_lt, subst (λ all. other < length all) shape other_lt,
-        ap (λ o. option_or o (first_overlap (earlier ++ x ∷ []) ranges)) (fits earlier (length earlier) x is)
-        ∙ subst (λ all. first_overlap (earlier ++ x ∷ []) ranges ≡ Some (overlapped (get_or all sec d) (get_or all other d))) shape says)
+        let (sec_lt, other_lt, says) = onward (sym (next_tail earlier x ranges) ∙ rest) in (
+          subst (λ all. sec < length all) shape sec_lt,
+          subst (λ all. other < length all) shape other_lt,
+          ap (λ o. option_or o (first_overlap (earlier ++ x ∷ []) ranges)) (fits earlier (length earlier) x is)
+              ∙ subst (λ all. first_overlap (earlier ++ x ∷ []) ranges ≡ Some (overlapped (get_or all sec d) (get_or all other d))) shape says,
+        )
     go (Some why) is onward same =
         let known = at_same same in
         let at : length earlier ≡ sec = known.0 in
@@ -173,13 +175,15 @@ faulted earlier (x ∷ ranges) sec other d pairs h =
         let long = length-append earlier (x ∷ ranges) in
         let place : i ≡ other = omega arith in
         let one : get_or (earlier ++ x ∷ ranges) sec d ≡ x = ap (λ n. get_or (earlier ++ x ∷ ranges) n d) (sym at) ∙ get_or-append_seam earlier x ranges d in
-        let two : get_or (earlier ++ x ∷ ranges) other d ≡ get_or earlier i d = ap (λ n. get_or (earlier ++ x ∷ ranges) n d) (sym place) ∙ get_or_append_left earlier (x ∷ ranges) d i i_lt in
-        (omega (arith, long), omega (arith, long),
-        ap (λ o. option_or o (first_overlap (earlier ++ x ∷ []) ranges))
-        (ap (option_map (overlapped x))
-        (find_alike (λ (o : OwnedRange). ltb o.0 x.0 && overlap o.1 x.1) (λ (o : OwnedRange). overlap o.1 (number (length earlier) x)) earlier (All-weaker (λ o. IsAhead o x) (λ (o : OwnedRange). (ltb o.0 x.0 && overlap o.1 x.1) ≡ overlap o.1 x.1) (λ o ahead. ahead_test o x ahead) earlier (all_ahead earlier x ranges pairs))
-        ∙ first)
-        ∙ ap Some (sym (ap (overlapped (get_or (earlier ++ x ∷ ranges) sec d)) two ∙ ap (λ o. overlapped o (get_or earlier i d)) one))))
+        let two : get_or (earlier ++ x ∷ ranges) other d ≡ get_or earlier i d = ap (λ n. get_or (earlier ++ x ∷ ranges) n d) (sym place) ∙ get_or_append_left earlier (x ∷ ranges) d i i_lt in (
+          omega (arith, long),
+          omega (arith, long),
+          ap (λ o. option_or o (first_overlap (earlier ++ x ∷ []) ranges))
+              (ap (option_map (overlapped x))
+              (find_alike (λ (o : OwnedRange). ltb o.0 x.0 && overlap o.1 x.1) (λ (o : OwnedRange). overlap o.1 (number (length earlier) x)) earlier (All-weaker (λ o. IsAhead o x) (λ (o : OwnedRange). (ltb o.0 x.0 && overlap o.1 x.1) ≡ overlap o.1 x.1) (λ o ahead. ahead_test o x ahead) earlier (all_ahead earlier x ranges pairs))
+              ∙ first)
+              ∙ ap Some (sym (ap (overlapped (get_or (earlier ++ x ∷ ranges) sec d)) two ∙ ap (λ o. overlapped o (get_or earlier i d)) one))),
+        )
 
 pub overlap_told : (ranges : List OwnedRange) (sec other : ℕ) (d : OwnedRange) → AllPairs IsAhead ranges → first_faulty [] (numbered 0 ranges) ≡ Some (At sec (OverlapsWhy other))
     → (sec < length ranges) × (other < length ranges) × (first_overlap [] ranges ≡ Some (overlapped (get_or ranges sec d) (get_or ranges other d)))

@@ -3,7 +3,6 @@ use Rattle.std.specs.Prelude.{◌≡◌, ℕ, ◌==◌, List, [], ◌∷◌, ◌
 use Rattle.std.specs.List.{list_any}
 use Rattle.std.specs.Ordering.{nat_cmp}
 use Rattle.std.specs.BTreeSet.{contains}
-
 use Rattle.orc_merge.specs.declared.faults.LayoutWhy.{LayoutWhy}
 use Rattle.orc_merge.specs.declared.faults.LayoutFault.{LayoutFault}
 use Rattle.orc_merge.specs.declared.faults.LayoutFault.TheVariants.{Line, NoMemory as NoLayout}

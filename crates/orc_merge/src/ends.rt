@@ -84,7 +84,12 @@ fn first_unended(
     ensures { IfOk result (λ range. range ≡ first_unended rows.now ranges.now) }
 {
     let lasts = last_rows(alloc, rows)?;
-    Ok(ranges.iter().copied().find(|range| !is_ended(&lasts, *range)))
+    Ok(
+        ranges
+            .iter()
+            .copied()
+            .find(|range| !is_ended(&lasts, *range)),
+    )
 }
 
 /// Looks for a section that isn't ended in an object, which has this number.

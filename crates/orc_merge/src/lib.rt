@@ -5,8 +5,8 @@
 mod addresses;
 mod bytes;
 mod ends;
-mod faults;
 mod fault_texts;
+mod faults;
 mod laws;
 mod layout;
 mod layout_lines;

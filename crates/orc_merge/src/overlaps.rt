@@ -68,10 +68,12 @@ pub(crate) fn check_overlaps(alloc: Global, parts: &[Part]) -> Result<(), MergeF
     let owned = owned_ranges(alloc, parts)?;
     let ranges = numbered(alloc, &owned)?;
     match Table::place(alloc, &[], &ranges) {
-        Err(PlaceFault::At {
-            sec,
-            why: PlaceWhy::Overlaps { other },
-        }) => {
+        Err(
+            PlaceFault::At {
+                sec,
+                why: PlaceWhy::Overlaps { other },
+            },
+        ) => {
             let (part, range) = owned[sec as usize];
             let (other_part, other_range) = owned[other as usize];
             Err(MergeFault::Overlaps {
