@@ -3,7 +3,7 @@
 ghost use Rattle.std.specs.Prelude.{◌≡◌, IsTrue, OnOk, pos};
 ghost use Rattle.ot_base.specs.Warnings.{bare_warning, numbered_warning};
 ghost use Rattle.stack_rules.specs.Gains.{Gains};
-ghost use Rattle.entry_rules.specs.declared.TheConstants.{CALL_LEAVES_NOINSTR as call_leaves_noinstr};
+ghost use Rattle.entry_rules.specs.declared.rules.TheConstants.{CALL_LEAVES_NOINSTR as call_leaves_noinstr};
 
 use crate::rules::CALL_LEAVES_NOINSTR;
 use ot_base::{NoMemory, Place, Warning};

@@ -14,7 +14,7 @@ ghost use Rattle.entry_rules.specs.Taken.{taken_places};
 
 use crate::listing::push_if;
 use crate::rules::TAKEN_WITHOUT_ENDBR;
-use control_flow::entry_at;
+use control_flow::entry_of_point;
 use object_points::{PlaceSet, PointPlaces};
 use operation_defs::Op;
 use ot_base::{NoMemory, Warning};
@@ -43,7 +43,7 @@ fn push_point(
     if is_endbr(graph.insn(n).op) {
         return Ok(());
     }
-    let Some(entry) = entry_at(places, n) else {
+    let Some(entry) = entry_of_point(places, n) else {
         return Ok(());
     };
     let place = graph.place(entry);
