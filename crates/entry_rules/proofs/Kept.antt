@@ -5,13 +5,14 @@ use Rattle.machine_defs.specs.declared.flow.Role.{Role}
 use Rattle.machine_defs.specs.declared.flow.Role.TheVariants as roles
 use Rattle.machine_defs.specs.declared.flow.Edge.{Edge}
 use Rattle.machine_defs.specs.declared.flow.EdgeKind.TheVariants.{Sibling}
-use Rattle.machine_defs.specs.IsProgram.{IsProgram}
+use Rattle.ot_base.specs.declared.place.Place.{Place}
+use Rattle.machine_defs.specs.IsProgram.{IsCallee, IsProgram}
 use Rattle.machine_defs.specs.Kept.{can_go, edges_of}
 use Rattle.machine_defs.specs.Machine.{At, Bases, Machine, Standing, Wrecked}
 use Rattle.machine_defs.specs.MayReturn.{may_call_out}
 use Rattle.machine_defs.specs.Program.{IsPoint, Program, edge, entry_points}
 use Rattle.machine_defs.specs.Run.{Run}
-use Rattle.machine_defs.specs.Step.{JumpsTo, MayCall, Step, calls_in, calls_out, faults, goes_on, indirect, interrupted, irets, may_leave, returns, sibling, tail_calls, wrecks}
+use Rattle.machine_defs.specs.Step.{IsTarget, JumpsTo, Step, calls_in, calls_out, faults, goes_on, indirect, interrupted, irets, may_go_back, returns, sibling, tail_calls, wrecks}
 use Rattle.unwinding_law.proofs.Lists.{in_filter}
 use Rattle.option_law.proofs.Effects.{landed}
 use Rattle.entry_rules.specs.declared.options.EntryOptions.{EntryOptions}
@@ -32,7 +33,7 @@ module _ (p : Program) (facts : EntryFacts) (options : EntryOptions) (is : IsPro
     leaves_not callee h = clean _ _ _ _ (leaves_noinstr q callee asked point inside h)
 
     -- an entry that may be called is in such code
-    called_inside : (role : Role) (entry : ℕ) → p.role q ≡ role → MayCall p role entry → is_noinstr p facts entry ≡ true
+    called_inside : (role : Role) (entry : ℕ) → p.role q ≡ role → IsTarget p role entry → is_noinstr p facts entry ≡ true
     called_inside (roles.CallIn e) entry role may = subst (λ (x : ℕ). is_noinstr p facts x ≡ true) (sym may) (unless_false _ (λ out. leaves_not _ (calls e role out)))
     called_inside (roles.CallEither e sym_no) entry role may = absurd (leaves_not _ (calls_weak_outside e sym_no role))
     called_inside roles.CallAny entry role may = absurd (leaves_not _ (calls_anywhere role))
@@ -44,21 +45,22 @@ module _ (p : Program) (facts : EntryFacts) (options : EntryOptions) (is : IsPro
     called_inside roles.Switch entry role may = absurd may
 
     -- where control that comes to an entry stands runs where the entry does
-    arrives_inside : (entry r : ℕ) → Contains p.entries entry → Contains (entry_points p entry) r → is_noinstr p facts entry ≡ true → is_noinstr p facts r ≡ true
-    arrives_inside entry r listed arrives there =
+    arrives_inside : (entry r : ℕ) → IsCallee p q entry → Contains (entry_points p entry) r → is_noinstr p facts entry ≡ true → is_noinstr p facts r ≡ true
+    arrives_inside entry r (inl listed) arrives there =
         let same : p.address r ≡ p.address entry = at_places.arrivals (p.place entry) r arrives ∙ sym (at_places.stands entry listed) in
-        ap (λ place. facts.noinstr place.sec) same ∙ there
+        ap (λ (place : Place). facts.noinstr place.sec) same ∙ there
+    arrives_inside entry r (inr may) arrives there = ap (is_noinstr p facts) (is.arrives_alone entry r may.point may.plain may.outside arrives) ∙ there
 
-    entry_of : (role : Role) (entry : ℕ) → p.role q ≡ role → MayCall p role entry → Contains p.entries entry
-    entry_of (roles.CallIn e) entry role may = subst (Contains p.entries) (sym may) (is.calls_entry q e point role)
-    entry_of (roles.CallEither e s) entry role may = subst (Contains p.entries) (sym may) (is.calls_weak_entry q e s point role)
-    entry_of roles.CallAny entry role may = may
-    entry_of roles.Plain entry role may = absurd may
-    entry_of (roles.CallOut s) entry role may = absurd may
-    entry_of roles.Return entry role may = absurd may
-    entry_of (roles.JumpOut s) entry role may = absurd may
-    entry_of roles.JumpAny entry role may = absurd may
-    entry_of roles.Switch entry role may = absurd may
+    callee_of : (role : Role) (entry : ℕ) → p.role q ≡ role → IsTarget p role entry → IsCallee p q entry
+    callee_of (roles.CallIn e) entry role may = subst (IsCallee p q) (sym may) (is.calls_entry q e point role)
+    callee_of (roles.CallEither e s) entry role may = subst (IsCallee p q) (sym may) (is.calls_weak_entry q e s point role)
+    callee_of roles.CallAny entry role may = inl may
+    callee_of roles.Plain entry role may = absurd may
+    callee_of (roles.CallOut s) entry role may = absurd may
+    callee_of roles.Return entry role may = absurd may
+    callee_of (roles.JumpOut s) entry role may = absurd may
+    callee_of roles.JumpAny entry role may = absurd may
+    callee_of roles.Switch entry role may = absurd may
 
     no_call_out : (role : Role) → p.role q ≡ role → IsTrue (may_call_out p role) → ⊥
     no_call_out (roles.CallOut s) role may = leaves_not _ (calls_outside s role)
@@ -72,7 +74,7 @@ module _ (p : Program) (facts : EntryFacts) (options : EntryOptions) (is : IsPro
     no_call_out roles.Switch role may = let k : ⊥ = cc in k
 
     -- it is left by a return alone
-    returns_itself : (role : Role) → p.role q ≡ role → IsTrue (may_leave p role) → p.role q ≡ roles.Return
+    returns_itself : (role : Role) → p.role q ≡ role → IsTrue (may_go_back p role) → p.role q ≡ roles.Return
     returns_itself roles.Return role may = role
     returns_itself (roles.JumpOut s) role may = absurd (leaves_not _ (jumps_outside s role))
     returns_itself roles.JumpAny role may = absurd (leaves_not _ (jumps_anywhere role))
@@ -92,10 +94,9 @@ module _ (p : Program) (facts : EntryFacts) (options : EntryOptions) (is : IsPro
 
   module _ (bases : Bases) where
     step_inside : options.noinstr ≡ true → (m n : Machine) (step : Step p bases m n) → StandsThere p bases is m → StepsInside facts step
-    unfolding StandsThere
     step_inside asked _ _ (calls_in s t u how lands) h = λ inside.
         moved t u (landed p t u lands).point
-        (arrives_inside asked s.point h.point inside how.entry t.point (entry_of asked s.point h.point inside (p.role s.point) how.entry refl how.target) how.arrives
+        (arrives_inside asked s.point h.point inside how.entry t.point (callee_of asked s.point h.point inside (p.role s.point) how.entry refl how.target) how.arrives
         (called_inside asked s.point h.point inside (p.role s.point) how.entry refl how.target))
     step_inside asked _ _ (calls_out s t u how lands) h = λ inside. no_call_out asked s.point h.point inside (p.role s.point) refl how.target
     step_inside asked _ _ (tail_calls s t u how lands) h = λ inside. moved t u (landed p t u lands).point (jumps_inside asked s.point h.point inside t.point how.target)
@@ -109,10 +110,11 @@ module _ (p : Program) (facts : EntryFacts) (options : EntryOptions) (is : IsPro
     -- Rules 52 and 53.
 
     before_int3 : options.sls ≡ true → (m : Machine) → StandsThere p bases is m → IsBeforeInt3 p m
-    unfolding StandsThere
     before_int3 asked Wrecked h = tt
-    before_int3 asked (At s) h (inl op) = unless_false (is_before_int3 p s.point) (λ none. clean _ _ _ _ (bare_return s.point asked h.point op none))
-    before_int3 asked (At s) h (inr op) = unless_false (is_before_int3 p s.point) (λ none. clean _ _ _ _ (bare_jump s.point asked h.point op none))
+    before_int3 asked (At s) h = λ stands. elim stands [
+      | inl op ↦ unless_false (is_before_int3 p s.point) (λ none. clean _ _ _ _ (bare_return s.point asked h.point op none))
+      | inr op ↦ unless_false (is_before_int3 p s.point) (λ none. clean _ _ _ _ (bare_jump s.point asked h.point op none))
+    ]
 
     -- Rule 54.
 

@@ -1,10 +1,11 @@
 -- The warnings of all rules together are those that the definition tells.
-use Rattle.std.proofs.Common.{◌≡◌, ◌↔◌, ℕ, Bool, true, false, List, [], ◌⊎◌, inl, inr, Contains, ℤ, pos, refl, sym, subst}
+use Rattle.std.proofs.Common.{◌≡◌, ◌↔◌, ℕ, Bool, true, false, List, [], ◌⊎◌, inl, inr, Contains, ℤ, pos, refl, sym, ap, subst}
 use Rattle.std.specs.Prelude.{negsuc}
 use Rattle.ot_base.specs.declared.place.Place.{Place}
 use Rattle.ot_base.specs.declared.warning.Warning.{Warning}
 use Rattle.ot_base.specs.Warnings.{numbered_warning}
 use Rattle.machine_defs.specs.declared.flow.Edge.{Edge}
+use Rattle.machine_defs.specs.declared.flow.EdgeKind.{EdgeKind}
 use Rattle.machine_defs.specs.declared.flow.EdgeKind.TheVariants.{Sibling}
 use Rattle.machine_defs.specs.declared.flow.Role.{Role}
 use Rattle.machine_defs.specs.declared.flow.Role.TheVariants as roles
@@ -55,7 +56,7 @@ module _ (p : Program) (facts : EntryFacts) (q : ℕ) where
   by_edge : (w : Warning) → EdgesLeave p facts q w → Leaves w
   unfolding Leaves
   by_edge w (e, along, (kind, h)) =
-      let is : e ≡ edge e.to Sibling = (let k = kind in cc) in
+      let is : e ≡ edge e.to Sibling = ap (λ (k : EdgeKind). edge e.to k) kind in
       (_, jumps e.to (subst (λ (x : Edge). Contains (edges_of p q) x) is along) h.0, h.1)
 
   pub point_leaves : (w : Warning) → (RoleLeaves p facts (p.place q) (p.role q) w ⊎ EdgesLeave p facts q w) ↔ ((callee : ℤ) × LeavesNoinstr p facts q callee × w ≡ callee_warning (p.place q) callee)

@@ -8,7 +8,7 @@ use Rattle.machine_defs.specs.IsProgram.{IsProgram}
 use Rattle.machine_defs.specs.Machine.{At, Bases, Machine, Standing, Wrecked}
 use Rattle.machine_defs.specs.Program.{IsPoint, Program, edge, entry_points}
 use Rattle.machine_defs.specs.Run.{Run, Start, StartsFrom, at_call_hint, at_end_hint, at_entry, at_regs_hint, outermost, started, stepped}
-use Rattle.machine_defs.specs.Step.{JumpsTo, Step, calls_in, calls_out, call_frame, faults, goes_on, indirect, interrupt_frame, interrupted, irets, returns, sibling, tail_calls, wrecks}
+use Rattle.machine_defs.specs.Step.{JumpsTo, Step, calls_in, calls_out, call_frame, faults, goes_on, indirect, interrupt_frame, interrupted, irets, op_at, returns, sibling, tail_calls, wrecks}
 use Rattle.unwinding_law.proofs.Shadow.{IsSlotChange, effect_shape, no_frame, top}
 use Rattle.option_law.proofs.Effects.{IsLanded, landed}
 
@@ -60,15 +60,14 @@ module _ (p : Program) (bases : Bases) (is : IsProgram p) where
   jumps_there q r point (indirect _ entry role listed arrives) = is.arrivals (p.place entry) r arrives
 
   -- the state after a step, where the one before it stands at a point
-  pub StandsThere : Machine → Type 0
+  abbrev pub StandsThere : Machine → Type 0
   StandsThere Wrecked = Unit {0}
   StandsThere (At s) = StandsAtPoint p s
 
   pub step_there : (m n : Machine) → Step p bases m n → StandsThere m → StandsThere n
-  unfolding StandsThere
   step_there _ _ (goes_on s t u how lands) h =
       landed_there t u (landed p t u lands) (is.edges s.point (edge t.point how.kind) h.point how.along)
-      (changed_slot p s.core.shadow t.core.shadow (effect_shape s.core t.core (p.insn s.point).op how.effect) h.calls)
+      (changed_slot p s.core.shadow t.core.shadow (effect_shape s.core t.core (op_at p s) how.effect) h.calls)
   step_there _ _ (faults s t u how lands) h =
       landed_there t u (landed p t u lands) (is.edges s.point (edge t.point Fixup) h.point how.along)
       (same_calls s.core.shadow t.core.shadow (ap (λ (c : Core). c.shadow) how.core) h.calls)
@@ -97,6 +96,5 @@ module _ (p : Program) (bases : Bases) (is : IsProgram p) where
       }
 
   pub run_there : (m : Machine) → Run p bases m → StandsThere m
-  unfolding StandsThere
   run_there _ (started s start inside) = starts_there s start
   run_there _ (stepped m n run step inside) = step_there m n step (run_there m run)

@@ -178,11 +178,7 @@ fn push_text(
 }
 
 /// Adds the places that the relocations of a section of data name.
-fn push_section(
-    object: &Object<'_>,
-    sec: u32,
-    places: &mut Vec<Place>,
-) -> Result<(), NoMemory>
+fn push_section(object: &Object<'_>, sec: u32, places: &mut Vec<Place>) -> Result<(), NoMemory>
     requires { sec < length object.now.sections }
     ensures { OnOk result (places.new.items ≡ places.old.items ++ addresses_in_section object.now sec) }
 {
