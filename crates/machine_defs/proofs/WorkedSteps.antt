@@ -9,7 +9,7 @@ use Rattle.machine_defs.specs.Hint.{Lands}
 use Rattle.machine_defs.specs.Step.{IsGate, sibling, Step, goes_on, faults, calls_in, calls_out, returns, tail_calls, interrupted, irets, interrupt_frame}
 use Rattle.machine_defs.specs.Run.{at_entry, Run, started, stepped}
 use Rattle.machine_defs.specs.WorkedSteps.{stepping, base, stack, frame_of_f, frame_of_g, at_call, at_push, at_pop, at_gate, at_return, in_f, TakesEachStep}
-use Rattle.machine_defs.proofs.WorkedBytes.{are_bytes, five, stays, stores_nothing}
+use Rattle.state_defs.proofs.WorkedBytes.{are_bytes, five, stays, stores_nothing}
 
 -- rsp is in the stack
 in_stack : (rsp : ℕ) (frames : List Frame) → 0x7FC8 ≤ rsp → rsp ≤ 0x8010 → IsInStack (record { rsp = rsp; rbp = 0; region = stack; ac = false; shadow = frames })

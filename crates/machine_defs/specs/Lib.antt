@@ -12,7 +12,6 @@ pub mod Run
 pub mod Law
 pub mod Worked
 pub mod WorkedSteps
-pub mod WorkedEffects
 pub mod WorkedWrecks
 pub mod WorkedHints
 pub mod WorkedWays
@@ -21,3 +20,4 @@ pub mod Allowances
 pub mod Access
 pub mod AccessRules
 pub mod Asked
+pub mod WorkedAccess

@@ -1,7 +1,6 @@
 //! What holds of the definitions of this crate.
 
 ghost use Rattle.machine_defs.specs.Worked.{HasWorkedFrames, HasWorkedRows, HasWorkedRun, HasWorkedStates};
-ghost use Rattle.machine_defs.specs.WorkedEffects.{HasEffects};
 ghost use Rattle.machine_defs.specs.WorkedHints.{RunsFromHints};
 ghost use Rattle.machine_defs.specs.WorkedSteps.{TakesEachStep};
 ghost use Rattle.machine_defs.specs.WorkedWays.{LeadsOn};
@@ -30,11 +29,6 @@ pub fn worked_run()
 /// A run that takes each step once.
 pub fn worked_steps()
     ensures { TakesEachStep }
-{}
-
-/// What each operation does to registers, memory and slots.
-pub fn worked_effects()
-    ensures { HasEffects }
 {}
 
 /// A stack that is wrecked in each way.

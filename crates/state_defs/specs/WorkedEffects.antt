@@ -4,8 +4,10 @@ use Rattle.operation_defs.specs.declared.op.Op.TheVariants.{Plain, Nop, Endbr, P
 use Rattle.state_defs.specs.Region.{Region}
 use Rattle.state_defs.specs.Frame.{Slot, Unsaved, SavedAt, Frame}
 use Rattle.state_defs.specs.Effect.{Core, Effect}
-use Rattle.machine_defs.specs.Run.{outermost}
-use Rattle.machine_defs.specs.WorkedSteps.{word}
+
+-- a word below 2 ^ 16, by its two bytes
+abbrev pub word : ℕ → ℕ → List ℕ
+word low high = low ∷ high ∷ 0 ∷ 0 ∷ 0 ∷ 0 ∷ 0 ∷ 0 ∷ []
 
 -- four words: one below rsp, 7, one at rbp, and the return address 0
 abbrev pub stack : List ℕ → List ℕ → Region
@@ -25,7 +27,7 @@ abbrev pub rbp_third : Region
 rbp_third = stack (word 5 0) (word 16 128)
 
 abbrev pub frame : Slot → List Frame
-frame slot = outermost 0 0x8020 0x8010 slot false ∷ []
+frame slot = record { call = None; ra = 0; cfa = 0x8020; bp = 0x8010; slot = slot; ac = false; ended_caller = None; mark_caller = None } ∷ []
 
 abbrev pub before : Core
 before = record { rsp = 0x8008; rbp = 0x8010; region = four_words; ac = false; shadow = frame Unsaved }

@@ -2,9 +2,8 @@
 use Rattle.std.proofs.Common.{◌≡◌, ℕ, ◌≤◌, [], ◌++◌, refl, arith, lit≤}
 use Rattle.state_defs.specs.Region.{word_at, Stores, WritesOnly}
 use Rattle.state_defs.specs.Frame.{protected_addresses}
-use Rattle.machine_defs.specs.WorkedSteps.{word}
-use Rattle.machine_defs.specs.WorkedEffects.{stack, four_words, stored, rbp_below, rbp_third, before, HasEffects}
-use Rattle.machine_defs.proofs.WorkedBytes.{one_address, stays, writes}
+use Rattle.state_defs.specs.WorkedEffects.{word, stack, four_words, stored, rbp_below, rbp_third, before, HasEffects}
+use Rattle.state_defs.proofs.WorkedBytes.{one_address, stays, writes}
 
 -- a store below spares the return address
 stores : Stores (protected_addresses before.shadow) four_words stored
