@@ -12,7 +12,7 @@ from names import Names
 from opcodes import Insn
 from returns import returning
 from sites import Point, Sites
-from special import RESTORE, SAVE, Hint, Special
+from special import CALL, END_OF_STACK, FUNC, RESTORE, SAVE, UNDEFINED, Hint, Special
 from tables import JumpTables
 from texts import Refused
 
@@ -38,7 +38,9 @@ class Role(NamedTuple):
 
 PLAIN = Role("Plain")
 # The operations by a number: how far rsp or rbp moves, what rsp is masked with, or where rbp is saved or loaded.
-STACK_OFFSETS = "AddSp", "AndSp", "LeaSpBp", "LeaBpSp", "StoreBp", "LoadBp"
+STACK_OFFSETS = "AddSp", "AndSp", "LeaSpBp", "LeaBpSp", "LeaBpRoom", "StoreBp", "LoadBp"
+# The operations that make room by a register.
+ROOM = "SubSp", "SpReg"
 
 
 def check_places(code: Code, special: Special, functions: Functions, sites: Sites) -> None:
@@ -55,6 +57,7 @@ def check_places(code: Code, special: Special, functions: Functions, sites: Site
         (special.reachable, ends),
         (special.unreachable, ends),
         (special.safe_branches, starts),
+        (special.intra_calls, starts),
     ]
     for number, (places, good) in enumerate(lists, 1):
         for entry, place in enumerate(places):
@@ -63,6 +66,9 @@ def check_places(code: Code, special: Special, functions: Functions, sites: Site
     for entry, branch in enumerate(special.branches):
         if code.insn(branch.code).op not in ("Nop", "Jmp"):
             raise Refused(f"static branch {entry}: not a site")
+    for entry, place in enumerate(special.intra_calls):
+        if code.insn(place).op != "Call":
+            raise Refused(f"intra call {entry}: not a call")
     for entry, place in enumerate(special.unchecked):
         if place not in functions.at_start:
             raise Refused(f"unchecked {entry}: not a function")
@@ -78,11 +84,12 @@ class Flow:
         self.address: dict[Point, Place] = {point: sites.address(point) for point in self.points}
         self.owner: dict[Point, Optional[int]] = {point: functions.owner_at(at) for point, at in self.address.items()}
         self.unchecked_owners = {functions.owner_of(functions.at_start[place]) for place in special.unchecked}
-        self.tables = JumpTables(object, code, functions)
+        self.tables = JumpTables(object, code, functions, sites)
         self._by_place()
         self.entries: list[Place] = [f.start for f in functions.list if self.is_entry(f.start)]
         # The points behind each, None at a section's end.
         self.after: dict[Point, Optional[list[Point]]] = {point: sites.next_points(point) for point in self.points}
+        self.roomy = {self.owner[point] for point in self.points if sites.insn(point).op in ROOM} - {None}
         self.insn: dict[Point, Insn] = {point: self._insn_of(point) for point in self.points}
         self.dead_ends: set[Point] = {point for point in self.points if self._is_dead_end(point)}
 
@@ -110,6 +117,7 @@ class Flow:
         for entry in self.special.fixes:
             self.fixups.setdefault(entry.insn, []).append(entry.fixup)
         self.reachable, self.unreachable = set(self.special.reachable), set(self.special.unreachable)
+        self.intra_calls: dict[Place, bool] = {place: True for place in self.special.intra_calls}
 
     # Functions
 
@@ -132,11 +140,28 @@ class Flow:
     # Instructions
 
     def _insn_of(self, point: Point) -> Insn:
-        """The instruction; an iret with instructions of its own function right behind it goes on there."""
+        """The instruction, as what stands around it has it be.
+
+        A call that is listed as one within its function only pushes; rbp becomes a base over room in a function that makes some; an
+        iret with instructions of its own function right behind it goes on there; and so does another way out, where hints there tell
+        the stack.
+        """
         insn = self.sites.insn(point)
         owner, after = self.owner[point], self.after[point]
-        goes_on = owner is not None and after is not None and all(self.owner[other] == owner for other in after)
-        return insn._replace(op="IretNext") if insn.op == "Iret" and goes_on else insn
+        within = owner is not None and after is not None and all(self.owner[other] == owner for other in after)
+        if insn.op == "Call" and self._own(point, self.intra_calls):
+            return insn._replace(op="Hop")
+        if insn.op == "LeaBpSp" and owner in self.roomy:
+            return insn._replace(op="LeaBpRoom")
+        if insn.op == "Iret" and within:
+            return insn._replace(op="IretNext")
+        if insn.op == "Switch" and within and all(self._tells_frame(other) for other in after):
+            return insn._replace(op="SpOther")
+        return insn
+
+    def _tells_frame(self, point: Point) -> bool:
+        hint = self.hint(point)
+        return hint is not None and hint.kind in (CALL, FUNC, RESTORE)
 
     def _is_relocated(self, point: Point) -> bool:
         """Whether a relocation of any type but 0 begins at a byte of an instruction that moves the stack by a number."""
@@ -182,6 +207,16 @@ class Flow:
                 found[point] = max(fitting, key=lambda save: (self.address[save].off, -save.variant))
         return found
 
+    def is_before_hint(self, point: Point) -> bool:
+        """Whether all edges but those to fixups lead to points where a hint sets or restores the state, and there is one."""
+        heads = [edge.to for edge in self.edges[point] if edge.kind != FIXUP]
+        return bool(heads) and all(self.hint(head) is not None and not self.is_save(head) for head in heads)
+
+    def may_leave(self, point: Point) -> bool:
+        """Whether code of no function goes out of the code that is checked, whatever its stack is."""
+        leaves = self.role[point].kind in ("Return", "JumpOut", "JumpAny") and self.insn[point].op != "RetImm"
+        return self.owner[point] is None and leaves and all(edge.kind != SIBLING for edge in self.edges[point])
+
     # Edges
 
     def _follow(self, point: Point) -> Role:
@@ -207,6 +242,8 @@ class Flow:
             return self._follow_call(point)
         if op in ("Jmp", "Jcc"):
             return self._follow_branch(point)
+        if op == "Hop":
+            self._follow_hop(point)
         return PLAIN
 
     def _add(self, point: Point, heads: list[Point], kind: str) -> None:
@@ -238,7 +275,7 @@ class Flow:
             self._add(point, self.sites.arrive(place), SIBLING if sibling else kind)
 
     def _follow_table(self, point: Point) -> Role:
-        places = self.tables.of(point.place, self.insn[point], self.owner[point])
+        places = self.tables.of(point, self.insn[point], self.owner[point])
         for place in places:
             if self._enters_site(point, place):
                 self.into_site.add(point)
@@ -271,7 +308,7 @@ class Flow:
         elif target.kind == "return":
             return Role("Return")
         elif target.kind == "indirect":
-            return Role("JumpAny")
+            return self._follow_table(point)
         elif target.kind == "outside":
             return Role("JumpOut", None, target.sym)
         else:
@@ -295,6 +332,37 @@ class Flow:
         else:
             self._add(point, [target], TAKEN)
         return PLAIN
+
+    def _follow_hop(self, point: Point) -> None:
+        """A call within a function goes to a place of it as a jump does, and nowhere else."""
+        if self._is_local(point):
+            target = self._local(point)
+            if isinstance(target, Place):
+                self._hop_to(point, target, crosses=False)
+            elif target is None or self.owner[target] != self.owner[point]:
+                self.bad.add(point)
+            else:
+                self._add(point, [target], TAKEN)
+            return
+        target = self.functions.branch_target(point.place, self.insn[point])
+        if target.kind == "inside":
+            self._hop_to(point, target.place, crosses=True)
+        else:
+            self.bad.add(point)
+
+    def _hop_to(self, point: Point, place: Place, crosses: bool) -> None:
+        if self.owner[point] != self.functions.owner_at(place) and self.is_entry(place):
+            self.bad.add(point)
+        else:
+            self._go(point, place, TAKEN, crosses)
+
+    def _may_call(self, point: Point, place: Place) -> bool:
+        """Whether code of no function may call a place of no function: one in no site, at which a hint tells a call's frame, or ends
+        the stack."""
+        hint = self.hints.get(place)
+        hinted = hint is not None and hint.kind in (UNDEFINED, END_OF_STACK, CALL, FUNC)
+        ownerless = self.owner[point] is None and self.functions.owner_at(place) is None
+        return ownerless and hinted and self.sites.site_at(place) is None
 
     def _follow_call(self, point: Point) -> Role:
         if self._is_local(point):
@@ -323,7 +391,7 @@ class Flow:
             return PLAIN
         if unchecked is not None:
             return Role("CallOut", None, unchecked)
-        if self.is_entry(place):
+        if self.is_entry(place) or self._may_call(point, place):
             return Role("CallIn", place) if weak is None else Role("CallEither", place, weak)
         if not local and self._enters_site(point, place):
             self.into_site.add(point)
@@ -335,11 +403,20 @@ class Flow:
 
     # What comes after a point
 
+    def is_listed(self, role: Role) -> bool:
+        """Whether a call names something that is listed as never returning: by its symbol, or by the function that it enters."""
+        if not role.kind.startswith("Call"):
+            return False
+        function = self.functions.at_start.get(role.entry)
+        names = [self.functions.name(function)] if function is not None else []
+        names += [self.object.symbols[role.sym].name] if role.sym is not None else []
+        return any(name in self.names.never_return for name in names)
+
     def target_may_return(self, point: Point, found: set[Point]) -> bool:
         """Whether what a call calls may return, where the points that may return are those found."""
         role = self.role[point]
-        if role.kind == "CallOut":
-            return self.object.symbols[role.sym].name not in self.names.never_return
+        if self.is_listed(role):
+            return False
         if role.kind == "CallIn":
             return any(head in found for head in self.sites.arrive(role.entry))
         return True
@@ -348,7 +425,7 @@ class Flow:
         """Whether the point has a Next, if it is no call that can't return."""
         if self._own(point, self.static_targets):
             return True
-        stops = self.insn[point].op in ("Jmp", "JmpInd", "Ret", "RetImm", "Switch", "Iret")
+        stops = self.insn[point].op in ("Jmp", "JmpInd", "Hop", "Ret", "RetImm", "Switch", "Iret")
         return not stops and point not in self.dead_ends
 
     def _follow_next(self, point: Point) -> None:

@@ -24,7 +24,8 @@ class Insn(NamedTuple):
     length: int
     op: str
     value: Optional[int] = None
-    # Of a branch: whether its distance has four bytes, so that a relocation can name its target.
+    # Of a direct branch: whether its distance has four bytes, so that a relocation can name its target; of an indirect jump: whether
+    # a register holds its target.
     wide: bool = False
 
 
@@ -287,7 +288,7 @@ def flow_operation(s: Spelling) -> Optional[tuple]:
         if s.opcode == 0xC7 and s.modrm == 0xF8:
             return "Jcc", s.immediate, True
         if s.opcode == 0xFF and s.digit in (2, 3, 4, 5):
-            return {2: ("CallInd",), 4: ("JmpInd", table_field(s))}.get(s.digit, ("Switch",))
+            return {2: ("CallInd",), 4: ("JmpInd", table_field(s), s.mod == 3)}.get(s.digit, ("Switch",))
     if s.map == 2:
         if s.opcode in TWO_BYTE_OPS:
             return (TWO_BYTE_OPS[s.opcode],)
@@ -323,7 +324,7 @@ def stack_operation(s: Spelling) -> Optional[tuple]:
 
 
 def pointer_operation(s: Spelling) -> Optional[tuple]:
-    """What moves rsp or rbp by a known distance, and what stores and loads rbp. All are of 64 bits."""
+    """What moves rsp or rbp by a known distance or makes room by a register, and what stores and loads rbp. All are of 64 bits."""
     if s.map != 1 or not s.wide or s.modrm is None:
         return None
     if s.opcode in (0x81, 0x83) and s.rm == RSP and s.digit in (0, 4, 5):
@@ -334,10 +335,15 @@ def pointer_operation(s: Spelling) -> Optional[tuple]:
         if (s.reg, sp is not None) in forms:
             return forms[s.reg, True]
         return ("LeaSpBp", bp) if s.reg == RSP and bp is not None else None
+    if s.opcode in (0x29, 0x2B) and s.mod == 3:
+        source, target = (s.reg, s.rm) if s.opcode == 0x29 else (s.rm, s.reg)
+        return ("SubSp",) if target == RSP and source != RSP else None
     if s.opcode not in (0x89, 0x8B):
         return None
     if s.mod == 3:
         source, target = (s.reg, s.rm) if s.opcode == 0x89 else (s.rm, s.reg)
+        if target == RSP and source not in (RSP, RBP):
+            return ("SpReg",)
         return {(RBP, RSP): ("LeaSpBp", 0), (RSP, RBP): ("LeaBpSp", 0)}.get((source, target))
     if s.reg == RBP and sp is not None:
         return ("StoreBp" if s.opcode == 0x89 else "LoadBp"), sp

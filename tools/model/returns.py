@@ -3,7 +3,8 @@
 
 def returning(flow) -> set:
     """The least set of points with: returns and jumps to anywhere; jumps to names that may return; points with a successor in the
-    set, other than behind a call; and calls that may return, where a point behind them is in the set.
+    set, other than behind a call; and calls that may return and aren't listed as never returning, where a point behind them is in
+    the set.
 
     `flow` has its edges but those to the next instruction.
     """

@@ -66,7 +66,7 @@ def point_warnings(flow, point, state: State):
         yield 1,
     if any(edge.kind == "Next" and flow.owner[edge.to] != flow.owner[point] for edge in flow.edges[point]):
         yield 2,
-    if point in flow.past_end:
+    if point in flow.past_end and not (flow.owner[point] is None and isinstance(state, Ended)):
         yield 3,
     if returns and live and (state != INITIAL or insn.op == "RetImm"):
         yield 5, depth_number(state)
@@ -75,13 +75,14 @@ def point_warnings(flow, point, state: State):
     try:
         move(state, insn)
     except Broken as broken:
-        yield broken.rule,
+        if broken.rule != 7 or not flow.is_before_hint(point):
+            yield broken.rule,
     offset = offset_that_does_not_fit(row_of(state))
     if offset is not None:
         yield 10, offset
     if point in flow.into_site:
         yield 13,
-    if (returns or leaves) and not live or wrong_switch(insn.op, state):
+    if (returns or leaves) and not live and not flow.may_leave(point) or wrong_switch(insn.op, state):
         yield 15,
     if point in flow.into_function:
         yield 16,
@@ -139,14 +140,16 @@ def lost_restores(flow, kept: dict):
 
 
 def unreachable_code(flow, kept: dict):
-    """Rule 14: the first instruction of each stretch of a function that nothing comes to."""
+    """Rule 14: the first instruction of each stretch of a function, or of code of none, that nothing comes to."""
 
     def is_lost(place: Optional[Place], function: Optional[int]) -> bool:
-        if place is None or function is None or flow.functions.at(place) != function:
+        if place is None or flow.functions.at(place) != function:
+            return False
+        if function is None and flow.object.sections[place.sec].name in (b".altinstr_replacement", b".altinstr_aux"):
             return False
         point = Point(place, 0)
         padding = flow.insn[point].op in ("Nop", "Int3", "Ud2")
-        return not flow.is_unchecked(flow.functions.owner_of(function)) and not padding and point not in kept
+        return not flow.is_unchecked(flow.owner[point]) and not padding and point not in kept
 
     for point in flow.points:
         function = flow.functions.at(point.place)
@@ -166,7 +169,8 @@ def calls_fentry(flow, point) -> bool:
     """Whether the point calls `__fentry__`, outside or in the object. What may replace a weak symbol has that symbol's name, which decides."""
     role = flow.role[point]
     if role.kind == "CallIn":
-        return flow.functions.name(flow.functions.at_start[role.entry]) == b"__fentry__"
+        function = flow.functions.at_start.get(role.entry)
+        return function is not None and flow.functions.name(function) == b"__fentry__"
     return role.kind in ("CallEither", "CallOut") and flow.object.symbols[role.sym].name == b"__fentry__"
 
 

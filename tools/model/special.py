@@ -59,6 +59,8 @@ class Special:
         self.unreachable: list[Place] = []
         self.unchecked: list[Place] = []
         self.safe_branches: list[Place] = []
+        # Calls that push an address and stay in their function.
+        self.intra_calls: list[Place] = []
 
 
 class Entry:
@@ -107,7 +109,16 @@ def read(object: Object) -> Special:
                 entry = Entry(object, sec, number)
                 entry.ask(reloc.kind in NAMING, "NoReloc")
                 read_reloc(special, entry, reloc)
+    special.alternatives = nested(special.alternatives)
     return special
+
+
+def nested(alternatives: list[Alternative]) -> list[Alternative]:
+    """Alternatives of one place are nested: each may replace as much as the longest of them."""
+    longest: dict[Place, int] = {}
+    for entry in alternatives:
+        longest[entry.original] = max(longest.get(entry.original, 0), entry.original_len)
+    return [entry._replace(original_len=longest[entry.original]) if entry.original_len else entry for entry in alternatives]
 
 
 def named(object: Object, name: bytes):
@@ -149,7 +160,6 @@ def read_hint(special: Special, entry: Entry, body: bytes, at: int) -> None:
     entry.ask(kind not in (CALL, REGS, REGS_PARTIAL) or sp_reg == SP, "HintBase")
     entry.ask(sp_offset >= {CALL: 8, REGS: 0, REGS_PARTIAL: 0}.get(kind, sp_offset), "HintOffset")
     entry.ask(signal == {CALL: 0, FUNC: 0, REGS: 1, REGS_PARTIAL: 1}.get(kind, signal), "HintSignal")
-    entry.ask(all(hint.place != place for hint in special.hints), "Repeated")
     special.hints.append(Hint(place, sp_offset, kind))
 
 
@@ -166,4 +176,5 @@ LISTS = (
     # What is listed here outside code is passed by.
     (b".discard.func_stack_frame_non_standard", lambda special, entry, reloc: special.unchecked.extend(filter(None, [entry.in_text(reloc)]))),
     (b".discard.retpoline_safe", lambda special, entry, reloc: special.safe_branches.append(entry.text(reloc))),
+    (b".discard.intra_function_calls", lambda special, entry, reloc: special.intra_calls.append(entry.text(reloc))),
 )

@@ -74,7 +74,7 @@ def move(state: State, insn: Insn) -> State:
 
 def move_live(state: Live, op: str, value: Optional[int]) -> Live:
     at_least, depth, fp, saved = state
-    if op == "Push":
+    if op in ("Push", "Hop"):
         return state._replace(depth=depth + 8)
     if op == "PushBp":
         return state._replace(depth=depth + 8, saved=depth + 8 if saved is None else saved)
@@ -93,9 +93,14 @@ def move_live(state: Live, op: str, value: Optional[int]) -> Live:
         ask(fp is not None, 9)
         ask(fp - value >= (8 if saved is None else saved), 11)
         return state._replace(at_least=False, depth=fp - value)
-    if op == "LeaBpSp":
+    if op in ("LeaBpSp", "LeaBpRoom"):
         known_and_saved(state)
-        return state._replace(fp=saved if depth - value == saved else None)
+        is_base = depth - value == saved
+        # Where room is made below the base, the depth is told alike on all paths.
+        return state._replace(fp=saved if is_base else None, at_least=is_base and op == "LeaBpRoom")
+    if op in ("SubSp", "SpReg"):
+        ask(fp is not None, 7)
+        return state._replace(at_least=True)
     if op == "StoreBp":
         fits = saved is None and 16 <= depth - value <= depth
         return state._replace(saved=depth - value) if fits else state
@@ -158,7 +163,7 @@ def leave(state: Live) -> Live:
 
 def move_regs(state: Regs, op: str, value: Optional[int]) -> Regs:
     full, depth = state
-    if op in ("Push", "PushBp"):
+    if op in ("Push", "PushBp", "Hop"):
         return Regs(full, depth + 8)
     if op in ("Pop", "Popf", "AddSp"):
         return raise_sp_regs(state, value if op == "AddSp" else 8)
@@ -166,10 +171,10 @@ def move_regs(state: Regs, op: str, value: Optional[int]) -> Regs:
         ask(full, 8)
         # From here on the saved rbp is back in rbp, and what is left to tell are the words that iret takes.
         return Regs(False, FULL_IP - FULL_BP - 8) if depth == -FULL_BP else raise_sp_regs(state, 8)
-    if op in ("LeaBpSp", "LoadBp", "BpOther"):
+    if op in ("LeaBpSp", "LeaBpRoom", "LoadBp", "BpOther"):
         ask(full, 8)
     ask(op not in ("AndSp", "LeaSpBp", "Leave"), 9)
-    ask(op != "SpOther", 7)
+    ask(op not in ("SpOther", "SubSp", "SpReg"), 7)
     ask(op != "IretNext", 15)
     return state
 

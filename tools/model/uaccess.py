@@ -84,9 +84,11 @@ def unsafe_targets(flow, point):
     entries = {edge.to for edge in flow.edges[point] if edge.kind == "Sibling"}
     functions = {flow.functions.at(flow.address[entry]) for entry in entries}
     if role.entry is not None:
-        functions.add(flow.functions.at_start[role.entry])
+        functions.add(flow.functions.at_start.get(role.entry))
     for function in functions:
-        if not is_safe(flow, function):
+        if function is None:
+            yield ANY
+        elif not is_safe(flow, function):
             yield flow.functions.list[function].sym
     if role.sym is not None and flow.object.symbols[role.sym].name not in flow.names.access_safe:
         yield role.sym

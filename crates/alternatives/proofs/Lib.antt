@@ -17,5 +17,6 @@ pub mod Weaving
 pub mod Gathering
 pub mod Numbering
 pub mod SiteEntries
+pub mod Held
 pub mod ListedInsns
 mod Merging

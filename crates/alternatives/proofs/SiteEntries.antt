@@ -23,13 +23,13 @@ use Rattle.alternatives.proofs.Opened.{same_sec, from_start, before_end}
 use Rattle.alternatives.proofs.Whole.{fill_within}
 
 -- ---- the site of an index
-record IsWithin (sites : List AlternativesSite) (i : ℕ) : Type 0 where
-  j : ℕ
-  inside : j < length sites
-  from : (d : AlternativesSite) → (get_or sites j d).first ≤ i
-  below : (d : AlternativesSite) → i < (get_or sites j d).first + (get_or sites j d).count
+pub record IsWithin (sites : List AlternativesSite) (i : ℕ) : Type 0 where
+  pub j : ℕ
+  pub inside : j < length sites
+  pub from : (d : AlternativesSite) → (get_or sites j d).first ≤ i
+  pub below : (d : AlternativesSite) → i < (get_or sites j d).first + (get_or sites j d).count
 
-covered : (from to i : ℕ) (sites : List AlternativesSite) → FillFrom from sites to → from ≤ i → i < to → IsWithin sites i
+pub covered : (from to i : ℕ) (sites : List AlternativesSite) → FillFrom from sites to → from ≤ i → i < to → IsWithin sites i
 covered from to i [] fill low high = absurd (omega arith)
 covered from to i (s ∷ sites) fill low high = elim (cases_lt i (from + s.count)) [
   | inl here ↦ record { j = 0; inside = omega arith; from = λ d. omega (arith, fill.0); below = λ d. omega (arith, fill.0) }
@@ -59,7 +59,7 @@ one_holds sites place i j d apart in_i in_j h k = elim (cases_order i j) [
 begins_there : (a b n : ℕ) → 0 < n → (eqb a a && (leb b b && ltb b (b + n))) ≡ true
 begins_there a b n some = grind (arith, nat_tests)
 
-some_len : (n : ℕ) → not (eqb n 0) ≡ true → 0 < n
+pub some_len : (n : ℕ) → not (eqb n 0) ≡ true → 0 < n
 some_len n h = grind (arith, nat_tests)
 
 same_numbers : (a b c d : ℕ) → (eqb a b && eqb c d) ≡ true → (a ≡ b) × (c ≡ d)

@@ -1,5 +1,6 @@
 -- The sites of alternatives.
 use Rattle.std.specs.Prelude.{◌≡◌, ◌⊎◌, ℕ, ◌+◌, ◌<◌, ◌≤◌, Bool, List, [], ◌∷◌, length, slice_index_or, All}
+use Rattle.std.specs.List.{list_any}
 use Rattle.std.specs.List.Sorted.{IsPermutation, IsSortedBy}
 use Rattle.std.specs.Ordering.{nat_cmp, is_lt, ordering_then}
 use Rattle.ot_base.specs.declared.place.Place.{Place}
@@ -13,6 +14,10 @@ use Rattle.alternatives.specs.Originals.{entry_at, counted}
 -- a place lies in a site
 abbrev pub in_alternatives_site : AlternativesSite → Place → Bool
 in_alternatives_site site place = is_within site.start site.len place
+
+-- a place lies in a site: in the original of an entry
+abbrev pub is_in_site : List AltEntry → Place → Bool
+is_in_site entries place = list_any (λ a. is_within a.original a.original_len place) entries
 
 -- so many bytes from a place on are in an earlier section than another place, or in the same one, and end at it or before it
 abbrev pub EndsBefore : Place → ℕ → Place → Type 0

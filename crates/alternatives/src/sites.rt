@@ -5,7 +5,7 @@ ghost use Rattle.alternatives.specs.Faults.{AreRight, IsFirstFault};
 ghost use Rattle.alternatives.specs.Gathered.{plain_insns};
 ghost use Rattle.alternatives.specs.Numbers.{IsNumberOf, IsRunOf};
 ghost use Rattle.alternatives.specs.Points.{address_of_point, entries_from, first_of, insn_of_point, point_after, points_of};
-ghost use Rattle.alternatives.specs.Sites.{in_alternatives_site, AreSitesOf};
+ghost use Rattle.alternatives.specs.Sites.{in_alternatives_site, is_in_site as lies_in_site, AreSitesOf};
 ghost use Rattle.alternatives.specs.Texts.{text_bytes, AreShort, AscendBySection};
 ghost use Rattle.alternatives.specs.declared.original.Original.{Original};
 ghost use Rattle.alternatives.specs.declared.site.AlternativesSite.{AlternativesSite};
@@ -96,6 +96,14 @@ impl Sites {
     {
         let (near, _) = self.blocks.numbers(place);
         find_site(self.sites.as_slice(), place, near as usize)
+    }
+
+    /// Whether a place lies in a site.
+    pub fn is_in_site(&self, place: Place) -> bool
+        ensures { result ≡ lies_in_site self.now.entries place }
+    {
+        let (near, _) = self.blocks.numbers(place);
+        find_site(self.sites.as_slice(), place, near as usize).is_some()
     }
 
     /// The numbers of the entries that have an original, by site, and those of one site ascending.

@@ -1,5 +1,5 @@
 -- Lone jumps through one table go alike.
-use Rattle.std.proofs.Common.{◌≡◌, ℕ, ◌⊎◌, inl, inr, Bool, true, false, cond, ◌&&◌, ◌||◌, not, List, [], ◌∷◌, ◌++◌, All, Option, Some, None, find, refl, sym, ap, ◌∙◌, subst}
+use Rattle.std.proofs.Common.{◌≡◌, ℕ, ℤ, ◌⊎◌, inl, inr, Bool, true, false, cond, ◌&&◌, ◌||◌, not, List, [], ◌∷◌, ◌++◌, All, Option, Some, None, find, refl, sym, ap, ◌∙◌, subst}
 use Rattle.std.specs.Prelude.{is_none, take_while}
 use Rattle.std.specs.List.{flat_map, list_any}
 use Rattle.std.proofs.lemmas.Bool.{eqb-true, false≢true}
@@ -22,19 +22,23 @@ use Rattle.symbols_relocs.specs.NamedPlaces.{is_relocated}
 use Rattle.symbols_relocs.specs.Parts.{owner_at}
 use Rattle.alternatives.specs.declared.point.Point.{Point}
 use Rattle.alternatives.specs.declared.texts.SectionText.{SectionText}
-use Rattle.jump_tables.specs.Tables.{entries_by, entries_of, jump_table, same_owner}
+use Rattle.special_sections.specs.declared.entries.AltEntry.{AltEntry}
+use Rattle.jump_tables.specs.Tables.{entries_by, entries_of, same_owner}
 use Rattle.flow_defs.specs.Coded.{Coded}
 use Rattle.flow_defs.specs.declared.destination.Way.TheVariants.{Along}
-use Rattle.flow_defs.specs.Arrival.{after, arrive, insn_of_object, is_at_end, is_dead_end}
-use Rattle.flow_defs.specs.Code.{is_plain, texts_of}
-use Rattle.flow_defs.specs.Edges.{branch_edges, branch_edges_by, edges_to, ends_flow, fixups, goes, goes_on, is_some_place, listed_edges, next_edges, static_targets, table_edges, table_edges_by, way_edges}
+use Rattle.flow_defs.specs.declared.destination.Destination.{Destination}
+use Rattle.flow_defs.specs.declared.destination.Destination.TheVariants.{ToIndirectThunk}
+use Rattle.flow_defs.specs.Arrival.{after, arrive, insn_of_object, is_at_end, is_dead_end, is_padding}
+use Rattle.flow_defs.specs.Code.{alternatives_of, is_plain, texts_of}
+use Rattle.flow_defs.specs.Edges.{branch_edges, branch_edges_by, edges_to, ends_flow, fixups, goes, goes_on, is_some_place, jump_edges, listed_edges, next_edges, static_targets, table_edges, way_edges}
 use Rattle.flow_defs.specs.Faults.{is_past_start}
-use Rattle.flow_defs.specs.Marks.{calls_into_function, has_bad_target, has_relocated_offset, has_stack_offset, has_target_in_site, is_bad_by, is_bad_listed, is_inner_call_by, listed_places, marks_of, places_by, target_places}
+use Rattle.flow_defs.specs.Marks.{calls_into_function, has_bad_target, has_relocated_offset, has_stack_offset, has_target_in_site, is_bad_by, is_bad_jump, is_bad_listed, is_inner_call_by, jump_places, listed_places, marks_of, places_by, target_places}
 use Rattle.flow_defs.specs.Owners.{is_unchecked_point, owner_of_point}
-use Rattle.flow_defs.specs.Roles.{jump_by_table, role_by, role_of, table_of_point}
+use Rattle.flow_defs.specs.Roles.{jump_by_table, jump_role, role_by, role_of, table_of_point}
 use Rattle.flow_defs.specs.Sites.{enters_site, is_into_site, is_original_of, site_holding, sites_of}
+use Rattle.flow_defs.specs.Targets.{destination_of}
 use Rattle.point_edges.specs.Tables.{table_start_of}
-use Rattle.control_flow.specs.Lone.{GoAlike, is_in_open_code, is_indirect_jump, is_lone_jump, is_unlisted}
+use Rattle.control_flow.specs.Lone.{GoAlike, is_in_open_code, is_indirect_jump, is_indirect_thunk, is_lone_jump, is_unlisted}
 
 bool_cases : (b : Bool) → (b ≡ true) ⊎ (b ≡ false)
 bool_cases true = inl refl
@@ -83,19 +87,26 @@ none_passes test other (y ∷ ys) x none some = elim (bool_cases (test y)) [
 ]
 
 -- an operation that goes nowhere but through a table
-record ByTable (o : Coded) (p : Point) (insn : Insn) (op : Op) : Type 0 where
+record ByTable (o : Coded) (p : Point) (op : Op) : Type 0 where
   ends : ends_flow op ≡ true
-  role : role_by o p insn op ≡ jump_by_table (table_of_point o p)
-  branch : branch_edges_by o p insn op ≡ []
-  table : table_edges_by o p op ≡ flat_map (λ place. way_edges o p place (Along Table)) (table_of_point o p)
-  bad : is_bad_by o p insn op ≡ false
-  places : places_by o p insn op ≡ table_of_point o p
-  inner : is_inner_call_by o p insn op ≡ false
+  role : role_by o p op ≡ jump_by_table (table_of_point o p)
+  branch : branch_edges_by o p op ≡ []
+  bad : is_bad_by o p op ≡ false
+  places : places_by o p op ≡ []
+  inner : is_inner_call_by o p op ≡ false
   numberless : has_stack_offset op ≡ false
 
-by_table : (o : Coded) (p : Point) (insn : Insn) (op : Op) → is_indirect_jump op ≡ true → ByTable o p insn op
-by_table o p insn (ops.JmpInd table) h = record { ends = refl; role = refl; branch = refl; table = refl; bad = refl; places = refl; inner = refl; numberless = refl }
-by_table o p insn _ h = absurd (false≢true h)
+is_thunk : (to : Destination) → is_indirect_thunk to ≡ true → to ≡ ToIndirectThunk
+is_thunk ToIndirectThunk h = refl
+is_thunk _ h = absurd (false≢true h)
+
+by_thunk : (o : Coded) (p : Point) (rel : ℤ) (wide : Bool) → destination_of o p ≡ ToIndirectThunk → ByTable o p (ops.Jmp rel wide)
+by_thunk o p rel wide is = record { ends = refl; role = ap (jump_role o p) is; branch = ap (jump_edges o p) is; bad = ap (is_bad_jump o p) is; places = ap (jump_places o p) is; inner = refl; numberless = refl }
+
+by_table : (o : Coded) (p : Point) (op : Op) → is_indirect_jump op (destination_of o p) ≡ true → ByTable o p op
+by_table o p (ops.JmpInd table) h = record { ends = refl; role = refl; branch = refl; bad = refl; places = refl; inner = refl; numberless = refl }
+by_table o p (ops.Jmp rel wide) h = by_thunk o p rel wide (is_thunk (destination_of o p) h)
+by_table o p _ h = absurd (false≢true h)
 
 -- the table of an owner is that of its first entry's
 same_owner_is : (a b : Option ℕ) → same_owner a b ≡ true → a ≡ b
@@ -120,9 +131,9 @@ module _ (o : Elf) where
   one_owner a b [] some other = refl
   one_owner a b (x ∷ xs) some other = ap (λ own. take_while (owned own) (x ∷ xs)) (sym (first_owned a x xs some) ∙ first_owned b x xs other)
 
-  same_entries : (texts : List SectionText) (a b : Option ℕ) (table : Option Place) → is_some_place (entries_by o texts a table) ≡ true → is_some_place (entries_by o texts b table) ≡ true → entries_by o texts a table ≡ entries_by o texts b table
-  same_entries texts a b None some other = refl
-  same_entries texts a b (Some start) some other = one_owner a b (entries_of o texts start) some other
+  same_entries : (texts : List SectionText) (entries : List AltEntry) (a b : Option ℕ) (table : Option Place) → is_some_place (entries_by o texts entries a table) ≡ true → is_some_place (entries_by o texts entries b table) ≡ true → entries_by o texts entries a table ≡ entries_by o texts entries b table
+  same_entries texts entries a b None some other = refl
+  same_entries texts entries a b (Some start) some other = one_owner a b (entries_of o texts entries start) some other
 
 -- the edges to the entries of a table, but for those past the start of a site
 abbrev along : Coded → Place → List Edge
@@ -157,15 +168,15 @@ module _ (o : Coded) (p : Point) (lone : is_lone_jump o p ≡ true) where
   abbrev insn : Insn
   insn = insn_of_object o p
 
-  parts : (is_indirect_jump insn.op && (is_some_place (table_of_point o p) && (is_unlisted o p && is_in_open_code o p))) ≡ true
+  parts : (is_indirect_jump insn.op (destination_of o p) && (is_some_place (table_of_point o p) && (is_unlisted o p && is_in_open_code o p))) ≡ true
   unfolding is_lone_jump
   parts = lone
 
-  by : ByTable o p insn insn.op
-  by = by_table o p insn insn.op (both (is_indirect_jump insn.op) _ parts).0
+  by : ByTable o p insn.op
+  by = by_table o p insn.op (both (is_indirect_jump insn.op (destination_of o p)) _ parts).0
 
   behind : (is_some_place (table_of_point o p) ≡ true) × ((is_unlisted o p && is_in_open_code o p) ≡ true)
-  behind = both (is_some_place (table_of_point o p)) _ (both (is_indirect_jump insn.op) _ parts).1
+  behind = both (is_some_place (table_of_point o p)) _ (both (is_indirect_jump insn.op (destination_of o p)) _ parts).1
 
   pub has_table : is_some_place (table_of_point o p) ≡ true
   has_table = behind.0
@@ -205,7 +216,7 @@ module _ (o : Coded) (p : Point) (lone : is_lone_jump o p ≡ true) where
   no_next = ap (λ b. cond b (edges_to Next (after o p)) []) ends
 
   by_entries : table_edges o p ≡ flat_map (along o) (table_of_point o p)
-  by_entries = by.table ∙ flat_map_same (λ place. way_edges o p place (Along Table)) (along o) (λ place. ap (λ b. cond b [] (edges_to Table (arrive o place))) (into place)) (table_of_point o p)
+  by_entries = flat_map_same (λ place. way_edges o p place (Along Table)) (along o) (λ place. ap (λ b. cond b [] (edges_to Table (arrive o place))) (into place)) (table_of_point o p)
 
   -- it goes to the entries of its table
   pub lone_goes : goes o p ≡ flat_map (along o) (table_of_point o p)
@@ -232,7 +243,7 @@ module _ (o : Coded) (p : Point) (lone : is_lone_jump o p ≡ true) where
 
   its_places : target_places o p ≡ table_of_point o p
   its_places =
-      ap (λ (l : List Place). l ++ (listed_places o Taken p (static_targets o p) ++ listed_places o Fixup p (fixups o p))) by.places
+      ap (λ (l : List Place). l ++ (table_of_point o p ++ (listed_places o Taken p (static_targets o p) ++ listed_places o Fixup p (fixups o p)))) by.places
       ∙ (ap (λ places. table_of_point o p ++ (listed_places o Taken p places ++ listed_places o Fixup p (fixups o p))) no_targets
       ∙ (ap (λ places. table_of_point o p ++ listed_places o Fixup p places) no_fixups ∙ append-nil (table_of_point o p)))
 
@@ -252,12 +263,25 @@ module _ (o : Coded) (p : Point) (lone : is_lone_jump o p ≡ true) where
       marked (has_bad_target o p) (is_at_end o p && (goes_on o p && comes_back)) (has_target_in_site o p) (calls_into_function o p) (has_relocated_offset o p insn) (list_any (λ place. is_past_start place (site_holding o place)) (table_of_point o p))
       not_bad (not_past_end comes_back) into_site not_into_function not_relocated
 
-same_tables : (o : Coded) (p r : Point) → is_some_place (table_of_point o p) ≡ true → is_some_place (table_of_point o r) ≡ true → table_start_of o p ≡ table_start_of o r → table_of_point o p ≡ table_of_point o r
+-- the table of a point is that of the jump at its place, where it has entries
+unguarded : (b : Bool) (places : List Place) → is_some_place (cond b [] places) ≡ true → cond b [] places ≡ places
+unguarded true places some = absurd (false≢true some)
+unguarded false places some = refl
+
+abbrev own_entries : Coded → Point → Option Place → List Place
+own_entries o p start = entries_by o.elf (texts_of o) (alternatives_of o) (owner_of_point o p) start
+
+own_table : (o : Coded) (p : Point) → is_some_place (table_of_point o p) ≡ true → table_of_point o p ≡ own_entries o p (table_start_of o p)
 unfolding table_of_point table_start_of
+own_table o p some = unguarded (is_padding o p) (own_entries o p (table_start_of o p)) some
+
+same_tables : (o : Coded) (p r : Point) → is_some_place (table_of_point o p) ≡ true → is_some_place (table_of_point o r) ≡ true → table_start_of o p ≡ table_start_of o r → table_of_point o p ≡ table_of_point o r
 same_tables o p r some other start =
-    ap (entries_by o.elf (texts_of o) (owner_of_point o p)) start
-    ∙ same_entries o.elf (texts_of o) (owner_of_point o p) (owner_of_point o r) (jump_table o.elf (texts_of o) r.place)
-    (sym (ap (λ t. is_some_place (entries_by o.elf (texts_of o) (owner_of_point o p) t)) start) ∙ some) other
+    let one : table_of_point o p ≡ own_entries o p (table_start_of o r) = own_table o p some ∙ ap (own_entries o p) start in
+    let own = own_table o r other in
+    one
+    ∙ same_entries o.elf (texts_of o) (alternatives_of o) (owner_of_point o p) (owner_of_point o r) (table_start_of o r) (sym (ap is_some_place one) ∙ some) (sym (ap is_some_place own) ∙ other)
+    ∙ sym own
 
 pub go_alike : (o : Coded) (p r : Point) → is_lone_jump o p ≡ true → is_lone_jump o r ≡ true → table_start_of o p ≡ table_start_of o r → GoAlike o p r
 go_alike o p r lone other start =

@@ -64,7 +64,8 @@ numbers_fit o is none short =
     let of_reachable = right_none (faults hint.hints o) _ of_hints in
     let of_unreachable = right_none (faults lists.after_reachable o) _ of_reachable in
     let of_unchecked = right_none (faults lists.after_unreachable o) _ of_unreachable in
-    let of_safe = right_none (faults lists.unchecked o) (faults lists.safe_branches o) of_unchecked in
+    let of_safe = right_none (faults lists.unchecked o) _ of_unchecked in
+    let of_intra = right_none (faults lists.safe_branches o) (faults lists.intra_calls o) of_safe in
     let listed : (kind : EntryKind Place) → ((sec : ℕ) → kind.count o sec ≡ length (relocs_at o sec)) → faults kind o ≡ [] → length (entries kind o) < 2 ^ 32 = λ kind count right. omega (arith, short, few_each kind o is (list_each kind o count) right) in
     record {
       branches = omega (arith, short, few_each tables.branches o is (branches_each o) (left_none (faults tables.branches o) _ of_branches));
@@ -73,7 +74,8 @@ numbers_fit o is none short =
       after_reachable = listed lists.after_reachable (λ sec. refl) (left_none (faults lists.after_reachable o) _ of_reachable);
       after_unreachable = listed lists.after_unreachable (λ sec. refl) (left_none (faults lists.after_unreachable o) _ of_unreachable);
       unchecked = omega (arith, all_kept (is_text_place o BelowEnd) (entries lists.unchecked o), listed lists.unchecked (λ sec. refl) (left_none (faults lists.unchecked o) _ of_unchecked));
-      safe_branches = listed lists.safe_branches (λ sec. refl) of_safe;
+      safe_branches = listed lists.safe_branches (λ sec. refl) (left_none (faults lists.safe_branches o) _ of_safe);
+      intra_calls = listed lists.intra_calls (λ sec. refl) of_intra;
     }
 
 -- of static branches there are no more than bytes

@@ -1,6 +1,6 @@
 -- What control does at a straight point.
 use Rattle.std.proofs.Common.{◌≡◌, ℕ, ◌+◌, ◌<◌, Bool, true, false, cond, ◌&&◌, ◌||◌, not, List, [], ◌∷◌, ◌++◌, All, refl, sym, ap, ◌∙◌, subst}
-use Rattle.std.specs.List.{list_any}
+use Rattle.std.specs.List.{flat_map, list_any}
 use Rattle.std.proofs.lemmas.Bool.{false≢true}
 use Rattle.std.proofs.lemmas.List.Elements.{All-nil, All-push}
 use Rattle.ot_base.specs.NameLists.{NameLists}
@@ -9,21 +9,21 @@ use Rattle.operation_defs.specs.declared.insn.Insn.{Insn}
 use Rattle.operation_defs.specs.declared.op.Op.{Op}
 use Rattle.operation_defs.specs.declared.op.Op.TheVariants as ops
 use Rattle.machine_defs.specs.declared.flow.Edge.{Edge}
-use Rattle.machine_defs.specs.declared.flow.EdgeKind.TheVariants.{Fixup, Next, Taken}
+use Rattle.machine_defs.specs.declared.flow.EdgeKind.TheVariants.{Fixup, Next, Table, Taken}
 use Rattle.machine_defs.specs.declared.flow.Marks.{Marks}
 use Rattle.machine_defs.specs.declared.flow.Role.TheVariants.{Plain}
 use Rattle.machine_defs.specs.Program.{edge, no_marks}
 use Rattle.flow_defs.specs.Coded.{Coded}
+use Rattle.flow_defs.specs.declared.destination.Way.TheVariants.{Along}
 use Rattle.alternatives.specs.declared.point.Point.{Point}
-use Rattle.flow_defs.specs.Arrival.{after, decoded_insn, insn_of_object, is_at_end, is_dead_end, op_of}
+use Rattle.flow_defs.specs.Arrival.{after, insn_of_object, is_at_end, is_dead_end}
 use Rattle.flow_defs.specs.Code.{point_at}
-use Rattle.flow_defs.specs.Edges.{branch_edges, branch_edges_by, edges_to, ends_flow, fixups, goes, goes_on, is_some_place, listed_edges, next_edges, static_targets, table_edges, table_edges_by}
-use Rattle.flow_defs.specs.Marks.{calls_into_function, has_bad_target, has_relocated_offset, has_stack_offset, has_target_in_site, is_bad_by, is_bad_listed, is_inner_call_by, listed_places, places_by, target_places}
+use Rattle.flow_defs.specs.Edges.{branch_edges, branch_edges_by, edges_to, ends_flow, fixups, goes, goes_on, is_some_place, listed_edges, next_edges, static_targets, table_edges, way_edges}
+use Rattle.flow_defs.specs.Marks.{calls_into_function, has_bad_target, has_relocated_offset, has_target_in_site, is_bad_by, is_bad_listed, is_inner_call_by, listed_places, places_by, target_places}
 use Rattle.flow_defs.specs.Owners.{is_unchecked_point}
 use Rattle.flow_defs.specs.Program.{calls_fentry_by, program_of}
-use Rattle.flow_defs.specs.Roles.{role_by, role_of}
+use Rattle.flow_defs.specs.Roles.{role_by, role_of, table_of_point}
 use Rattle.flow_defs.specs.Sites.{is_into_site}
-use Rattle.symbols_relocs.specs.NamedPlaces.{is_relocated}
 use Rattle.control_flow.specs.declared.searched_flow.Exit.TheVariants.{Passes}
 use Rattle.control_flow.specs.Told.{exit_of}
 use Rattle.control_flow.specs.Listed.{ExitCallsPoint, count_of}
@@ -32,28 +32,27 @@ use Rattle.control_flow.specs.Transfers.{IsTransfer}
 use Rattle.control_flow.specs.declared.transfers.TheConstants.{USUAL}
 
 -- an operation that goes nowhere but on
-record GoesOn (o : Coded) (p : Point) (insn : Insn) (op : Op) : Type 0 where
-  same : op_of o p op ≡ op
+record GoesOn (o : Coded) (p : Point) (op : Op) : Type 0 where
   ends : ends_flow op ≡ false
-  role : role_by o p insn op ≡ Plain
-  branch : branch_edges_by o p insn op ≡ []
-  table : table_edges_by o p op ≡ []
-  bad : is_bad_by o p insn op ≡ false
-  places : places_by o p insn op ≡ []
-  inner : is_inner_call_by o p insn op ≡ false
+  role : role_by o p op ≡ Plain
+  branch : branch_edges_by o p op ≡ []
+  bad : is_bad_by o p op ≡ false
+  places : places_by o p op ≡ []
+  inner : is_inner_call_by o p op ≡ false
 
-straight_op : (o : Coded) (p : Point) (insn : Insn) (op : Op) → is_straight_op op ≡ true → GoesOn o p insn op
-straight_op o p insn (ops.Call rel) h = absurd (false≢true h)
-straight_op o p insn ops.CallInd h = absurd (false≢true h)
-straight_op o p insn (ops.Jmp rel wide) h = absurd (false≢true h)
-straight_op o p insn (ops.Jcc rel wide) h = absurd (false≢true h)
-straight_op o p insn (ops.JmpInd table) h = absurd (false≢true h)
-straight_op o p insn ops.Ret h = absurd (false≢true h)
-straight_op o p insn ops.RetImm h = absurd (false≢true h)
-straight_op o p insn ops.Iret h = absurd (false≢true h)
-straight_op o p insn ops.Switch h = absurd (false≢true h)
-straight_op o p insn ops.Ud2 h = absurd (false≢true h)
-straight_op o p insn _ h = record { same = refl; ends = refl; role = refl; branch = refl; table = refl; bad = refl; places = refl; inner = refl }
+straight_op : (o : Coded) (p : Point) (op : Op) → is_straight_op op ≡ true → GoesOn o p op
+straight_op o p (ops.Call rel) h = absurd (false≢true h)
+straight_op o p ops.CallInd h = absurd (false≢true h)
+straight_op o p ops.Hop h = absurd (false≢true h)
+straight_op o p (ops.Jmp rel wide) h = absurd (false≢true h)
+straight_op o p (ops.Jcc rel wide) h = absurd (false≢true h)
+straight_op o p (ops.JmpInd table) h = absurd (false≢true h)
+straight_op o p ops.Ret h = absurd (false≢true h)
+straight_op o p ops.RetImm h = absurd (false≢true h)
+straight_op o p ops.Iret h = absurd (false≢true h)
+straight_op o p ops.Switch h = absurd (false≢true h)
+straight_op o p ops.Ud2 h = absurd (false≢true h)
+straight_op o p _ h = record { ends = refl; role = refl; branch = refl; bad = refl; places = refl; inner = refl }
 
 no_place : (places : List Place) → is_some_place places ≡ false → places ≡ []
 no_place [] none = refl
@@ -83,15 +82,8 @@ module _ (o : Coded) (n : ℕ) (is : IsStraight o n) where
   abbrev insn : Insn
   insn = insn_of_object o p
 
-  own : GoesOn o p insn (decoded_insn o p).op
-  own = straight_op o p insn (decoded_insn o p).op is.straight
-
-  op_is : insn.op ≡ (decoded_insn o p).op
-  unfolding insn_of_object
-  op_is = own.same
-
-  on : GoesOn o p insn insn.op
-  on = subst (GoesOn o p insn) (sym op_is) own
+  on : GoesOn o p insn.op
+  on = straight_op o p insn.op is.straight
 
   unlisted : (is_some_place (static_targets o p) ≡ false) × ((is_some_place (fixups o p) || is_dead_end o p) ≡ false)
   unlisted = neither (is_some_place (static_targets o p)) (is_some_place (fixups o p) || is_dead_end o p) is.unlisted
@@ -117,7 +109,7 @@ module _ (o : Coded) (n : ℕ) (is : IsStraight o n) where
   all_edges : next_edges o p ++ (branch_edges o p ++ (listed_edges o Taken p (static_targets o p) ++ (listed_edges o Fixup p (fixups o p) ++ table_edges o p))) ≡ edge (n + 1) Next ∷ []
   all_edges =
       first_only (next_edges o p) (branch_edges o p) (listed_edges o Taken p (static_targets o p)) (listed_edges o Fixup p (fixups o p)) (table_edges o p) (edge (n + 1) Next)
-      next_is on.branch (ap (listed_edges o Taken p) no_targets) (ap (listed_edges o Fixup p) no_fixups) on.table
+      next_is on.branch (ap (listed_edges o Taken p) no_targets) (ap (listed_edges o Fixup p) no_fixups) (ap (flat_map (λ place. way_edges o p place (Along Table))) is.tableless)
 
   -- it has one edge, to the point below, unless it isn't checked
   pub straight_goes : (b : Bool) → is_unchecked_point o p ≡ b → goes o p ≡ cond b [] (edge (n + 1) Next ∷ [])
@@ -136,8 +128,9 @@ module _ (o : Coded) (n : ℕ) (is : IsStraight o n) where
 
   no_target_places : target_places o p ≡ []
   no_target_places =
-      ap (λ (l : List Place). l ++ (listed_places o Taken p (static_targets o p) ++ listed_places o Fixup p (fixups o p))) on.places
-      ∙ (ap (λ places. listed_places o Taken p places ++ listed_places o Fixup p (fixups o p)) no_targets ∙ ap (listed_places o Fixup p) no_fixups)
+      ap (λ (l : List Place). l ++ (table_of_point o p ++ (listed_places o Taken p (static_targets o p) ++ listed_places o Fixup p (fixups o p)))) on.places
+      ∙ (ap (λ (l : List Place). l ++ (listed_places o Taken p (static_targets o p) ++ listed_places o Fixup p (fixups o p))) is.tableless
+      ∙ (ap (λ places. listed_places o Taken p places ++ listed_places o Fixup p (fixups o p)) no_targets ∙ ap (listed_places o Fixup p) no_fixups))
 
   not_into_site : has_target_in_site o p ≡ false
   unfolding has_target_in_site
@@ -147,17 +140,13 @@ module _ (o : Coded) (n : ℕ) (is : IsStraight o n) where
   unfolding calls_into_function
   not_into_function = on.inner
 
-  not_relocated : has_relocated_offset o p insn ≡ false
-  unfolding insn_of_object
-  not_relocated = ap (λ (op : Op). has_stack_offset op && is_relocated o.elf p.place (decoded_insn o p).len) own.same ∙ is.unrelocated
-
   not_past_end : (is_at_end o p && (goes_on o p && true)) ≡ false
   not_past_end = ap (λ b. b && (goes_on o p && true)) is.goes_on
 
   pub straight_transfer : IsTransfer o n true USUAL
   straight_transfer = record {
     role = straight_role;
-    marks = unmarked (has_bad_target o p) (is_at_end o p && (goes_on o p && true)) (has_target_in_site o p) (calls_into_function o p) (has_relocated_offset o p insn) not_bad not_past_end not_into_site not_into_function not_relocated;
+    marks = unmarked (has_bad_target o p) (is_at_end o p && (goes_on o p && true)) (has_target_in_site o p) (calls_into_function o p) (has_relocated_offset o p insn) not_bad not_past_end not_into_site not_into_function is.unrelocated;
     calls_fentry = ap (calls_fentry_by o) straight_role;
   }
 

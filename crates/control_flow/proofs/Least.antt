@@ -2,7 +2,7 @@
 use Rattle.std.proofs.Common.{◌≡◌, ◌≢◌, ℕ, zero, suc, ◌+◌, ◌<◌, inl, inr, Bool, true, false, not, ◌&&◌, cond, List, [], ◌∷◌, Some, Contains, length, get_or, filter, refl, sym, ap, ◌∙◌, subst, arith}
 use Rattle.std.specs.Prelude.{slice_get}
 use Rattle.std.specs.List.{list_any}
-use Rattle.std.proofs.lemmas.Bool.{and_parts, not-true}
+use Rattle.std.proofs.lemmas.Bool.{and_from, and_parts, not-true}
 use Rattle.std.proofs.lemmas.Option.{slice_get-get_or}
 use Rattle.std.proofs.lemmas.List.Elements.{All-contains, Contains-push, filter_agree}
 use Rattle.std.proofs.lemmas.List.Folds.{Any-from_list_any, list_any-from_Any}
@@ -12,7 +12,7 @@ use Rattle.machine_defs.specs.declared.flow.EdgeKind.TheVariants.{Next, Taken, F
 use Rattle.machine_defs.specs.declared.flow.Role.{Role}
 use Rattle.machine_defs.specs.declared.flow.Role.TheVariants.{Plain, CallIn, CallEither, CallOut, CallAny, Return, JumpOut, JumpAny, Switch}
 use Rattle.machine_defs.specs.Program.{Program, IsPoint, entry_points, is_call, edge}
-use Rattle.machine_defs.specs.MayReturn.{MayReturn, may_call_out, target_may_return}
+use Rattle.machine_defs.specs.MayReturn.{MayReturn, calls_outside, is_listed, may_call_out, target_may_return}
 use Rattle.machine_defs.specs.IsProgram.{IsProgram}
 use Rattle.machine_defs.specs.Kept.{can_go}
 use Rattle.control_flow.specs.declared.searched_flow.Exit.{Exit}
@@ -81,7 +81,7 @@ module _ (p : Program) (flow : Flow) (tells : TellsFlow p flow) (shape : HasShap
   shared_sound q _ shares (MayReturn.goes_on r e plain c m) = shared_edge q r e shares c m
   shared_sound q _ shares (MayReturn.branches r e other c m) = shared_edge q r e shares c m
   shared_sound q _ shares (MayReturn.comes_back r to out alive c m) = shared_edge q r (edge to Next) shares c m
-  shared_sound q _ shares (MayReturn.comes_back_in r to entry first is alive arrived inside c m) = shared_edge q r (edge to Next) shares c m
+  shared_sound q _ shares (MayReturn.comes_back_in r to entry first is unlisted alive arrived inside c m) = shared_edge q r (edge to Next) shares c m
 
   -- a return comes from each point that leaves
   pub leaving_sound : (q : ℕ) → exit_at flow q ≡ Leaves → q < points_of flow → MayReturn p q
@@ -91,15 +91,19 @@ module _ (p : Program) (flow : Flow) (tells : TellsFlow p flow) (shape : HasShap
       by_jump sym is true e h = absurd (let z : ⊥ = cc in z)
       by_jump sym is false e h = MayReturn.jumps_out q sym is e
 
-      by_call : (sym : ℕ) (b : Bool) → cond b CallsNever CallsOut ≡ Leaves → MayReturn p q
-      by_call sym true h = absurd (let z : ⊥ = cc in z)
-      by_call sym false h = absurd (let z : ⊥ = cc in z)
+      by_call : (b : Bool) → cond b CallsNever CallsOut ≡ Leaves → MayReturn p q
+      by_call true h = absurd (let z : ⊥ = cc in z)
+      by_call false h = absurd (let z : ⊥ = cc in z)
+
+      by_entry : (entry : ℕ) (b : Bool) → cond b CallsNever (Calls entry) ≡ Leaves → MayReturn p q
+      by_entry entry true h = absurd (let z : ⊥ = cc in z)
+      by_entry entry false h = absurd (let z : ⊥ = cc in z)
 
       by_role : (r : Role) → p.role q ≡ r → exit_of p r ≡ Leaves → MayReturn p q
       by_role Plain is h = absurd (let z : ⊥ = cc in z)
-      by_role (CallIn entry) is h = absurd (let z : ⊥ = cc in z)
-      by_role (CallEither entry sym) is h = absurd (let z : ⊥ = cc in z)
-      by_role (CallOut sym) is h = by_call sym (p.never_returns sym) h
+      by_role (CallIn entry) is h = by_entry entry (is_listed p (CallIn entry)) h
+      by_role (CallEither entry sym) is h = by_call (is_listed p (CallEither entry sym)) h
+      by_role (CallOut sym) is h = by_call (is_listed p (CallOut sym)) h
       by_role CallAny is h = absurd (let z : ⊥ = cc in z)
       by_role Return is h = MayReturn.returns q is
       by_role (JumpOut sym) is h = by_jump sym is (p.never_returns sym) refl h
@@ -116,21 +120,24 @@ module _ (p : Program) (flow : Flow) (tells : TellsFlow p flow) (shape : HasShap
       alive : (d : Bool) → not (true && d) ≡ true → d ≡ false
       alive d h = not-true d h
 
-      by_never : (to sym : ℕ) → p.role q ≡ CallOut sym → (b : Bool) → p.never_returns sym ≡ b → over_next known (cond b CallsNever CallsOut) (p.dead_end q) ≡ true → Contains (p.goes q) (edge to Next) → MayReturn p to → MayReturn p q
-      by_never to sym is true e h c m = absurd (let z : ⊥ = cc in z)
-      by_never to sym is false e h c m = MayReturn.comes_back q to (ap (may_call_out p) is ∙ ap not e) (alive (p.dead_end q) h) c m
+      -- a call that may go outside
+      by_never : (to : ℕ) (r : Role) → p.role q ≡ r → calls_outside r ≡ true → (b : Bool) → is_listed p r ≡ b → over_next known (cond b CallsNever CallsOut) (p.dead_end q) ≡ true → Contains (p.goes q) (edge to Next) → MayReturn p to → MayReturn p q
+      by_never to r is outside true e h c m = absurd (let z : ⊥ = cc in z)
+      by_never to r is outside false e h c m = MayReturn.comes_back q to (ap (may_call_out p) is ∙ and_from (calls_outside r) (not (is_listed p r)) outside (ap not e)) (alive (p.dead_end q) h) c m
 
-      by_entry : (to entry : ℕ) → p.role q ≡ CallIn entry → over_next known (Calls entry) (p.dead_end q) ≡ true → Contains (p.goes q) (edge to Next) → MayReturn p to → MayReturn p q
-      by_entry to entry is h c m =
+      -- and one that doesn't
+      by_entry : (to entry : ℕ) → p.role q ≡ CallIn entry → (b : Bool) → is_listed p (CallIn entry) ≡ b → over_next known (cond b CallsNever (Calls entry)) (p.dead_end q) ≡ true → Contains (p.goes q) (edge to Next) → MayReturn p to → MayReturn p q
+      by_entry to entry is true e h c m = absurd (let z : ⊥ = cc in z)
+      by_entry to entry is false e h c m =
           let parts = and_parts (is_set known entry) (not (true && p.dead_end q)) h in
           let first = sound.entries p tells q entry point is parts.0 in
-          MayReturn.comes_back_in q to entry first.0 is (alive (p.dead_end q) parts.1) first.1 first.2 c m
+          MayReturn.comes_back_in q to entry first.0 is e (alive (p.dead_end q) parts.1) first.1 first.2 c m
 
       by_role : (to : ℕ) (r : Role) → p.role q ≡ r → over_next known (exit_of p r) (p.dead_end q) ≡ true → Contains (p.goes q) (edge to Next) → MayReturn p to → MayReturn p q
       by_role to Plain is h c m = MayReturn.goes_on q (edge to Next) (ap is_call is) c m
-      by_role to (CallIn entry) is h c m = by_entry to entry is h c m
-      by_role to (CallEither entry sym) is h c m = MayReturn.comes_back q to (ap (may_call_out p) is) (alive (p.dead_end q) h) c m
-      by_role to (CallOut sym) is h c m = by_never to sym is (p.never_returns sym) refl h c m
+      by_role to (CallIn entry) is h c m = by_entry to entry is (is_listed p (CallIn entry)) refl h c m
+      by_role to (CallEither entry sym) is h c m = by_never to (CallEither entry sym) is refl (is_listed p (CallEither entry sym)) refl h c m
+      by_role to (CallOut sym) is h c m = by_never to (CallOut sym) is refl (is_listed p (CallOut sym)) refl h c m
       by_role to CallAny is h c m = MayReturn.comes_back q to (ap (may_call_out p) is) (alive (p.dead_end q) h) c m
       by_role to Return is h c m = MayReturn.goes_on q (edge to Next) (ap is_call is) c m
       by_role to (JumpOut sym) is h c m = MayReturn.goes_on q (edge to Next) (ap is_call is) c m
@@ -183,7 +190,7 @@ module _ (p : Program) (flow : Flow) (tells : TellsFlow p flow) (shape : HasShap
     alive_over q e = ap not e
 
     known_entry : (q entry first : ℕ) → IsPoint p q → p.role q ≡ CallIn entry → Contains (entry_points p entry) first → is_set found first ≡ true → is_set known entry ≡ true
-    known_entry q entry first point is c f = (closed.passed first f).entry entry ((tells.entered q entry first point is (arrival p program entry first c)).0 c)
+    known_entry q entry first point is c f = subst (λ (n : ℕ). is_set known n ≡ true) ((tells.callees q entry first point is (arrival p program entry first c)).0 c) (closed.passed first f).callee
 
     complete : (q : ℕ) → IsPoint p q → MayReturn p q → is_set found q ≡ true
     complete _ point (MayReturn.returns q is) = leaves q Return point is refl
@@ -229,17 +236,17 @@ module _ (p : Program) (flow : Flow) (tells : TellsFlow p flow) (shape : HasShap
         by_role : (role : Role) → p.role q ≡ role → may_call_out p role ≡ true → is_set found r ≡ true → is_set found q ≡ true
         by_role Plain is h f = absurd (let z : ⊥ = cc in z)
         by_role (CallIn entry) is h f = absurd (let z : ⊥ = cc in z)
-        by_role (CallEither entry sym) is h f = over q r (CallEither entry sym) point is (alive_over q alive) c f
-        by_role (CallOut sym) is h f = over q r (CallOut sym) point is (by_never (p.never_returns sym) h) c f
+        by_role (CallEither entry sym) is h f = over q r (CallEither entry sym) point is (by_never (is_listed p (CallEither entry sym)) h) c f
+        by_role (CallOut sym) is h f = over q r (CallOut sym) point is (by_never (is_listed p (CallOut sym)) h) c f
         by_role CallAny is h f = over q r CallAny point is (alive_over q alive) c f
         by_role Return is h f = absurd (let z : ⊥ = cc in z)
         by_role (JumpOut sym) is h f = absurd (let z : ⊥ = cc in z)
         by_role JumpAny is h f = absurd (let z : ⊥ = cc in z)
         by_role Switch is h f = absurd (let z : ⊥ = cc in z)
-    complete _ point (MayReturn.comes_back_in q r entry first is alive arrived inside c from) =
+    complete _ point (MayReturn.comes_back_in q r entry first is unlisted alive arrived inside c from) =
         let f : is_set found r ≡ true = complete r (program.edges q (edge r Next) point c) from in
         let known_is : is_set known entry ≡ true = known_entry q entry first point is arrived (complete first (arrival p program entry first arrived) inside) in
-        over q r (CallIn entry) point is (rw known_is (alive_over q alive)) c f
+        over q r (CallIn entry) point is (subst (λ (b : Bool). over_next known (cond b CallsNever (Calls entry)) (p.dead_end q) ≡ true) (sym unlisted) (rw known_is (alive_over q alive))) c f
 
 same_tests : (a b : Bool) → (a ≡ true → b ≡ true) → (b ≡ true → a ≡ true) → a ≡ b
 same_tests true b f g = sym (f refl)
@@ -277,9 +284,13 @@ module _ (p : Program) (flow : Flow) (tells : TellsFlow p flow) (shape : HasShap
   target_is : (q : ℕ) → IsPoint p q → target_returns known (exit_at flow q) ≡ target_may_return p (p.role q)
   target_is q point = ap (target_returns known) (sym (tells.exits q point)) ∙ by_role (p.role q) refl
     where
-      by_call : (b : Bool) → target_returns known (cond b CallsNever CallsOut) ≡ not b
+      by_call : (b : Bool) → target_returns known (cond b CallsNever CallsOut) ≡ (not b && true)
       by_call true = refl
       by_call false = refl
+
+      by_entry : (b may : Bool) (entry : ℕ) → is_set known entry ≡ may → target_returns known (cond b CallsNever (Calls entry)) ≡ (not b && may)
+      by_entry true may entry is = refl
+      by_entry false may entry is = is
 
       by_jump : (b : Bool) → target_returns known (cond b Passes Leaves) ≡ true
       by_jump true = refl
@@ -287,9 +298,9 @@ module _ (p : Program) (flow : Flow) (tells : TellsFlow p flow) (shape : HasShap
 
       by_role : (r : Role) → p.role q ≡ r → target_returns known (exit_of p r) ≡ target_may_return p r
       by_role Plain role = refl
-      by_role (CallIn entry) role = known_is q entry point role
-      by_role (CallEither entry sym) role = refl
-      by_role (CallOut sym) role = by_call (p.never_returns sym)
+      by_role (CallIn entry) role = by_entry (is_listed p (CallIn entry)) (list_any p.may_return (entry_points p entry)) entry (known_is q entry point role)
+      by_role (CallEither entry sym) role = by_call (is_listed p (CallEither entry sym))
+      by_role (CallOut sym) role = by_call (is_listed p (CallOut sym))
       by_role CallAny role = refl
       by_role Return role = refl
       by_role (JumpOut sym) role = by_jump (p.never_returns sym)

@@ -22,6 +22,7 @@ pub mod Steps
 pub mod Gathered
 pub mod Bytes
 pub mod Fields
+pub mod Callees
 pub mod Told
 pub mod RareSteps
 pub mod GoesOn

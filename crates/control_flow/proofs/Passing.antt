@@ -11,7 +11,7 @@ use Rattle.control_flow.specs.declared.searched_flow.Exit.{Exit}
 use Rattle.control_flow.specs.declared.searched_flow.Exit.TheVariants.{Leaves, Calls, CallsOut, CallsNever, Passes}
 use Rattle.control_flow.specs.declared.searched_flow.Flow.{Flow}
 use Rattle.control_flow.specs.declared.return_search.Search.{Search}
-use Rattle.control_flow.specs.Told.{exit_at, dead_end_at, entered_at}
+use Rattle.control_flow.specs.Told.{callee_at, exit_at, dead_end_at}
 use Rattle.control_flow.specs.Shape.{points_of}
 use Rattle.control_flow.specs.Backward.{IsEdgeOf, edge_at}
 use Rattle.control_flow.specs.Search.{is_set, target_returns, is_calling, carries, AreListed, AreSound, Extends, FindsAlong, FindsLeaving, IsPassedOn, IsSearch, IsTaken, AreClosed}
@@ -22,15 +22,15 @@ holds_inside [] q h = absurd (let z : ⊥ = cc in z)
 holds_inside (b ∷ tests) zero h = omega arith
 holds_inside (b ∷ tests) (suc q) h = let l : q < length tests = holds_inside tests q h in omega (arith, l)
 
--- an entry more is known
-pub sound_know : (flow : Flow) (found known : List Bool) (entry x : ℕ) → AreSound flow found known → is_set found x ≡ true → x < points_of flow → entered_at flow x ≡ Some entry → AreSound flow found (set known entry true)
-sound_know flow found known entry x sound is inside entered = record {
+-- one more that is called is known to return
+pub sound_know : (flow : Flow) (found known : List Bool) (entry x : ℕ) → AreSound flow found known → is_set found x ≡ true → x < points_of flow → callee_at flow x ≡ entry → AreSound flow found (set known entry true)
+sound_know flow found known entry x sound is inside named = record {
   points = sound.points;
   entries = λ p tells call e point role h. elim (cases_eq e entry) [
     | inl same ↦
-        let here : entered_at flow x ≡ Some e = entered ∙ ap Some (sym same) in
+        let here : callee_at flow x ≡ e = named ∙ sym same in
         let x_point : IsPoint p x = omega (arith, inside, tells.count) in
-        (x, (tells.entered call e x point role x_point).1 here, sound.points p tells x is)
+        (x, (tells.callees call e x point role x_point).1 here, sound.points p tells x is)
     | inr other ↦ sound.entries p tells call e point role (sym (get_or-set_other known entry e true false other) ∙ h)
   ];
 }
@@ -49,7 +49,7 @@ target_other known entry CallsOut other = refl
 target_other known entry CallsNever other = refl
 target_other known entry Passes other = refl
 
--- what is carried to a point that doesn't call the entry was so before
+-- what is carried to a point that doesn't call that was so before
 carries_other : (flow : Flow) (known : List Bool) (entry q : ℕ) (k : EdgeKind) → exit_at flow q ≢ Calls entry → carries flow (set known entry true) q k ≡ carries flow known q k
 carries_other flow known entry q Next other = ap (λ b. b && not (is_calling (exit_at flow q) && dead_end_at flow q)) (target_other known entry (exit_at flow q) other)
 carries_other flow known entry q Taken other = refl
@@ -69,16 +69,16 @@ along_know flow found after known entry x still calls is along = λ q i of to h.
 pub passed_more : (flow : Flow) (found after known : List Bool) (x : ℕ) → ((q : ℕ) → is_set found q ≡ true → is_set after q ≡ true) → IsPassedOn flow found known x → IsPassedOn flow after known x
 passed_more flow found after known x still passed = record {
   edges = λ q i of to h. still q (passed.edges q i of to h);
-  entry = passed.entry;
+  callee = passed.callee;
 }
 
--- and where an entry more is known, and its calls are found
+-- and where one more is known to return, and its calls are found
 pub passed_know : (flow : Flow) (found after known : List Bool) (entry x : ℕ) → entry < length known → ((q : ℕ) → is_set found q ≡ true → is_set after q ≡ true)
     → ((q i : ℕ) → exit_at flow q ≡ Calls entry → IsEdgeOf flow q i → is_set found (edge_at flow i).to ≡ true → carries flow (set known entry true) q (edge_at flow i).kind ≡ true → is_set after q ≡ true)
     → is_set found x ≡ true → IsPassedOn flow found known x → IsPassedOn flow after (set known entry true) x
 passed_know flow found after known entry x inside still calls is passed = record {
   edges = along_know flow found after known entry x still calls is passed.edges;
-  entry = λ e h. holds_still known entry e inside (passed.entry e h);
+  callee = holds_still known entry (callee_at flow x) inside passed.callee;
 }
 
 -- a point is passed on, and those stay so that were
@@ -96,19 +96,19 @@ search_next flow s t x taken listed sound extends before here = record {
   ];
 }
 
--- where no entry more is known
+-- where no more is known to return
 pub search_same : (flow : Flow) (s t : Search) (x : ℕ) → IsTaken flow s x → AreListed flow t → AreSound flow t.found.items t.known.items → Extends s t → t.known.items ≡ s.known.items
-    → FindsAlong flow t.found.items s.known.items x → ((entry : ℕ) → entered_at flow x ≡ Some entry → is_set s.known.items entry ≡ true) → IsSearch flow t
-search_same flow s t x taken listed sound extends same along entry =
+    → FindsAlong flow t.found.items s.known.items x → is_set s.known.items (callee_at flow x) ≡ true → IsSearch flow t
+search_same flow s t x taken listed sound extends same along callee =
     search_next flow s t x taken listed sound extends
     (λ y was passed. subst (λ (known : List Bool). IsPassedOn flow t.found.items known y) (sym same) (passed_more flow s.found.items t.found.items s.known.items y extends.found passed))
     (subst (λ (known : List Bool). IsPassedOn flow t.found.items known x) (sym same) here)
   where
     here : IsPassedOn flow t.found.items s.known.items x
-    here = record { edges = along; entry = entry }
+    here = record { edges = along; callee = callee }
 
--- where an entry more is known: `one` is the search before its calls are found
-module _ (flow : Flow) (s one t : Search) (x entry : ℕ) (taken : IsTaken flow s x) (entered : entered_at flow x ≡ Some entry) (entry_in : entry < length one.known.items) where
+-- where one more is known to return: `one` is the search before its calls are found
+module _ (flow : Flow) (s one t : Search) (x entry : ℕ) (taken : IsTaken flow s x) (named : callee_at flow x ≡ entry) (entry_in : entry < length one.known.items) where
   pub search_entry : AreListed flow t → AreSound flow t.found.items t.known.items → Extends s one → Extends one t → one.known.items ≡ s.known.items → t.known.items ≡ set one.known.items entry true → FindsAlong flow one.found.items s.known.items x
       → ((q j : ℕ) → exit_at flow q ≡ Calls entry → IsEdgeOf flow q j → is_set one.found.items (edge_at flow j).to ≡ true → carries flow (set one.known.items entry true) q (edge_at flow j).kind ≡ true → is_set t.found.items q ≡ true) → IsSearch flow t
   search_entry listed sound first second same known along calls =
@@ -120,13 +120,10 @@ module _ (flow : Flow) (s one t : Search) (x entry : ℕ) (taken : IsTaken flow 
       (passed_more flow s.found.items one.found.items one.known.items y first.found before)))
       (subst (λ (ks : List Bool). IsPassedOn flow t.found.items ks x) (sym known) here)
     where
-      entry_known : (e : ℕ) → entered_at flow x ≡ Some e → is_set (set one.known.items entry true) e ≡ true
-      entry_known e h = let one_entry : entry ≡ e = cc in subst (λ (k : ℕ). is_set (set one.known.items entry true) k ≡ true) one_entry (holds_new one.known.items entry entry_in)
-
       here : IsPassedOn flow t.found.items (set one.known.items entry true) x
       here = record {
         edges = along_know flow one.found.items t.found.items one.known.items entry x second.found calls (first.found x taken.found) (subst (λ (ks : List Bool). FindsAlong flow one.found.items ks x) (sym same) along);
-        entry = entry_known;
+        callee = subst (λ (k : ℕ). is_set (set one.known.items entry true) k ≡ true) (sym named) (holds_new one.known.items entry entry_in);
       }
 
 -- at first nothing is found

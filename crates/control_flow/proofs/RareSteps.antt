@@ -3,7 +3,7 @@ use Rattle.std.proofs.Common.{◌≡◌, ℕ, ◌+◌, ◌≤◌, Bool, List, []
 use Rattle.std.proofs.lemmas.Bool.{false≢true}
 use Rattle.std.specs.Prelude.{MatchOption, is_some, slice_get}
 use Rattle.std.proofs.lemmas.List.{length_push}
-use Rattle.object_points.proofs.FieldItems.{earlier_item, last_item}
+use Rattle.object_points.proofs.Items.{earlier_item, last_item}
 use Rattle.flow_defs.specs.Coded.{Coded}
 use Rattle.program_graph.specs.declared.parts.Hinted.{Hinted}
 use Rattle.program_graph.specs.declared.parts.Rare.{Rare}

@@ -4,7 +4,7 @@ use Rattle.std.specs.Prelude.{IfOk, Result, Ok, Err, slice_get}
 use Rattle.std.proofs.lemmas.Bool.{cases_lt}
 use Rattle.std.proofs.lemmas.List.{get_or_append_left, get_or_past, get_or_push, length_push}
 use Rattle.std.proofs.lemmas.Option.{slice_get_within}
-use Rattle.object_points.proofs.FieldItems.{earlier_item, last_item}
+use Rattle.object_points.proofs.Items.{earlier_item, last_item}
 
 -- what a list has at each number, with one item more
 pub each_more : {X : Type 0} (of : ℕ → X) (xs : List X) (x : X) (n : ℕ) → length xs ≡ n → ((q : ℕ) (d : X) → q < n → get_or xs q d ≡ of q) → x ≡ of n → (q : ℕ) (d : X) → q < n + 1 → get_or (xs ++ x ∷ []) q d ≡ of q

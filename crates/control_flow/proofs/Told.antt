@@ -11,29 +11,35 @@ use Rattle.flow_defs.specs.Coded.{Coded}
 use Rattle.machine_defs.specs.declared.flow.Edge.{Edge}
 use Rattle.machine_defs.specs.declared.flow.Role.{Role}
 use Rattle.machine_defs.specs.declared.flow.Role.TheVariants as roles
+use Rattle.machine_defs.specs.IsProgram.{IsProgram}
+use Rattle.machine_defs.specs.MayReturn.{is_listed}
 use Rattle.machine_defs.specs.Program.{IsPoint, Program, entry_points}
 use Rattle.flow_defs.specs.Code.{point_at}
 use Rattle.flow_defs.specs.Edges.{goes}
 use Rattle.flow_defs.specs.Program.{graph_of, program_of, returning_graph}
 use Rattle.flow_defs.specs.Roles.{role_of}
-use Rattle.object_law.proofs.Entries as of_entries
 use Rattle.control_flow.specs.declared.searched_flow.Exit.{Exit}
 use Rattle.control_flow.specs.declared.searched_flow.Exit.TheVariants as exits
 use Rattle.control_flow.specs.declared.searched_flow.Flow.{Flow}
 use Rattle.control_flow.specs.Shape.{HasShape}
-use Rattle.control_flow.specs.Told.{SharesEdges, TellsFlow, edges_from, exit_of, exit_at}
+use Rattle.control_flow.specs.Told.{SharesEdges, TellsFlow, callee_at, edges_from, exit_of, exit_at}
 use Rattle.control_flow.specs.Listed.{AreDeadEnds, AreEdges, AreEntered, AreExits, CallsPoint, ExitCallsPoint, IsPointIfAny, count_of}
+use Rattle.control_flow.proofs.Callees.{entry_named, lone_named}
 use Rattle.control_flow.proofs.Steps.{all_at}
 
 by_name : (b : Bool) (x y : Exit) (entry : ℕ) → (x ≡ exits.Calls entry → ⊥) → (y ≡ exits.Calls entry → ⊥) → cond b x y ≡ exits.Calls entry → ⊥
 by_name true x y entry never back e = never e
 by_name false x y entry never back e = back e
 
+called_by : (b : Bool) (own entry : ℕ) → cond b exits.CallsNever (exits.Calls own) ≡ exits.Calls entry → own ≡ entry
+called_by true own entry e = absurd (let k : ⊥ = cc in k)
+called_by false own entry e = cc
+
 -- only the call of an entry calls one
 exit_calls : (p : Program) (role : Role) (entry : ℕ) → exit_of p role ≡ exits.Calls entry → role ≡ roles.CallIn entry
 exit_calls p roles.Plain entry e = absurd (let k : ⊥ = cc in k)
-exit_calls p (roles.CallIn own) entry e = let same : own ≡ entry = cc in ap roles.CallIn same
-exit_calls p (roles.CallEither own sym) entry e = absurd (let k : ⊥ = cc in k)
+exit_calls p (roles.CallIn own) entry e = ap roles.CallIn (called_by (is_listed p (roles.CallIn own)) own entry e)
+exit_calls p (roles.CallEither own sym) entry e = absurd (by_name (is_listed p (roles.CallEither own sym)) exits.CallsNever exits.CallsOut entry (λ h. let k : ⊥ = cc in k) (λ h. let k : ⊥ = cc in k) e)
 exit_calls p (roles.CallOut sym) entry e = absurd (by_name (p.never_returns sym) exits.CallsNever exits.CallsOut entry (λ h. let k : ⊥ = cc in k) (λ h. let k : ⊥ = cc in k) e)
 exit_calls p roles.CallAny entry e = absurd (let k : ⊥ = cc in k)
 exit_calls p roles.Return entry e = absurd (let k : ⊥ = cc in k)
@@ -43,7 +49,7 @@ exit_calls p roles.Switch entry e = absurd (let k : ⊥ = cc in k)
 
 -- and where the entry that a role calls is a point, so is that which its exit calls
 pub exit_calls_point : (o : Coded) (p : Program) (role : Role) (exit : Exit) → exit ≡ exit_of p role → CallsPoint o role → ExitCallsPoint o exit
-exit_calls_point o p role exit is known entry e = known entry (exit_calls p role entry (sym is ∙ e))
+exit_calls_point o p role exit is known entry e = known.inside entry (exit_calls p role entry (sym is ∙ e))
 
 symmetric : (a b : ℕ) → eqb a b ≡ eqb b a
 symmetric a b = grind (arith, nat_tests)
@@ -65,19 +71,20 @@ module _ (o : Coded) (lists : NameLists) (flow : Flow) (alike : List ℕ)
     (edges : AreEdges o flow.starts.items flow.edges.items alike (count_of o))
     (leave : AreExits o lists flow.exits.items (count_of o))
     (dead : AreDeadEnds o flow.dead_ends.items (count_of o))
-    (entered : AreEntered o flow.entered.items (count_of o)) where
+    (entered : AreEntered o flow.entered.items (count_of o))
+    (program : IsProgram (program_of o lists)) where
   pub flow_count : length flow.exits.items ≡ count_of o
   flow_count = leave.long
 
   exit_is : (q : ℕ) → q < count_of o → exit_of (program_of o lists) (role_of o (point_at o q)) ≡ exit_at flow q
   exit_is q here = sym (leave.each q exits.Passes here)
 
-  entered_is : (call entry q : ℕ) → IsPoint (program_of o lists) call → (program_of o lists).role call ≡ roles.CallIn entry → q < count_of o → Contains (entry_points (program_of o lists) entry) q ↔ (get_or flow.entered.items q None ≡ Some entry)
+  callees_are : (call entry q : ℕ) → IsPoint (program_of o lists) call → (program_of o lists).role call ≡ roles.CallIn entry → q < count_of o → Contains (entry_points (program_of o lists) entry) q ↔ (callee_at flow q ≡ entry)
   unfolding program_of returning_graph graph_of
-  entered_is call entry q at calls here = (
-    λ c. (entered.each q entry here).0 (record { listed = of_entries.calls_entry o lists call entry at calls; stands = c }),
-    λ e. ((entered.each q entry here).1 e).stands,
-  )
+  callees_are call entry q at calls here = elim (program.calls_entry call entry at calls) [
+    | inl listed ↦ entry_named o flow.entered.items entered entry q here listed
+    | inr may ↦ lone_named o flow.entered.items entered entry q here may.point may.plain may.of_none (λ r c. program.arrives_alone entry r may.point may.plain may.outside c)
+  ]
 
   edges_shared : (q : ℕ) → q < count_of o → Contains alike q → (r : ℕ) × SharesEdges (program_of o lists) flow q r
   unfolding program_of returning_graph graph_of
@@ -108,7 +115,7 @@ module _ (o : Coded) (lists : NameLists) (flow : Flow) (alike : List ℕ)
     edges = λ q here. edges_are q here;
     exits = λ q here. exit_is q here;
     dead_ends = λ q here. sym (dead.each q false here);
-    entered = λ call entry q at calls here. entered_is call entry q at calls here;
+    callees = λ call entry q at calls here. callees_are call entry q at calls here;
   }
 
   pub has_shape : count_of o < 2 ^ 32 → HasShape flow

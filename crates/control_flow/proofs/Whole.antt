@@ -29,7 +29,7 @@ use Rattle.program_graph.specs.Shape.{HaveShape, IsAlike, IsKindOf, first_target
 use Rattle.program_graph.specs.Tells.{Means, Tells, TellsHinted, TellsKind, TellsOwner, TellsPoint, TellsRare, TellsTransfer, TellsUnhinted, site_of, text_of}
 use Rattle.control_flow.specs.declared.found_returns.Returns.{Returns}
 use Rattle.control_flow.specs.Shape.{HaveShape as HaveReturnShape}
-use Rattle.object_points.specs.Owners.{IsOwnerBy}
+use Rattle.object_points.specs.Owners.{IsOwnerOf}
 use Rattle.control_flow.specs.Listed.{AreEdges, count_of}
 use Rattle.control_flow.specs.Lone.{HasEdgesOf}
 use Rattle.control_flow.specs.Returns.{AreReturns}
@@ -82,9 +82,9 @@ module _ (o : Coded) (lists : NameLists) (parts : GraphParts) (returns : Returns
   inside : (q : ℕ) (x : GraphPoint) → slice_get parts.points.items q ≡ Some x → q < count_of o
   inside q x at = omega (arith, slice_get_within parts.points.items q x at, are.points.long)
 
-  tells_owner : (q : ℕ) (w : Owner) → IsOwnerBy o.elf ((program_of o lists).function q) ((program_of o lists).owner q) w → TellsOwner (program_of o lists) q w
+  tells_owner : (q : ℕ) (w : Owner) → IsOwnerOf o q w → TellsOwner (program_of o lists) q w
   unfolding program_of returning_graph graph_of
-  tells_owner q w is = record { function = is.function; owner = is.owner; unchecked = is.unchecked }
+  tells_owner q w is = record { function = is.function; owner = is.owner; unchecked = is.unchecked; in_patches = is.patches }
 
   means : (q r : ℕ) → IsMeant o q r → Means (program_of o lists) q r
   unfolding program_of returning_graph graph_of

@@ -11,3 +11,4 @@ pub record AreFew (s : SpecialEntries) : Type 0 where
   pub after_unreachable : length s.after_unreachable < 2 ^ 32
   pub unchecked : length s.unchecked < 2 ^ 32
   pub safe_branches : length s.safe_branches < 2 ^ 32
+  pub intra_calls : length s.intra_calls < 2 ^ 32

@@ -7,7 +7,7 @@ use Rattle.flow_defs.specs.Coded.{Coded}
 use Rattle.elf_objects.specs.Contents.{is_text, section_at}
 use Rattle.symbols_relocs.specs.Functions.{starts_at}
 use Rattle.flow_defs.specs.Code.{texts_of}
-use Rattle.flow_defs.specs.Faults.{is_branch_site}
+use Rattle.flow_defs.specs.Faults.{is_branch_site, is_call_insn}
 use Rattle.flow_defs.specs.declared.fault.FlowFault.{FlowFault}
 use Rattle.flow_defs.specs.declared.fault.FlowFault.TheVariants.{NotBoundary}
 
@@ -20,6 +20,10 @@ ends_text o place =
 -- neither a Nop nor a Jmp begins at a place
 abbrev pub is_no_branch : Coded → Place → Bool
 is_no_branch o place = not (is_branch_site (insn_at (texts_of o) place))
+
+-- no direct call begins at a place
+abbrev pub is_no_call : Coded → Place → Bool
+is_no_call o place = not (is_call_insn (insn_at (texts_of o) place))
 
 -- no function starts at a place
 abbrev pub is_no_function : Coded → Place → Bool

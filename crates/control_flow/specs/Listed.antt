@@ -6,7 +6,7 @@ use Rattle.flow_defs.specs.Coded.{Coded}
 use Rattle.machine_defs.specs.declared.flow.Edge.{Edge}
 use Rattle.machine_defs.specs.declared.flow.EdgeKind.TheVariants.{Table}
 use Rattle.machine_defs.specs.declared.flow.Role.{Role}
-use Rattle.machine_defs.specs.declared.flow.Role.TheVariants.{CallIn}
+use Rattle.machine_defs.specs.declared.flow.Role.TheVariants.{CallEither, CallIn}
 use Rattle.machine_defs.specs.Program.{edge}
 use Rattle.flow_defs.specs.Arrival.{is_dead_end}
 use Rattle.flow_defs.specs.Code.{point_at, points_of_object}
@@ -23,9 +23,10 @@ use Rattle.control_flow.specs.Lone.{HasEdgesOf}
 abbrev pub count_of : Coded → ℕ
 count_of o = length (points_of_object o)
 
--- the entry that a role calls is a point
-abbrev pub CallsPoint : Coded → Role → Type 0
-CallsPoint o role = (entry : ℕ) → role ≡ CallIn entry → entry < count_of o
+-- the entry that a role calls is a point, also one that another object may define
+pub record CallsPoint (o : Coded) (role : Role) : Type 0 where
+  pub inside : (entry : ℕ) → role ≡ CallIn entry → entry < count_of o
+  pub weak : (entry sym : ℕ) → role ≡ CallEither entry sym → entry < count_of o
 
 -- so is that which an exit calls
 abbrev pub ExitCallsPoint : Coded → Exit → Type 0

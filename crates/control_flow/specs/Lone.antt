@@ -4,11 +4,13 @@ use Rattle.std.specs.BTreeMap.{get}
 use Rattle.ot_base.specs.Places.{place_cmp}
 use Rattle.ot_base.specs.declared.place.Place.{Place}
 use Rattle.operation_defs.specs.declared.op.Op.{Op}
-use Rattle.operation_defs.specs.declared.op.Op.TheVariants.{JmpInd}
+use Rattle.operation_defs.specs.declared.op.Op.TheVariants.{Jmp, JmpInd}
 use Rattle.machine_defs.specs.declared.flow.EdgeKind.TheVariants.{Table}
 use Rattle.machine_defs.specs.declared.flow.Role.TheVariants.{Plain}
 use Rattle.alternatives.specs.declared.point.Point.{Point}
 use Rattle.flow_defs.specs.Coded.{Coded}
+use Rattle.flow_defs.specs.declared.destination.Destination.{Destination}
+use Rattle.flow_defs.specs.declared.destination.Destination.TheVariants.{ToIndirectThunk}
 use Rattle.flow_defs.specs.Arrival.{insn_of_object}
 use Rattle.flow_defs.specs.Code.{is_plain, point_at}
 use Rattle.flow_defs.specs.Edges.{fixups, goes, is_some_place, static_targets}
@@ -16,12 +18,19 @@ use Rattle.flow_defs.specs.Marks.{marks_of}
 use Rattle.flow_defs.specs.Owners.{is_unchecked_point}
 use Rattle.flow_defs.specs.Roles.{role_of, table_of_point}
 use Rattle.flow_defs.specs.Sites.{site_holding}
+use Rattle.flow_defs.specs.Targets.{destination_of}
 use Rattle.point_edges.specs.Tables.{table_start_of}
 use Rattle.control_flow.specs.declared.lone_jumps.LoneJumps.{LoneJumps}
 
-abbrev pub is_indirect_jump : Op → Bool
-is_indirect_jump (JmpInd table) = true
-is_indirect_jump _ = false
+abbrev pub is_indirect_thunk : Destination → Bool
+is_indirect_thunk ToIndirectThunk = true
+is_indirect_thunk _ = false
+
+-- a jump is indirect: by its operation, or by a thunk to which it goes
+abbrev pub is_indirect_jump : Op → Destination → Bool
+is_indirect_jump (JmpInd table) to = true
+is_indirect_jump (Jmp rel wide) to = is_indirect_thunk to
+is_indirect_jump _ to = false
 
 -- no static branch and no exception entry stands at a point
 abbrev pub is_unlisted : Coded → Point → Bool
@@ -34,7 +43,7 @@ is_in_open_code o point = is_plain point && (is_none (site_holding o point.place
 -- A lone jump: an indirect jump in open code through a table that has entries, which goes nowhere else.
 unfoldable pub is_lone_jump : Coded → Point → Bool
 is_lone_jump o point =
-    is_indirect_jump (insn_of_object o point).op
+    is_indirect_jump (insn_of_object o point).op (destination_of o point)
     && (is_some_place (table_of_point o point)
     && (is_unlisted o point && is_in_open_code o point))
 

@@ -5,9 +5,8 @@ use Rattle.flow_defs.specs.Coded.{Coded}
 use Rattle.machine_defs.specs.Kept.{is_at_entry}
 use Rattle.flow_defs.specs.Arrival.{insn_of_object, is_dead_end}
 use Rattle.flow_defs.specs.Code.{point_at}
-use Rattle.flow_defs.specs.Owners.{function_of_point, owner_of_point}
 use Rattle.flow_defs.specs.Program.{program_of}
-use Rattle.object_points.specs.Owners.{IsOwnerBy}
+use Rattle.object_points.specs.Owners.{IsOwnerOf}
 use Rattle.program_graph.specs.Tells.{insn_of, place_of}
 use Rattle.program_graph.specs.declared.parts.Owner.{Owner}
 use Rattle.program_graph.specs.declared.parts.GraphPoint.{GraphPoint}
@@ -29,7 +28,7 @@ pub record IsPlaced (o : Coded) (owners : List Owner) (q kind : ℕ) (x : GraphP
   pub place : (point_at o q).place ≡ place_of x
   pub kind_number : kind ≡ x.kind
   pub owner_inside : x.owner < length owners
-  pub owner : (w : Owner) → slice_get owners x.owner ≡ Some w → IsOwnerBy o.elf (function_of_point o (point_at o q)) (owner_of_point o (point_at o q)) w
+  pub owner : (w : Owner) → slice_get owners x.owner ≡ Some w → IsOwnerOf o q w
 
 -- and its kind is among these
 pub record IsMade (o : Coded) (owners : List Owner) (kinds : List PointKind) (q : ℕ) (may_return : Bool) (rare transfer : ℕ) (x : GraphPoint) : Type 0 where

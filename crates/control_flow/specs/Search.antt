@@ -9,7 +9,7 @@ use Rattle.control_flow.specs.declared.searched_flow.Exit.{Exit}
 use Rattle.control_flow.specs.declared.searched_flow.Exit.TheVariants.{Leaves, Calls, CallsOut, CallsNever, Passes}
 use Rattle.control_flow.specs.declared.searched_flow.Flow.{Flow}
 use Rattle.control_flow.specs.declared.return_search.Search.{Search}
-use Rattle.control_flow.specs.Told.{TellsFlow, exit_at, dead_end_at, entered_at}
+use Rattle.control_flow.specs.Told.{TellsFlow, callee_at, exit_at, dead_end_at}
 use Rattle.control_flow.specs.Shape.{points_of}
 use Rattle.control_flow.specs.Backward.{edge_at, IsEdgeOf}
 
@@ -17,7 +17,7 @@ use Rattle.control_flow.specs.Backward.{edge_at, IsEdgeOf}
 abbrev pub is_set : List Bool → ℕ → Bool
 is_set tests q = slice_index_or tests q false
 
--- whether the target of a point's call returns, where these entries are known to return; what isn't a call passes
+-- whether the target of a point's call returns, where these are known to return that are called; what isn't a call passes
 abbrev pub target_returns : List Bool → Exit → Bool
 target_returns known Leaves = true
 target_returns known (Calls entry) = is_set known entry
@@ -49,7 +49,7 @@ pub record AreListed (flow : Flow) (s : Search) : Type 0 where
   pub found : All (λ q. is_set s.found.items q ≡ true) s.waiting.items
   pub known : length s.known.items ≡ points_of flow
 
--- A return may come from the points that are found, and from an entry that is known to return.
+-- A return may come from the points that are found, and from what is called and known to return.
 pub record AreSound (flow : Flow) (found known : List Bool) : Type 0 where
   pub points : (p : Program) → TellsFlow p flow → (q : ℕ) → is_set found q ≡ true → MayReturn p q
   pub entries : (p : Program) → TellsFlow p flow → (call entry : ℕ) → IsPoint p call → p.role call ≡ CallIn entry → is_set known entry ≡ true → (first : ℕ) × Contains (entry_points p entry) first × MayReturn p first
@@ -69,7 +69,7 @@ FindsAlong flow found known x = (q i : ℕ) → IsEdgeOf flow q i → (edge_at f
 -- all is found that a return which comes from x is carried to
 pub record IsPassedOn (flow : Flow) (found known : List Bool) (x : ℕ) : Type 0 where
   pub edges : FindsAlong flow found known x
-  pub entry : (entry : ℕ) → entered_at flow x ≡ Some entry → is_set known entry ≡ true
+  pub callee : is_set known (callee_at flow x) ≡ true
 
 -- those of the first n points from which a return comes are found
 abbrev pub FindsLeaving : Flow → List Bool → ℕ → Type 0
@@ -93,7 +93,7 @@ pub record AreClosed (flow : Flow) (found known : List Bool) : Type 0 where
   pub leaving : FindsLeaving flow found (points_of flow)
   pub passed : (x : ℕ) → is_set found x ≡ true → IsPassedOn flow found known x
 
--- More is found, and rightly so; what entries are known stays.
+-- More is found, and rightly so; what is known to return stays.
 pub record FindsMore (flow : Flow) (before after : Search) : Type 0 where
   pub listed : AreListed flow after
   pub extends : Extends before after

@@ -1,11 +1,11 @@
 -- When edges and exits tell a program, and when a result tells from where its returns come.
-use Rattle.std.specs.Prelude.{◌≡◌, ℕ, ◌+◌, ◌↔◌, ◌⊎◌, Option, Some, None, Bool, false, All, Contains, List, [], ◌∷◌, filter, length, slice_get, slice_index, slice_index_or, slice_range, if◌then◌else◌}
+use Rattle.std.specs.Prelude.{◌≡◌, ℕ, ◌+◌, ◌↔◌, ◌⊎◌, Option, Some, None, Bool, false, All, Contains, List, [], ◌∷◌, filter, length, slice_get, slice_index, slice_index_or, slice_range, unwrap_or, if◌then◌else◌}
 use Rattle.machine_defs.specs.declared.flow.Edge.{Edge}
 use Rattle.machine_defs.specs.declared.flow.EdgeKind.TheVariants.{Table}
 use Rattle.machine_defs.specs.declared.flow.Role.{Role}
 use Rattle.machine_defs.specs.declared.flow.Role.TheVariants.{Plain, CallIn, CallEither, CallOut, CallAny, Return, JumpOut, JumpAny, Switch}
 use Rattle.machine_defs.specs.Program.{Program, IsPoint, entry_points, edge}
-use Rattle.machine_defs.specs.MayReturn.{target_may_return}
+use Rattle.machine_defs.specs.MayReturn.{is_listed, target_may_return}
 use Rattle.machine_defs.specs.Kept.{can_go}
 use Rattle.control_flow.specs.declared.searched_flow.Exit.{Exit}
 use Rattle.control_flow.specs.declared.searched_flow.Exit.TheVariants.{Leaves, Calls, CallsOut, CallsNever, Passes}
@@ -15,9 +15,9 @@ use Rattle.control_flow.specs.declared.found_returns.Returns.{Returns}
 -- what a point of this role is to a return
 abbrev pub exit_of : Program → Role → Exit
 exit_of p Plain = Passes
-exit_of p (CallIn entry) = Calls entry
-exit_of p (CallEither entry sym) = CallsOut
-exit_of p (CallOut sym) = if p.never_returns sym then CallsNever else CallsOut
+exit_of p (CallIn entry) = if is_listed p (CallIn entry) then CallsNever else Calls entry
+exit_of p (CallEither entry sym) = if is_listed p (CallEither entry sym) then CallsNever else CallsOut
+exit_of p (CallOut sym) = if is_listed p (CallOut sym) then CallsNever else CallsOut
 exit_of p CallAny = CallsOut
 exit_of p Return = Leaves
 exit_of p (JumpOut sym) = if p.never_returns sym then Passes else Leaves
@@ -33,6 +33,10 @@ dead_end_at flow q = slice_index_or flow.dead_ends.items q false
 
 abbrev pub entered_at : Flow → ℕ → Option ℕ
 entered_at flow q = slice_index_or flow.entered.items q None
+
+-- by what number a call names a point: that of the entry at which control comes to it, where there is one, else its own
+abbrev pub callee_at : Flow → ℕ → ℕ
+callee_at flow q = unwrap_or (entered_at flow q) q
 
 abbrev pub start_of : Flow → ℕ → ℕ
 start_of flow q = slice_index flow.starts.items q
@@ -57,8 +61,8 @@ pub record TellsFlow (p : Program) (flow : Flow) : Type 0 where
   pub edges : (q : ℕ) → IsPoint p q → (p.goes q ≡ edges_from flow q) ⊎ ((r : ℕ) × SharesEdges p flow q r)
   pub exits : (q : ℕ) → IsPoint p q → exit_of p (p.role q) ≡ exit_at flow q
   pub dead_ends : (q : ℕ) → IsPoint p q → p.dead_end q ≡ dead_end_at flow q
-  -- control that comes to an entry that is called may stand at the points that are entered there
-  pub entered : (call entry q : ℕ) → IsPoint p call → p.role call ≡ CallIn entry → IsPoint p q → Contains (entry_points p entry) q ↔ (entered_at flow q ≡ Some entry)
+  -- control that comes to what is called may stand at the points that a call names by that number
+  pub callees : (call entry q : ℕ) → IsPoint p call → p.role call ≡ CallIn entry → IsPoint p q → Contains (entry_points p entry) q ↔ (callee_at flow q ≡ entry)
 
 -- The result tells of each point of the program whether a return may come from it on, whether the target of its call may
 -- return, and the edges that the flow has for it, without the Next of a call that can't come back.

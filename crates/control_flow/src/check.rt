@@ -8,7 +8,7 @@ ghost use Rattle.control_flow.specs.Judged.{fault_in};
 
 use crate::lists::{
     branch_off_boundary, branch_off_site, fix_off_boundary, hint_off_boundary, place_off_boundary,
-    place_off_end, place_off_function,
+    place_off_call, place_off_end, place_off_function,
 };
 use crate::starts::find_bad_start;
 use flow_defs::FlowFault;
@@ -39,11 +39,14 @@ fn find_bad_place(places: &PointPlaces<'_, '_, '_>) -> Option<(u8, u32)>
     if let Some(entry) = place_off_boundary(places, special.safe_branches()) {
         return Some((6, entry as u32));
     }
+    if let Some(entry) = place_off_boundary(places, special.intra_calls()) {
+        return Some((7, entry as u32));
+    }
     None
 }
 
 /// Checks that the program of an object whose code is read can be checked: first the starts of its functions,
-/// then the places of its lists, the code of its static branches, and its unchecked functions.
+/// then the places of its lists, the code of its static branches, its calls within functions, and its unchecked functions.
 ///
 /// # Errors
 ///
@@ -66,6 +69,11 @@ pub fn check_flow(places: &PointPlaces<'_, '_, '_>) -> Result<(), FlowFault>
     }
     if let Some(entry) = branch_off_site(places, special.branches()) {
         return Err(FlowFault::StaticSite {
+            entry: entry as u32,
+        });
+    }
+    if let Some(entry) = place_off_call(places, special.intra_calls()) {
+        return Err(FlowFault::NotCall {
             entry: entry as u32,
         });
     }

@@ -23,6 +23,7 @@ impl fmt::Display for FlowFaultText {
                 write!(f, "list {list}: entry {entry}: not a boundary")
             }
             FlowFault::StaticSite { entry } => write!(f, "static branch {entry}: not a site"),
+            FlowFault::NotCall { entry } => write!(f, "intra call {entry}: not a call"),
             FlowFault::NotFunction { entry } => write!(f, "unchecked {entry}: not a function"),
             FlowFault::NoMemory => Ok(()),
         }

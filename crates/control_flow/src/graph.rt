@@ -94,8 +94,8 @@ fn graph_of(
     Ok(Graph::new(parts_of(alloc, &points, lists)?))
 }
 
-/// The control-flow graph of an object whose code is read, where functions, lists of places and static branches are in
-/// order.
+/// The control-flow graph of an object whose code is read, where functions, lists of places, static branches, calls within
+/// functions and unchecked functions are in order.
 ///
 /// Names that never return are those of the lists. Each point is looked at a few times, and each edge. Edges of jumps that
 /// share a table stand once, where the jumps go nowhere else and stand outside of alternatives sites. Beside the graph it takes
@@ -103,7 +103,7 @@ fn graph_of(
 ///
 /// # Errors
 ///
-/// The first fault of functions, lists of places and static branches. [`FlowFault::NoMemory`] may come at any object.
+/// The first fault of these, in this order. [`FlowFault::NoMemory`] may come at any object.
 pub fn flow(alloc: Global, linked: &Linked<'_, '_>, lists: &Lists) -> Result<Graph, FlowFault>
     ensures tells { IfOk result (λ graph. Tells (program_of linked.now lists.now) graph.parts) }
     ensures right { OnOk result (flow_faults linked.now ≡ []) }

@@ -1,13 +1,13 @@
 //! What the points are to returns, by their numbers.
 
-ghost use Rattle.std.specs.Prelude.{◌≡◌, IfOk};
+ghost use Rattle.std.specs.Prelude.{◌≡◌, ◌<◌, IfOk};
 ghost use Rattle.flow_defs.specs.Program.{program_of};
 ghost use Rattle.control_flow.specs.Told.{exit_of};
-ghost use Rattle.control_flow.specs.Listed.{AreDeadEnds, AreEntered, count_of};
+ghost use Rattle.machine_defs.specs.MayReturn.{is_listed, is_listed_function as is_listed_in};
+ghost use Rattle.control_flow.specs.Listed.{AreDeadEnds, AreEntered, CallsPoint, count_of};
 
 use crate::{Exit, entry_of_point};
 use machine_defs::Role;
-use object_code::Linked;
 use object_points::{PointPlaces, never_returns};
 use ot_base::{Lists, NoMemory};
 use point_edges::FlowPoints;
@@ -20,29 +20,53 @@ pub(crate) fn count_points(places: &PointPlaces<'_, '_, '_>) -> u32
     places.linked().sites().point_count()
 }
 
-/// What a point with this role is to a return.
-pub(crate) fn exit(linked: &Linked<'_, '_>, lists: &Lists, role: Role) -> Exit
-    ensures { result ≡ exit_of (program_of linked.now lists.now) role }
+/// Whether the name of the function that holds a point is listed as one that never returns.
+fn is_listed_function(places: &PointPlaces<'_, '_, '_>, lists: &Lists, n: u32) -> bool
+    requires { n < count_of places.now }
+    ensures { let p = program_of places.now lists.now in result ≡ is_listed_in p (p.function n) }
 {
-    let object = linked.object();
+    match places.function(n) {
+        Some(sym) => never_returns(places.linked().object(), lists, sym),
+        None => false,
+    }
+}
+
+/// Whether a call with this role is listed: the name of its symbol, or of the function whose start is its entry, is listed as
+/// one that never returns.
+fn is_listed_call(places: &PointPlaces<'_, '_, '_>, lists: &Lists, role: Role) -> bool
+    requires { CallsPoint places.now role }
+    ensures { result ≡ is_listed (program_of places.now lists.now) role }
+{
+    let object = places.linked().object();
+    match role {
+        Role::CallIn { entry } => is_listed_function(places, lists, entry),
+        Role::CallEither { entry, sym } => {
+            never_returns(object, lists, sym) || is_listed_function(places, lists, entry)
+        }
+        Role::CallOut { sym } => never_returns(object, lists, sym),
+        _ => false,
+    }
+}
+
+/// What a point with this role is to a return.
+pub(crate) fn exit(places: &PointPlaces<'_, '_, '_>, lists: &Lists, role: Role) -> Exit
+    requires { CallsPoint places.now role }
+    ensures { result ≡ exit_of (program_of places.now lists.now) role }
+{
+    if is_listed_call(places, lists, role) {
+        return Exit::CallsNever;
+    }
     match role {
         Role::Return | Role::JumpAny => Exit::Leaves,
         Role::JumpOut { sym } => {
-            if never_returns(object, lists, sym) {
+            if never_returns(places.linked().object(), lists, sym) {
                 Exit::Passes
             } else {
                 Exit::Leaves
             }
         }
         Role::CallIn { entry } => Exit::Calls { entry },
-        Role::CallOut { sym } => {
-            if never_returns(object, lists, sym) {
-                Exit::CallsNever
-            } else {
-                Exit::CallsOut
-            }
-        }
-        Role::CallEither { .. } | Role::CallAny => Exit::CallsOut,
+        Role::CallEither { .. } | Role::CallOut { .. } | Role::CallAny => Exit::CallsOut,
         Role::Plain | Role::Switch => Exit::Passes,
     }
 }

@@ -3,9 +3,9 @@
 ghost use Rattle.std.specs.Prelude.{◌≡◌};
 ghost use Rattle.std.specs.List.{position_from};
 ghost use Rattle.flow_defs.specs.Faults.{is_no_boundary, is_no_end as is_no_end_of};
-ghost use Rattle.control_flow.specs.Judged.{is_no_branch as is_no_branch_of, is_no_function as is_no_function_of};
+ghost use Rattle.control_flow.specs.Judged.{is_no_branch as is_no_branch_of, is_no_call as is_no_call_of, is_no_function as is_no_function_of};
 
-use crate::places::{is_no_branch, is_no_end, is_no_function};
+use crate::places::{is_no_branch, is_no_call, is_no_end, is_no_function};
 use object_points::PointPlaces;
 use ot_base::Place;
 use special_sections::{BranchEntry, FixEntry, HintEntry};
@@ -71,6 +71,13 @@ pub(crate) fn branch_off_site(
     branches
         .iter()
         .position(|branch| is_no_branch(places, branch.code))
+}
+
+/// The first place at which no direct call begins.
+pub(crate) fn place_off_call(places: &PointPlaces<'_, '_, '_>, listed: &[Place]) -> Option<usize>
+    ensures { result ≡ position_from (is_no_call_of places.now) 0 listed.now }
+{
+    listed.iter().position(|place| is_no_call(places, *place))
 }
 
 /// The first place at which no function starts.

@@ -9,10 +9,12 @@ ghost use Rattle.flow_defs.specs.Arrival.{insn_of_object};
 ghost use Rattle.flow_defs.specs.Code.{point_at};
 ghost use Rattle.flow_defs.specs.Edges.{is_some_place};
 ghost use Rattle.flow_defs.specs.Roles.{table_of_point};
+ghost use Rattle.flow_defs.specs.Targets.{destination_of};
 ghost use Rattle.point_edges.specs.Tables.{table_start_of};
 ghost use Rattle.control_flow.specs.Listed.{count_of};
 ghost use Rattle.control_flow.specs.Lone.{AreLoneJumps, GoAlike, HasEdgesOf, is_in_open_code as is_point_in_open_code, is_indirect_jump as is_indirect, is_lone_jump as is_lone, is_unlisted as is_unlisted_point};
 
+use flow_defs::Destination;
 use object_points::site_holding;
 use operation_defs::{Insn, Op};
 use ot_base::{NoMemory, Place};
@@ -20,11 +22,15 @@ use point_edges::FlowPoints;
 use std::alloc::Global;
 use std::collections::BTreeMap;
 
-/// Whether an operation is an indirect jump.
-fn is_indirect_jump(op: Op) -> bool
-    ensures { result ≡ is_indirect op }
+/// Whether a jump with this operation, whose direct branch goes there, is an indirect one: by itself, or by a thunk.
+fn is_indirect_jump(op: Op, to: Destination) -> bool
+    ensures { result ≡ is_indirect op to }
 {
-    matches!(op, Op::JmpInd { .. })
+    match op {
+        Op::JmpInd { .. } => true,
+        Op::Jmp { .. } => matches!(to, Destination::ToIndirectThunk),
+        _ => false,
+    }
 }
 
 /// Whether no static branch and no exception entry stands at a point.
@@ -56,15 +62,16 @@ fn has_table(points: &FlowPoints<'_, '_, '_>, n: u32) -> bool
     !points.table(n).is_empty()
 }
 
-/// Whether a point with this instruction is a lone jump: an indirect one in open code, through a table that has entries, which
-/// goes nowhere else.
+/// Whether a point with this instruction, whose direct branch goes there, is a lone jump: an indirect one in open code, through a
+/// table that has entries, which goes nowhere else.
 #[tactic(auto, unfolding(crate::specs::Lone::is_lone_jump))]
-fn is_lone_jump(points: &FlowPoints<'_, '_, '_>, n: u32, insn: Insn) -> bool
+fn is_lone_jump(points: &FlowPoints<'_, '_, '_>, n: u32, insn: Insn, to: Destination) -> bool
     requires point { n < count_of points.now }
     requires insn { insn ≡ insn_of_object points.now (point_at points.now n) }
+    requires to { to ≡ destination_of points.now (point_at points.now n) }
     ensures { result ≡ is_lone points.now (point_at points.now n) }
 {
-    is_indirect_jump(insn.op)
+    is_indirect_jump(insn.op, to)
         && has_table(points, n)
         && is_unlisted(points, n)
         && is_in_open_code(points, n)
@@ -103,21 +110,24 @@ impl LoneJumps {
         Some(*self.firsts.get(&start)?)
     }
 
-    /// Notes a point with this instruction if it is a lone jump, and tells the first one through its table unless it is that.
+    /// Notes a point with this instruction, whose direct branch goes there, if it is a lone jump, and tells the first one
+    /// through its table unless it is that.
     pub(crate) fn note(
         &mut self,
         points: &FlowPoints<'_, '_, '_>,
         n: u32,
         insn: Insn,
+        to: Destination,
     ) -> Result<Option<u32>, NoMemory>
         requires jumps { AreLoneJumps points.now self.old n }
         requires point { n < count_of points.now }
         requires insn { insn ≡ insn_of_object points.now (point_at points.now n) }
+        requires to { to ≡ destination_of points.now (point_at points.now n) }
         ensures jumps { OnOk result (AreLoneJumps points.now self.new (n + 1)) }
         ensures alike { IfOk result (λ found. MatchOption found (self.new.alike.items ≡ self.old.alike.items) (λ first. self.new.alike.items ≡ self.old.alike.items ++ n ∷ [])) }
         ensures first { IfOk result (λ found. IfSome found (HasEdgesOf points.now self.new.alike.items n)) }
     {
-        if !is_lone_jump(points, n, insn) {
+        if !is_lone_jump(points, n, insn, to) {
             return Ok(None);
         }
         let Some(start) = points.table_start(n) else {

@@ -6,6 +6,8 @@ ghost use Rattle.flow_defs.specs.Code.{point_at};
 ghost use Rattle.flow_defs.specs.Edges.{goes};
 ghost use Rattle.flow_defs.specs.Program.{program_of};
 ghost use Rattle.flow_defs.specs.Roles.{role_of};
+ghost use Rattle.flow_defs.specs.Targets.{destination_of};
+ghost use Rattle.point_edges.specs.Jumps.{direct_way};
 ghost use Rattle.control_flow.specs.Told.{exit_of};
 ghost use Rattle.control_flow.specs.Found.{IsExit, IsFound, IsKept, IsListed};
 ghost use Rattle.control_flow.specs.Listed.{AreEdges, AreExits, ExitCallsPoint, count_of};
@@ -21,7 +23,7 @@ use crate::transfers::{TransferList, USUAL, number_transfer, transfer_of};
 use machine_defs::{Edge, EdgeKind};
 use operation_defs::Insn;
 use ot_base::{Lists, NoMemory};
-use point_edges::{FlowPoints, branch_at, push_edges, role};
+use point_edges::{Branch, FlowPoints, branch_at, push_edges, role};
 use program_graph::Transfer;
 use std::alloc::Global;
 
@@ -75,25 +77,28 @@ fn push_below(
     Ok(())
 }
 
-/// Pushes the edges of a point of any kind with this instruction, and finds what else there is of it.
+/// Pushes the edges of a point of any kind with this instruction, whose direct call or branch goes there, and finds what else
+/// there is of it.
 fn look_around(
     alloc: Global,
     points: &FlowPoints<'_, '_, '_>,
     lists: &Lists,
     n: u32,
     insn: Insn,
+    branch: Branch,
     edges: &mut Vec<Edge>,
 ) -> Result<Found, NoMemory>
     requires point { n < count_of points.now }
     requires insn { insn ≡ insn_of_object points.now (point_at points.now n) }
+    requires to { branch.to ≡ destination_of points.now (point_at points.now n) }
+    requires way { branch.way ≡ direct_way points.now (point_at points.now n) insn.op }
     ensures listed { IfOk result (λ found. (alike : List ℕ) → IsListed points.now n edges.old.items edges.new.items alike alike found) }
     ensures found { IfOk result (IsFound points.now lists.now n) }
 {
-    let branch = branch_at(points.places(), n, insn);
     let role = role(points, n, insn, branch);
     push_edges(alloc, points, n, insn, branch, edges)?;
     Ok(Found::Own {
-        exit: exit(points.places().linked(), lists, role),
+        exit: exit(points.places(), lists, role),
         transfer: transfer_of(points, n, insn, branch, role),
     })
 }
@@ -115,8 +120,9 @@ fn look_for_jumps(
     ensures found { IfOk result (IsFound points.now lists.now n) }
 {
     let insn = points.arrivals().insn(alloc, n)?;
-    let Some(first) = jumps.note(points, n, insn)? else {
-        return look_around(alloc, points, lists, n, insn, edges);
+    let branch = branch_at(points.places(), n, insn);
+    let Some(first) = jumps.note(points, n, insn, branch.to)? else {
+        return look_around(alloc, points, lists, n, insn, branch, edges);
     };
     let kind = EdgeKind::Table;
     edges.push(Edge { to: first, kind })?;

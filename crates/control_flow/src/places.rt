@@ -1,8 +1,8 @@
 //! Places of code, judged.
 
 ghost use Rattle.std.specs.Prelude.{◌≡◌};
-ghost use Rattle.flow_defs.specs.Faults.{is_branch_op as is_jump_or_nop, is_no_end as is_no_end_of, is_no_start as is_no_start_of};
-ghost use Rattle.control_flow.specs.Judged.{ends_text as ends_text_of, is_no_branch as is_no_branch_of, is_no_function as is_no_function_of};
+ghost use Rattle.flow_defs.specs.Faults.{is_branch_op as is_jump_or_nop, is_direct_call as is_call, is_no_end as is_no_end_of, is_no_start as is_no_start_of};
+ghost use Rattle.control_flow.specs.Judged.{ends_text as ends_text_of, is_no_branch as is_no_branch_of, is_no_call as is_no_call_of, is_no_function as is_no_function_of};
 
 use alternatives::Point;
 use elf_objects::Object;
@@ -58,6 +58,23 @@ pub(crate) fn is_no_branch(places: &PointPlaces<'_, '_, '_>, place: Place) -> bo
 {
     match places.number_of(Point { place, variant: 0 }) {
         Some(n) => !is_branch_op(places.decoded_insn(n).op),
+        None => true,
+    }
+}
+
+/// Whether an operation is a direct call.
+fn is_direct_call(op: Op) -> bool
+    ensures { result ≡ is_call op }
+{
+    matches!(op, Op::Call { .. })
+}
+
+/// Whether no direct call begins at a place.
+pub(crate) fn is_no_call(places: &PointPlaces<'_, '_, '_>, place: Place) -> bool
+    ensures { result ≡ is_no_call_of places.now place }
+{
+    match places.number_of(Point { place, variant: 0 }) {
+        Some(n) => !is_direct_call(places.decoded_insn(n).op),
         None => true,
     }
 }

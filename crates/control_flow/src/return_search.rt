@@ -15,7 +15,7 @@ pub(crate) struct Search {
     pub(crate) found: Vec<bool>,
     /// The points that are found and not passed on yet.
     pub(crate) waiting: Vec<u32>,
-    /// Whether an entry is known to return.
+    /// Whether what a call names by this number is known to return.
     pub(crate) known: Vec<bool>,
 }
 

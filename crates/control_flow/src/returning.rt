@@ -1,6 +1,7 @@
 //! From which points a return may come.
 
 ghost use Rattle.std.specs.Prelude.{◌≡◌, ◌<◌, ◌^◌, ℕ, List, IfOk};
+ghost use Rattle.machine_defs.specs.IsProgram.{IsProgram};
 ghost use Rattle.flow_defs.specs.Program.{program_of};
 ghost use Rattle.control_flow.specs.Shape.{HasShape, HaveShape, points_of};
 ghost use Rattle.control_flow.specs.Told.{TellsFlow};
@@ -15,6 +16,14 @@ use object_law::flow_laws::program_is_one;
 use ot_base::{Lists, NoMemory};
 use point_edges::FlowPoints;
 use std::alloc::Global;
+
+/// The law that the program of an object whose code is read has what is asked of programs.
+fn program_is_right(points: &FlowPoints<'_, '_, '_>, lists: &Lists)
+    ensures { IsProgram (program_of points.now lists.now) }
+{
+    program_is_one();
+    object_is_in_order(points.places().linked());
+}
 
 /// The edges of the points, and what they are to a return.
 fn flow_of(
@@ -33,6 +42,7 @@ fn flow_of(
     ensures count { IfOk result (λ flow. points_of flow ≡ count_of points.now) }
     ensures entered { IfOk result (λ flow. AreEntered points.now flow.entered.items (count_of points.now)) }
 {
+    program_is_right(points, lists);
     let places = points.places();
     let EdgeList { starts, edges } = list;
     let dead_ends = list_dead_ends(alloc, points)?;
@@ -61,7 +71,6 @@ pub(crate) fn returns_of(
     ensures told { IfOk result (AreReturns points.now lists.now list.starts.items list.edges.items) }
     ensures entered { IfOk result (λ returns. AreEntered points.now returns.entered.items (count_of points.now)) }
 {
-    program_is_one();
-    object_is_in_order(points.places().linked());
+    program_is_right(points, lists);
     find_returns(alloc, flow_of(alloc, points, lists, list, exits)?)
 }

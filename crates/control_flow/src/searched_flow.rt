@@ -9,11 +9,11 @@ use machine_defs::Edge;
 pub enum Exit {
     /// A return comes from it: it returns, jumps anywhere, or jumps to code outside that may return.
     Leaves,
-    /// A call of this entry, by the number of the entry's plain point.
+    /// A call inside the program, by the number of the plain point at the entry, or at what else is called.
     Calls { entry: u32 },
-    /// A call whose target always may return: outside by a name that may return, by a weak symbol, or indirect.
+    /// A call whose target always may return: outside or by a weak symbol, by a name that may return, or indirect.
     CallsOut,
-    /// A call whose target never returns.
+    /// A call whose target never returns: its name is listed.
     CallsNever,
     /// Anything else: a return may come from it where one may come from the end of one of its edges.
     Passes,
@@ -32,12 +32,13 @@ pub struct Flow {
     pub exits: Vec<Exit>,
     /// Whether execution never passes a point.
     pub dead_ends: Vec<bool>,
-    /// For each point, the entry at which control may come to stand at it, if there is one.
+    /// For each point, the entry at which control may come to stand at it, if there is one. Else a call that goes there goes to
+    /// the point itself, and control that comes to it stands nowhere else.
     pub entered: Vec<Option<u32>>,
 }
 
 impl Flow {
-    ghost use Rattle.control_flow.specs.Told.{edges_from, start_of};
+    ghost use Rattle.control_flow.specs.Told.{callee_at, edges_from, start_of};
     ghost use Rattle.control_flow.specs.Shape.{HasShape, points_of};
 
     /// Where in the list of edges those of a point begin.
@@ -46,6 +47,16 @@ impl Flow {
         ensures { result ≡ start_of self.now q }
     {
         self.starts[q] as usize
+    }
+
+    /// By what number a call names a point: that of the entry at which control comes to it, where there is one, else its own.
+    pub(crate) fn callee(&self, q: u32) -> u32
+        requires shape { HasShape self.now }
+        requires point { q < points_of self.now }
+        ensures is { result ≡ callee_at self.now q }
+        ensures inside { result < points_of self.now }
+    {
+        self.entered[q as usize].unwrap_or(q)
     }
 
     /// The edges of a point.

@@ -126,7 +126,7 @@ fn find_edge(flow: &Flow, search: &mut Search, lead: Lead)
     }
 }
 
-/// Finds a call of an entry that is known to return. An edge is passed over.
+/// Finds a call of what is known to return. An edge is passed over.
 fn find_call(flow: &Flow, search: &mut Search, lead: Lead)
     requires shape { HasShape flow.now }
     requires listed { AreListed flow.now search.old }
@@ -191,7 +191,7 @@ fn find_along(flow: &Flow, backward: &Backward, search: &mut Search, x: u32)
     find_along_listed(flow, backward, search, x);
 }
 
-/// Finds the calls of an entry that is known to return.
+/// Finds the calls of what is known to return.
 fn find_calls(flow: &Flow, backward: &Backward, search: &mut Search, entry: u32)
     requires shape { HasShape flow.now }
     requires backward { IsBackward flow.now backward.now }
@@ -220,11 +220,10 @@ fn pass_on(flow: &Flow, backward: &Backward, search: &mut Search, x: u32)
     ensures extends { Extends search.old search.new }
 {
     find_along(flow, backward, search, x);
-    if let Some(entry) = flow.entered[x as usize] {
-        if !search.known[entry as usize] {
-            search.known[entry as usize] = true;
-            find_calls(flow, backward, search, entry);
-        }
+    let callee = flow.callee(x);
+    if !search.known[callee as usize] {
+        search.known[callee as usize] = true;
+        find_calls(flow, backward, search, callee);
     }
 }
 
@@ -245,7 +244,7 @@ fn find_leaving(flow: &Flow, search: &mut Search, q: u32)
     }
 }
 
-/// Finds the points from which a return may come. Each point is passed on once, and each edge is looked at twice at most.
+/// Finds the points from which a return may come. Each point is passed on once, and each edge is looked at three times at most.
 ///
 /// All that a point leads to is passed on before the next point from which a return comes is looked for, so that the
 /// search stays in one function for long.

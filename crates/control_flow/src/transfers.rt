@@ -5,7 +5,7 @@ ghost use Rattle.flow_defs.specs.Coded.{Coded};
 ghost use Rattle.flow_defs.specs.Arrival.{insn_of_object};
 ghost use Rattle.flow_defs.specs.Code.{point_at};
 ghost use Rattle.flow_defs.specs.Roles.{role_of};
-ghost use Rattle.flow_defs.specs.Targets.{destination};
+ghost use Rattle.flow_defs.specs.Targets.{destination_of};
 ghost use Rattle.control_flow.specs.Shape.{HaveShape};
 ghost use Rattle.point_edges.specs.Jumps.{direct_way};
 ghost use Rattle.control_flow.specs.Listed.{CallsPoint, count_of};
@@ -45,8 +45,8 @@ pub(crate) fn transfer_of(
 ) -> Transfer
     requires point { n < count_of points.now }
     requires insn { insn ≡ insn_of_object points.now (point_at points.now n) }
-    requires to { branch.to ≡ destination points.now (point_at points.now n) insn }
-    requires way { branch.way ≡ direct_way points.now (point_at points.now n) insn insn.op }
+    requires to { branch.to ≡ destination_of points.now (point_at points.now n) }
+    requires way { branch.way ≡ direct_way points.now (point_at points.now n) insn.op }
     requires role { role ≡ role_of points.now (point_at points.now n) }
     requires known { CallsPoint points.now role }
     ensures { IsTransfer points.now n true result }

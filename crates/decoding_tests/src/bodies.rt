@@ -115,22 +115,27 @@ fn bytes_outlive_the_text(rt: HostRuntime) -> Result<(), Fail> {
     Ok(())
 }
 
-// A jump by the table at an address, and one through a register.
+// A jump by the table at an address, one through a register, one with a displacement of 8 bits and one of 32.
 #[test]
 fn jumps_by_a_table(rt: HostRuntime) -> Result<(), Fail> {
-    let body = [0x90u8, 0xFF, 0x24, 0xC5, 0, 0, 0, 0, 0xFF, 0xE0];
+    let body = [
+        0x90u8, 0xFF, 0x24, 0xC5, 0, 0, 0, 0, 0xFF, 0xE0, 0xEB, 0, 0xE9, 0, 0, 0, 0,
+    ];
     let text = Text::read(
         rt.alloc(),
         Map::Base,
         &body,
         &mut InsnList::new(rt.alloc())?,
     )?;
-    assert_eq!(rt; text.count(), 3);
+    assert_eq!(rt; text.count(), 5);
     let jumps = text.table_jumps();
-    assert_eq!(rt; jumps.len(), 1);
+    let offsets = [1u64, 8, 12];
+    assert!(rt; jumps.len() == offsets.len());
+    for (i, off) in offsets.iter().enumerate() {
+        assert_eq!(rt; jumps.get(i).map(|placed| placed.off), Some(*off));
+    }
     let table = Some(3);
     let op = Op::JmpInd { table };
-    let jump = jumps.first().map(|placed| (placed.off, placed.insn.op));
-    assert!(rt; jump == Some((1, op)));
+    assert!(rt; jumps.first().map(|placed| placed.insn.op) == Some(op));
     Ok(())
 }

@@ -5,14 +5,19 @@ use Rattle.ot_base.specs.declared.place.Place.{Place}
 use Rattle.ot_base.specs.Places.{same_place}
 use Rattle.operation_defs.specs.declared.insn.Insn.{Insn}
 use Rattle.operation_defs.specs.declared.op.Op.{Op}
-use Rattle.operation_defs.specs.declared.op.Op.TheVariants.{Plain, Iret, IretNext, Ud2}
+use Rattle.operation_defs.specs.declared.op.Op.TheVariants.{Plain, SubSp, SpReg, Ud2}
+use Rattle.operation_defs.specs.Made.{Around, made}
+use Rattle.state_defs.specs.declared.state.HintState.{HintState}
+use Rattle.state_defs.specs.declared.state.HintState.TheVariants.{Restore, Set}
+use Rattle.state_defs.specs.declared.state.State.TheVariants.{Live}
+use Rattle.special_sections.specs.HintStates.{hint_at}
 use Rattle.flow_defs.specs.Coded.{Coded}
 use Rattle.special_sections.specs.Special.{special_of}
 use Rattle.alternatives.specs.declared.point.Point.{Point}
 use Rattle.alternatives.specs.Texts.{behind, is_boundary}
 use Rattle.alternatives.specs.Points.{end_of_site, entry_of, first_points, insn_of_point, is_padding_point, next_point}
 use Rattle.jump_tables.specs.Tables.{same_owner}
-use Rattle.flow_defs.specs.Code.{texts_of, alternatives_of, numbers_of, point_at, is_plain}
+use Rattle.flow_defs.specs.Code.{texts_of, alternatives_of, numbers_of, point_at, points_of_object, is_plain}
 use Rattle.flow_defs.specs.Owners.{owner_of_point}
 
 -- where a point is none of the object
@@ -76,17 +81,46 @@ is_dead_end o point =
     && (not (ends_at o point (special_of o.elf).after_reachable)
     && (is_ud2 (decoded_insn o point).op || ends_at o point (special_of o.elf).after_unreachable))
 
--- An IRET of a function that goes on right behind itself in that function: there are points after it, and all of them
--- have its owner.
+-- the hint of a point, at its place
+unfoldable pub hint_of : Coded → Point → Option HintState
+hint_of o point = if is_padding o point then None else hint_at (special_of o.elf).hints point.place
+
+-- a hint tells a call frame (CALL, FUNC), or restores what a SAVE marked
+abbrev pub tells_frame : Option HintState → Bool
+tells_frame (Some (Set (Live depth fp bp))) = true
+tells_frame (Some Restore) = true
+tells_frame _ = false
+
+-- there are points after a point of a function, and all of them have its owner
 abbrev pub goes_on_behind : Coded → Point → Option ℕ → List ℕ → Bool
 goes_on_behind o point None next = false
 goes_on_behind o point (Some owner) [] = false
 goes_on_behind o point (Some owner) (q ∷ next) = list_all (λ r. same_owner (owner_of_point o (point_at o r)) (Some owner)) (q ∷ next)
 
-abbrev pub op_of : Coded → Point → Op → Op
-op_of o point Iret = if goes_on_behind o point (owner_of_point o point) (after o point) then IretNext else Iret
-op_of o point op = op
+-- the place of a point is listed as that of a call within a function
+abbrev pub is_intra_call : Coded → Point → Bool
+is_intra_call o point = not (is_padding o point) && list_any (same_place point.place) (special_of o.elf).intra_calls
 
--- the instruction of a point: as it is decoded, but for an IRET that goes on behind itself
+-- operations that make room below a frame
+abbrev pub is_room : Op → Bool
+is_room SubSp = true
+is_room SpReg = true
+is_room _ = false
+
+-- a function makes room at one of its points, of any variant; code of no function makes none
+unfoldable pub makes_room : Coded → Option ℕ → Bool
+makes_room o None = false
+makes_room o (Some owner) = list_any (λ point. same_owner (owner_of_point o point) (Some owner) && is_room (decoded_insn o point).op) (points_of_object o)
+
+-- what the object says around the instruction of a point
+unfoldable pub around : Coded → Point → Around
+around o point = record {
+  intra_call = is_intra_call o point;
+  within = goes_on_behind o point (owner_of_point o point) (after o point);
+  hinted = list_all (λ q. tells_frame (hint_of o (point_at o q))) (after o point);
+  makes_room = makes_room o (owner_of_point o point);
+}
+
+-- the instruction of a point: its length, and what a program makes of its decoded operation
 unfoldable pub insn_of_object : Coded → Point → Insn
-insn_of_object o point = let insn = decoded_insn o point in record { len = insn.len; op = op_of o point insn.op }
+insn_of_object o point = let insn = decoded_insn o point in record { len = insn.len; op = made (around o point) insn.op }

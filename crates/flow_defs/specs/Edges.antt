@@ -5,7 +5,7 @@ use Rattle.ot_base.specs.declared.place.Place.{Place}
 use Rattle.ot_base.specs.Places.{same_place}
 use Rattle.operation_defs.specs.declared.insn.Insn.{Insn}
 use Rattle.operation_defs.specs.declared.op.Op.{Op}
-use Rattle.operation_defs.specs.declared.op.Op.TheVariants.{Jmp, Jcc, JmpInd, Ret, RetImm, Iret, Switch}
+use Rattle.operation_defs.specs.declared.op.Op.TheVariants.{Jmp, Jcc, JmpInd, Hop, Ret, RetImm, Iret, Switch}
 use Rattle.flow_defs.specs.Coded.{Coded}
 use Rattle.machine_defs.specs.declared.flow.Edge.{Edge}
 use Rattle.machine_defs.specs.declared.flow.EdgeKind.{EdgeKind}
@@ -24,8 +24,8 @@ use Rattle.flow_defs.specs.Code.{numbers_of}
 use Rattle.flow_defs.specs.Owners.{owner_of_point, is_unchecked_point}
 use Rattle.flow_defs.specs.Sites.{is_into_site}
 use Rattle.flow_defs.specs.Arrival.{arrive, after, insn_of_object, is_dead_end, is_padding}
-use Rattle.flow_defs.specs.Targets.{destination}
-use Rattle.flow_defs.specs.Ways.{jump_way, listed_way}
+use Rattle.flow_defs.specs.Targets.{destination_of}
+use Rattle.flow_defs.specs.Ways.{hop_way, jump_way, listed_way}
 use Rattle.flow_defs.specs.Roles.{table_of_point}
 
 -- edges of a kind to points
@@ -53,10 +53,12 @@ abbrev pub is_some_place : List Place → Bool
 is_some_place [] = false
 is_some_place (place ∷ places) = true
 
--- operations behind which execution doesn't go on: unconditional and indirect jumps, returns, and ways out of the code
+-- operations behind which execution doesn't go on: unconditional and indirect jumps, calls within a function, returns, and ways
+-- out of the code
 abbrev pub ends_flow : Op → Bool
 ends_flow (Jmp rel wide) = true
 ends_flow (JmpInd table) = true
+ends_flow Hop = true
 ends_flow Ret = true
 ends_flow RetImm = true
 ends_flow Iret = true
@@ -79,25 +81,28 @@ jump_edges o point (ToOwnPoint other) =
     if same_owner (owner_of_point o point) (owner_of_point o other) then edges_to Taken (numbers_of o (other ∷ [])) else []
 jump_edges o point _ = []
 
-abbrev pub branch_edges_by : Coded → Point → Insn → Op → List Edge
-branch_edges_by o point insn (Jmp rel wide) = jump_edges o point (destination o point insn)
-branch_edges_by o point insn (Jcc rel wide) = jump_edges o point (destination o point insn)
-branch_edges_by o point insn _ = []
+-- those of a call within a function
+abbrev pub hop_edges : Coded → Point → Destination → List Edge
+hop_edges o point (ToPlace place weak crossing) = way_edges o point place (hop_way o point weak crossing place)
+hop_edges o point (ToOwnPoint other) = jump_edges o point (ToOwnPoint other)
+hop_edges o point _ = []
+
+abbrev pub branch_edges_by : Coded → Point → Op → List Edge
+branch_edges_by o point (Jmp rel wide) = jump_edges o point (destination_of o point)
+branch_edges_by o point (Jcc rel wide) = jump_edges o point (destination_of o point)
+branch_edges_by o point Hop = hop_edges o point (destination_of o point)
+branch_edges_by o point _ = []
 
 abbrev pub branch_edges : Coded → Point → List Edge
-branch_edges o point = let insn = insn_of_object o point in branch_edges_by o point insn insn.op
+branch_edges o point = branch_edges_by o point (insn_of_object o point).op
 
 -- the edges of the static branches at a point, and of its exception entries
 abbrev pub listed_edges : Coded → EdgeKind → Point → List Place → List Edge
 listed_edges o kind point places = flat_map (λ place. way_edges o point place (listed_way o kind (owner_of_point o point) place)) places
 
 -- those of the jump table of an indirect jump, whose entries have the point's owner
-abbrev pub table_edges_by : Coded → Point → Op → List Edge
-table_edges_by o point (JmpInd table) = flat_map (λ place. way_edges o point place (Along Table)) (table_of_point o point)
-table_edges_by o point _ = []
-
 abbrev pub table_edges : Coded → Point → List Edge
-table_edges o point = table_edges_by o point (insn_of_object o point).op
+table_edges o point = flat_map (λ place. way_edges o point place (Along Table)) (table_of_point o point)
 
 -- all edges of a point; one of an unchecked function has none
 unfoldable pub goes : Coded → Point → List Edge

@@ -4,18 +4,12 @@ use Rattle.std.specs.List.{list_any}
 use Rattle.flow_defs.specs.Coded.{Coded}
 use Rattle.state_defs.specs.declared.state.HintState.{HintState}
 use Rattle.state_defs.specs.declared.state.HintState.TheVariants.{Set, Save, Restore}
-use Rattle.special_sections.specs.Special.{special_of}
 use Rattle.alternatives.specs.declared.point.Point.{Point}
 use Rattle.alternatives.specs.Points.{address_of_point}
-use Rattle.special_sections.specs.HintStates.{hint_at}
 use Rattle.jump_tables.specs.Tables.{same_owner}
 use Rattle.flow_defs.specs.Code.{alternatives_of, points_of_object, number_of}
 use Rattle.flow_defs.specs.Owners.{owner_of_point}
-use Rattle.flow_defs.specs.Arrival.{is_padding}
-
--- the hint of a point, at its place
-unfoldable pub hint_of : Coded → Point → Option HintState
-hint_of o point = if is_padding o point then None else hint_at (special_of o.elf).hints point.place
+pub use Rattle.flow_defs.specs.Arrival.{hint_of}
 
 abbrev pub is_save : Option HintState → Bool
 is_save (Some Save) = true

@@ -19,3 +19,4 @@ pub mod WorkedCalls
 pub mod WorkedReturning
 pub mod WorkedOwners
 pub mod WorkedFields
+pub mod WorkedWays

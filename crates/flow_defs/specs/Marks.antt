@@ -5,7 +5,7 @@ use Rattle.ot_base.specs.declared.place.Place.{Place}
 use Rattle.alternatives.specs.Texts.{is_boundary}
 use Rattle.operation_defs.specs.declared.insn.Insn.{Insn}
 use Rattle.operation_defs.specs.declared.op.Op.{Op}
-use Rattle.operation_defs.specs.declared.op.Op.TheVariants.{AddSp, AndSp, LeaSpBp, LeaBpSp, StoreBp, LoadBp, Call, Jmp, Jcc, JmpInd}
+use Rattle.operation_defs.specs.declared.op.Op.TheVariants.{AddSp, AndSp, LeaSpBp, LeaBpSp, LeaBpRoom, StoreBp, LoadBp, Call, Hop, Jmp, Jcc}
 use Rattle.flow_defs.specs.Coded.{Coded}
 use Rattle.machine_defs.specs.declared.flow.EdgeKind.{EdgeKind}
 use Rattle.machine_defs.specs.declared.flow.EdgeKind.TheVariants.{Taken, Fixup}
@@ -16,12 +16,12 @@ use Rattle.jump_tables.specs.Tables.{same_owner}
 use Rattle.flow_defs.specs.declared.destination.Destination.{Destination}
 use Rattle.flow_defs.specs.declared.destination.Destination.TheVariants.{ToPlace, ToOwnPoint, ToOutside, ToIndirectThunk, ToReturnThunk, ToNowhere}
 use Rattle.flow_defs.specs.Code.{texts_of}
-use Rattle.flow_defs.specs.Owners.{owner_of_point, is_entry, unchecked_start}
+use Rattle.flow_defs.specs.Owners.{owner_of_point, unchecked_start}
 use Rattle.flow_defs.specs.Sites.{is_into_site}
 use Rattle.flow_defs.specs.Arrival.{insn_of_object, is_at_end, is_padding}
-use Rattle.flow_defs.specs.Targets.{destination}
-use Rattle.flow_defs.specs.Ways.{jump_way, listed_way, is_bad, is_along}
-use Rattle.flow_defs.specs.Roles.{table_of_point}
+use Rattle.flow_defs.specs.Targets.{destination_of}
+use Rattle.flow_defs.specs.Ways.{hop_way, jump_way, listed_way, is_bad, is_along}
+use Rattle.flow_defs.specs.Roles.{is_called, table_of_point}
 use Rattle.flow_defs.specs.Edges.{fixups, goes_on, static_targets}
 
 -- a call goes to no place of the text, or to the return thunk
@@ -42,11 +42,18 @@ is_bad_jump o point ToIndirectThunk = false
 is_bad_jump o point ToReturnThunk = false
 is_bad_jump o point ToNowhere = true
 
-abbrev pub is_bad_by : Coded → Point → Insn → Op → Bool
-is_bad_by o point insn (Call rel) = is_bad_call o (destination o point insn)
-is_bad_by o point insn (Jmp rel wide) = is_bad_jump o point (destination o point insn)
-is_bad_by o point insn (Jcc rel wide) = is_bad_jump o point (destination o point insn)
-is_bad_by o point insn _ = false
+-- a call within a function goes anywhere but to a place of it
+abbrev pub is_bad_hop : Coded → Point → Destination → Bool
+is_bad_hop o point (ToPlace place weak crossing) = is_bad (hop_way o point weak crossing place)
+is_bad_hop o point (ToOwnPoint other) = is_bad_jump o point (ToOwnPoint other)
+is_bad_hop o point _ = true
+
+abbrev pub is_bad_by : Coded → Point → Op → Bool
+is_bad_by o point (Call rel) = is_bad_call o (destination_of o point)
+is_bad_by o point (Jmp rel wide) = is_bad_jump o point (destination_of o point)
+is_bad_by o point (Jcc rel wide) = is_bad_jump o point (destination_of o point)
+is_bad_by o point Hop = is_bad_hop o point (destination_of o point)
+is_bad_by o point _ = false
 
 -- so does a static branch or an exception entry
 abbrev pub is_bad_listed : Coded → EdgeKind → Point → List Place → Bool
@@ -55,8 +62,7 @@ is_bad_listed o kind point places = list_any (λ place. is_bad (listed_way o kin
 -- a target of the point is no place to go
 unfoldable pub has_bad_target : Coded → Point → Bool
 has_bad_target o point =
-    let insn = insn_of_object o point in
-    is_bad_by o point insn insn.op
+    is_bad_by o point (insn_of_object o point).op
     || (is_bad_listed o Taken point (static_targets o point)
     || is_bad_listed o Fixup point (fixups o point))
 
@@ -69,45 +75,50 @@ abbrev pub jump_places : Coded → Point → Destination → List Place
 jump_places o point (ToPlace place weak crossing) = if is_along (jump_way o point crossing place) then place ∷ [] else []
 jump_places o point _ = []
 
-abbrev pub places_by : Coded → Point → Insn → Op → List Place
-places_by o point insn (Call rel) = call_places o (destination o point insn)
-places_by o point insn (Jmp rel wide) = jump_places o point (destination o point insn)
-places_by o point insn (Jcc rel wide) = jump_places o point (destination o point insn)
-places_by o point insn (JmpInd table) = table_of_point o point
-places_by o point insn _ = []
+abbrev pub hop_places : Coded → Point → Destination → List Place
+hop_places o point (ToPlace place weak crossing) = if is_along (hop_way o point weak crossing place) then place ∷ [] else []
+hop_places o point _ = []
+
+abbrev pub places_by : Coded → Point → Op → List Place
+places_by o point (Call rel) = call_places o (destination_of o point)
+places_by o point (Jmp rel wide) = jump_places o point (destination_of o point)
+places_by o point (Jcc rel wide) = jump_places o point (destination_of o point)
+places_by o point Hop = hop_places o point (destination_of o point)
+places_by o point _ = []
 
 -- those of a static branch or an exception entry
 abbrev pub listed_places : Coded → EdgeKind → Point → List Place → List Place
 listed_places o kind point places = filter (λ place. is_along (listed_way o kind (owner_of_point o point) place)) places
 
--- the places of the object that the targets of a point lead to
+-- the places of the object that the targets of a point lead to: of its branch or call, of its jump table, and of the static
+-- branches and exception entries there
 abbrev pub target_places : Coded → Point → List Place
 target_places o point =
-    let insn = insn_of_object o point in
-    places_by o point insn insn.op
+    places_by o point (insn_of_object o point).op
+    ++ (table_of_point o point
     ++ (listed_places o Taken point (static_targets o point)
-    ++ listed_places o Fixup point (fixups o point))
+    ++ listed_places o Fixup point (fixups o point)))
 
 -- one of them lies in a site, past its start, and the point is none of that site's original code
 unfoldable pub has_target_in_site : Coded → Point → Bool
 has_target_in_site o point = list_any (is_into_site o point) (target_places o point)
 
--- a call goes to a place at which no checked function is entered, and no unchecked one starts
-abbrev pub is_inner_call_of : Coded → Place → Bool
-is_inner_call_of o place = is_boundary (texts_of o) place && (is_none (unchecked_start o.elf place) && not (is_entry o.elf place))
+-- a call goes to a boundary that isn't entered by calls of that point, and at which no unchecked function starts
+abbrev pub is_inner_call_of : Coded → Point → Place → Bool
+is_inner_call_of o point place = is_boundary (texts_of o) place && (is_none (unchecked_start o.elf place) && not (is_called o point place))
 
 -- so does a call of the padding of its own replacement
-abbrev pub is_inner_call : Coded → Destination → Bool
-is_inner_call o (ToPlace place weak crossing) = is_inner_call_of o place
-is_inner_call o (ToOwnPoint point) = is_padding o point || is_inner_call_of o point.place
-is_inner_call o _ = false
+abbrev pub is_inner_call : Coded → Point → Destination → Bool
+is_inner_call o point (ToPlace place weak crossing) = is_inner_call_of o point place
+is_inner_call o point (ToOwnPoint other) = is_padding o other || is_inner_call_of o point other.place
+is_inner_call o point _ = false
 
-abbrev pub is_inner_call_by : Coded → Point → Insn → Op → Bool
-is_inner_call_by o point insn (Call rel) = is_inner_call o (destination o point insn)
-is_inner_call_by o point insn _ = false
+abbrev pub is_inner_call_by : Coded → Point → Op → Bool
+is_inner_call_by o point (Call rel) = is_inner_call o point (destination_of o point)
+is_inner_call_by o point _ = false
 
 unfoldable pub calls_into_function : Coded → Point → Bool
-calls_into_function o point = let insn = insn_of_object o point in is_inner_call_by o point insn insn.op
+calls_into_function o point = is_inner_call_by o point (insn_of_object o point).op
 
 -- an operation by a number: how far it moves rsp or rbp, what it masks rsp with, or where it saves or loads rbp
 abbrev pub has_stack_offset : Op → Bool
@@ -115,6 +126,7 @@ has_stack_offset (AddSp by) = true
 has_stack_offset (AndSp mask) = true
 has_stack_offset (LeaSpBp by) = true
 has_stack_offset (LeaBpSp by) = true
+has_stack_offset (LeaBpRoom by) = true
 has_stack_offset (StoreBp at) = true
 has_stack_offset (LoadBp at) = true
 has_stack_offset _ = false

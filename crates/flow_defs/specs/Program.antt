@@ -1,5 +1,5 @@
 -- The program of an object.
-use Rattle.std.specs.Prelude.{ℕ, ◌==◌, ◌&&◌, Bool, false, List, map, filter, find, length, Option, Some, None, option_and_then, bytes_eq, codes, if◌then◌else◌}
+use Rattle.std.specs.Prelude.{ℕ, ◌==◌, ◌&&◌, ◌||◌, Bool, false, List, map, filter, find, length, Option, Some, None, option_and_then, bytes_eq, codes, if◌then◌else◌}
 use Rattle.std.specs.List.{range_with_len}
 use Rattle.std.specs.FinSet as set
 use Rattle.ot_base.specs.declared.place.Place.{Place}
@@ -60,6 +60,12 @@ calls_fentry_by o (CallEither entry sym) = is_fentry o.elf sym
 calls_fentry_by o (CallIn entry) = is_fentry_function o (starts_at o.elf (point_at o entry).place)
 calls_fentry_by o _ = false
 
+-- code to which control comes by patching alone stands in a section of this name
+abbrev pub is_patch_section : Elf → ℕ → Bool
+is_patch_section o sec =
+    let name = (section_at o sec).name in
+    bytes_eq name (codes ".altinstr_replacement") || bytes_eq name (codes ".altinstr_aux")
+
 -- the text sections with their sizes
 unfoldable pub text_sections_of : Elf → List TextSection
 text_sections_of o = map (λ i. record { sec = i; size = (section_at o i).size }) (text_numbers o)
@@ -82,6 +88,7 @@ graph_of o lists = record {
   function = λ q. function_of_point o (point_at o q);
   owner = λ q. owner_of_point o (point_at o q);
   unchecked = λ q. is_unchecked_point o (point_at o q);
+  in_patches = λ q. is_patch_section o.elf (point_at o q).place.sec;
   previous = λ q. previous_of o (point_at o q);
   hint = λ q. hint_of o (point_at o q);
   save_of = λ q. save_of o (point_at o q);

@@ -1,14 +1,14 @@
 -- From which points of a program a return may come, by levels.
 use Rattle.std.specs.Prelude.{ℕ, zero, suc, ◌&&◌, ◌||◌, not, Bool, true, false}
 use Rattle.std.specs.List.{list_any}
-use Rattle.machine_defs.specs.Step.{may_leave}
+use Rattle.machine_defs.specs.Step.{may_go_back}
 use Rattle.machine_defs.specs.declared.flow.Edge.{Edge}
 use Rattle.machine_defs.specs.declared.flow.EdgeKind.{EdgeKind}
 use Rattle.machine_defs.specs.declared.flow.EdgeKind.TheVariants.{Next, Taken, Fixup, Table, Sibling}
 use Rattle.machine_defs.specs.declared.flow.Role.{Role}
 use Rattle.machine_defs.specs.declared.flow.Role.TheVariants.{CallIn}
 use Rattle.machine_defs.specs.Program.{Program, entry_points, is_call}
-use Rattle.machine_defs.specs.MayReturn.{may_call_out}
+use Rattle.machine_defs.specs.MayReturn.{is_listed, may_call_out}
 
 abbrev pub is_next : EdgeKind → Bool
 is_next Next = true
@@ -17,9 +17,10 @@ is_next Fixup = false
 is_next Table = false
 is_next Sibling = false
 
--- the target of a call may return, where some points are known from which a return may come
+-- The target of a call may return, where some points are known from which a return may come: an entry from whose code a return may
+-- come, or code outside; and the call isn't listed.
 abbrev pub call_returns : Program → (ℕ → Bool) → Role → Bool
-call_returns p known (CallIn entry) = list_any known (entry_points p entry)
+call_returns p known (CallIn entry) = list_any known (entry_points p entry) && not (is_listed p (CallIn entry))
 call_returns p known role = may_call_out p role
 
 -- execution goes along the edge to a point from which a return may come: by any edge but a call's Next, and by that where the
@@ -32,9 +33,9 @@ leads_to_return p known q e =
     || (not (p.dead_end q) && call_returns p known (p.role q))))
 
 abbrev pub returns_by : Program → (ℕ → Bool) → ℕ → Bool
-returns_by p known q = may_leave p (p.role q) || list_any (leads_to_return p known q) (p.goes q)
+returns_by p known q = may_go_back p (p.role q) || list_any (leads_to_return p known q) (p.goes q)
 
--- within this many levels: at first none; then each point that may leave its function, or leads to one of the level before
+-- within this many levels: at first none; then each point that may go back to the caller, or leads to one of the level before
 abbrev pub returns_within : Program → ℕ → ℕ → Bool
 returns_within p zero q = false
 returns_within p (suc n) q = returns_by p (returns_within p n) q

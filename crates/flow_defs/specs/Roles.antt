@@ -1,8 +1,7 @@
 -- What an instruction is to its function.
-use Rattle.std.specs.Prelude.{ℕ, List, [], ◌∷◌, Option, Some, None, unwrap_or, if◌then◌else◌}
+use Rattle.std.specs.Prelude.{ℕ, ◌&&◌, ◌||◌, Bool, List, [], ◌∷◌, Option, Some, None, is_none, unwrap_or, if◌then◌else◌}
 use Rattle.ot_base.specs.declared.place.Place.{Place}
 use Rattle.alternatives.specs.Texts.{is_boundary}
-use Rattle.operation_defs.specs.declared.insn.Insn.{Insn}
 use Rattle.operation_defs.specs.declared.op.Op.{Op}
 use Rattle.operation_defs.specs.declared.op.Op.TheVariants as ops
 use Rattle.flow_defs.specs.Coded.{Coded}
@@ -14,10 +13,13 @@ use Rattle.flow_defs.specs.declared.destination.Destination.{Destination}
 use Rattle.flow_defs.specs.declared.destination.Destination.TheVariants.{ToPlace, ToOwnPoint, ToOutside, ToIndirectThunk, ToReturnThunk, ToNowhere}
 use Rattle.flow_defs.specs.declared.destination.Way.{Way}
 use Rattle.flow_defs.specs.declared.destination.Way.TheVariants as ways
-use Rattle.flow_defs.specs.Code.{texts_of, number_of, plain_point}
+use Rattle.flow_defs.specs.Code.{texts_of, alternatives_of, number_of, plain_point}
+use Rattle.flow_defs.specs.Sites.{site_holding}
+use Rattle.machine_defs.specs.Ways.{is_call_hint}
+use Rattle.symbols_relocs.specs.Parts.{owner_at}
 use Rattle.flow_defs.specs.Owners.{owner_of_point, is_entry, unchecked_start}
-use Rattle.flow_defs.specs.Arrival.{insn_of_object, is_padding}
-use Rattle.flow_defs.specs.Targets.{destination}
+use Rattle.flow_defs.specs.Arrival.{hint_of, insn_of_object, is_padding}
+use Rattle.flow_defs.specs.Targets.{destination_of}
 use Rattle.flow_defs.specs.Ways.{jump_way}
 
 -- the number of the plain point at a place
@@ -29,25 +31,38 @@ abbrev pub entry_call : ℕ → Option ℕ → Role
 entry_call entry None = CallIn entry
 entry_call entry (Some sym) = CallEither entry sym
 
+-- Code of no function may call a place at which no function starts: the plain point there is of no function, a hint there tells
+-- a call frame or ends the stack, and no site holds the place.
+abbrev pub may_call : Coded → Point → Place → Bool
+may_call o point place =
+    is_none (owner_of_point o point)
+    && (is_none (owner_at o.elf place)
+    && (is_call_hint (hint_of o (plain_point place))
+    && is_none (site_holding o place)))
+
+-- a place is an entry of a call: that of a function, or what code of no function may call
+abbrev pub is_called : Coded → Point → Place → Bool
+is_called o point place = is_entry o.elf place || may_call o point place
+
 -- What a call of a boundary is, by a WEAK symbol or not, told whether an unchecked function starts there.
-abbrev pub call_by : Coded → Place → Option ℕ → Option ℕ → Role
+abbrev pub call_by : Coded → Point → Place → Option ℕ → Option ℕ → Role
 -- where one does, a call of code outside, by that function's symbol
-call_by o place weak (Some f) = CallOut f
--- else a call of the entry that stands there, or of none
-call_by o place weak None = if is_entry o.elf place then entry_call (plain_number o place) weak else Plain
+call_by o point place weak (Some f) = CallOut f
+-- else a call of what is entered there, or of nothing
+call_by o point place weak None = if is_called o point place then entry_call (plain_number o place) weak else Plain
 
--- a call of a place, by a WEAK symbol or not: of code outside where an unchecked function starts there
-abbrev pub place_call : Coded → Place → Option ℕ → Role
-place_call o place weak = if is_boundary (texts_of o) place then call_by o place weak (unchecked_start o.elf place) else Plain
+-- a call of a place, by a WEAK symbol or not
+abbrev pub place_call : Coded → Point → Place → Option ℕ → Role
+place_call o point place weak = if is_boundary (texts_of o) place then call_by o point place weak (unchecked_start o.elf place) else Plain
 
--- what a direct call is by where it goes; padding is no place to call
-abbrev pub call_role : Coded → Destination → Role
-call_role o (ToPlace place weak crossing) = place_call o place weak
-call_role o (ToOwnPoint point) = if is_padding o point then Plain else place_call o point.place None
-call_role o (ToOutside sym) = CallOut sym
-call_role o ToIndirectThunk = CallAny
-call_role o ToReturnThunk = Plain
-call_role o ToNowhere = Plain
+-- what a direct call at a point is by where it goes; padding is no place to call
+abbrev pub call_role : Coded → Point → Destination → Role
+call_role o point (ToPlace place weak crossing) = place_call o point place weak
+call_role o point (ToOwnPoint other) = if is_padding o other then Plain else place_call o point other.place None
+call_role o point (ToOutside sym) = CallOut sym
+call_role o point ToIndirectThunk = CallAny
+call_role o point ToReturnThunk = Plain
+call_role o point ToNowhere = Plain
 
 -- what a jump to a place is: one to code outside where an unchecked function starts there, or where a WEAK symbol is named
 -- and the place is one to go to
@@ -57,36 +72,38 @@ jump_by_way (ways.Outside f) weak = JumpOut f
 jump_by_way (ways.Along kind) None = Plain
 jump_by_way (ways.Along kind) (Some sym) = JumpOut sym
 
--- what a direct jump is by where it goes
-abbrev pub jump_role : Coded → Point → Destination → Role
-jump_role o point (ToPlace place weak crossing) = jump_by_way (jump_way o point crossing place) weak
-jump_role o point (ToOwnPoint other) = Plain
-jump_role o point (ToOutside sym) = JumpOut sym
-jump_role o point ToIndirectThunk = JumpAny
-jump_role o point ToReturnThunk = Return
-jump_role o point ToNowhere = Plain
-
--- the entries of the jump table of a point
+-- the entries of the jump table of a point; there are none where it is padding or no indirect jump, or where no table is recognised
 unfoldable pub table_of_point : Coded → Point → List Place
-table_of_point o point = table_of o.elf (texts_of o) point.place (owner_of_point o point)
+table_of_point o point =
+    if is_padding o point then []
+    else table_of o.elf (texts_of o) (alternatives_of o) point (owner_of_point o point)
 
 -- an indirect jump through no recognised table may go anywhere
 abbrev pub jump_by_table : List Place → Role
 jump_by_table [] = JumpAny
 jump_by_table (place ∷ places) = Plain
 
-abbrev pub role_by : Coded → Point → Insn → Op → Role
-role_by o point insn (ops.Call rel) = call_role o (destination o point insn)
-role_by o point insn ops.CallInd = CallAny
-role_by o point insn (ops.Jmp rel wide) = jump_role o point (destination o point insn)
-role_by o point insn (ops.Jcc rel wide) = jump_role o point (destination o point insn)
-role_by o point insn (ops.JmpInd table) = jump_by_table (table_of_point o point)
-role_by o point insn ops.Ret = Return
-role_by o point insn ops.RetImm = Return
-role_by o point insn ops.Iret = Switch
-role_by o point insn ops.Switch = Switch
-role_by o point insn _ = Plain
+-- what a direct jump is by where it goes
+abbrev pub jump_role : Coded → Point → Destination → Role
+jump_role o point (ToPlace place weak crossing) = jump_by_way (jump_way o point crossing place) weak
+jump_role o point (ToOwnPoint other) = Plain
+jump_role o point (ToOutside sym) = JumpOut sym
+jump_role o point ToIndirectThunk = jump_by_table (table_of_point o point)
+jump_role o point ToReturnThunk = Return
+jump_role o point ToNowhere = Plain
+
+abbrev pub role_by : Coded → Point → Op → Role
+role_by o point (ops.Call rel) = call_role o point (destination_of o point)
+role_by o point ops.CallInd = CallAny
+role_by o point (ops.Jmp rel wide) = jump_role o point (destination_of o point)
+role_by o point (ops.Jcc rel wide) = jump_role o point (destination_of o point)
+role_by o point (ops.JmpInd table) = jump_by_table (table_of_point o point)
+role_by o point ops.Ret = Return
+role_by o point ops.RetImm = Return
+role_by o point ops.Iret = Switch
+role_by o point ops.Switch = Switch
+role_by o point _ = Plain
 
 -- what a point is to its function
 unfoldable pub role_of : Coded → Point → Role
-role_of o point = let insn = insn_of_object o point in role_by o point insn insn.op
+role_of o point = let insn = insn_of_object o point in role_by o point insn.op

@@ -17,7 +17,7 @@ use Rattle.flow_defs.specs.declared.destination.Crossing.TheVariants.{MayCross, 
 use Rattle.flow_defs.specs.declared.destination.Destination.{Destination}
 use Rattle.flow_defs.specs.declared.destination.Destination.TheVariants.{ToPlace, ToOwnPoint, ToOutside, ToIndirectThunk, ToReturnThunk, ToNowhere}
 use Rattle.flow_defs.specs.Code.{texts_of, alternatives_of, is_plain}
-use Rattle.flow_defs.specs.Arrival.{site_end, replacement_end}
+use Rattle.flow_defs.specs.Arrival.{decoded_insn, site_end, replacement_end}
 
 -- a displacement: how many bytes of the instruction's end it has, and its value
 pub record Displacement : Type 0 where
@@ -71,3 +71,7 @@ destination_by o point insn (Some d) =
 -- where a direct call or branch at a point goes; its edges, its role and its marks are told by this alone
 unfoldable pub destination : Coded → Point → Insn → Destination
 destination o point insn = destination_by o point insn (displacement_of insn.op)
+
+-- that of the instruction at a point as it is decoded: of a call within a function, where its call goes
+abbrev pub destination_of : Coded → Point → Destination
+destination_of o point = destination o point (decoded_insn o point)

@@ -51,6 +51,17 @@ branch_way o crossing kind from place =
 abbrev pub jump_way : Coded → Point → Crossing → Place → Way
 jump_way o point crossing place = branch_way o crossing Taken (owner_of_point o point) place
 
+-- along a taken edge, or none
+abbrev pub taken_only : Way → Way
+taken_only (Along Taken) = Along Taken
+taken_only _ = Bad
+
+-- The way of a call within a function, by a WEAK symbol or not: that of a jump, but to no other function, and by no symbol that
+-- another object may define.
+abbrev pub hop_way : Coded → Point → Option ℕ → Crossing → Place → Way
+hop_way o point (Some sym) crossing place = Bad
+hop_way o point None crossing place = taken_only (jump_way o point crossing place)
+
 -- a static branch or an exception entry doesn't go outside
 abbrev pub inside_only : Way → Way
 inside_only Bad = Bad

@@ -117,3 +117,20 @@ pub record HasSaves (lists : NameLists) : Type 0 where
   pub save : (program_of saves lists).save_of 6 ≡ Some 3
   pub enters : (program_of saves lists).goes 1 ≡ edge 2 Next ∷ edge 11 Next ∷ []
   pub leaves : (program_of saves lists).goes 15 ≡ edge 5 Next ∷ []
+
+-- f is a no-op of 5 bytes and a return, with two replacements for the no-op; the second is written as one of its first 3 bytes
+abbrev pub nested : Coded
+nested = object
+    (code_section (codes ".text") 6 (0x0F ∷ 0x1F ∷ 0x44 ∷ 0 ∷ 0 ∷ 0xC3 ∷ [])
+    ∷ code_section (codes ".altinstr_replacement") 3 (0x66 ∷ 0x90 ∷ 0x90 ∷ [])
+    ∷ data_section (codes ".altinstructions") 28 (zeros 12 ++ 5 ∷ 2 ∷ zeros 12 ++ 3 ∷ 1 ∷ [])
+    ∷ [])
+    (for_section 1 ∷ for_section 2 ∷ function_symbol (codes "f") 1 0 6 ∷ [])
+    ([] ∷ [] ∷ (pair_at 0 1 0 2 0 ++ pair_at 14 1 0 2 2) ∷ [])
+
+-- Both are of one site of 5 bytes. Of the first replacement are the points 3 and its padding 5, of the second 6 and its padding 7.
+pub record HasNested (lists : NameLists) : Type 0 where
+  pub sites : (program_of nested lists).sites ≡ record { start = record { sec = 1; off = 0 }; len = 5 } ∷ []
+  pub arrives : (program_of nested lists).arrive (record { sec = 1; off = 0 }) ≡ 0 ∷ 3 ∷ 6 ∷ []
+  pub padding : map (program_of nested lists).insn (5 ∷ 7 ∷ []) ≡ (record { len = 3; op = Nop } ∷ record { len = 4; op = Nop } ∷ [])
+  pub leaves : map (program_of nested lists).goes (5 ∷ 7 ∷ []) ≡ ((edge 1 Next ∷ []) ∷ (edge 1 Next ∷ []) ∷ [])

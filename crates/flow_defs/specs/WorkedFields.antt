@@ -64,6 +64,8 @@ pub record HasFields (lists : NameLists) : Type 0 where
       ≡ Some 3 ∷ Some 3 ∷ Some 3 ∷ Some 3 ∷ Some 3 ∷ Some 3 ∷ Some 5 ∷ None ∷ None ∷ Some 3 ∷ Some 3 ∷ []
   pub unchecked : of_points (program_of whole lists) (program_of whole lists).unchecked
       ≡ false ∷ false ∷ false ∷ false ∷ false ∷ false ∷ true ∷ false ∷ false ∷ false ∷ false ∷ []
+  pub in_patches : of_points (program_of whole lists) (program_of whole lists).in_patches
+      ≡ false ∷ false ∷ false ∷ false ∷ false ∷ false ∷ false ∷ false ∷ true ∷ true ∷ true ∷ []
   pub previous : of_points (program_of whole lists) (program_of whole lists).previous
       ≡ None ∷ Some 0 ∷ Some 1 ∷ Some 2 ∷ Some 3 ∷ Some 4 ∷ Some 5 ∷ Some 6 ∷ None ∷ None ∷ None ∷ []
   pub hints : of_points (program_of whole lists) (program_of whole lists).hint ≡ None ∷ None ∷ None ∷ None ∷ None ∷ None ∷ None ∷ None ∷ None ∷ None ∷ None ∷ []

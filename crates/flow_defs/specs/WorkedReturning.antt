@@ -7,6 +7,7 @@ use Rattle.machine_defs.specs.declared.flow.EdgeKind.TheVariants.{Next, Taken, F
 use Rattle.machine_defs.specs.declared.flow.Role.TheVariants.{Plain, CallIn, CallEither, CallOut, CallAny, Return, JumpOut, JumpAny, Switch}
 use Rattle.machine_defs.specs.Program.{edge, no_marks}
 use Rattle.flow_defs.specs.Program.{program_of}
+use Rattle.flow_defs.specs.WorkedCalls.{before}
 use Rattle.flow_defs.specs.WorkedObjects.{code_section, data_section, edges_of_points, for_section, function_symbol, marks_of_points, object, outside, pair_at, reloc, returning_points, roles_of_points, zeros}
 
 -- f calls panic right before g, which calls f and goes on to its return; h calls itself before its return
@@ -33,3 +34,17 @@ last_call = object
 pub record HasLastCall (lists : NameLists) : Type 0 where
   pub marks : marks_of_points (program_of last_call lists)
       ≡ (record no_marks { past_end = not (set.contains lists.never_returning (codes "panic")) } ∷ record no_marks { past_end = true } ∷ [])
+
+-- f calls panic, a function of another section of the object, at the end of its own
+abbrev pub listed_call : Coded
+listed_call = object
+    (code_section (codes ".text") 5 (0xE8 ∷ zeros 4) ∷ code_section (codes ".init.text") 1 (0xC3 ∷ []) ∷ [])
+    (function_symbol (codes "f") 1 0 5 ∷ function_symbol (codes "panic") 2 0 1 ∷ [])
+    ((before 1 2 ∷ []) ∷ [] ∷ [])
+
+-- a return may come from panic itself, but the call runs off its section only where panic isn't listed
+pub record HasListedCall (lists : NameLists) : Type 0 where
+  pub roles : roles_of_points (program_of listed_call lists) ≡ (CallIn 1 ∷ Return ∷ [])
+  pub returning : returning_points (program_of listed_call lists) ≡ (false ∷ true ∷ [])
+  pub marks : marks_of_points (program_of listed_call lists)
+      ≡ (record no_marks { past_end = not (set.contains lists.never_returning (codes "panic")) } ∷ no_marks ∷ [])

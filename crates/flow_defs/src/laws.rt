@@ -1,12 +1,13 @@
 //! What the definitions say of each worked object.
 
 ghost use Rattle.ot_base.specs.NameLists.{NameLists};
-ghost use Rattle.flow_defs.specs.WorkedAlternatives.{HasPadded, HasPatchedCall, HasPatchedJumps, HasPatchedWithCalls, HasSaves};
+ghost use Rattle.flow_defs.specs.WorkedAlternatives.{HasNested, HasPadded, HasPatchedCall, HasPatchedJumps, HasPatchedWithCalls, HasSaves};
 ghost use Rattle.flow_defs.specs.WorkedCalls.{HasCalls};
 ghost use Rattle.flow_defs.specs.WorkedFields.{HasFields, HasRelocated};
 ghost use Rattle.flow_defs.specs.WorkedListed.{HasExceptionEntry, HasJumpTable, HasStaticBranch};
 ghost use Rattle.flow_defs.specs.WorkedOwners.{HasCodeWithoutOwner, HasDeadEnds, HasIrets, HasUnchecked};
-ghost use Rattle.flow_defs.specs.WorkedReturning.{HasLastCall, HasNeverReturning};
+ghost use Rattle.flow_defs.specs.WorkedReturning.{HasLastCall, HasListedCall, HasNeverReturning};
+ghost use Rattle.flow_defs.specs.WorkedWays.{HasFreeCalls, HasIntraCalls, HasRegisterTable, HasRoom, HasSystemCalls};
 
 /// A site over a call, whose replacement is shorter.
 pub fn patched_call()
@@ -91,4 +92,39 @@ pub fn fields()
 /// A relocation on the number by which an instruction moves rsp.
 pub fn relocated()
     ensures { (lists : NameLists) → HasRelocated lists }
+{}
+
+/// Entries of one place, written with originals of different lengths.
+pub fn nested()
+    ensures { (lists : NameLists) → HasNested lists }
+{}
+
+/// A call of a function of the object whose name is listed as never returning.
+pub fn listed_call()
+    ensures { (lists : NameLists) → HasListedCall lists }
+{}
+
+/// Calls within a function, one of which leads out of it.
+pub fn intra_calls()
+    ensures { (lists : NameLists) → HasIntraCalls lists }
+{}
+
+/// Calls between code of no function.
+pub fn free_calls()
+    ensures { (lists : NameLists) → HasFreeCalls lists }
+{}
+
+/// A system call that comes back, and one that doesn't.
+pub fn system_calls()
+    ensures { (lists : NameLists) → HasSystemCalls lists }
+{}
+
+/// A jump to where a register points, by a table that the code before it loads.
+pub fn register_table()
+    ensures { (lists : NameLists) → HasRegisterTable lists }
+{}
+
+/// A function that makes room under its frame, and one that doesn't.
+pub fn room()
+    ensures { (lists : NameLists) → HasRoom lists }
 {}

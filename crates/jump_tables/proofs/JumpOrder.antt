@@ -32,7 +32,7 @@ find_is_first p (x ∷ xs) = elim (p x) as (λ b. cond b (Some x) (find p xs) �
 pub stable_keeps : (jumps sorted : List Jump) → IsStableByKey (λ (j : Jump). j.place) place_cmp jumps sorted → HaveSameJumps jumps sorted
 stable_keeps jumps sorted stable = record {
   same = λ place.
-      let probe : Jump = record { place = place; table = place } in
+      let probe : Jump = record { place = place; table = place; named = false } in
       let tied : Jump → Bool = λ j. not (is_lt (place_cmp place j.place)) && not (is_lt (place_cmp j.place place)) in
       let here : Jump → Bool = λ j. same_place j.place place in
       let agree : (j : Jump) → tied j ≡ here j = λ j. tied_is_same place.sec place.off j.place.sec j.place.off in

@@ -3,6 +3,8 @@ mod Order
 mod Kept
 mod Listed
 mod Ascending
+mod Low
+mod Searching
 mod Jumping
 mod JumpOrder
 mod Starting

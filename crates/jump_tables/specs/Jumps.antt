@@ -5,23 +5,29 @@ use Rattle.ot_base.specs.declared.place.Place.{Place}
 use Rattle.ot_base.specs.Places.{is_before, same_place}
 use Rattle.operation_defs.specs.declared.insn.Insn.{Insn}
 use Rattle.x86_text.specs.declared.placed.PlacedInsn.{PlacedInsn}
-use Rattle.x86_text.specs.Code.{code_of}
+use Rattle.x86_text.specs.Code.{Body, code_of}
 use Rattle.elf_objects.specs.Elf.{Elf}
+use Rattle.special_sections.specs.declared.entries.AltEntry.{AltEntry}
 use Rattle.alternatives.specs.declared.texts.SectionText.{SectionText}
 use Rattle.jump_tables.specs.declared.jump.Jump.{Jump}
-use Rattle.jump_tables.specs.Tables.{table_by}
+use Rattle.jump_tables.specs.Tables.{names_table, table_by}
 
--- the jump by a table that an instruction at a place is
-abbrev pub jump_by : Elf → Place → Insn → Option Jump
-jump_by o place insn = option_map (λ table. record { place = place; table = table }) (table_by o place insn.op)
+-- the jump by a table that an instruction of a body is
+abbrev pub jump_by : Elf → List SectionText → List AltEntry → Body → Place → Insn → Option Jump
+jump_by o texts entries body place insn =
+    option_map (λ table. record { place = place; table = table; named = names_table insn.op }) (table_by o texts entries body place insn)
 
--- those among a section's instructions
-abbrev pub jumps_among : Elf → ℕ → List PlacedInsn → List Jump
-jumps_among o sec code = filter_map (λ p. jump_by o (record { sec = sec; off = p.off }) p.insn) code
+-- those among some instructions of a body
+abbrev pub jumps_among : Elf → List SectionText → List AltEntry → Body → ℕ → List PlacedInsn → List Jump
+jumps_among o texts entries body sec code = filter_map (λ p. jump_by o texts entries body (record { sec = sec; off = p.off }) p.insn) code
 
--- those of all text sections
-abbrev pub jumps_of : Elf → List SectionText → List Jump
-jumps_of o texts = flat_map (λ t. jumps_among o t.sec (code_of t.text)) texts
+-- those of some text sections
+abbrev pub jumps_in : Elf → List SectionText → List AltEntry → List SectionText → List Jump
+jumps_in o texts entries list = flat_map (λ t. jumps_among o texts entries t.text t.sec (code_of t.text)) list
+
+-- those of all
+abbrev pub jumps_of : Elf → List SectionText → List AltEntry → List Jump
+jumps_of o texts entries = jumps_in o texts entries texts
 
 -- the first of these at a place
 abbrev pub jump_among : List Jump → Place → Option Jump

@@ -2,13 +2,12 @@
 
 ghost use Rattle.std.specs.Prelude.{◌≡◌, length, IfOk};
 ghost use Rattle.elf_objects.specs.Contents.{relocs_at};
-ghost use Rattle.alternatives.specs.Texts.{AscendBySection};
 ghost use Rattle.jump_tables.specs.Tables.{entries_for as entries_of_table_for, table_entry_at as entry_of_table};
 ghost use Rattle.jump_tables.specs.Kept.{entry_for, kept_for, AreByPlace, AreStarts, AreTables, IsTableFrom};
 
+use crate::code::Code;
 use crate::entry::table_entry_at;
 use crate::owner::{is_same_owner, owner_at};
-use alternatives::SectionText;
 use ot_base::{NoMemory, Place};
 use std::alloc::Global;
 use symbols_relocs::Index;
@@ -49,20 +48,18 @@ fn count_relocs(index: &Index<'_, '_>, sec: u32) -> u32
 
 /// Entry `i` of a table, where its owner is the one that is asked for.
 fn entry_of(
-    index: &Index<'_, '_>,
-    texts: &[SectionText<'_>],
+    code: &Code<'_, '_, '_, '_>,
     starts: &[Place],
     table: Place,
     owner: Option<u32>,
     i: u32,
 ) -> Option<Place>
-    requires ascending { AscendBySection texts.now }
     requires sorted { AreByPlace starts.now }
-    requires all { AreStarts index.now.elf texts.now starts.now }
-    ensures { result ≡ entry_for index.now.elf owner (entry_of_table index.now.elf texts.now table i) }
+    requires all { AreStarts code.now.index.now.elf code.now.texts.now code.now.sites.now.entries starts.now }
+    ensures { result ≡ entry_for code.now.index.now.elf owner (entry_of_table code.now.index.now.elf code.now.texts.now code.now.sites.now.entries table i) }
 {
-    let entry = table_entry_at(index, texts, starts, table, i)?;
-    if is_same_owner(owner_at(index, entry), owner) {
+    let entry = table_entry_at(code, starts, table, i)?;
+    if is_same_owner(owner_at(code.index, entry), owner) {
         Some(entry)
     } else {
         None
@@ -72,20 +69,18 @@ fn entry_of(
 /// The entries for an owner of the table that begins at a place.
 fn list_entries(
     alloc: Global,
-    index: &Index<'_, '_>,
-    texts: &[SectionText<'_>],
+    code: &Code<'_, '_, '_, '_>,
     starts: &[Place],
     table: Place,
     owner: Option<u32>,
 ) -> Result<Vec<Place>, NoMemory>
-    requires ascending { AscendBySection texts.now }
     requires sorted { AreByPlace starts.now }
-    requires all { AreStarts index.now.elf texts.now starts.now }
-    ensures { IfOk result (λ list. list.items ≡ entries_of_table_for index.now.elf texts.now table owner) }
+    requires all { AreStarts code.now.index.now.elf code.now.texts.now code.now.sites.now.entries starts.now }
+    ensures { IfOk result (λ list. list.items ≡ entries_of_table_for code.now.index.now.elf code.now.texts.now code.now.sites.now.entries table owner) }
 {
     let mut list = Vec::new(alloc);
-    for i in 0..count_relocs(index, table.sec) {
-        let Some(entry) = entry_of(index, texts, starts, table, owner, i) else {
+    for i in 0..count_relocs(code.index, table.sec) {
+        let Some(entry) = entry_of(code, starts, table, owner, i) else {
             return Ok(list);
         };
         list.push(entry)?;
@@ -96,42 +91,38 @@ fn list_entries(
 /// What is kept of the table that begins at a place.
 fn read_table(
     alloc: Global,
-    index: &Index<'_, '_>,
-    texts: &[SectionText<'_>],
+    code: &Code<'_, '_, '_, '_>,
     starts: &[Place],
     start: Place,
 ) -> Result<Table, NoMemory>
-    requires ascending { AscendBySection texts.now }
     requires sorted { AreByPlace starts.now }
-    requires all { AreStarts index.now.elf texts.now starts.now }
-    ensures { IfOk result (IsTableFrom index.now.elf texts.now start) }
+    requires all { AreStarts code.now.index.now.elf code.now.texts.now code.now.sites.now.entries starts.now }
+    ensures { IfOk result (IsTableFrom code.now.index.now.elf code.now.texts.now code.now.sites.now.entries start) }
 {
-    let Some(first) = table_entry_at(index, texts, starts, start, 0) else {
+    let Some(first) = table_entry_at(code, starts, start, 0) else {
         return Ok(Table {
             owner: None,
             entries: Vec::new(alloc),
         });
     };
-    let owner = owner_at(index, first);
-    let entries = list_entries(alloc, index, texts, starts, start, owner)?;
+    let owner = owner_at(code.index, first);
+    let entries = list_entries(alloc, code, starts, start, owner)?;
     Ok(Table { owner, entries })
 }
 
 /// What is kept of each of the tables that begin at these places.
 pub(crate) fn list_tables(
     alloc: Global,
-    index: &Index<'_, '_>,
-    texts: &[SectionText<'_>],
+    code: &Code<'_, '_, '_, '_>,
     starts: &[Place],
 ) -> Result<Vec<Table>, NoMemory>
-    requires ascending { AscendBySection texts.now }
     requires sorted { AreByPlace starts.now }
-    requires all { AreStarts index.now.elf texts.now starts.now }
-    ensures { IfOk result (λ tables. AreTables index.now.elf texts.now starts.now tables.items) }
+    requires all { AreStarts code.now.index.now.elf code.now.texts.now code.now.sites.now.entries starts.now }
+    ensures { IfOk result (λ tables. AreTables code.now.index.now.elf code.now.texts.now code.now.sites.now.entries starts.now tables.items) }
 {
     let mut tables = Vec::with_capacity(alloc, starts.len())?;
     for start in starts {
-        tables.push(read_table(alloc, index, texts, starts, *start)?)?;
+        tables.push(read_table(alloc, code, starts, *start)?)?;
     }
     Ok(tables)
 }

@@ -1,16 +1,17 @@
 //! The tables of all jumps.
 
 ghost use Rattle.std.specs.Prelude.{◌≡◌, ℕ, Option, IfOk};
-ghost use Rattle.ot_base.specs.declared.place.Place.{Place};
+ghost use Rattle.alternatives.specs.declared.point.Point.{Point};
 ghost use Rattle.alternatives.specs.Texts.{AscendBySection};
 ghost use Rattle.jump_tables.specs.Kept.{start_in, table_in};
 ghost use Rattle.jump_tables.specs.Tables.{jump_table, table_of};
 
-use crate::jump::{Jump, find_jump, list_jumps, sort_jumps};
+use crate::code::Code;
+use crate::jump::{Jump, find_jump, list_jumps, sort_jumps, start_at};
 use crate::places::find_first;
 use crate::starts::list_starts;
 use crate::table::{Table, list_tables};
-use alternatives::SectionText;
+use alternatives::{Point, SectionText, Sites};
 use ot_base::{NoMemory, Place};
 use std::alloc::Global;
 use std::marker::Model;
@@ -45,14 +46,20 @@ impl JumpTables {
         alloc: Global,
         index: &Index<'_, '_>,
         texts: &[SectionText<'_>],
+        sites: &Sites,
     ) -> Result<JumpTables, NoMemory>
         requires { AscendBySection texts.now }
-        ensures tables { IfOk result (λ tables. (place : Place) (owner : Option ℕ) → table_in tables place owner ≡ table_of index.now.elf texts.now place owner) }
-        ensures starts { IfOk result (λ tables. (place : Place) → start_in tables place ≡ jump_table index.now.elf texts.now place) }
+        ensures tables { IfOk result (λ tables. (point : Point) (owner : Option ℕ) → table_in tables point owner ≡ table_of index.now.elf texts.now sites.now.entries point owner) }
+        ensures starts { IfOk result (λ tables. (point : Point) → start_in tables point ≡ jump_table index.now.elf texts.now sites.now.entries point) }
     {
-        let mut jumps = list_jumps(alloc, index, texts)?;
+        let code = Code {
+            index,
+            texts,
+            sites,
+        };
+        let mut jumps = list_jumps(alloc, &code)?;
         let starts = list_starts(alloc, &jumps)?;
-        let tables = list_tables(alloc, index, texts, &starts)?;
+        let tables = list_tables(alloc, &code, &starts)?;
         sort_jumps(&mut jumps)?;
         Ok(JumpTables {
             jumps,
@@ -61,29 +68,30 @@ impl JumpTables {
         })
     }
 
-    /// The entries of the table of the indirect jump at a place, for a point of an owner.
+    /// The entries of the table of the jump at a point, for an owner.
     ///
     /// The owner is told by its symbol, the [`sym`](symbols_relocs::Function::sym) of its function, or None
     /// for a point of no function. A plain point has the owner of its place, a point of a replacement that
-    /// of the address at which it runs. It is empty where no jump by a table begins at the place, where its
+    /// of the address at which it runs. It is empty where no jump by a table begins at the point, where its
     /// table isn't recognised, and where the table's first entry has another owner. It takes no memory.
-    pub fn of(&self, place: Place, owner: Option<u32>) -> &[Place]
-        ensures { result.now ≡ table_in self.now place owner }
+    pub fn of(&self, point: Point, owner: Option<u32>) -> &[Place]
+        ensures { result.now ≡ table_in self.now point owner }
     {
-        let Some(jump) = find_jump(&self.jumps, place) else {
+        let Some(start) = self.start_of(point) else {
             return &[];
         };
-        let Some(at) = find_first(&self.starts, jump.table) else {
+        let Some(at) = find_first(&self.starts, start) else {
             return &[];
         };
         self.tables[at].entries_for(owner)
     }
 
-    /// Where the table begins that the jump at a place names; None where no jump by a table begins there.
-    pub fn start_of(&self, place: Place) -> Option<Place>
-        ensures { result ≡ start_in self.now place }
+    /// Where the table begins of the jump at a point; None where no jump by a table begins there. In a replacement
+    /// only a jump that itself names its table has one.
+    pub fn start_of(&self, point: Point) -> Option<Place>
+        ensures { result ≡ start_in self.now point }
     {
-        let jump = find_jump(&self.jumps, place)?;
-        Some(jump.table)
+        let jump = find_jump(&self.jumps, point.place)?;
+        start_at(&jump, point.variant)
     }
 }

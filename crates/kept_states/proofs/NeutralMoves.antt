@@ -2,7 +2,7 @@
 use Rattle.std.proofs.Common.{◌≡◌, Bool, true, Option, [], ◌∷◌, Ok, refl}
 use Rattle.std.specs.Prelude.{ℤ}
 use Rattle.operation_defs.specs.declared.op.Op.{Op}
-use Rattle.operation_defs.specs.declared.op.Op.TheVariants.{Push, PushBp, Pop, PopBp, Popf, AddSp, AndSp, LeaSpBp, LeaBpSp, StoreBp, LoadBp, Leave, SpOther, BpOther, IretNext}
+use Rattle.operation_defs.specs.declared.op.Op.TheVariants.{Push, PushBp, Pop, PopBp, Popf, AddSp, AndSp, LeaSpBp, LeaBpSp, LeaBpRoom, SubSp, SpReg, StoreBp, LoadBp, Leave, SpOther, BpOther, Hop, IretNext}
 use Rattle.state_defs.specs.declared.state.Depth.{Depth}
 use Rattle.state_defs.specs.declared.state.BpHome.{BpHome}
 use Rattle.state_defs.specs.declared.state.State.{State}
@@ -24,6 +24,10 @@ live_stays depth fp home PopBp h e = absurd (let z : ⊥ = cc in z)
 live_stays depth fp home (AndSp mask) h e = absurd (let z : ⊥ = cc in z)
 live_stays depth fp home (LeaSpBp by) h e = absurd (let z : ⊥ = cc in z)
 live_stays depth fp home (LeaBpSp by) h e = absurd (let z : ⊥ = cc in z)
+live_stays depth fp home (LeaBpRoom by) h e = absurd (let z : ⊥ = cc in z)
+live_stays depth fp home SubSp h e = absurd (let z : ⊥ = cc in z)
+live_stays depth fp home SpReg h e = absurd (let z : ⊥ = cc in z)
+live_stays depth fp home Hop h e = absurd (let z : ⊥ = cc in z)
 live_stays depth fp home (StoreBp at) h e = absurd (let z : ⊥ = cc in z)
 live_stays depth fp home (LoadBp at) h e = absurd (let z : ⊥ = cc in z)
 live_stays depth fp home Leave h e = absurd (let z : ⊥ = cc in z)
@@ -40,6 +44,10 @@ regs_stay full depth Popf h e = absurd (let z : ⊥ = cc in z)
 regs_stay full depth (AddSp by) h e = absurd (let z : ⊥ = cc in z)
 regs_stay full depth PopBp h e = absurd (let z : ⊥ = cc in z)
 regs_stay full depth (LeaBpSp by) h e = absurd (let z : ⊥ = cc in z)
+regs_stay full depth (LeaBpRoom by) h e = absurd (let z : ⊥ = cc in z)
+regs_stay full depth SubSp h e = absurd (let z : ⊥ = cc in z)
+regs_stay full depth SpReg h e = absurd (let z : ⊥ = cc in z)
+regs_stay full depth Hop h e = absurd (let z : ⊥ = cc in z)
 regs_stay full depth (LoadBp at) h e = absurd (let z : ⊥ = cc in z)
 regs_stay full depth BpOther h e = absurd (let z : ⊥ = cc in z)
 regs_stay full depth (AndSp mask) h e = absurd (let z : ⊥ = cc in z)

@@ -23,6 +23,7 @@ pub fn is_neutral(op: Op) -> bool
         | Op::Stac
         | Op::Clac => true,
         Op::Push
+        | Op::Hop
         | Op::PushBp
         | Op::Pop
         | Op::PopBp
@@ -31,6 +32,9 @@ pub fn is_neutral(op: Op) -> bool
         | Op::AndSp { .. }
         | Op::LeaSpBp { .. }
         | Op::LeaBpSp { .. }
+        | Op::LeaBpRoom { .. }
+        | Op::SubSp
+        | Op::SpReg
         | Op::StoreBp { .. }
         | Op::LoadBp { .. }
         | Op::Leave

@@ -1,8 +1,8 @@
 pub mod KeptLemmas
 pub mod WorkedRun
-pub mod WorkedBytes
 pub mod WorkedSteps
 pub mod WorkedWrecks
 pub mod WorkedHints
+pub mod WorkedWays
 pub mod WorkedWarnings
-pub mod WorkedEffects
+pub mod WorkedAccess

@@ -12,7 +12,7 @@ use Rattle.machine_defs.specs.Step.{goes_on}
 use Rattle.machine_defs.specs.Run.{outermost, MayStart, WasCalled, at_call_hint, at_regs_hint, at_end_hint, Run, started, stepped}
 use Rattle.machine_defs.specs.WorkedSteps.{base}
 use Rattle.machine_defs.specs.WorkedHints.{hinted, registers, at_hint, called, mark, RunsFromHints}
-use Rattle.machine_defs.proofs.WorkedBytes.{are_bytes, one, three}
+use Rattle.state_defs.proofs.WorkedBytes.{are_bytes, one, three}
 
 in_registers : (rsp : ℕ) (frames : List Frame) → 0x8000 ≤ rsp → rsp ≤ 0x80A8 → IsInStack (record { rsp = rsp; rbp = 0; region = registers; ac = false; shadow = frames })
 in_registers rsp frames low high = record { rbp = lit< tt; region = record { below_end = lit< tt; bytes = are_bytes registers.bytes refl }; above_lo = low; below_hi = high }

@@ -9,7 +9,7 @@ use Rattle.machine_defs.specs.Hint.{Lands}
 use Rattle.machine_defs.specs.Step.{IsGate, sibling, Step, goes_on, faults, calls_in, calls_out, returns, tail_calls, interrupted, irets, interrupt_frame}
 use Rattle.machine_defs.specs.Run.{at_entry, Run, started, stepped}
 use Rattle.machine_defs.specs.WorkedSteps.{stepping, base, stack, frame_of_f, frame_of_g, at_call, at_push, at_pop, at_gate, at_return, in_f, TakesEachStep}
-use Rattle.machine_defs.proofs.WorkedBytes.{are_bytes, five, stays, stores_nothing}
+use Rattle.state_defs.proofs.WorkedBytes.{are_bytes, five, stays, stores_nothing}
 
 -- rsp is in the stack
 in_stack : (rsp : ℕ) (frames : List Frame) → 0x7FC8 ≤ rsp → rsp ≤ 0x8010 → IsInStack (record { rsp = rsp; rbp = 0; region = stack; ac = false; shadow = frames })
@@ -82,6 +82,8 @@ comes_back = returns at_return (in_f 1) (in_f 1) (record {
   call = 0;
   called = refl;
   passed = refl;
+  unlisted = refl;
+  still_ended = λ e. absurd (let k : ⊥ = cc in k);
   comes_back = (0, lit< tt, refl);
   memory = refl;
   core = refl;
@@ -96,7 +98,7 @@ goes_to_fixup : Step stepping base (At (in_f 2)) (At (in_f 4))
 goes_to_fixup = faults (in_f 2) (in_f 4) (in_f 4) (record { along = (1, lit< tt, refl); stores = stores_nothing stack _; core = refl; level = record { ended = refl; mark = refl } }) refl
 
 jumps : Step stepping base (At (in_f 4)) (At (in_f 5))
-jumps = tail_calls (in_f 4) (in_f 5) (in_f 5) (record { target = sibling 5 (0, lit< tt, refl); core = refl; level = record { ended = refl; mark = refl } }) refl
+jumps = tail_calls (in_f 4) (in_f 5) (in_f 5) (record { target = sibling 5 (0, lit< tt, refl); followed = refl; core = refl; level = record { ended = refl; mark = refl } }) refl
 
 -- one run takes all of them, one behind the other
 next : (one other : Standing) → Run stepping base (At one) → Step stepping base (At one) (At other) → IsInStack other.core → Run stepping base (At other)

@@ -78,20 +78,20 @@ unfolding deep
 warns = record {
   bad_target = broken.bad_target 0 initial (0, refl) refl;
   falls_through = broken.falls_through 1 2 initial (0, refl) (0, lit< tt, refl) other_owner;
-  runs_off = broken.runs_off 2 initial (0, refl) refl;
+  runs_off = broken.runs_off 2 initial (0, refl) refl (λ none. refl);
   mismatch = broken.mismatch 3 4 initial pushed initial (0, refl) (0, lit< tt, refl) (0, refl) refl other_state;
   modified_return = broken.modified_return 5 pushed (0, refl) refl refl;
   drops_bytes = broken.drops_bytes 6 initial (0, refl) refl refl (λ e. let k : ⊥ = cc in k);
   modified_sibling = broken.modified_sibling 7 pushed (0, refl) (sibling 4 (0, lit< tt, refl)) refl;
   modified_outside = broken.modified_sibling 8 pushed (0, refl) (outside 1 refl) refl;
   modified_anywhere = broken.modified_sibling 9 pushed (0, refl) (anywhere refl) refl;
-  refused = broken.refused 10 UNSUPPORTED_SP_WRITE initial (0, refl) refl;
+  refused = broken.refused 10 UNSUPPORTED_SP_WRITE initial (0, refl) refl (λ same. refl);
   unfit = broken.unfit 11 deep (pos 40000) (0, refl) refl;
   variants_disagree = broken.variants_disagree one_byte 13 12 pushed initial replaced_byte plain_byte refl other_row;
   call_disagrees = broken.call_disagrees five_bytes 16 15 initial pushed call_in_site refl in_force other_row;
   into_site = broken.into_site 17 initial (0, refl) refl;
-  unallowed_return = broken.unallowed_return 18 over_words (0, refl) refl refl;
-  unallowed_sibling = broken.unallowed_sibling 19 over_words (0, refl) (anywhere refl) refl;
+  unallowed_return = broken.unallowed_return 18 over_words (0, refl) refl refl refl;
+  unallowed_sibling = broken.unallowed_sibling 19 over_words (0, refl) (anywhere refl) refl refl;
   unallowed_switch = broken.unallowed_switch 20 initial (0, refl) refl refl;
   unallowed_iret = broken.unallowed_iret 21 initial (0, refl) refl refl;
   into_function = broken.into_function 22 initial (0, refl) refl;

@@ -11,11 +11,11 @@ less_differs a b h e = omega arith
 
 pub wrecks_each_way : WrecksEachWay
 wrecks_each_way = record {
-  no_return = wrecks (over_words 0 []) (wrong_return refl step.no_return);
-  return_in_interrupt = wrecks (over_words 0 (of_interrupt 0 0x8008 0)) (wrong_return refl (step.return_in_interrupt (outermost 0 0x8008 0 (PartialAt 0x8000) false) [] refl));
-  other_return = wrecks (over_words 0 (of_call 1 0x8008 0)) (wrong_return refl (step.other_return (outermost 1 0x8008 0 Unsaved false) [] 0 refl (less_differs 0 1 (lit< tt))));
-  other_depth = wrecks (over_words 0 (of_call 0 0x8010 0)) (wrong_return refl (step.other_depth (outermost 0 0x8010 0 Unsaved false) [] (less_differs 0x8000 0x8008 (lit< tt))));
-  other_rbp = wrecks (over_words 0 (of_call 0 0x8008 1)) (wrong_return refl (step.other_rbp (outermost 0 0x8008 1 Unsaved false) [] (less_differs 0 1 (lit< tt))));
+  no_return = wrecks (over_words 0 []) (wrong_return refl refl step.no_return);
+  return_in_interrupt = wrecks (over_words 0 (of_interrupt 0 0x8008 0)) (wrong_return refl refl (step.return_in_interrupt (outermost 0 0x8008 0 (PartialAt 0x8000) false) [] refl));
+  other_return = wrecks (over_words 0 (of_call 1 0x8008 0)) (wrong_return refl refl (step.other_return (outermost 1 0x8008 0 Unsaved false) [] 0 refl (less_differs 0 1 (lit< tt))));
+  other_depth = wrecks (over_words 0 (of_call 0 0x8010 0)) (wrong_return refl refl (step.other_depth (outermost 0 0x8010 0 Unsaved false) [] (less_differs 0x8000 0x8008 (lit< tt))));
+  other_rbp = wrecks (over_words 0 (of_call 0 0x8008 1)) (wrong_return refl refl (step.other_rbp (outermost 0 0x8008 1 Unsaved false) [] (less_differs 0 1 (lit< tt))));
   no_interrupt = wrecks (over_words 1 []) (wrong_iret refl refl step.no_interrupt);
   iret_in_call = wrecks (over_words 1 (of_call 0 0x8040 0)) (wrong_iret refl refl (step.iret_in_call (outermost 0 0x8040 0 Unsaved false) [] refl));
   other_address = wrecks (over_words 1 (of_interrupt 1 0x8040 0)) (wrong_iret refl refl (step.other_address (outermost 1 0x8040 0 (PartialAt 0x8000) false) [] 0 refl (less_differs 0 1 (lit< tt))));
@@ -25,5 +25,5 @@ wrecks_each_way = record {
   bad_target = wrecks (over_words 3 (of_call 0 0x8008 0)) (step.bad_target refl);
   into_site = wrecks (over_words 4 (of_call 0 0x8008 0)) (step.into_site refl);
   into_function = wrecks (over_words 5 (of_call 0 0x8008 0)) (step.into_function refl);
-  past_end = wrecks (over_words 6 (of_call 0 0x8008 0)) (step.past_end refl);
+  past_end = wrecks (over_words 6 (of_call 0 0x8008 0)) (step.past_end refl (λ none. refl));
 }

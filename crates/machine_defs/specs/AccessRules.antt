@@ -1,6 +1,6 @@
 -- The rules of user access (41 to 47; Linux 6.6, tools/objtool/Documentation/objtool.txt, "redundant UACCESS disable" and those
 -- beside it), as the set of their warnings.
-use Rattle.std.specs.Prelude.{◌≡◌, ℕ, Bool, true, false, Some, Contains, ℤ, pos, negsuc}
+use Rattle.std.specs.Prelude.{◌≡◌, ℕ, Bool, true, false, Option, Some, None, Contains, ℤ, pos, negsuc}
 use Rattle.ot_base.specs.declared.place.Place.{Place}
 use Rattle.ot_base.specs.declared.rules.TheConstants.{CALL_WITH_ACCESS, RETURN_WITH_ACCESS, RETURN_WITHOUT_ACCESS, ACCESS_ON_TWICE, ACCESS_OFF_TWICE, SAFE_FUNCTION_ACCESS_OFF, POPF_WITH_ACCESS_TRACKED}
 use Rattle.operation_defs.specs.declared.op.Op.TheVariants.{Stac, Clac, Popf}
@@ -12,15 +12,20 @@ use Rattle.machine_defs.specs.Broken.{LeavesByJump}
 use Rattle.machine_defs.specs.Allowances.{Allowances, is_safe}
 use Rattle.machine_defs.specs.Access.{Reached}
 
+-- the number of a function, or -1 where there is none
+abbrev pub function_number : Option ℕ → ℤ
+function_number None = negsuc 0
+function_number (Some function) = pos function
+
 -- the point calls, or jumps to another function, where the callee is told by this number: the function of an entry that isn't
--- safe, or a symbol outside whose name isn't listed, or -1 for an indirect target
+-- safe (-1 for code of no function), or a symbol outside whose name isn't listed, or -1 for an indirect target
 pub data CallsUnsafe (p : Program) (allowed : Allowances) (q : ℕ) : ℤ → Type 0 where
-  inside : (entry function : ℕ) → p.role q ≡ CallIn entry → is_safe p allowed entry ≡ false → p.function entry ≡ Some function → CallsUnsafe p allowed q (pos function)
-  weak_inside : (entry sym function : ℕ) → p.role q ≡ CallEither entry sym → is_safe p allowed entry ≡ false → p.function entry ≡ Some function → CallsUnsafe p allowed q (pos function)
+  inside : (entry : ℕ) → p.role q ≡ CallIn entry → is_safe p allowed entry ≡ false → CallsUnsafe p allowed q (function_number (p.function entry))
+  weak_inside : (entry sym : ℕ) → p.role q ≡ CallEither entry sym → is_safe p allowed entry ≡ false → CallsUnsafe p allowed q (function_number (p.function entry))
   weak_outside : (entry sym : ℕ) → p.role q ≡ CallEither entry sym → allowed.safe_name sym ≡ false → CallsUnsafe p allowed q (pos sym)
   outside : (sym : ℕ) → p.role q ≡ CallOut sym → allowed.safe_name sym ≡ false → CallsUnsafe p allowed q (pos sym)
   jumps_outside : (sym : ℕ) → p.role q ≡ JumpOut sym → allowed.safe_name sym ≡ false → CallsUnsafe p allowed q (pos sym)
-  tail_call : (r function : ℕ) → Contains (edges_of p q) (edge r Sibling) → is_safe p allowed r ≡ false → p.function r ≡ Some function → CallsUnsafe p allowed q (pos function)
+  tail_call : (r : ℕ) → Contains (edges_of p q) (edge r Sibling) → is_safe p allowed r ≡ false → CallsUnsafe p allowed q (function_number (p.function r))
   indirect : p.role q ≡ CallAny → CallsUnsafe p allowed q (negsuc 0)
   jumps_anywhere : p.role q ≡ JumpAny → CallsUnsafe p allowed q (negsuc 0)
 

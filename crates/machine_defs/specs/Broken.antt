@@ -1,9 +1,9 @@
 -- The rules of stack validation, as the set of their warnings. A warning is a place, a rule's number
 -- and two numbers, which are 0 where the rule tells none.
-use Rattle.std.specs.Prelude.{◌≡◌, ◌≢◌, ℕ, ◌+◌, ◌-◌, ◌<◌, ◌≤◌, ◌⊎◌, ◌↔◌, Bool, true, false, Some, Err, Contains, ℤ, pos}
+use Rattle.std.specs.Prelude.{◌≡◌, ◌≢◌, ℕ, ◌+◌, ◌-◌, ◌<◌, ◌≤◌, ◌⊎◌, ◌↔◌, Bool, true, false, Some, None, Err, Contains, ℤ, pos}
 use Rattle.ot_base.specs.declared.place.Place.{Place}
 use Rattle.ot_base.specs.declared.options.Options.{Options}
-use Rattle.ot_base.specs.declared.rules.TheConstants.{BAD_BRANCH_TARGET, FALLS_THROUGH, RUNS_OFF_SECTION, STATE_MISMATCH, MODIFIED_RETURN, MODIFIED_SIBLING_CALL, OFFSET_OUT_OF_RANGE, ALTERNATIVES_DISAGREE, JUMP_INTO_SITE, UNREACHABLE_INSTRUCTION, EXIT_NOT_ALLOWED, CALL_INTO_FUNCTION, FUNCTION_WITHOUT_SIZE, RESTORE_WITHOUT_SAVE, RELOCATED_STACK_OFFSET, CALL_WITHOUT_FRAME}
+use Rattle.ot_base.specs.declared.rules.TheConstants.{BAD_BRANCH_TARGET, FALLS_THROUGH, RUNS_OFF_SECTION, STATE_MISMATCH, MODIFIED_RETURN, MODIFIED_SIBLING_CALL, UNSUPPORTED_SP_WRITE, OFFSET_OUT_OF_RANGE, ALTERNATIVES_DISAGREE, JUMP_INTO_SITE, UNREACHABLE_INSTRUCTION, EXIT_NOT_ALLOWED, CALL_INTO_FUNCTION, FUNCTION_WITHOUT_SIZE, RESTORE_WITHOUT_SAVE, RELOCATED_STACK_OFFSET, CALL_WITHOUT_FRAME}
 use Rattle.operation_defs.specs.declared.op.Op.{Op}
 use Rattle.operation_defs.specs.declared.op.Op.TheVariants.{Nop, RetImm, Iret, Switch, Ud2, Int3}
 use Rattle.machine_defs.specs.declared.flow.Edge.{Edge}
@@ -15,6 +15,7 @@ use Rattle.state_defs.specs.Move.{move}
 use Rattle.state_defs.specs.Row.{row_of, unfit_offset}
 use Rattle.state_defs.specs.Rules.{is_followed, return_rule, sibling_rule, switch_rule, iret_rule, call_rule, depth_number}
 use Rattle.machine_defs.specs.Program.{Program, IsPoint, Site, in_site, entry_points, is_call_op, edge}
+use Rattle.machine_defs.specs.Ways.{is_before_hint, may_leave}
 use Rattle.machine_defs.specs.IsProgram.{IsProgram, HintsStandAtPoints}
 use Rattle.machine_defs.specs.Kept.{edges_of, Brings, is_free, Kept, NotKept, Path}
 
@@ -57,8 +58,8 @@ pub data Warns (p : Program) : Place → ℕ → ℤ → ℤ → Type 0 where
   bad_target : (q : ℕ) (s : State) → Kept p q s → (p.marks q).bad ≡ true → Warns p (p.place q) BAD_BRANCH_TARGET (pos 0) (pos 0)
   -- 2. the next instruction is of another function
   falls_through : (q r : ℕ) (s : State) → Kept p q s → Contains (edges_of p q) (edge r Next) → p.owner r ≢ p.owner q → Warns p (p.place q) FALLS_THROUGH (pos 0) (pos 0)
-  -- 3. there is a next instruction, and it is past the section's end
-  runs_off : (q : ℕ) (s : State) → Kept p q s → (p.marks q).past_end ≡ true → Warns p (p.place q) RUNS_OFF_SECTION (pos 0) (pos 0)
+  -- 3. there is a next instruction, and it is past the section's end; code of no function may run off where the stack has ended
+  runs_off : (q : ℕ) (s : State) → Kept p q s → (p.marks q).past_end ≡ true → (p.owner q ≡ None → is_followed s ≡ true) → Warns p (p.place q) RUNS_OFF_SECTION (pos 0) (pos 0)
   -- 4. an edge brings to a kept point another state than the one that is kept there; the place is that point's
   mismatch : (q r : ℕ) (s t u : State) → Kept p q s → Brings p q s r t → Kept p r u → is_free (p.hint r) ≡ true → t ≢ u → Warns p (p.place r) STATE_MISMATCH (depth_number u) (depth_number t)
   -- 5. it returns with a modified stack, or drops bytes as it returns
@@ -66,8 +67,8 @@ pub data Warns (p : Program) : Place → ℕ → ℤ → ℤ → Type 0 where
   drops_bytes : (q : ℕ) (s : State) → Kept p q s → p.role q ≡ Return → (p.insn q).op ≡ RetImm → return_rule s ≢ Some EXIT_NOT_ALLOWED → Warns p (p.place q) MODIFIED_RETURN (depth_number s) (pos 0)
   -- 6. it goes to another function, by a jump, a static branch or a fixup, with a modified stack
   modified_sibling : (q : ℕ) (s : State) → Kept p q s → LeavesByJump p q → sibling_rule s ≡ Some MODIFIED_SIBLING_CALL → Warns p (p.place q) MODIFIED_SIBLING_CALL (depth_number s) (pos 0)
-  -- 7, 8, 9, 10, 11, 15. the operation breaks the rule in its state
-  refused : (q rule : ℕ) (s : State) → Kept p q s → move s (p.insn q).op ≡ Err rule → Warns p (p.place q) rule (pos 0) (pos 0)
+  -- 7, 8, 9, 10, 11, 15. the operation breaks the rule in its state; rsp may be written in any way right before a hint
+  refused : (q rule : ℕ) (s : State) → Kept p q s → move s (p.insn q).op ≡ Err rule → (rule ≡ UNSUPPORTED_SP_WRITE → is_before_hint p q ≡ false) → Warns p (p.place q) rule (pos 0) (pos 0)
   -- 10. an offset of the state's row doesn't fit
   unfit : (q : ℕ) (s : State) (a : ℤ) → Kept p q s → unfit_offset s ≡ Some a → Warns p (p.place q) OFFSET_OUT_OF_RANGE a (pos 0)
   -- 12. two variants of a site have different rows where both have an instruction
@@ -76,12 +77,13 @@ pub data Warns (p : Program) : Place → ℕ → ℤ → ℤ → Type 0 where
   call_disagrees : (site : Site) (q r : ℕ) (s t : State) → KeptInSite p site q s → is_call_op (p.insn q).op ≡ true → IsInForce p site (last_byte p q) r t → row_of t ≢ row_of s → Warns p site.start ALTERNATIVES_DISAGREE (pos (offset_in site (last_byte p q))) (pos 0)
   -- 13. a target lies inside a site, of whose original code it isn't
   into_site : (q : ℕ) (s : State) → Kept p q s → (p.marks q).into_site ≡ true → Warns p (p.place q) JUMP_INTO_SITE (pos 0) (pos 0)
-  -- 15. a return, a way to another function or a context switch stands where it isn't allowed
-  unallowed_return : (q : ℕ) (s : State) → Kept p q s → p.role q ≡ Return → return_rule s ≡ Some EXIT_NOT_ALLOWED → Warns p (p.place q) EXIT_NOT_ALLOWED (pos 0) (pos 0)
-  unallowed_sibling : (q : ℕ) (s : State) → Kept p q s → LeavesByJump p q → sibling_rule s ≡ Some EXIT_NOT_ALLOWED → Warns p (p.place q) EXIT_NOT_ALLOWED (pos 0) (pos 0)
+  -- 15. a return, a way to another function or a context switch stands where it isn't allowed; some code may leave anywhere
+  unallowed_return : (q : ℕ) (s : State) → Kept p q s → p.role q ≡ Return → return_rule s ≡ Some EXIT_NOT_ALLOWED → may_leave p q ≡ false → Warns p (p.place q) EXIT_NOT_ALLOWED (pos 0) (pos 0)
+  unallowed_sibling : (q : ℕ) (s : State) → Kept p q s → LeavesByJump p q → sibling_rule s ≡ Some EXIT_NOT_ALLOWED → may_leave p q ≡ false → Warns p (p.place q) EXIT_NOT_ALLOWED (pos 0) (pos 0)
   unallowed_switch : (q : ℕ) (s : State) → Kept p q s → (p.insn q).op ≡ Switch → switch_rule s ≡ Some EXIT_NOT_ALLOWED → Warns p (p.place q) EXIT_NOT_ALLOWED (pos 0) (pos 0)
   unallowed_iret : (q : ℕ) (s : State) → Kept p q s → (p.insn q).op ≡ Iret → iret_rule s ≡ Some EXIT_NOT_ALLOWED → Warns p (p.place q) EXIT_NOT_ALLOWED (pos 0) (pos 0)
-  -- 16. it calls a place of the object where no checked function is entered, and no unchecked one starts
+  -- 16. it calls a place of the object where no checked function is entered, no unchecked one starts, and which it may not call
+  -- as code of no function may
   into_function : (q : ℕ) (s : State) → Kept p q s → (p.marks q).into_function ≡ true → Warns p (p.place q) CALL_INTO_FUNCTION (pos 0) (pos 0)
   -- 17. a function has no size
   without_size : (place : Place) → Contains p.unsized place → Warns p place FUNCTION_WITHOUT_SIZE (pos 0) (pos 0)
@@ -102,17 +104,16 @@ is_filler Int3 = true
 is_filler Ud2 = true
 is_filler _ = false
 
--- an instruction of a checked function that isn't reached
+-- an instruction that isn't reached: of a checked function, or of no function where patching alone doesn't lead
 pub record IsUnreached (p : Program) (q : ℕ) : Type 0 where
   pub point : IsPoint p q
   pub plain : p.variant q ≡ 0
-  pub function : ℕ
-  pub inside : p.function q ≡ Some function
   pub checked : p.unchecked q ≡ false
+  pub reachable : p.owner q ≡ None → p.in_patches q ≡ false
   pub telling : is_filler (p.insn q).op ≡ false
   pub not_kept : NotKept p q
 
--- the first of some unreached ones: the instruction before it is of another function, or isn't one
+-- The first of some unreached ones: the instruction before it is of another function, or of one where it is of none, or is reached.
 pub record IsFirstUnreached (p : Program) (q : ℕ) : Type 0 where
   pub unreached : IsUnreached p q
   pub first : (r : ℕ) → p.previous q ≡ Some r → p.function r ≡ p.function q → IsUnreached p r → ⊥

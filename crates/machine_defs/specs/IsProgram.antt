@@ -1,6 +1,6 @@
 -- What the unwinding law asks of a program beyond its type. Each of these facts holds of every program
 -- that is read from an object.
-use Rattle.std.specs.Prelude.{◌≡◌, ◌≢◌, ℕ, ◌+◌, ◌<◌, ◌≤◌, ◌↔◌, true, false, Some, None, Contains, AllPairs}
+use Rattle.std.specs.Prelude.{◌≡◌, ◌≢◌, ℕ, ◌+◌, ◌<◌, ◌≤◌, ◌⊎◌, ◌↔◌, true, false, Some, None, Contains, AllPairs}
 use Rattle.ot_base.specs.declared.place.Place.{Place}
 use Rattle.operation_defs.specs.declared.op.Op.TheVariants.{RetImm}
 use Rattle.machine_defs.specs.declared.flow.Edge.{Edge}
@@ -12,7 +12,12 @@ use Rattle.state_defs.specs.declared.state.HintState.TheVariants.{Set}
 use Rattle.state_defs.specs.Effect.{HasSignedNumber}
 use Rattle.state_defs.specs.State.{IsConsistent}
 use Rattle.machine_defs.specs.Program.{Program, TextSection, Site, IsPoint, in_site, entry_points, is_call, is_call_op, edge}
+use Rattle.machine_defs.specs.Ways.{MayCall}
 use Rattle.machine_defs.specs.MayReturn.{MayReturn}
+
+-- what a call inside the program may go to: an entry, or what code of no function may call
+abbrev pub IsCallee : Program → ℕ → ℕ → Type 0
+IsCallee p q entry = Contains p.entries entry ⊎ MayCall p q entry
 
 pub record IsProgram (p : Program) : Type 0 where
   -- edges lead to points, control arrives at points, points follow points, and a RESTORE means a point
@@ -20,14 +25,16 @@ pub record IsProgram (p : Program) : Type 0 where
   pub arrivals : (place : Place) (q : ℕ) → Contains (p.arrive place) q → IsPoint p q
   pub followers : (q r : ℕ) → IsPoint p q → Contains (p.after q) r → IsPoint p r
   pub saves : (q r : ℕ) → IsPoint p q → p.save_of q ≡ Some r → IsPoint p r
+  -- control that comes to a plain point outside sites stands there
+  pub arrives_alone : (q r : ℕ) → IsPoint p q → p.variant q ≡ 0 → ((site : Site) → Contains p.sites site → in_site site (p.place q) ≡ false) → Contains (entry_points p q) r → r ≡ q
   -- an edge from a checked point leads to a checked one, unless it is a Next into code of another owner
   pub checked : (q : ℕ) (e : Edge) → IsPoint p q → p.unchecked q ≡ false → Contains (p.goes q) e → (e.kind ≡ Next → p.owner e.to ≡ p.owner q) → p.unchecked e.to ≡ false
   -- points without owner are checked
   pub unowned : (q : ℕ) → IsPoint p q → p.owner q ≡ None → p.unchecked q ≡ false
-  -- no entry is in an unchecked function, and calls inside the program go to entries
+  -- no entry is in an unchecked function; calls inside the program go to entries, or to what code of no function may call
   pub entries_checked : (entry q : ℕ) → Contains p.entries entry → Contains (entry_points p entry) q → p.unchecked q ≡ false
-  pub calls_entry : (q entry : ℕ) → IsPoint p q → p.role q ≡ CallIn entry → Contains p.entries entry
-  pub calls_weak_entry : (q entry sym : ℕ) → IsPoint p q → p.role q ≡ CallEither entry sym → Contains p.entries entry
+  pub calls_entry : (q entry : ℕ) → IsPoint p q → p.role q ≡ CallIn entry → IsCallee p q entry
+  pub calls_weak_entry : (q entry sym : ℕ) → IsPoint p q → p.role q ≡ CallEither entry sym → IsCallee p q entry
   -- tail calls go to entries
   pub siblings : (q r : ℕ) → IsPoint p q → Contains (p.goes q) (edge r Sibling) → (entry : ℕ) × Contains p.entries entry × Contains (entry_points p entry) r
   -- the role of a call is that of a call instruction; the points that follow one which execution passes

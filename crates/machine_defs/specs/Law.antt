@@ -8,7 +8,7 @@ use Rattle.state_defs.specs.State.{ended_by, MeansTop}
 use Rattle.machine_defs.specs.Program.{Program, IsPoint, is_call}
 use Rattle.machine_defs.specs.Machine.{Bases, IsPlacement, IsOutside, Standing, Machine, Wrecked, At, point_address, return_address}
 use Rattle.machine_defs.specs.Run.{Run}
-use Rattle.machine_defs.specs.MayReturn.{target_may_return}
+use Rattle.machine_defs.specs.MayReturn.{is_listed, target_may_return}
 use Rattle.machine_defs.specs.Kept.{Kept}
 use Rattle.machine_defs.specs.Broken.{IsAccepted}
 use Rattle.machine_defs.specs.IsProgram.{IsProgram}
@@ -34,11 +34,11 @@ pub record IsCallKept (p : Program) (call : ℕ) (f : Frame) (fs : List Frame) :
   pub means : MeansTop state f.cfa f.bp fs
   pub slots : LieAbove f.cfa (listed f.ended_caller fs)
 
--- Second part: past a call to which control may come back, the call may return. (A point where a frame
--- stands from which no return comes needs none of this.)
+-- Second part: past a call to which control may come back, the call may return. (It doesn't come back to a dead end or a listed
+-- call; and a point where a frame stands from which no return comes needs none of this.)
 abbrev pub CallReturns : Program → ℕ → ℕ → Type 0
 CallReturns p call standing =
-    (p.dead_end call ≡ true) ⊎ ((target_may_return p (p.role call) ≡ true) ⊎ (p.may_return standing ≡ false))
+    (p.dead_end call ≡ true) ⊎ ((is_listed p (p.role call) ≡ true) ⊎ ((target_may_return p (p.role call) ≡ true) ⊎ (p.may_return standing ≡ false)))
 
 -- the frames as they were at a mark
 abbrev pub marked : Option Slot → List Frame → List Frame

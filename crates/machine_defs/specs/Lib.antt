@@ -1,7 +1,8 @@
 pub mod Program
 pub mod MayReturn
-pub mod IsProgram
 pub mod Kept
+pub mod Ways
+pub mod IsProgram
 pub mod Broken
 pub mod Rows
 pub mod Machine
@@ -11,11 +12,12 @@ pub mod Run
 pub mod Law
 pub mod Worked
 pub mod WorkedSteps
-pub mod WorkedEffects
 pub mod WorkedWrecks
 pub mod WorkedHints
+pub mod WorkedWays
 pub mod WorkedWarnings
 pub mod Allowances
 pub mod Access
 pub mod AccessRules
 pub mod Asked
+pub mod WorkedAccess

@@ -30,8 +30,10 @@ pub record Program : Type 0 where
   -- one padding point more: a Nop over the rest of the site, which has no hint, static branch, exception entry
   -- or mark of a list, whatever the object says of its place.
   pub count : ℕ
-  -- The instruction of a point: as it is decoded, but that an Iret with an owner is an IretNext where there are
-  -- points after it and all of them have that owner.
+  -- The instruction of a point: its length, and what a program makes of its decoded operation (`made`, in
+  -- `operation_defs`). Premise *ways out come back*: an IRET, or a way out by the system, of which a program makes an
+  -- IretNext or an SpOther, goes on right behind itself, with user access and protected slots as they were; the
+  -- first finds rsp right above the five words that were pushed before it.
   pub insn : ℕ → Insn
   -- Where its bytes stand: of a padding point, the end of its replacement.
   pub place : ℕ → Place
@@ -47,6 +49,9 @@ pub record Program : Type 0 where
   pub owner : ℕ → Option ℕ
   -- Whether its owner is unchecked. Such a point has no edges.
   pub unchecked : ℕ → Bool
+  -- Whether its section holds code to which control comes by patching alone: its name is `.altinstr_replacement` or
+  -- `.altinstr_aux`.
+  pub in_patches : ℕ → Bool
   -- The plain point of the boundary right before a plain point, in its section.
   pub previous : ℕ → Option ℕ
   -- The unwind hint at its place.

@@ -1,8 +1,9 @@
 -- The steps of the stack machine. Where more than one line fits, each is a possible step: an
 -- alternatives site may be in any of its variants, a static branch or an exception entry may be taken
 -- or not, an indirect branch may go to any of its targets, and an interrupt may come anywhere.
-use Rattle.std.specs.Prelude.{◌≡◌, ◌≢◌, ℕ, ◌+◌, ◌-◌, ◌%◌, ◌⊎◌, Bool, true, false, not, List, [], ◌∷◌, Some, None, Contains, IsTrue, pos}
-use Rattle.operation_defs.specs.declared.op.Op.TheVariants.{RetImm, Iret}
+use Rattle.std.specs.Prelude.{◌≡◌, ◌≢◌, ℕ, ◌+◌, ◌-◌, ◌%◌, ◌⊎◌, ◌&&◌, ◌||◌, Bool, true, false, not, List, [], ◌∷◌, Some, None, is_some, Contains, IsTrue, pos, if◌then◌else◌}
+use Rattle.operation_defs.specs.declared.op.Op.{Op}
+use Rattle.operation_defs.specs.declared.op.Op.TheVariants.{SubSp, SpReg, SpOther, RetImm, Iret}
 use Rattle.machine_defs.specs.declared.flow.EdgeKind.{EdgeKind}
 use Rattle.machine_defs.specs.declared.flow.EdgeKind.TheVariants.{Fixup, Sibling}
 use Rattle.machine_defs.specs.declared.flow.Role.{Role}
@@ -14,7 +15,8 @@ use Rattle.state_defs.specs.Region.{Region, Reads, WritesOnly, WritesWord, Store
 use Rattle.state_defs.specs.Frame.{Unsaved, PartialAt, is_of_call, Frame, protected_addresses}
 use Rattle.state_defs.specs.Effect.{Core, StoresOrdinarily, Effect}
 use Rattle.machine_defs.specs.Program.{Program, IsPoint, Site, in_site, entry_points, edge, is_local}
-use Rattle.machine_defs.specs.MayReturn.{may_call_out}
+use Rattle.machine_defs.specs.MayReturn.{is_listed, may_call_out}
+use Rattle.machine_defs.specs.Ways.{is_before_hint, may_leave}
 use Rattle.machine_defs.specs.Machine.{Bases, Standing, Machine, Wrecked, At, point_address, return_address}
 use Rattle.machine_defs.specs.Hint.{Lands}
 
@@ -23,13 +25,25 @@ pub record SameLevel (before after : Standing) : Type 0 where
   pub ended : after.ended ≡ before.ended
   pub mark : after.mark ≡ before.mark
 
+-- what makes room, as any write of rsp
+abbrev pub as_any_write : Op → Op
+as_any_write SubSp = SpOther
+as_any_write SpReg = SpOther
+as_any_write op = op
+
+-- The operation of a point as the machine executes it. Premise *registers make room*: rsp doesn't rise where a register is
+-- subtracted from it, or put into it. It is asked where the stack hasn't ended and no hint follows right behind; elsewhere such an
+-- operation is any write of rsp.
+abbrev pub op_at : Program → Standing → Op
+op_at p s = if is_some s.ended || is_before_hint p s.point then as_any_write (p.insn s.point).op else (p.insn s.point).op
+
 -- 1. An instruction goes on in its function, by an edge Next, Taken or Table, with its effect. A call doesn't: it has
 -- no effect of its own.
 pub record GoesOn (p : Program) (s t : Standing) : Type 0 where
   pub kind : EdgeKind
   pub local : IsTrue (is_local kind)
   pub along : Contains (p.goes s.point) (edge t.point kind)
-  pub effect : Effect (p.insn s.point).op s.core t.core
+  pub effect : Effect (op_at p s) s.core t.core
   pub level : SameLevel s t
 
 -- 2. It faults, and goes to its fixup. Ordinary stores may happen.
@@ -39,12 +53,12 @@ pub record Faults (p : Program) (s t : Standing) : Type 0 where
   pub core : t.core ≡ record s.core { region = t.core.region }
   pub level : SameLevel s t
 
--- the entries that a call may go to
-abbrev pub MayCall : Program → Role → ℕ → Type 0
-MayCall p (CallIn e) entry = entry ≡ e
-MayCall p (CallEither e sym) entry = entry ≡ e
-MayCall p CallAny entry = Contains p.entries entry
-MayCall p _ entry = ⊥
+-- the entries that a call may go to, or what code of no function calls though no function starts there
+abbrev pub IsTarget : Program → Role → ℕ → Type 0
+IsTarget p (CallIn e) entry = entry ≡ e
+IsTarget p (CallEither e sym) entry = entry ≡ e
+IsTarget p CallAny entry = Contains p.entries entry
+IsTarget p _ entry = ⊥
 
 -- the frame that a call makes
 abbrev pub call_frame : Program → Bases → Standing → Frame
@@ -59,10 +73,10 @@ call_frame p bases s = record {
   mark_caller = s.mark;
 }
 
--- 3. It calls an entry of the program: its return address is pushed, and a frame is made.
+-- 3. It calls code of the program: its return address is pushed, and a frame is made.
 pub record CallsIn (p : Program) (bases : Bases) (s t : Standing) : Type 0 where
   pub entry : ℕ
-  pub target : MayCall p (p.role s.point) entry
+  pub target : IsTarget p (p.role s.point) entry
   pub arrives : Contains (entry_points p entry) t.point
   pub pushed : WritesWord (down s.core.rsp 8) (return_address p bases s.point) s.core.region t.core.region
   pub core : t.core ≡ record s.core { rsp = down s.core.rsp 8; region = t.core.region; shadow = call_frame p bases s ∷ s.core.shadow }
@@ -78,13 +92,13 @@ pub record CallsOut (p : Program) (s t : Standing) : Type 0 where
   pub core : t.core ≡ record s.core { region = t.core.region }
   pub level : SameLevel s t
 
--- whether a point may leave its function: by a return, or by a jump to code outside that returns. The start of an
+-- whether a point may go back to the caller: by a return, or by a jump to code outside that returns. The start of an
 -- unchecked function counts as outside.
-abbrev pub may_leave : Program → Role → Bool
-may_leave p Return = true
-may_leave p JumpAny = true
-may_leave p (JumpOut sym) = not (p.never_returns sym)
-may_leave p _ = false
+abbrev pub may_go_back : Program → Role → Bool
+may_go_back p Return = true
+may_go_back p JumpAny = true
+may_go_back p (JumpOut sym) = not (p.never_returns sym)
+may_go_back p _ = false
 
 -- the stack is as it has to be for a return from this frame
 pub record IsAtReturn (core : Core) (f : Frame) : Type 0 where
@@ -107,10 +121,21 @@ abbrev pub LeavesMemory : Role → List Frame → Region → Region → Type 0
 LeavesMemory Return frames before after = after ≡ before
 LeavesMemory _ frames before after = Stores (protected_addresses frames) before after
 
+-- whether the top frame is an interrupt's
+abbrev pub is_in_interrupt : List Frame → Bool
+is_in_interrupt [] = false
+is_in_interrupt (f ∷ fs) = not (is_of_call f.slot)
+
+-- A run ends here: code that may leave does so where the stack has ended, or in an interrupt's frame. Where it goes, a run of its
+-- own begins.
+abbrev pub ends_run : Program → Standing → Bool
+ends_run p s = may_leave p s.point && (is_some s.ended || is_in_interrupt s.core.shadow)
+
 -- 5. It returns to the caller in the program, itself or by code outside. With a frame that was there
--- at the start the run ends.
+-- at the start the run ends. Premise *listed names don't return*: nothing comes back to a call of such a name, be it outside or a
+-- function of the program; nor does it to a dead end. Where a run ends, it comes back all the same if the caller's stack had ended.
 pub record Returns (p : Program) (s t : Standing) : Type 0 where
-  pub leaves : IsTrue (may_leave p (p.role s.point))
+  pub leaves : IsTrue (may_go_back p (p.role s.point))
   pub frame : Frame
   pub below : List Frame
   pub shadow : s.core.shadow ≡ frame ∷ below
@@ -118,6 +143,8 @@ pub record Returns (p : Program) (s t : Standing) : Type 0 where
   pub call : ℕ
   pub called : frame.call ≡ Some call
   pub passed : p.dead_end call ≡ false
+  pub unlisted : is_listed p (p.role call) ≡ false
+  pub still_ended : ends_run p s ≡ true → is_some frame.ended_caller ≡ true
   pub comes_back : Contains (p.after call) t.point
   pub memory : LeavesMemory (p.role s.point) below s.core.region t.core.region
   pub core : t.core ≡ record s.core { rsp = up s.core.rsp 8; region = t.core.region; shadow = below }
@@ -129,9 +156,10 @@ pub data JumpsTo (p : Program) (q : ℕ) : ℕ → Type 0 where
   sibling : (r : ℕ) → Contains (p.goes q) (edge r Sibling) → JumpsTo p q r
   indirect : (r entry : ℕ) → p.role q ≡ JumpAny → Contains p.entries entry → Contains (entry_points p entry) r → JumpsTo p q r
 
--- 6. It goes to the entry of another function, by a jump, a static branch or a fixup.
+-- 6. It goes to the entry of another function, by a jump, a static branch or a fixup, where no run ends.
 pub record TailCalls (p : Program) (s t : Standing) : Type 0 where
   pub target : JumpsTo p s.point t.point
+  pub followed : ends_run p s ≡ false
   pub core : t.core ≡ s.core
   pub level : SameLevel s t
 
@@ -150,15 +178,16 @@ pub data MissesIret (core : Core) : List Frame → Type 0 where
   other_rsp : (f : Frame) (fs : List Frame) (word : ℕ) → Reads core.region (up core.rsp 24) word → word ≢ f.cfa → MissesIret core (f ∷ fs)
   other_interrupted_rbp : (f : Frame) (fs : List Frame) → core.rbp ≢ f.bp → MissesIret core (f ∷ fs)
 
--- 7. Its stack is wrecked: it returns with a wrong stack, or goes where its marks say that there is nothing to go to.
+-- 7. Its stack is wrecked: it returns with a wrong stack, where no run ends, or goes where its marks say that there is nothing to
+-- go to. Code of no function may go on past its section's end where the stack has ended: it has no step there.
 pub data Wrecks (p : Program) (s : Standing) : Type 0 where
-  wrong_return : IsTrue (may_leave p (p.role s.point)) → MissesReturn s.core s.core.shadow → Wrecks p s
+  wrong_return : IsTrue (may_go_back p (p.role s.point)) → ends_run p s ≡ false → MissesReturn s.core s.core.shadow → Wrecks p s
   wrong_iret : (p.insn s.point).op ≡ Iret → s.ended ≡ None → MissesIret s.core s.core.shadow → Wrecks p s
   drops_bytes : (p.insn s.point).op ≡ RetImm → Wrecks p s
   bad_target : (p.marks s.point).bad ≡ true → Wrecks p s
   into_site : (p.marks s.point).into_site ≡ true → Wrecks p s
   into_function : (p.marks s.point).into_function ≡ true → Wrecks p s
-  past_end : (p.marks s.point).past_end ≡ true → Wrecks p s
+  past_end : (p.marks s.point).past_end ≡ true → (p.owner s.point ≡ None → s.ended ≡ None) → Wrecks p s
 
 -- A gate: a plain point without owner and outside sites, at which a hint says that the processor has
 -- just pushed ip, cs, flags, sp and ss, and an error code where n is 8.

@@ -50,6 +50,7 @@ framed = record {
   function = λ _. Some 0;
   owner = λ _. Some 0;
   unchecked = λ _. false;
+  in_patches = λ _. false;
   previous = λ q. slice_index_or (None ∷ Some 0 ∷ Some 1 ∷ Some 2 ∷ []) q None;
   hint = λ _. None;
   save_of = λ _. None;

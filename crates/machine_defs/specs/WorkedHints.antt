@@ -15,7 +15,8 @@ use Rattle.machine_defs.specs.Program.{Program, edge}
 use Rattle.machine_defs.specs.Machine.{Standing, At}
 use Rattle.machine_defs.specs.Run.{outermost, Run}
 use Rattle.machine_defs.specs.Worked.{insn, framed}
-use Rattle.machine_defs.specs.WorkedSteps.{base, word}
+use Rattle.state_defs.specs.WorkedEffects.{word}
+use Rattle.machine_defs.specs.WorkedSteps.{base}
 
 -- five no-ops of no function, one behind the other: at the first a hint says that a call frame's return address was just pushed,
 -- at the second there is a SAVE, at the third a RESTORE, at the fourth a hint says REGS with offset 0, and at the fifth one says

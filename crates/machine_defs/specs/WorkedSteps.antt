@@ -17,6 +17,7 @@ use Rattle.machine_defs.specs.declared.flow.Role.TheVariants.{Plain, CallIn, Cal
 use Rattle.state_defs.specs.declared.state.State.TheVariants.{Regs}
 use Rattle.state_defs.specs.declared.state.HintState.TheVariants.{Set}
 use Rattle.state_defs.specs.Region.{Region}
+use Rattle.state_defs.specs.WorkedEffects.{word}
 use Rattle.state_defs.specs.Frame.{Slot, Unsaved, SavedAt, Frame}
 use Rattle.machine_defs.specs.Program.{Program, below, edge}
 use Rattle.machine_defs.specs.Machine.{Bases, Standing, At}
@@ -52,10 +53,6 @@ stepping = record framed {
 -- .text begins at 0x1000
 abbrev pub base : Bases
 base sec = 0x1000
-
--- a word below 2 ^ 16, by its two bytes
-abbrev pub word : ℕ → ℕ → List ℕ
-word low high = low ∷ high ∷ 0 ∷ 0 ∷ 0 ∷ 0 ∷ 0 ∷ 0 ∷ []
 
 -- The stack, from the interrupt's five words up: ip 0x1010, cs, flags, sp 0x7FF8, ss; a word that aligns; rbp; the address
 -- behind the call of g; and the one to which f returns, 0x2000.

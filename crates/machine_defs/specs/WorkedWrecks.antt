@@ -9,7 +9,8 @@ use Rattle.machine_defs.specs.Machine.{Standing, Wrecked, At}
 use Rattle.machine_defs.specs.Step.{Step}
 use Rattle.machine_defs.specs.Run.{outermost}
 use Rattle.machine_defs.specs.Worked.{insn, framed}
-use Rattle.machine_defs.specs.WorkedSteps.{base, word}
+use Rattle.state_defs.specs.WorkedEffects.{word}
+use Rattle.machine_defs.specs.WorkedSteps.{base}
 
 -- a return, an iretq, a return that drops bytes, and four instructions of which each has one mark
 abbrev pub wrecking : Program

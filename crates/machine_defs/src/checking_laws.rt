@@ -1,6 +1,7 @@
 //! What holds of the definitions of this crate.
 
 ghost use Rattle.machine_defs.specs.Kept.{KeptIsOne, KeptStays};
+ghost use Rattle.machine_defs.specs.WorkedAccess.{WarnsWhereAsked};
 ghost use Rattle.machine_defs.specs.WorkedWarnings.{WarnsOfEach};
 
 /// A point keeps the state that it was first given.
@@ -16,4 +17,9 @@ pub fn kept_is_one()
 /// A warning for each reason.
 pub fn worked_warnings()
     ensures { WarnsOfEach }
+{}
+
+/// A warning for each reason that an option asks for.
+pub fn worked_access()
+    ensures { WarnsWhereAsked }
 {}

@@ -6,12 +6,12 @@
 #[derive(Clone, Copy, Debug, PartialEq, Eq, PartialOrd, Ord)]
 pub enum EdgeKind {
     /// To what follows the point, behind which execution goes on: from every instruction but an
-    /// unconditional or indirect jump, a return, a far branch or system call, a return from an interrupt (but
-    /// `IretNext`), and a dead end. Calls have one too, to where they return, and so has a conditional jump to
+    /// unconditional or indirect jump, a call within a function (`Hop`), a return, a far branch or system call, a
+    /// return from an interrupt (but `IretNext`), and a dead end. Calls have one too, to where they return, and so has a conditional jump to
     /// `__x86_return_thunk`. The code of a static branch always has one, be it a jump or a dead end. It may
     /// run into another function.
     Next,
-    /// A branch that is taken, or a static branch, to a place of the same owner (an entry or not), or,
+    /// A branch that is taken, a call within a function (`Hop`), or a static branch, to a place of the same owner (an entry or not), or,
     /// where one of the two places has no owner, to a checked place that is no entry. A branch of a replacement
     /// without a relocation leads so only to a place of the same owner.
     Taken,
@@ -35,12 +35,15 @@ pub struct Edge {
 /// What an instruction is to its function: whether it calls, leaves, or neither. Entries are numbers of
 /// points, symbols are numbers of the symbol table.
 ///
+/// An entry that is called is the start of a function that is neither a part nor unchecked. Between code of no function
+/// it may also be a place of no function and in no site at which a hint tells a call frame or ends the stack (`MayCall`).
+///
 /// The start of an unchecked function is no entry: a call or jump there is one to code outside, with that
 /// function's symbol.
 #[derive(Clone, Copy, Debug, PartialEq, Eq)]
 pub enum Role {
     /// Neither a call nor a way out of its function: also a branch or call whose own target is bad, a call of
-    /// a place that is no entry, and a jump through a recognised jump table.
+    /// a place that is no entry, a call within a function (`Hop`), and a jump through a recognised jump table.
     Plain,
     /// Calls an entry of this object.
     CallIn { entry: u32 },
@@ -58,7 +61,8 @@ pub enum Role {
     /// Jumps indirectly, also by `__x86_indirect_thunk_*`, through no recognised jump table: to any entry,
     /// or outside.
     JumpAny,
-    /// Leaves by a far branch, a system call or a return from an interrupt.
+    /// Leaves by a far branch, a system call or a return from an interrupt. One that comes back right behind itself
+    /// (`IretNext`, `SpOther`) is `Plain`.
     Switch,
 }
 
@@ -73,7 +77,8 @@ pub struct Marks {
     /// static branch or exception entry leads to a place of another owner that is neither an entry nor the
     /// start of an unchecked function, where both places have an owner or one of them is unchecked. A branch of a
     /// replacement without a relocation does so also where one of the two places has no owner: it doesn't cross
-    /// into code without an owner, nor out of it. A static branch or an exception entry leads to no boundary, or
+    /// into code without an owner, nor out of it. A call within a function (`Hop`) leads outside, to a weak symbol, to a
+    /// thunk, to an entry of another owner, or to the start of an unchecked function. A static branch or an exception entry leads to no boundary, or
     /// to the start of an unchecked function.
     pub bad: bool,
     /// Execution goes on behind it (`EdgeKind::Next`), and there its section ends. Behind a call that can't
@@ -82,8 +87,8 @@ pub struct Marks {
     /// A target is a boundary inside an alternatives site, past its start, and this isn't an instruction of
     /// that site's original code. A jump that stays in its replacement has no such target.
     pub into_site: bool,
-    /// It calls a boundary of this object that is neither an entry nor the start of an unchecked function:
-    /// a place inside a function, of no function, or at the start of a part.
+    /// It calls a boundary of this object that is neither an entry, nor the start of an unchecked function, nor what
+    /// code of no function may call (`MayCall`): a place inside a function, of no function, or at the start of a part.
     pub into_function: bool,
     /// It moves rsp or rbp by a number, masks rsp with one, or saves or loads rbp at one from rsp, and a relocation begins
     /// at one of its bytes, so that a linker changes the number.

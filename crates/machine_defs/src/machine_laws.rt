@@ -1,9 +1,9 @@
 //! What holds of the definitions of this crate.
 
 ghost use Rattle.machine_defs.specs.Worked.{HasWorkedFrames, HasWorkedRows, HasWorkedRun, HasWorkedStates};
-ghost use Rattle.machine_defs.specs.WorkedEffects.{HasEffects};
 ghost use Rattle.machine_defs.specs.WorkedHints.{RunsFromHints};
 ghost use Rattle.machine_defs.specs.WorkedSteps.{TakesEachStep};
+ghost use Rattle.machine_defs.specs.WorkedWays.{LeadsOn};
 ghost use Rattle.machine_defs.specs.WorkedWrecks.{WrecksEachWay};
 
 /// The states of a function with a frame pointer.
@@ -31,11 +31,6 @@ pub fn worked_steps()
     ensures { TakesEachStep }
 {}
 
-/// What each operation does to registers, memory and slots.
-pub fn worked_effects()
-    ensures { HasEffects }
-{}
-
 /// A stack that is wrecked in each way.
 pub fn worked_wrecks()
     ensures { WrecksEachWay }
@@ -44,4 +39,9 @@ pub fn worked_wrecks()
 /// Runs that start at hints, and that pass a SAVE and a RESTORE.
 pub fn worked_hints()
     ensures { RunsFromHints }
+{}
+
+/// Which points may leave, be called, come back, and stand right before a hint.
+pub fn worked_ways()
+    ensures { LeadsOn }
 {}

@@ -1,3 +1,5 @@
+pub mod Back
+pub mod Before
 pub mod Chosen
 pub mod Frames
 pub mod Hints

@@ -7,17 +7,17 @@ use Rattle.state_defs.specs.Region.{hi_of, WritesWord}
 use Rattle.machine_defs.specs.Program.{Program, entry_points}
 use Rattle.machine_defs.specs.Machine.{Bases, Standing, At, return_address}
 use Rattle.machine_defs.specs.Hint.{Lands}
-use Rattle.machine_defs.specs.Step.{MayCall, CallsIn, Step}
+use Rattle.machine_defs.specs.Step.{IsTarget, CallsIn, Step}
 use Rattle.machine_model.specs.declared.standing.Standing.{Standing as OwnStanding}
 use Rattle.machine_model.specs.Standing.{standing_of}
 use Rattle.machine_model.specs.Steps.{LeadsTo}
 use Rattle.machine_model.specs.Called.{frame_called, IsCalled}
 
-pub calls_in_holds : (P : Program) (bases : Bases) (s t : Standing) (ra entry at : ℕ) (role : Role) → role ≡ P.role s.point → MayCall P role entry
+pub calls_in_holds : (P : Program) (bases : Bases) (s t : Standing) (ra entry at : ℕ) (role : Role) → role ≡ P.role s.point → IsTarget P role entry
     → Contains (entry_points P entry) at → ra ≡ return_address P bases s.point → IsCalled ra at s t → hi_of s.core.region ≤ 2 ^ 64 → CallsIn P bases s t
 calls_in_holds P bases s t ra entry at role is may enters e called high = record {
   entry = entry;
-  target = subst (λ (r : Role). MayCall P r entry) is may;
+  target = subst (λ (r : Role). IsTarget P r entry) is may;
   arrives = subst (λ (q : ℕ). Contains (entry_points P entry) q) (sym called.point) enters;
   pushed = subst (λ (x : ℕ). WritesWord (down s.core.rsp 8) x s.core.region t.core.region) e (called.pushed high);
   core = subst (λ (x : ℕ). t.core ≡ record s.core { rsp = down s.core.rsp 8; region = t.core.region; shadow = frame_called s x ∷ s.core.shadow }) e called.core;

@@ -1,5 +1,7 @@
 -- What a return makes of a state.
-use Rattle.std.specs.Prelude.{◌≡◌, ℕ, ◌∷◌}
+use Rattle.std.specs.Prelude.{◌≡◌, ℕ, ◌∷◌, false, Contains}
+use Rattle.machine_defs.specs.Program.{Program}
+use Rattle.machine_defs.specs.MayReturn.{is_listed}
 use Rattle.machine_model.specs.declared.frame.Frame.{Frame}
 use Rattle.program_model.specs.declared.region.Region.{Region}
 use Rattle.machine_model.specs.declared.standing.Standing.{Standing as OwnStanding}
@@ -7,6 +9,12 @@ use Rattle.machine_model.specs.Frame.{frame_of, frames_of, mark_of}
 use Rattle.program_model.specs.Region.{region_of}
 use Rattle.machine_model.specs.Standing.{core_of}
 use Rattle.std.specs.Prelude.{option_map}
+
+-- the call comes back to this point
+pub record ComesBack (p : Program) (call to : ℕ) : Type 0 where
+  pub passed : p.dead_end call ≡ false
+  pub unlisted : is_listed p (p.role call) ≡ false
+  pub follows : Contains (p.after call) to
 
 -- the top frame is taken off
 pub record IsPopped (s : OwnStanding) (frame : Frame) (t : OwnStanding) : Type 0 where

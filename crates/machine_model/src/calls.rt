@@ -2,8 +2,8 @@
 
 ghost use Rattle.std.specs.Prelude.{◌≡◌, ◌≤◌, ◌^◌, not, IfOk, IfSome, IsTrue, List, Bool};
 ghost use Rattle.state_defs.specs.Region.{hi_of};
-ghost use Rattle.machine_defs.specs.Step.{MayCall, CallsIn, CallsOut};
-ghost use Rattle.machine_defs.specs.MayReturn.{may_call_out};
+ghost use Rattle.machine_defs.specs.Step.{IsTarget, CallsIn, CallsOut};
+ghost use Rattle.machine_defs.specs.MayReturn.{calls_outside, may_call_out};
 ghost use Rattle.program_model.specs.Region.{region_of};
 ghost use Rattle.machine_model.specs.Standing.{standing_of};
 ghost use Rattle.program_model.specs.Program.{program_of};
@@ -16,13 +16,13 @@ use crate::frame::Frame;
 use crate::slot::Slot;
 use crate::standing::Standing;
 use machine_defs::Role;
-use program_model::{Program, Store, down, return_address};
+use program_model::{Program, Store, down, is_listed, return_address};
 use std::alloc::{AllocError, Global};
 use table_defs::Range;
 
 /// Whether a call may go to this entry.
 fn may_call(p: &Program, role: Role, target: u32) -> bool
-    ensures { (set : List Bool) → IsTrue result → MayCall (program_of p.now set) role target }
+    ensures { (set : List Bool) → IsTrue result → IsTarget (program_of p.now set) role target }
 {
     match role {
         Role::CallIn { entry } | Role::CallEither { entry, .. } => target == entry,
@@ -82,15 +82,21 @@ pub fn calls_in(
     }
 }
 
+/// Whether a role is that of a call that may go to code outside.
+fn calls_outside(role: Role) -> bool
+    ensures { result ≡ calls_outside role }
+{
+    matches!(
+        role,
+        Role::CallOut { .. } | Role::CallEither { .. } | Role::CallAny
+    )
+}
+
 /// Whether a call may go to code outside that returns.
 fn may_call_out(p: &Program, role: Role) -> bool
     ensures { (set : List Bool) → result ≡ may_call_out (program_of p.now set) role }
 {
-    match role {
-        Role::CallOut { sym } => !p.never_returns(sym),
-        Role::CallEither { .. } | Role::CallAny => true,
-        _ => false,
-    }
+    calls_outside(role) && !is_listed(p, role)
 }
 
 /// It calls code outside, which returns: it keeps rsp, rbp, user access and protected slots.

@@ -8,7 +8,7 @@ pub struct Anything<'a> {
     pub stores: &'a [Store],
     /// A word that is pushed, or read outside the stack.
     pub word: u64,
-    /// rsp, where it is written in another way.
+    /// rsp, where it is written in another way, or room is made.
     pub rsp: u64,
     /// rbp, where it is written in another way.
     pub rbp: u64,

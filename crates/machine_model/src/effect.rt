@@ -3,7 +3,7 @@
 ghost use Rattle.std.specs.Prelude.{◌≡◌, ◌≤◌, ◌^◌, ◌&&◌, ◌+ℤ◌, pos, int_le, IfOk, IfSome, IsTrue, true};
 ghost use Rattle.state_defs.specs.Region.{hi_of, WritesWord};
 ghost use Rattle.state_defs.specs.Frame.{after_save};
-ghost use Rattle.state_defs.specs.Effect.{Effect, StoresOrdinarily, store_saves};
+ghost use Rattle.state_defs.specs.Effect.{Effect, MakesRoom, StoresOrdinarily, store_saves};
 ghost use Rattle.state_defs.specs.Address.{shifted};
 ghost use Rattle.program_model.specs.Region.{region_of};
 ghost use Rattle.machine_model.specs.Frame.{frames_of};
@@ -214,6 +214,16 @@ fn with_sp(core: Core, rsp: u64) -> Core
     core
 }
 
+/// rsp falls to this, or stays where it is; it doesn't rise.
+fn make_room(core: Core, rsp: u64) -> Option<Core>
+    ensures { IfSome result (λ after. MakesRoom (core_of core) (core_of after)) }
+{
+    if rsp > core.rsp {
+        return None;
+    }
+    Some(with_sp(core, rsp))
+}
+
 /// rbp is set to this.
 fn with_bp(core: Core, rbp: u64) -> Core
     ensures { core_of result ≡ record (core_of core) { rbp = rbp } }
@@ -233,7 +243,7 @@ fn with_access(core: Core, ac: bool) -> Core
 }
 
 /// The effect of an operation; none where it has none, as a call, or where the stores that were chosen
-/// aren't ordinary.
+/// aren't ordinary, or the rsp that was chosen makes no room.
 pub fn effect(
     alloc: Global,
     op: Op,
@@ -257,7 +267,8 @@ pub fn effect(
         Op::SpOther => return write_sp(alloc, core, any),
         Op::BpOther => return write_bp(alloc, core, any),
         Op::StoreBp { at } => return store_bp(alloc, core, at),
-        Op::Push => Some(push(core, any.word)),
+        Op::Push | Op::Hop => Some(push(core, any.word)),
+        Op::SubSp | Op::SpReg => make_room(core, any.rsp),
         Op::PushBp => Some(push_bp(core)),
         Op::PopBp => Some(pop_into_bp(core, any.word)),
         Op::Popf => Some(pop_flags(core, any.ac)),
@@ -268,6 +279,7 @@ pub fn effect(
         Op::AndSp { mask } => Some(with_sp(core, rsp & mask.cast_unsigned())),
         Op::LeaSpBp { by } => Some(with_sp(core, shifted(rbp, by))),
         Op::LeaBpSp { by } => Some(with_bp(core, shifted(rsp, by))),
+        Op::LeaBpRoom { by } => Some(with_bp(core, shifted(rsp, by))),
         Op::Stac => Some(with_access(core, true)),
         Op::Clac => Some(with_access(core, false)),
     })

@@ -8,11 +8,13 @@ ghost use Rattle.program_model.specs.Region.{region_of};
 ghost use Rattle.machine_model.specs.Standing.{standing_of};
 ghost use Rattle.program_model.specs.Program.{program_of};
 
+use crate::acting::op_at;
 use crate::choice::Anything;
 use crate::effect::{effect, store_ordinarily};
+use crate::leaving::ends_run;
 use crate::standing::Standing;
 use machine_defs::{Edge, EdgeKind, Role};
-use program_model::{Program, Store};
+use program_model::{Program, Store, is_call};
 use std::alloc::{AllocError, Global};
 
 /// Whether an edge of this kind runs the instruction, and stays on the level.
@@ -25,7 +27,7 @@ fn is_local(kind: EdgeKind) -> bool
     }
 }
 
-/// An instruction goes on in its function, with its effect.
+/// An instruction goes on in its function, with its effect. A call doesn't.
 pub fn goes_on(
     alloc: Global,
     p: &Program,
@@ -35,10 +37,10 @@ pub fn goes_on(
 ) -> Result<Option<Standing>, AllocError>
     ensures { (set : List Bool) → IfOk result (λ gone. IfSome gone (λ t. hi_of (region_of s.core.region) ≤ 2 ^ 64 → GoesOn (program_of p.now set) (standing_of s) (standing_of t))) }
 {
-    let op = p.insn(s.point).op;
-    if !is_local(edge.kind) || !p.has_edge(s.point, edge) {
+    if is_call(p.role(s.point)) || !is_local(edge.kind) || !p.has_edge(s.point, edge) {
         return Ok(None);
     }
+    let op = op_at(p, &s);
     let Standing {
         core,
         ended,
@@ -101,11 +103,11 @@ fn jumps_to(p: &Program, q: u32, to: u32) -> bool
     }
 }
 
-/// It jumps to the entry of another function.
+/// It jumps to the entry of another function, where no run ends.
 pub fn tail_calls(p: &Program, s: Standing, to: u32) -> Option<Standing>
     ensures { (set : List Bool) → IfSome result (λ t. TailCalls (program_of p.now set) (standing_of s) (standing_of t)) }
 {
-    if !jumps_to(p, s.point, to) {
+    if !jumps_to(p, s.point, to) || ends_run(p, &s) {
         return None;
     }
     let mut s = s;

@@ -2,6 +2,7 @@
 //! programs of a few points. Tests run it, to show that the definitions say what they mean.
 #![tactic(auto)]
 
+mod acting;
 mod calls;
 mod choice;
 mod effect;
@@ -9,6 +10,7 @@ mod frame;
 mod goes;
 mod hint;
 mod interrupts;
+mod leaving;
 mod means;
 mod returns;
 mod runs;

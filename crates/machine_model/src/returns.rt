@@ -1,6 +1,6 @@
 //! Returns.
 
-ghost use Rattle.std.specs.Prelude.{◌≡◌, ◌∷◌, IfOk, IfSome, IsTrue, List, Bool};
+ghost use Rattle.std.specs.Prelude.{◌≡◌, ◌∷◌, IfOk, IfSome, IsTrue, List, Bool, true, is_some};
 ghost use Rattle.state_defs.specs.Address.{up};
 ghost use Rattle.state_defs.specs.Frame.{Frame as DefinedFrame};
 ghost use Rattle.machine_defs.specs.Step.{IsAtReturn, MissesReturn, LeavesMemory, Returns};
@@ -8,13 +8,14 @@ ghost use Rattle.program_model.specs.Region.{region_of};
 ghost use Rattle.machine_model.specs.Frame.{frame_of, frames_of};
 ghost use Rattle.machine_model.specs.Standing.{core_of, standing_of};
 ghost use Rattle.program_model.specs.Program.{program_of};
-ghost use Rattle.machine_model.specs.Left.{IsPopped, IsBack};
+ghost use Rattle.machine_model.specs.Left.{ComesBack, IsPopped, IsBack};
 
 use crate::frame::Frame;
+use crate::leaving::ends_run;
 use crate::shadow::protected_addresses;
 use crate::standing::{Core, Standing};
 use machine_defs::Role;
-use program_model::{Program, Region, Store, down, may_leave, up};
+use program_model::{Program, Region, Store, down, is_listed, may_go_back, up};
 use std::alloc::{AllocError, Global};
 
 /// Whether the stack may be as it has to be for a return from this frame.
@@ -100,7 +101,22 @@ fn left_memory(
     }
 }
 
-/// It returns to the caller in the program, itself or by code outside.
+/// Whether a call comes back to this point: it is neither a dead end nor listed, and the point follows it.
+fn comes_back(p: &Program, call: u32, to: u32) -> bool
+    ensures { (set : List Bool) → IsTrue result → ComesBack (program_of p.now set) call to }
+{
+    !p.is_dead_end(call) && !is_listed(p, p.role(call)) && p.follows(call, to)
+}
+
+/// Whether a return goes back to the caller of a frame: where no run ends, or the caller's stack had ended.
+fn goes_back(ends: bool, frame: &Frame) -> bool
+    ensures { IsTrue result → ends ≡ true → is_some frame.now.ended_caller ≡ true }
+{
+    !ends || frame.ended_caller.is_some()
+}
+
+/// It returns to the caller in the program, itself or by code outside. Where a run ends it does so if the caller's stack had
+/// ended.
 pub fn returns(
     alloc: Global,
     p: &Program,
@@ -111,16 +127,17 @@ pub fn returns(
     ensures { (set : List Bool) → IfOk result (λ left. IfSome left (λ t. Returns (program_of p.now set) (standing_of s) (standing_of t))) }
 {
     let role = p.role(s.point);
-    if !may_leave(p, role) {
+    if !may_go_back(p, role) {
         return Ok(None);
     }
+    let ends = ends_run(p, &s);
     let Some((frame, popped)) = pop_frame(s) else {
         return Ok(None);
     };
     let Some(call) = frame.call else {
         return Ok(None);
     };
-    if !is_at_return(&popped.core, &frame) || p.is_dead_end(call) || !p.follows(call, to) {
+    if !goes_back(ends, &frame) || !is_at_return(&popped.core, &frame) || !comes_back(p, call, to) {
         return Ok(None);
     }
     let below = popped.core.shadow.as_slice();

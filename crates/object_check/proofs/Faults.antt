@@ -21,4 +21,5 @@ flow_told o flow.NoMemory linked is = no_memory
 flow_told o (flow.FuncStart sym) linked is = unflowed (flow.FuncStart sym) (λ e. let z : ⊥ = cc in z) linked is
 flow_told o (flow.NotBoundary list entry) linked is = unflowed (flow.NotBoundary list entry) (λ e. let z : ⊥ = cc in z) linked is
 flow_told o (flow.StaticSite entry) linked is = unflowed (flow.StaticSite entry) (λ e. let z : ⊥ = cc in z) linked is
+flow_told o (flow.NotCall entry) linked is = unflowed (flow.NotCall entry) (λ e. let z : ⊥ = cc in z) linked is
 flow_told o (flow.NotFunction entry) linked is = unflowed (flow.NotFunction entry) (λ e. let z : ⊥ = cc in z) linked is

@@ -13,7 +13,7 @@ use Rattle.object_check.specs.declared.fault.CheckFault.{CheckFault}
 use Rattle.object_check.specs.declared.fault.CheckFault.TheVariants.{Link, Flow, HasOrc, TooManySections, NoMemory}
 
 -- The object's code is read, and its program can be checked: texts, special sections, functions, alternatives, starts of
--- functions, lists of places, static branches and unchecked functions are in order.
+-- functions, lists of places, static branches, calls within functions and unchecked functions are in order.
 pub record IsInOrder (o : Coded) : Type 0 where
   pub linked : IsLinked o
   pub flow : flow_faults o ≡ []

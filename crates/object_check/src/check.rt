@@ -61,8 +61,8 @@ fn outcome_of(
 /// # Errors
 ///
 /// The first that keeps it from being checked, in this order: its texts, special sections, functions and alternatives; the
-/// starts of functions, lists of places, static branches and unchecked functions; an ORC section that is there already; more
-/// sections than leave room for three more. [`CheckFault::NoMemory`] may come at any object.
+/// starts of functions, lists of places, static branches, calls within functions and unchecked functions; an ORC section that is
+/// there already; more sections than leave room for three more. [`CheckFault::NoMemory`] may come at any object.
 pub fn check_object(
     alloc: Global,
     map: Map,

@@ -62,7 +62,7 @@ fn table_if_needed(
 /// # Errors
 ///
 /// The first fault of texts, special sections, functions and alternatives; then the first of the starts of functions, lists
-/// of places, static branches and unchecked functions. [`CheckFault::NoMemory`] may come at any object.
+/// of places, static branches, calls within functions and unchecked functions. [`CheckFault::NoMemory`] may come at any object.
 pub(crate) fn read_code(
     alloc: Global,
     map: Map,

@@ -4,7 +4,6 @@ use Rattle.std.proofs.lemmas.Bool.{and_from, false≢true, not_from_false, or_ri
 use Rattle.std.proofs.lemmas.List.Elements.{Contains-append_left}
 use Rattle.ot_base.specs.declared.place.Place.{Place}
 use Rattle.ot_base.specs.NameLists.{NameLists}
-use Rattle.operation_defs.specs.declared.insn.Insn.{Insn}
 use Rattle.operation_defs.specs.declared.op.Op.{Op}
 use Rattle.operation_defs.specs.declared.op.Op.TheVariants as ops
 use Rattle.flow_defs.specs.Coded.{Coded}
@@ -19,7 +18,7 @@ use Rattle.flow_defs.specs.declared.destination.Way.TheVariants as ways
 use Rattle.flow_defs.specs.Code.{is_plain, point_at, points_of_object}
 use Rattle.flow_defs.specs.Owners.{is_entry, is_unchecked, is_unchecked_point}
 use Rattle.flow_defs.specs.Arrival.{after, insn_of_object, is_dead_end}
-use Rattle.flow_defs.specs.Targets.{destination}
+use Rattle.flow_defs.specs.Targets.{destination_of}
 use Rattle.flow_defs.specs.Ways.{jump_way}
 use Rattle.flow_defs.specs.Roles.{jump_by_table, jump_by_way, jump_role, role_by, role_of, table_of_point}
 use Rattle.flow_defs.specs.Edges.{branch_edges, edges_to, ends_flow, fixups, goes, goes_on, is_some_place, listed_edges, next_edges, static_targets, table_edges}
@@ -35,85 +34,32 @@ jump_is_none (ways.Outside f) weak = refl
 jump_is_none (ways.Along kind) None = refl
 jump_is_none (ways.Along kind) (Some sym) = refl
 
-role_is_none : (o : Coded) (point : Point) (to : Destination) → is_call (jump_role o point to) ≡ false
-role_is_none o point (ToPlace place weak crossing) = jump_is_none (jump_way o point crossing place) weak
-role_is_none o point (ToOwnPoint other) = refl
-role_is_none o point (ToOutside sym) = refl
-role_is_none o point ToIndirectThunk = refl
-role_is_none o point ToReturnThunk = refl
-role_is_none o point ToNowhere = refl
-
 table_is_none : (places : List Place) → is_call (jump_by_table places) ≡ false
 table_is_none [] = refl
 table_is_none (place ∷ places) = refl
 
+role_is_none : (o : Coded) (point : Point) (to : Destination) → is_call (jump_role o point to) ≡ false
+role_is_none o point (ToPlace place weak crossing) = jump_is_none (jump_way o point crossing place) weak
+role_is_none o point (ToOwnPoint other) = refl
+role_is_none o point (ToOutside sym) = refl
+role_is_none o point ToIndirectThunk = table_is_none (table_of_point o point)
+role_is_none o point ToReturnThunk = refl
+role_is_none o point ToNowhere = refl
+
 -- so the role of a call is that of a call
-call_by_op : (o : Coded) (point : Point) (insn : Insn) (op : Op) → is_call (role_by o point insn op) ≡ true → is_call_op op ≡ true
-call_by_op o point insn (ops.Call rel) e = refl
-call_by_op o point insn ops.CallInd e = refl
-call_by_op o point insn (ops.Jmp rel wide) e = absurd (false≢true (sym (role_is_none o point (destination o point insn)) ∙ e))
-call_by_op o point insn (ops.Jcc rel wide) e = absurd (false≢true (sym (role_is_none o point (destination o point insn)) ∙ e))
-call_by_op o point insn (ops.JmpInd field) e = absurd (false≢true (sym (table_is_none (table_of_point o point)) ∙ e))
-call_by_op o point insn ops.Plain e = absurd (false≢true e)
-call_by_op o point insn ops.Nop e = absurd (false≢true e)
-call_by_op o point insn ops.Endbr e = absurd (false≢true e)
-call_by_op o point insn ops.Push e = absurd (false≢true e)
-call_by_op o point insn ops.PushBp e = absurd (false≢true e)
-call_by_op o point insn ops.Pop e = absurd (false≢true e)
-call_by_op o point insn ops.PopBp e = absurd (false≢true e)
-call_by_op o point insn ops.Popf e = absurd (false≢true e)
-call_by_op o point insn (ops.AddSp by) e = absurd (false≢true e)
-call_by_op o point insn (ops.AndSp mask) e = absurd (false≢true e)
-call_by_op o point insn (ops.LeaSpBp by) e = absurd (false≢true e)
-call_by_op o point insn (ops.LeaBpSp by) e = absurd (false≢true e)
-call_by_op o point insn (ops.StoreBp at) e = absurd (false≢true e)
-call_by_op o point insn (ops.LoadBp at) e = absurd (false≢true e)
-call_by_op o point insn ops.Leave e = absurd (false≢true e)
-call_by_op o point insn ops.SpOther e = absurd (false≢true e)
-call_by_op o point insn ops.BpOther e = absurd (false≢true e)
-call_by_op o point insn ops.Ret e = absurd (false≢true e)
-call_by_op o point insn ops.RetImm e = absurd (false≢true e)
-call_by_op o point insn ops.Iret e = absurd (false≢true e)
-call_by_op o point insn ops.IretNext e = absurd (false≢true e)
-call_by_op o point insn ops.Switch e = absurd (false≢true e)
-call_by_op o point insn ops.Ud2 e = absurd (false≢true e)
-call_by_op o point insn ops.Int3 e = absurd (false≢true e)
-call_by_op o point insn ops.Stac e = absurd (false≢true e)
-call_by_op o point insn ops.Clac e = absurd (false≢true e)
+call_by_op : (o : Coded) (point : Point) (op : Op) → is_call (role_by o point op) ≡ true → is_call_op op ≡ true
+call_by_op o point (ops.Call rel) e = refl
+call_by_op o point ops.CallInd e = refl
+call_by_op o point (ops.Jmp rel wide) e = absurd (false≢true (sym (role_is_none o point (destination_of o point)) ∙ e))
+call_by_op o point (ops.Jcc rel wide) e = absurd (false≢true (sym (role_is_none o point (destination_of o point)) ∙ e))
+call_by_op o point (ops.JmpInd field) e = absurd (false≢true (sym (table_is_none (table_of_point o point)) ∙ e))
+call_by_op o point _ e = absurd (false≢true e)
 
 -- execution goes on behind calls
 call_goes_on : (op : Op) → is_call_op op ≡ true → ends_flow op ≡ false
 call_goes_on (ops.Call rel) e = refl
 call_goes_on ops.CallInd e = refl
-call_goes_on (ops.Jmp rel wide) e = absurd (false≢true e)
-call_goes_on (ops.Jcc rel wide) e = absurd (false≢true e)
-call_goes_on (ops.JmpInd field) e = absurd (false≢true e)
-call_goes_on ops.Plain e = refl
-call_goes_on ops.Nop e = refl
-call_goes_on ops.Endbr e = refl
-call_goes_on ops.Push e = refl
-call_goes_on ops.PushBp e = refl
-call_goes_on ops.Pop e = refl
-call_goes_on ops.PopBp e = refl
-call_goes_on ops.Popf e = refl
-call_goes_on (ops.AddSp by) e = refl
-call_goes_on (ops.AndSp mask) e = refl
-call_goes_on (ops.LeaSpBp by) e = refl
-call_goes_on (ops.LeaBpSp by) e = refl
-call_goes_on (ops.StoreBp at) e = refl
-call_goes_on (ops.LoadBp at) e = refl
-call_goes_on ops.Leave e = refl
-call_goes_on ops.SpOther e = refl
-call_goes_on ops.BpOther e = refl
-call_goes_on ops.Ret e = absurd (false≢true e)
-call_goes_on ops.RetImm e = absurd (false≢true e)
-call_goes_on ops.Iret e = absurd (false≢true e)
-call_goes_on ops.IretNext e = refl
-call_goes_on ops.Switch e = absurd (false≢true e)
-call_goes_on ops.Ud2 e = refl
-call_goes_on ops.Int3 e = refl
-call_goes_on ops.Stac e = refl
-call_goes_on ops.Clac e = refl
+call_goes_on _ e = absurd (false≢true e)
 
 passes_on : (o : Coded) (point : Point) → ends_flow (insn_of_object o point).op ≡ false → is_dead_end o point ≡ false → goes_on o point ≡ true
 unfolding goes_on
@@ -132,15 +78,15 @@ module _ (o : Coded) (lists : NameLists) where
   -- the role of a call is that of a call instruction
   pub calls : (q : ℕ) → IsPoint (program_of o lists) q → is_call ((program_of o lists).role q) ≡ true → is_call_op ((program_of o lists).insn q).op ≡ true
   unfolding program_of returning_graph graph_of role_of
-  calls q here e = let insn = insn_of_object o (point_at o q) in call_by_op o (point_at o q) insn insn.op e
+  calls q here e = call_by_op o (point_at o q) (insn_of_object o (point_at o q)).op e
 
   -- the points that follow a call which execution passes are its next points
   pub call_next : (q r : ℕ) → IsPoint (program_of o lists) q → (program_of o lists).unchecked q ≡ false → is_call ((program_of o lists).role q) ≡ true → (program_of o lists).dead_end q ≡ false → Contains ((program_of o lists).after q) r → Contains ((program_of o lists).goes q) (edge r Next)
   unfolding program_of returning_graph graph_of role_of
   call_next q r here checked call alive c =
       let point = point_at o q in
-      let insn = insn_of_object o point in
-      next_goes o point r checked (passes_on o point (call_goes_on insn.op (call_by_op o point insn insn.op call)) alive) c
+      let op = (insn_of_object o point).op in
+      next_goes o point r checked (passes_on o point (call_goes_on op (call_by_op o point op call)) alive) c
 
   -- no entry is in an unchecked function
   pub entries_checked : (entry q : ℕ) → Contains (program_of o lists).entries entry → Contains (entry_points (program_of o lists) entry) q → (program_of o lists).unchecked q ≡ false

@@ -20,7 +20,8 @@ use Rattle.flow_defs.specs.declared.destination.Crossing.{Crossing}
 use Rattle.flow_defs.specs.declared.destination.Crossing.TheVariants.{MayCross}
 use Rattle.flow_defs.specs.declared.destination.Way.{Way}
 use Rattle.flow_defs.specs.declared.destination.Way.TheVariants as ways
-use Rattle.flow_defs.specs.Code.{point_at, texts_of}
+use Rattle.flow_defs.specs.Code.{alternatives_of, point_at, texts_of}
+use Rattle.flow_defs.specs.Arrival.{is_padding}
 use Rattle.flow_defs.specs.Owners.{is_entry, is_unchecked, is_unchecked_point, owner_of_point, unchecked_start}
 use Rattle.flow_defs.specs.Roles.{table_of_point}
 use Rattle.flow_defs.specs.Ways.{branch_way, checked_way, inside_only, is_crossing, listed_way, may_cross, way_by}
@@ -105,11 +106,15 @@ taken_pass p (y ∷ xs) x c = go (p y) refl (subst (λ zs. Contains zs x) (take_
 
 pub table_owner : (o : Coded) (point : Point) (place : Place) → Contains (table_of_point o point) place → owner_at o.elf place ≡ owner_of_point o point
 unfolding table_of_point
-table_owner o point place c = go (jump_table o.elf (texts_of o) point.place) c
+table_owner o point place c = by_padding (is_padding o point) c
   where
-    go : (table : Option Place) → Contains (entries_by o.elf (texts_of o) (owner_of_point o point) table) place → owner_at o.elf place ≡ owner_of_point o point
+    go : (table : Option Place) → Contains (entries_by o.elf (texts_of o) (alternatives_of o) (owner_of_point o point) table) place → owner_at o.elf place ≡ owner_of_point o point
     go None c = nowhere place c
-    go (Some table) c = owners_equal (owner_at o.elf place) (owner_of_point o point) (taken_pass (λ p. same_owner (owner_at o.elf p) (owner_of_point o point)) (entries_of o.elf (texts_of o) table) place c)
+    go (Some table) c = owners_equal (owner_at o.elf place) (owner_of_point o point) (taken_pass (λ p. same_owner (owner_at o.elf p) (owner_of_point o point)) (entries_of o.elf (texts_of o) (alternatives_of o) table) place c)
+
+    by_padding : (b : Bool) → Contains (cond b [] (entries_by o.elf (texts_of o) (alternatives_of o) (owner_of_point o point) (jump_table o.elf (texts_of o) (alternatives_of o) point))) place → owner_at o.elf place ≡ owner_of_point o point
+    by_padding true c = nowhere place c
+    by_padding false c = go (jump_table o.elf (texts_of o) (alternatives_of o) point) c
 
 comes_checked : (o : Coded) (point : Point) (e : Edge) → is_unchecked_point o point ≡ false → (e.kind ≡ Next → owner_of_point o (point_at o e.to) ≡ owner_of_point o point) → Comes o point e → is_unchecked_point o (point_at o e.to) ≡ false
 comes_checked o point e checked stays (Comes.next on c kind) = ap (is_unchecked o.elf) (stays kind) ∙ checked

@@ -1,5 +1,5 @@
 -- The instructions of points are decoded ones, or padding.
-use Rattle.std.proofs.Common.{◌≡◌, ℕ, zero, suc, ◌+◌, ◌-◌, Bool, true, false, not, cond, List, [], ◌∷◌, Option, Some, None, Contains, refl, sym, ap, ◌∙◌, subst, inl, inr}
+use Rattle.std.proofs.Common.{◌≡◌, ℕ, zero, suc, ◌+◌, ◌-◌, Bool, true, false, not, ◌&&◌, cond, List, [], ◌∷◌, Option, Some, None, Contains, refl, sym, ap, ◌∙◌, subst, inl, inr}
 use Rattle.std.specs.Prelude.{Result, Ok, Err, option_and_then, unwrap_or, ◌==◌}
 use Rattle.ot_base.specs.NameLists.{NameLists}
 use Rattle.ot_base.specs.declared.place.Place.{Place}
@@ -7,6 +7,7 @@ use Rattle.ot_base.specs.Places.{is_within}
 use Rattle.operation_defs.specs.declared.insn.Insn.{Insn}
 use Rattle.operation_defs.specs.declared.op.Op.{Op}
 use Rattle.operation_defs.specs.declared.op.Op.TheVariants as ops
+use Rattle.operation_defs.specs.Made.{Around, made}
 use Rattle.flow_defs.specs.Coded.{Coded}
 use Rattle.machine_defs.specs.Program.{IsPoint}
 use Rattle.state_defs.specs.Effect.{HasSignedNumber}
@@ -23,8 +24,7 @@ use Rattle.alternatives.specs.Points.{entry_of, insn_of_point, is_padded, paddin
 use Rattle.alternatives.specs.Texts.{insn_at}
 use Rattle.table_law.proofs.Lists.{finds, some_is}
 use Rattle.flow_defs.specs.Code.{alternatives_of, point_at, texts_of}
-use Rattle.flow_defs.specs.Owners.{owner_of_point}
-use Rattle.flow_defs.specs.Arrival.{after, decoded_insn, goes_on_behind, insn_of_object, no_insn, op_of}
+use Rattle.flow_defs.specs.Arrival.{around, decoded_insn, insn_of_object, no_insn}
 use Rattle.flow_defs.specs.Program.{graph_of, program_of, returning_graph}
 use Rattle.object_law.specs.Flows.{HasBytes}
 use Rattle.object_law.proofs.Signed.{decoded_fits}
@@ -76,43 +76,17 @@ point_fits texts entries point insn are is = by_variant (point.variant == 0) is
     by_variant true e = at_fits texts point.place insn are e
     by_variant false e = counted (not (counts (entry_of entries point.variant))) e
 
--- an IRET that goes on behind itself has no number either
-iret_fits : (b : Bool) → HasSignedNumber (cond b ops.IretNext ops.Iret)
-iret_fits true = tt
-iret_fits false = tt
+-- so do those that a program makes of them
+either_fits : (b : Bool) (one other : Op) → HasSignedNumber one → HasSignedNumber other → HasSignedNumber (cond b one other)
+either_fits true one other h k = h
+either_fits false one other h k = k
 
-op_fits : (o : Coded) (point : Point) (op : Op) → HasSignedNumber op → HasSignedNumber (op_of o point op)
-op_fits o point ops.Iret h = iret_fits (goes_on_behind o point (owner_of_point o point) (after o point))
-op_fits o point ops.Plain h = h
-op_fits o point ops.Nop h = h
-op_fits o point ops.Endbr h = h
-op_fits o point ops.Push h = h
-op_fits o point ops.PushBp h = h
-op_fits o point ops.Pop h = h
-op_fits o point ops.PopBp h = h
-op_fits o point ops.Popf h = h
-op_fits o point (ops.AddSp by) h = h
-op_fits o point (ops.AndSp mask) h = h
-op_fits o point (ops.LeaSpBp by) h = h
-op_fits o point (ops.LeaBpSp by) h = h
-op_fits o point (ops.StoreBp at) h = h
-op_fits o point (ops.LoadBp at) h = h
-op_fits o point ops.Leave h = h
-op_fits o point ops.SpOther h = h
-op_fits o point ops.BpOther h = h
-op_fits o point (ops.Call rel) h = h
-op_fits o point ops.CallInd h = h
-op_fits o point (ops.Jmp rel wide) h = h
-op_fits o point (ops.Jcc rel wide) h = h
-op_fits o point (ops.JmpInd field) h = h
-op_fits o point ops.Ret h = h
-op_fits o point ops.RetImm h = h
-op_fits o point ops.IretNext h = h
-op_fits o point ops.Switch h = h
-op_fits o point ops.Ud2 h = h
-op_fits o point ops.Int3 h = h
-op_fits o point ops.Stac h = h
-op_fits o point ops.Clac h = h
+made_fits : (around : Around) (op : Op) → HasSignedNumber op → HasSignedNumber (made around op)
+made_fits around (ops.Call rel) h = either_fits around.intra_call ops.Hop (ops.Call rel) tt tt
+made_fits around (ops.LeaBpSp by) h = either_fits around.makes_room (ops.LeaBpRoom by) (ops.LeaBpSp by) h h
+made_fits around ops.Iret h = either_fits around.within ops.IretNext ops.Iret tt tt
+made_fits around ops.Switch h = either_fits (around.within && around.hinted) ops.SpOther ops.Switch tt tt
+made_fits around _ h = h
 
 found_fits : (o : Coded) (point : Point) → HasBytes o → HasSignedNumber (decoded_insn o point).op
 unfolding decoded_insn
@@ -125,4 +99,4 @@ found_fits o point are = go (insn_of_point (texts_of o) (alternatives_of o) poin
 -- numbers in operations have 64 bits
 pub numbers : (o : Coded) (lists : NameLists) → HasBytes o → (q : ℕ) → IsPoint (program_of o lists) q → HasSignedNumber ((program_of o lists).insn q).op
 unfolding program_of returning_graph graph_of insn_of_object
-numbers o lists are q here = let point = point_at o q in op_fits o point (decoded_insn o point).op (found_fits o point are)
+numbers o lists are q here = let point = point_at o q in made_fits (around o point) (decoded_insn o point).op (found_fits o point are)

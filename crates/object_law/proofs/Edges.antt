@@ -3,7 +3,6 @@ use Rattle.std.proofs.Common.{◌≡◌, ℕ, ◌<◌, Bool, true, false, cond, 
 use Rattle.std.specs.Prelude.{◌≢◌}
 use Rattle.std.proofs.lemmas.List.Elements.{Contains-append_cases}
 use Rattle.ot_base.specs.declared.place.Place.{Place}
-use Rattle.operation_defs.specs.declared.insn.Insn.{Insn}
 use Rattle.operation_defs.specs.declared.op.Op.{Op}
 use Rattle.operation_defs.specs.declared.op.Op.TheVariants as ops
 use Rattle.flow_defs.specs.Coded.{Coded}
@@ -23,10 +22,10 @@ use Rattle.flow_defs.specs.Code.{alternatives_of, numbers_of, point_at, texts_of
 use Rattle.flow_defs.specs.Owners.{is_unchecked_point, owner_of_point}
 use Rattle.flow_defs.specs.Sites.{is_into_site}
 use Rattle.flow_defs.specs.Arrival.{after, after_by, arrive, insn_of_object, next_of_replacement, place_behind}
-use Rattle.flow_defs.specs.Targets.{destination}
-use Rattle.flow_defs.specs.Ways.{jump_way, listed_way}
+use Rattle.flow_defs.specs.Targets.{destination_of}
+use Rattle.flow_defs.specs.Ways.{hop_way, jump_way, listed_way, taken_only}
 use Rattle.flow_defs.specs.Roles.{table_of_point}
-use Rattle.flow_defs.specs.Edges.{branch_edges, branch_edges_by, edges_to, fixups, goes, goes_on, jump_edges, listed_edges, next_edges, static_targets, table_edges, table_edges_by, way_edges}
+use Rattle.flow_defs.specs.Edges.{branch_edges, branch_edges_by, edges_to, fixups, goes, goes_on, hop_edges, jump_edges, listed_edges, next_edges, static_targets, table_edges, way_edges}
 use Rattle.object_law.proofs.Numbers.{edges_lead, numbers_are, point_count}
 
 -- how an edge comes about that leads to a place, and what the way to that place is
@@ -66,38 +65,32 @@ jump_comes o point ToIndirectThunk e c = nowhere e c
 jump_comes o point ToReturnThunk e c = nowhere e c
 jump_comes o point ToNowhere e c = nowhere e c
 
-branch_comes : (o : Coded) (point : Point) (insn : Insn) (op : Op) (e : Edge) → Contains (branch_edges_by o point insn op) e → Comes o point e
-branch_comes o point insn (ops.Jmp rel wide) e c = jump_comes o point (destination o point insn) e c
-branch_comes o point insn (ops.Jcc rel wide) e c = jump_comes o point (destination o point insn) e c
-branch_comes o point insn ops.Plain e c = nowhere e c
-branch_comes o point insn ops.Nop e c = nowhere e c
-branch_comes o point insn ops.Endbr e c = nowhere e c
-branch_comes o point insn ops.Push e c = nowhere e c
-branch_comes o point insn ops.PushBp e c = nowhere e c
-branch_comes o point insn ops.Pop e c = nowhere e c
-branch_comes o point insn ops.PopBp e c = nowhere e c
-branch_comes o point insn ops.Popf e c = nowhere e c
-branch_comes o point insn (ops.AddSp by) e c = nowhere e c
-branch_comes o point insn (ops.AndSp mask) e c = nowhere e c
-branch_comes o point insn (ops.LeaSpBp by) e c = nowhere e c
-branch_comes o point insn (ops.LeaBpSp by) e c = nowhere e c
-branch_comes o point insn (ops.StoreBp at) e c = nowhere e c
-branch_comes o point insn (ops.LoadBp at) e c = nowhere e c
-branch_comes o point insn ops.Leave e c = nowhere e c
-branch_comes o point insn ops.SpOther e c = nowhere e c
-branch_comes o point insn ops.BpOther e c = nowhere e c
-branch_comes o point insn (ops.Call rel) e c = nowhere e c
-branch_comes o point insn ops.CallInd e c = nowhere e c
-branch_comes o point insn (ops.JmpInd field) e c = nowhere e c
-branch_comes o point insn ops.Ret e c = nowhere e c
-branch_comes o point insn ops.RetImm e c = nowhere e c
-branch_comes o point insn ops.Iret e c = nowhere e c
-branch_comes o point insn ops.IretNext e c = nowhere e c
-branch_comes o point insn ops.Switch e c = nowhere e c
-branch_comes o point insn ops.Ud2 e c = nowhere e c
-branch_comes o point insn ops.Int3 e c = nowhere e c
-branch_comes o point insn ops.Stac e c = nowhere e c
-branch_comes o point insn ops.Clac e c = nowhere e c
+-- the way of a call within a function is a jump's
+hop_is : (o : Coded) (point : Point) (weak : Option ℕ) (crossing : Crossing) (place : Place) (kind : EdgeKind) → hop_way o point weak crossing place ≡ ways.Along kind → jump_way o point crossing place ≡ ways.Along kind
+hop_is o point (Some sym) crossing place kind is = absurd (let k : ⊥ = cc in k)
+hop_is o point None crossing place kind is = go (jump_way o point crossing place) is
+  where
+    go : (way : Way) → taken_only way ≡ ways.Along kind → way ≡ ways.Along kind
+    go (ways.Along Taken) is = is
+    go (ways.Along Next) is = absurd (let k : ⊥ = cc in k)
+    go (ways.Along Fixup) is = absurd (let k : ⊥ = cc in k)
+    go (ways.Along Table) is = absurd (let k : ⊥ = cc in k)
+    go (ways.Along Sibling) is = absurd (let k : ⊥ = cc in k)
+    go ways.Bad is = absurd (let k : ⊥ = cc in k)
+    go (ways.Outside f) is = absurd (let k : ⊥ = cc in k)
+
+hop_comes : (o : Coded) (point : Point) (to : Destination) (e : Edge) → Contains (hop_edges o point to) e → Comes o point e
+hop_comes o point (ToPlace place weak crossing) e c =
+    let w = way_comes o point place (hop_way o point weak crossing place) e c in
+    Comes.branch crossing place w.0 (hop_is o point weak crossing place w.0 w.1) w.2
+hop_comes o point (ToOwnPoint other) e c = jump_comes o point (ToOwnPoint other) e c
+hop_comes o point _ e c = nowhere e c
+
+branch_comes : (o : Coded) (point : Point) (op : Op) (e : Edge) → Contains (branch_edges_by o point op) e → Comes o point e
+branch_comes o point (ops.Jmp rel wide) e c = jump_comes o point (destination_of o point) e c
+branch_comes o point (ops.Jcc rel wide) e c = jump_comes o point (destination_of o point) e c
+branch_comes o point ops.Hop e c = hop_comes o point (destination_of o point) e c
+branch_comes o point _ e c = nowhere e c
 
 listed_comes : (o : Coded) (kind : EdgeKind) → kind ≢ Sibling → (point : Point) (places : List Place) (e : Edge) → Contains (listed_edges o kind point places) e → Comes o point e
 listed_comes o kind other point places e c =
@@ -105,44 +98,14 @@ listed_comes o kind other point places e c =
     let w = way_comes o point one.0 (listed_way o kind (owner_of_point o point) one.0) e one.2 in
     Comes.listed kind other one.0 w.0 w.1 w.2
 
-table_comes : (o : Coded) (point : Point) (op : Op) (e : Edge) → Contains (table_edges_by o point op) e → Comes o point e
-table_comes o point (ops.JmpInd field) e c =
+table_comes : (o : Coded) (point : Point) (e : Edge) → Contains (table_edges o point) e → Comes o point e
+table_comes o point e c =
     let one = from_flat_map (λ place. way_edges o point place (ways.Along Table)) (table_of_point o point) e c in
     let w = way_comes o point one.0 (ways.Along Table) e one.2 in
     Comes.table one.0 one.1 (subst (ComesTo o point e one.0) (sym (same_kind w.1)) w.2)
   where
     same_kind : {a b : EdgeKind} → ◌≡◌ {A = Way} (ways.Along a) (ways.Along b) → a ≡ b
     same_kind is = cc
-table_comes o point ops.Plain e c = nowhere e c
-table_comes o point ops.Nop e c = nowhere e c
-table_comes o point ops.Endbr e c = nowhere e c
-table_comes o point ops.Push e c = nowhere e c
-table_comes o point ops.PushBp e c = nowhere e c
-table_comes o point ops.Pop e c = nowhere e c
-table_comes o point ops.PopBp e c = nowhere e c
-table_comes o point ops.Popf e c = nowhere e c
-table_comes o point (ops.AddSp by) e c = nowhere e c
-table_comes o point (ops.AndSp mask) e c = nowhere e c
-table_comes o point (ops.LeaSpBp by) e c = nowhere e c
-table_comes o point (ops.LeaBpSp by) e c = nowhere e c
-table_comes o point (ops.StoreBp at) e c = nowhere e c
-table_comes o point (ops.LoadBp at) e c = nowhere e c
-table_comes o point ops.Leave e c = nowhere e c
-table_comes o point ops.SpOther e c = nowhere e c
-table_comes o point ops.BpOther e c = nowhere e c
-table_comes o point (ops.Call rel) e c = nowhere e c
-table_comes o point ops.CallInd e c = nowhere e c
-table_comes o point (ops.Jmp rel wide) e c = nowhere e c
-table_comes o point (ops.Jcc rel wide) e c = nowhere e c
-table_comes o point ops.Ret e c = nowhere e c
-table_comes o point ops.RetImm e c = nowhere e c
-table_comes o point ops.Iret e c = nowhere e c
-table_comes o point ops.IretNext e c = nowhere e c
-table_comes o point ops.Switch e c = nowhere e c
-table_comes o point ops.Ud2 e c = nowhere e c
-table_comes o point ops.Int3 e c = nowhere e c
-table_comes o point ops.Stac e c = nowhere e c
-table_comes o point ops.Clac e c = nowhere e c
 
 next_comes : (o : Coded) (point : Point) (e : Edge) → Contains (next_edges o point) e → Comes o point e
 next_comes o point e c = go (goes_on o point) refl c
@@ -159,12 +122,12 @@ part_comes : (o : Coded) (point : Point) (e : Edge) → Contains (checked_edges 
 part_comes o point e c = elim (Contains-append_cases (next_edges o point) _ e c) [
   | inl d ↦ next_comes o point e d
   | inr c2 ↦ elim (Contains-append_cases (branch_edges o point) _ e c2) [
-    | inl d ↦ branch_comes o point (insn_of_object o point) (insn_of_object o point).op e d
+    | inl d ↦ branch_comes o point (insn_of_object o point).op e d
     | inr c3 ↦ elim (Contains-append_cases (listed_edges o Taken point (static_targets o point)) _ e c3) [
       | inl d ↦ listed_comes o Taken (λ is. let k : ⊥ = cc in k) point (static_targets o point) e d
       | inr c4 ↦ elim (Contains-append_cases (listed_edges o Fixup point (fixups o point)) _ e c4) [
         | inl d ↦ listed_comes o Fixup (λ is. let k : ⊥ = cc in k) point (fixups o point) e d
-        | inr d ↦ table_comes o point (insn_of_object o point).op e d
+        | inr d ↦ table_comes o point e d
       ]
     ]
   ]

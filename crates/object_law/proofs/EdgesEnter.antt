@@ -3,7 +3,6 @@ use Rattle.std.proofs.Common.{◌≡◌, ℕ, ◌<◌, ◌⊎◌, Bool, true, fa
 use Rattle.std.proofs.lemmas.List.Elements.{Contains-append_cases, Contains-append_left, Contains-append_right}
 use Rattle.ot_base.specs.NameLists.{NameLists}
 use Rattle.ot_base.specs.declared.place.Place.{Place}
-use Rattle.operation_defs.specs.declared.insn.Insn.{Insn}
 use Rattle.operation_defs.specs.declared.op.Op.{Op}
 use Rattle.operation_defs.specs.declared.op.Op.TheVariants as ops
 use Rattle.flow_defs.specs.Coded.{Coded}
@@ -22,11 +21,11 @@ use Rattle.flow_defs.specs.declared.destination.Way.TheVariants as ways
 use Rattle.flow_defs.specs.Code.{numbers_of, point_at}
 use Rattle.flow_defs.specs.Owners.{is_unchecked_point, owner_of_point}
 use Rattle.flow_defs.specs.Sites.{is_into_site, sites_of}
-use Rattle.flow_defs.specs.Arrival.{after, after_by, arrive, insn_of_object, next_of_replacement, place_behind}
-use Rattle.flow_defs.specs.Targets.{destination}
-use Rattle.flow_defs.specs.Ways.{jump_way, listed_way}
+use Rattle.flow_defs.specs.Arrival.{after, after_by, arrive, decoded_insn, insn_of_object, next_of_replacement, place_behind}
+use Rattle.flow_defs.specs.Targets.{destination_of}
+use Rattle.flow_defs.specs.Ways.{hop_way, jump_way, listed_way}
 use Rattle.flow_defs.specs.Roles.{table_of_point}
-use Rattle.flow_defs.specs.Edges.{branch_edges, branch_edges_by, edges_to, fixups, goes, goes_on, jump_edges, listed_edges, next_edges, static_targets, table_edges, table_edges_by, way_edges}
+use Rattle.flow_defs.specs.Edges.{branch_edges, branch_edges_by, edges_to, fixups, goes, goes_on, hop_edges, jump_edges, listed_edges, next_edges, static_targets, table_edges, way_edges}
 use Rattle.flow_defs.specs.Program.{program_of}
 use Rattle.object_law.specs.Flows.{ObjectIsInOrder}
 use Rattle.object_law.proofs.Numbers.{edges_lead, numbers_are, point_count}
@@ -90,9 +89,8 @@ module _ (o : Coded) (lists : NameLists) (point : Point) where
     listed_enter : (kind : EdgeKind) (places : List Place) → Enters o lists point (listed_edges o kind point places)
     listed_enter kind places = all_enter (λ place. way_edges o point place (listed_way o kind (owner_of_point o point) place)) (λ place. way_enters place (listed_way o kind (owner_of_point o point) place)) places
 
-    table_enters : (op : Op) → Enters o lists point (table_edges_by o point op)
-    table_enters (ops.JmpInd field) = all_enter (λ place. way_edges o point place (ways.Along Table)) (λ place. way_enters place (ways.Along Table)) (table_of_point o point)
-    table_enters _ = none_enter
+    table_enters : Enters o lists point (table_edges o point)
+    table_enters = all_enter (λ place. way_edges o point place (ways.Along Table)) (λ place. way_enters place (ways.Along Table)) (table_of_point o point)
 
 module _ (o : Coded) (lists : NameLists) (order : ObjectIsInOrder o) (q : ℕ) (of-q : q < point_count o) where
   -- an edge to a point of the same replacement
@@ -105,19 +103,25 @@ module _ (o : Coded) (lists : NameLists) (order : ObjectIsInOrder o) (q : ℕ) (
       only : (x y : Point) → Contains (x ∷ []) y → x ≡ y
       only x y c = elim (cases x [] y c) [ inl e ↦ e | inr d ↦ nowhere y d ]
 
-  jump_enters : (insn : Insn) (to : Destination) → destination o (point_at o q) insn ≡ to → Enters o lists (point_at o q) (jump_edges o (point_at o q) to)
-  jump_enters insn (destinations.ToPlace place weak crossing) is = way_enters o lists (point_at o q) order place (jump_way o (point_at o q) crossing place)
-  jump_enters insn (destinations.ToOwnPoint other) is = go (same_owner (owner_of_point o (point_at o q)) (owner_of_point o other))
+  jump_enters : (to : Destination) → destination_of o (point_at o q) ≡ to → Enters o lists (point_at o q) (jump_edges o (point_at o q) to)
+  jump_enters (destinations.ToPlace place weak crossing) is = way_enters o lists (point_at o q) order place (jump_way o (point_at o q) crossing place)
+  jump_enters (destinations.ToOwnPoint other) is = go (same_owner (owner_of_point o (point_at o q)) (owner_of_point o other))
     where
       go : (b : Bool) → Enters o lists (point_at o q) (cond b (edges_to Taken (numbers_of o (other ∷ []))) [])
-      go true = same_enters Taken other (destination_within o (point_at o q) insn other is)
+      go true = same_enters Taken other (destination_within o (point_at o q) (decoded_insn o (point_at o q)) other is)
       go false = none_enter o lists (point_at o q)
-  jump_enters insn _ is = none_enter o lists (point_at o q)
+  jump_enters _ is = none_enter o lists (point_at o q)
 
-  branch_enters : (insn : Insn) (op : Op) → Enters o lists (point_at o q) (branch_edges_by o (point_at o q) insn op)
-  branch_enters insn (ops.Jmp rel wide) = jump_enters insn (destination o (point_at o q) insn) refl
-  branch_enters insn (ops.Jcc rel wide) = jump_enters insn (destination o (point_at o q) insn) refl
-  branch_enters insn _ = none_enter o lists (point_at o q)
+  hop_enters : (to : Destination) → destination_of o (point_at o q) ≡ to → Enters o lists (point_at o q) (hop_edges o (point_at o q) to)
+  hop_enters (destinations.ToPlace place weak crossing) is = way_enters o lists (point_at o q) order place (hop_way o (point_at o q) weak crossing place)
+  hop_enters (destinations.ToOwnPoint other) is = jump_enters (destinations.ToOwnPoint other) is
+  hop_enters _ is = none_enter o lists (point_at o q)
+
+  branch_enters : (op : Op) → Enters o lists (point_at o q) (branch_edges_by o (point_at o q) op)
+  branch_enters (ops.Jmp rel wide) = jump_enters (destination_of o (point_at o q)) refl
+  branch_enters (ops.Jcc rel wide) = jump_enters (destination_of o (point_at o q)) refl
+  branch_enters ops.Hop = hop_enters (destination_of o (point_at o q)) refl
+  branch_enters _ = none_enter o lists (point_at o q)
 
   after_enters : Enters o lists (point_at o q) (edges_to Next (after o (point_at o q)))
   unfolding after
@@ -145,11 +149,10 @@ module _ (o : Coded) (lists : NameLists) (order : ObjectIsInOrder o) (q : ℕ) (
   checked_enter : Enters o lists (point_at o q) (checked_edges (point_at o q))
   checked_enter =
       let point = point_at o q in
-      let insn = insn_of_object o point in
       both_enter o lists point (next_edges o point) _ next_enters
-      (both_enter o lists point (branch_edges o point) _ (branch_enters insn insn.op)
+      (both_enter o lists point (branch_edges o point) _ (branch_enters (insn_of_object o point).op)
       (both_enter o lists point (listed_edges o Taken point (static_targets o point)) _ (listed_enter o lists point order Taken (static_targets o point))
-      (both_enter o lists point (listed_edges o Fixup point (fixups o point)) (table_edges o point) (listed_enter o lists point order Fixup (fixups o point)) (table_enters o lists point order insn.op))))
+      (both_enter o lists point (listed_edges o Fixup point (fixups o point)) (table_edges o point) (listed_enter o lists point order Fixup (fixups o point)) (table_enters o lists point order))))
 
   pub edges_enter : Enters o lists (point_at o q) (goes o (point_at o q))
   unfolding goes

@@ -7,7 +7,6 @@ use Rattle.std.proofs.lemmas.List.Elements.{Contains-append_cases}
 use Rattle.std.proofs.lemmas.List.Sums.{take_while-cons}
 use Rattle.ot_base.specs.declared.place.Place.{Place}
 use Rattle.ot_base.specs.Places.{same_place}
-use Rattle.operation_defs.specs.declared.insn.Insn.{Insn}
 use Rattle.operation_defs.specs.declared.op.Op.{Op}
 use Rattle.operation_defs.specs.declared.op.Op.TheVariants as ops
 use Rattle.elf_objects.specs.declared.TheConstants.{R_X86_64_64}
@@ -31,14 +30,14 @@ use Rattle.flow_defs.specs.declared.destination.Destination.{Destination}
 use Rattle.flow_defs.specs.declared.destination.Destination.TheVariants as destinations
 use Rattle.flow_defs.specs.declared.destination.Way.{Way}
 use Rattle.flow_defs.specs.declared.destination.Way.TheVariants as ways
-use Rattle.flow_defs.specs.Code.{is_plain, numbers_of, point_at, texts_of}
+use Rattle.flow_defs.specs.Code.{alternatives_of, is_plain, numbers_of, point_at, texts_of}
 use Rattle.flow_defs.specs.Owners.{is_unchecked_point, owner_of_point}
 use Rattle.flow_defs.specs.Sites.{is_into_site}
 use Rattle.flow_defs.specs.Arrival.{after, after_by, arrive, decoded_insn, insn_of_object, is_padding, next_of_replacement, place_behind, site_end}
-use Rattle.flow_defs.specs.Targets.{destination}
-use Rattle.flow_defs.specs.Ways.{jump_way, listed_way}
+use Rattle.flow_defs.specs.Targets.{destination_of}
+use Rattle.flow_defs.specs.Ways.{hop_way, jump_way, listed_way}
 use Rattle.flow_defs.specs.Roles.{table_of_point}
-use Rattle.flow_defs.specs.Edges.{branch_edges, branch_edges_by, edges_to, fixups, goes, goes_on, jump_edges, listed_edges, next_edges, static_targets, table_edges, table_edges_by, way_edges}
+use Rattle.flow_defs.specs.Edges.{branch_edges, branch_edges_by, edges_to, fixups, goes, goes_on, hop_edges, jump_edges, listed_edges, next_edges, static_targets, table_edges, way_edges}
 use Rattle.object_law.proofs.Edges.{checked_edges}
 use Rattle.object_law.proofs.Numbers.{edges_lead, numbers_are}
 use Rattle.object_law.proofs.Overlays.{address_plain}
@@ -87,27 +86,31 @@ module _ (o : Coded) where
       by_reloc None e = absurd (let z : ⊥ = cc in z)
       by_reloc (Some r) e = by_place r (place_named o.elf r) refl e
 
-  entry_is_named : (table : Place) (i : ℕ) (place : Place) → table_entry_at o.elf (texts_of o) table i ≡ Some place → IsNamed o place.sec
+  entry_is_named : (table : Place) (i : ℕ) (place : Place) → table_entry_at o.elf (texts_of o) (alternatives_of o) table i ≡ Some place → IsNamed o place.sec
   entry_is_named table i place is = by_field (table_behind table (8 * i)) is
     where
       by_table : (field : Place) (b : Bool) → cond b None (boundary_named o.elf (texts_of o) field) ≡ Some place → IsNamed o place.sec
       by_table field true e = absurd (let z : ⊥ = cc in z)
       by_table field false e = boundary_is_named field place e
 
-      by_field : (field : Option Place) → option_and_then (λ field. cond (nat_lt 0 i && is_table o.elf (texts_of o) field) None (boundary_named o.elf (texts_of o) field)) field ≡ Some place → IsNamed o place.sec
+      by_field : (field : Option Place) → option_and_then (λ field. cond (nat_lt 0 i && is_table o.elf (texts_of o) (alternatives_of o) field) None (boundary_named o.elf (texts_of o) field)) field ≡ Some place → IsNamed o place.sec
       by_field None e = absurd (let z : ⊥ = cc in z)
-      by_field (Some field) e = by_table field (nat_lt 0 i && is_table o.elf (texts_of o) field) e
+      by_field (Some field) e = by_table field (nat_lt 0 i && is_table o.elf (texts_of o) (alternatives_of o) field) e
 
   table_is_named : (point : Point) (place : Place) → Contains (table_of_point o point) place → IsNamed o place.sec
   unfolding table_of_point
-  table_is_named point place c = go (jump_table o.elf (texts_of o) point.place) c
+  table_is_named point place c = by_padding (is_padding o point) c
     where
-      go : (table : Option Place) → Contains (entries_by o.elf (texts_of o) (owner_of_point o point) table) place → IsNamed o place.sec
+      go : (table : Option Place) → Contains (entries_by o.elf (texts_of o) (alternatives_of o) (owner_of_point o point) table) place → IsNamed o place.sec
       go None c = nowhere place c
       go (Some table) c =
-          let listed = taken_listed (λ p. same_owner (owner_at o.elf p) (owner_of_point o point)) (entries_of o.elf (texts_of o) table) place c in
-          let one = from_map (table_entry_at o.elf (texts_of o) table) (range_with_len 0 (length (relocs_at o.elf table.sec))) (Some place) (up_to_listed _ place listed) in
+          let listed = taken_listed (λ p. same_owner (owner_at o.elf p) (owner_of_point o point)) (entries_of o.elf (texts_of o) (alternatives_of o) table) place c in
+          let one = from_map (table_entry_at o.elf (texts_of o) (alternatives_of o) table) (range_with_len 0 (length (relocs_at o.elf table.sec))) (Some place) (up_to_listed _ place listed) in
           entry_is_named table one.0 place one.2
+
+      by_padding : (b : Bool) → Contains (cond b [] (entries_by o.elf (texts_of o) (alternatives_of o) (owner_of_point o point) (jump_table o.elf (texts_of o) (alternatives_of o) point))) place → IsNamed o place.sec
+      by_padding true c = nowhere place c
+      by_padding false c = go (jump_table o.elf (texts_of o) (alternatives_of o) point) c
 
 -- each of some edges leads to a point that runs in such a section
 abbrev LeadToNamed : Coded → List Edge → Type 0
@@ -139,11 +142,10 @@ module _ (o : Coded) where
         let one = from_flat_map (λ place. way_edges o point place (way place)) places e c in
         way_leads one.0 (way one.0) (each one.0 one.1) e one.2
 
-    table_leads : (op : Op) → LeadToNamed o (table_edges_by o point op)
-    table_leads (ops.JmpInd field) = λ e c. (
+    table_leads : LeadToNamed o (table_edges o point)
+    table_leads e c =
         let one = from_flat_map (λ place. way_edges o point place (ways.Along Table)) (table_of_point o point) e c in
-        way_leads one.0 (ways.Along Table) (table_is_named o point one.0 one.1) e one.2)
-    table_leads _ = none_lead
+        way_leads one.0 (ways.Along Table) (table_is_named o point one.0 one.1) e one.2
 
     module _ (none : special_faults o.elf ≡ []) where
       static_named : (place : Place) → Contains (static_targets o point) place → IsNamed o place.sec
@@ -183,10 +185,16 @@ module _ (o : Coded) where
           go false = none_lead
       jump_leads _ goes = none_lead
 
-      branch_leads : (insn : Insn) (op : Op) → LeadToNamed o (branch_edges_by o point insn op)
-      branch_leads insn (ops.Jmp rel wide) = jump_leads (destination o point insn) (destination_named o point named insn)
-      branch_leads insn (ops.Jcc rel wide) = jump_leads (destination o point insn) (destination_named o point named insn)
-      branch_leads insn _ = none_lead
+      hop_leads : (to : Destination) → DestinationIsNamed o point to → LeadToNamed o (hop_edges o point to)
+      hop_leads (destinations.ToPlace place weak crossing) goes = way_leads place (hop_way o point weak crossing place) goes
+      hop_leads (destinations.ToOwnPoint other) goes = jump_leads (destinations.ToOwnPoint other) goes
+      hop_leads _ goes = none_lead
+
+      branch_leads : (op : Op) → LeadToNamed o (branch_edges_by o point op)
+      branch_leads (ops.Jmp rel wide) = jump_leads (destination_of o point) (destination_named o point named (decoded_insn o point))
+      branch_leads (ops.Jcc rel wide) = jump_leads (destination_of o point) (destination_named o point named (decoded_insn o point))
+      branch_leads ops.Hop = hop_leads (destination_of o point) (destination_named o point named (decoded_insn o point))
+      branch_leads _ = none_lead
 
       -- behind a point comes its own section, or that of its site
       behind_named : IsNamed o (place_behind o point).sec
@@ -213,11 +221,10 @@ module _ (o : Coded) where
 
       checked_lead : special_faults o.elf ≡ [] → LeadToNamed o (checked_edges o point)
       checked_lead none =
-          let insn = insn_of_object o point in
           both_lead (next_edges o point) _ next_leads
-          (both_lead (branch_edges o point) _ (branch_leads insn insn.op)
+          (both_lead (branch_edges o point) _ (branch_leads (insn_of_object o point).op)
           (both_lead (listed_edges o Taken point (static_targets o point)) _ (listed_lead Taken (static_targets o point) (static_named none))
-          (both_lead (listed_edges o Fixup point (fixups o point)) (table_edges o point) (listed_lead Fixup (fixups o point) (fixups_named none)) (table_leads insn.op))))
+          (both_lead (listed_edges o Fixup point (fixups o point)) (table_edges o point) (listed_lead Fixup (fixups o point) (fixups_named none)) table_leads)))
 
       pub edges_lead_to_named : special_faults o.elf ≡ [] → LeadToNamed o (goes o point)
       unfolding goes

@@ -33,7 +33,7 @@ use Rattle.object_law.proofs.EdgesEnter.{edges_enter}
 use Rattle.object_law.proofs.Starts.{address_at, arrives_at_start, site_found}
 
 -- an instruction of a text stands at one of its places
-place_listed : (o : Coded) (place : Place) → Contains (text_numbers o.elf) place.sec → place.off < length (body_of o place.sec).bytes → Contains (places_of o) place
+pub place_listed : (o : Coded) (place : Place) → Contains (text_numbers o.elf) place.sec → place.off < length (body_of o place.sec).bytes → Contains (places_of o) place
 unfolding texts_of
 place_listed o place listed below =
     let made = λ (i : ℕ). let x : SectionText = record { sec = i; text = body_of o i } in x in

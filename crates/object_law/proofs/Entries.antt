@@ -1,14 +1,13 @@
 -- Calls and tail calls inside an object go to its entries.
-use Rattle.std.proofs.Common.{◌≡◌, ℕ, ◌<◌, Bool, true, false, cond, List, [], ◌∷◌, Option, Some, None, length, get_or, Contains, refl, sym, ap, ◌∙◌, arith, subst, inl, inr}
-use Rattle.std.specs.Prelude.{◌≢◌, filter, unwrap_or}
+use Rattle.std.proofs.Common.{◌≡◌, ℕ, ◌<◌, ◌⊎◌, Bool, true, false, cond, List, [], ◌∷◌, Option, Some, None, length, get_or, Contains, refl, sym, ap, ◌∙◌, arith, subst, inl, inr}
+use Rattle.std.specs.Prelude.{◌≢◌, filter, is_none, unwrap_or}
 use Rattle.std.specs.List.{position_or_len}
-use Rattle.std.proofs.lemmas.Bool.{and_from, cases_lt, eq-eqb, false≢true, lt-ltb}
+use Rattle.std.proofs.lemmas.Bool.{and_from, cases_lt, eq-eqb, false≢true, lt-ltb, or_cases}
 use Rattle.std.proofs.lemmas.List.Sums.{fails_before_first}
 use Rattle.ot_base.specs.declared.place.Place.{Place}
 use Rattle.ot_base.specs.NameLists.{NameLists}
 use Rattle.ot_base.specs.Places.{same_place}
 use Rattle.alternatives.specs.Texts.{is_boundary}
-use Rattle.operation_defs.specs.declared.insn.Insn.{Insn}
 use Rattle.operation_defs.specs.declared.op.Op.{Op}
 use Rattle.operation_defs.specs.declared.op.Op.TheVariants as ops
 use Rattle.elf_objects.specs.Elf.{Elf}
@@ -17,13 +16,16 @@ use Rattle.machine_defs.specs.declared.flow.EdgeKind.{EdgeKind}
 use Rattle.machine_defs.specs.declared.flow.EdgeKind.TheVariants.{Taken, Sibling}
 use Rattle.machine_defs.specs.declared.flow.Role.{Role}
 use Rattle.machine_defs.specs.declared.flow.Role.TheVariants as roles
-use Rattle.machine_defs.specs.Program.{IsPoint, edge, entry_points}
+use Rattle.machine_defs.specs.Program.{IsPoint, Site, edge, entry_points, in_site}
+use Rattle.machine_defs.specs.IsProgram.{IsCallee}
+use Rattle.machine_defs.specs.Ways.{MayCall, is_call_hint}
+use Rattle.symbols_relocs.specs.Parts.{owner_at}
 use Rattle.alternatives.specs.declared.point.Point.{Point}
 use Rattle.alternatives.specs.Points.{points_of}
 use Rattle.alternatives.proofs.Ascending.{contains_in}
 use Rattle.alternatives.proofs.Listing.{points_complete}
 use Rattle.unwinding_law.proofs.Lists.{in_filter}
-use Rattle.table_law.proofs.Lists.{in_filter_map}
+use Rattle.table_law.proofs.Lists.{finds, in_filter_map}
 use Rattle.flow_defs.specs.declared.destination.Crossing.{Crossing}
 use Rattle.flow_defs.specs.declared.destination.Crossing.TheVariants.{MayCross}
 use Rattle.flow_defs.specs.declared.destination.Destination.{Destination}
@@ -32,12 +34,14 @@ use Rattle.flow_defs.specs.declared.destination.Way.{Way}
 use Rattle.flow_defs.specs.declared.destination.Way.TheVariants as ways
 use Rattle.flow_defs.specs.Code.{alternatives_of, number_of, plain_point, point_at, points_of_object, same_point, texts_of}
 use Rattle.flow_defs.specs.Owners.{is_entry, owner_of_point, unchecked_start}
-use Rattle.flow_defs.specs.Arrival.{arrive, insn_of_object, is_padding}
-use Rattle.flow_defs.specs.Targets.{destination}
+use Rattle.flow_defs.specs.Arrival.{arrive, hint_of, insn_of_object, is_padding}
+use Rattle.flow_defs.specs.Sites.{site_holding, sites_of}
+use Rattle.flow_defs.specs.Targets.{destination_of}
 use Rattle.flow_defs.specs.Ways.{jump_way}
-use Rattle.flow_defs.specs.Roles.{call_by, call_role, entry_call, jump_by_table, jump_by_way, jump_role, place_call, plain_number, role_by, role_of, table_of_point}
+use Rattle.flow_defs.specs.Roles.{call_by, call_role, entry_call, is_called, jump_by_table, jump_by_way, jump_role, may_call, place_call, plain_number, role_by, role_of, table_of_point}
 use Rattle.flow_defs.specs.Program.{entries_of, graph_of, is_entry_point, program_of, returning_graph}
-use Rattle.object_law.proofs.Numbers.{numbered}
+use Rattle.object_law.proofs.Levels.{and_true}
+use Rattle.object_law.proofs.Numbers.{numbered, point_count}
 use Rattle.object_law.proofs.Edges.{Comes, edge_comes}
 use Rattle.object_law.proofs.Checked.{Leads, Ways, listed_leads, way_leads}
 
@@ -96,32 +100,53 @@ entry_called entry (Some sym) = refl
 same_some : {X : Type 0} {x y : X} → Some x ≡ Some y → x ≡ y
 same_some e = cc
 
-place_called : (o : Coded) (place : Place) (weak : Option ℕ) (entry : ℕ) → called (place_call o place weak) ≡ Some entry → Contains (entries_of o) entry
-place_called o place weak entry is = by_boundary (is_boundary (texts_of o) place) refl is
+-- what code of no function calls though no function starts there, by its number
+record IsFreeCallee (o : Coded) (point : Point) (entry : ℕ) : Type 0 where
+  place : Place
+  passes : may_call o point place ≡ true
+  inside : entry < point_count o
+  is : point_at o entry ≡ plain_point place
+
+-- the point that a call goes to is an entry, or such a place
+abbrev IsCalled : Coded → Point → ℕ → Type 0
+IsCalled o point entry = Contains (entries_of o) entry ⊎ IsFreeCallee o point entry
+
+free_callee : (o : Coded) (point : Point) (place : Place) → is_boundary (texts_of o) place ≡ true → may_call o point place ≡ true → IsFreeCallee o point (plain_number o place)
+free_callee o point place boundary passes =
+    let has = has_number o (plain_point place) (plain_listed o place boundary) in
+    let own = numbered o (plain_point place) has.0 has.1 in
+    subst (IsFreeCallee o point) (ap (λ n. unwrap_or n 0) (sym has.1)) (record { place = place; passes = passes; inside = own.0; is = own.1 })
+
+place_called : (o : Coded) (point : Point) (place : Place) (weak : Option ℕ) (entry : ℕ) → called (place_call o point place weak) ≡ Some entry → IsCalled o point entry
+place_called o point place weak entry is = by_boundary (is_boundary (texts_of o) place) refl is
   where
-    by_entry : (b : Bool) → is_boundary (texts_of o) place ≡ true → is_entry o.elf place ≡ b → called (cond b (entry_call (plain_number o place) weak) roles.Plain) ≡ Some entry → Contains (entries_of o) entry
-    by_entry true boundary e is = subst (Contains (entries_of o)) (same_some (sym (entry_called (plain_number o place) weak) ∙ is)) (listed_entry o place boundary e).listed
+    callee : is_boundary (texts_of o) place ≡ true → (is_entry o.elf place ≡ true) ⊎ (may_call o point place ≡ true) → IsCalled o point (plain_number o place)
+    callee boundary (inl e) = inl (listed_entry o place boundary e).listed
+    callee boundary (inr passes) = inr (free_callee o point place boundary passes)
+
+    by_entry : (b : Bool) → is_boundary (texts_of o) place ≡ true → is_called o point place ≡ b → called (cond b (entry_call (plain_number o place) weak) roles.Plain) ≡ Some entry → IsCalled o point entry
+    by_entry true boundary e is = subst (IsCalled o point) (same_some (sym (entry_called (plain_number o place) weak) ∙ is)) (callee boundary (or_cases (is_entry o.elf place) (may_call o point place) e))
     by_entry false boundary e is = absurd (let k : ⊥ = cc in k)
 
-    by_start : (start : Option ℕ) → is_boundary (texts_of o) place ≡ true → called (call_by o place weak start) ≡ Some entry → Contains (entries_of o) entry
+    by_start : (start : Option ℕ) → is_boundary (texts_of o) place ≡ true → called (call_by o point place weak start) ≡ Some entry → IsCalled o point entry
     by_start (Some f) boundary is = absurd (let k : ⊥ = cc in k)
-    by_start None boundary is = by_entry (is_entry o.elf place) boundary refl is
+    by_start None boundary is = by_entry (is_called o point place) boundary refl is
 
-    by_boundary : (b : Bool) → is_boundary (texts_of o) place ≡ b → called (cond b (call_by o place weak (unchecked_start o.elf place)) roles.Plain) ≡ Some entry → Contains (entries_of o) entry
+    by_boundary : (b : Bool) → is_boundary (texts_of o) place ≡ b → called (cond b (call_by o point place weak (unchecked_start o.elf place)) roles.Plain) ≡ Some entry → IsCalled o point entry
     by_boundary true e is = by_start (unchecked_start o.elf place) e is
     by_boundary false e is = absurd (let k : ⊥ = cc in k)
 
-call_called : (o : Coded) (to : Destination) (entry : ℕ) → called (call_role o to) ≡ Some entry → Contains (entries_of o) entry
-call_called o (ToPlace place weak crossing) entry is = place_called o place weak entry is
-call_called o (ToOwnPoint point) entry is = go (is_padding o point) is
+call_called : (o : Coded) (point : Point) (to : Destination) (entry : ℕ) → called (call_role o point to) ≡ Some entry → IsCalled o point entry
+call_called o point (ToPlace place weak crossing) entry is = place_called o point place weak entry is
+call_called o point (ToOwnPoint other) entry is = go (is_padding o other) is
   where
-    go : (b : Bool) → called (cond b roles.Plain (place_call o point.place None)) ≡ Some entry → Contains (entries_of o) entry
+    go : (b : Bool) → called (cond b roles.Plain (place_call o point other.place None)) ≡ Some entry → IsCalled o point entry
     go true is = absurd (let k : ⊥ = cc in k)
-    go false is = place_called o point.place None entry is
-call_called o (ToOutside sym) entry is = absurd (let k : ⊥ = cc in k)
-call_called o ToIndirectThunk entry is = absurd (let k : ⊥ = cc in k)
-call_called o ToReturnThunk entry is = absurd (let k : ⊥ = cc in k)
-call_called o ToNowhere entry is = absurd (let k : ⊥ = cc in k)
+    go false is = place_called o point other.place None entry is
+call_called o point (ToOutside sym) entry is = absurd (let k : ⊥ = cc in k)
+call_called o point ToIndirectThunk entry is = absurd (let k : ⊥ = cc in k)
+call_called o point ToReturnThunk entry is = absurd (let k : ⊥ = cc in k)
+call_called o point ToNowhere entry is = absurd (let k : ⊥ = cc in k)
 
 way_calls_none : (w : Way) (weak : Option ℕ) → called (jump_by_way w weak) ≡ None
 way_calls_none ways.Bad weak = refl
@@ -129,53 +154,27 @@ way_calls_none (ways.Outside f) weak = refl
 way_calls_none (ways.Along kind) None = refl
 way_calls_none (ways.Along kind) (Some sym) = refl
 
-jump_calls_none : (o : Coded) (point : Point) (to : Destination) → called (jump_role o point to) ≡ None
-jump_calls_none o point (ToPlace place weak crossing) = way_calls_none (jump_way o point crossing place) weak
-jump_calls_none o point (ToOwnPoint other) = refl
-jump_calls_none o point (ToOutside sym) = refl
-jump_calls_none o point ToIndirectThunk = refl
-jump_calls_none o point ToReturnThunk = refl
-jump_calls_none o point ToNowhere = refl
-
 table_calls_none : (places : List Place) → called (jump_by_table places) ≡ None
 table_calls_none [] = refl
 table_calls_none (place ∷ places) = refl
 
+jump_calls_none : (o : Coded) (point : Point) (to : Destination) → called (jump_role o point to) ≡ None
+jump_calls_none o point (ToPlace place weak crossing) = way_calls_none (jump_way o point crossing place) weak
+jump_calls_none o point (ToOwnPoint other) = refl
+jump_calls_none o point (ToOutside sym) = refl
+jump_calls_none o point ToIndirectThunk = table_calls_none (table_of_point o point)
+jump_calls_none o point ToReturnThunk = refl
+jump_calls_none o point ToNowhere = refl
+
 nothing : {P : Type 0} {entry : ℕ} (r : Option ℕ) → r ≡ None → r ≡ Some entry → P
 nothing r none some = absurd (let k : ⊥ = cc in k)
 
-role_called : (o : Coded) (point : Point) (insn : Insn) (op : Op) (entry : ℕ) → called (role_by o point insn op) ≡ Some entry → Contains (entries_of o) entry
-role_called o point insn (ops.Call rel) entry is = call_called o (destination o point insn) entry is
-role_called o point insn (ops.Jmp rel wide) entry is = nothing (called (jump_role o point (destination o point insn))) (jump_calls_none o point (destination o point insn)) is
-role_called o point insn (ops.Jcc rel wide) entry is = nothing (called (jump_role o point (destination o point insn))) (jump_calls_none o point (destination o point insn)) is
-role_called o point insn (ops.JmpInd field) entry is = nothing (called (jump_by_table (table_of_point o point))) (table_calls_none (table_of_point o point)) is
-role_called o point insn ops.CallInd entry is = nothing None refl is
-role_called o point insn ops.Plain entry is = nothing None refl is
-role_called o point insn ops.Nop entry is = nothing None refl is
-role_called o point insn ops.Endbr entry is = nothing None refl is
-role_called o point insn ops.Push entry is = nothing None refl is
-role_called o point insn ops.PushBp entry is = nothing None refl is
-role_called o point insn ops.Pop entry is = nothing None refl is
-role_called o point insn ops.PopBp entry is = nothing None refl is
-role_called o point insn ops.Popf entry is = nothing None refl is
-role_called o point insn (ops.AddSp by) entry is = nothing None refl is
-role_called o point insn (ops.AndSp mask) entry is = nothing None refl is
-role_called o point insn (ops.LeaSpBp by) entry is = nothing None refl is
-role_called o point insn (ops.LeaBpSp by) entry is = nothing None refl is
-role_called o point insn (ops.StoreBp at) entry is = nothing None refl is
-role_called o point insn (ops.LoadBp at) entry is = nothing None refl is
-role_called o point insn ops.Leave entry is = nothing None refl is
-role_called o point insn ops.SpOther entry is = nothing None refl is
-role_called o point insn ops.BpOther entry is = nothing None refl is
-role_called o point insn ops.Ret entry is = nothing None refl is
-role_called o point insn ops.RetImm entry is = nothing None refl is
-role_called o point insn ops.Iret entry is = nothing None refl is
-role_called o point insn ops.IretNext entry is = nothing None refl is
-role_called o point insn ops.Switch entry is = nothing None refl is
-role_called o point insn ops.Ud2 entry is = nothing None refl is
-role_called o point insn ops.Int3 entry is = nothing None refl is
-role_called o point insn ops.Stac entry is = nothing None refl is
-role_called o point insn ops.Clac entry is = nothing None refl is
+role_called : (o : Coded) (point : Point) (op : Op) (entry : ℕ) → called (role_by o point op) ≡ Some entry → IsCalled o point entry
+role_called o point (ops.Call rel) entry is = call_called o point (destination_of o point) entry is
+role_called o point (ops.Jmp rel wide) entry is = nothing (called (jump_role o point (destination_of o point))) (jump_calls_none o point (destination_of o point)) is
+role_called o point (ops.Jcc rel wide) entry is = nothing (called (jump_role o point (destination_of o point))) (jump_calls_none o point (destination_of o point)) is
+role_called o point (ops.JmpInd field) entry is = nothing (called (jump_by_table (table_of_point o point))) (table_calls_none (table_of_point o point)) is
+role_called o point _ entry is = nothing None refl is
 
 -- a tail call comes to a place that is an entry
 sibling_entry : (o : Elf) (crossing : Crossing) (asked : EdgeKind) (from : Option ℕ) (place : Place) → asked ≢ Sibling → Leads o crossing asked from place Sibling → is_entry o place ≡ true
@@ -204,15 +203,49 @@ tail_call o point q (Comes.within other same c kind) = absurd (let k : ⊥ = cc 
 tail_call o point q (Comes.listed asked other place kind way to) = by_way o MayCross asked (owner_of_point o point) place kind q other (sym to.is_kind) (listed_leads o asked (owner_of_point o point) place kind way) to.arrives
 tail_call o point q (Comes.table place c to) = absurd (let is = to.is_kind in let k : ⊥ = cc in k)
 
-module _ (o : Coded) (lists : NameLists) where
-  -- calls inside the program go to entries
-  pub calls_entry : (q entry : ℕ) → IsPoint (program_of o lists) q → (program_of o lists).role q ≡ roles.CallIn entry → Contains (program_of o lists).entries entry
-  unfolding program_of returning_graph graph_of role_of
-  calls_entry q entry here is = let insn = insn_of_object o (point_at o q) in role_called o (point_at o q) insn insn.op entry (ap called is)
+-- no site holds a place that none is found to hold
+held_by_none : (o : Coded) (place : Place) → is_none (site_holding o place) ≡ true → (site : Site) → Contains (sites_of o) site → in_site site place ≡ false
+unfolding site_holding
+held_by_none o place none site c = elim (finds (λ s. in_site s place) (sites_of o)) [
+  | inl missing ↦ missing.1 site c
+  | inr one ↦ absurd (false≢true (ap is_none (sym one.1) ∙ none))
+]
 
-  pub calls_weak_entry : (q entry sym : ℕ) → IsPoint (program_of o lists) q → (program_of o lists).role q ≡ roles.CallEither entry sym → Contains (program_of o lists).entries entry
+no_one : {X : Type 0} (found : Option X) → is_none found ≡ true → found ≡ None
+no_one None e = refl
+no_one (Some x) e = absurd (false≢true e)
+
+module _ (o : Coded) (lists : NameLists) where
+  -- such a place is what the machine lets code of no function call
+  may_call_there : (q entry : ℕ) → IsFreeCallee o (point_at o q) entry → MayCall (program_of o lists) q entry
+  unfolding program_of returning_graph graph_of
+  may_call_there q entry free =
+      let place = free.place in
+      let from = and_true (is_none (owner_of_point o (point_at o q))) _ free.passes in
+      let of = and_true (is_none (owner_at o.elf place)) _ from.1 in
+      let rest = and_true (is_call_hint (hint_of o (plain_point place))) (is_none (site_holding o place)) of.1 in
+      record {
+        point = free.inside;
+        plain = ap (λ (p : Point). p.variant) free.is;
+        from_none = no_one (owner_of_point o (point_at o q)) from.0;
+        of_none = ap (λ (p : Point). owner_of_point o p) free.is ∙ no_one (owner_at o.elf place) of.0;
+        outside = λ site c. ap (λ (p : Point). in_site site p.place) free.is ∙ held_by_none o place rest.1 site c;
+        hinted = ap (λ (p : Point). is_call_hint (hint_of o p)) free.is ∙ rest.0;
+      }
+
+  callee_is : (q entry : ℕ) → IsCalled o (point_at o q) entry → IsCallee (program_of o lists) q entry
+  unfolding program_of returning_graph graph_of
+  callee_is q entry (inl listed) = inl listed
+  callee_is q entry (inr free) = inr (may_call_there q entry free)
+
+  -- calls inside the program go to entries, or to what code of no function may call
+  pub calls_entry : (q entry : ℕ) → IsPoint (program_of o lists) q → (program_of o lists).role q ≡ roles.CallIn entry → IsCallee (program_of o lists) q entry
   unfolding program_of returning_graph graph_of role_of
-  calls_weak_entry q entry sym here is = let insn = insn_of_object o (point_at o q) in role_called o (point_at o q) insn insn.op entry (ap called is)
+  calls_entry q entry here is = callee_is q entry (role_called o (point_at o q) (insn_of_object o (point_at o q)).op entry (ap called is))
+
+  pub calls_weak_entry : (q entry sym : ℕ) → IsPoint (program_of o lists) q → (program_of o lists).role q ≡ roles.CallEither entry sym → IsCallee (program_of o lists) q entry
+  unfolding program_of returning_graph graph_of role_of
+  calls_weak_entry q entry sym here is = callee_is q entry (role_called o (point_at o q) (insn_of_object o (point_at o q)).op entry (ap called is))
 
   -- tail calls go to entries
   pub siblings : (q r : ℕ) → IsPoint (program_of o lists) q → Contains ((program_of o lists).goes q) (edge r Sibling) → (entry : ℕ) × Contains (program_of o lists).entries entry × Contains (entry_points (program_of o lists) entry) r

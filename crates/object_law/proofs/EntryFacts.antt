@@ -1,8 +1,8 @@
 -- What is known of the alternatives of an object in order.
-use Rattle.std.proofs.Common.{◌≡◌, ℕ, ◌+◌, ◌*◌, ◌<◌, ◌≤◌, Bool, true, false, not, ◌&&◌, ◌||◌, cond, List, [], ◌∷◌, Some, None, length, Contains, refl, sym, ap, ◌∙◌, arith, inl, inr}
+use Rattle.std.proofs.Common.{◌≡◌, ℕ, zero, suc, ◌+◌, ◌*◌, ◌<◌, ◌≤◌, Bool, true, false, not, ◌&&◌, ◌||◌, cond, List, [], ◌∷◌, Some, None, length, Contains, refl, sym, ap, ◌∙◌, arith, inl, inr}
 use Rattle.std.specs.Prelude.{nat_lt, ◌==◌}
 use Rattle.std.specs.List.{range_with_len}
-use Rattle.std.proofs.lemmas.Bool.{cases_lt, false≢true, ltb-false, or_parts}
+use Rattle.std.proofs.lemmas.Bool.{cases_lt, false≢true, ltb-false, ne_eqb, not_from_false, or_parts}
 use Rattle.std.proofs.lemmas.List.{get_or_past}
 use Rattle.std.proofs.lemmas.List.Elements.{Contains-get_or}
 use Rattle.elf_objects.specs.Elf.{Elf}
@@ -11,10 +11,11 @@ use Rattle.special_sections.specs.declared.entries.AltEntry.{AltEntry}
 use Rattle.special_sections.specs.declared.fault.Why.TheVariants.{Length, NoReloc, NotText}
 use Rattle.special_sections.specs.declared.fields.Bound.TheVariants.{BelowEnd}
 use Rattle.special_sections.specs.Fields.{field_at, holds_text_place, lacks_reloc, leaves_section, table_why}
-use Rattle.special_sections.specs.Kinds.{entry_faults, faults, section_entries, section_faults, sections_named}
+use Rattle.special_sections.specs.Kinds.{entries, entry_faults, faults, section_entries, section_faults, sections_named}
 use Rattle.special_sections.specs.Reasons.{fault_at, first_reason}
 use Rattle.special_sections.specs.Special.{special_faults}
 use Rattle.special_sections.specs.Tables as tables
+use Rattle.special_sections.proofs.Written.{nested_from}
 use Rattle.alternatives.specs.declared.fault.SiteWhy.TheVariants.{NotBoundary, Overlap, Replacement}
 use Rattle.alternatives.specs.Faults.{why_of}
 use Rattle.alternatives.specs.Originals.{counts, entry_at, no_entry, overlaps_earlier}
@@ -34,14 +35,14 @@ counted_inside entries k counting = elim (cases_lt k (length entries)) [
   | inr beyond ↦ absurd (false≢true (ap counts (sym (get_or_past entries k no_entry (omega (arith, beyond)))) ∙ counting))
 ]
 
--- no alternative has a fault
+-- no alternative has a fault as it is written
 record IsRight (o : Elf) (a : AltEntry) : Type 0 where
   sec : ℕ
   entry : ℕ
   is : tables.alternative_from o sec (14 * entry) ≡ a
   right : tables.alternative_why_from o sec (14 * entry) ≡ None
 
-right_entry : (o : Coded) (a : AltEntry) → special_faults o.elf ≡ [] → Contains (alternatives_of o) a → IsRight o.elf a
+right_entry : (o : Coded) (a : AltEntry) → special_faults o.elf ≡ [] → Contains (entries tables.alternatives o.elf) a → IsRight o.elf a
 right_entry o a none c =
     let of_alternatives : faults tables.alternatives o.elf ≡ [] = (parts_none (faults tables.alternatives o.elf) _ none).0 in
     let sec = from_flat_map (section_entries tables.alternatives o.elf) (sections_named o.elf tables.alternatives.name) a c in
@@ -71,6 +72,20 @@ short_enough o a counting right =
     let own = or_parts (not (a.original_len == 0) && nat_lt a.original_len a.replacement_len) (leaves_section o a.original a.original_len) first.0 in
     let less = and_false (not (a.original_len == 0)) (nat_lt a.original_len a.replacement_len) counting own.0 in
     ltb-false a.original_len a.replacement_len less
+
+-- one counts where its original as it is written has a byte
+own_counts : (own len : ℕ) → (own ≡ 0 → len ≡ 0) → not (len == 0) ≡ true → not (own == 0) ≡ true
+own_counts zero len none counting = absurd (false≢true (ap (λ n. not (n == 0)) (sym (none refl)) ∙ counting))
+own_counts (suc own) len none counting = not_from_false (suc own == 0) (ne_eqb (suc own) 0 (λ e. omega (arith, e)))
+
+-- and it is no longer by the longest original at its place
+nested_short : (o : Coded) (a : AltEntry) → special_faults o.elf ≡ [] → Contains (alternatives_of o) a → counts a ≡ true → a.replacement_len ≤ a.original_len
+nested_short o a none c counting =
+    let from = nested_from (entries tables.alternatives o.elf) a c in
+    let own = from.own in
+    let short = short_enough o.elf own (own_counts own.original_len a.original_len from.none counting) (length_right o.elf own (right_entry o own none from.written)) in
+    let same : a.replacement_len ≡ own.replacement_len = ap (λ (e : AltEntry). e.replacement_len) from.same in
+    omega (arith, same, short, from.no_less)
 
 -- an alternative that counts: its original and its replacement begin and end at cuts
 pub record IsEntryOf (o : Coded) (a : AltEntry) : Type 0 where
@@ -112,10 +127,9 @@ unrefused o entries k counting why = by_count (counts (entry_at entries k)) coun
 
 pub entry_is : (o : Coded) (k : ℕ) → ObjectIsInOrder o → counts (entry_at (alternatives_of o) k) ≡ true → IsEntryOf o (entry_at (alternatives_of o) k)
 entry_is o k order counting =
-    let entries = alternatives_of o in
-    let a = entry_at entries k in
-    let inside = counted_inside entries k counting in
-    let fine = unrefused o entries k counting (order.sites k inside) in
+    let a = entry_at (alternatives_of o) k in
+    let inside = counted_inside (alternatives_of o) k counting in
+    let fine = unrefused o (alternatives_of o) k counting (order.sites k inside) in
     let original = and_true (is_cut (texts_of o) a.original) (is_cut (texts_of o) (behind a.original a.original_len)) fine.original in
     let replacement = and_true (is_cut (texts_of o) a.replacement) (is_cut (texts_of o) (behind a.replacement a.replacement_len)) fine.replacement in
     record {
@@ -123,5 +137,5 @@ entry_is o k order counting =
       original_end = cut_in o (behind a.original a.original_len) order.bytes original.1;
       replacement = cut_in o a.replacement order.bytes replacement.0;
       replacement_end = cut_in o (behind a.replacement a.replacement_len) order.bytes replacement.1;
-      short = short_enough o.elf a counting (length_right o.elf a (right_entry o a order.special (Contains-get_or entries k no_entry inside)));
+      short = nested_short o a order.special (Contains-get_or (alternatives_of o) k no_entry inside) counting;
     }

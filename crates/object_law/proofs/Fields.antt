@@ -12,7 +12,6 @@ use Rattle.machine_defs.specs.MayReturn.{MayReturn}
 use Rattle.alternatives.specs.declared.point.Point.{Point}
 use Rattle.flow_defs.specs.Code.{number_of, point_at}
 use Rattle.flow_defs.specs.Owners.{is_unchecked}
-use Rattle.flow_defs.specs.Arrival.{insn_of_object}
 use Rattle.flow_defs.specs.Hints.{hint_of, is_restore, nearest, save_of, saves_before}
 use Rattle.flow_defs.specs.Program.{graph_of, program_of, returning_graph}
 use Rattle.flow_defs.specs.Roles.{role_by, role_of}
@@ -58,7 +57,7 @@ module _ (o : Coded) (lists : NameLists) where
   -- a return that drops bytes is a return
   pub returns : (q : ℕ) → IsPoint (program_of o lists) q → ((program_of o lists).insn q).op ≡ ops.RetImm → (program_of o lists).role q ≡ roles.Return
   unfolding program_of returning_graph graph_of role_of
-  returns q here is = let insn = insn_of_object o (point_at o q) in ap (role_by o (point_at o q) insn) is
+  returns q here is = ap (role_by o (point_at o q)) is
 
   stays : StaysAtPoints (graph_of o lists)
   unfolding graph_of
@@ -76,7 +75,7 @@ module _ (o : Coded) (lists : NameLists) where
   to_program _ (MayReturn.goes_on q e plain c from) = MayReturn.goes_on q e plain c (to_program e.to from)
   to_program _ (MayReturn.branches q e other c from) = MayReturn.branches q e other c (to_program e.to from)
   to_program _ (MayReturn.comes_back q r back alive c from) = MayReturn.comes_back q r back alive c (to_program r from)
-  to_program _ (MayReturn.comes_back_in q r entry first is alive arrives inside c from) = MayReturn.comes_back_in q r entry first is alive arrives (to_program first inside) c (to_program r from)
+  to_program _ (MayReturn.comes_back_in q r entry first is unlisted alive arrives inside c from) = MayReturn.comes_back_in q r entry first is unlisted alive arrives (to_program first inside) c (to_program r from)
 
   to_graph : (q : ℕ) → MayReturn (program_of o lists) q → MayReturn (graph_of o lists) q
   unfolding program_of returning_graph
@@ -86,7 +85,7 @@ module _ (o : Coded) (lists : NameLists) where
   to_graph _ (MayReturn.goes_on q e plain c from) = MayReturn.goes_on q e plain c (to_graph e.to from)
   to_graph _ (MayReturn.branches q e other c from) = MayReturn.branches q e other c (to_graph e.to from)
   to_graph _ (MayReturn.comes_back q r back alive c from) = MayReturn.comes_back q r back alive c (to_graph r from)
-  to_graph _ (MayReturn.comes_back_in q r entry first is alive arrives inside c from) = MayReturn.comes_back_in q r entry first is alive arrives (to_graph first inside) c (to_graph r from)
+  to_graph _ (MayReturn.comes_back_in q r entry first is unlisted alive arrives inside c from) = MayReturn.comes_back_in q r entry first is unlisted alive arrives (to_graph first inside) c (to_graph r from)
 
   pub may_return : (q : ℕ) → IsPoint (program_of o lists) q → ((program_of o lists).may_return q ≡ true) ↔ MayReturn (program_of o lists) q
   unfolding program_of returning_graph

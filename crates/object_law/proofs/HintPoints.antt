@@ -1,5 +1,5 @@
 -- Hints stand at points: section 0 is no text, so that none stands where a number is that of no point.
-use Rattle.std.proofs.Common.{◌≡◌, ◌+◌, ◌*◌, ◌<◌, Bool, true, false, not, ◌&&◌, cond, List, [], ◌∷◌, Option, Some, None, length, refl, sym, ap, ◌∙◌, subst, inl, inr}
+use Rattle.std.proofs.Common.{◌≡◌, ◌+◌, ◌*◌, ◌<◌, Bool, true, false, not, ◌&&◌, cond, List, [], ◌∷◌, Option, Some, None, length, reverse, refl, sym, ap, ◌∙◌, subst, inl, inr}
 use Rattle.std.specs.Prelude.{bit_and, nat_lt, option_and_then, slice_index, ◌==◌}
 use Rattle.std.proofs.lemmas.Bool.{cases_lt, eqb-true, false≢true, not-false}
 use Rattle.std.proofs.lemmas.List.{get_or_past}
@@ -14,7 +14,7 @@ use Rattle.elf_objects.specs.declared.TheConstants.{SHF_EXECINSTR, SHT_NULL, SHT
 use Rattle.elf_objects.proofs.Read.{length-sections, section_at-entry}
 use Rattle.machine_defs.specs.IsProgram.{HintsStandAtPoints}
 use Rattle.special_sections.specs.declared.entries.HintEntry.{HintEntry}
-use Rattle.special_sections.specs.declared.fault.Why.TheVariants.{HintBase, HintOffset, HintSignal, HintType, NoReloc, NotText, Repeated}
+use Rattle.special_sections.specs.declared.fault.Why.TheVariants.{HintBase, HintOffset, HintSignal, HintType, NoReloc, NotText}
 use Rattle.special_sections.specs.declared.fields.Bound.TheVariants.{BelowEnd}
 use Rattle.special_sections.specs.Fields.{field_at, holds_text_place, lacks_reloc, names_text, or_nowhere}
 use Rattle.special_sections.specs.Hints as hint
@@ -25,11 +25,10 @@ use Rattle.state_defs.specs.declared.state.HintState.{HintState}
 use Rattle.special_sections.specs.HintStates.{hint_at, hint_state}
 use Rattle.table_law.proofs.Lists.{finds}
 use Rattle.flow_defs.specs.Code.{no_point, points_of_object}
-use Rattle.flow_defs.specs.Arrival.{is_padding}
-use Rattle.flow_defs.specs.Hints.{hint_of}
+use Rattle.flow_defs.specs.Arrival.{hint_of, is_padding}
 use Rattle.flow_defs.specs.Program.{graph_of, program_of, returning_graph}
 use Rattle.object_law.specs.Flows.{ObjectIsInOrder}
-use Rattle.object_law.proofs.HintStates.{IsEntry, hint_entry_of, reason_none}
+use Rattle.object_law.proofs.HintStates.{IsEntry, from_reverse, hint_entry_of, reason_none}
 use Rattle.object_law.proofs.Levels.{and_true}
 
 null_not_text : (s : SectionEntry) → s.kind ≡ SHT_NULL → is_text s ≡ false
@@ -63,17 +62,16 @@ in_a_text o h entry =
     ∷ (hint.has_other_base own, HintBase)
     ∷ (hint.has_bad_offset own, HintOffset)
     ∷ (hint.has_bad_signal own.kind (slice_index (section_at o entry.sec).body (12 * entry.entry + 8)), HintSignal)
-    ∷ (hint.is_repeated o entry.sec entry.entry, Repeated)
     ∷ [] in
     let holds : holds_text_place o BelowEnd field ≡ true = not-false (holds_text_place o BelowEnd field) (second (lacks_reloc o field) (not (holds_text_place o BelowEnd field)) rest entry.right) in
     ap (λ (h : HintEntry). is_text (section_at o h.place.sec)) (sym entry.is) ∙ names_one o (place_held_at o field) holds
 
 hint_in_text : (o : Coded) (place : Place) (found : HintState) → ObjectIsInOrder o → hint_at (special_of o.elf).hints place ≡ Some found → is_text (section_at o.elf place.sec) ≡ true
-hint_in_text o place found order is = elim (finds (λ h. same_place h.place place) (special_of o.elf).hints) [
+hint_in_text o place found order is = elim (finds (λ h. same_place h.place place) (reverse (special_of o.elf).hints)) [
   | inl missing ↦ absurd (let e = ap (option_and_then hint_state) missing.0 in let k : ⊥ = cc in k)
   | inr one ↦
       let sec : one.0.place.sec ≡ place.sec = eqb-true one.0.place.sec place.sec (and_true (one.0.place.sec == place.sec) _ one.3).0 in
-      ap (λ s. is_text (section_at o.elf s)) (sym sec) ∙ in_a_text o.elf one.0 (hint_entry_of o.elf one.0 order.special one.2)
+      ap (λ s. is_text (section_at o.elf s)) (sym sec) ∙ in_a_text o.elf one.0 (hint_entry_of o.elf one.0 order.special (from_reverse (special_of o.elf).hints one.0 one.2))
 ]
 
 none_nowhere : (o : Coded) (found : HintState) → ObjectIsInOrder o → hint_of o no_point ≡ Some found → ⊥

@@ -1,9 +1,10 @@
 -- The hints of an object whose special sections are in order set consistent states.
-use Rattle.std.proofs.Common.{◌≡◌, ℕ, Bool, true, false, not, ◌&&◌, cond, List, [], ◌∷◌, ◌++◌, ◌+◌, ◌*◌, Option, Some, None, Contains, refl, sym, ap, ◌∙◌, arith, subst, inl, inr, pos, negsuc, ℤ}
+use Rattle.std.proofs.Common.{◌≡◌, ℕ, Bool, true, false, not, ◌&&◌, cond, List, [], ◌∷◌, ◌++◌, ◌+◌, ◌-◌, ◌*◌, ◌<◌, length, reverse, Option, Some, None, Contains, refl, sym, ap, ◌∙◌, arith, subst, inl, inr, pos, negsuc, ℤ}
 use Rattle.std.specs.Prelude.{flat_map, int_lt, nat_lt, slice_index, option_and_then, ◌==◌, ◌≤ℤ◌}
 use Rattle.std.specs.List.{range_with_len}
 use Rattle.std.proofs.lemmas.Bool.{false≢true, or_left, or_parts, or_right}
 use Rattle.std.proofs.lemmas.Int.{ints}
+use Rattle.std.proofs.lemmas.List.{get_or-reverse, length-reverse}
 use Rattle.ot_base.specs.NameLists.{NameLists}
 use Rattle.ot_base.specs.declared.place.Place.{Place}
 use Rattle.ot_base.specs.Places.{same_place}
@@ -14,7 +15,7 @@ use Rattle.machine_defs.specs.Program.{IsPoint}
 use Rattle.special_sections.specs.declared.entries.HintEntry.{HintEntry}
 use Rattle.special_sections.specs.declared.fault.SpecialFault.{SpecialFault}
 use Rattle.special_sections.specs.declared.fault.Why.{Why}
-use Rattle.special_sections.specs.declared.fault.Why.TheVariants.{HintBase, HintOffset, HintSignal, HintType, NoReloc, NotText, Repeated}
+use Rattle.special_sections.specs.declared.fault.Why.TheVariants.{HintBase, HintOffset, HintSignal, HintType, NoReloc, NotText}
 use Rattle.special_sections.specs.Hints as hint
 use Rattle.special_sections.specs.Hints.{has_bad_offset}
 use Rattle.special_sections.specs.Kinds.{entry_faults, faults, faults_after, section_entries, section_faults, sections_named}
@@ -32,8 +33,7 @@ use Rattle.special_sections.specs.HintStates.{frame_state, hint_at, hint_state}
 use Rattle.unwinding_law.proofs.Lists.{cases, from_flat_map, here, nowhere}
 use Rattle.table_law.proofs.Lists.{finds}
 use Rattle.flow_defs.specs.Code.{point_at}
-use Rattle.flow_defs.specs.Arrival.{is_padding}
-use Rattle.flow_defs.specs.Hints.{hint_of}
+use Rattle.flow_defs.specs.Arrival.{hint_of, is_padding}
 use Rattle.flow_defs.specs.Program.{graph_of, program_of, returning_graph}
 use Rattle.object_law.proofs.Levels.{and_false}
 use Rattle.object_law.proofs.Owners.{from_map}
@@ -70,7 +70,7 @@ pub record IsEntry (o : Elf) (h : HintEntry) : Type 0 where
   pub sec : ℕ
   pub entry : ℕ
   pub is : hint.hint_entry o sec entry ≡ h
-  pub right : hint.hint_why_from o sec (12 * entry) (hint.is_repeated o sec entry) ≡ None
+  pub right : hint.hint_why_from o sec (12 * entry) ≡ None
 
 pub hint_entry_of : (o : Elf) (h : HintEntry) → special_faults o ≡ [] → Contains (special_of o).hints h → IsEntry o h
 hint_entry_of o h none c =
@@ -78,11 +78,11 @@ hint_entry_of o h none c =
     let behind_branches = (parts_none (faults tables.branches o) _ behind_alternatives).1 in
     let behind_fixes = (parts_none (faults tables.fixes o) _ behind_branches).1 in
     let of_hints : faults hint.hints o ≡ [] = (parts_none (faults hint.hints o) _ behind_fixes).0 in
-    let sec = from_flat_map (section_entries hint.hints o) (sections_named o hint.hint_name) h c in
-    let of_section = each_none (section_faults hint.hints o) (sections_named o hint.hint_name) sec.0 of_hints sec.1 in
+    let sec = from_flat_map (section_entries hint.hints o) (sections_named o hint.hints.name) h c in
+    let of_section = each_none (section_faults hint.hints o) (sections_named o hint.hints.name) sec.0 of_hints sec.1 in
     let of_entries = entries_none sec.0 (table_why 12 o sec.0) (entry_faults hint.hints o sec.0) of_section in
     let one = from_map (hint.hint_entry o sec.0) (range_with_len 0 (tables.table_count 12 o sec.0)) h sec.2 in
-    let why = each_none (λ e. fault_at sec.0 e (hint.hint_why_from o sec.0 (12 * e) (hint.is_repeated o sec.0 e))) (range_with_len 0 (tables.table_count 12 o sec.0)) one.0 of_entries one.1 in
+    let why = each_none (λ e. fault_at sec.0 e (hint.hint_why_from o sec.0 (12 * e))) (range_with_len 0 (tables.table_count 12 o sec.0)) one.0 of_entries one.1 in
     record { sec = sec.0; entry = one.0; is = one.2; right = fault_none sec.0 one.0 _ why }
 
 -- the fifth of the conditions of a hint
@@ -99,10 +99,7 @@ offset_right : (o : Elf) (h : HintEntry) → IsEntry o h → has_bad_offset h �
 offset_right o h entry =
     let field = field_at entry.sec (12 * entry.entry) in
     let own = hint.hint_entry o entry.sec entry.entry in
-    let rest : List Reason =
-    (hint.has_bad_signal own.kind (slice_index (section_at o entry.sec).body (12 * entry.entry + 8)), HintSignal)
-    ∷ (hint.is_repeated o entry.sec entry.entry, Repeated)
-    ∷ [] in
+    let rest : List Reason = (hint.has_bad_signal own.kind (slice_index (section_at o entry.sec).body (12 * entry.entry + 8)), HintSignal) ∷ [] in
     ap has_bad_offset (sym entry.is)
     ∙ fifth (lacks_reloc o field) (not (holds_text_place o BelowEnd field)) (nat_lt 7 own.kind) (hint.has_other_base own) (has_bad_offset own) rest entry.right
 
@@ -168,10 +165,16 @@ state_right h s right is = zero (h.kind == 0) is
     zero true e = subst IsConsistent (same_set e) tt
     zero false e = one (h.kind == 1) e
 
+-- what is listed the other way round is listed
+pub from_reverse : {X : Type 0} (xs : List X) (x : X) → Contains (reverse xs) x → Contains xs x
+from_reverse xs x (k, inside, is) =
+    let below : k < length xs = omega (arith, inside, length-reverse xs) in
+    (length xs - 1 - k, omega (arith, below), sym (get_or-reverse xs k x below) ∙ is)
+
 hint_right : (o : Elf) (place : Place) (s : State) → special_faults o ≡ [] → hint_at (special_of o).hints place ≡ Some (Set s) → IsConsistent s
-hint_right o place s none is = elim (finds (λ h. same_place h.place place) (special_of o).hints) [
+hint_right o place s none is = elim (finds (λ h. same_place h.place place) (reverse (special_of o).hints)) [
   | inl missing ↦ absurd (let e = ap (option_and_then hint_state) missing.0 in let k : ⊥ = cc in k)
-  | inr one ↦ state_right one.0 s (offset_right o one.0 (hint_entry_of o one.0 none one.2)) (sym (ap (option_and_then hint_state) one.1) ∙ is)
+  | inr one ↦ state_right one.0 s (offset_right o one.0 (hint_entry_of o one.0 none (from_reverse (special_of o).hints one.0 one.2))) (sym (ap (option_and_then hint_state) one.1) ∙ is)
 ]
 
 -- states that hints set are consistent

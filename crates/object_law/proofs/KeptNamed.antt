@@ -1,6 +1,6 @@
 -- The kept points of an object in order run in sections in which symbols are defined.
 use Rattle.std.proofs.Common.{◌≡◌, ℕ, ◌-◌, ◌<◌, Bool, true, false, not, cond, Option, Some, None, Contains, refl, sym, ap, ◌∙◌, subst, inl, inr}
-use Rattle.std.specs.Prelude.{filter, nat_lt, option_and_then, ◌==◌}
+use Rattle.std.specs.Prelude.{filter, nat_lt, option_and_then, reverse, ◌==◌}
 use Rattle.std.specs.List.{list_any}
 use Rattle.std.proofs.lemmas.Bool.{eqb-true}
 use Rattle.std.proofs.lemmas.List.Elements.{Contains-get_or}
@@ -23,12 +23,13 @@ use Rattle.table_law.proofs.Equal.{same_place_is}
 use Rattle.table_law.proofs.Lists.{finds, some_is}
 use Rattle.flow_defs.specs.Code.{alternatives_of, is_plain, number_of, point_at, points_of_object}
 use Rattle.flow_defs.specs.Owners.{is_entry, owner_of_point}
-use Rattle.flow_defs.specs.Arrival.{decoded_insn, is_padding}
-use Rattle.flow_defs.specs.Hints.{hint_of, is_nearer, is_restore, is_save, is_save_before, nearest, save_of, saves_before}
+use Rattle.flow_defs.specs.Arrival.{decoded_insn, hint_of, is_padding}
+use Rattle.flow_defs.specs.Hints.{is_nearer, is_restore, is_save, is_save_before, nearest, save_of, saves_before}
 use Rattle.flow_defs.specs.Program.{entries_of, graph_of, is_entry_point as is_entry_of, program_of, returning_graph}
 use Rattle.object_law.specs.Flows.{ObjectIsInOrder}
 use Rattle.object_law.proofs.EntryFacts.{counted_inside}
 use Rattle.object_law.proofs.HintPoints.{hint_points}
+use Rattle.object_law.proofs.HintStates.{from_reverse}
 use Rattle.object_law.proofs.Levels.{and_true}
 use Rattle.object_law.proofs.Numbers.{numbered, numbers_are, point_count}
 use Rattle.object_law.proofs.Overlays.{address_plain, overlays}
@@ -54,9 +55,9 @@ module _ (o : Coded) where
 
   -- a hint stands at the place of one that a symbol names
   hinted_is_named : (order : ObjectIsInOrder o) (place : Place) (found : HintState) → hint_at (special_of o.elf).hints place ≡ Some found → IsNamed o place.sec
-  hinted_is_named order place found is = elim (finds (λ h. same_place h.place place) (special_of o.elf).hints) [
+  hinted_is_named order place found is = elim (finds (λ h. same_place h.place place) (reverse (special_of o.elf).hints)) [
     | inl missing ↦ absurd (let e = ap (option_and_then hint_state) missing.0 in let z : ⊥ = cc in z)
-    | inr one ↦ subst (λ (p : Place). IsNamed o p.sec) (same_place_is one.0.place place one.3) (hint_is_named o order.special one.0 one.2)
+    | inr one ↦ subst (λ (p : Place). IsNamed o p.sec) (same_place_is one.0.place place one.3) (hint_is_named o order.special one.0 (from_reverse (special_of o.elf).hints one.0 one.2))
   ]
 
   -- a point of a replacement runs in the section of an original, and any other at its own place

@@ -94,7 +94,7 @@ below_differs o i j less inside same =
     let order = sorted_at (points_of (texts_of o) (alternatives_of o)) (points_sorted (texts_of o) (alternatives_of o) (rise_by_section (texts_of o) (texts_ascend o))) i j no_point less inside in
     less_itself (point_cmp (point_at o j) (point_at o j)) (ap (λ p. point_cmp p (point_at o j)) (sym same) ∙ order) (point_total.antisymm (point_at o j) (point_at o j))
 
-one_number : (o : Coded) (q r : ℕ) → q < point_count o → r < point_count o → point_at o q ≡ point_at o r → q ≡ r
+pub one_number : (o : Coded) (q r : ℕ) → q < point_count o → r < point_count o → point_at o q ≡ point_at o r → q ≡ r
 one_number o q r of-q of-r same = elim (cases_lt q r) [
   | inl less ↦ absurd (below_differs o q r less of-r same)
   | inr late ↦ elim (cases_lt r q) [

@@ -4,14 +4,14 @@ use Rattle.std.specs.Prelude.{◌≢◌, ◌↔◌, Contains}
 use Rattle.std.specs.List.{list_any}
 use Rattle.std.proofs.lemmas.Bool.{cases_lt, false≢true, true≢false, and_from, or_left, or_right, not_from_false}
 use Rattle.std.proofs.lemmas.List.Folds.{Any-from_list_any, list_any-from_Any}
-use Rattle.machine_defs.specs.Step.{may_leave}
+use Rattle.machine_defs.specs.Step.{may_go_back}
 use Rattle.machine_defs.specs.declared.flow.Edge.{Edge}
 use Rattle.machine_defs.specs.declared.flow.EdgeKind.{EdgeKind}
 use Rattle.machine_defs.specs.declared.flow.EdgeKind.TheVariants.{Next, Taken, Fixup, Table, Sibling}
 use Rattle.machine_defs.specs.declared.flow.Role.{Role}
 use Rattle.machine_defs.specs.declared.flow.Role.TheVariants.{Plain, CallIn, CallEither, CallOut, CallAny, Return, JumpOut, JumpAny, Switch}
 use Rattle.machine_defs.specs.Program.{Program, IsPoint, edge, entry_points, is_call}
-use Rattle.machine_defs.specs.MayReturn.{MayReturn, may_call_out}
+use Rattle.machine_defs.specs.MayReturn.{MayReturn, is_listed, may_call_out}
 use Rattle.flow_defs.specs.Returning.{call_returns, is_next, leads_to_return, returns_at_last, returns_by, returns_within}
 use Rattle.object_law.specs.Returning.{StaysAtPoints}
 use Rattle.object_law.proofs.Counting.{count, Agree, grows, all_pass}
@@ -44,7 +44,7 @@ and_more false y x' y' f g e = absurd (false≢true e)
 abbrev pub Sound : Program → (ℕ → Bool) → Type 0
 Sound p known = (r : ℕ) → known r ≡ true → MayReturn p r
 
-leaves_sound : (p : Program) (q : ℕ) (r : Role) → p.role q ≡ r → may_leave p r ≡ true → MayReturn p q
+leaves_sound : (p : Program) (q : ℕ) (r : Role) → p.role q ≡ r → may_go_back p r ≡ true → MayReturn p q
 leaves_sound p q Return is e = MayReturn.returns q is
 leaves_sound p q JumpAny is e = MayReturn.jumps_anywhere q is
 leaves_sound p q (JumpOut sym) is e = MayReturn.jumps_out q sym is (not_true (p.never_returns sym) e)
@@ -67,8 +67,9 @@ next_edge p q e listed is = subst (λ (k : EdgeKind). Contains (p.goes q) (edge 
 
 comes_back_sound : (p : Program) (known : ℕ → Bool) (q : ℕ) (e : Edge) (r : Role) → Sound p known → p.role q ≡ r → call_returns p known r ≡ true → p.dead_end q ≡ false → Contains (p.goes q) (edge e.to Next) → MayReturn p e.to → MayReturn p q
 comes_back_sound p known q e (CallIn entry) sound is passes dead listed from =
-    let first = Any-from_list_any known (entry_points p entry) passes in
-    MayReturn.comes_back_in q e.to entry first.1 is dead (first.0, first.2, first.3) (sound first.1 first.4) listed from
+    let parts = and_true (list_any known (entry_points p entry)) (not (is_listed p (CallIn entry))) passes in
+    let first = Any-from_list_any known (entry_points p entry) parts.0 in
+    MayReturn.comes_back_in q e.to entry first.1 is (not_true (is_listed p (CallIn entry)) parts.1) dead (first.0, first.2, first.3) (sound first.1 first.4) listed from
 comes_back_sound p known q e Plain sound is passes dead listed from = absurd (false≢true passes)
 comes_back_sound p known q e (CallEither entry sym) sound is passes dead listed from = MayReturn.comes_back q e.to (ap (may_call_out p) is ∙ passes) dead listed from
 comes_back_sound p known q e (CallOut sym) sound is passes dead listed from = MayReturn.comes_back q e.to (ap (may_call_out p) is ∙ passes) dead listed from
@@ -111,7 +112,9 @@ any_more : {X : Type 0} (f g : X → Bool) (xs : List X) → ((x : X) → f x �
 any_more f g xs more passes = let one = Any-from_list_any f xs passes in list_any-from_Any g xs (one.0, one.1, one.2, one.3, more one.1 one.4)
 
 call_more : (p : Program) (f g : ℕ → Bool) (r : Role) → Within f g → call_returns p f r ≡ true → call_returns p g r ≡ true
-call_more p f g (CallIn entry) more passes = any_more f g (entry_points p entry) more passes
+call_more p f g (CallIn entry) more passes =
+    let unlisted = not (is_listed p (CallIn entry)) in
+    and_more (list_any f (entry_points p entry)) unlisted (list_any g (entry_points p entry)) unlisted (any_more f g (entry_points p entry) more) (λ h. h) passes
 call_more p f g Plain more passes = passes
 call_more p f g (CallEither entry sym) more passes = passes
 call_more p f g (CallOut sym) more passes = passes
@@ -135,7 +138,7 @@ edge_more p f g q e more =
 
 by_more : (p : Program) (f g : ℕ → Bool) (q : ℕ) → Within f g → returns_by p f q ≡ true → returns_by p g q ≡ true
 by_more p f g q more =
-    or_more (may_leave p (p.role q)) (list_any (leads_to_return p f q) (p.goes q)) (may_leave p (p.role q)) (list_any (leads_to_return p g q) (p.goes q)) (λ h. h)
+    or_more (may_go_back p (p.role q)) (list_any (leads_to_return p f q) (p.goes q)) (may_go_back p (p.role q)) (list_any (leads_to_return p g q) (p.goes q)) (λ h. h)
     (any_more (leads_to_return p f q) (leads_to_return p g q) (p.goes q) (λ e. edge_more p f g q e more))
 
 -- each level has what the one before has
@@ -158,8 +161,8 @@ OnLevel p q = (n : ℕ) × (returns_within p n q ≡ true)
 along : (p : Program) (q n : ℕ) (e : Edge) → Contains (p.goes q) e → leads_to_return p (returns_within p n) q e ≡ true → OnLevel p q
 along p q n e listed passes = (suc n, or_right _ _ (list_any-from_Any (leads_to_return p (returns_within p n) q) (p.goes q) (listed.0, e, listed.1, listed.2, passes)))
 
-out : (p : Program) (q : ℕ) (r : Role) → p.role q ≡ r → may_leave p r ≡ true → OnLevel p q
-out p q r is passes = (1, or_left _ _ (ap (may_leave p) is ∙ passes))
+out : (p : Program) (q : ℕ) (r : Role) → p.role q ≡ r → may_go_back p r ≡ true → OnLevel p q
+out p q r is passes = (1, or_left _ _ (ap (may_go_back p) is ∙ passes))
 
 is_kind : (e : Edge) → e.kind ≢ Next → is_next e.kind ≡ false
 is_kind e other = go (is_next e.kind) refl
@@ -201,13 +204,13 @@ on_level p _ (MayReturn.comes_back q r back alive listed from) =
     let there = on_level p r from in
     let known = returns_within p there.0 in
     along p q there.0 (edge r Next) listed (back_edge p known q r there.1 alive (called_out p known (p.role q) back))
-on_level p _ (MayReturn.comes_back_in q r entry first is alive arrives from_first listed from) =
+on_level p _ (MayReturn.comes_back_in q r entry first is unlisted alive arrives from_first listed from) =
     let there = on_level p r from in
     let inside = on_level p first from_first in
     let n = there.0 + inside.0 in
     let known = returns_within p n in
     let passes : list_any known (entry_points p entry) ≡ true = list_any-from_Any known (entry_points p entry) (arrives.0, first, arrives.1, arrives.2, up_to p inside.0 n first (omega arith) inside.1) in
-    along p q n (edge r Next) listed (back_edge p known q r (up_to p there.0 n r (omega arith) there.1) alive (ap (call_returns p known) is ∙ passes))
+    along p q n (edge r Next) listed (back_edge p known q r (up_to p there.0 n r (omega arith) there.1) alive (ap (call_returns p known) is ∙ and_from (list_any known (entry_points p entry)) (not (is_listed p (CallIn entry))) passes (not_from_false (is_listed p (CallIn entry)) unlisted)))
 
 -- tests that agree on points lead to the same
 any_same : {X : Type 0} (f g : X → Bool) (xs : List X) → ((x : X) → Contains xs x → f x ≡ true → g x ≡ true) → list_any f xs ≡ true → list_any g xs ≡ true
@@ -218,7 +221,9 @@ abbrev pub WithinPoints : Program → (ℕ → Bool) → (ℕ → Bool) → Type
 WithinPoints p f g = (r : ℕ) → IsPoint p r → f r ≡ true → g r ≡ true
 
 call_same : (p : Program) (f g : ℕ → Bool) (r : Role) → StaysAtPoints p → WithinPoints p f g → call_returns p f r ≡ true → call_returns p g r ≡ true
-call_same p f g (CallIn entry) stays more passes = any_same f g (entry_points p entry) (λ x listed. more x (stays.entries entry x listed)) passes
+call_same p f g (CallIn entry) stays more passes =
+    let unlisted = not (is_listed p (CallIn entry)) in
+    and_more (list_any f (entry_points p entry)) unlisted (list_any g (entry_points p entry)) unlisted (any_same f g (entry_points p entry) (λ x listed. more x (stays.entries entry x listed))) (λ h. h) passes
 call_same p f g Plain stays more passes = passes
 call_same p f g (CallEither entry sym) stays more passes = passes
 call_same p f g (CallOut sym) stays more passes = passes
@@ -242,7 +247,7 @@ edge_same p f g q e stays there more =
 
 by_same : (p : Program) (f g : ℕ → Bool) (q : ℕ) → StaysAtPoints p → IsPoint p q → WithinPoints p f g → returns_by p f q ≡ true → returns_by p g q ≡ true
 by_same p f g q stays here more =
-    or_more (may_leave p (p.role q)) (list_any (leads_to_return p f q) (p.goes q)) (may_leave p (p.role q)) (list_any (leads_to_return p g q) (p.goes q)) (λ h. h)
+    or_more (may_go_back p (p.role q)) (list_any (leads_to_return p f q) (p.goes q)) (may_go_back p (p.role q)) (list_any (leads_to_return p g q) (p.goes q)) (λ h. h)
     (any_same (leads_to_return p f q) (leads_to_return p g q) (p.goes q) (λ e listed. edge_same p f g q e stays (stays.edges q e here listed) more))
 
 -- a level that has no more points than the one before is the last

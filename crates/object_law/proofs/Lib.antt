@@ -25,6 +25,7 @@ pub mod Starts
 pub mod Replaced
 pub mod EdgesEnter
 pub mod Enters
+pub mod Alone
 pub mod FitRows
 pub mod PlacedRows
 pub mod Functions

@@ -1,5 +1,5 @@
 -- Symbols are defined in the sections of the places that the entries of special sections hold.
-use Rattle.std.proofs.Common.{◌≡◌, ℕ, ◌+◌, ◌*◌, Bool, true, not, ◌&&◌, ◌||◌, List, [], ◌∷◌, None, Contains, subst}
+use Rattle.std.proofs.Common.{◌≡◌, ℕ, ◌+◌, ◌*◌, Bool, true, not, ◌&&◌, ◌||◌, List, [], ◌∷◌, None, Contains, sym, subst}
 use Rattle.std.specs.Prelude.{nat_lt, slice_index}
 use Rattle.std.specs.List.{range_with_len}
 use Rattle.std.proofs.lemmas.Bool.{not-false}
@@ -10,7 +10,7 @@ use Rattle.special_sections.specs.declared.entries.AltEntry.{AltEntry}
 use Rattle.special_sections.specs.declared.entries.BranchEntry.{BranchEntry}
 use Rattle.special_sections.specs.declared.entries.FixEntry.{FixEntry}
 use Rattle.special_sections.specs.declared.entries.HintEntry.{HintEntry}
-use Rattle.special_sections.specs.declared.fault.Why.TheVariants.{HintBase, HintOffset, HintSignal, HintType, Length, NoReloc, NotText, Repeated}
+use Rattle.special_sections.specs.declared.fault.Why.TheVariants.{HintBase, HintOffset, HintSignal, HintType, Length, NoReloc, NotText}
 use Rattle.special_sections.specs.declared.fields.Bound.TheVariants.{BelowEnd}
 use Rattle.special_sections.specs.Fields.{field_at, holds_text_place, lacks_reloc}
 use Rattle.special_sections.specs.Hints as hint
@@ -18,6 +18,7 @@ use Rattle.special_sections.specs.Kinds.{EntryKind, entries, entry_faults, fault
 use Rattle.special_sections.specs.Reasons.{Reason, fault_at, first_reason}
 use Rattle.special_sections.specs.Special.{special_faults, special_of}
 use Rattle.special_sections.specs.Tables as tables
+use Rattle.special_sections.proofs.Written.{nested_from}
 use Rattle.unwinding_law.proofs.Lists.{from_flat_map}
 use Rattle.object_law.proofs.HintStates.{each_none, entries_none, fault_none, parts_none, reason_none}
 use Rattle.object_law.proofs.Levels.{and_true}
@@ -69,12 +70,14 @@ module _ (o : Coded) (none : special_faults o.elf ≡ []) where
   -- the original of an alternative
   pub original_is_named : (a : AltEntry) → Contains (special_of o.elf).alternatives a → IsNamed o a.original.sec
   original_is_named a c =
-      let entry = entry_of tables.alternatives o.elf a of_alternatives c in
+      let from = nested_from (entries tables.alternatives o.elf) a c in
+      let entry = entry_of tables.alternatives o.elf from.own of_alternatives from.written in
       let original = field_at entry.sec (14 * entry.entry) in
       let replacement = field_at entry.sec (14 * entry.entry + 4) in
       let own = tables.alternative_from o.elf entry.sec (14 * entry.entry) in
       let both = holds (lacks_reloc o.elf original || lacks_reloc o.elf replacement) (holds_text_place o.elf BelowEnd original && holds_text_place o.elf (tables.replacement_bound own) replacement) ((tables.is_too_long o.elf own, Length) ∷ []) entry.right in
-      subst (λ (x : AltEntry). IsNamed o x.original.sec) entry.is (held_is_named o BelowEnd original (and_true (holds_text_place o.elf BelowEnd original) _ both).0)
+      subst (λ (x : AltEntry). IsNamed o x.original.sec) (sym from.same)
+      (subst (λ (x : AltEntry). IsNamed o x.original.sec) entry.is (held_is_named o BelowEnd original (and_true (holds_text_place o.elf BelowEnd original) _ both).0))
 
   -- both places of an entry of two
   abbrev HoldsBoth : ℕ → ℕ → Type 0
@@ -109,6 +112,5 @@ module _ (o : Coded) (none : special_faults o.elf ≡ []) where
       ∷ (hint.has_other_base own, HintBase)
       ∷ (hint.has_bad_offset own, HintOffset)
       ∷ (hint.has_bad_signal own.kind (slice_index (section_at o.elf entry.sec).body (12 * entry.entry + 8)), HintSignal)
-      ∷ (hint.is_repeated o.elf entry.sec entry.entry, Repeated)
       ∷ [] in
       subst (λ (x : HintEntry). IsNamed o x.place.sec) entry.is (held_is_named o BelowEnd field (holds (lacks_reloc o.elf field) (holds_text_place o.elf BelowEnd field) rest entry.right))

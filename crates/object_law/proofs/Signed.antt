@@ -14,7 +14,7 @@ use Rattle.x86_decode.specs.declared.fields.Fields.{Fields}
 use Rattle.x86_decode.specs.Action.{action_of}
 use Rattle.x86_decode.specs.Decoding.{Outcome, StandsInFront, decoded}
 use Rattle.x86_decode.specs.Fields.{digit, is_at_rbp, is_at_rsp, is_register, modrm, opcode_register, reg_register, rm_register, signed, writes}
-use Rattle.x86_decode.specs.Operation.{address_loaded, arithmetic, copied, group_5, group_7, group_11, jump_table, loaded, operation, operation_by, pop_operand, popped, push_operand, pushed, stored, written}
+use Rattle.x86_decode.specs.Operation.{address_loaded, arithmetic, copied, group_5, group_7, group_11, jump_table, loaded, operation, operation_by, pop_operand, popped, push_operand, pushed, stored, subtracted, subtracted_by, subtracted_from, written}
 use Rattle.x86_decode.specs.Spelling.{Spells, fields_in, opcode_bytes, optional}
 use Rattle.x86_decode.proofs.Decided.{outcome}
 use Rattle.x86_map.specs.declared.map.Map.{Map}
@@ -65,8 +65,22 @@ popped_fits r = either (r == 5) ops.PopBp (cond (r == 4) ops.SpOther ops.Pop) tt
 
 copied_fits : (to from : ℕ) (f : Fields) → HasSignedNumber (copied to from f)
 copied_fits to from f =
-    either ((to == 4) && (from == 5)) (ops.LeaSpBp (pos 0)) (cond ((to == 5) && (from == 4)) (ops.LeaBpSp (pos 0)) (written f)) (sfits_lit {w = w64} {z = pos 0} tt)
-    (either ((to == 5) && (from == 4)) (ops.LeaBpSp (pos 0)) (written f) (sfits_lit {w = w64} {z = pos 0} tt) (written_fits f))
+    let third = cond ((to == 4) && not (from == 4)) ops.SpReg (written f) in
+    let second = cond ((to == 5) && (from == 4)) (ops.LeaBpSp (pos 0)) third in
+    either ((to == 4) && (from == 5)) (ops.LeaSpBp (pos 0)) second (sfits_lit {w = w64} {z = pos 0} tt)
+    (either ((to == 5) && (from == 4)) (ops.LeaBpSp (pos 0)) third (sfits_lit {w = w64} {z = pos 0} tt)
+    (either ((to == 4) && not (from == 4)) ops.SpReg (written f) tt (written_fits f)))
+
+subtracted_fits : (to from : ℕ) (f : Fields) → HasSignedNumber (subtracted to from f)
+subtracted_fits to from f = either ((to == 4) && not (from == 4)) ops.SubSp (written f) tt (written_fits f)
+
+from_fits : (f : Fields) → HasSignedNumber (subtracted_from f)
+unfolding subtracted_from
+from_fits f = either (rex_w f.prefixes && is_register f) (subtracted (rm_register f) (reg_register f) f) (written f) (subtracted_fits (rm_register f) (reg_register f) f) (written_fits f)
+
+by_fits : (f : Fields) → HasSignedNumber (subtracted_by f)
+unfolding subtracted_by
+by_fits f = either (rex_w f.prefixes && is_register f) (subtracted (reg_register f) (rm_register f) f) (written f) (subtracted_fits (reg_register f) (rm_register f) f) (written_fits f)
 
 -- both numbers of an instruction fit
 record FieldsFit (f : Fields) : Type 0 where
@@ -152,6 +166,8 @@ action_fits actions.PopOperand f fit = pop_fits f
 action_fits actions.Pop f fit = tt
 action_fits actions.PopFlags f fit = tt
 action_fits actions.Arithmetic f fit = arithmetic_fits f fit
+action_fits actions.SubtractFrom f fit = from_fits f
+action_fits actions.Subtract f fit = by_fits f
 action_fits actions.Store f fit = stored_fits f fit
 action_fits actions.Load f fit = loaded_fits f fit
 action_fits actions.LoadAddress f fit = address_fits f fit

@@ -6,6 +6,7 @@ use Rattle.machine_defs.specs.IsProgram.{IsProgram}
 use Rattle.special_sections.specs.Special.{special_faults}
 use Rattle.flow_defs.specs.Program.{program_of}
 use Rattle.object_law.specs.Flows.{HasBytes}
+use Rattle.object_law.proofs.Alone as of_arrivals
 use Rattle.object_law.proofs.Calls as of_calls
 use Rattle.object_law.proofs.Checked as of_checked
 use Rattle.object_law.proofs.Decoded as of_decoded
@@ -19,6 +20,7 @@ program_is_one o lists are right = record {
   arrivals = of_fields.arrivals o lists;
   followers = of_fields.followers o lists;
   saves = of_fields.saves o lists;
+  arrives_alone = of_arrivals.arrives_alone o lists are;
   checked = of_checked.checked o lists;
   unowned = of_fields.unowned o lists;
   entries_checked = of_calls.entries_checked o lists;

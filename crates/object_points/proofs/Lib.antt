@@ -4,7 +4,8 @@ pub mod Starts
 pub mod Points
 pub mod Items
 pub mod ListedFields
-pub mod FieldItems
+pub mod OwnerPairs
+mod PatchMarks
 pub mod Made
 pub mod SitePlaces
 pub mod Entries

@@ -1,9 +1,6 @@
 -- An object with its RESTOREs.
 use Rattle.std.specs.Prelude.{ℕ, List}
 use Rattle.flow_defs.specs.Coded.{Coded}
-use Rattle.special_sections.specs.declared.entries.HintEntry.{HintEntry}
-use Rattle.special_sections.specs.Special.{special_of}
-use Rattle.special_sections.specs.Places.{HaveSameFirst}
 use Rattle.object_points.specs.Hinted.{AreSaves}
 use Rattle.object_points.specs.Meanings.{AreMeanings}
 use Rattle.object_points.specs.declared.meanings.Meaning.{Meaning}
@@ -14,8 +11,7 @@ pub record HintedCode : Type 0 where
   pub object : Coded
   pub restores : List ℕ
 
--- what is kept of an object: its hints by their places, its SAVEs, and what its RESTOREs mean
-pub record AreKept (o : Coded) (hints : List HintEntry) (saves : List SavePoint) (meanings : List Meaning) (restores : List ℕ) : Type 0 where
-  pub same_hints : HaveSameFirst (special_of o.elf).hints hints
+-- what is kept of an object: its SAVEs, and what its RESTOREs mean
+pub record AreKept (o : Coded) (saves : List SavePoint) (meanings : List Meaning) (restores : List ℕ) : Type 0 where
   pub all_saves : AreSaves o saves
   pub all_meanings : AreMeanings o meanings restores

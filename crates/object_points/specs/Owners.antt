@@ -1,23 +1,29 @@
 -- Whose code places are, in a list.
-use Rattle.std.specs.Prelude.{◌≡◌, ℕ, List, Option}
-use Rattle.ot_base.specs.declared.place.Place.{Place}
+use Rattle.std.specs.Prelude.{◌≡◌, ℕ, Bool, false, List, Option, slice_index_or}
 use Rattle.elf_objects.specs.Elf.{Elf}
-use Rattle.symbols_relocs.specs.Functions.{function_at}
-use Rattle.symbols_relocs.specs.Parts.{owner_at}
 use Rattle.program_graph.specs.declared.parts.Owner.{Owner}
-use Rattle.flow_defs.specs.Owners.{is_unchecked}
+use Rattle.flow_defs.specs.Code.{point_at}
+use Rattle.flow_defs.specs.Coded.{Coded}
+use Rattle.flow_defs.specs.Owners.{function_of_point, is_unchecked, owner_of_point}
+use Rattle.flow_defs.specs.Program.{is_patch_section}
 
--- the object, and an item for each of its functions and one for code of no function
+-- the object, and its items: for each of its functions and for code of no function one outside the sections to which control
+-- comes by patching alone, and one in these
 pub record OwnerList : Type 0 where
   pub elf : Elf
   pub owners : List Owner
 
--- the item is that of a function, or of none
-pub record IsOwnerBy (o : Elf) (f own : Option ℕ) (x : Owner) : Type 0 where
+-- the item is that of a function, or of none, in such a section or in another
+pub record IsOwnerBy (o : Elf) (f own : Option ℕ) (in_patches : Bool) (x : Owner) : Type 0 where
   pub function : f ≡ x.function
   pub owner : own ≡ x.owner
   pub unchecked : is_unchecked o own ≡ x.is_unchecked
+  pub patches : in_patches ≡ x.in_patches
 
--- the item is that of a place
-abbrev pub IsOwnerAt : Elf → Place → Owner → Type 0
-IsOwnerAt o place x = IsOwnerBy o (function_at o place) (owner_at o place) x
+-- the item is that of the point with a number
+abbrev pub IsOwnerOf : Coded → ℕ → Owner → Type 0
+IsOwnerOf o n x = let p = point_at o n in IsOwnerBy o.elf (function_of_point o p) (owner_of_point o p) (is_patch_section o.elf p.place.sec) x
+
+-- which sections are such ones
+abbrev pub ArePatchSections : Elf → List Bool → Type 0
+ArePatchSections o marks = (sec : ℕ) → slice_index_or marks sec false ≡ is_patch_section o sec

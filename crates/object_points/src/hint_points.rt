@@ -8,11 +8,10 @@ ghost use Rattle.flow_defs.specs.Hints.{hint_of as hint_of_point, save_of as sav
 ghost use Rattle.object_points.specs.Meanings.{restores_with_save};
 
 use crate::PointPlaces;
-use crate::hinted::{Hinted, hint_of, is_restore, list_hinted};
+use crate::hinted::{Hinted, is_restore, list_hinted};
 use crate::meanings::{Meaning, find_run, list_meanings, list_restores, sort_meanings};
 use crate::saves::{SavePoint, nearest_save, sort_saves};
 use ot_base::NoMemory;
-use special_sections::Hints;
 use state_defs::HintState;
 use std::alloc::Global;
 use std::marker::Model;
@@ -24,7 +23,6 @@ use std::marker::Model;
 #[derive(Drop)]
 pub struct HintPoints<'p, 'l, 'o, 'a> {
     places: &'p PointPlaces<'l, 'o, 'a>,
-    hints: Hints,
     saves: Vec<SavePoint>,
     meanings: Vec<Meaning>,
     restores: Vec<u32>,
@@ -37,7 +35,7 @@ impl<'p, 'l, 'o, 'a> Model for HintPoints<'p, 'l, 'o, 'a> {
 
     ghost view = { λ h. record { object = h.places.now; restores = h.restores.items } };
 
-    ghost invariant = { λ h. AreKept h.places.now h.hints h.saves.items h.meanings.items h.restores.items };
+    ghost invariant = { λ h. AreKept h.places.now h.saves.items h.meanings.items h.restores.items };
 }
 
 impl<'p, 'l, 'o, 'a> HintPoints<'p, 'l, 'o, 'a> {
@@ -52,18 +50,16 @@ impl<'p, 'l, 'o, 'a> HintPoints<'p, 'l, 'o, 'a> {
     ) -> Result<HintPoints<'p, 'l, 'o, 'a>, NoMemory>
         ensures { IfOk result (λ hints. hints.object ≡ places.now) }
     {
-        let hints = Hints::build(alloc, places.linked().special())?;
         let Hinted {
             mut saves,
             restores,
-        } = list_hinted(alloc, places, &hints)?;
+        } = list_hinted(alloc, places)?;
         sort_saves(&mut saves)?;
         let mut meanings = list_meanings(alloc, places, &saves, &restores)?;
         sort_meanings(&mut meanings)?;
         let restores = list_restores(alloc, &meanings)?;
         Ok(HintPoints {
             places,
-            hints,
             saves,
             meanings,
             restores,
@@ -76,7 +72,7 @@ impl<'p, 'l, 'o, 'a> HintPoints<'p, 'l, 'o, 'a> {
         requires { n < length (points_of_object self.now.object) }
         ensures { result ≡ hint_of_point self.now.object (point_at self.now.object n) }
     {
-        hint_of(self.places, &self.hints, n)
+        self.places.hint(n)
     }
 
     /// The SAVE that a RESTORE means, by its number. A point without RESTORE means none.

@@ -3,8 +3,8 @@
 ghost use Rattle.std.specs.Prelude.{◌≡◌, ◌+◌, ◌<◌, Some, length, nat_le, slice_get, IfOk, IfSome};
 ghost use Rattle.alternatives.specs.Texts.{is_boundary as is_a_boundary};
 ghost use Rattle.alternatives.specs.Points.{address_of_point};
-ghost use Rattle.flow_defs.specs.Arrival.{decoded_insn as decoded_insn_of, is_padding as is_padding_at};
-ghost use Rattle.flow_defs.specs.Code.{alternatives_of, number_of as number_of_point, point_at, points_of_object, texts_of};
+ghost use Rattle.flow_defs.specs.Arrival.{decoded_insn as decoded_insn_of, hint_of, is_padding as is_padding_at};
+ghost use Rattle.flow_defs.specs.Code.{alternatives_of, number_of as number_of_point, plain_point, point_at, points_of_object, texts_of};
 ghost use Rattle.object_points.specs.CodeOwners.{IsItemBy};
 ghost use Rattle.flow_defs.specs.Owners.{function_of_point, is_entry as is_an_entry, is_unchecked as is_unchecked_by, is_unchecked_point as is_unchecked_at, owner_of_point, unchecked_start as unchecked_starting_at};
 
@@ -17,10 +17,12 @@ use alternatives::{Point, Sites};
 use object_code::Linked;
 use operation_defs::Insn;
 use ot_base::{NoMemory, Place};
+use special_sections::Hints;
+use state_defs::HintState;
 use std::alloc::Global;
 use std::marker::Model;
 
-/// The points of an object whose code is read, with who owns them. Contracts see it as the object.
+/// The points of an object whose code is read, with who owns them and the hints at them. Contracts see it as the object.
 ///
 /// A point is told by its number, functions and owners by their symbols. It takes 4 bytes for each point and 20 for each
 /// function, besides what it says of places. Nothing here takes memory once it is built.
@@ -33,6 +35,7 @@ pub struct PointPlaces<'l, 'o, 'a> {
     items: Vec<CodeOwner>,
     /// For each point, which of these items is its own.
     numbers: Vec<u32>,
+    hints: Hints,
 }
 
 impl<'l, 'o, 'a> Model for PointPlaces<'l, 'o, 'a> {
@@ -43,11 +46,11 @@ impl<'l, 'o, 'a> Model for PointPlaces<'l, 'o, 'a> {
 
     ghost view = { λ p. p.linked.now };
 
-    ghost invariant = { λ p. IsKept p.linked.now p.starts p.unchecked.items p.items.items p.numbers.items };
+    ghost invariant = { λ p. IsKept p.linked.now p.starts p.unchecked.items p.items.items p.numbers.items p.hints };
 }
 
 impl<'l, 'o, 'a> PointPlaces<'l, 'o, 'a> {
-    /// The points of an object, with the owners that aren't checked.
+    /// The points of an object, with the owners that aren't checked, and its hints.
     ///
     /// # Errors
     ///
@@ -63,12 +66,14 @@ impl<'l, 'o, 'a> PointPlaces<'l, 'o, 'a> {
         let unchecked = list_unchecked(alloc, linked)?;
         let items = list_items(alloc, index, &unchecked)?;
         let numbers = list_numbers(alloc, linked, index, &items)?;
+        let hints = Hints::build(alloc, linked.special())?;
         Ok(PointPlaces {
             linked,
             starts,
             unchecked,
             items,
             numbers,
+            hints,
         })
     }
 
@@ -207,6 +212,37 @@ impl<'l, 'o, 'a> PointPlaces<'l, 'o, 'a> {
         ensures { IsItemBy self.now.elf (function_of_point self.now (point_at self.now n)) (owner_of_point self.now (point_at self.now n)) result }
     {
         self.items[self.numbers[n as usize] as usize]
+    }
+
+    /// The unwind hint of a point: the one at its place. Padding has none.
+    #[inline(always)]
+    pub fn hint(&self, n: u32) -> Option<HintState>
+        requires { n < length (points_of_object self.now) }
+        ensures { result ≡ hint_of self.now (point_at self.now n) }
+    {
+        if self.linked.special().hints().is_empty() {
+            return None;
+        }
+        self.search_hint(n)
+    }
+
+    /// The same by a search among all hints.
+    #[inline(never)]
+    fn search_hint(&self, n: u32) -> Option<HintState>
+        requires { n < length (points_of_object self.now) }
+        ensures { result ≡ hint_of self.now (point_at self.now n) }
+    {
+        if self.is_padding(n) {
+            return None;
+        }
+        self.plain_hint(self.point(n).place)
+    }
+
+    /// The unwind hint of the plain point at a place: the hint there.
+    pub fn plain_hint(&self, place: Place) -> Option<HintState>
+        ensures { result ≡ hint_of self.now (plain_point place) }
+    {
+        self.hints.hint_at(place)
     }
 
     /// The function that starts at a place and isn't checked.

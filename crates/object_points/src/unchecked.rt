@@ -32,8 +32,8 @@ pub(crate) fn list_unchecked(alloc: Global, linked: &Linked<'_, '_>) -> Result<V
     Ok(owners)
 }
 
-/// Whether an owner is among these.
-pub(crate) fn is_among(owners: &[u32], owner: u32) -> bool
+/// Whether an owner is among these, which ascend.
+pub fn is_among(owners: &[u32], owner: u32) -> bool
     requires { AreAscending owners.now }
     ensures { result ≡ is_one_of owners.now owner }
 {

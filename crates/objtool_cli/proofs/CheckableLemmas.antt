@@ -72,6 +72,7 @@ not_unflowed : (o : Coded) (why : FlowFault) → why ≢ flow.NoMemory → flow_
 not_unflowed o (flow.FuncStart sym) some none h = first_of_none (flow_faults o) _ none h
 not_unflowed o (flow.NotBoundary list entry) some none h = first_of_none (flow_faults o) _ none h
 not_unflowed o (flow.StaticSite entry) some none h = first_of_none (flow_faults o) _ none h
+not_unflowed o (flow.NotCall entry) some none h = first_of_none (flow_faults o) _ none h
 not_unflowed o (flow.NotFunction entry) some none h = first_of_none (flow_faults o) _ none h
 not_unflowed o flow.NoMemory some none h = some refl
 

@@ -3,6 +3,7 @@
 #![tactic(auto)]
 
 mod insn;
+pub mod laws;
 mod op;
 
 pub use insn::Insn;

@@ -1,5 +1,9 @@
 /// What an instruction does to rsp, rbp, the stack and the flow of control (Intel SDM, volume 2).
 ///
+/// Decoding gives every operation but three: `Hop`, `LeaBpRoom` and `IretNext`. They are what a program makes of a
+/// decoded `Call`, `LeaBpSp` and `Iret`, and of some `Switch` it makes an `SpOther`: by what the object says around
+/// the instruction (`specs/Made.antt` says when).
+///
 /// Encodings are given by opcode and ModRM digit. ADD, SUB, AND, LEA, MOV and IRET are meant with
 /// REX.W where an operation names them. Those that address memory by rsp or rbp have that base alone,
 /// without an index, another address size or a segment override by FS or GS. An instruction writes a
@@ -36,6 +40,15 @@ pub enum Op {
     /// Sets rbp to rsp plus `by`: LEA of rbp from rsp and a displacement, and MOV of rsp to rbp, where
     /// `by` is 0.
     LeaBpSp { by: i64 },
+    /// A `LeaBpSp` of a function that makes room below its frame: where rbp becomes the base of the frame, the
+    /// depth of rsp is from here on told as a lower bound, so that it is the same whether room was made or not.
+    LeaBpRoom { by: i64 },
+    /// Subtracts a register, not rsp, from rsp: SUB (29, 2B). That it makes room, so that rsp doesn't rise, is a
+    /// premise of the stack machine.
+    SubSp,
+    /// Sets rsp to a register that is neither rsp nor rbp: MOV (89, 8B). That it makes room, so that rsp doesn't
+    /// rise, is a premise of the stack machine.
+    SpReg,
     /// Stores rbp at rsp plus `at`: MOV (89).
     StoreBp { at: i64 },
     /// Loads rbp from rsp plus `at`: MOV (8B).
@@ -43,12 +56,16 @@ pub enum Op {
     /// Sets rsp to rbp, then pops rbp: LEAVE.
     Leave,
     /// Writes rsp, ESP, SP or SPL in another way, as ENTER and POP of rsp do. It may write rbp besides,
-    /// and store.
+    /// and store. So does a way out by the system that comes back right behind itself, with the words that a walk
+    /// needs and user access as they were: that it does so is a premise of whoever takes a `Switch` for one.
     SpOther,
     /// Writes rbp, EBP, BP or BPL in another way, and not rsp. It may store.
     BpOther,
     /// A near call by a displacement (E8).
     Call { rel: i32 },
+    /// A near call by a displacement (E8) that goes on in its function: it pushes the address behind itself, which
+    /// is no return address, and jumps.
+    Hop,
     /// A near call through a register or memory (FF /2).
     CallInd,
     /// A near jump by a displacement (EB, E9); `wide` where that has 32 bits.

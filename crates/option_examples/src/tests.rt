@@ -3,6 +3,7 @@ mod calls;
 mod case;
 mod expect;
 mod frames;
+mod free_calls;
 mod harmless;
 mod leaving;
 mod turning;

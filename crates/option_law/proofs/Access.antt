@@ -1,5 +1,5 @@
 -- User access is in order in each state of each run, by induction on the run.
-use Rattle.std.proofs.Common.{◌≡◌, ℕ, Bool, false, List, ◌∷◌, ℤ, refl, subst}
+use Rattle.std.proofs.Common.{◌≡◌, ℕ, Bool, true, false, List, ◌∷◌, ℤ, refl, subst}
 use Rattle.ot_base.specs.declared.place.Place.{Place}
 use Rattle.state_defs.specs.Frame.{Frame}
 use Rattle.machine_defs.specs.Program.{Program}
@@ -14,7 +14,7 @@ use Rattle.machine_defs.specs.Broken.{IsAccepted}
 use Rattle.machine_defs.specs.Allowances.{Allowances, EntersFunctions}
 use Rattle.machine_defs.specs.Access.{entered, hinted}
 use Rattle.machine_defs.specs.AccessRules.{AccessWarns}
-use Rattle.option_law.specs.Access.{is_interrupt, homes_after, top_of, TakesSmap, AccessRun, at_entry, at_hint, stepped, IsAccessKept, AccessLaw}
+use Rattle.option_law.specs.Access.{is_interrupt, keeps_frames, HomesAfter, after_call, after_tail_call, after_return, after_iret, after_others, top_of, TakesSmap, AccessRun, at_entry, at_hint, stepped, IsAccessKept, AccessLaw}
 use Rattle.option_law.proofs.Clean.{accepted, keeps_access}
 use Rattle.option_law.proofs.Home.{AreAtHome, at_top, reached_on, stays_off, left_home}
 use Rattle.option_law.proofs.Effects.{landed}
@@ -30,7 +30,7 @@ AreIn p allowed (At s) homes = AreHere p allowed s homes
 pub forgotten : (p : Program) (allowed : Allowances) (bases : Bases) (m : Machine) (homes : List Bool) → AccessRun p allowed bases m homes → Run p bases m
 forgotten p allowed bases m homes (at_entry s entry start stack c d taken now) = started s start stack
 forgotten p allowed bases m homes (at_hint s hint start stack h free now) = started s start stack
-forgotten p allowed bases m homes (stepped k n hs r step quiet taken stays) = run.stepped k n (forgotten p allowed bases k hs r) step stays
+forgotten p allowed bases m homes (stepped k n hs after r step quiet homes_after taken stays) = run.stepped k n (forgotten p allowed bases k hs r) step stays
 
 module _ (law : UnwindingLaw) (p : Program) (allowed : Allowances) (bases : Bases) (is : IsProgram p) (functions : EntersFunctions p) (placed : IsPlacement p bases) (acc : IsAccepted p) (fine : (place : Place) (rule : ℕ) (a b : ℤ) → AccessWarns p allowed place rule a b → ⊥) where
   in_order : (m : Machine) (homes : List Bool) → AccessRun p allowed bases m homes → IsInOrder p bases m
@@ -40,21 +40,29 @@ module _ (law : UnwindingLaw) (p : Program) (allowed : Allowances) (bases : Base
   taken_before : (t u : Standing) → Lands p t u → allowed.lacks_smap u.point ≡ false → allowed.lacks_smap t.point ≡ false
   taken_before t u l taken = subst (λ (x : ℕ). allowed.lacks_smap x ≡ false) (landed p t u l).point taken
 
-  step_in : (m n : Machine) (homes : List Bool) → IsInOrder p bases m → AreIn p allowed m homes → (step : Step p bases m n) → is_interrupt step ≡ false → TakesSmap allowed n → AreIn p allowed n (homes_after allowed step homes)
-  step_in m n homes o h (goes_on s t u g l) quiet taken = landed_here p allowed bases t u _ (landed p t u l) (goes_on_here p allowed bases is acc functions fine s t o.0 o.1 homes h g (taken_before t u l taken))
-  step_in m n homes o h (faults s t u g l) quiet taken = landed_here p allowed bases t u _ (landed p t u l) (faults_here p allowed bases is acc functions fine s t o.0 o.1 homes h g (taken_before t u l taken))
-  step_in m n homes o h (calls_in s t u g l) quiet taken = landed_here p allowed bases t u _ (landed p t u l) (calls_in_here p allowed bases is acc functions fine s t o.0 o.1 homes h g (taken_before t u l taken))
-  step_in m n homes o h (calls_out s t u g l) quiet taken = landed_here p allowed bases t u _ (landed p t u l) (calls_out_here p allowed bases is acc functions fine s t o.0 o.1 homes h g (taken_before t u l taken))
-  step_in m n homes o h (returns s t u g l) quiet taken = landed_here p allowed bases t u _ (landed p t u l) (returns_here p allowed bases is acc functions fine s t o.0 o.1 homes h g (taken_before t u l taken))
-  step_in m n homes o h (tail_calls s t u g l) quiet taken = landed_here p allowed bases t u _ (landed p t u l) (tail_calls_here p allowed bases is acc functions fine s t o.0 o.1 homes h g (taken_before t u l taken))
-  step_in m n homes o h (wrecks s w) quiet taken = tt
-  step_in m n homes o h (interrupted s t u g l) quiet taken = absurd (let k : ⊥ = cc in k)
-  step_in m n homes o h (irets s t g) quiet taken = absurd (no_iret p allowed bases is acc functions fine s t o.0 o.1 homes h g)
+  -- a step that keeps the frames
+  other_in : (m n : Machine) (homes : List Bool) → IsInOrder p bases m → AreIn p allowed m homes → (step : Step p bases m n) → is_interrupt step ≡ false → keeps_frames step ≡ true → TakesSmap allowed n → AreIn p allowed n homes
+  other_in m n homes o h (goes_on s t u g l) quiet other taken = landed_here p allowed bases t u _ (landed p t u l) (goes_on_here p allowed bases is acc functions fine s t o.0 o.1 homes h g (taken_before t u l taken))
+  other_in m n homes o h (faults s t u g l) quiet other taken = landed_here p allowed bases t u _ (landed p t u l) (faults_here p allowed bases is acc functions fine s t o.0 o.1 homes h g (taken_before t u l taken))
+  other_in m n homes o h (calls_out s t u g l) quiet other taken = landed_here p allowed bases t u _ (landed p t u l) (calls_out_here p allowed bases is acc functions fine s t o.0 o.1 homes h g (taken_before t u l taken))
+  other_in m n homes o h (wrecks s w) quiet other taken = tt
+  other_in m n homes o h (interrupted s t u g l) quiet other taken = absurd (let k : ⊥ = cc in k)
+  other_in m n homes o h (calls_in s t u g l) quiet other taken = absurd (let k : ⊥ = cc in k)
+  other_in m n homes o h (tail_calls s t u g l) quiet other taken = absurd (let k : ⊥ = cc in k)
+  other_in m n homes o h (returns s t u g l) quiet other taken = absurd (let k : ⊥ = cc in k)
+  other_in m n homes o h (irets s t g) quiet other taken = absurd (let k : ⊥ = cc in k)
+
+  step_in : (m n : Machine) (homes after : List Bool) → IsInOrder p bases m → AreIn p allowed m homes → (step : Step p bases m n) → is_interrupt step ≡ false → HomesAfter p allowed bases m n step homes after → TakesSmap allowed n → AreIn p allowed n after
+  step_in m n homes after o h step quiet (after_call s t u g l hs) taken = landed_here p allowed bases t u _ (landed p t u l) (calls_in_here p allowed bases is acc functions fine s t o.0 o.1 hs h g (taken_before t u l taken))
+  step_in m n homes after o h step quiet (after_tail_call s t u g l hs) taken = landed_here p allowed bases t u _ (landed p t u l) (tail_calls_here p allowed bases is acc functions fine s t o.0 o.1 hs h g (taken_before t u l taken))
+  step_in m n homes after o h step quiet (after_return s t u g l hs) taken = landed_here p allowed bases t u _ (landed p t u l) (returns_here p allowed bases is acc functions fine s t o.0 o.1 hs h g (taken_before t u l taken))
+  step_in m n homes after o h step quiet (after_iret s t g hs) taken = absurd (no_iret p allowed bases is acc functions fine s t o.0 o.1 hs h g)
+  step_in m n homes after o h step quiet (after_others k l st hs other) taken = other_in k l hs o h st quiet other taken
 
   run_in : (m : Machine) (homes : List Bool) → AccessRun p allowed bases m homes → AreIn p allowed m homes
   run_in m homes (at_entry s entry start stack c d taken now) = start_here p allowed bases s _ start (entered s.point entry c d taken) now
   run_in m homes (at_hint s hint start stack h free now) = start_here p allowed bases s false start (hinted s.point hint (in_order (At s) _ (at_hint s hint start stack h free now)).0.point h free) now
-  run_in m homes (stepped k n hs r step quiet taken stays) = step_in k n hs (in_order k hs r) (run_in k hs r) step quiet taken
+  run_in m homes (stepped k n hs after r step quiet homes_after taken stays) = step_in k n hs after (in_order k hs r) (run_in k hs r) step quiet homes_after taken
 
   -- there user access is in order
   kept_at : (m : Machine) (homes : List Bool) → IsInOrder p bases m → AreIn p allowed m homes → IsAccessKept p allowed homes m

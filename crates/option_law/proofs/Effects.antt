@@ -1,7 +1,7 @@
 -- What an operation and a hint do to user access.
-use Rattle.std.proofs.Common.{◌≡◌, ◌≢◌, ℕ, Bool, true, false, List, [], ◌∷◌, Option, Some, None, MatchBool, refl, sym, ap, ◌∙◌, subst}
+use Rattle.std.proofs.Common.{◌≡◌, ◌≢◌, ℕ, ◌||◌, if◌then◌else◌, is_some, Bool, true, false, List, [], ◌∷◌, Option, Some, None, MatchBool, refl, sym, ap, ◌∙◌, subst}
 use Rattle.operation_defs.specs.declared.op.Op.{Op}
-use Rattle.operation_defs.specs.declared.op.Op.TheVariants.{Plain, Nop, Endbr, Push, PushBp, Pop, PopBp, Popf, AddSp, AndSp, LeaSpBp, LeaBpSp, StoreBp, LoadBp, Leave, SpOther, BpOther, Call, CallInd, Jmp, Jcc, JmpInd, Ret, RetImm, Iret, IretNext, Switch, Ud2, Int3, Stac, Clac}
+use Rattle.operation_defs.specs.declared.op.Op.TheVariants.{Plain, Nop, Endbr, Push, PushBp, Pop, PopBp, Popf, AddSp, AndSp, LeaSpBp, LeaBpSp, LeaBpRoom, SubSp, SpReg, StoreBp, LoadBp, Leave, SpOther, BpOther, Call, Hop, CallInd, Jmp, Jcc, JmpInd, Ret, RetImm, Iret, IretNext, Switch, Ud2, Int3, Stac, Clac}
 use Rattle.machine_defs.specs.declared.flow.EdgeKind.{EdgeKind}
 use Rattle.machine_defs.specs.declared.flow.EdgeKind.TheVariants.{Next, Taken, Fixup, Table, Sibling}
 use Rattle.state_defs.specs.declared.state.State.{State}
@@ -13,6 +13,8 @@ use Rattle.state_defs.specs.Frame.{is_of_call, Frame, with_top_slot, after_save}
 use Rattle.state_defs.specs.Effect.{Core, StoresOrdinarily, store_saves, Effect}
 use Rattle.machine_defs.specs.Program.{Program, is_call_op, is_local}
 use Rattle.machine_defs.specs.Machine.{Standing}
+use Rattle.machine_defs.specs.Ways.{is_before_hint}
+use Rattle.machine_defs.specs.Step.{as_any_write, op_at, GoesOn}
 use Rattle.machine_defs.specs.Hint.{IsInInterrupt, hinted_slot, SetsState, Hinted, Lands}
 use Rattle.machine_defs.specs.Access.{access_after, access_along}
 use Rattle.unwinding_law.proofs.Shadow.{IsSlotChange, no_frame, top}
@@ -36,6 +38,9 @@ module _ (c d : Core) where
   effect_access (AndSp mask) n e = ap (λ (x : Core). x.ac) e
   effect_access (LeaSpBp by) n e = ap (λ (x : Core). x.ac) e
   effect_access (LeaBpSp by) n e = ap (λ (x : Core). x.ac) e
+  effect_access (LeaBpRoom by) n e = ap (λ (x : Core). x.ac) e
+  effect_access SubSp n e = ap (λ (x : Core). x.ac) e.1
+  effect_access SpReg n e = ap (λ (x : Core). x.ac) e.1
   effect_access (StoreBp at) n e = go (store_saves c.rsp c.rbp at c.shadow) e.1
     where
       go : (b : Bool) → MatchBool b (d ≡ record c { region = d.region; shadow = after_save c.rbp (shifted c.rsp at) c.shadow }) (StoresOrdinarily c d × (d ≡ record c { region = d.region })) → d.ac ≡ c.ac
@@ -46,6 +51,7 @@ module _ (c d : Core) where
   effect_access SpOther n e = ap (λ (x : Core). x.ac) e.1
   effect_access BpOther n e = ap (λ (x : Core). x.ac) e.1
   effect_access (Call rel) n e = absurd e
+  effect_access Hop n e = ap (λ (x : Core). x.ac) e.1
   effect_access CallInd n e = absurd e
   effect_access (Jmp rel wide) n e = ap (λ (x : Core). x.ac) e
   effect_access (Jcc rel wide) n e = ap (λ (x : Core). x.ac) e
@@ -59,6 +65,25 @@ module _ (c d : Core) where
   effect_access Int3 n e = ap (λ (x : Core). x.ac) e
   effect_access Stac n e = ap (λ (x : Core). x.ac) e
   effect_access Clac n e = ap (λ (x : Core). x.ac) e
+
+-- what makes room leaves access as it is, however it acts
+acts_after : (b : Bool) (op : Op) (now : Bool) → access_after (if b then as_any_write op else op) now ≡ access_after op now
+acts_after false op now = refl
+acts_after true SubSp now = refl
+acts_after true SpReg now = refl
+acts_after true _ now = refl
+
+acts_popf : (b : Bool) (op : Op) → op ≢ Popf → (if b then as_any_write op else op) ≢ Popf
+acts_popf false op n = n
+acts_popf true SubSp n = λ e. let k : ⊥ = cc in k
+acts_popf true SpReg n = λ e. let k : ⊥ = cc in k
+acts_popf true _ n = n
+
+-- where an instruction goes on, access is that behind it
+pub goes_on_access : (p : Program) (s t : Standing) → (p.insn s.point).op ≢ Popf → GoesOn p s t → t.core.ac ≡ access_after (p.insn s.point).op s.core.ac
+goes_on_access p s t n g =
+    effect_access s.core t.core (op_at p s) (acts_popf (is_some s.ended || is_before_hint p s.point) (p.insn s.point).op n) g.effect
+    ∙ acts_after (is_some s.ended || is_before_hint p s.point) (p.insn s.point).op s.core.ac
 
 -- along a local edge access is that behind the instruction
 pub local_along : (kind : EdgeKind) (op : Op) → is_local kind ≡ true → (now : Bool) → access_along kind op now ≡ access_after op now

@@ -8,21 +8,22 @@ use Rattle.machine_defs.specs.Program.{Program, is_call}
 use Rattle.machine_defs.specs.IsProgram.{IsProgram}
 use Rattle.machine_defs.specs.MayReturn.{target_may_return}
 use Rattle.machine_defs.specs.Machine.{Bases, Standing, point_address, return_address}
-use Rattle.machine_defs.specs.Step.{GoesOn, Faults, CallsIn, CallsOut, Returns, TailCalls, ReturnsFromInterrupt, call_frame}
+use Rattle.machine_defs.specs.Step.{op_at, GoesOn, Faults, CallsIn, CallsOut, Returns, TailCalls, ReturnsFromInterrupt, call_frame}
 use Rattle.machine_defs.specs.Run.{outermost, StartsFrom, Start, at_entry, at_call_hint, at_regs_hint, at_end_hint}
 use Rattle.machine_defs.specs.Law.{AreFrames, HasRunInvariant, HasFrameInvariant}
 use Rattle.machine_defs.specs.Broken.{IsAccepted}
 use Rattle.machine_defs.specs.Allowances.{Allowances, EntersFunctions, is_safe}
-use Rattle.machine_defs.specs.Access.{Reached, entered}
+use Rattle.machine_defs.specs.Access.{Reached}
 use Rattle.machine_defs.specs.AccessRules.{AccessWarns}
 use Rattle.option_law.specs.Access.{below_top, top_of}
+use Rattle.unwinding_law.proofs.WaysOn.{acts_no_call}
 use Rattle.unwinding_law.proofs.Shadow.{effect_shape, effect_no_call}
 use Rattle.unwinding_law.proofs.Passes.{same_frames, out_calls}
 use Rattle.unwinding_law.proofs.Edges.{plain_role, may_go, edge_in, call_next_in}
 use Rattle.unwinding_law.proofs.Backs.{inner_of, comes_back_to}
 use Rattle.option_law.proofs.Home.{IsAtHome, as_expected, AreAtHome, at_top, elsewhere, replaced, reached_on, entered_home, left_home, no_popf, same_home, next_home}
-use Rattle.option_law.proofs.Effects.{effect_access, local_along, local_stays, call_access, IsLanded, landed}
-use Rattle.option_law.proofs.Targets.{leaves_there, called_entry, jump_entry, jump_leaves, reached_entry, safe_jump, safe_call}
+use Rattle.option_law.proofs.Effects.{goes_on_access, local_along, local_stays, call_access, IsLanded, landed}
+use Rattle.option_law.proofs.Targets.{leaves_there, called_entry, jump_entry, jump_leaves, reached_entry, reached_callee, safe_jump, safe_call}
 
 -- the frames of a state are at home
 abbrev pub AreHere : Program → Allowances → Standing → List Bool → Type 0
@@ -71,10 +72,10 @@ module _ (p : Program) (allowed : Allowances) (bases : Bases) (is : IsProgram p)
 
   pub goes_on_here : GoesOn p s t → allowed.lacks_smap t.point ≡ false → AreHere p allowed t homes
   goes_on_here g taken =
-      let role = plain_role p is s.point r.point (is_call (p.role s.point)) refl (effect_no_call s.core t.core (p.insn s.point).op g.effect) in
+      let role = plain_role p is s.point r.point (is_call (p.role s.point)) refl (acts_no_call p s (effect_no_call s.core t.core (op_at p s) g.effect)) in
       let along = edge_in p is acc s.point t.point g.kind g.along (may_go p s.point g.kind g.local role) in
-      let access = effect_access s.core t.core (p.insn s.point).op (no_popf p allowed fine s.point s.core.ac here.0 (top_of homes) here.1) g.effect in
-      elsewhere p allowed s.point t.point s.core.ac t.core.ac s.core.shadow t.core.shadow homes (effect_shape s.core t.core (p.insn s.point).op g.effect)
+      let access = goes_on_access p s t (no_popf p allowed fine s.point s.core.ac here.0 (top_of homes) here.1) g in
+      elsewhere p allowed s.point t.point s.core.ac t.core.ac s.core.shadow t.core.shadow homes (effect_shape s.core t.core (op_at p s) g.effect)
       (λ made k. subst (λ (x : Bool). IsAtHome p allowed t.point x made (top_of homes)) (sym access) (next_home p allowed fine s.point t.point g.kind along (local_stays g.kind g.local) taken (local_along g.kind (p.insn s.point).op g.local) s.core.ac made (top_of homes) k)) h
 
   -- where only memory changes
@@ -97,9 +98,9 @@ module _ (p : Program) (allowed : Allowances) (bases : Bases) (is : IsProgram p)
 
   pub calls_in_here : (g : CallsIn p bases s t) → allowed.lacks_smap t.point ≡ false → AreHere p allowed t (is_safe p allowed g.entry ∷ homes)
   calls_in_here g taken =
-      let listed = called_entry p is s.point g.entry r.point (p.role s.point) refl g.target in
+      let callee = called_entry p is s.point g.entry r.point (p.role s.point) refl g.target in
       let safe : s.core.ac ≡ true → is_safe p allowed g.entry ≡ true = λ on. safe_call p allowed is functions fine s.point (top_of homes) r.point (reached_on p allowed s.point s.core.ac here.0 (top_of homes) here.1 on) g.entry g.target in
-      let first = entered_home p allowed t.point s.core.ac (is_safe p allowed g.entry) (entered t.point g.entry listed g.arrives taken) safe in
+      let first = entered_home p allowed t.point s.core.ac (is_safe p allowed g.entry) (reached_callee p allowed is functions s.point g.entry t.point callee g.arrives taken) safe in
       let both : AreAtHome p allowed t.point s.core.ac (call_frame p bases s ∷ s.core.shadow) (is_safe p allowed g.entry ∷ homes) =
       (first, λ call e. let k : s.point ≡ call = cc in (refl, subst (λ (x : ℕ). AreAtHome p allowed x s.core.ac s.core.shadow homes) k h))
       in

@@ -66,12 +66,12 @@ reached q now home (access.along a before home2 e r c other taken) =
 
 -- what is called is safe
 calls_safe : (q : ℕ) (callee : ℤ) → CallsUnsafe worked allowed q callee → ⊥
-calls_safe q callee (rules.inside entry function e n f) = let k : CallIn entry ≡ CallIn 7 = role_there q (CallIn entry) refl e in let m : 7 ≡ entry = cc in let safe : is_safe worked allowed entry ≡ true = subst (λ (x : ℕ). is_safe worked allowed x ≡ true) m refl in cc
-calls_safe q callee (rules.weak_inside entry symbol function e n f) = let k : CallEither entry symbol ≡ CallIn 7 = role_there q (CallEither entry symbol) refl e in cc
+calls_safe q callee (rules.inside entry e n) = let k : CallIn entry ≡ CallIn 7 = role_there q (CallIn entry) refl e in let m : 7 ≡ entry = cc in let safe : is_safe worked allowed entry ≡ true = subst (λ (x : ℕ). is_safe worked allowed x ≡ true) m refl in cc
+calls_safe q callee (rules.weak_inside entry symbol e n) = let k : CallEither entry symbol ≡ CallIn 7 = role_there q (CallEither entry symbol) refl e in cc
 calls_safe q callee (rules.weak_outside entry symbol e n) = let k : CallEither entry symbol ≡ CallIn 7 = role_there q (CallEither entry symbol) refl e in cc
 calls_safe q callee (rules.outside symbol e n) = let k : CallOut symbol ≡ CallIn 7 = role_there q (CallOut symbol) refl e in cc
 calls_safe q callee (rules.jumps_outside symbol e n) = no_jump q (ap is_jump e)
-calls_safe q callee (rules.tail_call r function c n f) = no_tail q r (from_filter (λ (e : Edge). can_go worked q e.kind) (worked.goes q) (edge r Sibling) c).0
+calls_safe q callee (rules.tail_call r c n) = no_tail q r (from_filter (λ (e : Edge). can_go worked q e.kind) (worked.goes q) (edge r Sibling) c).0
 calls_safe q callee (rules.indirect e) = let k : CallAny ≡ CallIn 7 = role_there q CallAny refl e in cc
 calls_safe q callee (rules.jumps_anywhere e) = no_jump q (ap is_jump e)
 

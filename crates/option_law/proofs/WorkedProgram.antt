@@ -8,7 +8,7 @@ use Rattle.machine_defs.specs.declared.flow.EdgeKind.TheVariants.{Next, Sibling}
 use Rattle.machine_defs.specs.declared.flow.Role.{Role}
 use Rattle.machine_defs.specs.declared.flow.Role.TheVariants.{CallIn, CallEither, Return, JumpOut, JumpAny}
 use Rattle.state_defs.specs.Effect.{HasSignedNumber}
-use Rattle.machine_defs.specs.Program.{TextSection, below, entry_points, is_call, is_call_op, edge}
+use Rattle.machine_defs.specs.Program.{TextSection, below, entry_points, is_call, is_call_op, edge, Site, in_site}
 use Rattle.machine_defs.specs.MayReturn.{MayReturn}
 use Rattle.machine_defs.specs.MayReturn as may
 use Rattle.machine_defs.specs.IsProgram.{IsProgram}
@@ -18,7 +18,7 @@ use Rattle.unwinding_law.specs.Worked.{place_at, base}
 use Rattle.unwinding_law.proofs.Elements.{each, none, one, two}
 use Rattle.unwinding_law.proofs.Lists.{here, cases, nowhere, from_filter, from_below}
 use Rattle.unwinding_law.proofs.WorkedProgram.{never, is_jump, is_imm_or_switch, is_iret}
-use Rattle.option_law.specs.Worked.{point, worked}
+use Rattle.option_law.specs.Worked.{point, worked, site}
 
 -- what holds of all edges of a point
 pub along : (P : Edge → Type 0) (q : ℕ) → All P (worked.goes q) → (e : Edge) → Contains (worked.goes q) e → P e
@@ -77,7 +77,7 @@ from_clac : MayReturn worked 4
 from_clac = may.goes_on 4 (edge 5 Next) refl (here (edge 5 Next) []) from_pop
 
 from_call : MayReturn worked 3
-from_call = may.comes_back_in 3 4 7 7 refl refl (0, lit< tt, refl) (may.returns 7 refl) (here (edge 4 Next) []) from_clac
+from_call = may.comes_back_in 3 4 7 7 refl refl refl (0, lit< tt, refl) (may.returns 7 refl) (here (edge 4 Next) []) from_clac
 
 from_nop : MayReturn worked 2
 from_nop = may.goes_on 2 (edge 3 Next) refl (here (edge 3 Next) []) from_call
@@ -105,7 +105,7 @@ stuck q g l (may.jumps_out q2 symbol e n) = let k : goes_out (worked.role q) ≡
 stuck q g l (may.goes_on q2 e call c m) = nowhere e (subst (λ (xs : List Edge). Contains xs e) g c)
 stuck q g l (may.branches q2 e kind c m) = nowhere e (subst (λ (xs : List Edge). Contains xs e) g c)
 stuck q g l (may.comes_back q2 r out passed c m) = nowhere (edge r Next) (subst (λ (xs : List Edge). Contains xs (edge r Next)) g c)
-stuck q g l (may.comes_back_in q2 r entry start role passed c m d n) = nowhere (edge r Next) (subst (λ (xs : List Edge). Contains xs (edge r Next)) g d)
+stuck q g l (may.comes_back_in q2 r entry start role unlisted passed c m d n) = nowhere (edge r Next) (subst (λ (xs : List Edge). Contains xs (edge r Next)) g d)
 
 told : (q : ℕ) → MayReturn worked q → worked.may_return q ≡ true
 told = each (λ q. MayReturn worked q → worked.may_return q ≡ true) (λ _. refl) (λ _. refl) (λ _. refl) (λ _. refl) (λ _. refl) (λ _. refl) (λ _. refl) (λ _. refl) (λ m. absurd (stuck 8 refl refl m)) (λ _. refl) (λ m. absurd (stuck 10 refl refl m)) (λ q m. absurd (stuck _ refl refl m))
@@ -126,6 +126,22 @@ call_next q r e c = go (subst (λ (x : ℕ). Contains (worked.after x) r) there_
     go : Contains (4 ∷ []) r → Contains (worked.goes q) (edge r Next)
     go d = elim (cases 4 [] r d) [ inl k ↦ subst (λ (x : ℕ). Contains (worked.goes x) (edge r Next)) (sym there_is) (subst (λ (x : ℕ). Contains (worked.goes 3) (edge x Next)) k (here (edge 4 Next) [])) | inr k ↦ nowhere r k ]
 
+-- outside its site control that comes to a plain point stands there
+alone : (q r : ℕ) → Contains (q ∷ []) r → r ≡ q
+alone q r c = elim (cases q [] r c) [ inl e ↦ sym e | inr d ↦ nowhere r d ]
+
+abbrev StandsAt : ℕ → Type 0
+StandsAt q = worked.variant q ≡ 0 → ((s : Site) → Contains worked.sites s → in_site s (worked.place q) ≡ false) → (r : ℕ) → Contains (entry_points worked q) r → r ≡ q
+
+in_its_site : StandsAt 2
+in_its_site v out r c = absurd (let k : true ≡ false = out site (here site []) in let z : ⊥ = cc in z)
+
+of_replacement : {P : Type 0} → ◌≡◌ {A = ℕ} 1 0 → P
+of_replacement e = absurd (omega (arith, e))
+
+stands : (q : ℕ) → StandsAt q
+stands = each StandsAt (λ v out r c. alone 0 r c) (λ v out r c. alone 1 r c) in_its_site (λ v out r c. alone 3 r c) (λ v out r c. alone 4 r c) (λ v out r c. alone 5 r c) (λ v out r c. alone 6 r c) (λ v out r c. alone 7 r c) (λ v out r c. alone 8 r c) (λ v out r c. of_replacement v) (λ v out r c. nowhere r c) (λ q v out r c. nowhere r c)
+
 -- so it is a program
 pub program : IsProgram worked
 program = record {
@@ -136,7 +152,8 @@ program = record {
   checked = λ q e point u c k. refl;
   unowned = λ q point e. refl;
   entries_checked = λ entry q c d. refl;
-  calls_entry = λ q entry point e. call_in q entry e;
+  arrives_alone = λ q r point v out c. stands q v out r c;
+  calls_entry = λ q entry point e. inl (call_in q entry e);
   calls_weak_entry = λ q entry symbol point e. absurd (let k : CallEither entry symbol ≡ CallIn 7 = role_there q (CallEither entry symbol) refl e in let m : ⊥ = cc in m);
   siblings = λ q r point c. absurd (no_tail q r c);
   calls = λ q point e. subst (λ (x : ℕ). is_call_op (worked.insn x).op ≡ true) (sym (one_call q e)) refl;

@@ -10,7 +10,7 @@ use Rattle.machine_defs.specs.Step.{call_frame, goes_on, calls_in, returns}
 use Rattle.machine_defs.specs.Run.{Start}
 use Rattle.machine_defs.specs.Run as run
 use Rattle.unwinding_law.specs.Worked.{base}
-use Rattle.option_law.specs.Access.{AccessRun, at_entry, stepped}
+use Rattle.option_law.specs.Access.{AccessRun, at_entry, after_call, after_return, after_others, stepped}
 use Rattle.option_law.specs.Worked.{worked, allowed, zeros, called, caller, after_push, at_stac, at_call, in_g, at_clac}
 use Rattle.option_law.specs.Worked as w
 use Rattle.option_law.proofs.WorkedProgram.{outside}
@@ -54,7 +54,7 @@ enters = at_entry w.at_entry 0 start (in_zeros 0x8010 0 false (caller Unsaved �
 
 pushes : AccessRun worked allowed base (At after_push) (false ∷ [])
 pushes =
-    stepped (At w.at_entry) (At after_push) (false ∷ []) enters
+    stepped (At w.at_entry) (At after_push) (false ∷ []) (false ∷ []) enters
     (goes_on w.at_entry after_push after_push (record {
       kind = Next;
       local = refl;
@@ -62,23 +62,23 @@ pushes =
       effect = (record { only = record { addresses = record { lo = refl; size = refl }; others = λ address h. refl }; word = refl }, refl);
       level = record { ended = refl; mark = refl };
     }) refl)
-    refl refl (in_zeros 0x8008 0 false after_push.core.shadow (lit≤ tt) (lit≤ tt) (lit< tt))
+    refl (after_others _ _ _ _ refl) refl (in_zeros 0x8008 0 false after_push.core.shadow (lit≤ tt) (lit≤ tt) (lit< tt))
 
 moves : AccessRun worked allowed base (At at_stac) (false ∷ [])
 moves =
-    stepped (At after_push) (At at_stac) (false ∷ []) pushes
+    stepped (At after_push) (At at_stac) (false ∷ []) (false ∷ []) pushes
     (goes_on after_push at_stac at_stac (record { kind = Next; local = refl; along = (1, lit< tt, refl); effect = refl; level = record { ended = refl; mark = refl } }) refl)
-    refl refl (in_zeros 0x8008 0x8008 false at_stac.core.shadow (lit≤ tt) (lit≤ tt) (lit< tt))
+    refl (after_others _ _ _ _ refl) refl (in_zeros 0x8008 0x8008 false at_stac.core.shadow (lit≤ tt) (lit≤ tt) (lit< tt))
 
 pub turns_on : AccessRun worked allowed base (At at_call) (false ∷ [])
 turns_on =
-    stepped (At at_stac) (At at_call) (false ∷ []) moves
+    stepped (At at_stac) (At at_call) (false ∷ []) (false ∷ []) moves
     (goes_on at_stac at_call at_call (record { kind = Next; local = refl; along = (0, lit< tt, refl); effect = refl; level = record { ended = refl; mark = refl } }) refl)
-    refl refl (in_zeros 0x8008 0x8008 true at_call.core.shadow (lit≤ tt) (lit≤ tt) (lit< tt))
+    refl (after_others _ _ _ _ refl) refl (in_zeros 0x8008 0x8008 true at_call.core.shadow (lit≤ tt) (lit≤ tt) (lit< tt))
 
 pub calls : AccessRun worked allowed base (At in_g) (true ∷ false ∷ [])
 calls =
-    stepped (At at_call) (At in_g) (false ∷ []) turns_on
+    stepped (At at_call) (At in_g) (false ∷ []) (true ∷ false ∷ []) turns_on
     (calls_in at_call in_g in_g (record {
       entry = 7;
       target = refl;
@@ -88,11 +88,11 @@ calls =
       ended = refl;
       mark = refl;
     }) refl)
-    refl refl (in_called 0x8000 0x8008 true in_g.core.shadow (lit≤ tt) (lit≤ tt) (lit< tt))
+    refl (after_call _ _ _ _ _ _) refl (in_called 0x8000 0x8008 true in_g.core.shadow (lit≤ tt) (lit≤ tt) (lit< tt))
 
 pub comes_back : AccessRun worked allowed base (At at_clac) (false ∷ [])
 comes_back =
-    stepped (At in_g) (At at_clac) (true ∷ false ∷ []) calls
+    stepped (At in_g) (At at_clac) (true ∷ false ∷ []) (false ∷ []) calls
     (returns in_g at_clac at_clac (record {
       leaves = refl;
       frame = call_frame worked base at_call;
@@ -102,10 +102,12 @@ comes_back =
       call = 3;
       called = refl;
       passed = refl;
+      unlisted = refl;
+      still_ended = λ e. absurd (let k : ⊥ = cc in k);
       comes_back = (0, lit< tt, refl);
       memory = refl;
       core = refl;
       ended = refl;
       mark = refl;
     }) refl)
-    refl refl (in_called 0x8008 0x8008 true at_clac.core.shadow (lit≤ tt) (lit≤ tt) (lit< tt))
+    refl (after_return _ _ _ _ _ _) refl (in_called 0x8008 0x8008 true at_clac.core.shadow (lit≤ tt) (lit≤ tt) (lit< tt))

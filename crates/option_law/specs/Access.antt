@@ -11,7 +11,8 @@ use Rattle.state_defs.specs.Effect.{IsInStack}
 use Rattle.machine_defs.specs.Program.{Program, entry_points, edge}
 use Rattle.machine_defs.specs.IsProgram.{IsProgram}
 use Rattle.machine_defs.specs.Machine.{Bases, IsPlacement, Standing, Machine, Wrecked, At}
-use Rattle.machine_defs.specs.Step.{Step, calls_in, returns, tail_calls, interrupted, irets, may_leave}
+use Rattle.machine_defs.specs.Hint.{Lands}
+use Rattle.machine_defs.specs.Step.{Step, CallsIn, Returns, TailCalls, ReturnsFromInterrupt, calls_in, returns, tail_calls, interrupted, irets, may_go_back}
 use Rattle.machine_defs.specs.Run.{Start, StaysInStack}
 use Rattle.machine_defs.specs.Allowances.{Allowances, EntersFunctions, is_safe}
 use Rattle.machine_defs.specs.Asked.{IsClean}
@@ -30,15 +31,32 @@ abbrev pub top_of : List Bool → Bool
 top_of [] = false
 top_of (home ∷ homes) = home
 
+-- the step is no call into the object, no tail call and no return
+abbrev pub keeps_frames : {p : Program} {bases : Bases} {m n : Machine} → Step p bases m n → Bool
+keeps_frames (calls_in s t u how lands) = false
+keeps_frames (tail_calls s t u how lands) = false
+keeps_frames (returns s t u how lands) = false
+keeps_frames (irets s t how) = false
+keeps_frames _ = true
+
 -- For each frame, the top one first, its home: whether the function is safe that was called, or that a tail call put in its
--- place. A call adds that of its callee, a return takes one off, and any other step leaves them. Where the run begins without a
--- frame, the last is that of the code where it begins, which is in no safe function.
-abbrev pub homes_after : {p : Program} {bases : Bases} {m n : Machine} → Allowances → Step p bases m n → List Bool → List Bool
-homes_after {p = p} allowed (calls_in s t u how lands) homes = is_safe p allowed how.entry ∷ homes
-homes_after {p = p} allowed (tail_calls s t u how lands) homes = is_safe p allowed t.point ∷ below_top homes
-homes_after allowed (returns s t u how lands) homes = below_top homes
-homes_after allowed (irets s t how) homes = below_top homes
-homes_after allowed _ homes = homes
+-- place. Where the run begins without a frame, the last is that of the code where it begins, which is in no safe function. What
+-- a step makes of the homes:
+pub data HomesAfter (p : Program) (allowed : Allowances) (bases : Bases) : (m n : Machine) → Step p bases m n → List Bool → List Bool → Type 0 where
+  -- a call adds that of its callee
+  after_call : (s t u : Standing) (how : CallsIn p bases s t) (lands : Lands p t u) (homes : List Bool)
+      → HomesAfter p allowed bases (At s) (At u) (calls_in s t u how lands) homes (is_safe p allowed how.entry ∷ homes)
+  -- a tail call puts that of its callee in the place of the top one
+  after_tail_call : (s t u : Standing) (how : TailCalls p s t) (lands : Lands p t u) (homes : List Bool)
+      → HomesAfter p allowed bases (At s) (At u) (tail_calls s t u how lands) homes (is_safe p allowed t.point ∷ below_top homes)
+  -- a return takes the top one off, and so does one from an interrupt
+  after_return : (s t u : Standing) (how : Returns p s t) (lands : Lands p t u) (homes : List Bool)
+      → HomesAfter p allowed bases (At s) (At u) (returns s t u how lands) homes (below_top homes)
+  after_iret : (s t : Standing) (how : ReturnsFromInterrupt p s t) (homes : List Bool)
+      → HomesAfter p allowed bases (At s) (At t) (irets s t how) homes (below_top homes)
+  -- any other step leaves them
+  after_others : (m n : Machine) (step : Step p bases m n) (homes : List Bool) → keeps_frames step ≡ true
+      → HomesAfter p allowed bases m n step homes homes
 
 -- the machine stands nowhere else than where a processor with SMAP has its code
 abbrev pub TakesSmap : Allowances → Machine → Type 0
@@ -53,8 +71,9 @@ pub data AccessRun (p : Program) (allowed : Allowances) (bases : Bases) : Machin
       → allowed.lacks_smap s.point ≡ false → s.core.ac ≡ is_safe p allowed entry → AccessRun p allowed bases (At s) (is_safe p allowed entry ∷ [])
   at_hint : (s : Standing) (hint : HintState) → Start p bases s → IsInStack s.core → p.hint s.point ≡ Some hint → p.owner s.point ≡ None
       → s.core.ac ≡ false → AccessRun p allowed bases (At s) (false ∷ [])
-  stepped : (m n : Machine) (homes : List Bool) → AccessRun p allowed bases m homes → (step : Step p bases m n) → is_interrupt step ≡ false → TakesSmap allowed n → StaysInStack n
-      → AccessRun p allowed bases n (homes_after allowed step homes)
+  stepped : (m n : Machine) (homes after : List Bool) → AccessRun p allowed bases m homes → (step : Step p bases m n) → is_interrupt step ≡ false
+      → HomesAfter p allowed bases m n step homes after → TakesSmap allowed n → StaysInStack n
+      → AccessRun p allowed bases n after
 
 -- what is called or jumped to outside the edges is a safe function, or a symbol with a listed name
 abbrev pub HasSafeTarget : Program → Allowances → Role → Type 0
@@ -76,7 +95,7 @@ pub record KeepsAccess (p : Program) (allowed : Allowances) (s : Standing) (home
   -- a safe function that was entered with user access off keeps it off
   pub stays_off : (f : Frame) (fs : List Frame) → s.core.shadow ≡ f ∷ fs → top_of homes ≡ true → f.ac ≡ false → s.core.ac ≡ false
   -- where control may return, user access is as it was when the frame was made
-  pub leaves : (f : Frame) (fs : List Frame) → s.core.shadow ≡ f ∷ fs → IsTrue (may_leave p (p.role s.point)) → s.core.ac ≡ f.ac
+  pub leaves : (f : Frame) (fs : List Frame) → s.core.shadow ≡ f ∷ fs → IsTrue (may_go_back p (p.role s.point)) → s.core.ac ≡ f.ac
 
 abbrev pub IsAccessKept : Program → Allowances → List Bool → Machine → Type 0
 IsAccessKept p allowed homes Wrecked = ⊥

@@ -67,6 +67,7 @@ worked = record {
   function = λ q. (point q).owner;
   owner = λ q. (point q).owner;
   unchecked = λ _. false;
+  in_patches = λ _. false;
   previous = λ q. slice_index_or (None ∷ Some 0 ∷ Some 1 ∷ Some 2 ∷ Some 3 ∷ Some 4 ∷ Some 5 ∷ Some 6 ∷ []) q None;
   hint = λ _. None;
   save_of = λ _. None;

@@ -6,7 +6,7 @@ use Rattle.machine_defs.specs.declared.flow.EdgeKind.TheVariants.{Sibling}
 use Rattle.state_defs.specs.Frame.{Frame}
 use Rattle.machine_defs.specs.Program.{Program, edge}
 use Rattle.machine_defs.specs.Machine.{Standing, At}
-use Rattle.machine_defs.specs.Step.{may_leave}
+use Rattle.machine_defs.specs.Step.{may_go_back}
 use Rattle.machine_defs.specs.Allowances.{Allowances, is_safe}
 use Rattle.machine_defs.specs.Asked.{is_indirect_branch, is_return}
 use Rattle.option_law.specs.Frames.{CallsWithFrame}
@@ -31,7 +31,7 @@ IsKept p allowed homes s SafeReturn = is_return (p.insn s.point).op ≡ true →
 IsKept p allowed homes s SafeTarget = s.core.ac ≡ true → HasSafeTarget p allowed (p.role s.point)
 IsKept p allowed homes s SafeTailCall = (r : ℕ) → s.core.ac ≡ true → Contains (p.goes s.point) (edge r Sibling) → is_safe p allowed r ≡ true
 IsKept p allowed homes s StaysOff = (f : Frame) (fs : List Frame) → s.core.shadow ≡ f ∷ fs → top_of homes ≡ true → f.ac ≡ false → s.core.ac ≡ false
-IsKept p allowed homes s LeavesAsFound = (f : Frame) (fs : List Frame) → s.core.shadow ≡ f ∷ fs → IsTrue (may_leave p (p.role s.point)) → s.core.ac ≡ f.ac
+IsKept p allowed homes s LeavesAsFound = (f : Frame) (fs : List Frame) → s.core.shadow ≡ f ∷ fs → IsTrue (may_go_back p (p.role s.point)) → s.core.ac ≡ f.ac
 
 -- the laws promise these, and no more
 pub record ArePromised : Type 0 where

@@ -12,8 +12,8 @@ use ot_base::rules::{
 use program_model::{ModelPoint, Program};
 use std::alloc::{AllocError, Global};
 
-/// The number by which a warning tells an indirect target.
-const INDIRECT: i64 = -1;
+/// The number by which a warning tells an indirect target, or code of no function.
+const NO_FUNCTION: i64 = -1;
 
 /// A symbol by its number, where its name isn't listed.
 fn push_unsafe_name(
@@ -27,16 +27,15 @@ fn push_unsafe_name(
     Ok(())
 }
 
-/// The function of a point by its number, where the point isn't in a safe one.
+/// The function of a point by its number, where the point isn't in a safe one, or none where it is of none.
 fn push_unsafe_function(
     callees: &mut Vec<i64>,
     p: &Program,
     allowed: &Allowed<'_>,
     q: u32,
 ) -> Result<(), AllocError> {
-    let function = p.point(q).and_then(|point| point.function);
-    if let (Some(function), false) = (function, allowed.is_safe(p, q)) {
-        callees.push(i64::from(function))?;
+    if !allowed.is_safe(p, q) {
+        callees.push(p.function(q).map_or(NO_FUNCTION, i64::from))?;
     }
     Ok(())
 }
@@ -58,7 +57,7 @@ fn unsafe_callees(
         Role::CallOut { sym } | Role::JumpOut { sym } => {
             push_unsafe_name(&mut callees, allowed, sym)?;
         }
-        Role::CallAny | Role::JumpAny => callees.push(INDIRECT)?,
+        Role::CallAny | Role::JumpAny => callees.push(NO_FUNCTION)?,
         Role::Plain | Role::Return | Role::Switch => {}
     }
     for edge in &point.goes {

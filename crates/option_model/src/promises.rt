@@ -20,7 +20,7 @@ use machine_defs::{Edge, EdgeKind, Role};
 use machine_model::{Core, Frame, Standing};
 use operation_defs::Op;
 use ot_base::Options;
-use program_model::{Program, Region, down, may_leave, up};
+use program_model::{Program, Region, down, may_go_back, up};
 use std::alloc::{AllocError, Global};
 
 /// A promise of an option.
@@ -229,7 +229,7 @@ pub fn is_kept(
         Promise::SafeTarget => is_safe_with(s.core.ac, has_safe_target(p, allowed, role)),
         Promise::SafeTailCall => is_safe_with(s.core.ac, has_safe_siblings(p, allowed, s.point)),
         Promise::StaysOff => stays_off(shadow, top_of(homes), s.core.ac),
-        Promise::LeavesAsFound => leaves_as_found(shadow, may_leave(p, role), s.core.ac),
+        Promise::LeavesAsFound => leaves_as_found(shadow, may_go_back(p, role), s.core.ac),
     }
 }
 

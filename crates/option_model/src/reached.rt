@@ -4,9 +4,9 @@ ghost use Rattle.std.specs.Prelude.{◌≡◌};
 ghost use Rattle.machine_defs.specs.Access.{access_after, access_along};
 
 use crate::allowed::Allowed;
-use machine_defs::{Edge, EdgeKind, Role};
+use machine_defs::{Edge, EdgeKind};
 use operation_defs::Op;
-use program_model::{Program, may_return};
+use program_model::{Program, may_return, target_may_return};
 use std::alloc::{AllocError, Global};
 
 /// A point to which control comes with user access on or off, in a frame whose function expects it on or off.
@@ -35,22 +35,6 @@ fn access_along(kind: EdgeKind, op: Op, access: bool) -> bool
     match kind {
         EdgeKind::Next | EdgeKind::Taken | EdgeKind::Table => access_after(op, access),
         EdgeKind::Fixup | EdgeKind::Sibling => access,
-    }
-}
-
-/// Whether one of the points where control that comes to an entry may stand is in the set.
-fn enters_set(p: &Program, set: &[bool], entry: u32) -> bool {
-    (0u32..)
-        .zip(set)
-        .any(|(q, is_member)| *is_member && p.enters(entry, q))
-}
-
-/// Whether the target of a call may return; what isn't a call passes.
-fn target_may_return(p: &Program, set: &[bool], role: Role) -> bool {
-    match role {
-        Role::CallIn { entry } => enters_set(p, set, entry),
-        Role::CallOut { sym } => !p.never_returns(sym),
-        _ => true,
     }
 }
 

@@ -14,7 +14,7 @@ use Rattle.machine_defs.specs.Kept.{edges_of}
 use Rattle.machine_defs.specs.Broken.{LeavesByJump}
 use Rattle.unwinding_law.proofs.Lists.{find_one, found}
 use Rattle.machine_defs.specs.Allowances.{Allowances}
-use Rattle.machine_defs.specs.AccessRules.{AccessWarns, CallsUnsafe, Leaves}
+use Rattle.machine_defs.specs.AccessRules.{function_number, AccessWarns, CallsUnsafe, Leaves}
 use Rattle.program_graph.specs.declared.parts.GraphParts.{GraphParts}
 use Rattle.option_rules.specs.declared.table.AllowanceTable.{AllowanceTable}
 use Rattle.stack_rules.proofs.GainsLemmas.{OfBelow}
@@ -30,8 +30,8 @@ use Rattle.option_rules.proofs.Following.{reached_point}
 module _ (p : Program) (allowed : Allowances) (q : ℕ) (w : Warning) where
   role_calls : (role : Role) → p.role q ≡ role → RoleCalls p allowed (p.place q) role w → CallWarns p allowed q w
   role_calls Plain r h = absurd h
-  role_calls (CallIn entry) r (f, (unsafe, is), e) = (pos f, CallsUnsafe.inside entry f r unsafe is, e)
-  role_calls (CallEither entry sym) r (inl (f, (unsafe, is), e)) = (pos f, CallsUnsafe.weak_inside entry sym f r unsafe is, e)
+  role_calls (CallIn entry) r (unsafe, e) = (function_number (p.function entry), CallsUnsafe.inside entry r unsafe, e)
+  role_calls (CallEither entry sym) r (inl (unsafe, e)) = (function_number (p.function entry), CallsUnsafe.weak_inside entry sym r unsafe, e)
   role_calls (CallEither entry sym) r (inr (unsafe, e)) = (pos sym, CallsUnsafe.weak_outside entry sym r unsafe, e)
   role_calls (CallOut sym) r (unsafe, e) = (pos sym, CallsUnsafe.outside sym r unsafe, e)
   role_calls CallAny r e = (negsuc 0, CallsUnsafe.indirect r, e)
@@ -41,18 +41,18 @@ module _ (p : Program) (allowed : Allowances) (q : ℕ) (w : Warning) where
   role_calls Switch r h = absurd h
 
   edge_calls : (e : Edge) → Contains (edges_of p q) e → EdgeCalls p allowed (p.place q) e w → CallWarns p allowed q w
-  edge_calls e c (kind, (f, (unsafe, is), same)) = (pos f, CallsUnsafe.tail_call e.to f (subst (λ (k : EdgeKind). Contains (edges_of p q) (edge e.to k)) kind c) unsafe is, same)
+  edge_calls e c (kind, (unsafe, same)) = (function_number (p.function e.to), CallsUnsafe.tail_call e.to (subst (λ (k : EdgeKind). Contains (edges_of p q) (edge e.to k)) kind c) unsafe, same)
 
   by_role : (role : Role) → p.role q ≡ role → RoleCalls p allowed (p.place q) role w → RoleCalls p allowed (p.place q) (p.role q) w ⊎ EdgesCall p allowed q w
   by_role role r h = inl (subst (λ (x : Role). RoleCalls p allowed (p.place q) x w) (sym r) h)
 
   calls_unsafe : (callee : ℤ) → CallsUnsafe p allowed q callee → w ≡ callee_warning (p.place q) callee → RoleCalls p allowed (p.place q) (p.role q) w ⊎ EdgesCall p allowed q w
-  calls_unsafe _ (CallsUnsafe.inside entry f r unsafe is) e = by_role (CallIn entry) r (f, (unsafe, is), e)
-  calls_unsafe _ (CallsUnsafe.weak_inside entry sym f r unsafe is) e = by_role (CallEither entry sym) r (inl (f, (unsafe, is), e))
+  calls_unsafe _ (CallsUnsafe.inside entry r unsafe) e = by_role (CallIn entry) r (unsafe, e)
+  calls_unsafe _ (CallsUnsafe.weak_inside entry sym r unsafe) e = by_role (CallEither entry sym) r (inl (unsafe, e))
   calls_unsafe _ (CallsUnsafe.weak_outside entry sym r unsafe) e = by_role (CallEither entry sym) r (inr (unsafe, e))
   calls_unsafe _ (CallsUnsafe.outside sym r unsafe) e = by_role (CallOut sym) r (unsafe, e)
   calls_unsafe _ (CallsUnsafe.jumps_outside sym r unsafe) e = by_role (JumpOut sym) r (unsafe, e)
-  calls_unsafe _ (CallsUnsafe.tail_call r f c unsafe is) e = inr (edge r Sibling, c, (refl, (f, (unsafe, is), e)))
+  calls_unsafe _ (CallsUnsafe.tail_call r c unsafe) e = inr (edge r Sibling, c, (refl, (unsafe, e)))
   calls_unsafe _ (CallsUnsafe.indirect r) e = by_role CallAny r e
   calls_unsafe _ (CallsUnsafe.jumps_anywhere r) e = by_role JumpAny r e
 

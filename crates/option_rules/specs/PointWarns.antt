@@ -1,5 +1,5 @@
 -- The warnings of user access at a point, by the ways in which control comes there.
-use Rattle.std.specs.Prelude.{◌≡◌, ℕ, ◌⊎◌, true, false, Some, Contains, ℤ, pos, negsuc}
+use Rattle.std.specs.Prelude.{◌≡◌, ℕ, ◌⊎◌, true, false, Contains, ℤ, pos, negsuc}
 use Rattle.ot_base.specs.declared.place.Place.{Place}
 use Rattle.ot_base.specs.declared.warning.Warning.{Warning}
 use Rattle.ot_base.specs.declared.rules.TheConstants.{CALL_WITH_ACCESS, RETURN_WITH_ACCESS, RETURN_WITHOUT_ACCESS, ACCESS_ON_TWICE, ACCESS_OFF_TWICE, SAFE_FUNCTION_ACCESS_OFF, POPF_WITH_ACCESS_TRACKED}
@@ -13,7 +13,7 @@ use Rattle.machine_defs.specs.declared.flow.Role.TheVariants.{CallIn, CallEither
 use Rattle.machine_defs.specs.Program.{Program}
 use Rattle.machine_defs.specs.Kept.{edges_of}
 use Rattle.machine_defs.specs.Allowances.{Allowances, is_safe}
-use Rattle.machine_defs.specs.AccessRules.{AccessWarns, CallsUnsafe, Leaves}
+use Rattle.machine_defs.specs.AccessRules.{function_number, AccessWarns, CallsUnsafe, Leaves}
 use Rattle.option_rules.specs.declared.access_ways.Ways.{Ways}
 use Rattle.option_rules.specs.Ways.{IsOn, IsInSafe, IsSome}
 
@@ -21,9 +21,9 @@ use Rattle.option_rules.specs.Ways.{IsOn, IsInSafe, IsSome}
 abbrev pub callee_warning : Place → ℤ → Warning
 callee_warning place callee = numbered_warning place CALL_WITH_ACCESS callee (pos 0)
 
--- a point of a function that isn't safe is called, or a symbol whose name isn't listed
+-- a point of a function that isn't safe is called, or of none, or a symbol whose name isn't listed
 abbrev pub PointIsCalled : Program → Allowances → Place → ℕ → Warning → Type 0
-PointIsCalled p allowed place r w = (function : ℕ) × (is_safe p allowed r ≡ false × p.function r ≡ Some function) × (w ≡ callee_warning place (pos function))
+PointIsCalled p allowed place r w = is_safe p allowed r ≡ false × w ≡ callee_warning place (function_number (p.function r))
 
 abbrev pub NameIsCalled : Allowances → Place → ℕ → Warning → Type 0
 NameIsCalled allowed place sym w = allowed.safe_name sym ≡ false × w ≡ callee_warning place (pos sym)

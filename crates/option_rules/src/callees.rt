@@ -3,6 +3,7 @@
 ghost use Rattle.std.specs.Prelude.{◌≡◌, ◌<◌, ℕ, OnOk, length};
 ghost use Rattle.machine_defs.specs.Program.{IsPoint, Program};
 ghost use Rattle.machine_defs.specs.Allowances.{Allowances};
+ghost use Rattle.machine_defs.specs.AccessRules.{function_number as function_number_of};
 ghost use Rattle.option_rules.specs.Allows.{Allows};
 ghost use Rattle.stack_rules.specs.Gains.{Gains};
 ghost use Rattle.option_rules.specs.Tracks.{Tracks};
@@ -10,13 +11,23 @@ ghost use Rattle.option_rules.specs.PointWarns.{CallWarns, EdgeCalls, EdgesCall,
 
 use crate::AllowanceTable;
 use crate::access_listing::push;
-use crate::safety::unsafe_function;
+use crate::safety::is_safe;
 use machine_defs::{Edge, EdgeKind, Role};
 use ot_base::{NoMemory, Place, Warning};
 use program_graph::Graph;
 
-/// The number that tells an indirect target.
-const INDIRECT_TARGET: i64 = -1;
+/// The number that tells an indirect target, or code of no function.
+const NO_FUNCTION: i64 = -1;
+
+/// The number that tells a function, or that there is none.
+fn function_number(function: Option<u32>) -> i64
+    ensures { result ≡ function_number_of function }
+{
+    match function {
+        Some(function) => i64::from(function),
+        None => NO_FUNCTION,
+    }
+}
 
 /// A warning that tells a callee.
 fn callee_warning(place: Place, callee: i64) -> Warning
@@ -35,10 +46,11 @@ fn push_point(
 ) -> Result<(), NoMemory>
     ensures { OnOk result ((p : Program) (allowed : Allowances) → Tracks p allowed graph.now.parts table.now → IsPoint p n → Gains into.old.items into.new.items (PointIsCalled p allowed place n)) }
 {
-    match unsafe_function(graph, table, n) {
-        Some(function) => push(into, callee_warning(place, i64::from(function))),
-        None => Ok(()),
+    if n >= graph.points() || is_safe(graph, table, n) {
+        return Ok(());
     }
+    let callee = function_number(graph.function(n));
+    push(into, callee_warning(place, callee))
 }
 
 /// Rule 41 where a symbol is called.
@@ -73,7 +85,7 @@ fn push_role(
             push_name(table, into, place, sym)
         }
         Role::CallOut { sym } | Role::JumpOut { sym } => push_name(table, into, place, sym),
-        Role::CallAny | Role::JumpAny => push(into, callee_warning(place, INDIRECT_TARGET)),
+        Role::CallAny | Role::JumpAny => push(into, callee_warning(place, NO_FUNCTION)),
         Role::Plain | Role::Return | Role::Switch => Ok(()),
     }
 }

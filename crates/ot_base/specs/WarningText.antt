@@ -2,7 +2,7 @@
 use Rattle.std.specs.Prelude.{ℕ, zero, suc, ℤ, pos, negsuc, ◌^◌, ◌==◌, nat_lt, List, [], ◌∷◌, ◌++◌, codes, if◌then◌else◌}
 use Rattle.std.specs.Fmt.{decimal, signed_decimal}
 use Rattle.ot_base.specs.declared.warning.Warning.{Warning}
-use Rattle.ot_base.specs.declared.rules.TheConstants.{BAD_BRANCH_TARGET, FALLS_THROUGH, RUNS_OFF_SECTION, STATE_MISMATCH, MODIFIED_RETURN, MODIFIED_SIBLING_CALL, UNSUPPORTED_SP_WRITE, BP_NOT_SAVED, STACK_POINTER_LOST, OFFSET_OUT_OF_RANGE, SAVED_SLOT_DROPPED, ALTERNATIVES_DISAGREE, JUMP_INTO_SITE, UNREACHABLE_INSTRUCTION, EXIT_NOT_ALLOWED, CALL_INTO_FUNCTION, FUNCTION_WITHOUT_SIZE, RESTORE_WITHOUT_SAVE, RELOCATED_STACK_OFFSET, CALL_WITHOUT_FRAME, INDIRECT_BRANCH, NAKED_RETURN, CALL_WITH_ACCESS, RETURN_WITH_ACCESS, RETURN_WITHOUT_ACCESS, ACCESS_ON_TWICE, ACCESS_OFF_TWICE, SAFE_FUNCTION_ACCESS_OFF, POPF_WITH_ACCESS_TRACKED}
+use Rattle.ot_base.specs.declared.rules.TheConstants.{BAD_BRANCH_TARGET, FALLS_THROUGH, RUNS_OFF_SECTION, STATE_MISMATCH, MODIFIED_RETURN, MODIFIED_SIBLING_CALL, UNSUPPORTED_SP_WRITE, BP_NOT_SAVED, STACK_POINTER_LOST, OFFSET_OUT_OF_RANGE, SAVED_SLOT_DROPPED, ALTERNATIVES_DISAGREE, JUMP_INTO_SITE, UNREACHABLE_INSTRUCTION, EXIT_NOT_ALLOWED, CALL_INTO_FUNCTION, FUNCTION_WITHOUT_SIZE, RESTORE_WITHOUT_SAVE, RELOCATED_STACK_OFFSET, CALL_WITHOUT_FRAME, INDIRECT_BRANCH, NAKED_RETURN, CALL_WITH_ACCESS, RETURN_WITH_ACCESS, RETURN_WITHOUT_ACCESS, ACCESS_ON_TWICE, ACCESS_OFF_TWICE, SAFE_FUNCTION_ACCESS_OFF, POPF_WITH_ACCESS_TRACKED, CALL_LEAVES_NOINSTR, RETURN_WITHOUT_INT3, JUMP_WITHOUT_INT3, TAKEN_WITHOUT_ENDBR}
 use Rattle.ot_base.specs.PlaceText.{escaped, place_text, text_at}
 
 -- what the rules say that tell no number
@@ -31,6 +31,9 @@ fixed_text = text_at (
     ∷ (ACCESS_OFF_TWICE, codes "user access turned off twice")
     ∷ (SAFE_FUNCTION_ACCESS_OFF, codes "safe function turns user access off")
     ∷ (POPF_WITH_ACCESS_TRACKED, codes "popf where user access is tracked")
+    ∷ (RETURN_WITHOUT_INT3, codes "missing int3 after return")
+    ∷ (JUMP_WITHOUT_INT3, codes "missing int3 after indirect jump")
+    ∷ (TAKEN_WITHOUT_ENDBR, codes "address taken without endbr")
     ∷ [])
 
 -- what is called: a symbol by its name, or -1 for an indirect target; no other number names anything
@@ -48,7 +51,8 @@ rule_text symbols rule a b =
     else (if rule == OFFSET_OUT_OF_RANGE then codes "offset out of range: " ++ signed_decimal a
     else (if rule == ALTERNATIVES_DISAGREE then codes "alternatives disagree at offset " ++ signed_decimal a
     else (if rule == CALL_WITH_ACCESS then codes "call to " ++ callee_text symbols a ++ codes " with user access on"
-    else fixed_text rule)))))
+    else (if rule == CALL_LEAVES_NOINSTR then codes "call to " ++ callee_text symbols a ++ codes " leaves noinstr code"
+    else fixed_text rule))))))
 
 -- a broken rule and what it says, under the names of symbols
 unfoldable pub warning_words : (ℕ → List ℕ) → Warning → List ℕ

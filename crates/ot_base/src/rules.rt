@@ -58,3 +58,11 @@ pub const ACCESS_OFF_TWICE: u8 = 45;
 pub const SAFE_FUNCTION_ACCESS_OFF: u8 = 46;
 /// A popf, which may change user access unseen.
 pub const POPF_WITH_ACCESS_TRACKED: u8 = 47;
+/// Code that may not be instrumented calls code that may be, or jumps there.
+pub const CALL_LEAVES_NOINSTR: u8 = 51;
+/// No INT3 follows a return.
+pub const RETURN_WITHOUT_INT3: u8 = 52;
+/// No INT3 follows an indirect jump.
+pub const JUMP_WITHOUT_INT3: u8 = 53;
+/// An entry whose address is taken doesn't begin with an ENDBR.
+pub const TAKEN_WITHOUT_ENDBR: u8 = 54;

@@ -2,7 +2,7 @@
 
 ghost use Rattle.std.specs.Prelude.{◌≡◌, pos};
 ghost use Rattle.ot_base.specs.Warnings.{bare_warning, numbered_warning};
-ghost use Rattle.ot_base.specs.declared.rules.TheConstants.{ALTERNATIVES_DISAGREE, CALL_WITH_ACCESS, OFFSET_OUT_OF_RANGE, STATE_MISMATCH};
+ghost use Rattle.ot_base.specs.declared.rules.TheConstants.{ALTERNATIVES_DISAGREE, CALL_LEAVES_NOINSTR, CALL_WITH_ACCESS, OFFSET_OUT_OF_RANGE, STATE_MISMATCH};
 
 use crate::place::Place;
 use crate::rules;
@@ -89,6 +89,18 @@ impl Warning {
         Warning {
             place,
             rule: rules::CALL_WITH_ACCESS,
+            a: callee,
+            b: 0,
+        }
+    }
+    /// Code that may not be instrumented calls, or jumps to, code that may be: its symbol's number, or -1 for an
+    /// indirect target.
+    pub fn leaves_noinstr(place: Place, callee: i64) -> Warning
+        ensures { result ≡ numbered_warning place CALL_LEAVES_NOINSTR callee (pos 0) }
+    {
+        Warning {
+            place,
+            rule: rules::CALL_LEAVES_NOINSTR,
             a: callee,
             b: 0,
         }

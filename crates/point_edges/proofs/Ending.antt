@@ -1,25 +1,20 @@
--- Dead ends, the instructions of points, and where entries at a point lead.
+-- Dead ends, what owns the points that follow, and where entries at a point lead.
 use Rattle.std.proofs.Common.{◌≡◌, ℕ, ◌<◌, Bool, true, false, not, ◌&&◌, ◌||◌, List, [], ◌∷◌, length, map, filter, if◌then◌else◌, Some, refl, sym, ap, ◌∙◌, arith}
 use Rattle.std.specs.List.{list_all}
-use Rattle.std.proofs.lemmas.Bool.{false≢true}
 use Rattle.ot_base.specs.declared.place.Place.{Place}
 use Rattle.ot_base.specs.Places.{same_place}
-use Rattle.operation_defs.specs.declared.insn.Insn.{Insn}
-use Rattle.operation_defs.specs.declared.op.Op.{Op}
-use Rattle.operation_defs.specs.declared.op.Op.TheVariants.{Iret, IretNext}
 use Rattle.flow_defs.specs.Coded.{Coded}
 use Rattle.special_sections.specs.declared.entries.BranchEntry.{BranchEntry}
 use Rattle.special_sections.specs.declared.entries.FixEntry.{FixEntry}
 use Rattle.special_sections.specs.Special.{special_of}
 use Rattle.alternatives.specs.declared.point.Point.{Point}
 use Rattle.jump_tables.specs.Tables.{same_owner}
-use Rattle.flow_defs.specs.Arrival.{after, decoded_insn, ends_at, goes_on_behind, insn_of_object, is_dead_end, is_padding, is_ud2, op_of}
+use Rattle.flow_defs.specs.Arrival.{decoded_insn, ends_at, goes_on_behind, is_dead_end, is_padding, is_ud2}
 use Rattle.flow_defs.specs.Code.{point_at}
 use Rattle.flow_defs.specs.Edges.{fixups, static_targets}
 use Rattle.flow_defs.specs.Owners.{owner_of_point}
 use Rattle.object_points.specs.Places.{targets_of}
 use Rattle.point_edges.specs.Lists.{branch_pairs_of, fix_pairs_of}
-use Rattle.point_edges.specs.Next.{is_iret}
 
 -- ---- dead ends
 pub dead_end_is : (o : Coded) (p : Point) (padding reached ud2 unreached : Bool) → padding ≡ is_padding o p → reached ≡ ends_at o p (special_of o.elf).after_reachable → ud2 ≡ is_ud2 (decoded_insn o p).op → unreached ≡ ends_at o p (special_of o.elf).after_unreachable → (not padding && (not reached && (ud2 || unreached))) ≡ is_dead_end o p
@@ -59,38 +54,6 @@ unless_reached o p may padding reached may_is may_end is other reach =
     ∙ ap (λ b. not b && (not reached && true)) (sym other ∙ is)
     ∙ ap (λ b. not (is_padding o p) && (not b && true)) reach
     ∙ ap (λ b. not (is_padding o p) && (not (ends_at o p (special_of o.elf).after_reachable) && b)) (sym may_end ∙ may_is)
-
--- ---- instructions
-other_op : (o : Coded) (p : Point) (op : Op) → is_iret op ≡ false → op_of o p op ≡ op
-other_op o p Iret is = absurd (false≢true (sym is))
-other_op o p op is = refl
-
-iret_is : (op : Op) → is_iret op ≡ true → op ≡ Iret
-iret_is Iret is = refl
-iret_is op is = absurd (false≢true is)
-
-abbrev pub goes_on : Coded → Point → Bool
-goes_on o p = goes_on_behind o p (owner_of_point o p) (after o p)
-
-iret_by : (o : Coded) (p : Point) (op : Op) (b : Bool) → is_iret op ≡ true → goes_on o p ≡ b → op_of o p op ≡ (if b then IretNext else Iret)
-iret_by o p op b iret is = ap (op_of o p) (iret_is op iret) ∙ ap (λ c. if c then IretNext else Iret) is
-
-insn_by : (o : Coded) (p : Point) (insn : Insn) (op : Op) → insn ≡ decoded_insn o p → op_of o p insn.op ≡ op → (let it : Insn = record { len = insn.len; op = op } in it) ≡ insn_of_object o p
-unfolding insn_of_object
-insn_by o p insn op decoded is =
-    ap (λ (x : Op). let it : Insn = record { len = insn.len; op = x } in it) (sym is)
-    ∙ ap (λ (i : Insn). let it : Insn = record { len = i.len; op = op_of o p i.op } in it) decoded
-
--- one that is no IRET stays
-pub other_insn : (o : Coded) (p : Point) (insn : Insn) → insn ≡ decoded_insn o p → is_iret insn.op ≡ false → insn ≡ insn_of_object o p
-other_insn o p insn decoded other = insn_by o p insn insn.op decoded (other_op o p insn.op other)
-
--- so does an IRET that doesn't go on
-pub iret_stays : (o : Coded) (p : Point) (insn : Insn) → insn ≡ decoded_insn o p → is_iret insn.op ≡ true → goes_on o p ≡ false → insn ≡ insn_of_object o p
-iret_stays o p insn decoded iret ends = insn_by o p insn insn.op decoded (iret_by o p insn.op false iret ends ∙ sym (iret_is insn.op iret))
-
-pub iret_goes_on : (o : Coded) (p : Point) (insn : Insn) → insn ≡ decoded_insn o p → is_iret insn.op ≡ true → goes_on o p ≡ true → (let it : Insn = record { len = insn.len; op = IretNext } in it) ≡ insn_of_object o p
-iret_goes_on o p insn decoded iret goes = insn_by o p insn IretNext decoded (iret_by o p insn.op true iret goes)
 
 -- ---- what owns the points that follow
 abbrev pub has_owner : Coded → ℕ → ℕ → Bool

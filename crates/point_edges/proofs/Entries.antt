@@ -5,7 +5,6 @@ use Rattle.std.proofs.lemmas.Bool.{false≢true}
 use Rattle.std.proofs.lemmas.List.Quantifiers.{position-Some}
 use Rattle.ot_base.specs.declared.place.Place.{Place}
 use Rattle.alternatives.specs.Texts.{is_boundary}
-use Rattle.operation_defs.specs.declared.insn.Insn.{Insn}
 use Rattle.operation_defs.specs.declared.op.Op.{Op}
 use Rattle.operation_defs.specs.declared.op.Op.TheVariants as ops
 use Rattle.flow_defs.specs.Coded.{Coded}
@@ -18,9 +17,9 @@ use Rattle.flow_defs.specs.declared.destination.Way.{Way}
 use Rattle.flow_defs.specs.declared.destination.Way.TheVariants as ways
 use Rattle.flow_defs.specs.Arrival.{insn_of_object, is_padding}
 use Rattle.flow_defs.specs.Code.{no_point, number_of, plain_point, points_of_object, same_point, texts_of}
-use Rattle.flow_defs.specs.Owners.{is_entry, unchecked_start}
-use Rattle.flow_defs.specs.Roles.{call_by, call_role, entry_call, jump_by_table, jump_by_way, jump_role, place_call, plain_number, role_by, role_of, table_of_point}
-use Rattle.flow_defs.specs.Targets.{destination}
+use Rattle.flow_defs.specs.Owners.{unchecked_start}
+use Rattle.flow_defs.specs.Roles.{call_by, call_role, entry_call, is_called, jump_by_table, jump_by_way, jump_role, place_call, plain_number, role_by, role_of, table_of_point}
+use Rattle.flow_defs.specs.Targets.{destination_of}
 use Rattle.flow_defs.specs.Ways.{jump_way}
 use Rattle.point_edges.proofs.Aims.{has_number}
 
@@ -53,28 +52,28 @@ module _ (o : Coded) where
   entered place weak true boundary = entry_known (plain_number o place) weak (plain_inside place boundary)
   entered place weak false boundary = none_called o Plain refl
 
-  started : (place : Place) (weak start : Option ℕ) → is_boundary (texts_of o) place ≡ true → IsKnown o (call_by o place weak start)
-  started place weak (Some f) boundary = none_called o (call_by o place weak (Some f)) refl
-  started place weak None boundary = entered place weak (is_entry o.elf place) boundary
+  started : (from : Point) (place : Place) (weak start : Option ℕ) → is_boundary (texts_of o) place ≡ true → IsKnown o (call_by o from place weak start)
+  started from place weak (Some f) boundary = none_called o (call_by o from place weak (Some f)) refl
+  started from place weak None boundary = entered place weak (is_called o from place) boundary
 
-  bounded : (place : Place) (weak : Option ℕ) (b : Bool) → is_boundary (texts_of o) place ≡ b → IsKnown o (if b then call_by o place weak (unchecked_start o.elf place) else Plain)
-  bounded place weak true boundary = started place weak (unchecked_start o.elf place) boundary
-  bounded place weak false boundary = none_called o Plain refl
+  bounded : (from : Point) (place : Place) (weak : Option ℕ) (b : Bool) → is_boundary (texts_of o) place ≡ b → IsKnown o (if b then call_by o from place weak (unchecked_start o.elf place) else Plain)
+  bounded from place weak true boundary = started from place weak (unchecked_start o.elf place) boundary
+  bounded from place weak false boundary = none_called o Plain refl
 
-  place_known : (place : Place) (weak : Option ℕ) → IsKnown o (place_call o place weak)
-  place_known place weak = bounded place weak (is_boundary (texts_of o) place) refl
+  place_known : (from : Point) (place : Place) (weak : Option ℕ) → IsKnown o (place_call o from place weak)
+  place_known from place weak = bounded from place weak (is_boundary (texts_of o) place) refl
 
-  unpadded : (place : Place) (b : Bool) → IsKnown o (if b then Plain else place_call o place None)
-  unpadded place true = none_called o Plain refl
-  unpadded place false = place_known place None
+  unpadded : (from : Point) (place : Place) (b : Bool) → IsKnown o (if b then Plain else place_call o from place None)
+  unpadded from place true = none_called o Plain refl
+  unpadded from place false = place_known from place None
 
-  call_known : (to : Destination) → IsKnown o (call_role o to)
-  call_known (ToPlace place weak crossing) = place_known place weak
-  call_known (ToOwnPoint point) = unpadded point.place (is_padding o point)
-  call_known (ToOutside sym) = none_called o (call_role o (ToOutside sym)) refl
-  call_known ToIndirectThunk = none_called o (call_role o ToIndirectThunk) refl
-  call_known ToReturnThunk = none_called o Plain refl
-  call_known ToNowhere = none_called o Plain refl
+  call_known : (from : Point) (to : Destination) → IsKnown o (call_role o from to)
+  call_known from (ToPlace place weak crossing) = place_known from place weak
+  call_known from (ToOwnPoint point) = unpadded from point.place (is_padding o point)
+  call_known from (ToOutside sym) = none_called o (call_role o from (ToOutside sym)) refl
+  call_known from ToIndirectThunk = none_called o (call_role o from ToIndirectThunk) refl
+  call_known from ToReturnThunk = none_called o Plain refl
+  call_known from ToNowhere = none_called o Plain refl
 
   -- jumps call no entry
   way_calls : (way : Way) (weak : Option ℕ) → entry_called (jump_by_way way weak) ≡ None
@@ -83,28 +82,28 @@ module _ (o : Coded) where
   way_calls (ways.Along kind) None = refl
   way_calls (ways.Along kind) (Some sym) = refl
 
-  jump_calls : (point : Point) (to : Destination) → entry_called (jump_role o point to) ≡ None
-  jump_calls point (ToPlace place weak crossing) = way_calls (jump_way o point crossing place) weak
-  jump_calls point (ToOwnPoint other) = refl
-  jump_calls point (ToOutside sym) = refl
-  jump_calls point ToIndirectThunk = refl
-  jump_calls point ToReturnThunk = refl
-  jump_calls point ToNowhere = refl
-
   table_calls : (places : List Place) → entry_called (jump_by_table places) ≡ None
   table_calls [] = refl
   table_calls (place ∷ places) = refl
 
-  op_known : (point : Point) (insn : Insn) (op : Op) → IsKnown o (role_by o point insn op)
-  op_known point insn (ops.Call rel) = call_known (destination o point insn)
-  op_known point insn (ops.Jmp rel wide) = none_called o (jump_role o point (destination o point insn)) (jump_calls point (destination o point insn))
-  op_known point insn (ops.Jcc rel wide) = none_called o (jump_role o point (destination o point insn)) (jump_calls point (destination o point insn))
-  op_known point insn (ops.JmpInd table) = none_called o (jump_by_table (table_of_point o point)) (table_calls (table_of_point o point))
-  op_known point insn op = none_called o (role_by o point insn op) refl
+  jump_calls : (point : Point) (to : Destination) → entry_called (jump_role o point to) ≡ None
+  jump_calls point (ToPlace place weak crossing) = way_calls (jump_way o point crossing place) weak
+  jump_calls point (ToOwnPoint other) = refl
+  jump_calls point (ToOutside sym) = refl
+  jump_calls point ToIndirectThunk = table_calls (table_of_point o point)
+  jump_calls point ToReturnThunk = refl
+  jump_calls point ToNowhere = refl
+
+  op_known : (point : Point) (op : Op) → IsKnown o (role_by o point op)
+  op_known point (ops.Call rel) = call_known point (destination_of o point)
+  op_known point (ops.Jmp rel wide) = none_called o (jump_role o point (destination_of o point)) (jump_calls point (destination_of o point))
+  op_known point (ops.Jcc rel wide) = none_called o (jump_role o point (destination_of o point)) (jump_calls point (destination_of o point))
+  op_known point (ops.JmpInd table) = none_called o (jump_by_table (table_of_point o point)) (table_calls (table_of_point o point))
+  op_known point op = none_called o (role_by o point op) refl
 
   role_known : (point : Point) → IsKnown o (role_of o point)
   unfolding role_of
-  role_known point = op_known point (insn_of_object o point) (insn_of_object o point).op
+  role_known point = op_known point (insn_of_object o point).op
 
   pub call_inside : (point : Point) (entry : ℕ) → role_of o point ≡ CallIn entry → entry < length (points_of_object o)
   call_inside point entry is = role_known point entry (ap entry_called is)

@@ -3,9 +3,8 @@ use Rattle.std.proofs.Common.{ℕ, ◌<◌, Bool, true, false, List, [], ◌∷�
 use Rattle.std.specs.List.{flat_map}
 use Rattle.std.proofs.lemmas.List.Elements.{All-append, All-map, All-nil}
 use Rattle.ot_base.specs.declared.place.Place.{Place}
-use Rattle.operation_defs.specs.declared.insn.Insn.{Insn}
 use Rattle.operation_defs.specs.declared.op.Op.{Op}
-use Rattle.operation_defs.specs.declared.op.Op.TheVariants.{Jcc, Jmp, JmpInd}
+use Rattle.operation_defs.specs.declared.op.Op.TheVariants.{Hop, Jcc, Jmp}
 use Rattle.flow_defs.specs.Coded.{Coded}
 use Rattle.machine_defs.specs.declared.flow.Edge.{Edge}
 use Rattle.machine_defs.specs.declared.flow.EdgeKind.{EdgeKind}
@@ -19,12 +18,12 @@ use Rattle.flow_defs.specs.declared.destination.Way.{Way}
 use Rattle.flow_defs.specs.declared.destination.Way.TheVariants.{Along}
 use Rattle.flow_defs.specs.Arrival.{after, arrive, insn_of_object}
 use Rattle.flow_defs.specs.Code.{numbers_of, points_of_object}
-use Rattle.flow_defs.specs.Edges.{branch_edges, branch_edges_by, edges_to, fixups, goes, goes_on, jump_edges, listed_edges, next_edges, static_targets, table_edges, table_edges_by, way_edges}
+use Rattle.flow_defs.specs.Edges.{branch_edges, branch_edges_by, edges_to, fixups, goes, goes_on, hop_edges, jump_edges, listed_edges, next_edges, static_targets, table_edges, way_edges}
 use Rattle.flow_defs.specs.Owners.{is_unchecked_point, owner_of_point}
 use Rattle.flow_defs.specs.Roles.{table_of_point}
 use Rattle.flow_defs.specs.Sites.{is_into_site}
-use Rattle.flow_defs.specs.Targets.{destination}
-use Rattle.flow_defs.specs.Ways.{jump_way, listed_way}
+use Rattle.flow_defs.specs.Targets.{destination_of}
+use Rattle.flow_defs.specs.Ways.{hop_way, jump_way, listed_way}
 use Rattle.point_edges.proofs.Arriving.{arrive_inside}
 use Rattle.point_edges.proofs.Following.{after_inside}
 use Rattle.point_edges.proofs.Numbers.{numbers_inside, IsNumber}
@@ -59,10 +58,16 @@ jump_inside o point (ToOwnPoint other) = by (same_owner (owner_of_point o point)
     by false = none o
 jump_inside o point _ = none o
 
-branch_inside : (o : Coded) (point : Point) (insn : Insn) (op : Op) → LeadInside o (branch_edges_by o point insn op)
-branch_inside o point insn (Jmp rel wide) = jump_inside o point (destination o point insn)
-branch_inside o point insn (Jcc rel wide) = jump_inside o point (destination o point insn)
-branch_inside o point insn _ = none o
+hop_inside : (o : Coded) (point : Point) (to : Destination) → LeadInside o (hop_edges o point to)
+hop_inside o point (ToPlace place weak crossing) = way_inside o point place (hop_way o point weak crossing place)
+hop_inside o point (ToOwnPoint other) = jump_inside o point (ToOwnPoint other)
+hop_inside o point _ = none o
+
+branch_inside : (o : Coded) (point : Point) (op : Op) → LeadInside o (branch_edges_by o point op)
+branch_inside o point (Jmp rel wide) = jump_inside o point (destination_of o point)
+branch_inside o point (Jcc rel wide) = jump_inside o point (destination_of o point)
+branch_inside o point Hop = hop_inside o point (destination_of o point)
+branch_inside o point _ = none o
 
 places_inside : (o : Coded) (edges_of : Place → List Edge) → ((place : Place) → LeadInside o (edges_of place)) → (places : List Place) → LeadInside o (flat_map edges_of places)
 places_inside o edges_of each [] = none o
@@ -72,9 +77,8 @@ listed_inside : (o : Coded) (kind : EdgeKind) (point : Point) (places : List Pla
 listed_inside o kind point places =
     places_inside o (λ place. way_edges o point place (listed_way o kind (owner_of_point o point) place)) (λ place. way_inside o point place (listed_way o kind (owner_of_point o point) place)) places
 
-table_inside : (o : Coded) (point : Point) (op : Op) → LeadInside o (table_edges_by o point op)
-table_inside o point (JmpInd table) = places_inside o (λ place. way_edges o point place (Along Table)) (λ place. way_inside o point place (Along Table)) (table_of_point o point)
-table_inside o point _ = none o
+table_inside : (o : Coded) (point : Point) → LeadInside o (table_edges o point)
+table_inside o point = places_inside o (λ place. way_edges o point place (Along Table)) (λ place. way_inside o point place (Along Table)) (table_of_point o point)
 
 next_inside : (o : Coded) (point : Point) → LeadInside o (next_edges o point)
 next_inside o point = by (goes_on o point)
@@ -90,10 +94,10 @@ goes_inside o point = by (is_unchecked_point o point)
     parts : LeadInside o (next_edges o point ++ (branch_edges o point ++ (listed_edges o Taken point (static_targets o point) ++ (listed_edges o Fixup point (fixups o point) ++ table_edges o point))))
     parts =
         both o (next_edges o point) _ (next_inside o point)
-        (both o (branch_edges o point) _ (branch_inside o point (insn_of_object o point) (insn_of_object o point).op)
+        (both o (branch_edges o point) _ (branch_inside o point (insn_of_object o point).op)
         (both o (listed_edges o Taken point (static_targets o point)) _ (listed_inside o Taken point (static_targets o point))
         (both o (listed_edges o Fixup point (fixups o point)) _ (listed_inside o Fixup point (fixups o point))
-        (table_inside o point (insn_of_object o point).op))))
+        (table_inside o point))))
 
     by : (b : Bool) → LeadInside o (if b then [] else next_edges o point ++ (branch_edges o point ++ (listed_edges o Taken point (static_targets o point) ++ (listed_edges o Fixup point (fixups o point) ++ table_edges o point))))
     by true = none o

@@ -6,6 +6,9 @@ pub mod Arriving
 pub mod Following
 pub mod Ending
 pub mod KindOf
+mod Remaking
+mod AllRooms
+mod Tableless
 pub mod StraightOn
 mod Numbered
 mod Pushing

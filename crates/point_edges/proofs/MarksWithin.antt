@@ -14,6 +14,6 @@ pub bad_within : (o : Coded) (point other : Point) (to : ℕ) → number_of o ot
 bad_within o point other to is =
     ap (λ (p : Point). not (same_owner (owner_of_point o point) (owner_of_point o p))) (sym (numbered o other to is).1)
 
-pub inner_within : (o : Coded) (point : Point) (n : ℕ) (b : Bool) → number_of o point ≡ Some n → b ≡ is_padding o (point_at o n) → (b || is_inner_call_of o point.place) ≡ is_inner_call o (ToOwnPoint point)
-inner_within o point n b is padding =
-    ap (λ padded. padded || is_inner_call_of o point.place) (padding ∙ padding_of_number o point n is)
+pub inner_within : (o : Coded) (from point : Point) (n : ℕ) (b : Bool) → number_of o point ≡ Some n → b ≡ is_padding o (point_at o n) → (b || is_inner_call_of o from point.place) ≡ is_inner_call o from (ToOwnPoint point)
+inner_within o from point n b is padding =
+    ap (λ padded. padded || is_inner_call_of o from point.place) (padding ∙ padding_of_number o point n is)

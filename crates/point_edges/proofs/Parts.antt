@@ -10,6 +10,7 @@ use Rattle.alternatives.specs.declared.point.Point.{Point}
 use Rattle.flow_defs.specs.Arrival.{insn_of_object}
 use Rattle.flow_defs.specs.Edges.{fixups, static_targets}
 use Rattle.flow_defs.specs.Marks.{has_bad_target, has_target_in_site, is_bad_by, is_bad_listed, listed_places, places_by}
+use Rattle.flow_defs.specs.Roles.{table_of_point}
 use Rattle.flow_defs.specs.Sites.{is_into_site}
 
 -- one of two tests, by the first, and by the second where the first fails
@@ -19,18 +20,20 @@ or_first a first second holds same = holds ∙ ap (λ b. b || second) (sym holds
 pub or_second : (a b first second : Bool) → a ≡ false → a ≡ first → b ≡ second → b ≡ (first || second)
 or_second a b first second fails same other = ap (λ t. t || b) (sym fails ∙ same) ∙ ap (λ t. first || t) other
 
--- one of three parts of a list passes a test
-any_of_three : (test : Place → Bool) (a b c : List Place) → (list_any test a || (list_any test b || list_any test c)) ≡ list_any test (a ++ (b ++ c))
-any_of_three test a b c =
-    ap (λ rest. list_any test a || rest) (sym (list_any-append test b c)) ∙ sym (list_any-append test a (b ++ c))
+-- one of four parts of a list passes a test
+any_of_four : (test : Place → Bool) (a b c d : List Place) → (list_any test a || (list_any test b || (list_any test c || list_any test d))) ≡ list_any test (a ++ (b ++ (c ++ d)))
+any_of_four test a b c d =
+    ap (λ rest. list_any test a || (list_any test b || rest)) (sym (list_any-append test c d))
+    ∙ ap (λ rest. list_any test a || rest) (sym (list_any-append test b (c ++ d)))
+    ∙ sym (list_any-append test a (b ++ (c ++ d)))
 
-pub bad_parts : (o : Coded) (point : Point) (insn : Insn) → insn ≡ insn_of_object o point → (is_bad_by o point insn insn.op || (is_bad_listed o Taken point (static_targets o point) || is_bad_listed o Fixup point (fixups o point))) ≡ has_bad_target o point
+pub bad_parts : (o : Coded) (point : Point) (insn : Insn) → insn ≡ insn_of_object o point → (is_bad_by o point insn.op || (is_bad_listed o Taken point (static_targets o point) || is_bad_listed o Fixup point (fixups o point))) ≡ has_bad_target o point
 unfolding has_bad_target
 bad_parts o point insn is =
-    ap (λ (i : Insn). is_bad_by o point i i.op || (is_bad_listed o Taken point (static_targets o point) || is_bad_listed o Fixup point (fixups o point))) is
+    ap (λ (i : Insn). is_bad_by o point i.op || (is_bad_listed o Taken point (static_targets o point) || is_bad_listed o Fixup point (fixups o point))) is
 
-pub parts_in_site : (o : Coded) (point : Point) (insn : Insn) → insn ≡ insn_of_object o point → (list_any (is_into_site o point) (places_by o point insn insn.op) || (list_any (is_into_site o point) (listed_places o Taken point (static_targets o point)) || list_any (is_into_site o point) (listed_places o Fixup point (fixups o point)))) ≡ has_target_in_site o point
+pub parts_in_site : (o : Coded) (point : Point) (insn : Insn) → insn ≡ insn_of_object o point → (list_any (is_into_site o point) (places_by o point insn.op) || (list_any (is_into_site o point) (table_of_point o point) || (list_any (is_into_site o point) (listed_places o Taken point (static_targets o point)) || list_any (is_into_site o point) (listed_places o Fixup point (fixups o point))))) ≡ has_target_in_site o point
 unfolding has_target_in_site
 parts_in_site o point insn is =
-    any_of_three (is_into_site o point) (places_by o point insn insn.op) (listed_places o Taken point (static_targets o point)) (listed_places o Fixup point (fixups o point))
-    ∙ ap (λ (i : Insn). list_any (is_into_site o point) (places_by o point i i.op ++ (listed_places o Taken point (static_targets o point) ++ listed_places o Fixup point (fixups o point)))) is
+    any_of_four (is_into_site o point) (places_by o point insn.op) (table_of_point o point) (listed_places o Taken point (static_targets o point)) (listed_places o Fixup point (fixups o point))
+    ∙ ap (λ (i : Insn). list_any (is_into_site o point) (places_by o point i.op ++ (table_of_point o point ++ (listed_places o Taken point (static_targets o point) ++ listed_places o Fixup point (fixups o point))))) is

@@ -7,7 +7,7 @@ use Rattle.machine_defs.specs.declared.flow.Edge.{Edge}
 use Rattle.machine_defs.specs.declared.flow.EdgeKind.TheVariants.{Taken, Fixup}
 use Rattle.alternatives.specs.declared.point.Point.{Point}
 use Rattle.flow_defs.specs.Arrival.{insn_of_object}
-use Rattle.flow_defs.specs.Edges.{branch_edges, branch_edges_by, fixups, goes, listed_edges, next_edges, static_targets, table_edges, table_edges_by}
+use Rattle.flow_defs.specs.Edges.{branch_edges, branch_edges_by, fixups, goes, listed_edges, next_edges, static_targets, table_edges}
 use Rattle.flow_defs.specs.Owners.{is_unchecked_point}
 
 -- the edges of a checked point
@@ -21,7 +21,7 @@ no_edges o point unchecked = ap (λ b. if b then [] else checked_edges o point) 
 -- behind some edges, the parts for this instruction and these lists of places
 abbrev parts : Coded → Point → List Edge → Insn → List Place → List Place → List Edge
 parts o point old insn targets fixes =
-    ((((old ++ next_edges o point) ++ branch_edges_by o point insn insn.op) ++ listed_edges o Taken point targets) ++ listed_edges o Fixup point fixes) ++ table_edges_by o point insn.op
+    ((((old ++ next_edges o point) ++ branch_edges_by o point insn.op) ++ listed_edges o Taken point targets) ++ listed_edges o Fixup point fixes) ++ table_edges o point
 
 joined : (a b c d e f : List Edge) → ((((a ++ b) ++ c) ++ d) ++ e) ++ f ≡ a ++ (b ++ (c ++ (d ++ (e ++ f))))
 joined a b c d e f = simp append_assoc

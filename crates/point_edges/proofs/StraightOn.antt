@@ -11,10 +11,11 @@ use Rattle.flow_defs.specs.Coded.{Coded}
 use Rattle.alternatives.specs.declared.point.Point.{Point}
 use Rattle.alternatives.specs.Points.{points_of}
 use Rattle.alternatives.proofs.PointOrder as order
-use Rattle.flow_defs.specs.Arrival.{after, arrive, decoded_insn, is_at_end, is_dead_end, place_behind, site_end}
+use Rattle.flow_defs.specs.Arrival.{after, around, arrive, decoded_insn, insn_of_object, is_at_end, is_dead_end, place_behind, site_end}
 use Rattle.flow_defs.specs.Code.{alternatives_of, is_plain, no_point, plain_point, point_at, points_of_object, same_point, texts_of}
 use Rattle.flow_defs.specs.Edges.{fixups, is_some_place, static_targets}
 use Rattle.flow_defs.specs.Marks.{has_relocated_offset}
+use Rattle.symbols_relocs.specs.NamedPlaces.{is_relocated}
 use Rattle.alternatives.specs.Texts.{behind, is_boundary}
 use Rattle.object_points.specs.Places.{is_among}
 use Rattle.object_points.proofs.Points.{known_point}
@@ -24,6 +25,8 @@ use Rattle.point_edges.specs.Straight.{end_of, goes_straight, is_next_at, is_str
 use Rattle.point_edges.proofs.Arriving.{arrive_is, no_original, standing_at}
 use Rattle.point_edges.proofs.Following.{after_none, at_end_is, plain_none}
 use Rattle.point_edges.proofs.Numbers.{number_is}
+use Rattle.point_edges.proofs.Remaking.{made_offset, made_straight, straight_tableless}
+use Rattle.point_edges.proofs.Tableless.{tableless}
 
 -- of a point of which no list says anything
 pub unlisted : (o : Coded) (p : Point) → is_listed o p ≡ false → ([] ≡ static_targets o p) × ([] ≡ fixups o p) × (false ≡ is_dead_end o p)
@@ -80,6 +83,15 @@ goes_on_to o p end m plain behind_is here =
     ∙ ap (λ x. is_none x && not (is_boundary (texts_of o) (place_behind o p))) (sym (plain_none o p plain))
     ∙ ap not boundary
 
+-- its operation in the program is straight, and by the same numbers
+straight_made : (o : Coded) (p : Point) → is_straight_op (decoded_insn o p).op ≡ true → is_straight_op (insn_of_object o p).op ≡ true
+unfolding insn_of_object
+straight_made o p straight = made_straight (around o p) (decoded_insn o p).op straight
+
+same_offset : (o : Coded) (p : Point) → has_relocated_offset o p (insn_of_object o p) ≡ has_relocated_offset o p (decoded_insn o p)
+unfolding insn_of_object
+same_offset o p = ap (λ b. b && is_relocated o.elf p.place (decoded_insn o p).len) (made_offset (around o p) (decoded_insn o p).op)
+
 pub straight_on : (o : Coded) (n : ℕ) → is_straight o n ≡ true → IsStraight o n
 straight_on o n is =
     let p : Point = point_at o n in
@@ -99,8 +111,9 @@ straight_on o n is =
     let here : slice_get (points_of_object o) (n + 1) ≡ Some (plain_point end) = slice_get-get_or (points_of_object o) (n + 1) no_point inside ∙ ap (λ (q : Point). Some q) at in
     let behind_is : place_behind o p ≡ end = ap (λ b. if b then behind p.place (decoded_insn o p).len else site_end o p) plain in record {
       plain = plain;
-      straight = first_so straight (not relocated) decoded;
-      unrelocated = not_true relocated (second_so straight (not relocated) decoded);
+      straight = straight_made o p (first_so straight (not relocated) decoded);
+      tableless = tableless o n (omega arith) (straight_tableless (decoded_insn o p).op (first_so straight (not relocated) decoded));
+      unrelocated = same_offset o p ∙ not_true relocated (second_so straight (not relocated) decoded);
       unlisted = not_true (is_listed o p) (first_so (not (is_listed o p)) (goes_straight o n) is);
       inside = inside;
       next = at ∙ ap plain_point (sym behind_is);

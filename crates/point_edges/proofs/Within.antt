@@ -14,9 +14,9 @@ use Rattle.alternatives.specs.Points.{is_point}
 use Rattle.flow_defs.specs.declared.destination.Crossing.TheVariants.{MayNotCross}
 use Rattle.flow_defs.specs.declared.destination.Destination.{Destination}
 use Rattle.flow_defs.specs.declared.destination.Destination.TheVariants.{ToPlace, ToOwnPoint, ToNowhere}
-use Rattle.flow_defs.specs.Arrival.{is_padding, replacement_end, site_end}
+use Rattle.flow_defs.specs.Arrival.{decoded_insn, is_padding, replacement_end, site_end}
 use Rattle.flow_defs.specs.Code.{alternatives_of, is_plain, texts_of}
-use Rattle.flow_defs.specs.Targets.{destination, destination_by, displacement_of, lacks_reloc, named_destination, own_destination, relative_place, Displacement}
+use Rattle.flow_defs.specs.Targets.{destination, destination_by, destination_of, displacement_of, lacks_reloc, named_destination, own_destination, relative_place, Displacement}
 use Rattle.flow_defs.specs.Roles.{call_role, place_call}
 
 -- where a destination is a point of the same replacement, that point passes the test
@@ -51,9 +51,9 @@ displaced_point o from q insn (Some d) is =
     either_point o q (own_destination o from (relative_place from.place insn.len d)) (branch_target o.elf from.place insn) (not (is_plain from) && lacks_reloc o.elf from.place insn.len d)
     (own_point o from q (relative_place from.place insn.len d)) is
 
-pub within_point : (o : Coded) (from q : Point) (insn : Insn) → destination o from insn ≡ ToOwnPoint q → is_point (texts_of o) (alternatives_of o) q ≡ true
+pub within_point : (o : Coded) (from q : Point) → destination_of o from ≡ ToOwnPoint q → is_point (texts_of o) (alternatives_of o) q ≡ true
 unfolding destination
-within_point o from q insn is = displaced_point o from q insn (displacement_of insn.op) is
+within_point o from q is = displaced_point o from q (decoded_insn o from) (displacement_of (decoded_insn o from).op) is
 
-pub role_within : (o : Coded) (p : Point) (b : Bool) → b ≡ is_padding o p → (if b then Plain else place_call o p.place None) ≡ call_role o (ToOwnPoint p)
-role_within o p b is = ap (λ padding. if padding then Plain else place_call o p.place None) is
+pub role_within : (o : Coded) (from p : Point) (b : Bool) → b ≡ is_padding o p → (if b then Plain else place_call o from p.place None) ≡ call_role o from (ToOwnPoint p)
+role_within o from p b is = ap (λ padding. if padding then Plain else place_call o from p.place None) is

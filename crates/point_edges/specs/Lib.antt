@@ -2,6 +2,7 @@ pub mod Displacements
 pub mod Jumps
 pub mod Low
 pub mod Next
+pub mod Remade
 pub mod Lists
 pub mod Marks
 pub mod Straight

@@ -1,5 +1,5 @@
 -- What is kept of an object's lists of places.
-use Rattle.std.specs.Prelude.{List, map}
+use Rattle.std.specs.Prelude.{ℕ, List, map}
 use Rattle.ot_base.specs.declared.place.Place.{Place}
 use Rattle.flow_defs.specs.Coded.{Coded}
 use Rattle.special_sections.specs.declared.entries.AltEntry.{AltEntry}
@@ -7,6 +7,7 @@ use Rattle.special_sections.specs.declared.entries.BranchEntry.{BranchEntry}
 use Rattle.special_sections.specs.declared.entries.FixEntry.{FixEntry}
 use Rattle.special_sections.specs.Special.{special_of}
 use Rattle.object_points.specs.Places.{HaveSamePlaces, HaveSameTargets}
+use Rattle.point_edges.specs.Remade.{AreRooms}
 
 -- where the originals of alternatives begin
 abbrev pub original_places_of : List AltEntry → List Place
@@ -19,11 +20,13 @@ branch_pairs_of branches = map (λ b. (b.code, b.target)) branches
 abbrev pub fix_pairs_of : List FixEntry → List (Place × Place)
 fix_pairs_of fixes = map (λ f. (f.insn, f.fixup)) fixes
 
--- the places of originals; those behind which code is reachable, and isn't; where static branches lead, and exception
--- entries
-pub record AreListsOf (o : Coded) (originals reachable unreachable : List Place) (branches fixes : List (Place × Place)) : Type 0 where
+-- the places of originals; those behind which code is reachable, and isn't; those of calls within a function; where static
+-- branches lead, and exception entries; and the owners that make room
+pub record AreListsOf (o : Coded) (originals reachable unreachable intra_calls : List Place) (branches fixes : List (Place × Place)) (rooms : List ℕ) : Type 0 where
   pub original_places : HaveSamePlaces (original_places_of (special_of o.elf).alternatives) originals
   pub reachable_places : HaveSamePlaces (special_of o.elf).after_reachable reachable
   pub unreachable_places : HaveSamePlaces (special_of o.elf).after_unreachable unreachable
+  pub intra_call_places : HaveSamePlaces (special_of o.elf).intra_calls intra_calls
   pub branch_targets : HaveSameTargets (branch_pairs_of (special_of o.elf).branches) branches
   pub fix_targets : HaveSameTargets (fix_pairs_of (special_of o.elf).fixes) fixes
+  pub all_rooms : AreRooms o rooms

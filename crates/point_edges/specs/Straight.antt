@@ -2,11 +2,12 @@
 use Rattle.std.specs.Prelude.{◌≡◌, ◌+◌, ◌<◌, ◌&&◌, not, nat_lt, ℕ, Bool, true, false, [], ◌∷◌, length}
 use Rattle.ot_base.specs.declared.place.Place.{Place}
 use Rattle.operation_defs.specs.declared.op.Op.{Op}
-use Rattle.operation_defs.specs.declared.op.Op.TheVariants.{Call, CallInd, Jmp, Jcc, JmpInd, Ret, RetImm, Iret, Switch, Ud2}
+use Rattle.operation_defs.specs.declared.op.Op.TheVariants.{Call, CallInd, Hop, Jmp, Jcc, JmpInd, Ret, RetImm, Iret, Switch, Ud2}
 use Rattle.flow_defs.specs.Coded.{Coded}
 use Rattle.flow_defs.specs.Marks.{has_relocated_offset}
 use Rattle.alternatives.specs.Texts.{behind}
-use Rattle.flow_defs.specs.Arrival.{after, decoded_insn, is_at_end, place_behind}
+use Rattle.flow_defs.specs.Arrival.{after, decoded_insn, insn_of_object, is_at_end, place_behind}
+use Rattle.flow_defs.specs.Roles.{table_of_point}
 use Rattle.flow_defs.specs.Code.{alternatives_of, is_plain, plain_point, point_at, points_of_object, same_point}
 use Rattle.object_points.specs.Places.{is_among}
 use Rattle.point_edges.specs.Lists.{original_places_of}
@@ -16,6 +17,7 @@ use Rattle.point_edges.specs.Marks.{is_listed}
 abbrev pub is_straight_op : Op → Bool
 is_straight_op (Call rel) = false
 is_straight_op CallInd = false
+is_straight_op Hop = false
 is_straight_op (Jmp rel wide) = false
 is_straight_op (Jcc rel wide) = false
 is_straight_op (JmpInd table) = false
@@ -48,13 +50,14 @@ goes_straight o n = is_straight_insn o n && (is_next_at o n (end_of o n) && not 
 abbrev pub is_straight : Coded → ℕ → Bool
 is_straight o n = not (is_listed o (point_at o n)) && goes_straight o n
 
--- What is so where control goes straight on from the point with a number: it is plain, its operation is straight, no
--- relocation changes a number of the stack there, no list says anything of it, and the plain point behind it, which has the
--- next number, alone follows it.
+-- What is so where control goes straight on from the point with a number: it is plain, its operation in the program is
+-- straight, it has no jump table, no relocation changes a number of the stack there, no list says anything of it, and the plain
+-- point behind it, which has the next number, alone follows it.
 pub record IsStraight (o : Coded) (n : ℕ) : Type 0 where
   pub plain : is_plain (point_at o n) ≡ true
-  pub straight : is_straight_op (decoded_insn o (point_at o n)).op ≡ true
-  pub unrelocated : has_relocated_offset o (point_at o n) (decoded_insn o (point_at o n)) ≡ false
+  pub straight : is_straight_op (insn_of_object o (point_at o n)).op ≡ true
+  pub tableless : table_of_point o (point_at o n) ≡ []
+  pub unrelocated : has_relocated_offset o (point_at o n) (insn_of_object o (point_at o n)) ≡ false
   pub unlisted : is_listed o (point_at o n) ≡ false
   pub inside : n + 1 < length (points_of_object o)
   pub next : point_at o (n + 1) ≡ plain_point (place_behind o (point_at o n))

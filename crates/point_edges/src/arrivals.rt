@@ -148,8 +148,9 @@ impl<'l, 'o, 'a> PointArrivals<'l, 'o, 'a> {
         self.lists.is_dead_end(n)
     }
 
-    /// The instruction of a point: as it is decoded, but for an IRET of a function that goes on right behind itself in
-    /// that function, which is an `IretNext`.
+    /// The instruction of a point: its length, and what the program makes of its decoded operation. A listed call within a
+    /// function is a `Hop`; where a function makes room, rbp is set by `LeaBpRoom`; an IRET with its function behind it is an
+    /// `IretNext`; and a way out by the system with its function behind it, where hints tell the stack, an `SpOther`.
     ///
     /// # Errors
     ///

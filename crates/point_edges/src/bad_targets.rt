@@ -4,10 +4,10 @@ ghost use Rattle.std.specs.Prelude.{◌≡◌, ◌<◌, length, not, true};
 ghost use Rattle.alternatives.specs.Texts.{is_boundary as is_boundary_of};
 ghost use Rattle.alternatives.specs.Points.{is_point};
 ghost use Rattle.flow_defs.specs.Code.{alternatives_of, point_at, points_of_object, texts_of};
-ghost use Rattle.flow_defs.specs.Marks.{is_bad_by as is_bad_of_op, is_bad_call as is_bad_called, is_bad_jump as is_bad_jumped, is_bad_listed as is_bad_among};
-ghost use Rattle.flow_defs.specs.Targets.{destination};
+ghost use Rattle.flow_defs.specs.Marks.{is_bad_by as is_bad_of_op, is_bad_call as is_bad_called, is_bad_hop as is_bad_within, is_bad_jump as is_bad_jumped, is_bad_listed as is_bad_among};
+ghost use Rattle.flow_defs.specs.Targets.{destination_of};
 ghost use Rattle.flow_defs.specs.Ways.{is_bad as is_bad_of};
-ghost use Rattle.point_edges.specs.Jumps.{destination_way, direct_way};
+ghost use Rattle.point_edges.specs.Jumps.{destination_way, direct_way, within_way};
 
 use crate::flow_points::FlowPoints;
 use crate::same_owner::is_same_owner;
@@ -16,7 +16,7 @@ use alternatives::Point;
 use flow_defs::{Destination, Way};
 use machine_defs::EdgeKind;
 use object_points::PointPlaces;
-use operation_defs::{Insn, Op};
+use operation_defs::Op;
 use ot_base::Place;
 
 /// Whether a way leads nowhere.
@@ -57,12 +57,12 @@ fn leaves_owner(places: &PointPlaces<'_, '_, '_>, n: u32, other: Point) -> bool
     }
 }
 
-/// Whether a jump with this instruction from a point, which goes there, goes to a place that is none to go to.
-fn is_bad_jump(places: &PointPlaces<'_, '_, '_>, n: u32, insn: Insn, branch: Branch) -> bool
+/// Whether a jump from a point, which goes there, goes to a place that is none to go to.
+fn is_bad_jump(places: &PointPlaces<'_, '_, '_>, n: u32, branch: Branch) -> bool
     requires point { n < length (points_of_object places.now) }
-    requires to { branch.to ≡ destination places.now (point_at places.now n) insn }
+    requires to { branch.to ≡ destination_of places.now (point_at places.now n) }
     requires way { branch.way ≡ destination_way places.now (point_at places.now n) branch.to }
-    ensures { result ≡ is_bad_jumped places.now (point_at places.now n) (destination places.now (point_at places.now n) insn) }
+    ensures { result ≡ is_bad_jumped places.now (point_at places.now n) (destination_of places.now (point_at places.now n)) }
 {
     match branch.to {
         Destination::ToPlace { .. } => is_bad(branch.way),
@@ -73,22 +73,35 @@ fn is_bad_jump(places: &PointPlaces<'_, '_, '_>, n: u32, insn: Insn, branch: Bra
     }
 }
 
-/// Whether the direct call or jump with this instruction at a point, which goes there, goes to a place that is none to go to.
-pub(crate) fn is_bad_branch(
-    points: &FlowPoints<'_, '_, '_>,
-    n: u32,
-    insn: Insn,
-    branch: Branch,
-) -> bool
+/// Whether a call within a function from a point, which goes there, goes anywhere but to a place of that function.
+fn is_bad_hop(places: &PointPlaces<'_, '_, '_>, n: u32, branch: Branch) -> bool
+    requires point { n < length (points_of_object places.now) }
+    requires to { branch.to ≡ destination_of places.now (point_at places.now n) }
+    requires way { branch.way ≡ within_way places.now (point_at places.now n) branch.to }
+    ensures { result ≡ is_bad_within places.now (point_at places.now n) (destination_of places.now (point_at places.now n)) }
+{
+    match branch.to {
+        Destination::ToPlace { .. } => is_bad(branch.way),
+        Destination::ToOwnPoint(other) => leaves_owner(places, n, other),
+        Destination::ToOutside(_)
+        | Destination::ToIndirectThunk
+        | Destination::ToReturnThunk
+        | Destination::ToNowhere => true,
+    }
+}
+
+/// Whether the direct call or jump with this operation at a point, which goes there, goes to a place that is none to go to.
+pub(crate) fn is_bad_branch(points: &FlowPoints<'_, '_, '_>, n: u32, op: Op, branch: Branch) -> bool
     requires point { n < length (points_of_object points.now) }
-    requires to { branch.to ≡ destination points.now (point_at points.now n) insn }
-    requires way { branch.way ≡ direct_way points.now (point_at points.now n) insn insn.op }
-    ensures { result ≡ is_bad_of_op points.now (point_at points.now n) insn insn.op }
+    requires to { branch.to ≡ destination_of points.now (point_at points.now n) }
+    requires way { branch.way ≡ direct_way points.now (point_at points.now n) op }
+    ensures { result ≡ is_bad_of_op points.now (point_at points.now n) op }
 {
     let places = points.places();
-    match insn.op {
+    match op {
         Op::Call { .. } => is_bad_call(places, branch.to),
-        Op::Jmp { .. } | Op::Jcc { .. } => is_bad_jump(places, n, insn, branch),
+        Op::Jmp { .. } | Op::Jcc { .. } => is_bad_jump(places, n, branch),
+        Op::Hop => is_bad_hop(places, n, branch),
         _ => false,
     }
 }

@@ -1,10 +1,11 @@
 //! The edges of direct and indirect jumps.
 
 ghost use Rattle.std.specs.Prelude.{◌≡◌, ◌<◌, ◌++◌, length, OnOk};
+ghost use Rattle.flow_defs.specs.Arrival.{insn_of_object};
 ghost use Rattle.flow_defs.specs.Code.{point_at, points_of_object};
-ghost use Rattle.flow_defs.specs.Edges.{branch_edges_by, jump_edges, table_edges_by};
-ghost use Rattle.flow_defs.specs.Targets.{destination};
-ghost use Rattle.point_edges.specs.Jumps.{destination_way, direct_way};
+ghost use Rattle.flow_defs.specs.Edges.{branch_edges_by, jump_edges, table_edges};
+ghost use Rattle.flow_defs.specs.Targets.{destination_of};
+ghost use Rattle.point_edges.specs.Jumps.{direct_way, edges_along};
 
 use crate::Branch;
 use crate::flow_points::FlowPoints;
@@ -38,17 +39,16 @@ fn push_within(
     Ok(())
 }
 
-/// Pushes the edges of a direct jump by where it goes.
-fn push_jump(
+/// Pushes the edges of a jump, or of a call within a function, by where it goes.
+fn push_along(
     alloc: Global,
     points: &FlowPoints<'_, '_, '_>,
     n: u32,
     branch: Branch,
     into: &mut Vec<Edge>,
 ) -> Result<(), NoMemory>
-    requires point { n < length (points_of_object points.now) }
-    requires way { branch.way ≡ destination_way points.now (point_at points.now n) branch.to }
-    ensures { OnOk result (into.new.items ≡ into.old.items ++ jump_edges points.now (point_at points.now n) branch.to) }
+    requires { n < length (points_of_object points.now) }
+    ensures { OnOk result (into.new.items ≡ into.old.items ++ edges_along points.now (point_at points.now n) branch.way branch.to) }
 {
     match branch.to {
         Destination::ToPlace { place, .. } => {
@@ -62,39 +62,38 @@ fn push_jump(
     }
 }
 
-/// Pushes the edges of the direct jump at a point, which goes there. Any other instruction has none.
+/// Pushes the edges of the direct jump or the call within a function at a point, which goes there. Any other instruction has
+/// none.
 pub(crate) fn push_branch(
     alloc: Global,
     points: &FlowPoints<'_, '_, '_>,
     n: u32,
-    insn: Insn,
+    op: Op,
     branch: Branch,
     into: &mut Vec<Edge>,
 ) -> Result<(), NoMemory>
     requires point { n < length (points_of_object points.now) }
-    requires to { branch.to ≡ destination points.now (point_at points.now n) insn }
-    requires way { branch.way ≡ direct_way points.now (point_at points.now n) insn insn.op }
-    ensures { OnOk result (into.new.items ≡ into.old.items ++ branch_edges_by points.now (point_at points.now n) insn insn.op) }
+    requires to { branch.to ≡ destination_of points.now (point_at points.now n) }
+    requires way { branch.way ≡ direct_way points.now (point_at points.now n) op }
+    ensures { OnOk result (into.new.items ≡ into.old.items ++ branch_edges_by points.now (point_at points.now n) op) }
 {
-    match insn.op {
-        Op::Jmp { .. } | Op::Jcc { .. } => push_jump(alloc, points, n, branch, into),
+    match op {
+        Op::Jmp { .. } | Op::Jcc { .. } | Op::Hop => push_along(alloc, points, n, branch, into),
         _ => Ok(()),
     }
 }
 
-/// Pushes the edges of the indirect jump with this operation through its table. Any other operation has none.
+/// Pushes the edges of an indirect jump through its table. A point without a table has none.
 pub(crate) fn push_table(
     alloc: Global,
     points: &FlowPoints<'_, '_, '_>,
     n: u32,
-    op: Op,
+    insn: Insn,
     into: &mut Vec<Edge>,
 ) -> Result<(), NoMemory>
-    requires { n < length (points_of_object points.now) }
-    ensures { OnOk result (into.new.items ≡ into.old.items ++ table_edges_by points.now (point_at points.now n) op) }
+    requires point { n < length (points_of_object points.now) }
+    requires insn { insn ≡ insn_of_object points.now (point_at points.now n) }
+    ensures { OnOk result (into.new.items ≡ into.old.items ++ table_edges points.now (point_at points.now n)) }
 {
-    if !matches!(op, Op::JmpInd { .. }) {
-        return Ok(());
-    }
-    push_entries(alloc, points, n, points.table(n), into)
+    push_entries(alloc, points, n, points.table_by(n, insn.op), into)
 }

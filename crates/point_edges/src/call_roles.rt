@@ -4,13 +4,13 @@ ghost use Rattle.std.specs.Prelude.{◌≡◌, ◌<◌, length, true};
 ghost use Rattle.alternatives.specs.Points.{is_point};
 ghost use Rattle.flow_defs.specs.Code.{alternatives_of, point_at, points_of_object, texts_of};
 ghost use Rattle.flow_defs.specs.Roles.{call_role as call_role_of, entry_call as entry_call_of, place_call as place_call_of, plain_number as plain_number_of};
-ghost use Rattle.flow_defs.specs.Targets.{destination};
+ghost use Rattle.flow_defs.specs.Targets.{destination_of};
 
+use crate::called::is_called;
 use alternatives::Point;
 use flow_defs::Destination;
 use machine_defs::Role;
 use object_points::PointPlaces;
-use operation_defs::Insn;
 use ot_base::Place;
 
 /// The number of the plain point at a place; 0 where none is there.
@@ -31,9 +31,10 @@ fn entry_call(entry: u32, weak: Option<u32>) -> Role
     }
 }
 
-/// A call of a place, by a weak symbol or not.
-fn place_call(places: &PointPlaces<'_, '_, '_>, place: Place, weak: Option<u32>) -> Role
-    ensures { result ≡ place_call_of places.now place weak }
+/// A call of a place from a point, by a weak symbol or not.
+fn place_call(places: &PointPlaces<'_, '_, '_>, n: u32, place: Place, weak: Option<u32>) -> Role
+    requires { n < length (points_of_object places.now) }
+    ensures { result ≡ place_call_of places.now (point_at places.now n) place weak }
 {
     if !places.is_boundary(place) {
         return Role::Plain;
@@ -41,7 +42,7 @@ fn place_call(places: &PointPlaces<'_, '_, '_>, place: Place, weak: Option<u32>)
     if let Some(sym) = places.unchecked_start(place) {
         return Role::CallOut { sym };
     }
-    if places.is_entry(place) {
+    if is_called(places, n, place) {
         entry_call(plain_number(places, place), weak)
     } else {
         Role::Plain
@@ -49,34 +50,30 @@ fn place_call(places: &PointPlaces<'_, '_, '_>, place: Place, weak: Option<u32>)
 }
 
 /// A call of a point of the caller's own replacement.
-fn call_within(places: &PointPlaces<'_, '_, '_>, point: Point) -> Role
-    requires { is_point (texts_of places.now) (alternatives_of places.now) point ≡ true }
-    ensures { result ≡ call_role_of places.now (Destination.ToOwnPoint point) }
+fn call_within(places: &PointPlaces<'_, '_, '_>, n: u32, other: Point) -> Role
+    requires point { n < length (points_of_object places.now) }
+    requires known { is_point (texts_of places.now) (alternatives_of places.now) other ≡ true }
+    ensures { result ≡ call_role_of places.now (point_at places.now n) (Destination.ToOwnPoint other) }
 {
-    let Some(n) = places.number_of(point) else {
+    let Some(to) = places.number_of(other) else {
         return Role::Plain;
     };
-    if places.is_padding(n) {
+    if places.is_padding(to) {
         Role::Plain
     } else {
-        place_call(places, point.place, None)
+        place_call(places, n, other.place, None)
     }
 }
 
-/// What the direct call with this instruction at a point is, which goes `to` there.
-pub(crate) fn call_role(
-    places: &PointPlaces<'_, '_, '_>,
-    n: u32,
-    insn: Insn,
-    to: Destination,
-) -> Role
+/// What the direct call at a point is, which goes `to` there.
+pub(crate) fn call_role(places: &PointPlaces<'_, '_, '_>, n: u32, to: Destination) -> Role
     requires point { n < length (points_of_object places.now) }
-    requires to { to ≡ destination places.now (point_at places.now n) insn }
-    ensures { result ≡ call_role_of places.now to }
+    requires to { to ≡ destination_of places.now (point_at places.now n) }
+    ensures { result ≡ call_role_of places.now (point_at places.now n) to }
 {
     match to {
-        Destination::ToPlace { place, weak, .. } => place_call(places, place, weak),
-        Destination::ToOwnPoint(point) => call_within(places, point),
+        Destination::ToPlace { place, weak, .. } => place_call(places, n, place, weak),
+        Destination::ToOwnPoint(point) => call_within(places, n, point),
         Destination::ToOutside(sym) => Role::CallOut { sym },
         Destination::ToIndirectThunk => Role::CallAny,
         Destination::ToReturnThunk | Destination::ToNowhere => Role::Plain,

@@ -2,9 +2,9 @@
 
 ghost use Rattle.std.specs.Prelude.{◌≡◌, ◌<◌, length};
 ghost use Rattle.flow_defs.specs.Code.{point_at, points_of_object};
-ghost use Rattle.flow_defs.specs.Targets.{destination as destination_of};
-ghost use Rattle.flow_defs.specs.Ways.{jump_way as jump_way_of};
-ghost use Rattle.point_edges.specs.Jumps.{destination_way as destination_way_of, direct_way as direct_way_of};
+ghost use Rattle.flow_defs.specs.Targets.{destination_of};
+ghost use Rattle.flow_defs.specs.Ways.{hop_way as hop_way_of, jump_way as jump_way_of, taken_only as taken_only_of};
+ghost use Rattle.point_edges.specs.Jumps.{destination_way as destination_way_of, direct_way as direct_way_of, within_way as within_way_of};
 
 use crate::destinations::destination;
 use crate::place_ways::branch_way;
@@ -14,13 +14,13 @@ use object_points::PointPlaces;
 use operation_defs::{Insn, Op};
 use ot_base::Place;
 
-/// Where the direct call or branch of a point goes.
+/// Where the direct call or branch goes that is decoded at a point.
 #[derive(Clone, Copy)]
 pub struct Branch {
     /// Where it goes.
     pub to: Destination,
-    /// How a direct jump gets to the place that it goes to; [`Way::Bad`] where it goes to no place of the text, or inside its
-    /// replacement, and where it is no direct jump.
+    /// How a direct jump, or a call within a function, gets to the place that it goes to; [`Way::Bad`] where it goes to no
+    /// place of the text, or inside its replacement, and where it is none of these.
     pub way: Way,
 }
 
@@ -47,27 +47,71 @@ fn destination_way(places: &PointPlaces<'_, '_, '_>, n: u32, to: Destination) ->
     }
 }
 
-/// The way of the instruction at a point, which goes `to` there.
-fn direct_way(places: &PointPlaces<'_, '_, '_>, n: u32, insn: Insn, to: Destination) -> Way
-    requires point { n < length (points_of_object places.now) }
-    requires to { to ≡ destination_of places.now (point_at places.now n) insn }
-    ensures { result ≡ direct_way_of places.now (point_at places.now n) insn insn.op }
+/// The same way, where it is along a taken edge.
+fn taken_only(way: Way) -> Way
+    ensures { result ≡ taken_only_of way }
 {
-    match insn.op {
-        Op::Jmp { .. } | Op::Jcc { .. } => destination_way(places, n, to),
+    match way {
+        Way::Along(EdgeKind::Taken) => way,
         _ => Way::Bad,
     }
 }
 
-/// Where the direct call or branch with this instruction at a point goes, and how a jump gets there.
+/// The way of a call within a function from a point to a place, by a weak symbol or not.
+fn hop_way(
+    places: &PointPlaces<'_, '_, '_>,
+    n: u32,
+    weak: Option<u32>,
+    crossing: Crossing,
+    place: Place,
+) -> Way
+    requires { n < length (points_of_object places.now) }
+    ensures { result ≡ hop_way_of places.now (point_at places.now n) weak crossing place }
+{
+    match weak {
+        Some(_) => Way::Bad,
+        None => taken_only(jump_way(places, n, crossing, place)),
+    }
+}
+
+/// The way of a call within a function from a point to where it goes.
+fn within_way(places: &PointPlaces<'_, '_, '_>, n: u32, to: Destination) -> Way
+    requires { n < length (points_of_object places.now) }
+    ensures { result ≡ within_way_of places.now (point_at places.now n) to }
+{
+    match to {
+        Destination::ToPlace {
+            place,
+            weak,
+            crossing,
+        } => hop_way(places, n, weak, crossing, place),
+        _ => Way::Bad,
+    }
+}
+
+/// The way of the operation of a point, which goes `to` there.
+fn direct_way(places: &PointPlaces<'_, '_, '_>, n: u32, op: Op, to: Destination) -> Way
+    requires point { n < length (points_of_object places.now) }
+    requires to { to ≡ destination_of places.now (point_at places.now n) }
+    ensures { result ≡ direct_way_of places.now (point_at places.now n) op }
+{
+    match op {
+        Op::Jmp { .. } | Op::Jcc { .. } => destination_way(places, n, to),
+        Op::Hop => within_way(places, n, to),
+        _ => Way::Bad,
+    }
+}
+
+/// Where the direct call or branch that is decoded at a point goes, and how the point's instruction in the program gets
+/// there: a jump, or a call within a function.
 pub fn branch_at(places: &PointPlaces<'_, '_, '_>, n: u32, insn: Insn) -> Branch
     requires { n < length (points_of_object places.now) }
-    ensures to { result.to ≡ destination_of places.now (point_at places.now n) insn }
-    ensures way { result.way ≡ direct_way_of places.now (point_at places.now n) insn insn.op }
+    ensures to { result.to ≡ destination_of places.now (point_at places.now n) }
+    ensures way { result.way ≡ direct_way_of places.now (point_at places.now n) insn.op }
 {
-    let to = destination(places, n, insn);
+    let to = destination(places, n, places.decoded_insn(n));
     Branch {
         to,
-        way: direct_way(places, n, insn, to),
+        way: direct_way(places, n, insn.op, to),
     }
 }

@@ -4,7 +4,7 @@ ghost use Rattle.std.specs.Prelude.{◌≡◌, ◌<◌, ◌++◌, length, All, O
 ghost use Rattle.flow_defs.specs.Arrival.{insn_of_object};
 ghost use Rattle.flow_defs.specs.Code.{point_at, points_of_object};
 ghost use Rattle.flow_defs.specs.Edges.{goes};
-ghost use Rattle.flow_defs.specs.Targets.{destination};
+ghost use Rattle.flow_defs.specs.Targets.{destination_of};
 ghost use Rattle.point_edges.specs.Jumps.{direct_way};
 
 use crate::Branch;
@@ -18,8 +18,8 @@ use ot_base::NoMemory;
 use std::alloc::Global;
 
 /// Pushes the edges of a point with this instruction, whose direct call or branch goes there: where execution goes on, those
-/// to what follows it, and then those of its direct jump, of the static branches at it, of its exception entries, and of its
-/// jump table. A point of an unchecked function has none.
+/// to what follows it, and then those of its direct jump or its call within a function, of the static branches at it, of its
+/// exception entries, and of its jump table. A point of an unchecked function has none.
 ///
 /// # Errors
 ///
@@ -34,8 +34,8 @@ pub fn push_edges(
 ) -> Result<(), NoMemory>
     requires point { n < length (points_of_object points.now) }
     requires insn { insn ≡ insn_of_object points.now (point_at points.now n) }
-    requires to { branch.to ≡ destination points.now (point_at points.now n) insn }
-    requires way { branch.way ≡ direct_way points.now (point_at points.now n) insn insn.op }
+    requires to { branch.to ≡ destination_of points.now (point_at points.now n) }
+    requires way { branch.way ≡ direct_way points.now (point_at points.now n) insn.op }
     ensures pushed { OnOk result (into.new.items ≡ into.old.items ++ goes points.now (point_at points.now n)) }
 
     // Edges lead to points.
@@ -45,7 +45,7 @@ pub fn push_edges(
         return Ok(());
     }
     push_next(alloc, points, n, insn, into)?;
-    push_branch(alloc, points, n, insn, branch, into)?;
+    push_branch(alloc, points, n, insn.op, branch, into)?;
     let arrivals = points.arrivals();
     push_listed(
         alloc,
@@ -56,5 +56,5 @@ pub fn push_edges(
         into,
     )?;
     push_listed(alloc, points, EdgeKind::Fixup, n, arrivals.fixups(n), into)?;
-    push_table(alloc, points, n, insn.op, into)
+    push_table(alloc, points, n, insn, into)
 }

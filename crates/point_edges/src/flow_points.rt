@@ -2,13 +2,16 @@
 //! what follows a point, and the jump tables.
 
 ghost use Rattle.std.specs.Prelude.{◌≡◌, ◌<◌, IfOk, length};
+ghost use Rattle.flow_defs.specs.Arrival.{insn_of_object};
 ghost use Rattle.flow_defs.specs.Code.{point_at, points_of_object};
 ghost use Rattle.flow_defs.specs.Roles.{table_of_point};
+ghost use Rattle.point_edges.specs.Remade.{may_have_table as may_have_a_table};
 ghost use Rattle.point_edges.specs.Tables.{table_start_of};
 
 use crate::PointArrivals;
 use jump_tables::JumpTables;
 use object_points::PointPlaces;
+use operation_defs::Op;
 use ot_base::{NoMemory, Place};
 use std::alloc::Global;
 use std::marker::Model;
@@ -44,7 +47,7 @@ impl<'l, 'o, 'a> FlowPoints<'l, 'o, 'a> {
         ensures { IfOk result (λ points. points ≡ arrivals.entry) }
     {
         let linked = arrivals.places().linked();
-        let tables = JumpTables::build(alloc, linked.index(), linked.texts())?;
+        let tables = JumpTables::build(alloc, linked.index(), linked.texts(), linked.sites())?;
         Ok(FlowPoints { arrivals, tables })
     }
 
@@ -62,20 +65,42 @@ impl<'l, 'o, 'a> FlowPoints<'l, 'o, 'a> {
         self.arrivals.places()
     }
 
-    /// The entries of the jump table of a point; none where it is no jump through a recognised table.
+    /// The entries of the jump table of a point; none where it is no jump through a recognised table, as padding isn't.
     pub fn table(&self, n: u32) -> &[Place]
         requires { n < length (points_of_object self.now) }
         ensures { result.now ≡ table_of_point self.now (point_at self.now n) }
     {
         let places = self.places();
-        self.tables.of(places.point(n).place, places.owner(n))
+        if places.is_padding(n) {
+            return &[];
+        }
+        self.tables.of(places.point(n), places.owner(n))
     }
 
-    /// Where the jump table of a point begins; None where it is no jump that names one.
+    /// The same, where the operation of the point is told.
+    pub(crate) fn table_by(&self, n: u32, op: Op) -> &[Place]
+        requires point { n < length (points_of_object self.now) }
+        requires op { op ≡ (insn_of_object self.now (point_at self.now n)).op }
+        ensures { result.now ≡ table_of_point self.now (point_at self.now n) }
+    {
+        if !may_have_table(op) {
+            return &[];
+        }
+        self.table(n)
+    }
+
+    /// Where the table begins of the jump that stands at a point's place; None where it is no jump by a table.
     pub fn table_start(&self, n: u32) -> Option<Place>
         requires { n < length (points_of_object self.now) }
         ensures { result ≡ table_start_of self.now (point_at self.now n) }
     {
-        self.tables.start_of(self.places().point(n).place)
+        self.tables.start_of(self.places().point(n))
     }
+}
+
+/// Whether an operation may jump by a table: a jump on a register may go by a thunk.
+fn may_have_table(op: Op) -> bool
+    ensures { result ≡ may_have_a_table op }
+{
+    matches!(op, Op::Jmp { .. } | Op::JmpInd { .. })
 }

@@ -5,8 +5,9 @@ ghost use Rattle.alternatives.specs.Points.{is_point};
 ghost use Rattle.flow_defs.specs.Arrival.{insn_of_object};
 ghost use Rattle.flow_defs.specs.Code.{alternatives_of, point_at, points_of_object, texts_of};
 ghost use Rattle.flow_defs.specs.Marks.{calls_into_function as calls_into_a_function, is_inner_call as is_inner_called, is_inner_call_by, is_inner_call_of};
-ghost use Rattle.flow_defs.specs.Targets.{destination};
+ghost use Rattle.flow_defs.specs.Targets.{destination_of};
 
+use crate::called::is_called;
 use crate::flow_points::FlowPoints;
 use alternatives::Point;
 use flow_defs::Destination;
@@ -14,45 +15,49 @@ use object_points::PointPlaces;
 use operation_defs::{Insn, Op};
 use ot_base::Place;
 
-/// Whether a place is a boundary at which no checked function is entered, and no unchecked one starts.
-fn is_inner_place(places: &PointPlaces<'_, '_, '_>, place: Place) -> bool
-    ensures { result ≡ is_inner_call_of places.now place }
+/// Whether a place is a boundary that calls of a point don't enter, and at which no unchecked function starts.
+fn is_inner_place(places: &PointPlaces<'_, '_, '_>, n: u32, place: Place) -> bool
+    requires { n < length (points_of_object places.now) }
+    ensures { result ≡ is_inner_call_of places.now (point_at places.now n) place }
 {
-    places.is_boundary(place) && places.unchecked_start(place).is_none() && !places.is_entry(place)
+    places.is_boundary(place)
+        && places.unchecked_start(place).is_none()
+        && !is_called(places, n, place)
 }
 
 /// Whether a call of a point of the caller's own replacement goes into a function: of its padding it always does.
-fn is_inner_point(places: &PointPlaces<'_, '_, '_>, point: Point) -> bool
-    requires { is_point (texts_of places.now) (alternatives_of places.now) point ≡ true }
-    ensures { result ≡ is_inner_called places.now (Destination.ToOwnPoint point) }
+fn is_inner_point(places: &PointPlaces<'_, '_, '_>, n: u32, other: Point) -> bool
+    requires point { n < length (points_of_object places.now) }
+    requires known { is_point (texts_of places.now) (alternatives_of places.now) other ≡ true }
+    ensures { result ≡ is_inner_called places.now (point_at places.now n) (Destination.ToOwnPoint other) }
 {
-    let Some(n) = places.number_of(point) else {
+    let Some(to) = places.number_of(other) else {
         return false;
     };
-    places.is_padding(n) || is_inner_place(places, point.place)
+    places.is_padding(to) || is_inner_place(places, n, other.place)
 }
 
-/// Whether a call with this instruction at a point, which goes `to` there, goes into a function.
-fn is_inner_call(places: &PointPlaces<'_, '_, '_>, n: u32, insn: Insn, to: Destination) -> bool
+/// Whether a call at a point, which goes `to` there, goes into a function.
+fn is_inner_call(places: &PointPlaces<'_, '_, '_>, n: u32, to: Destination) -> bool
     requires point { n < length (points_of_object places.now) }
-    requires to { to ≡ destination places.now (point_at places.now n) insn }
-    ensures { result ≡ is_inner_called places.now (destination places.now (point_at places.now n) insn) }
+    requires to { to ≡ destination_of places.now (point_at places.now n) }
+    ensures { result ≡ is_inner_called places.now (point_at places.now n) (destination_of places.now (point_at places.now n)) }
 {
     match to {
-        Destination::ToPlace { place, .. } => is_inner_place(places, place),
-        Destination::ToOwnPoint(point) => is_inner_point(places, point),
+        Destination::ToPlace { place, .. } => is_inner_place(places, n, place),
+        Destination::ToOwnPoint(point) => is_inner_point(places, n, point),
         _ => false,
     }
 }
 
-/// Whether the instruction at a point, which goes `to` there, is a call that goes into a function.
-fn is_inner_branch(places: &PointPlaces<'_, '_, '_>, n: u32, insn: Insn, to: Destination) -> bool
+/// Whether the operation of a point, which goes `to` there, is a call that goes into a function.
+fn is_inner_branch(places: &PointPlaces<'_, '_, '_>, n: u32, op: Op, to: Destination) -> bool
     requires point { n < length (points_of_object places.now) }
-    requires to { to ≡ destination places.now (point_at places.now n) insn }
-    ensures { result ≡ is_inner_call_by places.now (point_at places.now n) insn insn.op }
+    requires to { to ≡ destination_of places.now (point_at places.now n) }
+    ensures { result ≡ is_inner_call_by places.now (point_at places.now n) op }
 {
-    match insn.op {
-        Op::Call { .. } => is_inner_call(places, n, insn, to),
+    match op {
+        Op::Call { .. } => is_inner_call(places, n, to),
         _ => false,
     }
 }
@@ -66,8 +71,8 @@ pub(crate) fn calls_into_function(
 ) -> bool
     requires point { n < length (points_of_object points.now) }
     requires insn { insn ≡ insn_of_object points.now (point_at points.now n) }
-    requires to { to ≡ destination points.now (point_at points.now n) insn }
+    requires to { to ≡ destination_of points.now (point_at points.now n) }
     ensures { result ≡ calls_into_a_function points.now (point_at points.now n) }
 {
-    is_inner_branch(points.places(), n, insn, to)
+    is_inner_branch(points.places(), n, insn.op, to)
 }

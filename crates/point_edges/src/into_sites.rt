@@ -4,11 +4,13 @@ ghost use Rattle.std.specs.Prelude.{◌≡◌, ◌<◌, [], ◌∷◌, if◌then
 ghost use Rattle.std.specs.List.{list_any};
 ghost use Rattle.alternatives.specs.Texts.{is_boundary as is_boundary_of};
 ghost use Rattle.flow_defs.specs.Code.{point_at, points_of_object, texts_of};
-ghost use Rattle.flow_defs.specs.Marks.{call_places, jump_places, listed_places, places_by};
+ghost use Rattle.flow_defs.specs.Arrival.{insn_of_object};
+ghost use Rattle.flow_defs.specs.Marks.{call_places, listed_places, places_by};
 ghost use Rattle.flow_defs.specs.Sites.{is_into_site as comes_into_site};
-ghost use Rattle.flow_defs.specs.Targets.{destination};
+ghost use Rattle.flow_defs.specs.Targets.{destination_of};
 ghost use Rattle.flow_defs.specs.Ways.{is_along as is_along_of};
-ghost use Rattle.point_edges.specs.Jumps.{destination_way, direct_way};
+ghost use Rattle.flow_defs.specs.Roles.{table_of_point};
+ghost use Rattle.point_edges.specs.Jumps.{direct_way, places_along};
 
 use crate::flow_points::FlowPoints;
 use crate::{Branch, listed_way};
@@ -52,11 +54,11 @@ fn way_enters(places: &PointPlaces<'_, '_, '_>, n: u32, place: Place, way: Way) 
     is_along(way) && is_into_site(places, n, place)
 }
 
-/// Whether a jump from a point comes into a site, which goes there. One inside its replacement doesn't.
+/// Whether a jump, or a call within a function, from a point comes into a site, which goes there. One inside its replacement
+/// doesn't.
 fn jump_enters(places: &PointPlaces<'_, '_, '_>, n: u32, branch: Branch) -> bool
-    requires point { n < length (points_of_object places.now) }
-    requires way { branch.way ≡ destination_way places.now (point_at places.now n) branch.to }
-    ensures { result ≡ list_any (comes_into_site places.now (point_at places.now n)) (jump_places places.now (point_at places.now n) branch.to) }
+    requires { n < length (points_of_object places.now) }
+    ensures { result ≡ list_any (comes_into_site places.now (point_at places.now n)) (places_along branch.way branch.to) }
 {
     match branch.to {
         Destination::ToPlace { place, .. } => way_enters(places, n, place, branch.way),
@@ -64,31 +66,34 @@ fn jump_enters(places: &PointPlaces<'_, '_, '_>, n: u32, branch: Branch) -> bool
     }
 }
 
-/// Whether the jump table of a point leads into a site.
-fn table_enters(places: &PointPlaces<'_, '_, '_>, n: u32, table: &[Place]) -> bool
+/// Whether one of these places lies in a site, into which control would come from a point.
+fn one_enters(places: &PointPlaces<'_, '_, '_>, n: u32, table: &[Place]) -> bool
     requires { n < length (points_of_object places.now) }
     ensures { result ≡ list_any (comes_into_site places.now (point_at places.now n)) table.now }
 {
     table.iter().any(|place| is_into_site(places, n, *place))
 }
 
-/// Whether the call or jump with this instruction at a point, which goes there, comes into a site.
-pub(crate) fn branch_enters(
-    points: &FlowPoints<'_, '_, '_>,
-    n: u32,
-    insn: Insn,
-    branch: Branch,
-) -> bool
+/// Whether the jump table of a point with this instruction leads into a site.
+pub(crate) fn table_enters(points: &FlowPoints<'_, '_, '_>, n: u32, insn: Insn) -> bool
     requires point { n < length (points_of_object points.now) }
-    requires to { branch.to ≡ destination points.now (point_at points.now n) insn }
-    requires way { branch.way ≡ direct_way points.now (point_at points.now n) insn insn.op }
-    ensures { result ≡ list_any (comes_into_site points.now (point_at points.now n)) (places_by points.now (point_at points.now n) insn insn.op) }
+    requires insn { insn ≡ insn_of_object points.now (point_at points.now n) }
+    ensures { result ≡ list_any (comes_into_site points.now (point_at points.now n)) (table_of_point points.now (point_at points.now n)) }
+{
+    one_enters(points.places(), n, points.table_by(n, insn.op))
+}
+
+/// Whether the call or jump with this operation at a point, which goes there, comes into a site.
+pub(crate) fn branch_enters(points: &FlowPoints<'_, '_, '_>, n: u32, op: Op, branch: Branch) -> bool
+    requires point { n < length (points_of_object points.now) }
+    requires to { branch.to ≡ destination_of points.now (point_at points.now n) }
+    requires way { branch.way ≡ direct_way points.now (point_at points.now n) op }
+    ensures { result ≡ list_any (comes_into_site points.now (point_at points.now n)) (places_by points.now (point_at points.now n) op) }
 {
     let places = points.places();
-    match insn.op {
+    match op {
         Op::Call { .. } => call_enters(places, n, branch.to),
-        Op::Jmp { .. } | Op::Jcc { .. } => jump_enters(places, n, branch),
-        Op::JmpInd { .. } => table_enters(places, n, points.table(n)),
+        Op::Jmp { .. } | Op::Jcc { .. } | Op::Hop => jump_enters(places, n, branch),
         _ => false,
     }
 }

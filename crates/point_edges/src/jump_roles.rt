@@ -9,7 +9,6 @@ use crate::Branch;
 use crate::flow_points::FlowPoints;
 use flow_defs::{Destination, Way};
 use machine_defs::Role;
-use object_points::PointPlaces;
 
 /// A jump by the way that it takes to a place, by a weak symbol or not.
 fn jump_by_way(way: Way, weak: Option<u32>) -> Role
@@ -23,21 +22,21 @@ fn jump_by_way(way: Way, weak: Option<u32>) -> Role
 }
 
 /// What the direct jump at a point is that goes there.
-pub(crate) fn jump_role(places: &PointPlaces<'_, '_, '_>, n: u32, branch: Branch) -> Role
-    requires point { n < length (points_of_object places.now) }
-    requires way { branch.way ≡ destination_way places.now (point_at places.now n) branch.to }
-    ensures { result ≡ jump_role_of places.now (point_at places.now n) branch.to }
+pub(crate) fn jump_role(points: &FlowPoints<'_, '_, '_>, n: u32, branch: Branch) -> Role
+    requires point { n < length (points_of_object points.now) }
+    requires way { branch.way ≡ destination_way points.now (point_at points.now n) branch.to }
+    ensures { result ≡ jump_role_of points.now (point_at points.now n) branch.to }
 {
     match branch.to {
         Destination::ToPlace { weak, .. } => jump_by_way(branch.way, weak),
         Destination::ToOwnPoint(_) | Destination::ToNowhere => Role::Plain,
         Destination::ToOutside(sym) => Role::JumpOut { sym },
-        Destination::ToIndirectThunk => Role::JumpAny,
+        Destination::ToIndirectThunk => indirect_role(points, n),
         Destination::ToReturnThunk => Role::Return,
     }
 }
 
-/// What the indirect jump at a point is.
+/// What the indirect jump at a point is, which may go by a thunk.
 pub(crate) fn indirect_role(points: &FlowPoints<'_, '_, '_>, n: u32) -> Role
     requires { n < length (points_of_object points.now) }
     ensures { result ≡ jump_by_table (table_of_point points.now (point_at points.now n)) }

@@ -1,7 +1,7 @@
 //! Points with what an object's lists say of their places.
 
 ghost use Rattle.std.specs.Prelude.{◌≡◌, ◌<◌, ◌||◌, length, All, IfOk};
-ghost use Rattle.flow_defs.specs.Arrival.{after as points_following, arrive as points_coming_to, decoded_insn, ends_at, insn_of_object, is_at_end as is_at_an_end, is_dead_end as is_a_dead_end, is_ud2 as is_an_ud2};
+ghost use Rattle.flow_defs.specs.Arrival.{after as points_following, around, arrive as points_coming_to, decoded_insn, ends_at, insn_of_object, is_at_end as is_at_an_end, is_dead_end as is_a_dead_end, is_ud2 as is_an_ud2};
 ghost use Rattle.special_sections.specs.Special.{special_of};
 ghost use Rattle.flow_defs.specs.Code.{point_at, points_of_object};
 ghost use Rattle.flow_defs.specs.Edges.{fixups as fixups_of, is_some_place, static_targets as static_targets_of};
@@ -10,9 +10,10 @@ ghost use Rattle.point_edges.specs.Straight.{goes_straight as goes_straight_on};
 
 use crate::arrive::arrive;
 use crate::behind::{after, end_of, is_at_end};
-use crate::iret::insn;
 use crate::low::points_are_low;
 use crate::pairs::{branch_pairs, fix_pairs, original_places};
+use crate::remade::insn;
+use crate::rooms::{list_rooms, makes_room};
 use crate::straight::goes_straight;
 use object_points::{PlaceMap, PlaceSet, PointPlaces};
 use operation_defs::{Insn, Op};
@@ -28,8 +29,11 @@ pub(crate) struct PointLists<'l, 'o, 'a> {
     originals: PlaceSet,
     reachable: PlaceSet,
     unreachable: PlaceSet,
+    intra_calls: PlaceSet,
     branches: PlaceMap,
     fixes: PlaceMap,
+    /// The owners that make room, ascending.
+    rooms: Vec<u32>,
 }
 
 impl<'l, 'o, 'a> Model for PointLists<'l, 'o, 'a> {
@@ -41,7 +45,7 @@ impl<'l, 'o, 'a> Model for PointLists<'l, 'o, 'a> {
 
     ghost view = { λ a. a.places };
 
-    ghost invariant = { λ a. AreLow a.places × AreListsOf a.places a.originals a.reachable a.unreachable a.branches a.fixes };
+    ghost invariant = { λ a. AreLow a.places × AreListsOf a.places a.originals a.reachable a.unreachable a.intra_calls a.branches a.fixes a.rooms.items };
 }
 
 impl<'l, 'o, 'a> PointLists<'l, 'o, 'a> {
@@ -58,15 +62,19 @@ impl<'l, 'o, 'a> PointLists<'l, 'o, 'a> {
         let originals = PlaceSet::build(alloc, originals.as_slice())?;
         let reachable = PlaceSet::build(alloc, special.after_reachable())?;
         let unreachable = PlaceSet::build(alloc, special.after_unreachable())?;
+        let intra_calls = PlaceSet::build(alloc, special.intra_calls())?;
         let branches = PlaceMap::build(alloc, branch_pairs(alloc, special.branches())?)?;
         let fixes = PlaceMap::build(alloc, fix_pairs(alloc, special.fixes())?)?;
+        let rooms = list_rooms(alloc, &places)?;
         Ok(PointLists {
             places,
             originals,
             reachable,
             unreachable,
+            intra_calls,
             branches,
             fixes,
+            rooms,
         })
     }
 
@@ -135,14 +143,29 @@ impl<'l, 'o, 'a> PointLists<'l, 'o, 'a> {
         self.unreachable.contains(end)
     }
 
-    /// The instruction of a point: as it is decoded, but for an IRET of a function that goes on right behind itself in
-    /// that function, which is an `IretNext`.
+    /// The instruction of a point: its length, and what the program makes of its decoded operation.
     #[inline(always)]
     pub(crate) fn insn(&self, alloc: Global, n: u32) -> Result<Insn, NoMemory>
         requires { n < length (points_of_object self.now) }
         ensures { IfOk result (λ insn. insn ≡ insn_of_object self.now (point_at self.now n)) }
     {
-        insn(alloc, &self.places, &self.originals, n)
+        insn(alloc, self, n)
+    }
+
+    /// Whether a place of `.discard.intra_function_calls` is that of a point, other than padding.
+    pub(crate) fn is_intra_call(&self, n: u32) -> bool
+        requires { n < length (points_of_object self.now) }
+        ensures { result ≡ (around self.now (point_at self.now n)).intra_call }
+    {
+        !self.places.is_padding(n) && self.intra_calls.contains(self.places.point(n).place)
+    }
+
+    /// Whether what owns a point makes room at one of its points. Code of no function makes none.
+    pub(crate) fn makes_room(&self, n: u32) -> bool
+        requires { n < length (points_of_object self.now) }
+        ensures { result ≡ (around self.now (point_at self.now n)).makes_room }
+    {
+        makes_room(&self.places, &self.rooms, n)
     }
 
     /// Where the static branches at a point lead, in the order of `__jump_table`; nowhere from padding.

@@ -5,7 +5,7 @@ ghost use Rattle.flow_defs.specs.Arrival.{insn_of_object, is_at_end as is_at_an_
 ghost use Rattle.flow_defs.specs.Code.{point_at, points_of_object};
 ghost use Rattle.flow_defs.specs.Edges.{goes_on as goes_on_of};
 ghost use Rattle.flow_defs.specs.Marks.{has_relocated_offset as has_relocated_offset_at, marks_of};
-ghost use Rattle.flow_defs.specs.Targets.{destination};
+ghost use Rattle.flow_defs.specs.Targets.{destination_of};
 ghost use Rattle.point_edges.specs.Jumps.{direct_way};
 
 use crate::Branch;
@@ -63,8 +63,8 @@ pub fn marks(
 ) -> Marks
     requires point { n < length (points_of_object points.now) }
     requires insn { insn ≡ insn_of_object points.now (point_at points.now n) }
-    requires to { branch.to ≡ destination points.now (point_at points.now n) insn }
-    requires way { branch.way ≡ direct_way points.now (point_at points.now n) insn insn.op }
+    requires to { branch.to ≡ destination_of points.now (point_at points.now n) }
+    requires way { branch.way ≡ direct_way points.now (point_at points.now n) insn.op }
     ensures { result ≡ marks_of points.now (point_at points.now n) comes_back }
 {
     Marks {

@@ -12,14 +12,14 @@ use operation_defs::{Insn, Op};
 use ot_base::NoMemory;
 use std::alloc::Global;
 
-/// Whether execution doesn't go on behind an operation: an unconditional or indirect jump, a return, or a way out of the
-/// code.
+/// Whether execution doesn't go on behind an operation: an unconditional or indirect jump, a call within a function, a
+/// return, or a way out of the code.
 fn ends_flow(op: Op) -> bool
     ensures { result ≡ ends_flow_by op }
 {
     matches!(
         op,
-        Op::Jmp { .. } | Op::JmpInd { .. } | Op::Ret | Op::RetImm | Op::Iret | Op::Switch
+        Op::Jmp { .. } | Op::JmpInd { .. } | Op::Hop | Op::Ret | Op::RetImm | Op::Iret | Op::Switch
     )
 }
 

@@ -21,6 +21,7 @@ fn has_stack_offset(op: Op) -> bool
         | Op::AndSp { .. }
         | Op::LeaSpBp { .. }
         | Op::LeaBpSp { .. }
+        | Op::LeaBpRoom { .. }
         | Op::StoreBp { .. }
         | Op::LoadBp { .. } => true,
         _ => false,

@@ -4,7 +4,7 @@ ghost use Rattle.std.specs.Prelude.{◌≡◌, ℕ, ◌<◌, length};
 ghost use Rattle.flow_defs.specs.Arrival.{insn_of_object};
 ghost use Rattle.flow_defs.specs.Code.{point_at, points_of_object};
 ghost use Rattle.flow_defs.specs.Roles.{role_by as role_by_op, role_of};
-ghost use Rattle.flow_defs.specs.Targets.{destination};
+ghost use Rattle.flow_defs.specs.Targets.{destination_of};
 ghost use Rattle.point_edges.specs.Jumps.{direct_way};
 
 use crate::Branch;
@@ -14,18 +14,17 @@ use crate::jump_roles::{indirect_role, jump_role};
 use machine_defs::Role;
 use operation_defs::{Insn, Op};
 
-/// What a point with this instruction is to its function, where its direct call or branch goes there.
-fn role_by(points: &FlowPoints<'_, '_, '_>, n: u32, insn: Insn, branch: Branch) -> Role
+/// What a point with this operation is to its function, where its direct call or branch goes there.
+fn role_by(points: &FlowPoints<'_, '_, '_>, n: u32, op: Op, branch: Branch) -> Role
     requires point { n < length (points_of_object points.now) }
-    requires to { branch.to ≡ destination points.now (point_at points.now n) insn }
-    requires way { branch.way ≡ direct_way points.now (point_at points.now n) insn insn.op }
-    ensures { result ≡ role_by_op points.now (point_at points.now n) insn insn.op }
+    requires to { branch.to ≡ destination_of points.now (point_at points.now n) }
+    requires way { branch.way ≡ direct_way points.now (point_at points.now n) op }
+    ensures { result ≡ role_by_op points.now (point_at points.now n) op }
 {
-    let places = points.places();
-    match insn.op {
-        Op::Call { .. } => call_role(places, n, insn, branch.to),
+    match op {
+        Op::Call { .. } => call_role(points.places(), n, branch.to),
         Op::CallInd => Role::CallAny,
-        Op::Jmp { .. } | Op::Jcc { .. } => jump_role(places, n, branch),
+        Op::Jmp { .. } | Op::Jcc { .. } => jump_role(points, n, branch),
         Op::JmpInd { .. } => indirect_role(points, n),
         Op::Ret | Op::RetImm => Role::Return,
         Op::Iret | Op::Switch => Role::Switch,
@@ -38,13 +37,13 @@ fn role_by(points: &FlowPoints<'_, '_, '_>, n: u32, insn: Insn, branch: Branch) 
 pub fn role(points: &FlowPoints<'_, '_, '_>, n: u32, insn: Insn, branch: Branch) -> Role
     requires point { n < length (points_of_object points.now) }
     requires insn { insn ≡ insn_of_object points.now (point_at points.now n) }
-    requires to { branch.to ≡ destination points.now (point_at points.now n) insn }
-    requires way { branch.way ≡ direct_way points.now (point_at points.now n) insn insn.op }
+    requires to { branch.to ≡ destination_of points.now (point_at points.now n) }
+    requires way { branch.way ≡ direct_way points.now (point_at points.now n) insn.op }
     ensures value { result ≡ role_of points.now (point_at points.now n) }
 
     // The entries that calls go to are points.
     ensures known { (entry : ℕ) → result ≡ Role.CallIn entry → entry < length (points_of_object points.now) }
     ensures known_by_weak { (entry sym : ℕ) → result ≡ Role.CallEither entry sym → entry < length (points_of_object points.now) }
 {
-    role_by(points, n, insn, branch)
+    role_by(points, n, insn.op, branch)
 }

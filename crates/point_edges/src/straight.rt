@@ -24,6 +24,7 @@ fn is_straight_op(op: Op) -> bool
     match op {
         Op::Call { .. }
         | Op::CallInd
+        | Op::Hop
         | Op::Jmp { .. }
         | Op::Jcc { .. }
         | Op::JmpInd { .. }

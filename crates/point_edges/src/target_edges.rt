@@ -6,14 +6,15 @@ ghost use Rattle.flow_defs.specs.Arrival.{insn_of_object};
 ghost use Rattle.flow_defs.specs.Code.{point_at, points_of_object};
 ghost use Rattle.flow_defs.specs.Edges.{fixups as fixups_of, static_targets as static_targets_of};
 ghost use Rattle.flow_defs.specs.Marks.{has_bad_target as has_a_bad_target, has_target_in_site as has_a_target_in_site, is_bad_listed as is_bad_among, listed_places};
+ghost use Rattle.flow_defs.specs.Roles.{table_of_point};
 ghost use Rattle.flow_defs.specs.Sites.{is_into_site as comes_into_site};
-ghost use Rattle.flow_defs.specs.Targets.{destination};
+ghost use Rattle.flow_defs.specs.Targets.{destination_of};
 ghost use Rattle.point_edges.specs.Jumps.{direct_way};
 
 use crate::Branch;
 use crate::bad_targets::{is_bad_branch, is_bad_listed};
 use crate::flow_points::FlowPoints;
-use crate::into_sites::{branch_enters, listed_enter};
+use crate::into_sites::{branch_enters, listed_enter, table_enters};
 use machine_defs::EdgeKind;
 use operation_defs::Insn;
 
@@ -37,11 +38,11 @@ pub(crate) fn has_bad_target(
 ) -> bool
     requires point { n < length (points_of_object points.now) }
     requires insn { insn ≡ insn_of_object points.now (point_at points.now n) }
-    requires to { branch.to ≡ destination points.now (point_at points.now n) insn }
-    requires way { branch.way ≡ direct_way points.now (point_at points.now n) insn insn.op }
+    requires to { branch.to ≡ destination_of points.now (point_at points.now n) }
+    requires way { branch.way ≡ direct_way points.now (point_at points.now n) insn.op }
     ensures { result ≡ has_a_bad_target points.now (point_at points.now n) }
 {
-    is_bad_branch(points, n, insn, branch) || has_bad_entry(points, n)
+    is_bad_branch(points, n, insn.op, branch) || has_bad_entry(points, n)
 }
 
 /// Whether a static branch or an exception entry at a point leads into a site.
@@ -55,6 +56,15 @@ fn has_entry_in_site(points: &FlowPoints<'_, '_, '_>, n: u32) -> bool
         || listed_enter(places, EdgeKind::Fixup, n, arrivals.fixups(n))
 }
 
+/// Whether the jump table of a point with this instruction, a static branch or an exception entry at it leads into a site.
+fn leads_into_site(points: &FlowPoints<'_, '_, '_>, n: u32, insn: Insn) -> bool
+    requires point { n < length (points_of_object points.now) }
+    requires insn { insn ≡ insn_of_object points.now (point_at points.now n) }
+    ensures { let point = point_at points.now n in result ≡ (list_any (comes_into_site points.now point) (table_of_point points.now point) || (list_any (comes_into_site points.now point) (listed_places points.now EdgeKind.Taken point (static_targets_of points.now point)) || list_any (comes_into_site points.now point) (listed_places points.now EdgeKind.Fixup point (fixups_of points.now point)))) }
+{
+    table_enters(points, n, insn) || has_entry_in_site(points, n)
+}
+
 /// Whether a target of a point with this instruction, whose direct call or branch goes there, lies in a site, past its start,
 /// and the point is none of that site's original code.
 pub(crate) fn has_target_in_site(
@@ -65,9 +75,9 @@ pub(crate) fn has_target_in_site(
 ) -> bool
     requires point { n < length (points_of_object points.now) }
     requires insn { insn ≡ insn_of_object points.now (point_at points.now n) }
-    requires to { branch.to ≡ destination points.now (point_at points.now n) insn }
-    requires way { branch.way ≡ direct_way points.now (point_at points.now n) insn insn.op }
+    requires to { branch.to ≡ destination_of points.now (point_at points.now n) }
+    requires way { branch.way ≡ direct_way points.now (point_at points.now n) insn.op }
     ensures { result ≡ has_a_target_in_site points.now (point_at points.now n) }
 {
-    branch_enters(points, n, insn, branch) || has_entry_in_site(points, n)
+    branch_enters(points, n, insn.op, branch) || leads_into_site(points, n, insn)
 }

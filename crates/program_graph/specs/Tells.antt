@@ -77,6 +77,7 @@ pub record TellsOwner (p : Program) (q : ℕ) (x : Owner) : Type 0 where
   pub function : p.function q ≡ x.function
   pub owner : p.owner q ≡ x.owner
   pub unchecked : p.unchecked q ≡ x.is_unchecked
+  pub in_patches : p.in_patches q ≡ x.in_patches
 
 abbrev pub insn_of : PointKind → Insn
 insn_of k = record { len = k.len; op = k.op }

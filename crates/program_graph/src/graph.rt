@@ -195,6 +195,14 @@ impl Graph {
         self.owner_of(n).is_unchecked
     }
 
+    /// Whether a point stands in a section to which control comes by patching alone.
+    pub fn in_patches(&self, n: u32) -> bool
+        requires { n < length self.now.parts.points.items }
+        ensures { (p : Program) → Tells p self.now.parts → result ≡ p.in_patches n }
+    {
+        self.owner_of(n).in_patches
+    }
+
     /// The plain point right before a plain point, in its section.
     pub fn previous(&self, n: u32) -> Option<u32>
         requires { n < length self.now.parts.points.items }

@@ -32,6 +32,8 @@ pub struct Owner {
     pub owner: Option<u32>,
     /// Whether the owner isn't checked.
     pub is_unchecked: bool,
+    /// Whether they stand in a section to which control comes by patching alone.
+    pub in_patches: bool,
 }
 
 /// What a point has of unwind hints, which has one or is meant by one.

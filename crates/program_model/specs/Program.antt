@@ -55,6 +55,7 @@ program_of p may_return = record {
   function = λ q. of_point p None (λ x. x.function) q;
   owner = λ q. of_point p None (λ x. x.owner) q;
   unchecked = λ q. of_point p false (λ x. x.is_unchecked) q;
+  in_patches = λ q. of_point p false (λ x. x.is_in_patches) q;
   previous = λ q. of_point p None (λ x. x.previous) q;
   hint = λ q. of_point p None (λ x. x.hint) q;
   save_of = λ q. of_point p None (λ x. x.save_of) q;

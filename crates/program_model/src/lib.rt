@@ -19,14 +19,16 @@ mod state_row;
 mod state_rules;
 mod table_rows;
 mod walks;
+mod ways;
 
 pub use address::{down, shifted, shifted_back, up};
 pub use kept::kept_states;
 pub use placement::{address_of, is_inside, point_address, return_address};
 pub use program::{ModelPoint, ModelSite, Program, TextSection};
 pub use region::{Region, Store};
-pub use returning::{may_leave, may_return};
+pub use returning::{is_call, is_listed, may_go_back, may_return, target_may_return};
 pub use rules::warnings;
 pub use state_row::StateRow;
 pub use table_rows::rows;
 pub use walks::{Walked, walk};
+pub use ways::{lead_to_hints, may_leave};

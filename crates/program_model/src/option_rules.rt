@@ -22,20 +22,21 @@ fn frame_warnings(warnings: &mut Vec<Warning>, p: &Program, kept: &Kept) -> Resu
     Ok(())
 }
 
-/// Whether a point is an instruction of a checked function that isn't reached.
+/// Whether a point is an instruction that isn't reached: of a checked function, or of no function where patching alone
+/// doesn't lead.
 fn is_unreached(p: &Program, kept: &Kept, q: u32) -> bool {
     let is_padding = |op| matches!(op, Op::Nop | Op::Int3 | Op::Ud2);
     p.point(q).is_some_and(|point| {
         point.variant == 0
-            && point.function.is_some()
             && !point.is_unchecked
+            && (point.owner.is_some() || !point.is_in_patches)
             && !is_padding(point.insn.op)
             && kept.state(q).is_none()
     })
 }
 
-/// Whether it is the first of some unreached ones: the instruction before it is of another function,
-/// or isn't one.
+/// Whether it is the first of some unreached ones: the instruction before it is of another function, or of one where it is
+/// of none, or is reached.
 fn is_first_unreached(p: &Program, kept: &Kept, q: u32) -> bool {
     let Some(point) = p.point(q) else {
         return false;

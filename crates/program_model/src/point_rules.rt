@@ -3,6 +3,7 @@
 use crate::kept::Kept;
 use crate::state_row::StateRow;
 use crate::state_rules::{iret_rule, return_rule, sibling_rule, switch_rule};
+use crate::ways::{is_free, lead_to_hints, may_leave};
 use crate::{ModelPoint, Program};
 use machine_defs::{Edge, EdgeKind, Role};
 use operation_defs::Op;
@@ -37,9 +38,11 @@ fn mark_warnings(
     let marks = point.marks;
     let is_followed = !matches!(state, State::Ended(_));
     let is_relocated = marks.relocated && is_followed;
+    // code of no function may run off where the stack has ended
+    let runs_off = marks.past_end && (point.owner.is_some() || is_followed);
     let marked = [
         (marks.bad, rules::BAD_BRANCH_TARGET),
-        (marks.past_end, rules::RUNS_OFF_SECTION),
+        (runs_off, rules::RUNS_OFF_SECTION),
         (marks.into_site, rules::JUMP_INTO_SITE),
         (marks.into_function, rules::CALL_INTO_FUNCTION),
         (is_relocated, rules::RELOCATED_STACK_OFFSET),
@@ -50,11 +53,6 @@ fn mark_warnings(
         }
     }
     Ok(())
-}
-
-/// Whether states come in along edges: neither Set nor RESTORE.
-fn is_free(hint: Option<HintState>) -> bool {
-    matches!(hint, None | Some(HintState::Save))
 }
 
 /// The warnings of rule 4: an edge to a place brings other states than the one that is kept there.
@@ -117,6 +115,11 @@ fn edge_warnings(
     Ok(())
 }
 
+/// The rule that a way out breaks, where code may leave whatever its stack is, or may not.
+fn broken_rule(rule: Option<u8>, may_leave: bool) -> Option<u8> {
+    rule.filter(|rule| *rule != rules::EXIT_NOT_ALLOWED || !may_leave)
+}
+
 /// The warning of a point that leaves its function by this rule, which tells the depth of a modified stack.
 fn leaving_warning(place: Place, rule: u8, state: State) -> Warning {
     if rule == rules::EXIT_NOT_ALLOWED {
@@ -131,9 +134,10 @@ fn return_warnings(
     warnings: &mut Vec<Warning>,
     point: &ModelPoint,
     state: State,
+    may_leave: bool,
 ) -> Result<(), AllocError> {
     let drops_bytes = point.insn.op == Op::RetImm;
-    let broken = match return_rule(state) {
+    let broken = match broken_rule(return_rule(state), may_leave) {
         None if drops_bytes => Some(rules::MODIFIED_RETURN),
         rule => rule,
     };
@@ -167,22 +171,27 @@ fn sibling_warnings(
     kept: &Kept,
     point: &ModelPoint,
     state: State,
+    may_leave: bool,
 ) -> Result<(), AllocError> {
-    if let (true, Some(rule)) = (leaves_by_jump(alloc, p, kept, point)?, sibling_rule(state)) {
+    let broken = broken_rule(sibling_rule(state), may_leave);
+    if let (true, Some(rule)) = (leaves_by_jump(alloc, p, kept, point)?, broken) {
         warnings.push(leaving_warning(point.place, rule, state))?;
     }
     Ok(())
 }
 
 /// The warnings of an operation in its state: 7 to 11, where it is refused or an offset doesn't fit, and
-/// 15, where it leaves the code and isn't allowed to.
+/// 15, where it leaves the code and isn't allowed to. rsp may be written in any way right before a hint.
 fn operation_warnings(
     warnings: &mut Vec<Warning>,
     point: &ModelPoint,
     state: State,
+    is_before_hint: bool,
 ) -> Result<(), AllocError> {
     if let Err(rule) = step(state, point.insn.op) {
-        warnings.push(Warning::bare(point.place, rule))?;
+        if rule != rules::UNSUPPORTED_SP_WRITE || !is_before_hint {
+            warnings.push(Warning::bare(point.place, rule))?;
+        }
     }
     if let Some(offset) = StateRow::of(state).unfit_offset() {
         let offset = i64::try_from(offset).unwrap_or(i64::MAX);
@@ -205,12 +214,15 @@ pub fn point_warnings(
     alloc: Global,
     p: &Program,
     kept: &Kept,
-    point: &ModelPoint,
+    (q, point): (u32, &ModelPoint),
     state: State,
 ) -> Result<(), AllocError> {
+    let may_leave = may_leave(p, q);
+    let edges = kept.edges_of(alloc, p, point)?;
+    let is_before_hint = lead_to_hints(p, edges.as_slice());
     mark_warnings(warnings, point, state)?;
     edge_warnings(warnings, alloc, p, kept, point, state)?;
-    return_warnings(warnings, point, state)?;
-    sibling_warnings(warnings, alloc, p, kept, point, state)?;
-    operation_warnings(warnings, point, state)
+    return_warnings(warnings, point, state, may_leave)?;
+    sibling_warnings(warnings, alloc, p, kept, point, state, may_leave)?;
+    operation_warnings(warnings, point, state, is_before_hint)
 }

@@ -49,6 +49,8 @@ pub struct ModelPoint {
     pub owner: Option<u32>,
     /// Whether its function isn't checked.
     pub is_unchecked: bool,
+    /// Whether control comes to its section by patching alone.
+    pub is_in_patches: bool,
     /// The plain point right before a plain point, in its section.
     pub previous: Option<u32>,
     /// The unwind hint at its place.
@@ -155,6 +157,36 @@ impl Program {
                 len: 0,
                 op: Op::Nop,
             },
+        }
+    }
+
+    /// The function of a point.
+    pub fn function(&self, q: u32) -> Option<u32>
+        ensures { result ≡ of_point self.now None (λ x. x.function) q }
+    {
+        match self.point(q) {
+            Some(point) => point.function,
+            None => None,
+        }
+    }
+
+    /// The owner of a point.
+    pub fn owner(&self, q: u32) -> Option<u32>
+        ensures { result ≡ of_point self.now None (λ x. x.owner) q }
+    {
+        match self.point(q) {
+            Some(point) => point.owner,
+            None => None,
+        }
+    }
+
+    /// The hint at a point.
+    pub fn hint(&self, q: u32) -> Option<HintState>
+        ensures { result ≡ of_point self.now None (λ x. x.hint) q }
+    {
+        match self.point(q) {
+            Some(point) => point.hint,
+            None => None,
         }
     }
 

@@ -1,7 +1,9 @@
 //! From which points on a return may come: the least such set, found by rounds.
 
 ghost use Rattle.std.specs.Prelude.{◌≡◌, List, Bool};
-ghost use Rattle.machine_defs.specs.Step.{may_leave};
+ghost use Rattle.machine_defs.specs.Program.{is_call};
+ghost use Rattle.machine_defs.specs.MayReturn.{is_listed, is_listed_function};
+ghost use Rattle.machine_defs.specs.Step.{may_go_back};
 ghost use Rattle.program_model.specs.Program.{program_of};
 
 use crate::{ModelPoint, Program};
@@ -9,7 +11,9 @@ use machine_defs::{EdgeKind, Role};
 use std::alloc::{AllocError, Global};
 
 /// Whether a role is that of a call.
-fn is_call(role: Role) -> bool {
+pub fn is_call(role: Role) -> bool
+    ensures { result ≡ is_call role }
+{
     match role {
         Role::CallIn { .. } | Role::CallEither { .. } | Role::CallOut { .. } | Role::CallAny => {
             true
@@ -33,19 +37,44 @@ fn enters_set(p: &Program, set: &[bool], entry: u32) -> bool {
     false
 }
 
-/// Whether the target of a call that isn't a dead end may return.
-fn target_returns(p: &Program, set: &[bool], role: Role) -> bool {
+/// Whether the name of a function is listed as one that never returns.
+fn is_listed_function(p: &Program, function: Option<u32>) -> bool
+    ensures { (set : List Bool) → result ≡ is_listed_function (program_of p.now set) function }
+{
+    match function {
+        Some(function) => p.never_returns(function),
+        None => false,
+    }
+}
+
+/// Whether a call is listed: the name of its symbol, or of the function whose start is its entry, is listed as one that
+/// never returns. What isn't a call isn't listed.
+pub fn is_listed(p: &Program, role: Role) -> bool
+    ensures { (set : List Bool) → result ≡ is_listed (program_of p.now set) role }
+{
     match role {
-        Role::CallIn { entry } => enters_set(p, set, entry),
-        Role::CallOut { sym } => !p.never_returns(sym),
-        Role::CallEither { .. } | Role::CallAny => true,
+        Role::CallIn { entry } => is_listed_function(p, p.function(entry)),
+        Role::CallEither { entry, sym } => {
+            p.never_returns(sym) || is_listed_function(p, p.function(entry))
+        }
+        Role::CallOut { sym } => p.never_returns(sym),
         _ => false,
     }
 }
 
+/// Whether the target of a call may return: the call isn't listed, and a return may come from the code that it goes to.
+/// What isn't a call passes.
+pub fn target_may_return(p: &Program, set: &[bool], role: Role) -> bool {
+    let may_code_return = match role {
+        Role::CallIn { entry } => enters_set(p, set, entry),
+        _ => true,
+    };
+    !is_listed(p, role) && may_code_return
+}
+
 /// Whether a point may leave its function: by a return, or by a jump to code outside that returns.
-pub fn may_leave(p: &Program, role: Role) -> bool
-    ensures { (set : List Bool) → result ≡ may_leave (program_of p.now set) role }
+pub fn may_go_back(p: &Program, role: Role) -> bool
+    ensures { (set : List Bool) → result ≡ may_go_back (program_of p.now set) role }
 {
     match role {
         Role::Return | Role::JumpAny => true,
@@ -56,7 +85,7 @@ pub fn may_leave(p: &Program, role: Role) -> bool
 
 /// Whether a point belongs to the set because of those that are in it.
 fn joins(p: &Program, set: &[bool], point: &ModelPoint) -> bool {
-    if may_leave(p, point.role) {
+    if may_go_back(p, point.role) {
         return true;
     }
     let is_call = is_call(point.role);
@@ -69,7 +98,7 @@ fn joins(p: &Program, set: &[bool], point: &ModelPoint) -> bool {
             comes_back = true;
         }
     }
-    comes_back && !point.is_dead_end && target_returns(p, set, point.role)
+    comes_back && !point.is_dead_end && target_may_return(p, set, point.role)
 }
 
 /// The set after another round.
@@ -91,13 +120,4 @@ pub fn may_return(alloc: Global, p: &Program) -> Result<Vec<bool>, AllocError> {
         set = another_round(alloc, p, set.as_slice())?;
     }
     Ok(set)
-}
-
-/// Whether the target of a call may return; what isn't a call passes.
-pub fn target_may_return(p: &Program, set: &[bool], role: Role) -> bool {
-    match role {
-        Role::CallIn { entry } => enters_set(p, set, entry),
-        Role::CallOut { sym } => !p.never_returns(sym),
-        _ => true,
-    }
 }

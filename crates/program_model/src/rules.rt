@@ -34,7 +34,7 @@ fn stack_warnings(
 ) -> Result<(), AllocError> {
     for q in 0..p.count() {
         if let (Some(point), Some(state)) = (p.point(q), kept.state(q)) {
-            point_warnings(warnings, alloc, p, kept, point, state)?;
+            point_warnings(warnings, alloc, p, kept, (q, point), state)?;
         }
     }
     site_warnings(warnings, p, kept)?;

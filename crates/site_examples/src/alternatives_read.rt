@@ -16,6 +16,7 @@ use std::test::Fail;
 use x86_text::{InsnList, Map, Text, TextFault};
 
 mod faults;
+mod nested;
 mod points;
 mod worked;
 

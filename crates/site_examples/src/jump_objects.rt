@@ -1,14 +1,19 @@
 //! Small objects in memory.
 
-ghost use Rattle.std.specs.Prelude.{◌≤◌, IfOk, length};
-ghost use Rattle.alternatives.specs.Texts.{AscendBySection};
+ghost use Rattle.std.specs.Prelude.{◌≡◌, ◌+◌, ◌≤◌, [], IfOk, length};
+ghost use Rattle.alternatives.specs.Gathered.{plain_insns};
+ghost use Rattle.alternatives.specs.Texts.{text_bytes, AscendBySection};
 
+use alternatives::Sites;
 use demo_objects::{RelSpec, Spec, SymSpec, build};
 use elf_objects::{Home, Reloc, SHF_ALLOC, SHF_EXECINSTR, SHT_PROGBITS};
 use elf_write::NewSection;
 use jump_tables::{JumpTables, SectionText};
 use ot_base::NoMemory;
+use special_sections::Special;
 use std::alloc::Global;
+use std::process::Abort;
+use std::test::Fail;
 use symbols_relocs::Index;
 use x86_text::{InsnList, Map, Text, TextFault};
 
@@ -95,35 +100,41 @@ pub fn object(
     build(alloc, &spec)
 }
 
-/// The texts of sections 1 and 3.
+/// The texts of sections 1 and 3, whose instructions are added to an empty list.
 fn texts<'a>(
     alloc: Global,
     code: &'a [u8],
     replacements: &'a [u8],
+    insns: &mut InsnList,
 ) -> Result<Vec<SectionText<'a>>, TextFault>
-    requires code { length code.now ≤ 16777216 }
-    requires replacements { length replacements.now ≤ 16777216 }
-    ensures { IfOk result (λ texts. AscendBySection texts.items) }
+    requires short { length code.now + length replacements.now ≤ 16777216 }
+    requires none { insns.now ≡ [] }
+    ensures ascending { IfOk result (λ texts. AscendBySection texts.items) }
+    ensures bytes { IfOk result (λ texts. text_bytes texts.items ≤ 16777216) }
+    ensures insns { IfOk result (λ texts. insns.new ≡ plain_insns texts.items) }
 {
-    let mut insns = InsnList::new(alloc)?;
-    let one = Text::read(alloc, Map::Base, code, &mut insns)?;
-    let two = Text::read(alloc, Map::Base, replacements, &mut insns)?;
+    let one = Text::read(alloc, Map::Base, code, insns)?;
+    let two = Text::read(alloc, Map::Base, replacements, insns)?;
     let mut texts = Vec::new(alloc);
     texts.push(SectionText { sec: 1, text: one })?;
     texts.push(SectionText { sec: 3, text: two })?;
     Ok(texts)
 }
 
-/// The tables of the jumps in sections 1 and 3.
+/// The tables of the jumps in sections 1 and 3 of an object.
 pub fn tables(
+    rt: &impl Abort,
     alloc: Global,
     index: &Index<'_, '_>,
     code: &[u8],
     replacements: &[u8],
-) -> Result<Result<JumpTables, NoMemory>, TextFault>
-    requires code { length code.now ≤ 16777216 }
-    requires replacements { length replacements.now ≤ 16777216 }
+) -> Result<JumpTables, Fail>
+    requires { length code.now + length replacements.now ≤ 16777216 }
 {
-    let texts = texts(alloc, code, replacements)?;
-    Ok(JumpTables::build(alloc, index, texts.as_slice()))
+    let mut insns = InsnList::new(alloc)?;
+    let texts = texts(alloc, code, replacements, &mut insns)?;
+    let special = Special::read(alloc, index.object()).expect(rt, "entries");
+    assert!(rt; special.alternatives().len() <= 8388608);
+    let sites = Sites::build(alloc, &special, texts.as_slice(), insns).expect(rt, "sites");
+    Ok(JumpTables::build(alloc, index, texts.as_slice(), &sites)?)
 }

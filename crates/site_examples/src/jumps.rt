@@ -1,6 +1,7 @@
 //! The entries of tables.
 
 use crate::jump_objects::{Field, Row, object, tables};
+use alternatives::Point;
 use elf_objects::{Object, STB_GLOBAL, STB_LOCAL, STT_FUNC, STT_SECTION};
 use ot_base::Place;
 use std::alloc::Global;
@@ -9,6 +10,7 @@ use std::test::Fail;
 use symbols_relocs::Index;
 
 mod entries;
+mod registers;
 mod worked;
 
 /// What a jump has: its section, its offset, the symbol of the owner that asks, and the offsets in section
@@ -52,14 +54,16 @@ fn expect_tables(
     assert!(rt; bytes.len() < 1 << 32);
     let parsed = Object::parse(alloc, &bytes).expect(rt, "an object");
     let index = Index::build(alloc, &parsed).expect(rt, "functions");
-    let tables = tables(alloc, &index, base.code, base.replacements).expect(rt, "instructions")?;
+    let tables = tables(rt, alloc, &index, base.code, base.replacements)?;
     for (sec, off, owner, offsets) in *asks {
         let place = Place {
             sec: *sec,
             off: *off,
         };
+        let variant = 0;
+        let point = Point { place, variant };
         assert!(rt;
-            are_offsets(tables.of(place, *owner), offsets),
+            are_offsets(tables.of(point, *owner), offsets),
             "at {sec}:{off}"
         );
     }

@@ -1,5 +1,6 @@
 -- Of the alternatives of an object without a fault each has two relocations of its own.
 use Rattle.std.proofs.Common.{◌≡◌, ℕ, ◌+◌, ◌*◌, ◌<◌, ◌≤◌, ◌||◌, Bool, true, false, List, [], length, None, refl, arith}
+use Rattle.std.proofs.lemmas.List.{length-map}
 use Rattle.std.proofs.lemmas.List.FromFn.{length-map-range_with_len}
 use Rattle.elf_objects.specs.Contents.{relocs_at}
 use Rattle.elf_objects.specs.Elf.{Elf}
@@ -7,6 +8,8 @@ use Rattle.elf_objects.specs.Object.{IsObject}
 use Rattle.symbols_relocs.specs.Relocs.{at_offset, is_pointer_kind}
 use Rattle.special_sections.specs.Fields.{field_at, lacks_reloc}
 use Rattle.special_sections.specs.Kinds.{entries, faults, section_entries}
+use Rattle.special_sections.specs.Nested.{nested, with_longest}
+use Rattle.special_sections.specs.Special.{special_of}
 use Rattle.special_sections.specs.Tables.{alternatives, alternative_why_from, table_count}
 use Rattle.special_sections.proofs.Counted.{two_each}
 use Rattle.special_sections.proofs.Unfaulted.{HasRoom, few_entries, first_false, not_refused, some_found}
@@ -29,6 +32,8 @@ two_places o sec none =
     let many : length (section_entries alternatives o sec) ≡ table_count 14 o sec = length-map-range_with_len (alternatives.entry o sec) 0 (table_count 14 o sec) in
     omega arith
 
-pub alternatives_few : (b : List ℕ) (o : Elf) → IsObject b o → faults alternatives o ≡ [] → 48 * length (entries alternatives o) ≤ length b
+pub alternatives_few : (b : List ℕ) (o : Elf) → IsObject b o → faults alternatives o ≡ [] → 48 * length (special_of o).alternatives ≤ length b
+unfolding nested
 alternatives_few b o object none =
-    few_entries (λ n. 48 * n) (record { none = refl; adds = λ m n. omega arith }) alternatives b o object (two_places o) none
+    let few : 48 * length (entries alternatives o) ≤ length b = few_entries (λ n. 48 * n) (record { none = refl; adds = λ m n. omega arith }) alternatives b o object (two_places o) none in
+    omega (arith, few, length-map (entries alternatives o) (with_longest (entries alternatives o)))

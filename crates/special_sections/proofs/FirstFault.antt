@@ -37,7 +37,7 @@ none_in_both front rest none others = ap (λ fs. fs ++ rest) none ∙ others
 
 -- the faults of the lists of places, in order
 abbrev pub list_faults : Elf → List SpecialFault
-list_faults o = faults lists.after_reachable o ++ (faults lists.after_unreachable o ++ (faults lists.unchecked o ++ faults lists.safe_branches o))
+list_faults o = faults lists.after_reachable o ++ (faults lists.after_unreachable o ++ (faults lists.unchecked o ++ (faults lists.safe_branches o ++ faults lists.intra_calls o)))
 
 -- the first of these is the first of all, where the tables have none
 pub tells_behind_tables : (o : Elf) (told : SpecialFault) → HasRightTables o → TellsFirst (list_faults o) told → TellsFirst (special_faults o) told

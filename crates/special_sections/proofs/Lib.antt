@@ -8,3 +8,5 @@ pub mod Unfaulted
 mod Few
 mod Order
 mod Finding
+mod Nesting
+pub mod Written

@@ -2,7 +2,7 @@
 use Rattle.std.specs.Prelude.{ℕ, List, ◌++◌, codes}
 use Rattle.std.specs.Fmt.{decimal}
 use Rattle.special_sections.specs.declared.fault.Why.{Why}
-use Rattle.special_sections.specs.declared.fault.Why.TheVariants.{Compressed, Size, NoReloc, NotText, Length, HintType, HintBase, HintOffset, HintSignal, Repeated}
+use Rattle.special_sections.specs.declared.fault.Why.TheVariants.{Compressed, Size, NoReloc, NotText, Length, HintType, HintBase, HintOffset, HintSignal}
 use Rattle.special_sections.specs.declared.fault.SpecialFault.{SpecialFault}
 use Rattle.special_sections.specs.declared.fault.SpecialFault.TheVariants.{At, NoMemory}
 
@@ -16,7 +16,6 @@ why_text HintType = codes "HintType"
 why_text HintBase = codes "HintBase"
 why_text HintOffset = codes "HintOffset"
 why_text HintSignal = codes "HintSignal"
-why_text Repeated = codes "Repeated"
 
 abbrev pub fault_text : SpecialFault → List ℕ
 fault_text (At sec entry why) = codes "section " ++ decimal sec ++ codes ": entry " ++ decimal entry ++ codes ": " ++ why_text why

@@ -1,5 +1,5 @@
 -- What the unwind hints of an object do to the state of the stack (Linux 6.6, orc_types.h and objtool_types.h).
-use Rattle.std.specs.Prelude.{ℤ, ◌==◌, true, false, List, find, Option, Some, None, option_and_then, if◌then◌else◌}
+use Rattle.std.specs.Prelude.{ℤ, ◌==◌, true, false, List, find, reverse, Option, Some, None, option_and_then, if◌then◌else◌}
 use Rattle.ot_base.specs.declared.place.Place.{Place}
 use Rattle.ot_base.specs.Places.{same_place}
 use Rattle.special_sections.specs.declared.entries.HintEntry.{HintEntry}
@@ -29,10 +29,10 @@ hint_state h =
     else if h.kind == 7 then Some Restore
     else None
 
--- the first hint at a place
-abbrev pub first_hint_at : List HintEntry → Place → Option HintEntry
-first_hint_at hints place = find (λ h. same_place h.place place) hints
+-- The hint at a place: of several there the last one, sections ascending and the entries of each in their order.
+abbrev pub last_hint_at : List HintEntry → Place → Option HintEntry
+last_hint_at hints place = find (λ h. same_place h.place place) (reverse hints)
 
 -- what it does
 abbrev pub hint_at : List HintEntry → Place → Option HintState
-hint_at hints place = option_and_then hint_state (first_hint_at hints place)
+hint_at hints place = option_and_then hint_state (last_hint_at hints place)

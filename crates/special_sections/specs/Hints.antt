@@ -1,21 +1,18 @@
 -- The entries of `.discard.unwind_hints` (Linux 6.6, `struct unwind_hint` of objtool_types.h; the types are those of
 -- orc_types.h and objtool_types.h).
-use Rattle.std.specs.Prelude.{ℕ, ◌+◌, ◌*◌, ◌==◌, ◌||◌, ◌&&◌, not, nat_lt, Bool, List, [], ◌∷◌, ◌++◌, Option, map, flat_map, slice_index, int_lt, pos, codes}
-use Rattle.std.specs.List.{range_with_len, list_any}
+use Rattle.std.specs.Prelude.{ℕ, ◌+◌, ◌*◌, ◌==◌, ◌||◌, ◌&&◌, not, nat_lt, Bool, [], ◌∷◌, Option, slice_index, int_lt, pos, codes}
 use Rattle.std.specs.Int.{cast_signed, w16}
-use Rattle.ot_base.specs.declared.place.Place.{Place}
-use Rattle.ot_base.specs.Places.{same_place}
 use Rattle.elf_objects.specs.Elf.{Elf}
 use Rattle.elf_objects.specs.Contents.{section_at}
 use Rattle.elf_objects.specs.Number.{half}
 use Rattle.symbols_relocs.specs.NamedPlaces.{place_held_at}
 use Rattle.special_sections.specs.declared.entries.HintEntry.{HintEntry}
 use Rattle.special_sections.specs.declared.fault.Why.{Why}
-use Rattle.special_sections.specs.declared.fault.Why.TheVariants.{NoReloc, NotText, HintType, HintBase, HintOffset, HintSignal, Repeated}
+use Rattle.special_sections.specs.declared.fault.Why.TheVariants.{NoReloc, NotText, HintType, HintBase, HintOffset, HintSignal}
 use Rattle.special_sections.specs.Reasons.{first_reason}
 use Rattle.special_sections.specs.declared.fields.Bound.TheVariants.{BelowEnd}
 use Rattle.special_sections.specs.Fields.{field_at, or_nowhere, lacks_reloc, holds_text_place, table_why}
-use Rattle.special_sections.specs.Kinds.{EntryKind, named_below}
+use Rattle.special_sections.specs.Kinds.{EntryKind}
 use Rattle.special_sections.specs.Tables.{table_count}
 
 -- 12 bytes: place u32, sp_offset s16, sp_reg u8, type u8, signal u8, and three bytes that are not read
@@ -48,42 +45,22 @@ has_bad_offset h = ((h.kind == 2) && int_lt h.sp_offset (pos 8)) || (has_regs h.
 abbrev pub has_bad_signal : ℕ → ℕ → Bool
 has_bad_signal kind signal = (((kind == 2) || (kind == 5)) && not (signal == 0)) || (has_regs kind && not (signal == 1))
 
-abbrev pub hint_name : List ℕ
-hint_name = codes ".discard.unwind_hints"
-
--- the hints of the first entries of a section
-abbrev pub hints_to : Elf → ℕ → ℕ → List HintEntry
-hints_to o sec n = map (hint_entry o sec) (range_with_len 0 n)
-
--- those of the sections of hints before a section
-abbrev pub hints_before : Elf → ℕ → List HintEntry
-hints_before o sec = flat_map (λ s. hints_to o s (table_count 12 o s)) (named_below o hint_name sec)
-
--- one of some hints stands at a place
-abbrev pub has_hint : List HintEntry → Place → Bool
-has_hint hints place = list_any (λ h. same_place h.place place) hints
-
--- a hint before the entry stands at its place
-abbrev pub is_repeated : Elf → ℕ → ℕ → Bool
-is_repeated o sec e = has_hint (hints_before o sec ++ hints_to o sec e) (hint_entry o sec e).place
-
--- why an entry is refused, where it is told whether its hint is a second one at its place
-abbrev pub hint_why_from : Elf → ℕ → ℕ → Bool → Option Why
-hint_why_from o sec at repeated = let field = field_at sec at in let h = hint_from o sec at in first_reason
+-- why an entry is refused; several may stand at one place
+abbrev pub hint_why_from : Elf → ℕ → ℕ → Option Why
+hint_why_from o sec at = let field = field_at sec at in let h = hint_from o sec at in first_reason
     ((lacks_reloc o field, NoReloc)
     ∷ (not (holds_text_place o BelowEnd field), NotText)
     ∷ (nat_lt 7 h.kind, HintType)
     ∷ (has_other_base h, HintBase)
     ∷ (has_bad_offset h, HintOffset)
     ∷ (has_bad_signal h.kind (slice_index (section_at o sec).body (at + 8)), HintSignal)
-    ∷ (repeated, Repeated)
     ∷ [])
 
 abbrev pub hints : EntryKind HintEntry
 hints = record {
-  name = hint_name;
+  name = codes ".discard.unwind_hints";
   count = table_count 12;
   section_why = table_why 12;
   entry = hint_entry;
-  why = λ o sec e. hint_why_from o sec (12 * e) (is_repeated o sec e);
+  why = λ o sec e. hint_why_from o sec (12 * e);
 }

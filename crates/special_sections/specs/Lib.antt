@@ -2,8 +2,9 @@ pub mod Reasons
 pub mod Kinds
 pub mod Fields
 pub mod Tables
+pub mod Nested
+pub mod Longest
 pub mod Hints
-pub mod HintPlaces
 pub mod PlaceLists
 pub mod Special
 pub mod FaultText

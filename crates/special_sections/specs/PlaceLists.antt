@@ -58,3 +58,7 @@ unchecked = places (codes ".discard.func_stack_frame_non_standard") Anywhere
 -- the indirect branches and returns that may stay as they are
 abbrev pub safe_branches : EntryKind Place
 safe_branches = places (codes ".discard.retpoline_safe") InText
+
+-- the calls by which a function only pushes an address: they lead to code of its own, and no frame is made of them
+abbrev pub intra_calls : EntryKind Place
+intra_calls = places (codes ".discard.intra_function_calls") InText

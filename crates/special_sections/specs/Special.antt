@@ -10,6 +10,7 @@ use Rattle.special_sections.specs.declared.fault.SpecialFault.{SpecialFault}
 use Rattle.special_sections.specs.declared.fields.Bound.TheVariants.{BelowEnd}
 use Rattle.special_sections.specs.Fields.{is_text_place}
 use Rattle.special_sections.specs.Kinds.{entries, faults}
+use Rattle.special_sections.specs.Nested.{nested}
 use Rattle.special_sections.specs.Tables as tables
 use Rattle.special_sections.specs.Hints as hint
 use Rattle.special_sections.specs.PlaceLists as lists
@@ -24,11 +25,13 @@ pub record SpecialEntries : Type 0 where
   pub after_unreachable : List Place
   pub unchecked : List Place
   pub safe_branches : List Place
+  pub intra_calls : List Place
 
--- what the special sections of an object say; a place of the unchecked list that is not in a text section is passed by
+-- What the special sections of an object say. Alternatives at one place are nested in one another; a place of the unchecked
+-- list that is not in a text section is passed by.
 abbrev pub special_of : Elf → SpecialEntries
 special_of o = record {
-  alternatives = entries tables.alternatives o;
+  alternatives = nested (entries tables.alternatives o);
   branches = entries tables.branches o;
   fixes = entries tables.fixes o;
   hints = entries hint.hints o;
@@ -36,9 +39,10 @@ special_of o = record {
   after_unreachable = entries lists.after_unreachable o;
   unchecked = filter (is_text_place o BelowEnd) (entries lists.unchecked o);
   safe_branches = entries lists.safe_branches o;
+  intra_calls = entries lists.intra_calls o;
 }
 
--- their faults, in order
+-- their faults, in order; entries are judged as they are written
 abbrev pub special_faults : Elf → List SpecialFault
 special_faults o =
     faults tables.alternatives o
@@ -48,4 +52,5 @@ special_faults o =
     ++ (faults lists.after_reachable o
     ++ (faults lists.after_unreachable o
     ++ (faults lists.unchecked o
-    ++ faults lists.safe_branches o))))))
+    ++ (faults lists.safe_branches o
+    ++ faults lists.intra_calls o)))))))

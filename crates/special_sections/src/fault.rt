@@ -28,8 +28,6 @@ pub enum Why {
     HintOffset,
     /// The signal byte of a hint isn't that of its type.
     HintSignal,
-    /// A hint stands at the place of one before it.
-    Repeated,
 }
 
 /// Why the special sections of an object are not read.
@@ -55,7 +53,6 @@ fn name(why: Why) -> &'static str
         Why::HintBase => "HintBase",
         Why::HintOffset => "HintOffset",
         Why::HintSignal => "HintSignal",
-        Why::Repeated => "Repeated",
     }
 }
 

@@ -1,25 +1,19 @@
 //! Unwind hints.
 
-ghost use Rattle.std.specs.Prelude.{◌≡◌, ◌<◌, ◌++◌, [], ◌∷◌, ◌*◌, length, IfOk, IfErr, OnOk};
-ghost use Rattle.special_sections.specs.HintPlaces.{ArePlacesOf};
-ghost use Rattle.special_sections.specs.Hints.{has_bad_offset, has_bad_signal, has_other_base, has_regs, hint_entry, hint_why_from, hints, hints_before};
-ghost use Rattle.special_sections.specs.Kinds.{entries, entry_faults, faults, section_entries, section_faults};
-ghost use Rattle.special_sections.specs.Reasons.{TellsFirst};
+ghost use Rattle.std.specs.Prelude.{◌≡◌, ◌<◌, ◌*◌};
+ghost use Rattle.special_sections.specs.Hints.{has_bad_offset, has_bad_signal, has_other_base, has_regs, hint_entry, hint_why_from};
 ghost use Rattle.special_sections.specs.Tables.{table_count};
 
 use crate::entries::HintEntry;
-use crate::fault::{SpecialFault, Why};
+use crate::fault::Why;
 use crate::fields::Bound;
+use crate::format::Format;
 use crate::hint_type::{CALL, FUNC, REGS, REGS_PARTIAL, RESTORE};
-use crate::read::is_named;
 use crate::section::EntrySection;
-use elf_objects::Object;
-use ot_base::Place;
-use std::alloc::Global;
-use std::collections::BTreeSet;
 
-/// The name of the sections of hints.
-const NAME: &[u8] = b".discard.unwind_hints";
+/// `.discard.unwind_hints`: 12 bytes each.
+#[derive(Clone, Copy)]
+pub(crate) struct UnwindHints;
 
 /// Bytes of an entry.
 const SIZE: usize = 12;
@@ -70,11 +64,11 @@ fn hint_of(section: &EntrySection<'_, '_>, e: u32) -> HintEntry
     }
 }
 
-/// Why an entry is refused, where it is told whether its hint is a second one at its place.
-fn hint_why(section: &EntrySection<'_, '_>, e: u32, hint: &HintEntry, repeated: bool) -> Option<Why>
+/// Why an entry with this hint is refused.
+fn hint_why(section: &EntrySection<'_, '_>, e: u32, hint: &HintEntry) -> Option<Why>
     requires inside { e < table_count 12 section.now.object.now section.now.sec }
     requires hint { hint.now ≡ hint_entry section.now.object.now section.now.sec e }
-    ensures { result ≡ hint_why_from section.now.object.now section.now.sec (12 * e) repeated }
+    ensures { result ≡ hint_why_from section.now.object.now section.now.sec (12 * e) }
 {
     let at = SIZE * e as usize;
     if section.lacks_reloc(at as u64) {
@@ -95,88 +89,33 @@ fn hint_why(section: &EntrySection<'_, '_>, e: u32, hint: &HintEntry, repeated: 
     if is_wrong_signal(hint.kind, section.byte(at + 8)) {
         return Some(Why::HintSignal);
     }
-    if repeated {
-        return Some(Why::Repeated);
-    }
     None
 }
 
-/// Adds a hint and its place.
-fn add_hint(
-    into: &mut Vec<HintEntry>,
-    places: &mut BTreeSet<Place>,
-    hint: HintEntry,
-) -> Result<(), SpecialFault>
-    requires { ArePlacesOf into.old.items places.old }
-    ensures ok { OnOk result (into.new.items ≡ into.old.items ++ hint ∷ []) }
-    ensures places { OnOk result (ArePlacesOf into.new.items places.new) }
-    ensures err { IfErr result (λ e. e ≡ SpecialFault.NoMemory) }
-{
-    places.insert(hint.place)?;
-    into.push(hint)?;
-    Ok(())
-}
+impl Format for UnwindHints {
+    type Entry = HintEntry;
 
-/// Adds the hints of a section, or tells the first fault of one of them.
-fn read_entries(
-    section: &EntrySection<'_, '_>,
-    into: &mut Vec<HintEntry>,
-    places: &mut BTreeSet<Place>,
-) -> Result<(), SpecialFault>
-    requires before { into.old.items ≡ hints_before section.now.object.now section.now.sec }
-    requires places { ArePlacesOf into.old.items places.old }
-    ensures ok { OnOk result (into.new.items ≡ into.old.items ++ section_entries hints section.now.object.now section.now.sec) }
-    ensures places { OnOk result (ArePlacesOf into.new.items places.new) }
-    ensures right { OnOk result (entry_faults hints section.now.object.now section.now.sec ≡ []) }
-    ensures err { IfErr result (TellsFirst (entry_faults hints section.now.object.now section.now.sec)) }
-{
-    let sec = section.sec;
-    for entry in 0..section.table_count(SIZE) {
-        let hint = hint_of(section, entry);
-        let repeated = places.contains(&hint.place);
-        if let Some(why) = hint_why(section, entry, &hint, repeated) {
-            return Err(SpecialFault::At { sec, entry, why });
-        }
-        add_hint(into, places, hint)?;
-    }
-    Ok(())
-}
+    ghost use Rattle.special_sections.specs.Hints.{hints};
 
-/// Adds the hints of the section with an index, or tells its first fault.
-fn read_section(
-    alloc: Global,
-    object: &Object<'_>,
-    sec: u32,
-    into: &mut Vec<HintEntry>,
-    places: &mut BTreeSet<Place>,
-) -> Result<(), SpecialFault>
-    requires known { sec < length object.now.sections }
-    requires before { into.old.items ≡ hints_before object.now sec }
-    requires places { ArePlacesOf into.old.items places.old }
-    ensures ok { OnOk result (into.new.items ≡ into.old.items ++ section_entries hints object.now sec) }
-    ensures places { OnOk result (ArePlacesOf into.new.items places.new) }
-    ensures right { OnOk result (section_faults hints object.now sec ≡ []) }
-    ensures err { IfErr result (TellsFirst (section_faults hints object.now sec)) }
-{
-    let section = EntrySection::open(alloc, object, sec)?;
-    match section.table_why(SIZE) {
-        Some(why) => Err(SpecialFault::At { sec, entry: 0, why }),
-        None => read_entries(&section, into, places),
-    }
-}
+    ghost kind = { λ _. hints };
 
-/// The hints of an object, or the first fault of one of them.
-pub(crate) fn read_hints(alloc: Global, object: &Object<'_>) -> Result<Vec<HintEntry>, SpecialFault>
-    ensures ok { IfOk result (λ list. list.items ≡ entries hints object.now) }
-    ensures right { OnOk result (faults hints object.now ≡ []) }
-    ensures err { IfErr result (TellsFirst (faults hints object.now)) }
-{
-    let mut list = Vec::new(alloc);
-    let mut places = BTreeSet::new(alloc);
-    for sec in 0..object.sections() {
-        if is_named(object, sec, NAME) {
-            read_section(alloc, object, sec, &mut list, &mut places)?;
-        }
+    fn name(&self) -> &'static [u8] {
+        b".discard.unwind_hints"
     }
-    Ok(list)
+
+    fn section_why(&self, section: &EntrySection<'_, '_>) -> Option<Why> {
+        section.table_why(SIZE)
+    }
+
+    fn count(&self, section: &EntrySection<'_, '_>) -> u32 {
+        section.table_count(SIZE)
+    }
+
+    fn why(&self, section: &EntrySection<'_, '_>, e: u32) -> Option<Why> {
+        hint_why(section, e, &hint_of(section, e))
+    }
+
+    fn entry(&self, section: &EntrySection<'_, '_>, e: u32) -> HintEntry {
+        hint_of(section, e)
+    }
 }

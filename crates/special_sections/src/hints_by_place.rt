@@ -3,8 +3,8 @@
 ghost use Rattle.std.specs.Prelude.{◌≡◌, ◌<◌, ◌≤◌, ℕ, true, false, length, slice_index_or, IfOk, OnOk};
 ghost use Rattle.ot_base.specs.Places.{is_before as is_lower};
 ghost use Rattle.special_sections.specs.declared.entries.HintEntry.{HintEntry};
-ghost use Rattle.special_sections.specs.HintStates.{first_hint_at, hint_at as hint_at_place};
-ghost use Rattle.special_sections.specs.Places.{AreByPlace, HaveSameFirst};
+ghost use Rattle.special_sections.specs.HintStates.{hint_at as hint_at_place, last_hint_at};
+ghost use Rattle.special_sections.specs.Places.{AreByPlace, HaveSameLast};
 
 use crate::hint_state::state_of_hint;
 use crate::{HintEntry, Special};
@@ -34,7 +34,7 @@ impl Model for Hints {
 impl Hints {
     /// The hints of special sections.
     pub fn build(alloc: Global, special: &Special) -> Result<Hints, NoMemory>
-        ensures { IfOk result (HaveSameFirst special.now.hints) }
+        ensures { IfOk result (HaveSameLast special.now.hints) }
     {
         let mut hints = Vec::from_slice(alloc, special.hints())?;
         sort_by_place(&mut hints)?;
@@ -53,30 +53,30 @@ impl Hints {
 /// Puts hints in the order of their places, and leaves those at one place in their order.
 fn sort_by_place(hints: &mut Vec<HintEntry>) -> Result<(), NoMemory>
     ensures sorted { OnOk result (AreByPlace hints.new.items) }
-    ensures same { OnOk result (HaveSameFirst hints.old.items hints.new.items) }
+    ensures same { OnOk result (HaveSameLast hints.old.items hints.new.items) }
 {
     hints.sort_by_key(|hint| hint.place)?;
     Ok(())
 }
 
-/// How many of these are before a place.
-fn count_before(hints: &[HintEntry], place: Place) -> usize
+/// How many of these are at a place or before it.
+fn count_to(hints: &[HintEntry], place: Place) -> usize
     requires { AreByPlace hints.now }
     ensures within { result ≤ length hints.now }
-    ensures before { (k : ℕ) (d : HintEntry) → k < result → is_lower (slice_index_or hints.now k d).place place ≡ true }
-    ensures behind { (k : ℕ) (d : HintEntry) → result ≤ k → k < length hints.now → is_lower (slice_index_or hints.now k d).place place ≡ false }
+    ensures upto { (k : ℕ) (d : HintEntry) → k < result → is_lower place (slice_index_or hints.now k d).place ≡ false }
+    ensures behind { (k : ℕ) (d : HintEntry) → result ≤ k → k < length hints.now → is_lower place (slice_index_or hints.now k d).place ≡ true }
 {
-    hints.partition_point(|hint| is_before(hint.place, place))
+    hints.partition_point(|hint| !is_before(place, hint.place))
 }
 
-/// The first of these at a place.
+/// The last of these at a place.
 fn find_hint(hints: &[HintEntry], place: Place) -> Option<HintEntry>
     requires { AreByPlace hints.now }
-    ensures { result ≡ first_hint_at hints.now place }
+    ensures { result ≡ last_hint_at hints.now place }
 {
-    let at = count_before(hints, place);
-    if at < hints.len() && hints[at].place == place {
-        Some(hints[at])
+    let count = count_to(hints, place);
+    if count > 0 && hints[count - 1].place == place {
+        Some(hints[count - 1])
     } else {
         None
     }

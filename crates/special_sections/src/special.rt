@@ -9,8 +9,9 @@ ghost use Rattle.special_sections.specs.RightTables.{HasRightTables};
 use crate::entries::{AltEntry, BranchEntry, FixEntry, HintEntry};
 use crate::fault::SpecialFault;
 use crate::fields::{Bound, is_text_place};
-use crate::hints::read_hints;
+use crate::hints::UnwindHints;
 use crate::lists::{Judged, PlaceList};
+use crate::nested::nest;
 use crate::read::read_all;
 use crate::tables::{Alternatives, Branches, Fixes};
 use elf_objects::Object;
@@ -42,6 +43,12 @@ const SAFE_BRANCHES: PlaceList = PlaceList {
     judged: Judged::InText,
 };
 
+/// Calls by which a function only pushes an address.
+const INTRA_CALLS: PlaceList = PlaceList {
+    name: b".discard.intra_function_calls",
+    judged: Judged::InText,
+};
+
 /// The entries of the tables.
 #[derive(Drop)]
 struct Tables {
@@ -58,6 +65,7 @@ struct Places {
     after_unreachable: Vec<Place>,
     unchecked: Vec<Place>,
     safe_branches: Vec<Place>,
+    intra_calls: Vec<Place>,
 }
 
 /// The entries of the special sections of an object, each kind by section and then by their order in it.
@@ -82,6 +90,7 @@ impl Model for Special {
       after_unreachable = s.places.after_unreachable.items;
       unchecked = s.places.unchecked.items;
       safe_branches = s.places.safe_branches.items;
+      intra_calls = s.places.intra_calls.items;
     } };
 }
 
@@ -98,9 +107,9 @@ impl Tables {
         let alternatives = read_all(alloc, object, &Alternatives)?;
         let branches = read_all(alloc, object, &Branches)?;
         let fixes = read_all(alloc, object, &Fixes)?;
-        let hints = read_hints(alloc, object)?;
+        let hints = read_all(alloc, object, &UnwindHints)?;
         Ok(Tables {
-            alternatives,
+            alternatives: nest(alloc, &alternatives)?,
             branches,
             fixes,
             hints,
@@ -116,6 +125,7 @@ impl Places {
         ensures after_unreachable { IfOk result (λ p. p.after_unreachable.items ≡ (special_of object.now).after_unreachable) }
         ensures unchecked { IfOk result (λ p. p.unchecked.items ≡ (special_of object.now).unchecked) }
         ensures safe_branches { IfOk result (λ p. p.safe_branches.items ≡ (special_of object.now).safe_branches) }
+        ensures intra_calls { IfOk result (λ p. p.intra_calls.items ≡ (special_of object.now).intra_calls) }
         ensures right { OnOk result (special_faults object.now ≡ []) }
         ensures err { IfErr result (TellsFirst (special_faults object.now)) }
     {
@@ -123,11 +133,13 @@ impl Places {
         let after_unreachable = read_all(alloc, object, &UNREACHABLE)?;
         let unchecked = read_all(alloc, object, &UNCHECKED)?;
         let safe_branches = read_all(alloc, object, &SAFE_BRANCHES)?;
+        let intra_calls = read_all(alloc, object, &INTRA_CALLS)?;
         Ok(Places {
             after_reachable,
             after_unreachable,
             unchecked: text_places(alloc, object, &unchecked)?,
             safe_branches,
+            intra_calls,
         })
     }
 }
@@ -151,7 +163,7 @@ impl Special {
         Ok(Special { tables, places })
     }
 
-    /// The alternatives, `.altinstructions`.
+    /// The alternatives, `.altinstructions`. The originals of one place have the length of the longest there.
     pub fn alternatives(&self) -> &[AltEntry]
         ensures { result.now ≡ self.now.alternatives }
     {
@@ -172,7 +184,7 @@ impl Special {
         &self.tables.fixes
     }
 
-    /// The hints on the stack, `.discard.unwind_hints`.
+    /// The hints on the stack, `.discard.unwind_hints`: of several at one place the last one counts.
     pub fn hints(&self) -> &[HintEntry]
         ensures { result.now ≡ self.now.hints }
     {
@@ -206,6 +218,13 @@ impl Special {
         ensures { result.now ≡ self.now.safe_branches }
     {
         &self.places.safe_branches
+    }
+
+    /// The calls by which a function only pushes an address, `.discard.intra_function_calls`.
+    pub fn intra_calls(&self) -> &[Place]
+        ensures { result.now ≡ self.now.intra_calls }
+    {
+        &self.places.intra_calls
     }
 }
 

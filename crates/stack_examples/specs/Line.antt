@@ -2,15 +2,16 @@
 use Rattle.std.specs.Prelude.{ℕ, Bool, true, false, List, [], ◌∷◌, Option, Some, None}
 use Rattle.ot_base.specs.declared.place.Place.{Place}
 use Rattle.operation_defs.specs.declared.op.Op.{Op}
-use Rattle.operation_defs.specs.declared.op.Op.TheVariants.{Jmp, JmpInd, Ret, RetImm, Iret, Switch, Ud2}
+use Rattle.operation_defs.specs.declared.op.Op.TheVariants.{Hop, Jmp, JmpInd, Ret, RetImm, Iret, Switch, Ud2}
 use Rattle.machine_defs.specs.declared.flow.EdgeKind.{EdgeKind}
 use Rattle.machine_defs.specs.declared.flow.Role.{Role}
 use Rattle.machine_defs.specs.declared.flow.Role.TheVariants as role
 use Rattle.program_model.specs.declared.program.ModelSite.{ModelSite}
 use Rattle.stack_examples.specs.declared.lines.Line.{Line}
 
--- whether control goes on behind an instruction: not behind a jump, a return, a context switch or ud2
+-- whether control goes on behind an instruction: not behind a jump, a call within a function, a return, a context switch or ud2
 abbrev pub goes_on : Op → Bool
+goes_on Hop = false
 goes_on (Jmp rel wide) = false
 goes_on (JmpInd table) = false
 goes_on Ret = false

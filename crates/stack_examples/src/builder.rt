@@ -49,6 +49,7 @@ fn point(alloc: Global, lines: &[Line], line: Line) -> ModelPoint {
         function: line.function,
         owner: line.owner,
         is_unchecked: line.is_unchecked,
+        is_in_patches: line.is_in_patches,
         previous: previous(lines, line),
         hint: line.hint,
         save_of: line.save_of,
@@ -113,6 +114,7 @@ fn unlinked(alloc: Global, lines: &[Line], table: &Table) -> Result<Program, All
     ensures sites { IfOk result (λ p. p.sites.items ≡ map site_of_pair table.now.sites.now) }
 {
     let mut points = Vec::new(alloc);
+    let mut never_returning = Vec::new(alloc);
     let mut without_size = Vec::new(alloc);
     let mut size = 0;
     for line in lines {
@@ -120,12 +122,15 @@ fn unlinked(alloc: Global, lines: &[Line], table: &Table) -> Result<Program, All
         if line.is_without_size {
             without_size.push(line.place())?;
         }
+        if let Some(function) = line.listed {
+            never_returning.push(function)?;
+        }
         size = size.max(line.end());
     }
     Ok(Program {
         points,
         entries: table.entries.to_vec(alloc)?,
-        never_returning: Vec::new(alloc),
+        never_returning,
         sites: table.sites.iter().map(site).collect(alloc)?,
         texts: vec![in alloc; TextSection { sec: 1, size }]?,
         without_size,

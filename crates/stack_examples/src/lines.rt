@@ -28,8 +28,12 @@ pub enum With {
     OfNone,
     /// Its function isn't checked.
     Unchecked,
+    /// Control comes to its section by patching alone.
+    InPatches,
     /// It begins a function without a size.
     WithoutSize,
+    /// It is of this other function, whose name is listed as one that never returns.
+    Listed(u32),
     /// It also goes to this offset of section 1, in this way.
     To(u64, EdgeKind),
     /// It is this to its function.
@@ -66,7 +70,10 @@ pub struct Line {
     pub function: Option<u32>,
     pub owner: Option<u32>,
     pub is_unchecked: bool,
+    pub is_in_patches: bool,
     pub is_without_size: bool,
+    /// Its function, where the name of that is listed as one that never returns.
+    pub listed: Option<u32>,
     pub hint: Option<HintState>,
     pub save_of: Option<u32>,
     pub goes_on: bool,
@@ -78,13 +85,20 @@ pub struct Line {
     pub replaces: Option<(u32, u64)>,
 }
 
-/// Whether an instruction goes on to the one behind it.
+/// Whether an instruction goes on to the one behind it: not a jump, a call within a function, a return or a way out.
 fn goes_on(op: Op) -> bool
     ensures { result ≡ goes_on op }
 {
     !matches!(
         op,
-        Op::Jmp { .. } | Op::JmpInd { .. } | Op::Ret | Op::RetImm | Op::Iret | Op::Switch | Op::Ud2
+        Op::Hop
+            | Op::Jmp { .. }
+            | Op::JmpInd { .. }
+            | Op::Ret
+            | Op::RetImm
+            | Op::Iret
+            | Op::Switch
+            | Op::Ud2
     )
 }
 
@@ -115,7 +129,9 @@ fn insn(off: u64, len: u8, op: Op) -> Line
         function: Some(0),
         owner: Some(0),
         is_unchecked: false,
+        is_in_patches: false,
         is_without_size: false,
+        listed: None,
         hint: None,
         save_of: None,
         goes_on: goes_on(op),
@@ -164,6 +180,20 @@ impl Line {
         Line {
             is_unchecked: true,
             ..self
+        }
+    }
+
+    fn in_patches(self) -> Line {
+        Line {
+            is_in_patches: true,
+            ..self
+        }
+    }
+
+    fn listed(self, function: u32) -> Line {
+        Line {
+            listed: Some(function),
+            ..self.of(function)
         }
     }
 
@@ -227,7 +257,9 @@ impl Line {
             With::OfPart(function) => self.of_part(function),
             With::OfNone => self.of_none(),
             With::Unchecked => self.unchecked(),
+            With::InPatches => self.in_patches(),
             With::WithoutSize => self.without_size(),
+            With::Listed(function) => self.listed(function),
             With::To(off, kind) => self.to(off, kind),
             With::Is(role) => self.role(role),
             With::Hint(hint) => self.hint(hint),

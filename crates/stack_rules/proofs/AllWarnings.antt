@@ -1,5 +1,5 @@
 -- The warnings that are found at points, and at functions without a size, are those of the rules but 12.
-use Rattle.std.proofs.Common.{◌≡◌, ◌≢◌, ◌↔◌, ℕ, true, List, [], ◌∷◌, ◌⊎◌, inl, inr, Option, Some, None, Result, Ok, Err, ◌==◌, Contains, ℤ, refl, ap, sym, subst, arith}
+use Rattle.std.proofs.Common.{◌≡◌, ◌≢◌, ◌↔◌, ℕ, Bool, true, false, List, [], ◌∷◌, ◌⊎◌, inl, inr, Option, Some, None, Result, Ok, Err, ◌==◌, Contains, ℤ, refl, ap, sym, subst, arith}
 use Rattle.std.specs.Prelude.{option_to_list}
 use Rattle.std.specs.List.{list_any}
 use Rattle.std.proofs.lemmas.Bool.{eq-eqb, eqb-true}
@@ -18,7 +18,9 @@ use Rattle.machine_defs.specs.Program.{Program, edge, entry_points}
 use Rattle.machine_defs.specs.Kept.{Kept, brought_along, edges_of, is_at_entry, moved}
 use Rattle.machine_defs.specs.Broken.{LeavesByJump, sibling, outside, anywhere, Warns, bad_target, falls_through, runs_off, mismatch, modified_return, drops_bytes, modified_sibling, refused, unfit, variants_disagree, call_disagrees, into_site, unallowed_return, unallowed_sibling, unallowed_switch, unallowed_iret, into_function, without_size, entered_restore, reached_restore, relocated_offset}
 use Rattle.unwinding_law.proofs.Lists.{here, cases, nowhere, found, find_one}
+use Rattle.machine_defs.specs.Ways.{is_before_hint, may_leave}
 use Rattle.unwinding_law.proofs.KeptStates.{brings_along, brings_edge}
+use Rattle.unwinding_law.proofs.WaysOn.{sibling_edge_stays}
 use Rattle.program_graph.specs.declared.parts.GraphParts.{GraphParts}
 use Rattle.kept_states.specs.LevelStates.{at}
 use Rattle.stack_rules.specs.Checks.{Checks}
@@ -64,35 +66,35 @@ module _ (p : Program) (parts : GraphParts) (states : List (Option State)) (c : 
   as_one v w e h = subst (λ (x : Warning). IsOfRules p x) (sym e) h
 
   module _ (q : ℕ) (s : State) (k : Kept p q s) (w : Warning) where
-    marks_tell : MarksWarn (p.place q) s (p.marks q) w → IsOfRules p w
+    marks_tell : MarksWarn (p.place q) s (p.owner q) (p.marks q) w → IsOfRules p w
     marks_tell (inl (h, e)) = as_one _ w e (bad_target q s k h, λ z. absurd (omega (arith, z)))
-    marks_tell (inr (inl (h, e))) = as_one _ w e (runs_off q s k h, λ z. absurd (omega (arith, z)))
+    marks_tell (inr (inl ((h, f), e))) = as_one _ w e (runs_off q s k h f, λ z. absurd (omega (arith, z)))
     marks_tell (inr (inr (inl (h, e)))) = as_one _ w e (into_site q s k h, λ z. absurd (omega (arith, z)))
     marks_tell (inr (inr (inr (inl (h, e))))) = as_one _ w e (into_function q s k h, λ z. absurd (omega (arith, z)))
     marks_tell (inr (inr (inr (inr ((f, h), e))))) = as_one _ w e (relocated_offset q s k f h, λ z. absurd (omega (arith, z)))
 
-    return_tells : p.role q ≡ Return → ReturnWarns (p.place q) (p.insn q).op s w → IsOfRules p w
+    return_tells : p.role q ≡ Return → ReturnWarns (p.place q) (p.insn q).op s (may_leave p q) w → IsOfRules p w
     return_tells r (inl (h, e)) = as_one _ w e (modified_return q s k r h, λ z. absurd (omega (arith, z)))
     return_tells r (inr (inl ((o, h), e))) = as_one _ w e (drops_bytes q s k r o h, λ z. absurd (omega (arith, z)))
-    return_tells r (inr (inr (h, e))) = as_one _ w e (unallowed_return q s k r h, λ z. absurd (omega (arith, z)))
+    return_tells r (inr (inr ((h, m), e))) = as_one _ w e (unallowed_return q s k r h m, λ z. absurd (omega (arith, z)))
 
-    sibling_tells : LeavesByJump p q → SiblingWarns (p.place q) s w → IsOfRules p w
-    sibling_tells l (inl (h, e)) = as_one _ w e (modified_sibling q s k l h, λ z. absurd (omega (arith, z)))
-    sibling_tells l (inr (h, e)) = as_one _ w e (unallowed_sibling q s k l h, λ z. absurd (omega (arith, z)))
+    sibling_tells : LeavesByJump p q → (leaves : Bool) → (leaves ≡ false → may_leave p q ≡ false) → SiblingWarns (p.place q) s leaves w → IsOfRules p w
+    sibling_tells l leaves stays (inl (h, e)) = as_one _ w e (modified_sibling q s k l h, λ z. absurd (omega (arith, z)))
+    sibling_tells l leaves stays (inr ((h, m), e)) = as_one _ w e (unallowed_sibling q s k l h (stays m), λ z. absurd (omega (arith, z)))
 
-    role_tells : (role : Role) → p.role q ≡ role → RoleWarns (p.place q) (p.insn q).op s role w → IsOfRules p w
+    role_tells : (role : Role) → p.role q ≡ role → RoleWarns (p.place q) (p.insn q).op s (may_leave p q) role w → IsOfRules p w
     role_tells Plain r h = absurd h
     role_tells (CallIn entry) r h = absurd h
     role_tells (CallEither entry sym) r h = absurd h
     role_tells (CallOut sym) r h = absurd h
     role_tells CallAny r h = absurd h
     role_tells Return r h = return_tells r h
-    role_tells (JumpOut sym) r h = sibling_tells (outside sym r) h
-    role_tells JumpAny r h = sibling_tells (anywhere r) h
+    role_tells (JumpOut sym) r h = sibling_tells (outside sym r) (may_leave p q) (λ m. m) h
+    role_tells JumpAny r h = sibling_tells (anywhere r) (may_leave p q) (λ m. m) h
     role_tells Switch r h = absurd h
 
-    operation_tells : OperationWarns (p.place q) (p.insn q).op s w → IsOfRules p w
-    operation_tells (inl (rule, h, e)) = as_one _ w e (refused q rule s k h, refused_otherwise s (p.insn q).op rule h)
+    operation_tells : OperationWarns (p.place q) (p.insn q).op s (is_before_hint p q) w → IsOfRules p w
+    operation_tells (inl (rule, (h, b), e)) = as_one _ w e (refused q rule s k h b, refused_otherwise s (p.insn q).op rule h)
     operation_tells (inr (inl ((o, h), e))) = as_one _ w e (unallowed_switch q s k o h, λ z. absurd (omega (arith, z)))
     operation_tells (inr (inr ((o, h), e))) = as_one _ w e (unallowed_iret q s k o h, λ z. absurd (omega (arith, z)))
 
@@ -106,7 +108,9 @@ module _ (p : Program) (parts : GraphParts) (states : List (Option State)) (c : 
 
     edge_tells : (e : Edge) → Contains (edges_of p q) e → EdgeWarns p states q s e w → IsOfRules p w
     edge_tells e d (inl ((next, ne), same)) = as_one _ w same (falls_through q e.to s k (subst (λ (x : EdgeKind). Contains (edges_of p q) (edge e.to x)) next d) ne, λ z. absurd (omega (arith, z)))
-    edge_tells e d (inr (inl (kind, h))) = sibling_tells (sibling e.to (subst (λ (x : EdgeKind). Contains (edges_of p q) (edge e.to x)) kind d)) h
+    edge_tells e d (inr (inl (kind, h))) =
+        let along : Contains (edges_of p q) (edge e.to Sibling) = subst (λ (x : EdgeKind). Contains (edges_of p q) (edge e.to x)) kind d in
+        sibling_tells (sibling e.to along) false (λ m. sibling_edge_stays p q e.to along) h
     edge_tells e d (inr (inr (brought, is, h))) = arrival_tells e brought d is h
 
     kept_tells : KeptWarns p states q s w → IsOfRules p w
@@ -138,13 +142,13 @@ module _ (p : Program) (parts : GraphParts) (states : List (Option State)) (c : 
     at_edge : (q : ℕ) (s : State) → Kept p q s → (e : Edge) → Contains (edges_of p q) e → EdgeWarns p states q s e w → IsFound p states w
     at_edge q s k e d h = at_kept q s k (inr (inr (inr (inr (e, d, h)))))
 
-    at_role : (q : ℕ) (s : State) → Kept p q s → (role : Role) → p.role q ≡ role → RoleWarns (p.place q) (p.insn q).op s role w → IsFound p states w
-    at_role q s k role r h = at_kept q s k (inr (inl (subst (λ (x : Role). RoleWarns (p.place q) (p.insn q).op s x w) (sym r) h)))
+    at_role : (q : ℕ) (s : State) → Kept p q s → (role : Role) → p.role q ≡ role → RoleWarns (p.place q) (p.insn q).op s (may_leave p q) role w → IsFound p states w
+    at_role q s k role r h = at_kept q s k (inr (inl (subst (λ (x : Role). RoleWarns (p.place q) (p.insn q).op s (may_leave p q) x w) (sym r) h)))
 
-    at_jump : (q : ℕ) (s : State) → Kept p q s → LeavesByJump p q → SiblingWarns (p.place q) s w → IsFound p states w
-    at_jump q s k (sibling r d) h = at_edge q s k (edge r Sibling) d (inr (inl (refl, h)))
-    at_jump q s k (outside sym r) h = at_role q s k (JumpOut sym) r h
-    at_jump q s k (anywhere r) h = at_role q s k JumpAny r h
+    at_jump : (q : ℕ) (s : State) → Kept p q s → LeavesByJump p q → ((leaves : Bool) → (may_leave p q ≡ false → leaves ≡ false) → SiblingWarns (p.place q) s leaves w) → IsFound p states w
+    at_jump q s k (sibling r d) h = at_edge q s k (edge r Sibling) d (inr (inl (refl, h false (λ m. refl))))
+    at_jump q s k (outside sym r) h = at_role q s k (JumpOut sym) r (h (may_leave p q) (λ m. m))
+    at_jump q s k (anywhere r) h = at_role q s k JumpAny r (h (may_leave p q) (λ m. m))
 
     at_arrival : (q r : ℕ) (s : State) → Kept p q s → (e : Edge) → Contains (edges_of p q) e → e.to ≡ r → (brought : Option State) → IsBrought s (p.insn q).op e.kind brought → ArrivalWarns p states r brought w → IsFound p states w
     at_arrival q r s k e d to brought is h = at_edge q s k e d (inr (inr (brought, is, subst (λ (x : ℕ). ArrivalWarns p states x brought w) (sym to) h)))
@@ -152,21 +156,21 @@ module _ (p : Program) (parts : GraphParts) (states : List (Option State)) (c : 
   telling_found : (place : Place) (rule : ℕ) (a b : ℤ) → Warns p place rule a b → rule ≢ 12 → IsFound p states (record { place = place; rule = rule; a = a; b = b })
   telling_found place rule a b (bad_target q s k h) ne = at_kept _ q s k (inl (inl (h, refl)))
   telling_found place rule a b (falls_through q r s k d h) ne = at_edge _ q s k (edge r Next) d (inl ((refl, h), refl))
-  telling_found place rule a b (runs_off q s k h) ne = at_kept _ q s k (inl (inr (inl (h, refl))))
+  telling_found place rule a b (runs_off q s k h f) ne = at_kept _ q s k (inl (inr (inl ((h, f), refl))))
   telling_found place rule a b (mismatch q r s t u k brings l free h) ne =
       let e = brings_edge p q r s t brings in
       let o = brought_option s (p.insn q).op (e.0).kind in
       at_arrival _ q r s k e.0 e.1 e.2 o.0 o.1 (inr (u, (has_state p parts states c r u l, free), (t, (the_one o.0 (brought_along s (p.insn q).op (e.0).kind) t o.1 e.3, h), refl)))
   telling_found place rule a b (modified_return q s k r h) ne = at_role _ q s k Return r (inl (h, refl))
   telling_found place rule a b (drops_bytes q s k r o h) ne = at_role _ q s k Return r (inr (inl ((o, h), refl)))
-  telling_found place rule a b (modified_sibling q s k l h) ne = at_jump _ q s k l (inl (h, refl))
-  telling_found place rule a b (refused q r s k h) ne = at_kept _ q s k (inr (inr (inl (inl (r, h, refl)))))
+  telling_found place rule a b (modified_sibling q s k l h) ne = at_jump _ q s k l (λ leaves m. inl (h, refl))
+  telling_found place rule a b (refused q r s k h f) ne = at_kept _ q s k (inr (inr (inl (inl (r, (h, f), refl)))))
   telling_found place rule a b (unfit q s n k h) ne = at_kept _ q s k (inr (inr (inr (inl (n, h, refl)))))
   telling_found place rule a b (variants_disagree site q r s t k l e h) ne = absurd (ne refl)
   telling_found place rule a b (call_disagrees site q r s t k o f h) ne = absurd (ne refl)
   telling_found place rule a b (into_site q s k h) ne = at_kept _ q s k (inl (inr (inr (inl (h, refl)))))
-  telling_found place rule a b (unallowed_return q s k r h) ne = at_role _ q s k Return r (inr (inr (h, refl)))
-  telling_found place rule a b (unallowed_sibling q s k l h) ne = at_jump _ q s k l (inr (h, refl))
+  telling_found place rule a b (unallowed_return q s k r h m) ne = at_role _ q s k Return r (inr (inr ((h, m), refl)))
+  telling_found place rule a b (unallowed_sibling q s k l h m) ne = at_jump _ q s k l (λ leaves stays. inr ((h, stays m), refl))
   telling_found place rule a b (unallowed_switch q s k o h) ne = at_kept _ q s k (inr (inr (inl (inr (inl ((o, h), refl))))))
   telling_found place rule a b (unallowed_iret q s k o h) ne = at_kept _ q s k (inr (inr (inl (inr (inr ((o, h), refl))))))
   telling_found place rule a b (into_function q s k h) ne = at_kept _ q s k (inl (inr (inr (inr (inl (h, refl))))))

@@ -2,7 +2,7 @@
 use Rattle.std.proofs.Common.{◌≡◌, ◌≢◌, ℕ, Bool, true, false, not, ◌&&◌, ◌==◌, Option, Some, None, Result, Ok, Err, if◌then◌else◌, ℤ, pos, refl, subst}
 use Rattle.std.specs.Prelude.{negsuc, ◌+ℤ◌, ◌-ℤ◌, int_le, int_lt}
 use Rattle.operation_defs.specs.declared.op.Op.{Op}
-use Rattle.operation_defs.specs.declared.op.Op.TheVariants.{Push, PushBp, Pop, PopBp, Popf, AddSp, AndSp, LeaSpBp, LeaBpSp, StoreBp, LoadBp, Leave, SpOther, BpOther, IretNext}
+use Rattle.operation_defs.specs.declared.op.Op.TheVariants.{Push, PushBp, Pop, PopBp, Popf, AddSp, AndSp, LeaSpBp, LeaBpSp, LeaBpRoom, SubSp, SpReg, StoreBp, LoadBp, Leave, SpOther, BpOther, Hop, IretNext}
 use Rattle.state_defs.specs.declared.state.Depth.{Depth}
 use Rattle.state_defs.specs.declared.state.Depth.TheVariants.{Known, AtLeast}
 use Rattle.state_defs.specs.declared.state.BpHome.{BpHome}
@@ -10,7 +10,7 @@ use Rattle.state_defs.specs.declared.state.BpHome.TheVariants.{Same, Saved}
 use Rattle.state_defs.specs.declared.state.State.{State}
 use Rattle.state_defs.specs.declared.state.State.TheVariants.{Live, Ended, Regs}
 use Rattle.state_defs.specs.State.{depth_of, with_depth}
-use Rattle.state_defs.specs.Move.{move, to, floor_of, has_near_numbers, int_same, regs_floor, raise, pop_at, push_bp, pop_bp, align, rsp_from_bp, bp_from_rsp, store_bp, load_bp, leave, lose_bp, where_allowed, move_live, raise_regs, pop_bp_regs, lose_bp_regs, move_regs}
+use Rattle.state_defs.specs.Move.{move, to, floor_of, has_near_numbers, int_same, regs_floor, raise, pop_at, push_bp, pop_bp, align, rsp_from_bp, bp_from_rsp, make_room, base_over_room, store_bp, load_bp, leave, lose_bp, where_allowed, move_live, raise_regs, pop_bp_regs, lose_bp_regs, move_regs}
 
 -- it is done, or refused for another rule
 abbrev other : Result State ℕ → Bool
@@ -63,6 +63,15 @@ bp_from_rsp_other k depth Same = refl
 bp_from_rsp_other k (AtLeast n) (Saved o) = refl
 bp_from_rsp_other k (Known n) (Saved o) = one_of (int_same (n -ℤ k) o) (Live (Known n) (Some o) (Saved o)) (Live (Known n) None (Saved o))
 
+make_room_other : (depth : Depth) (fp : Option ℤ) (home : BpHome) → other (make_room depth fp home) ≡ true
+make_room_other depth None home = refl
+make_room_other depth (Some m) home = to_other (Live (AtLeast (depth_of depth)) (Some m) home)
+
+base_over_room_other : (k : ℤ) (depth : Depth) (home : BpHome) → other (base_over_room k depth home) ≡ true
+base_over_room_other k depth Same = bp_from_rsp_other k depth Same
+base_over_room_other k (AtLeast n) (Saved o) = bp_from_rsp_other k (AtLeast n) (Saved o)
+base_over_room_other k (Known n) (Saved o) = either (int_same (n -ℤ k) o) (to (Live (AtLeast n) (Some o) (Saved o))) (bp_from_rsp k (Known n) (Saved o)) (to_other (Live (AtLeast n) (Some o) (Saved o))) (bp_from_rsp_other k (Known n) (Saved o))
+
 store_bp_other : (k : ℤ) (depth : Depth) (fp : Option ℤ) (home : BpHome) → other (store_bp k depth fp home) ≡ true
 store_bp_other k depth fp Same = one_of (int_le (pos 16) (depth_of depth -ℤ k) && int_le (depth_of depth -ℤ k) (depth_of depth)) (Live depth fp (Saved (depth_of depth -ℤ k))) (Live depth fp Same)
 store_bp_other k depth fp (Saved o) = to_other (Live depth fp (Saved o))
@@ -96,6 +105,10 @@ live_other depth fp home PopBp = pop_bp_other depth home
 live_other depth fp home (AndSp mask) = align_other depth fp home
 live_other depth fp home (LeaSpBp by) = rsp_from_bp_other by fp home
 live_other depth fp home (LeaBpSp by) = bp_from_rsp_other by depth home
+live_other depth fp home (LeaBpRoom by) = base_over_room_other by depth home
+live_other depth fp home SubSp = make_room_other depth fp home
+live_other depth fp home SpReg = make_room_other depth fp home
+live_other depth fp home Hop = to_other (Live (with_depth depth (depth_of depth +ℤ pos 8)) fp home)
 live_other depth fp home (StoreBp at) = store_bp_other at depth fp home
 live_other depth fp home (LoadBp at) = load_bp_other at depth home
 live_other depth fp home Leave = leave_other fp home
@@ -123,6 +136,10 @@ regs_other full depth Popf = raise_regs_other (pos 8) full depth
 regs_other full depth (AddSp by) = raise_regs_other by full depth
 regs_other full depth PopBp = pop_bp_regs_other full depth
 regs_other full depth (LeaBpSp by) = lose_bp_regs_other full depth
+regs_other full depth (LeaBpRoom by) = lose_bp_regs_other full depth
+regs_other full depth SubSp = refl
+regs_other full depth SpReg = refl
+regs_other full depth Hop = to_other (Regs full (depth +ℤ pos 8))
 regs_other full depth (LoadBp at) = lose_bp_regs_other full depth
 regs_other full depth BpOther = lose_bp_regs_other full depth
 regs_other full depth (AndSp mask) = refl

@@ -1,5 +1,5 @@
 -- At a quiet point no rule is broken.
-use Rattle.std.proofs.Common.{◌≡◌, ◌≢◌, ℕ, true, false, All, get_or, arith, Option, Some, None, List, [], ◌∷◌, inl, inr, Ok, refl, sym, ◌∙◌, subst}
+use Rattle.std.proofs.Common.{◌≡◌, ◌≢◌, ℕ, Bool, true, false, All, get_or, arith, Option, Some, None, List, [], ◌∷◌, inl, inr, Ok, refl, sym, ◌∙◌, subst}
 use Rattle.std.specs.Prelude.{option_to_list}
 use Rattle.std.proofs.lemmas.List.Elements.{All-contains}
 use Rattle.ot_base.specs.declared.place.Place.{Place}
@@ -17,6 +17,7 @@ use Rattle.state_defs.specs.Move.{move, to}
 use Rattle.state_defs.specs.Row.{unfit_offset}
 use Rattle.machine_defs.specs.Program.{Program}
 use Rattle.machine_defs.specs.Kept.{brought_along, edges_of}
+use Rattle.machine_defs.specs.Ways.{is_before_hint, may_leave}
 use Rattle.kept_states.specs.LevelStates.{at}
 use Rattle.stack_rules.specs.PointWarns.{ArrivalWarns, EdgeWarns, IsBrought, KeptWarns, MarksWarn, OperationWarns, PointWarns, RoleWarns, RowWarns}
 use Rattle.stack_rules.specs.Quiet.{IsQuiet, Leads, Passes, is_exit, is_unmarked, stays}
@@ -33,23 +34,23 @@ brings_only s t u op kind brought along is b =
     let one : option_to_list (Some t) ≡ u ∷ [] = subst (λ (o : Option State). option_to_list o ≡ u ∷ []) b (is ∙ along) in
     let same : t ≡ u = cc in same
 
-unmarked_warns_none : (place : Place) (s : State) (marks : Marks) (w : Warning) → is_unmarked marks ≡ true → MarksWarn place s marks w → ⊥
-unmarked_warns_none place s marks w h (inl (e, k)) = grind arith
-unmarked_warns_none place s marks w h (inr (inl (e, k))) = grind arith
-unmarked_warns_none place s marks w h (inr (inr (inl (e, k)))) = grind arith
-unmarked_warns_none place s marks w h (inr (inr (inr (inl (e, k))))) = grind arith
-unmarked_warns_none place s marks w h (inr (inr (inr (inr ((f, e), k))))) = grind arith
+unmarked_warns_none : (place : Place) (s : State) (owner : Option ℕ) (marks : Marks) (w : Warning) → is_unmarked marks ≡ true → MarksWarn place s owner marks w → ⊥
+unmarked_warns_none place s owner marks w h (inl (e, k)) = grind arith
+unmarked_warns_none place s owner marks w h (inr (inl ((e, f), k))) = grind arith
+unmarked_warns_none place s owner marks w h (inr (inr (inl (e, k)))) = grind arith
+unmarked_warns_none place s owner marks w h (inr (inr (inr (inl (e, k))))) = grind arith
+unmarked_warns_none place s owner marks w h (inr (inr (inr (inr ((f, e), k))))) = grind arith
 
-no_role : (place : Place) (op : Op) (s : State) (role : Role) (w : Warning) → stays role ≡ true → RoleWarns place op s role w → ⊥
-no_role place op s Return w h k = let z : ⊥ = cc in z
-no_role place op s (JumpOut sym) w h k = let z : ⊥ = cc in z
-no_role place op s JumpAny w h k = let z : ⊥ = cc in z
-no_role place op s _ w h k = k
+no_role : (place : Place) (op : Op) (s : State) (leaves : Bool) (role : Role) (w : Warning) → stays role ≡ true → RoleWarns place op s leaves role w → ⊥
+no_role place op s leaves Return w h k = let z : ⊥ = cc in z
+no_role place op s leaves (JumpOut sym) w h k = let z : ⊥ = cc in z
+no_role place op s leaves JumpAny w h k = let z : ⊥ = cc in z
+no_role place op s leaves _ w h k = k
 
-no_operation : (place : Place) (op : Op) (s t : State) (w : Warning) → is_exit op ≡ false → move s op ≡ Ok t → OperationWarns place op s w → ⊥
-no_operation place op s t w h m (inl (rule, e, k)) = let z : ⊥ = cc in z
-no_operation place op s t w h m (inr (inl ((e, b), k))) = let n : is_exit Switch ≡ false = subst (λ (o : Op). is_exit o ≡ false) e h in let z : ⊥ = cc in z
-no_operation place op s t w h m (inr (inr ((e, b), k))) = let n : is_exit Iret ≡ false = subst (λ (o : Op). is_exit o ≡ false) e h in let z : ⊥ = cc in z
+no_operation : (place : Place) (op : Op) (s t : State) (before : Bool) (w : Warning) → is_exit op ≡ false → move s op ≡ Ok t → OperationWarns place op s before w → ⊥
+no_operation place op s t before w h m (inl (rule, (e, f), k)) = let z : ⊥ = cc in z
+no_operation place op s t before w h m (inr (inl ((e, b), k))) = let n : is_exit Switch ≡ false = subst (λ (o : Op). is_exit o ≡ false) e h in let z : ⊥ = cc in z
+no_operation place op s t before w h m (inr (inr ((e, b), k))) = let n : is_exit Iret ≡ false = subst (λ (o : Op). is_exit o ≡ false) e h in let z : ⊥ = cc in z
 
 no_row : (place : Place) (s : State) (w : Warning) → unfit_offset s ≡ None → RowWarns place s w → ⊥
 no_row place s w h (a, e, k) = let z : ⊥ = cc in z
@@ -67,9 +68,9 @@ module _ (p : Program) (states : List (Option State)) (q : ℕ) where
       no_arrival leads.2.0 e.to brought w leads.2.1 (λ t b. brings_only s t leads.2.0 (p.insn q).op e.kind brought leads.2.2 is b) arrival
 
   no_kept : (s : State) (w : Warning) → IsQuiet p states q → at states q ≡ Some s → KeptWarns p states q s w → ⊥
-  no_kept s w quiet some (inl k) = unmarked_warns_none (p.place q) s (p.marks q) w quiet.unmarked k
-  no_kept s w quiet some (inr (inl k)) = no_role (p.place q) (p.insn q).op s (p.role q) w quiet.stays k
-  no_kept s w quiet some (inr (inr (inl k))) = let m = quiet.moves s some in no_operation (p.place q) (p.insn q).op s m.0 w quiet.exit m.1 k
+  no_kept s w quiet some (inl k) = unmarked_warns_none (p.place q) s (p.owner q) (p.marks q) w quiet.unmarked k
+  no_kept s w quiet some (inr (inl k)) = no_role (p.place q) (p.insn q).op s (may_leave p q) (p.role q) w quiet.stays k
+  no_kept s w quiet some (inr (inr (inl k))) = let m = quiet.moves s some in no_operation (p.place q) (p.insn q).op s m.0 (is_before_hint p q) w quiet.exit m.1 k
   no_kept s w quiet some (inr (inr (inr (inl k)))) = no_row (p.place q) s w (quiet.fit s some) k
   no_kept s w quiet some (inr (inr (inr (inr (e, contains, k))))) = no_edge s e w (All-contains (Leads p states q s) (edges_of p q) e (quiet.leads s some) contains) k
 

@@ -1,8 +1,8 @@
 -- The warnings of the rules that a graph and kept states decide, by the point at which they are found.
-use Rattle.std.specs.Prelude.{◌≡◌, ◌≢◌, ℕ, ◌⊎◌, true, List, Option, Some, None, Err, option_to_list, Contains, ℤ, pos}
+use Rattle.std.specs.Prelude.{◌≡◌, ◌≢◌, ℕ, ◌⊎◌, Bool, true, false, List, Option, Some, None, Err, option_to_list, Contains, ℤ, pos}
 use Rattle.ot_base.specs.declared.place.Place.{Place}
 use Rattle.ot_base.specs.declared.warning.Warning.{Warning}
-use Rattle.ot_base.specs.declared.rules.TheConstants.{BAD_BRANCH_TARGET, FALLS_THROUGH, RUNS_OFF_SECTION, STATE_MISMATCH, MODIFIED_RETURN, MODIFIED_SIBLING_CALL, OFFSET_OUT_OF_RANGE, JUMP_INTO_SITE, EXIT_NOT_ALLOWED, CALL_INTO_FUNCTION, FUNCTION_WITHOUT_SIZE, RESTORE_WITHOUT_SAVE, RELOCATED_STACK_OFFSET}
+use Rattle.ot_base.specs.declared.rules.TheConstants.{BAD_BRANCH_TARGET, FALLS_THROUGH, RUNS_OFF_SECTION, STATE_MISMATCH, MODIFIED_RETURN, MODIFIED_SIBLING_CALL, UNSUPPORTED_SP_WRITE, OFFSET_OUT_OF_RANGE, JUMP_INTO_SITE, EXIT_NOT_ALLOWED, CALL_INTO_FUNCTION, FUNCTION_WITHOUT_SIZE, RESTORE_WITHOUT_SAVE, RELOCATED_STACK_OFFSET}
 use Rattle.ot_base.specs.Warnings.{numbered_warning, bare_warning}
 use Rattle.operation_defs.specs.declared.op.Op.{Op}
 use Rattle.operation_defs.specs.declared.op.Op.TheVariants.{RetImm, Iret, Switch}
@@ -19,6 +19,7 @@ use Rattle.state_defs.specs.Row.{unfit_offset}
 use Rattle.state_defs.specs.Rules.{is_followed, return_rule, sibling_rule, switch_rule, iret_rule, depth_number}
 use Rattle.machine_defs.specs.Program.{Program}
 use Rattle.machine_defs.specs.Kept.{brought_along, edges_of, is_at_entry, is_free}
+use Rattle.machine_defs.specs.Ways.{is_before_hint, may_leave}
 use Rattle.kept_states.specs.LevelStates.{at}
 
 -- a warning that tells a state's depth
@@ -26,42 +27,43 @@ abbrev pub depth_warning : Place → ℕ → State → Warning
 depth_warning place rule s = numbered_warning place rule (depth_number s) (pos 0)
 
 -- 1, 3, 13, 16: what is wrong with where control goes; 19: a relocation on a number by which the state is followed
-abbrev pub MarksWarn : Place → State → Marks → Warning → Type 0
-MarksWarn place s marks w =
+-- (of code with this owner, if it has one)
+abbrev pub MarksWarn : Place → State → Option ℕ → Marks → Warning → Type 0
+MarksWarn place s owner marks w =
     (marks.bad ≡ true × w ≡ bare_warning place BAD_BRANCH_TARGET)
-    ⊎ (marks.past_end ≡ true × w ≡ bare_warning place RUNS_OFF_SECTION)
+    ⊎ ((marks.past_end ≡ true × (owner ≡ None → is_followed s ≡ true)) × w ≡ bare_warning place RUNS_OFF_SECTION)
     ⊎ (marks.into_site ≡ true × w ≡ bare_warning place JUMP_INTO_SITE)
     ⊎ (marks.into_function ≡ true × w ≡ bare_warning place CALL_INTO_FUNCTION)
     ⊎ ((is_followed s ≡ true × marks.relocated ≡ true) × w ≡ bare_warning place RELOCATED_STACK_OFFSET)
 
--- 5, 15: a return
-abbrev pub ReturnWarns : Place → Op → State → Warning → Type 0
-ReturnWarns place op s w =
+-- 5, 15: a return, of code that may leave or not
+abbrev pub ReturnWarns : Place → Op → State → Bool → Warning → Type 0
+ReturnWarns place op s leaves w =
     (return_rule s ≡ Some MODIFIED_RETURN × w ≡ depth_warning place MODIFIED_RETURN s)
     ⊎ ((op ≡ RetImm × return_rule s ≢ Some EXIT_NOT_ALLOWED) × w ≡ depth_warning place MODIFIED_RETURN s)
-    ⊎ (return_rule s ≡ Some EXIT_NOT_ALLOWED × w ≡ bare_warning place EXIT_NOT_ALLOWED)
+    ⊎ ((return_rule s ≡ Some EXIT_NOT_ALLOWED × leaves ≡ false) × w ≡ bare_warning place EXIT_NOT_ALLOWED)
 
--- 6, 15: a way to another function
-abbrev pub SiblingWarns : Place → State → Warning → Type 0
-SiblingWarns place s w =
+-- 6, 15: a way to another function, of code that may leave or not
+abbrev pub SiblingWarns : Place → State → Bool → Warning → Type 0
+SiblingWarns place s leaves w =
     (sibling_rule s ≡ Some MODIFIED_SIBLING_CALL × w ≡ depth_warning place MODIFIED_SIBLING_CALL s)
-    ⊎ (sibling_rule s ≡ Some EXIT_NOT_ALLOWED × w ≡ bare_warning place EXIT_NOT_ALLOWED)
+    ⊎ ((sibling_rule s ≡ Some EXIT_NOT_ALLOWED × leaves ≡ false) × w ≡ bare_warning place EXIT_NOT_ALLOWED)
 
 -- a way out of the function that the role has
-abbrev pub RoleWarns : Place → Op → State → Role → Warning → Type 0
-RoleWarns place op s Return w = ReturnWarns place op s w
-RoleWarns place op s (JumpOut sym) w = SiblingWarns place s w
-RoleWarns place op s JumpAny w = SiblingWarns place s w
-RoleWarns place op s _ w = ⊥
+abbrev pub RoleWarns : Place → Op → State → Bool → Role → Warning → Type 0
+RoleWarns place op s leaves Return w = ReturnWarns place op s leaves w
+RoleWarns place op s leaves (JumpOut sym) w = SiblingWarns place s leaves w
+RoleWarns place op s leaves JumpAny w = SiblingWarns place s leaves w
+RoleWarns place op s leaves _ w = ⊥
 
--- 7, 8, 9, 10, 11, 15: the operation has no move
-abbrev pub RefusalWarns : Place → Op → State → Warning → Type 0
-RefusalWarns place op s w = (rule : ℕ) × (move s op ≡ Err rule) × (w ≡ bare_warning place rule)
+-- 7, 8, 9, 10, 11, 15: the operation has no move, right before a hint or not
+abbrev pub RefusalWarns : Place → Op → State → Bool → Warning → Type 0
+RefusalWarns place op s before w = (rule : ℕ) × ((move s op ≡ Err rule) × (rule ≡ UNSUPPORTED_SP_WRITE → before ≡ false)) × (w ≡ bare_warning place rule)
 
 -- and is a way out that isn't allowed
-abbrev pub OperationWarns : Place → Op → State → Warning → Type 0
-OperationWarns place op s w =
-    RefusalWarns place op s w
+abbrev pub OperationWarns : Place → Op → State → Bool → Warning → Type 0
+OperationWarns place op s before w =
+    RefusalWarns place op s before w
     ⊎ ((op ≡ Switch × switch_rule s ≡ Some EXIT_NOT_ALLOWED) × w ≡ bare_warning place EXIT_NOT_ALLOWED)
     ⊎ ((op ≡ Iret × iret_rule s ≡ Some EXIT_NOT_ALLOWED) × w ≡ bare_warning place EXIT_NOT_ALLOWED)
 
@@ -84,11 +86,11 @@ ArrivalWarns p states r brought w =
 abbrev pub IsBrought : State → Op → EdgeKind → Option State → Type 0
 IsBrought s op kind brought = option_to_list brought ≡ brought_along s op kind
 
--- 2, 4, 6, 15, 18: an edge of a point
+-- 2, 4, 6, 15, 18: an edge of a point; where it leads to another function, the point isn't code that may leave
 abbrev pub EdgeWarns : Program → List (Option State) → ℕ → State → Edge → Warning → Type 0
 EdgeWarns p states q s e w =
     ((e.kind ≡ Next × p.owner e.to ≢ p.owner q) × w ≡ bare_warning (p.place q) FALLS_THROUGH)
-    ⊎ (e.kind ≡ Sibling × SiblingWarns (p.place q) s w)
+    ⊎ (e.kind ≡ Sibling × SiblingWarns (p.place q) s false w)
     ⊎ ((brought : Option State) × IsBrought s (p.insn q).op e.kind brought × ArrivalWarns p states e.to brought w)
 
 -- some edge of a point
@@ -98,9 +100,9 @@ EdgesWarn p states q s w = (e : Edge) × Contains (edges_of p q) e × EdgeWarns 
 -- a point that keeps a state
 abbrev pub KeptWarns : Program → List (Option State) → ℕ → State → Warning → Type 0
 KeptWarns p states q s w =
-    MarksWarn (p.place q) s (p.marks q) w
-    ⊎ RoleWarns (p.place q) (p.insn q).op s (p.role q) w
-    ⊎ OperationWarns (p.place q) (p.insn q).op s w
+    MarksWarn (p.place q) s (p.owner q) (p.marks q) w
+    ⊎ RoleWarns (p.place q) (p.insn q).op s (may_leave p q) (p.role q) w
+    ⊎ OperationWarns (p.place q) (p.insn q).op s (is_before_hint p q) w
     ⊎ RowWarns (p.place q) s w
     ⊎ EdgesWarn p states q s w
 

@@ -1,6 +1,6 @@
 //! The rules that an edge breaks: where control goes, and what it brings.
 
-ghost use Rattle.std.specs.Prelude.{◌≡◌, ◌≢◌, ◌<◌, ◌↔◌, IsTrue, OnOk, Some, length, option_to_list};
+ghost use Rattle.std.specs.Prelude.{◌≡◌, ◌≢◌, ◌<◌, ◌↔◌, IsTrue, OnOk, Some, false, length, option_to_list};
 ghost use Rattle.state_defs.specs.State.{IsConsistent};
 ghost use Rattle.machine_defs.specs.Program.{Program};
 ghost use Rattle.machine_defs.specs.Kept.{brought_along as brought_along_edge, is_free as is_free_hint};
@@ -35,7 +35,7 @@ fn brought_along(state: State, op: Op, kind: EdgeKind) -> Option<State>
 }
 
 /// Whether states come in along edges at a point with this hint.
-fn is_free(hint: Option<HintState>) -> bool
+pub(crate) fn is_free(hint: Option<HintState>) -> bool
     ensures { result ≡ is_free_hint hint }
 {
     match hint {
@@ -113,10 +113,10 @@ fn push_sibling_edge(
     state: State,
     kind: EdgeKind,
 ) -> Result<(), NoMemory>
-    ensures { OnOk result (IsConsistent state → Gains into.old.items into.new.items (λ w. kind ≡ EdgeKind.Sibling × SiblingWarns place state w)) }
+    ensures { OnOk result (IsConsistent state → Gains into.old.items into.new.items (λ w. kind ≡ EdgeKind.Sibling × SiblingWarns place state false w)) }
 {
     match kind {
-        EdgeKind::Sibling => push_sibling(into, place, state),
+        EdgeKind::Sibling => push_sibling(into, place, state, false),
         EdgeKind::Next | EdgeKind::Taken | EdgeKind::Fixup | EdgeKind::Table => Ok(()),
     }
 }

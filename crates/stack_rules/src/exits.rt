@@ -1,19 +1,19 @@
 //! The rules that a point's marks, its role and its operation break.
 
-ghost use Rattle.std.specs.Prelude.{◌≡◌, ◌≢◌, ◌↔◌, IsTrue, OnOk, Some, true};
+ghost use Rattle.std.specs.Prelude.{◌≡◌, ◌≢◌, ◌↔◌, IsTrue, OnOk, Some, None, true, false};
 ghost use Rattle.state_defs.specs.State.{IsConsistent};
 ghost use Rattle.state_defs.specs.Rules.{iret_rule as iret_rule_of, is_followed as is_followed_state, switch_rule as switch_rule_of};
 ghost use Rattle.stack_rules.specs.Gains.{Gains};
 ghost use Rattle.stack_rules.specs.PointWarns.{MarksWarn, OperationWarns, RefusalWarns, ReturnWarns, RoleWarns, SiblingWarns};
 
-use crate::listing::{bare_warning, is_rule, push, push_if};
+use crate::listing::{bare_warning, is_rule, push_if};
 use crate::numbers::depth_warning;
 use crate::{iret_rule, return_rule, sibling_rule, switch_rule};
 use machine_defs::{Marks, Role};
 use operation_defs::Op;
 use ot_base::rules::{
     BAD_BRANCH_TARGET, CALL_INTO_FUNCTION, EXIT_NOT_ALLOWED, JUMP_INTO_SITE, MODIFIED_RETURN,
-    MODIFIED_SIBLING_CALL, RELOCATED_STACK_OFFSET, RUNS_OFF_SECTION,
+    MODIFIED_SIBLING_CALL, RELOCATED_STACK_OFFSET, RUNS_OFF_SECTION, UNSUPPORTED_SP_WRITE,
 };
 use ot_base::{NoMemory, Place, Warning};
 use stack_state::step;
@@ -36,18 +36,31 @@ fn is_relocated(state: State, marks: Marks) -> bool
     is_followed(state) && marks.relocated
 }
 
-/// The rules 1, 3, 13 and 16: what is wrong with where control goes; and 19: a relocation on a number by which the state is
-/// followed.
+/// Whether execution runs off its section, in code with this owner. Code of no function may do so where the stack has
+/// ended.
+fn runs_off(state: State, owner: Option<u32>, marks: Marks) -> bool
+    ensures { IsTrue result ↔ (marks.past_end ≡ true × (owner ≡ None → is_followed_state state ≡ true)) }
+{
+    marks.past_end && (owner.is_some() || is_followed(state))
+}
+
+/// The rules 1, 3, 13 and 16: what is wrong with where control goes, in code with this owner; and 19: a relocation on a
+/// number by which the state is followed.
 pub(crate) fn push_marks(
     into: &mut Vec<Warning>,
     place: Place,
     state: State,
+    owner: Option<u32>,
     marks: Marks,
 ) -> Result<(), NoMemory>
-    ensures { OnOk result (Gains into.old.items into.new.items (MarksWarn place state marks)) }
+    ensures { OnOk result (Gains into.old.items into.new.items (MarksWarn place state owner marks)) }
 {
     push_if(into, marks.bad, bare_warning(place, BAD_BRANCH_TARGET))?;
-    push_if(into, marks.past_end, bare_warning(place, RUNS_OFF_SECTION))?;
+    push_if(
+        into,
+        runs_off(state, owner, marks),
+        bare_warning(place, RUNS_OFF_SECTION),
+    )?;
     push_if(into, marks.into_site, bare_warning(place, JUMP_INTO_SITE))?;
     push_if(
         into,
@@ -82,46 +95,61 @@ fn is_unallowed_iret(op: Op, state: State) -> bool
     matches!(op, Op::Iret) && is_rule(iret_rule(state), EXIT_NOT_ALLOWED)
 }
 
-/// The rules 5 and 15 at a return.
-fn push_return(into: &mut Vec<Warning>, place: Place, op: Op, state: State) -> Result<(), NoMemory>
-    ensures { OnOk result (IsConsistent state → Gains into.old.items into.new.items (ReturnWarns place op state)) }
+/// Whether a way out breaks the rule that forbids it, in code that may leave or not.
+fn is_unallowed(broken: Option<u8>, may_leave: bool) -> bool
+    ensures { IsTrue result ↔ (broken ≡ Some EXIT_NOT_ALLOWED × may_leave ≡ false) }
+{
+    is_rule(broken, EXIT_NOT_ALLOWED) && !may_leave
+}
+
+/// The rules 5 and 15 at a return, of code that may leave or not.
+fn push_return(
+    into: &mut Vec<Warning>,
+    place: Place,
+    op: Op,
+    state: State,
+    may_leave: bool,
+) -> Result<(), NoMemory>
+    ensures { OnOk result (IsConsistent state → Gains into.old.items into.new.items (ReturnWarns place op state may_leave)) }
 {
     let broken = return_rule(state);
     let modified = depth_warning(place, MODIFIED_RETURN, state);
     let unallowed = bare_warning(place, EXIT_NOT_ALLOWED);
     push_if(into, is_rule(broken, MODIFIED_RETURN), modified)?;
     push_if(into, is_allowed_drop(op, broken), modified)?;
-    push_if(into, is_rule(broken, EXIT_NOT_ALLOWED), unallowed)
+    push_if(into, is_unallowed(broken, may_leave), unallowed)
 }
 
-/// The rules 6 and 15 at a way to another function.
+/// The rules 6 and 15 at a way to another function, of code that may leave or not.
 pub(crate) fn push_sibling(
     into: &mut Vec<Warning>,
     place: Place,
     state: State,
+    may_leave: bool,
 ) -> Result<(), NoMemory>
-    ensures { OnOk result (IsConsistent state → Gains into.old.items into.new.items (SiblingWarns place state)) }
+    ensures { OnOk result (IsConsistent state → Gains into.old.items into.new.items (SiblingWarns place state may_leave)) }
 {
     let broken = sibling_rule(state);
     let modified = depth_warning(place, MODIFIED_SIBLING_CALL, state);
     let unallowed = bare_warning(place, EXIT_NOT_ALLOWED);
     push_if(into, is_rule(broken, MODIFIED_SIBLING_CALL), modified)?;
-    push_if(into, is_rule(broken, EXIT_NOT_ALLOWED), unallowed)
+    push_if(into, is_unallowed(broken, may_leave), unallowed)
 }
 
-/// The rules 5, 6 and 15 at a way out that the point's role has.
+/// The rules 5, 6 and 15 at a way out that the point's role has, of code that may leave or not.
 pub(crate) fn push_role(
     into: &mut Vec<Warning>,
     place: Place,
     op: Op,
     state: State,
+    may_leave: bool,
     role: Role,
 ) -> Result<(), NoMemory>
-    ensures { OnOk result (IsConsistent state → Gains into.old.items into.new.items (RoleWarns place op state role)) }
+    ensures { OnOk result (IsConsistent state → Gains into.old.items into.new.items (RoleWarns place op state may_leave role)) }
 {
     match role {
-        Role::Return => push_return(into, place, op, state),
-        Role::JumpOut { .. } | Role::JumpAny => push_sibling(into, place, state),
+        Role::Return => push_return(into, place, op, state, may_leave),
+        Role::JumpOut { .. } | Role::JumpAny => push_sibling(into, place, state, may_leave),
         Role::Plain
         | Role::CallIn { .. }
         | Role::CallEither { .. }
@@ -131,27 +159,45 @@ pub(crate) fn push_role(
     }
 }
 
-/// The rules 7 to 11 and 15, where the operation has no move in its state.
-fn push_refusal(into: &mut Vec<Warning>, place: Place, op: Op, state: State) -> Result<(), NoMemory>
-    ensures { OnOk result (Gains into.old.items into.new.items (RefusalWarns place op state)) }
+/// Whether a rule that refuses a move is broken, right before a hint or not: rsp may be written in any way there.
+fn is_refused(rule: u8, before_hint: bool) -> bool
+    ensures { IsTrue result ↔ (rule ≡ UNSUPPORTED_SP_WRITE → before_hint ≡ false) }
+{
+    rule != UNSUPPORTED_SP_WRITE || !before_hint
+}
+
+/// The rules 7 to 11 and 15, where the operation has no move in its state, right before a hint or not.
+fn push_refusal(
+    into: &mut Vec<Warning>,
+    place: Place,
+    op: Op,
+    state: State,
+    before_hint: bool,
+) -> Result<(), NoMemory>
+    ensures { OnOk result (Gains into.old.items into.new.items (RefusalWarns place op state before_hint)) }
 {
     match step(state, op) {
         Ok(_) => Ok(()),
-        Err(rule) => push(into, bare_warning(place, rule)),
+        Err(rule) => push_if(
+            into,
+            is_refused(rule, before_hint),
+            bare_warning(place, rule),
+        ),
     }
 }
 
-/// The rules 7 to 11 and 15, as far as the operation breaks them in its state.
+/// The rules 7 to 11 and 15, as far as the operation breaks them in its state, right before a hint or not.
 pub(crate) fn push_operation(
     into: &mut Vec<Warning>,
     place: Place,
     op: Op,
     state: State,
+    before_hint: bool,
 ) -> Result<(), NoMemory>
-    ensures { OnOk result (Gains into.old.items into.new.items (OperationWarns place op state)) }
+    ensures { OnOk result (Gains into.old.items into.new.items (OperationWarns place op state before_hint)) }
 {
     let unallowed = bare_warning(place, EXIT_NOT_ALLOWED);
-    push_refusal(into, place, op, state)?;
+    push_refusal(into, place, op, state, before_hint)?;
     push_if(into, is_unallowed_switch(op, state), unallowed)?;
     push_if(into, is_unallowed_iret(op, state), unallowed)
 }

@@ -19,6 +19,7 @@ mod site_warnings;
 mod sorting;
 mod unframed;
 mod unreached;
+mod ways;
 
 pub use exit_rules::{iret_rule, return_rule, sibling_rule, switch_rule};
 pub use frames::{call_rule, depth_number, same_row};

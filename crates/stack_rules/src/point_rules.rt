@@ -18,6 +18,7 @@ use crate::exits::{push_marks, push_operation, push_role};
 use crate::listing::{bare_warning, is_restore, push, push_if};
 use crate::numbers::push_row;
 use crate::quiet::is_quiet;
+use crate::ways::{is_before_hint, may_leave};
 use kept_states::Kept;
 use ot_base::rules::{FUNCTION_WITHOUT_SIZE, RESTORE_WITHOUT_SAVE};
 use ot_base::{NoMemory, Place, Warning};
@@ -57,9 +58,9 @@ fn push_kept(
 {
     let place = graph.place(n);
     let op = graph.insn(n).op;
-    push_marks(into, place, state, graph.marks(n))?;
-    push_role(into, place, op, state, graph.role(n))?;
-    push_operation(into, place, op, state)?;
+    push_marks(into, place, state, graph.owner(n), graph.marks(n))?;
+    push_role(into, place, op, state, may_leave(graph, n), graph.role(n))?;
+    push_operation(into, place, op, state, is_before_hint(graph, n))?;
     push_row(into, place, state)?;
     push_edges(graph, kept, into, n, state)
 }

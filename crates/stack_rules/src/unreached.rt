@@ -23,7 +23,8 @@ fn is_filler(op: Op) -> bool
     matches!(op, Op::Nop | Op::Int3 | Op::Ud2)
 }
 
-/// Whether a point is an instruction of a checked function that mustn't stand unreached.
+/// Whether a point is an instruction that mustn't stand unreached: of a checked function, or of none where patching alone
+/// doesn't lead.
 fn is_telling(graph: &Graph, n: u32) -> bool
     requires { n < length graph.now.parts.points.items }
     ensures { (p : Program) → Tells p graph.now.parts → IsTrue result ↔ IsTelling p n }
@@ -31,7 +32,7 @@ fn is_telling(graph: &Graph, n: u32) -> bool
     if graph.unchecked(n) {
         return false;
     }
-    if graph.function(n).is_none() {
+    if graph.owner(n).is_none() && graph.in_patches(n) {
         return false;
     }
     if is_filler(graph.insn(n).op) {
@@ -40,7 +41,7 @@ fn is_telling(graph: &Graph, n: u32) -> bool
     graph.variant(n) == 0
 }
 
-/// Whether a number is that of an instruction of a checked function that isn't reached.
+/// Whether a number is that of an instruction that isn't reached.
 fn is_unreached(graph: &Graph, kept: &Kept, n: u32) -> bool
     requires { length kept.now ≡ length graph.now.parts.points.items }
     ensures point { IsTrue result → n < length graph.now.parts.points.items }
@@ -72,7 +73,7 @@ fn is_first_unreached(graph: &Graph, kept: &Kept, n: u32) -> bool
     }
 }
 
-/// Adds a program's warnings of rule 14: the first of some instructions of a function that aren't reached, but
+/// Adds a program's warnings of rule 14: the first of some instructions of a function, or of none, that aren't reached, but
 /// padding. Rule 14 is broken only where none of the rules 1 to 13 and 15 to 19 is, which is left to the caller. An error
 /// says that memory ran out.
 pub fn push_unreachable(graph: &Graph, kept: &Kept, into: &mut Vec<Warning>) -> Result<(), NoMemory>

@@ -4,7 +4,7 @@ use Rattle.std.specs.Prelude.{Option, Some, None, Ok, IsSome, int_le, int_lt}
 use Rattle.std.proofs.lemmas.Int.{ints}
 use Rattle.std.proofs.lemmas.Bool.{and_parts}
 use Rattle.operation_defs.specs.declared.op.Op.{Op}
-use Rattle.operation_defs.specs.declared.op.Op.TheVariants.{Push, PushBp, Pop, PopBp, Popf, AddSp, AndSp, LeaSpBp, LeaBpSp, StoreBp, LoadBp, Leave, SpOther, BpOther, IretNext}
+use Rattle.operation_defs.specs.declared.op.Op.TheVariants.{Push, PushBp, Pop, PopBp, Popf, AddSp, AndSp, LeaSpBp, LeaBpSp, LeaBpRoom, SubSp, SpReg, StoreBp, LoadBp, Leave, SpOther, BpOther, Hop, IretNext}
 use Rattle.state_defs.specs.declared.state.Depth.{Depth}
 use Rattle.state_defs.specs.declared.state.Depth.TheVariants.{Known, AtLeast}
 use Rattle.state_defs.specs.declared.state.BpHome.{BpHome}
@@ -12,7 +12,7 @@ use Rattle.state_defs.specs.declared.state.BpHome.TheVariants.{Same, Saved}
 use Rattle.state_defs.specs.declared.state.State.{State}
 use Rattle.state_defs.specs.declared.state.State.TheVariants.{Live, Ended, Regs}
 use Rattle.state_defs.specs.State.{depth_of, with_depth, ended_by, IsConsistent, IsConsistentLive}
-use Rattle.state_defs.specs.Move.{int_same, has_near_numbers, to, raise, pop_at, push_bp, pop_bp, align, rsp_from_bp, bp_from_rsp, store_bp, load_bp, leave, lose_bp, move_live, regs_floor, raise_regs, pop_bp_regs, lose_bp_regs, move_regs}
+use Rattle.state_defs.specs.Move.{int_same, has_near_numbers, to, raise, pop_at, push_bp, pop_bp, align, rsp_from_bp, bp_from_rsp, make_room, base_over_room, store_bp, load_bp, leave, lose_bp, move_live, regs_floor, raise_regs, pop_bp_regs, lose_bp_regs, move_regs}
 use Rattle.state_defs.specs.Sound.{MoveIsConsistent}
 use Rattle.stack_state.proofs.Results.{to_then, unless_then, pick_then, refused_then, allowed_is}
 
@@ -172,6 +172,20 @@ bp_from_rsp_stays k (Known n) fp (Saved o) t c e =
     (λ other d. to_live _ _ _ t (saved_known n o None (no_base (Saved o)) bounds.0 bounds.1) d)
     e
 
+make_room_stays : (depth : Depth) (fp : Option ℤ) (home : BpHome) (t : State) → IsConsistentLive depth fp home → make_room depth fp home ≡ Ok t → StaysLive t
+make_room_stays depth None home t c e = refused_then (StaysLive t) _ t e
+make_room_stays depth (Some m) home t c e = align_stays depth (Some m) home t c e
+
+base_over_room_stays : (k : ℤ) (depth : Depth) (fp : Option ℤ) (home : BpHome) (t : State) → IsConsistentLive depth fp home → base_over_room k depth home ≡ Ok t → StaysLive t
+base_over_room_stays k depth fp Same t c e = bp_from_rsp_stays k depth fp Same t c e
+base_over_room_stays k (AtLeast n) fp (Saved o) t c e = bp_from_rsp_stays k (AtLeast n) fp (Saved o) t c e
+base_over_room_stays k (Known n) fp (Saved o) t c e =
+    let bounds : (pos 16 ≤ℤ o) × (o ≤ℤ n) = saved_bounds (Known n) fp o c in
+    pick_then (StaysLive t) (int_same (n -ℤ k) o) _ _ t
+    (λ same d. to_live _ _ _ t (saved_at_least n o o (base_at_home o) bounds.0 bounds.1) d)
+    (λ other d. bp_from_rsp_stays k (Known n) fp (Saved o) t c d)
+    e
+
 store_bp_stays : (k : ℤ) (depth : Depth) (fp : Option ℤ) (home : BpHome) (t : State) → IsConsistentLive depth fp home → store_bp k depth fp home ≡ Ok t → StaysLive t
 store_bp_stays k depth fp (Saved o) t c e = to_live _ _ _ t c e
 store_bp_stays k (AtLeast n) fp Same t c e = absurd (same_is_known n fp c)
@@ -202,6 +216,7 @@ lose_bp_stays (Known n) fp (Saved o) t c e =
 
 live_stays : (depth : Depth) (fp : Option ℤ) (home : BpHome) (t : State) (op : Op) → IsConsistentLive depth fp home → move_live depth fp home op ≡ Ok t → StaysLive t
 live_stays depth fp home t Push c e = push_stays depth fp home t c e
+live_stays depth fp home t Hop c e = push_stays depth fp home t c e
 live_stays depth fp home t PushBp c e = push_bp_stays depth fp home t c e
 live_stays depth fp home t Pop c e = raise_stays (pos 8) depth fp home t c e
 live_stays depth fp home t Popf c e = raise_stays (pos 8) depth fp home t c e
@@ -210,6 +225,9 @@ live_stays depth fp home t PopBp c e = pop_bp_stays depth fp home t c e
 live_stays depth fp home t (AndSp mask) c e = align_stays depth fp home t c e
 live_stays depth fp home t (LeaSpBp by) c e = rsp_from_bp_stays by depth fp home t c e
 live_stays depth fp home t (LeaBpSp by) c e = bp_from_rsp_stays by depth fp home t c e
+live_stays depth fp home t (LeaBpRoom by) c e = base_over_room_stays by depth fp home t c e
+live_stays depth fp home t SubSp c e = make_room_stays depth fp home t c e
+live_stays depth fp home t SpReg c e = make_room_stays depth fp home t c e
 live_stays depth fp home t (StoreBp at) c e = store_bp_stays at depth fp home t c e
 live_stays depth fp home t (LoadBp at) c e = load_bp_stays at depth fp home t c e
 live_stays depth fp home t Leave c e = leave_stays depth fp home t c e
@@ -254,18 +272,22 @@ lose_bp_regs_stays true depth t c e = to_regs true depth t c e
 
 regs_stays : (full : Bool) (depth : ℤ) (t : State) (op : Op) → IsConsistent (Regs full depth) → move_regs full depth op ≡ Ok t → StaysLive t
 regs_stays full depth t Push c e = push_regs_stays full depth t c e
+regs_stays full depth t Hop c e = push_regs_stays full depth t c e
 regs_stays full depth t PushBp c e = push_regs_stays full depth t c e
 regs_stays full depth t Pop c e = raise_regs_stays (pos 8) full depth t e
 regs_stays full depth t Popf c e = raise_regs_stays (pos 8) full depth t e
 regs_stays full depth t (AddSp by) c e = raise_regs_stays by full depth t e
 regs_stays full depth t PopBp c e = pop_bp_regs_stays full depth t e
 regs_stays full depth t (LeaBpSp by) c e = lose_bp_regs_stays full depth t c e
+regs_stays full depth t (LeaBpRoom by) c e = lose_bp_regs_stays full depth t c e
 regs_stays full depth t (LoadBp at) c e = lose_bp_regs_stays full depth t c e
 regs_stays full depth t BpOther c e = lose_bp_regs_stays full depth t c e
 regs_stays full depth t (AndSp mask) c e = refused_then (StaysLive t) _ t e
 regs_stays full depth t (LeaSpBp by) c e = refused_then (StaysLive t) _ t e
 regs_stays full depth t Leave c e = refused_then (StaysLive t) _ t e
 regs_stays full depth t SpOther c e = refused_then (StaysLive t) _ t e
+regs_stays full depth t SubSp c e = refused_then (StaysLive t) _ t e
+regs_stays full depth t SpReg c e = refused_then (StaysLive t) _ t e
 regs_stays full depth t IretNext c e = refused_then (StaysLive t) _ t e
 regs_stays full depth t _ c e = to_regs full depth t c e
 

@@ -32,3 +32,10 @@ depth_masked depth from cfa mask d w near =
     let space : (pos from +ℤ depth_of depth) ≤ℤ pos cfa = room depth from cfa w near d in
     let less : bit_and from mask ≤ from = and_le_l from mask in
     omega (arith, ints)
+
+-- rsp is lowered
+pub depth_lowered : (depth : Depth) (from to cfa : ℕ) → MeansDepth depth from cfa → IsWithin from cfa → IsNear (depth_of depth) → to ≤ from
+    → (pos to +ℤ depth_of depth) ≤ℤ pos cfa
+depth_lowered depth from to cfa d w near less =
+    let space : (pos from +ℤ depth_of depth) ≤ℤ pos cfa = room depth from cfa w near d in
+    omega (arith, ints)

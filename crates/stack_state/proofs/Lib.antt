@@ -15,3 +15,4 @@ pub mod Scenes
 pub mod Slots
 pub mod Sound
 pub mod Words
+pub mod RegsStay

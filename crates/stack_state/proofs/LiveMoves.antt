@@ -1,5 +1,5 @@
 -- The moves of a live state are sound: those that leave the top frame's slot alone.
-use Rattle.std.proofs.Common.{◌≡◌, ℕ, ◌≤◌, List, ◌∷◌, ℤ, pos, neg_ℤ, ◌+ℤ◌, ◌-ℤ◌, ◌≤ℤ◌, arith, refl, sym, subst, ◌∙◌}
+use Rattle.std.proofs.Common.{◌≡◌, ℕ, ◌≤◌, List, ◌∷◌, ℤ, pos, neg_ℤ, ◌+ℤ◌, ◌-ℤ◌, ◌≤ℤ◌, arith, refl, sym, subst, ◌∙◌, le_of_eq}
 use Rattle.std.specs.Prelude.{Option, Some, None, IfSome, Ok, int_lt, bit_and}
 use Rattle.std.proofs.lemmas.Int.{ints}
 use Rattle.state_defs.specs.declared.state.Depth.{Depth}
@@ -13,10 +13,10 @@ use Rattle.state_defs.specs.Region.{hi_of}
 use Rattle.state_defs.specs.Frame.{Slot, Frame, listed}
 use Rattle.state_defs.specs.Effect.{Core}
 use Rattle.state_defs.specs.State.{depth_of, with_depth, IsConsistentLive, MeansDepth, MeansHome, MeansLive}
-use Rattle.state_defs.specs.Move.{to, int_same, raise, floor_of, align, rsp_from_bp, bp_from_rsp, lose_bp}
+use Rattle.state_defs.specs.Move.{to, int_same, raise, floor_of, align, rsp_from_bp, bp_from_rsp, make_room, base_over_room, lose_bp}
 use Rattle.stack_state.proofs.Addresses.{IsNear}
 use Rattle.stack_state.proofs.Consistent.{int_same_is}
-use Rattle.stack_state.proofs.Depths.{place_moved, depth_moved, depth_masked}
+use Rattle.stack_state.proofs.Depths.{place_moved, depth_moved, depth_masked, depth_lowered}
 use Rattle.stack_state.proofs.Outcomes.{within, near_depth, EachHeld}
 use Rattle.stack_state.proofs.Results.{unless_then, pick_then, refused_then}
 use Rattle.stack_state.proofs.Scenes.{Scene, Arrives, arrive, same_frame}
@@ -107,6 +107,22 @@ align_sound mask depth (Some m) home before after f below t scene steady rsp rbp
     (home_stays home before.rbp after.rbp f.cfa f.bp f.slot rbp means.bp))
     e
 
+-- rsp is lowered by a number that isn't known
+pub make_room_sound : (depth : Depth) (fp : Option ℤ) (home : BpHome) (before after : Core) (f : Frame) (below : List Frame) (t : State)
+    → Scene (Live depth fp home) before after f below → Steady before after f below → after.rsp ≤ before.rsp → after.rbp ≡ before.rbp
+    → make_room depth fp home ≡ Ok t → Arrives t after f below
+make_room_sound depth None home before after f below t scene steady rsp rbp e = refused_then (Arrives t after f below) _ t e
+make_room_sound depth (Some m) home before after f below t scene steady rsp rbp e =
+    let means : MeansLive depth (Some m) home before.rsp before.rbp f = scene.told.means in
+    arrive (Live (AtLeast (depth_of depth)) (Some m) home) t after f below
+    (λ near c.
+    let close : IsNear (depth_of depth) = near_depth (AtLeast (depth_of depth)) (Some m) home near in
+    same_frame (Live depth (Some m) home) before after f below scene (AtLeast (depth_of depth)) (Some m) home c near steady.frames steady.top steady.held
+    (depth_lowered depth before.rsp after.rsp f.cfa means.depth (within before f.cfa scene.first scene.told.top) close rsp)
+    (fp_stays (Some m) before.rbp after.rbp f.cfa rbp means.fp)
+    (home_stays home before.rbp after.rbp f.cfa f.bp f.slot rbp means.bp))
+    e
+
 -- rsp is set from rbp
 pub rsp_from_bp_sound : (k : ℤ) (depth : Depth) (fp : Option ℤ) (home : BpHome) (before after : Core) (f : Frame) (below : List Frame) (t : State)
     → Scene (Live depth fp home) before after f below → Steady before after f below → after.rsp ≡ shifted before.rbp k → after.rbp ≡ before.rbp
@@ -149,6 +165,25 @@ bp_from_rsp_sound k (Known n) fp (Saved o) before after f below t scene steady r
     (place_moved before.rsp after.rbp f.cfa k n o means.depth rbp (let is : n -ℤ k ≡ o = int_same_is (n -ℤ k) o same in omega (arith, ints)))
     means.bp) d)
     (λ other d. no_base_sound n o fp before after f below t scene steady rsp d)
+    e
+
+-- rbp becomes the frame's base over room
+pub base_over_room_sound : (k : ℤ) (depth : Depth) (fp : Option ℤ) (home : BpHome) (before after : Core) (f : Frame) (below : List Frame) (t : State)
+    → Scene (Live depth fp home) before after f below → Steady before after f below → after.rsp ≡ before.rsp → after.rbp ≡ shifted before.rsp k
+    → base_over_room k depth home ≡ Ok t → Arrives t after f below
+base_over_room_sound k depth fp Same before after f below t scene steady rsp rbp e = bp_from_rsp_sound k depth fp Same before after f below t scene steady rsp rbp e
+base_over_room_sound k (AtLeast n) fp (Saved o) before after f below t scene steady rsp rbp e = bp_from_rsp_sound k (AtLeast n) fp (Saved o) before after f below t scene steady rsp rbp e
+base_over_room_sound k (Known n) fp (Saved o) before after f below t scene steady rsp rbp e =
+    let means : MeansLive (Known n) fp (Saved o) before.rsp before.rbp f = scene.told.means in
+    pick_then (Arrives t after f below) (int_same (n -ℤ k) o) _ _ t
+    (λ same d. arrive (Live (AtLeast n) (Some o) (Saved o)) t after f below
+    (λ near c.
+    let close : IsNear n = near_depth (AtLeast n) (Some o) (Saved o) near in
+    same_frame (Live (Known n) fp (Saved o)) before after f below scene (AtLeast n) (Some o) (Saved o) c near steady.frames steady.top steady.held
+    (depth_lowered (Known n) before.rsp after.rsp f.cfa means.depth (within before f.cfa scene.first scene.told.top) close (le_of_eq rsp))
+    (place_moved before.rsp after.rbp f.cfa k n o means.depth rbp (let is : n -ℤ k ≡ o = int_same_is (n -ℤ k) o same in omega (arith, ints)))
+    means.bp) d)
+    (λ other d. bp_from_rsp_sound k (Known n) fp (Saved o) before after f below t scene steady rsp rbp d)
     e
 
 -- rbp is lost

@@ -3,7 +3,7 @@ use Rattle.std.proofs.Common.{◌≡◌, List, ◌∷◌, ℤ, pos, negsuc, ◌+
 use Rattle.std.specs.Prelude.{Option, Some, None, Ok}
 use Rattle.std.proofs.lemmas.Int.{ints}
 use Rattle.operation_defs.specs.declared.op.Op.{Op}
-use Rattle.operation_defs.specs.declared.op.Op.TheVariants.{Plain, Nop, Endbr, Push, PushBp, Pop, PopBp, Popf, AddSp, AndSp, LeaSpBp, LeaBpSp, StoreBp, LoadBp, Leave, SpOther, BpOther, Call, CallInd, Jmp, Jcc, JmpInd, Ret, RetImm, Iret, IretNext, Switch, Ud2, Int3, Stac, Clac}
+use Rattle.operation_defs.specs.declared.op.Op.TheVariants.{Plain, Nop, Endbr, Push, PushBp, Pop, PopBp, Popf, AddSp, AndSp, LeaSpBp, LeaBpSp, LeaBpRoom, SubSp, SpReg, StoreBp, LoadBp, Leave, SpOther, BpOther, Call, Hop, CallInd, Jmp, Jcc, JmpInd, Ret, RetImm, Iret, IretNext, Switch, Ud2, Int3, Stac, Clac}
 use Rattle.state_defs.specs.declared.state.Depth.{Depth}
 use Rattle.state_defs.specs.declared.state.Depth.TheVariants.{Known, AtLeast}
 use Rattle.state_defs.specs.declared.state.BpHome.{BpHome}
@@ -13,10 +13,10 @@ use Rattle.state_defs.specs.declared.state.State.TheVariants.{Live}
 use Rattle.state_defs.specs.Address.{up, down, shifted}
 use Rattle.state_defs.specs.Region.{WritesOnly}
 use Rattle.state_defs.specs.Frame.{Frame, listed, with_top_slot, popped_slot, loaded_slot}
-use Rattle.state_defs.specs.Effect.{Core, HasSignedNumber, Effect}
+use Rattle.state_defs.specs.Effect.{Core, HasSignedNumber, MakesRoom, Effect}
 use Rattle.state_defs.specs.State.{depth_of, with_depth, MeansLive}
-use Rattle.state_defs.specs.Move.{to, raise, pop_bp, leave, move_live}
-use Rattle.stack_state.proofs.LiveMoves.{stay_sound, shift_sound, raise_sound, align_sound, rsp_from_bp_sound, bp_from_rsp_sound, lose_bp_sound}
+use Rattle.state_defs.specs.Move.{to, raise, pop_bp, make_room, leave, move_live}
+use Rattle.stack_state.proofs.LiveMoves.{stay_sound, shift_sound, raise_sound, align_sound, rsp_from_bp_sound, bp_from_rsp_sound, make_room_sound, base_over_room_sound, lose_bp_sound}
 use Rattle.stack_state.proofs.LiveSlots.{push_bp_sound, pop_at_sound, load_bp_sound}
 use Rattle.stack_state.proofs.LiveStores.{steady_same, steady_ordinary, store_bp_sound}
 use Rattle.stack_state.proofs.Memory.{same_top}
@@ -72,6 +72,13 @@ leave_sound depth (Some m) (Saved o) before after f below t scene effect e =
     pop_at_sound (Live depth (Some m) (Saved o)) before after f below t scene m o before.rbp (loaded_slot before.rbp) (λ a. refl) means.bp means.fp effect.0
     (ap (λ (c : Core). c.rsp) done) (ap (λ (c : Core). c.shadow) done) (ap (λ (c : Core). c.region) done) e
 
+room_sound : (depth : Depth) (fp : Option ℤ) (home : BpHome) (before after : Core) (f : Frame) (below : List Frame) (t : State)
+    → Scene (Live depth fp home) before after f below → MakesRoom before after → make_room depth fp home ≡ Ok t → Arrives t after f below
+room_sound depth fp home before after f below t scene room e =
+    make_room_sound depth fp home before after f below t scene
+    (steady_same (Live depth fp home) before after f below scene (ap (λ (c : Core). c.shadow) room.1) (ap (λ (c : Core). c.region) room.1))
+    room.0 (ap (λ (c : Core). c.rbp) room.1) e
+
 -- by each operation
 pub live_sound : (depth : Depth) (fp : Option ℤ) (home : BpHome) (before after : Core) (f : Frame) (below : List Frame) (t : State) (op : Op)
     → Scene (Live depth fp home) before after f below → HasSignedNumber op → Effect op before after → move_live depth fp home op ≡ Ok t → Arrives t after f below
@@ -82,6 +89,7 @@ live_sound depth fp home before after f below t Plain scene fits effect e =
 live_sound depth fp home before after f below t Nop scene fits effect e = nothing_sound depth fp home before after f below t scene effect e
 live_sound depth fp home before after f below t Endbr scene fits effect e = nothing_sound depth fp home before after f below t scene effect e
 live_sound depth fp home before after f below t Push scene fits effect e = push_sound depth fp home before after f below t scene effect e
+live_sound depth fp home before after f below t Hop scene fits effect e = push_sound depth fp home before after f below t scene effect e
 live_sound depth fp home before after f below t PushBp scene fits effect e =
     push_bp_sound depth fp home before after f below t scene effect.0
     (ap (λ (c : Core). c.rsp) effect.1) (ap (λ (c : Core). c.rbp) effect.1) (ap (λ (c : Core). c.shadow) effect.1) e
@@ -110,6 +118,12 @@ live_sound depth fp home before after f below t (LeaBpSp by) scene fits effect e
     bp_from_rsp_sound by depth fp home before after f below t scene
     (steady_same (Live depth fp home) before after f below scene (ap (λ (c : Core). c.shadow) effect) (ap (λ (c : Core). c.region) effect))
     (ap (λ (c : Core). c.rsp) effect) (ap (λ (c : Core). c.rbp) effect) e
+live_sound depth fp home before after f below t (LeaBpRoom by) scene fits effect e =
+    base_over_room_sound by depth fp home before after f below t scene
+    (steady_same (Live depth fp home) before after f below scene (ap (λ (c : Core). c.shadow) effect) (ap (λ (c : Core). c.region) effect))
+    (ap (λ (c : Core). c.rsp) effect) (ap (λ (c : Core). c.rbp) effect) e
+live_sound depth fp home before after f below t SubSp scene fits effect e = room_sound depth fp home before after f below t scene effect e
+live_sound depth fp home before after f below t SpReg scene fits effect e = room_sound depth fp home before after f below t scene effect e
 live_sound depth fp home before after f below t (StoreBp at) scene fits effect e = store_bp_sound at depth fp home before after f below t scene effect.0 effect.1 e
 live_sound depth fp home before after f below t (LoadBp at) scene fits effect e =
     load_bp_sound at depth fp home before after f below t scene fits (loaded_slot (shifted before.rsp at)) (λ a. refl) effect.0

@@ -5,7 +5,7 @@ use Rattle.std.proofs.lemmas.Int.{ints}
 use Rattle.std.proofs.lemmas.Bool.{eq-eqb, cond-true, cond-false, ne_eqb}
 use Rattle.std.proofs.lemmas.Bool.Decides.{when_false}
 use Rattle.operation_defs.specs.declared.op.Op.{Op}
-use Rattle.operation_defs.specs.declared.op.Op.TheVariants.{Plain, Nop, Endbr, Push, PushBp, Pop, PopBp, Popf, AddSp, AndSp, LeaSpBp, LeaBpSp, StoreBp, LoadBp, Leave, SpOther, BpOther, Call, CallInd, Jmp, Jcc, JmpInd, Ret, RetImm, Iret, IretNext, Switch, Ud2, Int3, Stac, Clac}
+use Rattle.operation_defs.specs.declared.op.Op.TheVariants.{Plain, Nop, Endbr, Push, PushBp, Pop, PopBp, Popf, AddSp, AndSp, LeaSpBp, LeaBpSp, LeaBpRoom, SubSp, SpReg, StoreBp, LoadBp, Leave, SpOther, BpOther, Call, Hop, CallInd, Jmp, Jcc, JmpInd, Ret, RetImm, Iret, IretNext, Switch, Ud2, Int3, Stac, Clac}
 use Rattle.state_defs.specs.declared.state.State.{State}
 use Rattle.state_defs.specs.declared.state.State.TheVariants.{Regs}
 use Rattle.state_defs.specs.Address.{up, down, shifted}
@@ -257,6 +257,9 @@ regs_sound full d before after f below t Endbr scene effect e = nothing_sound fu
 regs_sound full d before after f below t Push scene effect e =
     push_sound full d before after f below t scene effect.0
     (ap (λ (c : Core). c.rsp) effect.1) (ap (λ (c : Core). c.rbp) effect.1) (ap (λ (c : Core). c.shadow) effect.1) e
+regs_sound full d before after f below t Hop scene effect e =
+    push_sound full d before after f below t scene effect.0
+    (ap (λ (c : Core). c.rsp) effect.1) (ap (λ (c : Core). c.rbp) effect.1) (ap (λ (c : Core). c.shadow) effect.1) e
 regs_sound full d before after f below t PushBp scene effect e =
     push_sound full d before after f below t scene effect.0.only
     (ap (λ (c : Core). c.rsp) effect.1) (ap (λ (c : Core). c.rbp) effect.1)
@@ -280,6 +283,12 @@ regs_sound full d before after f below t (LeaBpSp by) scene effect e =
     lose_bp_sound full d before after f below t scene
     (steady_same (Regs full d) before after f below scene (ap (λ (c : Core). c.shadow) effect) (ap (λ (c : Core). c.region) effect))
     (ap (λ (c : Core). c.rsp) effect) e
+regs_sound full d before after f below t (LeaBpRoom by) scene effect e =
+    lose_bp_sound full d before after f below t scene
+    (steady_same (Regs full d) before after f below scene (ap (λ (c : Core). c.shadow) effect) (ap (λ (c : Core). c.region) effect))
+    (ap (λ (c : Core). c.rsp) effect) e
+regs_sound full d before after f below t SubSp scene effect e = refused_then (Arrives t after f below) _ t e
+regs_sound full d before after f below t SpReg scene effect e = refused_then (Arrives t after f below) _ t e
 regs_sound full d before after f below t (StoreBp at) scene effect e = store_bp_sound at full d before after f below t scene effect.1 e
 regs_sound full d before after f below t (LoadBp at) scene effect e =
     lose_bp_sound full d before after f below t scene

@@ -1,7 +1,7 @@
 //! The moves of a live state.
 
 ghost use Rattle.std.specs.Prelude.{◌≡◌, pos};
-ghost use Rattle.state_defs.specs.Move.{floor_of, raise, pop_at, push_bp, pop_bp, align, rsp_from_bp, bp_from_rsp, store_bp, load_bp, leave, lose_bp, where_allowed, move_live};
+ghost use Rattle.state_defs.specs.Move.{floor_of, raise, pop_at, push_bp, pop_bp, align, rsp_from_bp, bp_from_rsp, make_room, base_over_room, store_bp, load_bp, leave, lose_bp, where_allowed, move_live};
 
 use crate::numbers::{in_range, is_same, minus, number_of, plus, to, to_live};
 use operation_defs::Op;
@@ -125,6 +125,29 @@ fn bp_from_rsp(by: i64, depth: Depth, bp: BpHome) -> Result<State, u8>
     }
 }
 
+/// rsp is lowered by a register, or set to one, which is as unknown as where it is masked.
+fn make_room(depth: Depth, fp: Option<i64>, bp: BpHome) -> Result<State, u8>
+    ensures { result ≡ make_room depth fp bp }
+{
+    match fp {
+        None => Err(UNSUPPORTED_SP_WRITE),
+        Some(_) => align(depth, fp, bp),
+    }
+}
+
+/// rbp is set to rsp plus `by` in a function that makes room: where it becomes the frame's base, the
+/// depth is told as it is where room was made.
+fn base_over_room(by: i64, depth: Depth, bp: BpHome) -> Result<State, u8>
+    ensures { result ≡ base_over_room by depth bp }
+{
+    match (bp, depth) {
+        (BpHome::Saved(o), Depth::Known(n)) if is_same(minus(n, by), o) => {
+            align(depth, Some(o), bp)
+        }
+        _ => bp_from_rsp(by, depth, bp),
+    }
+}
+
 /// rbp is stored at rsp plus `at`: it is saved there, where that lies between rsp and the return
 /// address.
 fn store_bp(at: i64, depth: Depth, fp: Option<i64>, bp: BpHome) -> Result<State, u8>
@@ -207,7 +230,7 @@ pub fn step_live(depth: Depth, fp: Option<i64>, bp: BpHome, op: Op) -> Result<St
     ensures { result ≡ move_live depth fp bp op }
 {
     match op {
-        Op::Push => to_live(depth, plus(number_of(depth), 8), fp, bp),
+        Op::Push | Op::Hop => to_live(depth, plus(number_of(depth), 8), fp, bp),
         Op::PushBp => push_bp(depth, fp, bp),
         Op::Pop | Op::Popf => raise(8, depth, fp, bp),
         Op::AddSp { by } => raise(by, depth, fp, bp),
@@ -215,6 +238,8 @@ pub fn step_live(depth: Depth, fp: Option<i64>, bp: BpHome, op: Op) -> Result<St
         Op::AndSp { .. } => align(depth, fp, bp),
         Op::LeaSpBp { by } => rsp_from_bp(by, fp, bp),
         Op::LeaBpSp { by } => bp_from_rsp(by, depth, bp),
+        Op::LeaBpRoom { by } => base_over_room(by, depth, bp),
+        Op::SubSp | Op::SpReg => make_room(depth, fp, bp),
         Op::StoreBp { at } => store_bp(at, depth, fp, bp),
         Op::LoadBp { at } => load_bp(at, depth, bp),
         Op::Leave => leave(fp, bp),

@@ -59,13 +59,15 @@ pub fn step_regs(full: bool, depth: i64, op: Op) -> Result<State, u8>
     ensures { result ≡ move_regs full depth op }
 {
     match op {
-        Op::Push | Op::PushBp => to_regs(full, plus(depth, 8)),
+        Op::Push | Op::PushBp | Op::Hop => to_regs(full, plus(depth, 8)),
         Op::Pop | Op::Popf => raise(8, full, depth),
         Op::AddSp { by } => raise(by, full, depth),
         Op::PopBp => pop_bp(full, depth),
-        Op::LeaBpSp { .. } | Op::LoadBp { .. } | Op::BpOther => lose_bp(full, depth),
+        Op::LeaBpSp { .. } | Op::LeaBpRoom { .. } | Op::LoadBp { .. } | Op::BpOther => {
+            lose_bp(full, depth)
+        }
         Op::AndSp { .. } | Op::LeaSpBp { .. } | Op::Leave => Err(STACK_POINTER_LOST),
-        Op::SpOther => Err(UNSUPPORTED_SP_WRITE),
+        Op::SpOther | Op::SubSp | Op::SpReg => Err(UNSUPPORTED_SP_WRITE),
         Op::IretNext => Err(EXIT_NOT_ALLOWED),
         _ => to_regs(full, i128::from(depth)),
     }

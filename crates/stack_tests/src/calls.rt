@@ -1,12 +1,14 @@
 //! Programs that break no rule, with calls and jumps from function to function.
 
-use crate::case::{Accepted, CALLED, CALLER, ENDED, ENTERED, FRAMED, How, PUSHED, RBP, Run, SAVED};
+use crate::case::{
+    Accepted, CALLED, CALLER, END, ENDED, ENTERED, FRAMED, How, PUSHED, RBP, Run, SAVED,
+};
 use crate::expect::expect_accepted;
 use machine_defs::{EdgeKind, Role};
 use operation_defs::Op;
 use program_model::Store;
 use stack_examples::lines::{Table, With};
-use state_defs::{EndKind, HintState, State};
+use state_defs::HintState;
 use std::test::Fail;
 use table_defs::Frame;
 
@@ -152,8 +154,6 @@ const CALLED_AT_2: &[Frame] = &[Frame {
     cfa: 0x8100,
     bp: 0,
 }];
-
-const END: State = State::Ended(EndKind::EndOfStack);
 
 /// 31 ED E8 02 00 00 00 0F 0B 55 48 89 E5 5D C3: entry code of no function, where a hint ends the stack,
 /// clears rbp and calls the function at 9, which sets up a frame pointer. A ud2 follows the call, so the

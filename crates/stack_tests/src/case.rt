@@ -5,7 +5,7 @@ use machine_model::{Frame, Slot, Start, Wreck};
 use ot_base::Options;
 use program_model::Store;
 use stack_examples::lines::Table;
-use state_defs::{BpHome, Depth, State};
+use state_defs::{BpHome, Depth, EndKind, State};
 use table_defs::{Frame as WalkedFrame, Stop};
 
 /// Where the stack begins, and where it ends.
@@ -38,6 +38,13 @@ pub const PUSHED: State = State::Live {
     bp: BpHome::Same,
 };
 
+/// Behind two pushes.
+pub const PUSHED_2: State = State::Live {
+    depth: Depth::Known(24),
+    fp: None,
+    bp: BpHome::Same,
+};
+
 /// rbp was pushed first.
 pub const SAVED: State = State::Live {
     depth: Depth::Known(16),
@@ -58,6 +65,9 @@ pub const DEEPER: State = State::Live {
     bp: BpHome::Saved(16),
 };
 
+/// A hint ended the stack.
+pub const END: State = State::Ended(EndKind::EndOfStack);
+
 /// No option.
 pub const NO_OPTIONS: Options = Options {
     fp: false,
@@ -76,6 +86,8 @@ pub enum How {
     Stores(&'static [Store]),
     /// With this written to rbp.
     WritesBp(u64),
+    /// With this written to rsp, and where rbp is written too, the caller's.
+    WritesSp(u64),
     /// By a branch.
     Taken,
     /// By a jump table.
@@ -162,6 +174,12 @@ pub const ENDED: From = From {
         frames: &[],
         stop: Stop::EndOfStack,
     },
+};
+
+/// Called from outside at point 0, where a hint tells a call frame.
+pub const TOLD: From = From {
+    start: Start::AtCallHint,
+    ..CALLED
 };
 
 /// A step of a run: how the machine goes on, the point and rsp to which it comes, and the frames there.

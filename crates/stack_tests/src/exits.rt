@@ -1,6 +1,6 @@
 //! A wrong program for each rule of ways out: exactly that rule warns of it, and a run of it goes wrong.
 
-use crate::case::{Broken, CALLED, ENDED, End, How, NO_OPTIONS, Wrong};
+use crate::case::{Broken, CALLED, End, How, NO_OPTIONS, Wrong};
 use crate::expect::expect_broken;
 use crate::targets::JMP;
 use machine_defs::{EdgeKind, Role};
@@ -8,12 +8,12 @@ use machine_model::Wreck;
 use operation_defs::Op;
 use ot_base::rules;
 use stack_examples::lines::{Table, With};
-use state_defs::{EndKind, HintState, State};
+use state_defs::{HintState, State};
 use std::test::Fail;
 use table_defs::Stop;
 
 /// It returns with a stack that isn't ready for that.
-const WRONG_RETURN: How = How::Wrecks(Wreck::WrongReturn);
+pub const WRONG_RETURN: How = How::Wrecks(Wreck::WrongReturn);
 
 const RETURN: Broken = Broken {
     name: "a return that leaves a push on the stack",
@@ -79,26 +79,10 @@ const JUMP_OUT: Broken = Broken {
 };
 
 /// A hint that tells the five words of an interrupt.
-const GATE: With = With::Hint(HintState::Set(State::Regs {
+pub const GATE: With = With::Hint(HintState::Set(State::Regs {
     full: false,
     depth: 0,
 }));
-
-const GATE_RETURNS: Broken = Broken {
-    name: "a gate that returns",
-    table: Table {
-        rows: &[(0, 1, Op::Ret, &[]), (1, 1, Op::Ret, &[With::OfNone, GATE])],
-        entries: &[0],
-        sites: &[],
-    },
-    options: NO_OPTIONS,
-    warnings: &[(1, rules::EXIT_NOT_ALLOWED, 0, 0)],
-    run: End::IsWrong(
-        CALLED,
-        &[(How::IsInterrupted, 1), (WRONG_RETURN, 0)],
-        Wrong::Wrecked,
-    ),
-};
 
 const GATE_JUMPS: Broken = Broken {
     name: "a gate that jumps to a function",
@@ -140,29 +124,6 @@ const IRET: Broken = Broken {
     ),
 };
 
-const ENDED_RETURNS: Broken = Broken {
-    name: "a return where the stack has ended",
-    table: Table {
-        rows: &[
-            (
-                0,
-                1,
-                Op::Nop,
-                &[
-                    With::OfNone,
-                    With::Hint(HintState::Set(State::Ended(EndKind::EndOfStack))),
-                ],
-            ),
-            (1, 1, Op::Ret, &[With::OfNone]),
-        ],
-        entries: &[],
-        sites: &[],
-    },
-    options: NO_OPTIONS,
-    warnings: &[(1, rules::EXIT_NOT_ALLOWED, 0, 0)],
-    run: End::IsWrong(ENDED, &[(How::Next, 1), (WRONG_RETURN, 0)], Wrong::Wrecked),
-};
-
 /// It has no step that could go wrong.
 const SYSTEM_CALL: Broken = Broken {
     name: "a system call in a function",
@@ -197,11 +158,6 @@ fn warns_of_jump_out(rt: HostRuntime) -> Result<(), Fail> {
 }
 
 #[test]
-fn warns_of_gate_returns(rt: HostRuntime) -> Result<(), Fail> {
-    expect_broken(&rt, rt.alloc(), &GATE_RETURNS)
-}
-
-#[test]
 fn warns_of_gate_jumps(rt: HostRuntime) -> Result<(), Fail> {
     expect_broken(&rt, rt.alloc(), &GATE_JUMPS)
 }
@@ -209,11 +165,6 @@ fn warns_of_gate_jumps(rt: HostRuntime) -> Result<(), Fail> {
 #[test]
 fn warns_of_iret(rt: HostRuntime) -> Result<(), Fail> {
     expect_broken(&rt, rt.alloc(), &IRET)
-}
-
-#[test]
-fn warns_of_ended_returns(rt: HostRuntime) -> Result<(), Fail> {
-    expect_broken(&rt, rt.alloc(), &ENDED_RETURNS)
 }
 
 #[test]

@@ -1,6 +1,6 @@
 //! What is expected of a program: its states, its warnings, and how it runs.
 
-use crate::case::{Accepted, Broken, End, From, How, LO, NO_OPTIONS, Run, Wrong};
+use crate::case::{Accepted, Broken, End, From, How, LO, NO_OPTIONS, RBP, Run, Wrong};
 use machine_defs::{Edge, EdgeKind};
 use machine_model::{
     Anything, Choice, Core, InterruptWords, Machine, Standing, next_state, started,
@@ -41,6 +41,14 @@ impl How {
             How::Next => goes(to, EdgeKind::Next, ANYTHING),
             How::Stores(stores) => goes(to, EdgeKind::Next, Anything { stores, ..ANYTHING }),
             How::WritesBp(rbp) => goes(to, EdgeKind::Next, Anything { rbp, ..ANYTHING }),
+            How::WritesSp(rsp) => {
+                let any = Anything {
+                    rsp,
+                    rbp: RBP,
+                    ..ANYTHING
+                };
+                goes(to, EdgeKind::Next, any)
+            }
             How::Taken => goes(to, EdgeKind::Taken, ANYTHING),
             How::Table => goes(to, EdgeKind::Table, ANYTHING),
             How::Faults(stores) => Choice::Faults { to, stores },

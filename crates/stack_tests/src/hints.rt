@@ -72,7 +72,7 @@ const SAVE_AND_RESTORE: Accepted = Accepted {
 };
 
 /// Called from outside, at a hint; a word was pushed.
-const TOLD: From = From {
+const TOLD_PUSHED: From = From {
     start: Start::AtCallHint,
     point: 0,
     rsp: 0x80F0,
@@ -98,7 +98,7 @@ const CALL_FRAME_BY_A_HINT: Accepted = Accepted {
     },
     states: &[Some(PUSHED), Some(PUSHED), Some(ENTERED)],
     runs: &[Run {
-        from: TOLD,
+        from: TOLD_PUSHED,
         steps: &[
             (How::Next, 1, 0x80F0, &[CALLER]),
             (How::Next, 2, 0x80F8, &[CALLER]),

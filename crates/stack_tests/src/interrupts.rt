@@ -2,7 +2,8 @@
 //! back; at a gate with an error code; one that came outside; and an iret to itself.
 
 use crate::case::{
-    Accepted, CALLED, CALLER, ENTERED, FRAMED, From, How, OUTSIDE, PUSHED, RBP, Run, SAVED, Stack,
+    Accepted, CALLED, CALLER, ENTERED, FRAMED, From, How, OUTSIDE, PUSHED, PUSHED_2, RBP, Run,
+    SAVED, Stack,
 };
 use crate::expect::expect_accepted;
 use machine_model::{Frame as ShadowFrame, Slot, Start};
@@ -209,13 +210,7 @@ const OUTSIDE_INTERRUPTED: Accepted = Accepted {
     }],
 };
 
-/// Behind two, three, four and five pushes.
-const PUSHED_2: State = State::Live {
-    depth: Depth::Known(24),
-    fp: None,
-    bp: BpHome::Same,
-};
-
+/// Behind three, four and five pushes.
 const PUSHED_3: State = State::Live {
     depth: Depth::Known(32),
     fp: None,

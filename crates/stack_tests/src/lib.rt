@@ -15,9 +15,13 @@ mod expect;
 #[cfg(test)]
 mod functions;
 #[cfg(test)]
+mod further_calls;
+#[cfg(test)]
 mod hints;
 #[cfg(test)]
 mod interrupts;
+#[cfg(test)]
+mod leaving;
 #[cfg(test)]
 mod moves;
 #[cfg(test)]
@@ -26,5 +30,7 @@ mod operations;
 mod options;
 #[cfg(test)]
 mod sites;
+#[cfg(test)]
+mod stack_writes;
 #[cfg(test)]
 mod targets;

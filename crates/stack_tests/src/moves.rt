@@ -122,6 +122,29 @@ fn moves_live_states(rt: HostRuntime) {
             Op::LeaBpSp { by: 0 },
             Ok(at(40, BpHome::Saved(16))),
         ),
+        // a call within the function is a push
+        (at(8, BpHome::Same), Op::Hop, Ok(at(16, BpHome::Same))),
+        // room is made under the frame pointer, of which a function that makes room tells the depth so
+        (
+            framed(Depth::Known(24)),
+            Op::SubSp,
+            Ok(framed(Depth::AtLeast(24))),
+        ),
+        (
+            framed(Depth::AtLeast(24)),
+            Op::SpReg,
+            Ok(framed(Depth::AtLeast(24))),
+        ),
+        (
+            at(16, BpHome::Saved(16)),
+            Op::LeaBpRoom { by: 0 },
+            Ok(framed(Depth::AtLeast(16))),
+        ),
+        (
+            framed(Depth::Known(40)),
+            Op::LeaBpRoom { by: 0 },
+            Ok(at(40, BpHome::Saved(16))),
+        ),
         // five words are pushed, then an iret goes on behind itself
         (
             framed(Depth::Known(56)),
@@ -150,12 +173,16 @@ fn refuses_by_rule(rt: HostRuntime) {
     };
     let moves = [
         (framed(Depth::Known(16)), Op::SpOther, 7),
+        (at(24, BpHome::Saved(16)), Op::SubSp, 7),
+        (initial(), Op::SpReg, 7),
         (initial(), Op::BpOther, 8),
+        (initial(), Op::LeaBpRoom { by: 0 }, 8),
         (initial(), Op::PopBp, 8),
         (initial(), Op::Pop, 9),
         (initial(), Op::AndSp { mask: -16 }, 9),
         (initial(), Op::LeaSpBp { by: 0 }, 9),
         (framed(Depth::AtLeast(16)), Op::LeaBpSp { by: 0 }, 9),
+        (framed(Depth::AtLeast(16)), Op::LeaBpRoom { by: 0 }, 9),
         (framed(Depth::AtLeast(16)), Op::PopBp, 9),
         (at(16, BpHome::Same), Op::AddSp { by: -(1 << 30) }, 10),
         (at(8, BpHome::Same), Op::AddSp { by: i64::MIN }, 10),
@@ -187,7 +214,11 @@ fn moves_saved_registers(rt: HostRuntime) {
         (regs(true, -32), Op::Pop, Err(11)),
         (regs(false, 88), Op::PopBp, Err(8)),
         (regs(true, 0), Op::Leave, Err(9)),
+        (regs(true, 0), Op::Hop, Ok(regs(true, 8))),
+        (regs(true, 8), Op::LeaBpRoom { by: 0 }, Ok(regs(true, 8))),
         (regs(true, 0), Op::SpOther, Err(7)),
+        (regs(true, 0), Op::SubSp, Err(7)),
+        (regs(true, 0), Op::SpReg, Err(7)),
         (regs(false, 88), Op::IretNext, Err(15)),
     ];
     for (before, op, after) in moves {
@@ -198,7 +229,15 @@ fn moves_saved_registers(rt: HostRuntime) {
 #[test]
 fn leaves_ended_stacks(rt: HostRuntime) {
     for kind in [EndKind::Undefined, EndKind::EndOfStack] {
-        for op in [Op::Pop, Op::SpOther, Op::BpOther, Op::IretNext] {
+        for op in [
+            Op::Pop,
+            Op::SpOther,
+            Op::SubSp,
+            Op::SpReg,
+            Op::BpOther,
+            Op::Hop,
+            Op::IretNext,
+        ] {
             assert_eq!(rt; step(State::Ended(kind), op), Ok(State::Ended(kind)));
         }
     }

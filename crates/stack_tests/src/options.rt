@@ -55,6 +55,39 @@ const UNREACHED: Broken = Broken {
     run: End::IsNotRun,
 };
 
+const UNREACHED_OF_NONE: Broken = Broken {
+    name: "unreached instructions of no function, of which the first is told",
+    table: Table {
+        rows: &[
+            (0, 1, Op::Nop, &[With::OfNone]),
+            (1, 1, Op::Push, &[With::OfNone]),
+            (2, 1, Op::Pop, &[With::OfNone]),
+            (3, 1, Op::Ret, &[With::OfNone]),
+        ],
+        entries: &[],
+        sites: &[],
+    },
+    options: UNREACHABLE,
+    warnings: &[(1, rules::UNREACHABLE_INSTRUCTION, 0, 0)],
+    run: End::IsNotRun,
+};
+
+const UNREACHED_IN_PATCHES: Broken = Broken {
+    name: "instructions of no function to which control comes by patching alone",
+    table: Table {
+        rows: &[
+            (0, 1, Op::Nop, &[With::OfNone, With::InPatches]),
+            (1, 1, Op::Push, &[With::OfNone, With::InPatches]),
+            (2, 1, Op::Ret, &[With::OfNone, With::InPatches]),
+        ],
+        entries: &[],
+        sites: &[],
+    },
+    options: UNREACHABLE,
+    warnings: &[],
+    run: End::IsNotRun,
+};
+
 const UNREACHED_UNASKED: Broken = Broken {
     name: "unreached instructions, where they aren't asked for",
     options: FP,
@@ -105,6 +138,16 @@ const WITHOUT_FRAME_UNASKED: Broken = Broken {
 #[test]
 fn warns_of_unreached(rt: HostRuntime) -> Result<(), Fail> {
     expect_broken(&rt, rt.alloc(), &UNREACHED)
+}
+
+#[test]
+fn warns_of_unreached_of_none(rt: HostRuntime) -> Result<(), Fail> {
+    expect_broken(&rt, rt.alloc(), &UNREACHED_OF_NONE)
+}
+
+#[test]
+fn warns_of_unreached_in_patches(rt: HostRuntime) -> Result<(), Fail> {
+    expect_broken(&rt, rt.alloc(), &UNREACHED_IN_PATCHES)
 }
 
 #[test]

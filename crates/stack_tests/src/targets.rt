@@ -25,7 +25,7 @@ const BAD: Marks = Marks {
     relocated: false,
 };
 
-const PAST_ITS_END: Marks = Marks {
+pub const PAST_ITS_END: Marks = Marks {
     bad: false,
     past_end: true,
     into_site: false,
@@ -41,7 +41,7 @@ const INTO_A_SITE: Marks = Marks {
     relocated: false,
 };
 
-const INTO_A_FUNCTION: Marks = Marks {
+pub const INTO_A_FUNCTION: Marks = Marks {
     bad: false,
     past_end: false,
     into_site: false,

@@ -16,6 +16,15 @@ worked_moves = record {
   leaves_unsaved = refl;
   iret_next = refl;
   iret_too_high = refl;
+  hop = refl;
+  regs_hop = refl;
+  room = refl;
+  room_by_register = refl;
+  room_without_base = refl;
+  room_over_regs = refl;
+  set_bp_over_room = refl;
+  set_bp_elsewhere_over_room = refl;
+  leaves_room = refl;
   regs_pop_bp = refl;
   regs_pop_ip = refl;
 }

@@ -2,7 +2,7 @@
 use Rattle.std.specs.Prelude.{◌≡◌, ℕ, ◌^◌, ◌<◌, ◌≤◌, Bool, true, false, ◌&&◌, List, [], ◌∷◌, ◌==◌, MatchBool, bit_and, FitsSigned, ℤ, pos, ◌+ℤ◌, int_le}
 use Rattle.std.specs.Int.{w64}
 use Rattle.operation_defs.specs.declared.op.Op.{Op}
-use Rattle.operation_defs.specs.declared.op.Op.TheVariants.{Plain, Nop, Endbr, Push, PushBp, Pop, PopBp, Popf, AddSp, AndSp, LeaSpBp, LeaBpSp, StoreBp, LoadBp, Leave, SpOther, BpOther, Call, CallInd, Jmp, Jcc, JmpInd, Ret, RetImm, Iret, IretNext, Switch, Ud2, Int3, Stac, Clac}
+use Rattle.operation_defs.specs.declared.op.Op.TheVariants.{Plain, Nop, Endbr, Push, PushBp, Pop, PopBp, Popf, AddSp, AndSp, LeaSpBp, LeaBpSp, LeaBpRoom, SubSp, SpReg, StoreBp, LoadBp, Leave, SpOther, BpOther, Call, Hop, CallInd, Jmp, Jcc, JmpInd, Ret, RetImm, Iret, IretNext, Switch, Ud2, Int3, Stac, Clac}
 use Rattle.state_defs.specs.Address.{up, down, shifted}
 use Rattle.state_defs.specs.Region.{Region, hi_of, IsRegion, Reads, WritesOnly, WritesWord, Stores}
 use Rattle.state_defs.specs.Frame.{Slot, Unsaved, SavedAt, PartialAt, FullAt, Frame, protected_addresses, loaded_slot, popped_slot, with_top_slot, after_save}
@@ -29,6 +29,7 @@ HasSignedNumber (AddSp by) = FitsSigned w64 by
 HasSignedNumber (AndSp mask) = FitsSigned w64 mask
 HasSignedNumber (LeaSpBp by) = FitsSigned w64 by
 HasSignedNumber (LeaBpSp by) = FitsSigned w64 by
+HasSignedNumber (LeaBpRoom by) = FitsSigned w64 by
 HasSignedNumber (StoreBp at) = FitsSigned w64 at
 HasSignedNumber (LoadBp at) = FitsSigned w64 at
 HasSignedNumber _ = Unit {0}
@@ -50,10 +51,16 @@ abbrev pub store_saves : ℕ → ℕ → ℤ → List Frame → Bool
 store_saves rsp rbp at [] = false
 store_saves rsp rbp at (f ∷ fs) = is_unsaved f.slot && (rbp == f.bp && (int_le (pos 0) at && int_le (pos rsp +ℤ (at +ℤ pos 16)) (pos f.cfa)))
 
+-- rsp falls, or stays where it is
+abbrev pub MakesRoom : Core → Core → Type 0
+MakesRoom before after = (after.rsp ≤ before.rsp) × (after ≡ record before { rsp = after.rsp })
+
 -- What the operation may do to registers, memory and slots where control goes on in the function.
 -- What isn't named stays. Words are read from the memory before it, and one outside the region may be
 -- anything. Pushes write below rsp wherever that is. Calls, returns and ways out of the code don't go
--- on so (⊥): the machine's step has lines of their own for them.
+-- on so (⊥): the machine's step has lines of their own for them. A register that is subtracted from rsp,
+-- or to which rsp is set, makes room: rsp doesn't rise. That is a premise; the machine's step says where
+-- it isn't asked, and these two write rsp in any way.
 abbrev pub Effect : Op → Core → Core → Type 0
 Effect Plain c d = StoresOrdinarily c d × (d ≡ record c { region = d.region })
 Effect Nop c d = d ≡ c
@@ -67,6 +74,9 @@ Effect (AddSp by) c d = d ≡ record c { rsp = shifted c.rsp by }
 Effect (AndSp mask) c d = d ≡ record c { rsp = bit_and c.rsp (shifted 0 mask) }
 Effect (LeaSpBp by) c d = d ≡ record c { rsp = shifted c.rbp by }
 Effect (LeaBpSp by) c d = d ≡ record c { rbp = shifted c.rsp by }
+Effect (LeaBpRoom by) c d = d ≡ record c { rbp = shifted c.rsp by }
+Effect SubSp c d = MakesRoom c d
+Effect SpReg c d = MakesRoom c d
 Effect (StoreBp at) c d =
     WritesWord (shifted c.rsp at) c.rbp c.region d.region
     × MatchBool (store_saves c.rsp c.rbp at c.shadow)
@@ -77,6 +87,7 @@ Effect Leave c d = Reads c.region c.rbp d.rbp × (d ≡ record c { rsp = up c.rb
 Effect SpOther c d = StoresOrdinarily c d × (d ≡ record c { rsp = d.rsp; rbp = d.rbp; region = d.region })
 Effect BpOther c d = StoresOrdinarily c d × (d ≡ record c { rbp = d.rbp; region = d.region })
 Effect (Call rel) c d = ⊥
+Effect Hop c d = WritesOnly (down c.rsp 8) 8 c.region d.region × (d ≡ record c { rsp = down c.rsp 8; region = d.region })
 Effect CallInd c d = ⊥
 Effect (Jmp rel wide) c d = d ≡ c
 Effect (Jcc rel wide) c d = d ≡ c

@@ -9,3 +9,4 @@ pub mod Row
 pub mod Rules
 pub mod Sound
 pub mod Worked
+pub mod WorkedEffects

@@ -2,7 +2,7 @@
 use Rattle.std.specs.Prelude.{ℕ, ◌^◌, Bool, true, false, ◌&&◌, Option, Some, None, Result, Ok, Err, if◌then◌else◌, ℤ, pos, negsuc, ◌+ℤ◌, ◌-ℤ◌, int_lt, int_le}
 use Rattle.ot_base.specs.declared.rules.TheConstants.{UNSUPPORTED_SP_WRITE, BP_NOT_SAVED, STACK_POINTER_LOST, OFFSET_OUT_OF_RANGE, SAVED_SLOT_DROPPED, EXIT_NOT_ALLOWED}
 use Rattle.operation_defs.specs.declared.op.Op.{Op}
-use Rattle.operation_defs.specs.declared.op.Op.TheVariants.{Push, PushBp, Pop, PopBp, Popf, AddSp, AndSp, LeaSpBp, LeaBpSp, StoreBp, LoadBp, Leave, SpOther, BpOther, IretNext}
+use Rattle.operation_defs.specs.declared.op.Op.TheVariants.{Push, PushBp, Pop, PopBp, Popf, AddSp, AndSp, LeaSpBp, LeaBpSp, LeaBpRoom, SubSp, SpReg, StoreBp, LoadBp, Leave, SpOther, BpOther, Hop, IretNext}
 use Rattle.state_defs.specs.declared.state.Depth.{Depth}
 use Rattle.state_defs.specs.declared.state.Depth.TheVariants.{Known, AtLeast}
 use Rattle.state_defs.specs.declared.state.BpHome.{BpHome}
@@ -83,6 +83,17 @@ bp_from_rsp k depth Same = Err BP_NOT_SAVED
 bp_from_rsp k (AtLeast n) (Saved o) = Err STACK_POINTER_LOST
 bp_from_rsp k (Known n) (Saved o) = if int_same (n -ℤ k) o then to (Live (Known n) (Some o) (Saved o)) else to (Live (Known n) None (Saved o))
 
+-- rsp is lowered by a number that isn't known: the frame is found from its base alone
+abbrev pub make_room : Depth → Option ℤ → BpHome → Result State ℕ
+make_room depth None bp = Err UNSUPPORTED_SP_WRITE
+make_room depth (Some m) bp = to (Live (AtLeast (depth_of depth)) (Some m) bp)
+
+-- rbp becomes the frame's base over room: the depth is told as it is where room was made
+abbrev pub base_over_room : ℤ → Depth → BpHome → Result State ℕ
+base_over_room k depth Same = bp_from_rsp k depth Same
+base_over_room k (AtLeast n) (Saved o) = bp_from_rsp k (AtLeast n) (Saved o)
+base_over_room k (Known n) (Saved o) = if int_same (n -ℤ k) o then to (Live (AtLeast n) (Some o) (Saved o)) else bp_from_rsp k (Known n) (Saved o)
+
 abbrev pub store_bp : ℤ → Depth → Option ℤ → BpHome → Result State ℕ
 store_bp k depth fp Same =
     if int_le (pos 16) (depth_of depth -ℤ k) && int_le (depth_of depth -ℤ k) (depth_of depth)
@@ -111,6 +122,7 @@ where_allowed (Err rule) = Err EXIT_NOT_ALLOWED
 
 abbrev pub move_live : Depth → Option ℤ → BpHome → Op → Result State ℕ
 move_live depth fp bp Push = to (Live (with_depth depth (depth_of depth +ℤ pos 8)) fp bp)
+move_live depth fp bp Hop = to (Live (with_depth depth (depth_of depth +ℤ pos 8)) fp bp)
 move_live depth fp bp PushBp = push_bp depth fp bp
 move_live depth fp bp Pop = raise (pos 8) depth fp bp
 move_live depth fp bp Popf = raise (pos 8) depth fp bp
@@ -119,6 +131,9 @@ move_live depth fp bp PopBp = pop_bp depth bp
 move_live depth fp bp (AndSp mask) = align depth fp bp
 move_live depth fp bp (LeaSpBp by) = rsp_from_bp by fp bp
 move_live depth fp bp (LeaBpSp by) = bp_from_rsp by depth bp
+move_live depth fp bp (LeaBpRoom by) = base_over_room by depth bp
+move_live depth fp bp SubSp = make_room depth fp bp
+move_live depth fp bp SpReg = make_room depth fp bp
 move_live depth fp bp (StoreBp at) = store_bp at depth fp bp
 move_live depth fp bp (LoadBp at) = load_bp at depth bp
 move_live depth fp bp Leave = leave fp bp
@@ -147,18 +162,22 @@ lose_bp_regs true depth = to (Regs true depth)
 
 abbrev pub move_regs : Bool → ℤ → Op → Result State ℕ
 move_regs full depth Push = to (Regs full (depth +ℤ pos 8))
+move_regs full depth Hop = to (Regs full (depth +ℤ pos 8))
 move_regs full depth PushBp = to (Regs full (depth +ℤ pos 8))
 move_regs full depth Pop = raise_regs (pos 8) full depth
 move_regs full depth Popf = raise_regs (pos 8) full depth
 move_regs full depth (AddSp by) = raise_regs by full depth
 move_regs full depth PopBp = pop_bp_regs full depth
 move_regs full depth (LeaBpSp by) = lose_bp_regs full depth
+move_regs full depth (LeaBpRoom by) = lose_bp_regs full depth
 move_regs full depth (LoadBp at) = lose_bp_regs full depth
 move_regs full depth BpOther = lose_bp_regs full depth
 move_regs full depth (AndSp mask) = Err STACK_POINTER_LOST
 move_regs full depth (LeaSpBp by) = Err STACK_POINTER_LOST
 move_regs full depth Leave = Err STACK_POINTER_LOST
 move_regs full depth SpOther = Err UNSUPPORTED_SP_WRITE
+move_regs full depth SubSp = Err UNSUPPORTED_SP_WRITE
+move_regs full depth SpReg = Err UNSUPPORTED_SP_WRITE
 move_regs full depth IretNext = Err EXIT_NOT_ALLOWED
 move_regs full depth _ = to (Regs full depth)
 

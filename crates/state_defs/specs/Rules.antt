@@ -15,6 +15,12 @@ is_followed (Live depth fp bp) = true
 is_followed (Ended kind) = false
 is_followed (Regs full depth) = true
 
+-- whether a hint with this state tells how code of no function is called: in a call frame, or where the stack has ended
+abbrev pub may_be_called : State → Bool
+may_be_called (Live depth fp bp) = true
+may_be_called (Ended kind) = true
+may_be_called (Regs full depth) = false
+
 -- whether the stack is as at the function's entry
 abbrev pub is_initial : State → Bool
 is_initial (Live (Known n) None Same) = int_same n (pos 8)

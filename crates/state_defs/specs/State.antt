@@ -87,7 +87,7 @@ MeansTop (Regs full depth) rsp rbp (f ∷ fs) = Means (Regs full depth) rsp rbp 
 
 -- What holds of the numbers in every state that occurs. In a live one the return address, and the
 -- slot where rbp is saved, lie between rsp and the frame's top. Where rbp is the frame's base, it
--- points at that slot; where rsp was aligned, rbp is the frame's base.
+-- points at that slot; where rsp fell by a number that isn't known, rbp is the frame's base.
 pub record IsConsistentLive (depth : Depth) (pointer : Option ℤ) (home : BpHome) : Type 0 where
   pub fp : (m : ℤ) → pointer ≡ Some m → home ≡ Saved m
   pub aligned : IsTrue (is_at_least depth) → IsSome pointer

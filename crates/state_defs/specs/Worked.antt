@@ -1,10 +1,10 @@
 -- Worked moves and rows: the states of the code 55 48 89 E5 5D C3 (push rbp; mov rsp to rbp; pop rbp;
 -- ret), and of code over saved registers.
 use Rattle.std.specs.Prelude.{◌≡◌, true, false, Some, None, Ok, Err, pos, negsuc}
-use Rattle.ot_base.specs.declared.rules.TheConstants.{MODIFIED_RETURN, BP_NOT_SAVED, STACK_POINTER_LOST, OFFSET_OUT_OF_RANGE, SAVED_SLOT_DROPPED, EXIT_NOT_ALLOWED}
+use Rattle.ot_base.specs.declared.rules.TheConstants.{MODIFIED_RETURN, UNSUPPORTED_SP_WRITE, BP_NOT_SAVED, STACK_POINTER_LOST, OFFSET_OUT_OF_RANGE, SAVED_SLOT_DROPPED, EXIT_NOT_ALLOWED}
 use Rattle.ot_base.specs.declared.codes.TheConstants.{REG_UNDEFINED, REG_PREV_SP, REG_BP, REG_SP, KIND_CALL, KIND_REGS_PARTIAL}
-use Rattle.operation_defs.specs.declared.op.Op.TheVariants.{PushBp, Pop, PopBp, LeaBpSp, BpOther, AddSp, Leave, IretNext}
-use Rattle.state_defs.specs.declared.state.Depth.TheVariants.{Known}
+use Rattle.operation_defs.specs.declared.op.Op.TheVariants.{PushBp, Pop, PopBp, LeaBpSp, LeaBpRoom, SubSp, SpReg, BpOther, AddSp, Leave, Hop, IretNext}
+use Rattle.state_defs.specs.declared.state.Depth.TheVariants.{Known, AtLeast}
 use Rattle.state_defs.specs.declared.state.BpHome.TheVariants.{Same, Saved}
 use Rattle.state_defs.specs.declared.state.State.TheVariants.{Live, Regs}
 use Rattle.state_defs.specs.State.{initial}
@@ -30,6 +30,17 @@ pub record HasWorkedMoves : Type 0 where
   -- five words are pushed, then an iret goes on behind itself
   pub iret_next : move (Live (Known (pos 48)) None Same) IretNext ≡ Ok initial
   pub iret_too_high : move (Live (Known (pos 40)) None Same) IretNext ≡ Err EXIT_NOT_ALLOWED
+  -- a call within the function is a push
+  pub hop : move initial Hop ≡ Ok (Live (Known (pos 16)) None Same)
+  pub regs_hop : move (Regs false (pos 0)) Hop ≡ Ok (Regs false (pos 8))
+  -- room is made under a frame's base, and leave undoes it; where room is made rbp is set as the base over it
+  pub room : move (Live (Known (pos 24)) (Some (pos 16)) (Saved (pos 16))) SubSp ≡ Ok (Live (AtLeast (pos 24)) (Some (pos 16)) (Saved (pos 16)))
+  pub room_by_register : move (Live (AtLeast (pos 24)) (Some (pos 16)) (Saved (pos 16))) SpReg ≡ Ok (Live (AtLeast (pos 24)) (Some (pos 16)) (Saved (pos 16)))
+  pub room_without_base : move (Live (Known (pos 24)) None (Saved (pos 16))) SubSp ≡ Err UNSUPPORTED_SP_WRITE
+  pub room_over_regs : move (Regs true (pos 0)) SpReg ≡ Err UNSUPPORTED_SP_WRITE
+  pub set_bp_over_room : move (Live (Known (pos 16)) None (Saved (pos 16))) (LeaBpRoom (pos 0)) ≡ Ok (Live (AtLeast (pos 16)) (Some (pos 16)) (Saved (pos 16)))
+  pub set_bp_elsewhere_over_room : move (Live (Known (pos 24)) None (Saved (pos 16))) (LeaBpRoom (pos 0)) ≡ Ok (Live (Known (pos 24)) None (Saved (pos 16)))
+  pub leaves_room : move (Live (AtLeast (pos 24)) (Some (pos 16)) (Saved (pos 16))) Leave ≡ Ok initial
   -- bp is popped from a pt_regs: ip is 88 bytes above
   pub regs_pop_bp : move (Regs true (negsuc 31)) PopBp ≡ Ok (Regs false (pos 88))
   pub regs_pop_ip : move (Regs false (pos 0)) Pop ≡ Err SAVED_SLOT_DROPPED

@@ -1,6 +1,7 @@
 //! What holds of the definitions of this crate.
 
 ghost use Rattle.state_defs.specs.Worked.{HasWorkedMoves, HasWorkedRows};
+ghost use Rattle.state_defs.specs.WorkedEffects.{HasEffects};
 
 /// The moves of a function with a frame pointer, and of code over saved registers.
 pub fn worked_moves()
@@ -10,4 +11,9 @@ pub fn worked_moves()
 /// The rows of some states, and the rules that they meet.
 pub fn worked_rows()
     ensures { HasWorkedRows }
+{}
+
+/// What each operation does to registers, memory and slots.
+pub fn worked_effects()
+    ensures { HasEffects }
 {}

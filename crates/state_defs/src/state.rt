@@ -4,7 +4,8 @@
 pub enum Depth {
     /// By exactly this many bytes.
     Known(i64),
-    /// By at least this many bytes: rsp was aligned, so it fell by a number that isn't known.
+    /// By at least this many bytes: rsp was aligned, or a register was subtracted from it or put into it, so it
+    /// fell by a number that isn't known. So it is told, too, where a function that does that sets its base.
     AtLeast(i64),
 }
 

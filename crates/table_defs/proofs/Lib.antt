@@ -2,3 +2,4 @@ pub mod LastRow
 pub mod WalkLaws
 pub mod OneSection
 pub mod AmongOthers
+mod WorkedPlacement

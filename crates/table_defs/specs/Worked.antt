@@ -6,6 +6,7 @@ use Rattle.ot_base.specs.declared.row.PlacedRow.{PlacedRow}
 use Rattle.table_defs.specs.declared.range.Range.{Range}
 use Rattle.table_defs.specs.declared.frame.Regs.{Regs}
 use Rattle.table_defs.specs.declared.frame.Frame.{Frame}
+use Rattle.table_defs.specs.Placement.{TextSection}
 use Rattle.table_defs.specs.Walk.{Memory}
 
 -- the row of a call's frame with rbp saved in the second word below its top
@@ -44,6 +45,9 @@ placed_at sec base size = record { sec = sec; base = base; size = size }
 -- section 1 of 6 bytes, and section 2 of 1 byte right behind it in memory
 abbrev pub end_to_end : List Range
 end_to_end = placed_at 1 0x1000 6 ∷ placed_at 2 0x1006 1 ∷ []
+
+abbrev pub two_sections : List TextSection
+two_sections = record { sec = 1; size = 6 } ∷ record { sec = 2; size = 1 } ∷ []
 
 abbrev pub first_section : List PlacedRow
 first_section = at_place 1 0 (call_row 8) ∷ at_place 1 1 (saved_row 16) ∷ at_place 1 5 (call_row 8) ∷ at_place 1 6 zero_row ∷ []

@@ -14,4 +14,4 @@ pub use laws::{
     walk_ends, walk_is_determined,
 };
 pub use range::Range;
-pub use worked::{worked_lookups, worked_walks};
+pub use worked::{worked_lookups, worked_placement, worked_walks};

@@ -2,8 +2,9 @@
 
 ghost use Rattle.std.specs.Prelude.{◌≡◌, [], ◌∷◌, ◌++◌, Some, None};
 ghost use Rattle.table_defs.specs.Lookup.{find_row};
+ghost use Rattle.table_defs.specs.Placement.{IsPlacement};
 ghost use Rattle.table_defs.specs.Walk.{Walks};
-ghost use Rattle.table_defs.specs.Worked.{end_to_end, first_section, second_section, gate_rows, last_call, placed_at, call_row, saved_row, memory_of, registers, frame, at_place, zero_row, full_row, frame_pointer_row, realigned_row, end_row};
+ghost use Rattle.table_defs.specs.Worked.{end_to_end, two_sections, first_section, second_section, gate_rows, last_call, placed_at, call_row, saved_row, memory_of, registers, frame, at_place, zero_row, full_row, frame_pointer_row, realigned_row, end_row};
 ghost use Rattle.table_defs.specs.declared.frame.Stop.TheVariants.{BaseUnknown, EndOfStack, NoRow, NotRising, Outside, Undefined, Unreadable};
 
 /// Two sections end to end: the row that ends the first gives way to the first row of the second,
@@ -18,6 +19,11 @@ pub fn worked_lookups()
     ensures between { find_row (first_section ++ second_section) end_to_end 0x1004
         ≡ Some (saved_row 16) }
     ensures below_all { find_row (first_section ++ second_section) end_to_end 0xFFF ≡ None }
+{}
+
+/// Sections end to end share no address, so that they are placed.
+pub fn worked_placement()
+    ensures { IsPlacement two_sections end_to_end }
 {}
 
 /// Walks over small tables, with the words that they read.

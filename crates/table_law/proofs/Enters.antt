@@ -12,6 +12,7 @@ use Rattle.machine_defs.specs.Kept.{can_go, is_free, state_at, Kept, NotKept, Ar
 use Rattle.machine_defs.specs.Broken.{IsAccepted, entered_restore, reached_restore}
 use Rattle.machine_defs.specs.IsProgram.{IsProgram}
 use Rattle.table_defs.specs.Enters.{IsSiteStart, EntersSites}
+use Rattle.unwinding_law.proofs.WaysOn.{no_hint_behind}
 use Rattle.unwinding_law.proofs.KeptStates.{set_kept, entry_kept}
 use Rattle.unwinding_law.proofs.Edges.{edge_in, local_checked, fixup_checked, moves, local_kept, fixup_kept}
 use Rattle.table_law.proofs.Lists.{some_or_none}
@@ -44,9 +45,8 @@ module _ (p : Program) (is : IsProgram p) (acc : IsAccepted p) (states : ℕ →
   -- along a local edge, along that to a fixup, and at an entry
   pub kept_along : (a q : ℕ) (s : State) (kind : EdgeKind) → is_local kind ≡ true → IsPoint p a → Kept p a s → Contains (p.goes a) (edge q kind) → can_go p a kind ≡ true → IsKept p q
   kept_along a q s kind l point k c can =
-      let m = moves p is acc a s k in
       by_hint q (local_checked p is acc a q s kind l point k c can)
-      (λ free. (m.0, local_kept p is acc a q s m.0 kind l point k c can m.1 free))
+      (λ free. let m = moves p is acc a s k (no_hint_behind p a q kind l c can free) in (m.0, local_kept p is acc a q s m.0 kind l point k c can m.1 free))
       (λ e n. acc _ _ _ _ (reached_restore a q s (edge q kind) e n k (edge_in p is acc a q kind c can) refl))
       (p.hint q) refl
 

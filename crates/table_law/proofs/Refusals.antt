@@ -2,7 +2,7 @@
 use Rattle.std.proofs.Common.{◌≡◌, ℕ, ◌≤◌, Bool, true, false, if◌then◌else◌, Option, Some, None, ℤ, pos, ◌-ℤ◌, negsuc, subst, lit≤}
 use Rattle.std.specs.Prelude.{Result, Ok, Err, int_lt, int_le, ◌&&◌}
 use Rattle.operation_defs.specs.declared.op.Op.{Op}
-use Rattle.operation_defs.specs.declared.op.Op.TheVariants.{PushBp, Pop, PopBp, Popf, AddSp, AndSp, LeaSpBp, LeaBpSp, StoreBp, LoadBp, Leave, SpOther, BpOther, IretNext}
+use Rattle.operation_defs.specs.declared.op.Op.TheVariants.{PushBp, Pop, PopBp, Popf, AddSp, AndSp, LeaSpBp, LeaBpSp, LeaBpRoom, SubSp, SpReg, StoreBp, LoadBp, Leave, SpOther, BpOther, IretNext}
 use Rattle.state_defs.specs.declared.state.Depth.{Depth}
 use Rattle.state_defs.specs.declared.state.Depth.TheVariants.{Known, AtLeast}
 use Rattle.state_defs.specs.declared.state.BpHome.{BpHome}
@@ -10,7 +10,7 @@ use Rattle.state_defs.specs.declared.state.BpHome.TheVariants.{Same, Saved}
 use Rattle.state_defs.specs.declared.state.State.{State}
 use Rattle.state_defs.specs.declared.state.State.TheVariants.{Live, Ended, Regs}
 use Rattle.state_defs.specs.State.{depth_of}
-use Rattle.state_defs.specs.Move.{int_same, has_near_numbers, to, floor_of, raise, pop_at, push_bp, pop_bp, align, rsp_from_bp, bp_from_rsp, store_bp, load_bp, leave, lose_bp, where_allowed, move_live, regs_floor, raise_regs, pop_bp_regs, lose_bp_regs, move_regs, move}
+use Rattle.state_defs.specs.Move.{int_same, has_near_numbers, to, floor_of, raise, pop_at, push_bp, pop_bp, align, rsp_from_bp, bp_from_rsp, make_room, base_over_room, store_bp, load_bp, leave, lose_bp, where_allowed, move_live, regs_floor, raise_regs, pop_bp_regs, lose_bp_regs, move_regs, move}
 
 -- a state, or a refusal by a rule from 7 on
 data IsMoved : Result State ℕ → Type 0 where
@@ -57,6 +57,15 @@ bp_from_rsp_moved k depth Same = no _ (lit≤ tt)
 bp_from_rsp_moved k (AtLeast n) (Saved o) = no _ (lit≤ tt)
 bp_from_rsp_moved k (Known n) (Saved o) = either (int_same (n -ℤ k) o) _ _ (near _ _) (near _ _)
 
+make_room_moved : (depth : Depth) (fp : Option ℤ) (bp : BpHome) → IsMoved (make_room depth fp bp)
+make_room_moved depth None bp = no _ (lit≤ tt)
+make_room_moved depth (Some m) bp = near _ _
+
+base_over_room_moved : (k : ℤ) (depth : Depth) (bp : BpHome) → IsMoved (base_over_room k depth bp)
+base_over_room_moved k depth Same = bp_from_rsp_moved k depth Same
+base_over_room_moved k (AtLeast n) (Saved o) = bp_from_rsp_moved k (AtLeast n) (Saved o)
+base_over_room_moved k (Known n) (Saved o) = either (int_same (n -ℤ k) o) _ _ (near _ _) (bp_from_rsp_moved k (Known n) (Saved o))
+
 store_bp_moved : (k : ℤ) (depth : Depth) (fp : Option ℤ) (bp : BpHome) → IsMoved (store_bp k depth fp bp)
 store_bp_moved k depth fp Same = either (int_le (pos 16) (depth_of depth -ℤ k) && int_le (depth_of depth -ℤ k) (depth_of depth)) _ _ (near _ _) (near _ _)
 store_bp_moved k depth fp (Saved o) = near _ _
@@ -89,6 +98,9 @@ live_moved depth fp bp PopBp = pop_bp_moved depth bp
 live_moved depth fp bp (AndSp mask) = align_moved depth fp bp
 live_moved depth fp bp (LeaSpBp by) = rsp_from_bp_moved by fp bp
 live_moved depth fp bp (LeaBpSp by) = bp_from_rsp_moved by depth bp
+live_moved depth fp bp (LeaBpRoom by) = base_over_room_moved by depth bp
+live_moved depth fp bp SubSp = make_room_moved depth fp bp
+live_moved depth fp bp SpReg = make_room_moved depth fp bp
 live_moved depth fp bp (StoreBp at) = store_bp_moved at depth fp bp
 live_moved depth fp bp (LoadBp at) = load_bp_moved at depth bp
 live_moved depth fp bp Leave = leave_moved fp bp
@@ -114,12 +126,15 @@ regs_moved full depth Popf = raise_regs_moved (pos 8) full depth
 regs_moved full depth (AddSp by) = raise_regs_moved by full depth
 regs_moved full depth PopBp = pop_bp_regs_moved full depth
 regs_moved full depth (LeaBpSp by) = lose_bp_regs_moved full depth
+regs_moved full depth (LeaBpRoom by) = lose_bp_regs_moved full depth
 regs_moved full depth (LoadBp at) = lose_bp_regs_moved full depth
 regs_moved full depth BpOther = lose_bp_regs_moved full depth
 regs_moved full depth (AndSp mask) = no _ (lit≤ tt)
 regs_moved full depth (LeaSpBp by) = no _ (lit≤ tt)
 regs_moved full depth Leave = no _ (lit≤ tt)
 regs_moved full depth SpOther = no _ (lit≤ tt)
+regs_moved full depth SubSp = no _ (lit≤ tt)
+regs_moved full depth SpReg = no _ (lit≤ tt)
 regs_moved full depth IretNext = no _ (lit≤ tt)
 regs_moved full depth _ = near _ _
 

@@ -1,5 +1,5 @@
 -- A run stands in a site only where the site's start is kept.
-use Rattle.std.proofs.Common.{◌≡◌, ℕ, Bool, true, false, List, ◌∷◌, Option, Some, IfSome, MatchBool, Contains, refl, sym, subst}
+use Rattle.std.proofs.Common.{◌≡◌, ℕ, Bool, true, false, List, ◌∷◌, Option, Some, IfSome, MatchBool, Contains, refl, sym, subst, inl, inr}
 use Rattle.std.proofs.lemmas.List.Elements.{All-head}
 use Rattle.ot_base.specs.declared.place.Place.{Place}
 use Rattle.machine_defs.specs.declared.flow.EdgeKind.TheVariants.{Next}
@@ -7,16 +7,17 @@ use Rattle.machine_defs.specs.declared.flow.Role.{Role}
 use Rattle.machine_defs.specs.declared.flow.Role.TheVariants.{CallIn, CallEither, CallAny}
 use Rattle.state_defs.specs.declared.state.State.{State}
 use Rattle.state_defs.specs.Frame.{Frame}
-use Rattle.machine_defs.specs.Program.{Program, in_site, is_call, edge}
+use Rattle.machine_defs.specs.Program.{Program, in_site, entry_points, is_call, edge}
 use Rattle.machine_defs.specs.Machine.{Bases, Standing, point_address, return_address}
-use Rattle.machine_defs.specs.Step.{GoesOn, Faults, MayCall, CallsIn, CallsOut, Returns, JumpsTo, sibling, indirect, TailCalls, IsInterrupted, ReturnsFromInterrupt}
+use Rattle.machine_defs.specs.Step.{op_at, GoesOn, Faults, IsTarget, CallsIn, CallsOut, Returns, JumpsTo, sibling, indirect, TailCalls, IsInterrupted, ReturnsFromInterrupt}
 use Rattle.machine_defs.specs.Run.{MayStart}
 use Rattle.machine_defs.specs.MayReturn.{target_may_return}
 use Rattle.machine_defs.specs.Kept.{Kept, AreKeptStates}
 use Rattle.machine_defs.specs.Broken.{IsAccepted}
-use Rattle.machine_defs.specs.IsProgram.{IsProgram, IsLaidOut}
+use Rattle.machine_defs.specs.IsProgram.{IsCallee, IsProgram, IsLaidOut}
 use Rattle.machine_defs.specs.Law.{IsInnerFrame, AreFrames, HasRunInvariant, HasFrameInvariant}
 use Rattle.table_defs.specs.Enters.{EntersSites}
+use Rattle.unwinding_law.proofs.WaysOn.{acts_no_call, called_alone}
 use Rattle.unwinding_law.proofs.Shadow.{effect_no_call}
 use Rattle.unwinding_law.proofs.Backs.{inner_of, comes_back_to}
 use Rattle.unwinding_law.proofs.Edges.{plain_role, may_go, call_next_in}
@@ -35,23 +36,34 @@ module _ (p : Program) (bases : Bases) (is : IsProgram p) (laid : IsLaidOut p) (
     -- an instruction goes on
     pub goes_on_entered : GoesOn p s t → IsEntered p t.point
     goes_on_entered g =
-        let role = plain_role p is s.point r.point (is_call (p.role s.point)) refl (effect_no_call s.core t.core (p.insn s.point).op g.effect) in
+        let role = plain_role p is s.point r.point (is_call (p.role s.point)) refl (acts_no_call p s (effect_no_call s.core t.core (op_at p s) g.effect)) in
         entered_local p is acc states kept enters s.point t.point r.state g.kind here g.local r.point r.kept g.along (may_go p s.point g.kind g.local role)
 
     -- it faults
     pub faults_entered : Faults p s t → IsEntered p t.point
     faults_entered g = entered_fixup p is acc states kept enters s.point t.point r.state here r.point r.kept g.along
 
-    -- a call goes to an entry
-    called_entry : (x : Role) (entry : ℕ) → p.role s.point ≡ x → MayCall p x entry → Contains p.entries entry
-    called_entry (CallIn target) entry h k = subst (λ (y : ℕ). Contains p.entries y) (sym k) (is.calls_entry s.point target r.point h)
-    called_entry (CallEither target symbol) entry h k = subst (λ (y : ℕ). Contains p.entries y) (sym k) (is.calls_weak_entry s.point target symbol r.point h)
-    called_entry CallAny entry h k = k
+    -- a call goes to an entry, or to what code of no function may call
+    called_entry : (x : Role) (entry : ℕ) → p.role s.point ≡ x → IsTarget p x entry → IsCallee p s.point entry
+    called_entry (CallIn target) entry h k = subst (λ (y : ℕ). IsCallee p s.point y) (sym k) (is.calls_entry s.point target r.point h)
+    called_entry (CallEither target symbol) entry h k = subst (λ (y : ℕ). IsCallee p s.point y) (sym k) (is.calls_weak_entry s.point target symbol r.point h)
+    called_entry CallAny entry h k = inl k
     called_entry _ entry h k = absurd k
 
-    -- it calls an entry
+    -- which is in no site
+    callee_entered : (entry q : ℕ) → IsCallee p s.point entry → Contains (entry_points p entry) q → IsEntered p q
+    callee_entered entry q (inl c) d = entered_entry p is acc states kept enters entry q c d
+    callee_entered entry q (inr may) d = subst (IsEntered p) (sym (called_alone p is s.point entry q may d)) alone
+      where
+        alone : IsEntered p entry
+        alone site listed inside =
+            let out : in_site site (p.place entry) ≡ false = may.outside site listed in
+            let within : in_site site (p.place entry) ≡ true = subst (λ (z : Place). in_site site z ≡ true) (laid.plain entry may.point may.plain) inside in
+            absurd (let k : ⊥ = cc in k)
+
+    -- it calls code of the program
     pub calls_in_entered : CallsIn p bases s t → IsEntered p t.point
-    calls_in_entered g = entered_entry p is acc states kept enters g.entry t.point (called_entry (p.role s.point) g.entry refl g.target) g.arrives
+    calls_in_entered g = callee_entered g.entry t.point (called_entry (p.role s.point) g.entry refl g.target) g.arrives
 
     -- it calls code outside
     pub calls_out_entered : CallsOut p s t → IsEntered p t.point

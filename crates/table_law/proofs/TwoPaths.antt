@@ -59,7 +59,7 @@ module _ (p : Program) where
     other_path = kept_path r u kr;
     different = ne;
   }
-  two_paths place rule a b (broken.refused q n s k e) f = let h : 7 ≤ 4 = subst (λ (x : ℕ). 7 ≤ x) f (refusal s (p.insn q).op n e) in absurd (omega arith)
+  two_paths place rule a b (broken.refused q n s k e before) f = let h : 7 ≤ 4 = subst (λ (x : ℕ). 7 ≤ x) f (refusal s (p.insn q).op n e) in absurd (omega arith)
   two_paths place rule a b _ e = absurd (omega arith)
 
   module _ (is : IsProgram p) (hints : HintsStandAtPoints p) where

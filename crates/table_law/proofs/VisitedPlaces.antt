@@ -12,7 +12,7 @@ use Rattle.state_defs.specs.Effect.{Core}
 use Rattle.machine_defs.specs.Program.{Program}
 use Rattle.machine_defs.specs.Machine.{Bases, Standing, Machine, Wrecked, At}
 use Rattle.machine_defs.specs.Hint.{hinted_slot, SetsState, Hinted, Lands}
-use Rattle.machine_defs.specs.Step.{call_frame, interrupt_frame, Step, goes_on, faults, calls_in, calls_out, returns, tail_calls, wrecks, interrupted, irets}
+use Rattle.machine_defs.specs.Step.{op_at, call_frame, interrupt_frame, Step, goes_on, faults, calls_in, calls_out, returns, tail_calls, wrecks, interrupted, irets}
 use Rattle.machine_defs.specs.Run.{WasCalled, StartsFrom, Start, at_entry, at_call_hint, at_regs_hint, at_end_hint, Run, started, stepped}
 use Rattle.unwinding_law.proofs.Shadow.{IsSlotChange, no_frame, top, effect_shape}
 use Rattle.table_defs.specs.Visited.{IsVisited}
@@ -111,7 +111,7 @@ module _ (p : Program) (bases : Bases) where
 
     -- what holds of the point and of the calls holds of the calls after a step
     pub step_calls : (m n : Machine) → HoldsAt P m → HoldsOfCalls P m → Step p bases m n → HoldsOfCalls P n
-    step_calls m n e h (goes_on s t u g l) = landed t u l (subst (λ (x : List (Option ℕ)). AllHave P x) (sym (slot_calls s.core.shadow t.core.shadow (effect_shape s.core t.core (p.insn s.point).op g.effect))) h)
+    step_calls m n e h (goes_on s t u g l) = landed t u l (subst (λ (x : List (Option ℕ)). AllHave P x) (sym (slot_calls s.core.shadow t.core.shadow (effect_shape s.core t.core (op_at p s) g.effect))) h)
     step_calls m n e h (faults s t u g l) = landed t u l (same_calls s t (ap (λ (x : Core). x.shadow) g.core) h)
     step_calls m n e h (calls_in s t u g l) = landed t u l (subst (λ (x : List Frame). AllHave P (calls x)) (sym (ap (λ (x : Core). x.shadow) g.core)) (with_call s e (call_frame p bases s) refl h))
     step_calls m n e h (calls_out s t u g l) = landed t u l (same_calls s t (ap (λ (x : Core). x.shadow) g.core) h)

@@ -1,11 +1,14 @@
 -- A return, a return from an interrupt, and a jump to another function.
-use Rattle.std.proofs.Common.{◌≡◌, ℕ, ◌-◌, ◌^◌, ◌<◌, ◌≤◌, Bool, true, false, List, ◌∷◌, Option, Some, None, MatchBool, Contains, All, flat_map, refl, sym, ap, ◌∙◌, subst, inl, inr, arith}
+use Rattle.std.specs.List.{list_any}
+use Rattle.std.proofs.lemmas.Bool.{and_parts}
+use Rattle.std.proofs.Common.{◌≡◌, ℕ, ◌-◌, ◌^◌, ◌<◌, ◌≤◌, not, is_some, Bool, true, false, List, ◌∷◌, Option, Some, None, MatchBool, Contains, All, flat_map, refl, sym, ap, ◌∙◌, subst, inl, inr, arith}
 use Rattle.std.proofs.lemmas.List.Elements.{All-head, All-tail}
 use Rattle.machine_defs.specs.declared.flow.EdgeKind.TheVariants.{Next, Sibling}
 use Rattle.machine_defs.specs.declared.flow.Role.{Role}
 use Rattle.machine_defs.specs.declared.flow.Role.TheVariants.{CallIn, CallEither, CallOut, CallAny, Return}
 use Rattle.state_defs.specs.declared.state.EndKind.{EndKind}
 use Rattle.state_defs.specs.declared.state.State.{State}
+use Rattle.state_defs.specs.declared.state.State.TheVariants.{Live, Ended, Regs}
 use Rattle.state_defs.specs.Address.{up}
 use Rattle.state_defs.specs.Region.{Region, hi_of, Holds}
 use Rattle.state_defs.specs.Frame.{Frame, Mark, Protected, protected, listed, AreKept, LieAbove}
@@ -13,8 +16,8 @@ use Rattle.state_defs.specs.Effect.{Core, IsInStack}
 use Rattle.state_defs.specs.State.{initial, ended_by, MeansTop}
 use Rattle.machine_defs.specs.Program.{Program, IsPoint, entry_points, is_call, edge}
 use Rattle.machine_defs.specs.Machine.{Bases, Standing, At, return_address, point_address}
-use Rattle.machine_defs.specs.Step.{LeavesMemory, Returns, JumpsTo, sibling, indirect, TailCalls, ReturnsFromInterrupt}
-use Rattle.machine_defs.specs.MayReturn.{MayReturn, target_may_return, may_call_out}
+use Rattle.machine_defs.specs.Step.{ends_run, LeavesMemory, Returns, JumpsTo, sibling, indirect, TailCalls, ReturnsFromInterrupt}
+use Rattle.machine_defs.specs.MayReturn.{MayReturn, target_may_return, may_call_out, is_listed}
 use Rattle.machine_defs.specs.MayReturn as may
 use Rattle.machine_defs.specs.Kept.{Kept}
 use Rattle.machine_defs.specs.Broken.{IsAccepted, LeavesByJump}
@@ -28,7 +31,8 @@ use Rattle.unwinding_law.proofs.Memory.{same_hi, spared_kept}
 use Rattle.unwinding_law.proofs.KeptStates.{entry_kept}
 use Rattle.unwinding_law.proofs.Frames.{frames_elsewhere, frame_invariant, stays_out}
 use Rattle.unwinding_law.proofs.Passes.{same_frames}
-use Rattle.unwinding_law.proofs.Landing.{IsComing}
+use Rattle.unwinding_law.proofs.Landing.{IsComing, no_slots}
+use Rattle.unwinding_law.proofs.Wrecks.{allowed_here}
 use Rattle.unwinding_law.proofs.Edges.{edge_in, next_checked, call_next_in, past_call}
 use Rattle.unwinding_law.proofs.Leaves.{at_jump, at_leave, leaves_may_return}
 
@@ -37,21 +41,37 @@ pub inner_of : (p : Program) (bases : Bases) (q call : ℕ) (g : Frame) (fs : Li
 inner_of p bases q call g fs (law.outermost at f rest none h) e = let k : None ≡ Some call = sym none ∙ e in absurd (let k : ⊥ = cc in k)
 inner_of p bases q call g fs (law.inner at from f rest called h below) e = let o : Some from ≡ Some call = sym called ∙ e in let k : from ≡ call = cc in (subst (λ (x : ℕ). IsInnerFrame p bases q x g fs) k h, subst (λ (x : ℕ). AreFrames p bases x fs) k below)
 
+not_true : (b : Bool) → not b ≡ true → b ≡ false
+not_true true e = absurd (let k : ⊥ = cc in k)
+not_true false e = refl
+
 -- no return comes past a call whose target may not return, unless one may come from there
 call_comes_back : (p : Program) → IsProgram p → (call q : ℕ) → IsPoint p call → (x : Role) → p.role call ≡ x → is_call x ≡ true → target_may_return p x ≡ true → p.dead_end call ≡ false → Contains (p.goes call) (edge q Next) → MayReturn p q → MayReturn p call
 call_comes_back p is call q point (CallIn entry) e c back passed next m =
-    let r = find_one p.may_return (entry_points p entry) back in
-    may.comes_back_in call q entry r.0 e passed r.1 ((is.may_return r.0 (is.arrivals (p.place entry) r.0 r.1)).0 r.2) next m
-call_comes_back p is call q point (CallEither entry symbol) e c back passed next m = may.comes_back call q (ap (may_call_out p) e) passed next m
-call_comes_back p is call q point (CallOut symbol) e c back passed next m = may.comes_back call q (ap (may_call_out p) e ∙ back) passed next m
+    let both = and_parts (not (is_listed p (CallIn entry))) (list_any p.may_return (entry_points p entry)) back in
+    let r = find_one p.may_return (entry_points p entry) both.1 in
+    may.comes_back_in call q entry r.0 e (not_true (is_listed p (CallIn entry)) both.0) passed r.1 ((is.may_return r.0 (is.arrivals (p.place entry) r.0 r.1)).0 r.2) next m
+call_comes_back p is call q point (CallEither entry symbol) e c back passed next m = may.comes_back call q (ap (may_call_out p) e ∙ (and_parts (not (is_listed p (CallEither entry symbol))) true back).0) passed next m
+call_comes_back p is call q point (CallOut symbol) e c back passed next m = may.comes_back call q (ap (may_call_out p) e ∙ (and_parts (not (p.never_returns symbol)) true back).0) passed next m
 call_comes_back p is call q point CallAny e c back passed next m = may.comes_back call q (ap (may_call_out p) e) passed next m
 call_comes_back p is call q point _ e c back passed next m = absurd (let k : ⊥ = cc in k)
 
 -- the target of a call to which a return comes back may return
 pub comes_back_to : (p : Program) → IsProgram p → (s t : Standing) → IsPoint p s.point → (h : Returns p s t) → CallReturns p h.call s.point → target_may_return p (p.role h.call) ≡ true
 comes_back_to p is s t point h (inl e) = absurd (let e2 = h.passed in let k : ⊥ = cc in k)
-comes_back_to p is s t point h (inr (inl e)) = e
-comes_back_to p is s t point h (inr (inr e)) = let m : p.may_return s.point ≡ true = (is.may_return s.point point).1 (leaves_may_return p s.point (p.role s.point) refl h.leaves) in absurd (let k : ⊥ = cc in k)
+comes_back_to p is s t point h (inr (inl e)) = absurd (let e2 = h.unlisted in let k : ⊥ = cc in k)
+comes_back_to p is s t point h (inr (inr (inl e))) = e
+comes_back_to p is s t point h (inr (inr (inr e))) = let m : p.may_return s.point ≡ true = (is.may_return s.point point).1 (leaves_may_return p s.point (p.role s.point) refl h.leaves) in absurd (let k : ⊥ = cc in k)
+
+-- a state that has ended means nothing of the stack
+means_ended : (a : State) (kind : EndKind) → ended_by a ≡ Some kind → (rsp rbp : ℕ) (fs : List Frame) → MeansTop a rsp rbp fs
+means_ended (Live d m b) kind e rsp rbp fs = absurd (let k : ⊥ = cc in k)
+means_ended (Ended k) kind e rsp rbp fs = tt
+means_ended (Regs full d) kind e rsp rbp fs = absurd (let k : ⊥ = cc in k)
+
+some_kind : (o : Option EndKind) → is_some o ≡ true → (kind : EndKind) × (o ≡ Some kind)
+some_kind None e = absurd (let k : ⊥ = cc in k)
+some_kind (Some kind) e = (kind, refl)
 
 left_hi : (x : Role) (fs : List Frame) (before after : Region) → LeavesMemory x fs before after → hi_of after ≡ hi_of before
 left_hi Return fs before after h = ap hi_of h
@@ -93,8 +113,6 @@ module _ (p : Program) (bases : Bases) (is : IsProgram p) (acc : IsAccepted p) (
   module _ (h : Returns p s t) where
     pub returns_come : IsComing p bases t
     returns_come =
-        let at_initial : r.state ≡ initial = at_leave p acc s.point r.state r.kept (p.role s.point) refl h.leaves in
-        let live : s.ended ≡ None = r.ended ∙ ap ended_by at_initial in
         let both = inner_of p bases s.point h.call h.frame h.below (top_frames h.frame h.below h.shadow) h.called in
         let i : IsInnerFrame p bases s.point h.call h.frame h.below = both.0 in
         let k = i.call_kept in
@@ -108,11 +126,15 @@ module _ (p : Program) (bases : Bases) (is : IsProgram p) (acc : IsAccepted p) (
           point = point;
           checked = next_checked p is acc h.call t.point k.state i.point k.kept next back;
           frames = level_below h.frame h.below h.shadow h.call i frames (ap (λ (x : Core). x.shadow) h.core) hi h.mark;
-          told = λ free. told live i point (past_call p is acc h.call t.point k.state i.point k.kept call back next free);
+          told = λ free. told i point (past_call p is acc h.call t.point k.state i.point k.kept call back next free);
         }
       where
-        told : s.ended ≡ None → (i : IsInnerFrame p bases s.point h.call h.frame h.below) → IsPoint p t.point → Kept p t.point i.call_kept.state → HasRunInvariant p t
-        told live i point kept =
+        -- where its way out is followed, the stack hasn't ended
+        live : ends_run p s ≡ false → s.ended ≡ None
+        live stays = r.ended ∙ ap ended_by (at_leave p acc s.point r.state r.kept (allowed_here p is acc s r stack stays) (p.role s.point) refl h.leaves)
+
+        told_live : s.ended ≡ None → (i : IsInnerFrame p bases s.point h.call h.frame h.below) → IsPoint p t.point → Kept p t.point i.call_kept.state → HasRunInvariant p t
+        told_live live i point kept =
             let k = i.call_kept in
             let rsp : up s.core.rsp 8 ≡ h.frame.cfa = ap (λ (x : ℕ). up x 8) h.ready.cfa ∙ up_down h.frame.cfa (small h.frame h.below h.shadow) in
             let kept_below : AreKept h.frame.cfa t.core.region (listed h.frame.ended_caller h.below) = left_kept (p.role s.point) h.below h.frame.ended_caller h.frame.cfa s.core.region t.core.region h.memory (slots_below h.frame h.below h.shadow live k.slots) in
@@ -127,6 +149,27 @@ module _ (p : Program) (bases : Bases) (is : IsProgram p) (acc : IsAccepted p) (
               means = subst (λ (x : Core). MeansTop k.state x.rsp x.rbp x.shadow) (sym h.core) means;
               slots = subst (λ (x : Option EndKind). AreKept t.core.rsp t.core.region (listed x t.core.shadow)) (sym h.ended) slots_there;
             }
+
+        -- where a run ends but for a caller whose stack had ended, nothing is asked there
+        told_ended : (kind : EndKind) → h.frame.ended_caller ≡ Some kind → (i : IsInnerFrame p bases s.point h.call h.frame h.below) → IsPoint p t.point → Kept p t.point i.call_kept.state → HasRunInvariant p t
+        told_ended kind e i point kept =
+            let k = i.call_kept in
+            let ended : t.ended ≡ Some kind = h.ended ∙ e in
+            record {
+              point = point;
+              state = k.state;
+              kept = kept;
+              ended = h.ended ∙ k.ended;
+              means = means_ended k.state kind (sym k.ended ∙ e) t.core.rsp t.core.rbp t.core.shadow;
+              slots = subst (λ (x : Option EndKind). AreKept t.core.rsp t.core.region (listed x t.core.shadow)) (sym ended) (no_slots t.core.rsp t.core.region);
+            }
+
+        told : (i : IsInnerFrame p bases s.point h.call h.frame h.below) → IsPoint p t.point → Kept p t.point i.call_kept.state → HasRunInvariant p t
+        told i point kept = go (ends_run p s) refl
+          where
+            go : (b : Bool) → ends_run p s ≡ b → HasRunInvariant p t
+            go false e = told_live (live e) i point kept
+            go true e = let k = some_kind h.frame.ended_caller (h.still_ended e) in told_ended k.0 k.1 i point kept
 
   pub irets_in_order : ReturnsFromInterrupt p s t → IsInOrder p bases (At t)
   irets_in_order h =
@@ -179,7 +222,7 @@ module _ (p : Program) (bases : Bases) (is : IsProgram p) (acc : IsAccepted p) (
       let x = tail_target s.point t.point refl r.point h.target in
       let point : IsPoint p t.point = is.arrivals (p.place x.entry) t.point x.arrives in
       let checked = is.entries_checked x.entry t.point x.listed_entry x.arrives in
-      let at_initial : r.state ≡ initial = at_jump p acc s.point r.state r.kept x.leaves in
+      let at_initial : r.state ≡ initial = at_jump p acc s.point r.state r.kept (allowed_here p is acc s r stack h.followed) x.leaves in
       let means : MeansTop initial s.core.rsp s.core.rbp s.core.shadow = subst (λ (y : State). MeansTop y s.core.rsp s.core.rbp s.core.shadow) at_initial r.means in
       let slots : AreKept t.core.rsp t.core.region (listed s.ended t.core.shadow) = subst (λ (y : Core). AreKept y.rsp y.region (listed s.ended y.shadow)) (sym h.core) r.slots in
       record {

@@ -1,5 +1,5 @@
 -- A call of an entry, and an interrupt: a frame is made.
-use Rattle.std.proofs.Common.{◌≡◌, ℕ, ◌+◌, ◌-◌, ◌^◌, ◌<◌, ◌≤◌, Bool, true, false, List, ◌∷◌, Option, Some, None, Contains, All, flat_map, refl, sym, ap, ◌∙◌, subst, inl, inr, arith, le_refl}
+use Rattle.std.proofs.Common.{◌≡◌, ℕ, ◌+◌, ◌-◌, ◌^◌, ◌<◌, ◌≤◌, ◌&&◌, not, Bool, true, false, List, ◌∷◌, Option, Some, None, Contains, All, flat_map, refl, sym, ap, ◌∙◌, subst, inl, inr, arith, le_refl}
 use Rattle.std.proofs.lemmas.List.Elements.{All-cons, All-weaker, All-contains}
 use Rattle.machine_defs.specs.declared.flow.Role.{Role}
 use Rattle.machine_defs.specs.declared.flow.Role.TheVariants.{CallIn, CallEither, CallAny}
@@ -11,16 +11,17 @@ use Rattle.state_defs.specs.Effect.{Core, IsInStack}
 use Rattle.state_defs.specs.State.{initial, MeansTop}
 use Rattle.machine_defs.specs.Program.{Program, IsPoint, entry_points, is_call}
 use Rattle.machine_defs.specs.Machine.{Bases, Standing, return_address}
-use Rattle.machine_defs.specs.Step.{MayCall, call_frame, CallsIn, interrupt_frame, IsInterrupted}
-use Rattle.machine_defs.specs.MayReturn.{target_may_return}
+use Rattle.machine_defs.specs.Step.{IsTarget, call_frame, CallsIn, interrupt_frame, IsInterrupted}
+use Rattle.machine_defs.specs.MayReturn.{code_may_return, is_listed}
 use Rattle.machine_defs.specs.Kept.{is_free, Kept}
-use Rattle.machine_defs.specs.IsProgram.{IsProgram}
+use Rattle.machine_defs.specs.IsProgram.{IsCallee, IsProgram}
 use Rattle.machine_defs.specs.Law.{IsCallKept, CallReturns, AreMarksKept, IsInnerFrame, AreFrames, HasRunInvariant, HasFrameInvariant}
 use Rattle.machine_defs.specs.Law as law
 use Rattle.unwinding_law.proofs.Lists.{all_of, found}
 use Rattle.unwinding_law.proofs.Numbers.{down_inside, reads_holds}
 use Rattle.unwinding_law.proofs.Memory.{same_hi, word_above}
 use Rattle.unwinding_law.proofs.KeptStates.{entry_kept}
+use Rattle.unwinding_law.proofs.WaysOn.{called_alone, called_is_told}
 use Rattle.unwinding_law.proofs.Landing.{IsComing}
 
 module _ (p : Program) (bases : Bases) (s : Standing) (r : HasRunInvariant p s) where
@@ -34,27 +35,49 @@ module _ (p : Program) (bases : Bases) (s : Standing) (r : HasRunInvariant p s) 
     slots = subst (λ (x : ℕ). LieAbove x (listed f.ended_caller s.core.shadow)) (sym cfa) (subst (λ (x : Option EndKind). LieAbove s.core.rsp (listed x s.core.shadow)) (sym ended) r.slots.above);
   }
 
-  called_role : (x : Role) (entry : ℕ) → MayCall p x entry → is_call x ≡ true
+  called_role : (x : Role) (entry : ℕ) → IsTarget p x entry → is_call x ≡ true
   called_role (CallIn e) entry h = refl
   called_role (CallEither e sym) entry h = refl
   called_role CallAny entry h = refl
   called_role _ entry h = absurd h
 
-  called_entry : IsProgram p → (x : Role) (entry : ℕ) → p.role s.point ≡ x → MayCall p x entry → Contains p.entries entry
-  called_entry is (CallIn e) entry h k = subst (λ (y : ℕ). Contains p.entries y) (sym k) (is.calls_entry s.point e r.point h)
-  called_entry is (CallEither e symbol) entry h k = subst (λ (y : ℕ). Contains p.entries y) (sym k) (is.calls_weak_entry s.point e symbol r.point h)
-  called_entry is CallAny entry h k = k
+  called_entry : IsProgram p → (x : Role) (entry : ℕ) → p.role s.point ≡ x → IsTarget p x entry → IsCallee p s.point entry
+  called_entry is (CallIn e) entry h k = subst (λ (y : ℕ). IsCallee p s.point y) (sym k) (is.calls_entry s.point e r.point h)
+  called_entry is (CallEither e symbol) entry h k = subst (λ (y : ℕ). IsCallee p s.point y) (sym k) (is.calls_weak_entry s.point e symbol r.point h)
+  called_entry is CallAny entry h k = inl k
   called_entry is _ entry h k = absurd k
 
-  may_come_back : (x : Role) (entry q : ℕ) → MayCall p x entry → Contains (entry_points p entry) q → p.may_return q ≡ true → target_may_return p x ≡ true
+  may_come_back : (x : Role) (entry q : ℕ) → IsTarget p x entry → Contains (entry_points p entry) q → p.may_return q ≡ true → code_may_return p x ≡ true
   may_come_back (CallIn e) entry q h c k = found p.may_return (entry_points p e) q (subst (λ (y : ℕ). Contains (entry_points p y) q) h c) k
   may_come_back (CallEither e sym) entry q h c k = refl
   may_come_back CallAny entry q h c k = refl
   may_come_back _ entry q h c k = absurd h
 
-  call_returns : (entry q : ℕ) → MayCall p (p.role s.point) entry → Contains (entry_points p entry) q → (b : Bool) → p.may_return q ≡ b → CallReturns p s.point q
-  call_returns entry q h c true e = inr (inl (may_come_back (p.role s.point) entry q h c e))
-  call_returns entry q h c false e = inr (inr e)
+  call_returns : (entry q : ℕ) → IsTarget p (p.role s.point) entry → Contains (entry_points p entry) q → (listed back : Bool) → is_listed p (p.role s.point) ≡ listed → p.may_return q ≡ back → CallReturns p s.point q
+  call_returns entry q h c true back l e = inr (inl l)
+  call_returns entry q h c false true l e = inr (inr (inl (both (is_listed p (p.role s.point)) (code_may_return p (p.role s.point)) l (may_come_back (p.role s.point) entry q h c e))))
+    where
+      both : (x y : Bool) → x ≡ false → y ≡ true → (not x && y) ≡ true
+      both false y e f = f
+      both true y e f = absurd (let k : ⊥ = cc in k)
+  call_returns entry q h c false false l e = inr (inr (inr e))
+
+-- What is called is checked, and is kept with the initial state where no hint there tells another.
+record IsComeTo (p : Program) (q : ℕ) : Type 0 where
+  checked : p.unchecked q ≡ false
+  kept : is_free (p.hint q) ≡ true → Kept p q initial
+
+comes_to : (p : Program) (bases : Bases) → IsProgram p → (s t : Standing) → HasRunInvariant p s → (entry : ℕ) → Contains (entry_points p entry) t.point → IsCallee p s.point entry → IsComeTo p t.point
+comes_to p bases is s t r entry arrives (inl listed) =
+    let checked = is.entries_checked entry t.point listed arrives in
+    record { checked = checked; kept = λ free. entry_kept p t.point entry checked free listed arrives }
+comes_to p bases is s t r entry arrives (inr may) =
+    let same : t.point ≡ entry = called_alone p is s.point entry t.point may arrives in
+    let told : is_free (p.hint t.point) ≡ false = called_is_told p s.point entry t.point may same in
+    record {
+      checked = subst (λ (x : ℕ). p.unchecked x ≡ false) (sym same) (is.unowned entry may.point may.of_none);
+      kept = λ free. absurd (let k : ⊥ = cc in k);
+    }
 
 module _ (p : Program) (bases : Bases) (is : IsProgram p) (s t : Standing) (r : HasRunInvariant p s) (f : HasFrameInvariant p bases s) (stack : IsInStack s.core) where
   -- the frames with a new one on top
@@ -141,13 +164,13 @@ module _ (p : Program) (bases : Bases) (is : IsProgram p) (s t : Standing) (r : 
 
     pub calls_in_come : IsComing p bases t
     calls_in_come =
-        let entry = called_entry p bases s r is (p.role s.point) g.entry refl g.target in
+        let came = comes_to p bases is s t r g.entry g.arrives (called_entry p bases s r is (p.role s.point) g.entry refl g.target) in
         let point : IsPoint p t.point = is.arrivals (p.place g.entry) t.point g.arrives in
-        let checked = is.entries_checked g.entry t.point entry g.arrives in
+        let checked = came.checked in
         let inner : IsInnerFrame p bases t.point s.point (call_frame p bases s) s.core.shadow = record {
           point = r.point;
           call_kept = from_here p bases s r (call_frame p bases s) refl refl refl;
-          comes_back = λ _. call_returns p bases s r g.entry t.point g.target g.arrives (p.may_return t.point) refl;
+          comes_back = λ _. call_returns p bases s r g.entry t.point g.target g.arrives (is_listed p (p.role s.point)) (p.may_return t.point) refl refl;
           mark_kept = f.mark;
           goes_back = (refl, called_role p bases s r (p.role s.point) g.entry g.target);
         } in
@@ -155,7 +178,7 @@ module _ (p : Program) (bases : Bases) (is : IsProgram p) (s t : Standing) (r : 
           point = point;
           checked = checked;
           frames = with_frame (call_frame p bases s) inner refl refl (ap (λ (x : Core). x.shadow) g.core) (same_hi s.core.region t.core.region g.pushed.only.addresses) g.mark;
-          told = λ free. at_entry point (entry_kept p t.point g.entry checked free entry g.arrives);
+          told = λ free. at_entry point (came.kept free);
         }
 
   -- an interrupt comes to a gate, whose hint tells everything

@@ -11,12 +11,14 @@ use Rattle.state_defs.specs.declared.state.State.{State}
 use Rattle.state_defs.specs.declared.state.State.TheVariants.{Live, Ended, Regs}
 use Rattle.state_defs.specs.Move.{move, has_near_numbers}
 use Rattle.machine_defs.specs.Program.{Program, IsPoint, is_call, is_call_op, edge, is_local}
+use Rattle.machine_defs.specs.Ways.{is_before_hint}
 use Rattle.machine_defs.specs.MayReturn.{target_may_return}
 use Rattle.machine_defs.specs.Kept.{can_go, edges_of, moved, brought_along, Kept, is_free}
 use Rattle.machine_defs.specs.Broken.{IsAccepted, falls_through, refused}
 use Rattle.machine_defs.specs.IsProgram.{IsProgram}
 use Rattle.unwinding_law.proofs.Lists.{here, in_filter}
 use Rattle.unwinding_law.proofs.Same.{owner_stable}
+use Rattle.unwinding_law.proofs.WaysOn.{no_hint_behind}
 use Rattle.unwinding_law.proofs.KeptStates.{kept_checked, carried, brings_along}
 
 pub not_a_call : (p : Program) (r : Role) → is_call r ≡ false → target_may_return p r ≡ true
@@ -84,13 +86,13 @@ module _ (p : Program) (is : IsProgram p) (acc : IsAccepted p) where
   pub fixup_checked : (a q : ℕ) (s : State) → IsPoint p a → Kept p a s → Contains (p.goes a) (edge q Fixup) → p.unchecked q ≡ false
   fixup_checked a q s pa kept c = branch_checked a q s Fixup (λ e. let k : ⊥ = cc in k) pa kept c
 
-  -- the operation of a kept point is not refused
-  pub moves : (a : ℕ) (s : State) → Kept p a s → (t : State) × (move s (p.insn a).op ≡ Ok t)
-  moves a s kept = go (move s (p.insn a).op) refl
+  -- the operation of a kept point is not refused, unless a hint follows right behind
+  pub moves : (a : ℕ) (s : State) → Kept p a s → is_before_hint p a ≡ false → (t : State) × (move s (p.insn a).op ≡ Ok t)
+  moves a s kept before = go (move s (p.insn a).op) refl
     where
       go : (r : Result State ℕ) → move s (p.insn a).op ≡ r → (t : State) × (move s (p.insn a).op ≡ Ok t)
       go (Ok t) e = (t, e)
-      go (Err rule) e = absurd (acc _ _ _ _ (refused a rule s kept e))
+      go (Err rule) e = absurd (acc _ _ _ _ (refused a rule s kept e (λ _. before)))
 
   -- the moved state is kept along a local edge, and the state itself along that to a fixup
   pub local_kept : (a q : ℕ) (s t : State) (kind : EdgeKind) → is_local kind ≡ true → IsPoint p a → Kept p a s → Contains (p.goes a) (edge q kind) → can_go p a kind ≡ true → move s (p.insn a).op ≡ Ok t → is_free (p.hint q) ≡ true → Kept p q t
@@ -105,5 +107,5 @@ module _ (p : Program) (is : IsProgram p) (acc : IsAccepted p) where
 
   pub past_call : (a q : ℕ) (s : State) → IsPoint p a → Kept p a s → is_call (p.role a) ≡ true → target_may_return p (p.role a) ≡ true → Contains (p.goes a) (edge q Next) → is_free (p.hint q) ≡ true → Kept p q s
   past_call a q s pa kept call back c free =
-      let m = moves a s kept in
+      let m = moves a s kept (no_hint_behind p a q Next refl c back free) in
       local_kept a q s s Next refl pa kept c back (call_moves s m.0 (p.insn a).op (is.calls a pa call) m.1) free

@@ -42,7 +42,8 @@ marked_same (f ∷ fs) = refl
 module _ (p : Program) (bases : Bases) where
   returns_elsewhere : (call a b : ℕ) → (p.may_return a ≡ false → p.may_return b ≡ false) → CallReturns p call a → CallReturns p call b
   returns_elsewhere call a b f (inl h) = inl h
-  returns_elsewhere call a b f (inr h) = inr (elim h [ inl k ↦ inl k | inr k ↦ inr (f k) ])
+  returns_elsewhere call a b f (inr (inl h)) = inr (inl h)
+  returns_elsewhere call a b f (inr (inr h)) = inr (inr (elim h [ inl k ↦ inl k | inr k ↦ inr (f k) ]))
 
   -- the frames stay in order where the top one stands at another point
   pub frames_elsewhere : (a b : ℕ) (fs : List Frame) → (p.may_return a ≡ false → p.may_return b ≡ false) → AreFrames p bases a fs → AreFrames p bases b fs

@@ -1,6 +1,7 @@
 -- An instruction that goes on in its function.
-use Rattle.std.proofs.Common.{◌≡◌, ℕ, ◌≤◌, List, Option, Some, None, Ok, All, refl, sym, ap, ◌∙◌, subst}
+use Rattle.std.proofs.Common.{◌≡◌, ℕ, ◌≤◌, false, List, Option, Some, None, Ok, All, refl, sym, ap, ◌∙◌, subst}
 use Rattle.std.proofs.lemmas.List.Elements.{All-head}
+use Rattle.operation_defs.specs.declared.op.Op.{Op}
 use Rattle.state_defs.specs.declared.state.EndKind.{EndKind}
 use Rattle.state_defs.specs.declared.state.State.{State}
 use Rattle.state_defs.specs.declared.state.State.TheVariants.{Live, Ended, Regs}
@@ -12,11 +13,13 @@ use Rattle.state_defs.specs.Move.{move}
 use Rattle.state_defs.specs.Sound.{IsTold, MoveIsSound, MoveIsConsistent}
 use Rattle.machine_defs.specs.Program.{Program, IsPoint, is_call, edge}
 use Rattle.machine_defs.specs.Machine.{Bases, Standing}
-use Rattle.machine_defs.specs.Step.{SameLevel, GoesOn}
+use Rattle.machine_defs.specs.Ways.{is_before_hint}
+use Rattle.machine_defs.specs.Step.{op_at, SameLevel, GoesOn}
 use Rattle.machine_defs.specs.MayReturn as may
 use Rattle.machine_defs.specs.Broken.{IsAccepted}
 use Rattle.machine_defs.specs.IsProgram.{IsProgram}
 use Rattle.machine_defs.specs.Law.{AreFrames, HasRunInvariant, HasFrameInvariant}
+use Rattle.unwinding_law.proofs.WaysOn.{no_hint_behind, acts_no_call, acts_as_it_is}
 use Rattle.unwinding_law.proofs.Shadow.{effect_shape, effect_hi, effect_no_call}
 use Rattle.unwinding_law.proofs.Frames.{HasTop, has_top, means_top, top_above, frame_invariant, stays_out}
 use Rattle.unwinding_law.proofs.KeptStates.{kept_consistent}
@@ -29,7 +32,7 @@ record IsToldAfter (q : ℕ) (a : State) (t : Standing) : Type 0 where
   means : MeansTop a t.core.rsp t.core.rbp t.core.shadow
   slots : AreKept t.core.rsp t.core.region (listed t.ended t.core.shadow)
 
-module _ (p : Program) (bases : Bases) (is : IsProgram p) (sound : MoveIsSound) (keeps : MoveIsConsistent) (s t : Standing) (r : HasRunInvariant p s) (f : HasFrameInvariant p bases s) (stack : IsInStack s.core) (effect : Effect (p.insn s.point).op s.core t.core) (level : SameLevel s t) (after : IsInStack t.core) where
+module _ (p : Program) (bases : Bases) (is : IsProgram p) (sound : MoveIsSound) (keeps : MoveIsConsistent) (s t : Standing) (r : HasRunInvariant p s) (f : HasFrameInvariant p bases s) (stack : IsInStack s.core) (effect : Effect (op_at p s) s.core t.core) (before : is_before_hint p s.point ≡ false) (level : SameLevel s t) (after : IsInStack t.core) where
   -- of a state that isn't ended
   told_live : (a b : State) → r.state ≡ a → ended_by a ≡ None → move a (p.insn s.point).op ≡ Ok b → IsToldAfter t.point b t
   told_live a b is_a live moved =
@@ -45,7 +48,8 @@ module _ (p : Program) (bases : Bases) (is : IsProgram p) (sound : MoveIsSound) 
         kept = subst (λ (x : List Frame). AreKept s.core.rsp s.core.region (listed None x)) h.is listed_slots;
         above = top_above p bases s.point h.frame h.below (subst (λ (x : List Frame). AreFrames p bases s.point x) h.is f.frames);
       } in
-      let n = sound a b (p.insn s.point).op s.core t.core h.frame h.below consistent live (is.numbers s.point r.point) moved stack told effect after in
+      let as_it_is : Effect (p.insn s.point).op s.core t.core = subst (λ (op : Op). Effect op s.core t.core) (acts_as_it_is p s s_ended before) effect in
+      let n = sound a b (p.insn s.point).op s.core t.core h.frame h.below consistent live (is.numbers s.point r.point) moved stack told as_it_is after in
       record {
         ended = t_ended ∙ sym ((keeps a b (p.insn s.point).op consistent moved).1 ∙ live);
         means = subst (λ (x : List Frame). MeansTop b t.core.rsp t.core.rbp x) (sym n.2.frames) (means_top b t.core.rsp t.core.rbp n.0 h.below n.2.means);
@@ -69,22 +73,24 @@ module _ (p : Program) (bases : Bases) (is : IsProgram p) (sound : MoveIsSound) 
 module _ (p : Program) (bases : Bases) (is : IsProgram p) (acc : IsAccepted p) (sound : MoveIsSound) (keeps : MoveIsConsistent) (s t : Standing) (r : HasRunInvariant p s) (f : HasFrameInvariant p bases s) (stack : IsInStack s.core) (g : GoesOn p s t) (after : IsInStack t.core) where
   pub goes_on_comes : IsComing p bases t
   goes_on_comes =
-      let role = plain_role p is s.point r.point (is_call (p.role s.point)) refl (effect_no_call s.core t.core (p.insn s.point).op g.effect) in
+      let role = plain_role p is s.point r.point (is_call (p.role s.point)) refl (acts_no_call p s (effect_no_call s.core t.core (op_at p s) g.effect)) in
       let can = may_go p s.point g.kind g.local role in
-      let m = moves p is acc s.point r.state r.kept in
       let point : IsPoint p t.point = is.edges s.point (edge t.point g.kind) r.point g.along in
-      let told : IsToldAfter t.point m.0 t = told_after p bases is sound keeps s t r f stack g.effect g.level after r.state m.0 refl m.1 in
       record {
         point = point;
         checked = local_checked p is acc s.point t.point r.state g.kind g.local r.point r.kept g.along can;
-        frames = frame_invariant p bases s t (effect_shape s.core t.core (p.insn s.point).op g.effect) (effect_hi s.core t.core (p.insn s.point).op g.effect) g.level.mark
+        frames = frame_invariant p bases s t (effect_shape s.core t.core (op_at p s) g.effect) (effect_hi s.core t.core (op_at p s) g.effect) g.level.mark
             (stays_out p bases is s.point t.point r.point point (λ h. may.goes_on s.point (edge t.point g.kind) role g.along h)) f;
-        told = λ free. record {
-          point = point;
-          state = m.0;
-          kept = local_kept p is acc s.point t.point r.state m.0 g.kind g.local r.point r.kept g.along can m.1 free;
-          ended = told.ended;
-          means = told.means;
-          slots = told.slots;
-        };
+        told = λ free.
+            let before = no_hint_behind p s.point t.point g.kind g.local g.along can free in
+            let m = moves p is acc s.point r.state r.kept before in
+            let told : IsToldAfter t.point m.0 t = told_after p bases is sound keeps s t r f stack g.effect before g.level after r.state m.0 refl m.1 in
+            record {
+              point = point;
+              state = m.0;
+              kept = local_kept p is acc s.point t.point r.state m.0 g.kind g.local r.point r.kept g.along can m.1 free;
+              ended = told.ended;
+              means = told.means;
+              slots = told.slots;
+            };
       }

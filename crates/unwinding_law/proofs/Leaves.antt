@@ -11,12 +11,14 @@ use Rattle.state_defs.specs.State.{initial, ended_by}
 use Rattle.state_defs.specs.Move.{int_same}
 use Rattle.state_defs.specs.Rules.{is_initial, return_rule, sibling_rule, iret_rule}
 use Rattle.machine_defs.specs.Program.{Program}
-use Rattle.machine_defs.specs.Step.{may_leave}
+use Rattle.machine_defs.specs.Ways.{may_leave}
+use Rattle.machine_defs.specs.Step.{may_go_back}
 use Rattle.machine_defs.specs.MayReturn.{MayReturn}
 use Rattle.machine_defs.specs.MayReturn as may
 use Rattle.machine_defs.specs.Kept.{Kept}
 use Rattle.machine_defs.specs.Broken.{LeavesByJump, outside, anywhere, IsAccepted, modified_return, modified_sibling, unallowed_return, unallowed_sibling, unallowed_iret}
 use Rattle.stack_state.proofs.Consistent.{int_same_is}
+use Rattle.unwinding_law.proofs.WaysOn.{Allows}
 
 initial_is : (s : State) → is_initial s ≡ true → s ≡ initial
 initial_is (Live (Known n) None Same) e = ap (λ (x : ℤ). Live (Known x) None Same) (int_same_is n (pos 8) e)
@@ -47,20 +49,30 @@ iret_partial (Regs true d) e h = absurd (h refl)
 iret_partial (Regs false d) e h = ap (λ (x : ℤ). Regs false x) (int_same_is d (pos 0) (unruled (int_same d (pos 0)) 15 h))
 
 module _ (p : Program) (acc : IsAccepted p) (a : ℕ) (s : State) (kept : Kept p a s) where
-  pub at_jump : LeavesByJump p a → s ≡ initial
-  at_jump l = sibling_initial s (λ e. acc _ _ _ _ (modified_sibling a s kept l e)) (λ e. acc _ _ _ _ (unallowed_sibling a s kept l e))
+  -- where code that may leave is allowed to by its state
+  module _ (allowed : may_leave p a ≡ true → Allows s) where
+    jump_allowed : LeavesByJump p a → (b : Bool) → may_leave p a ≡ b → sibling_rule s ≡ Some 15 → ⊥
+    jump_allowed l true m e = (allowed m).jump e
+    jump_allowed l false m e = acc _ _ _ _ (unallowed_sibling a s kept l e m)
 
-  pub at_leave : (r : Role) → p.role a ≡ r → may_leave p r ≡ true → s ≡ initial
-  at_leave Return e l = return_initial s (λ h. acc _ _ _ _ (modified_return a s kept e h)) (λ h. acc _ _ _ _ (unallowed_return a s kept e h))
-  at_leave JumpAny e l = at_jump (anywhere e)
-  at_leave (JumpOut sym) e l = at_jump (outside sym e)
-  at_leave _ e l = absurd (let k : ⊥ = cc in k)
+    return_allowed : p.role a ≡ Return → (b : Bool) → may_leave p a ≡ b → return_rule s ≡ Some 15 → ⊥
+    return_allowed r true m e = (allowed m).return e
+    return_allowed r false m e = acc _ _ _ _ (unallowed_return a s kept r e m)
+
+    pub at_jump : LeavesByJump p a → s ≡ initial
+    at_jump l = sibling_initial s (λ e. acc _ _ _ _ (modified_sibling a s kept l e)) (jump_allowed l (may_leave p a) refl)
+
+    pub at_leave : (r : Role) → p.role a ≡ r → may_go_back p r ≡ true → s ≡ initial
+    at_leave Return e l = return_initial s (λ h. acc _ _ _ _ (modified_return a s kept e h)) (return_allowed e (may_leave p a) refl)
+    at_leave JumpAny e l = at_jump (anywhere e)
+    at_leave (JumpOut sym) e l = at_jump (outside sym e)
+    at_leave _ e l = absurd (let k : ⊥ = cc in k)
 
   pub at_iret : (p.insn a).op ≡ Iret → ended_by s ≡ None → s ≡ Regs false (pos 0)
   at_iret e live = iret_partial s live (λ h. acc _ _ _ _ (unallowed_iret a s kept e h))
 
 -- from where control leaves its function a return may come
-pub leaves_may_return : (p : Program) (a : ℕ) (r : Role) → p.role a ≡ r → may_leave p r ≡ true → MayReturn p a
+pub leaves_may_return : (p : Program) (a : ℕ) (r : Role) → p.role a ≡ r → may_go_back p r ≡ true → MayReturn p a
 leaves_may_return p a Return e l = may.returns a e
 leaves_may_return p a JumpAny e l = may.jumps_anywhere a e
 leaves_may_return p a (JumpOut sym) e l = may.jumps_out a sym e (returns (p.never_returns sym) l)

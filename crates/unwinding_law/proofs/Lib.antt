@@ -1,4 +1,5 @@
 pub mod Lists
+pub mod WaysOn
 pub mod Same
 pub mod KeptStates
 pub mod Memory

@@ -1,6 +1,7 @@
 -- Elements of lists that are filtered, joined or counted.
 use Rattle.std.proofs.Common.{◌≡◌, ℕ, zero, suc, ◌<◌, ◌⊎◌, Bool, true, false, cond, ◌||◌, List, [], ◌∷◌, ◌++◌, map, All, Contains, filter, flat_map, refl, sym, subst, inl, inr, arith}
-use Rattle.std.specs.List.{list_any}
+use Rattle.std.specs.List.{list_any, list_all}
+use Rattle.std.proofs.lemmas.Bool.{and_parts}
 use Rattle.std.proofs.lemmas.List.Elements.{All-weaker, All-contains, All-contains_itself, Contains-append_left, Contains-append_right, Contains-append_cases}
 use Rattle.machine_defs.specs.Program.{below}
 
@@ -46,6 +47,12 @@ module _ {X : Type 0} (p : X → Bool) where
 
       first : (y : X) (xs : List X) (x : X) → y ≡ x → p x ≡ true → (p y || list_any p xs) ≡ true
       first y xs x q h = rw (subst (λ (z : X). p z ≡ true) (sym q) h) refl
+
+  pub each_passes : (xs : List X) (x : X) → list_all p xs ≡ true → Contains xs x → p x ≡ true
+  each_passes [] x h c = nowhere x c
+  each_passes (y ∷ xs) x h c =
+      let both = and_parts (p y) (list_all p xs) h in
+      elim (cases y xs x c) [ inl q ↦ subst (λ (z : X). p z ≡ true) q both.0 | inr d ↦ each_passes xs x both.1 d ]
 
   pub find_one : (xs : List X) → list_any p xs ≡ true → (x : X) × Contains xs x × (p x ≡ true)
   find_one [] h = absurd (let k : ⊥ = cc in k)

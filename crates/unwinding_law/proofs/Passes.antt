@@ -1,5 +1,5 @@
 -- A fault, a call of code outside, and a jump to another function: the frames stay.
-use Rattle.std.proofs.Common.{◌≡◌, true, false, List, Option, refl, sym, ap, ◌∙◌, subst}
+use Rattle.std.proofs.Common.{◌≡◌, ◌&&◌, not, Bool, true, false, List, Option, refl, sym, ap, ◌∙◌, subst}
 use Rattle.machine_defs.specs.declared.flow.EdgeKind.TheVariants.{Fixup}
 use Rattle.machine_defs.specs.declared.flow.Role.{Role}
 use Rattle.machine_defs.specs.declared.flow.Role.TheVariants.{CallEither, CallOut, CallAny}
@@ -10,7 +10,7 @@ use Rattle.state_defs.specs.State.{MeansTop}
 use Rattle.machine_defs.specs.Program.{Program, IsPoint, is_call, edge}
 use Rattle.machine_defs.specs.Machine.{Bases, Standing}
 use Rattle.machine_defs.specs.Step.{SameLevel, Faults, CallsOut}
-use Rattle.machine_defs.specs.MayReturn.{may_call_out, target_may_return}
+use Rattle.machine_defs.specs.MayReturn.{may_call_out, target_may_return, is_listed}
 use Rattle.machine_defs.specs.MayReturn as may
 use Rattle.machine_defs.specs.Kept.{Kept}
 use Rattle.machine_defs.specs.Broken.{IsAccepted}
@@ -25,10 +25,14 @@ use Rattle.unwinding_law.proofs.Edges.{next_checked, fixup_checked, fixup_kept, 
 pub same_frames : (fs gs : List Frame) → gs ≡ fs → IsSlotChange fs gs
 same_frames fs gs e = subst (λ (x : List Frame). IsSlotChange fs x) (sym e) (unchanged fs)
 
+passes : (b : Bool) → b ≡ true → (b && true) ≡ true
+passes true e = refl
+passes false e = absurd (let k : ⊥ = cc in k)
+
 -- a call of code outside is a call, whose target may return
 pub out_calls : (p : Program) (x : Role) → may_call_out p x ≡ true → (is_call x ≡ true) × (target_may_return p x ≡ true)
-out_calls p (CallOut sym) e = (refl, e)
-out_calls p (CallEither entry sym) e = (refl, refl)
+out_calls p (CallOut sym) e = (refl, passes (not (p.never_returns sym)) e)
+out_calls p (CallEither entry sym) e = (refl, passes (not (is_listed p (CallEither entry sym))) e)
 out_calls p CallAny e = (refl, refl)
 out_calls p _ e = absurd (let k : ⊥ = cc in k)
 

@@ -1,7 +1,7 @@
 -- What an operation may do to the frames: change the top one's slot, and not its kind.
 use Rattle.std.proofs.Common.{◌≡◌, ℕ, Bool, true, false, if◌then◌else◌, ◌==◌, List, [], ◌∷◌, MatchBool, refl, sym, ap, subst}
 use Rattle.operation_defs.specs.declared.op.Op.{Op}
-use Rattle.operation_defs.specs.declared.op.Op.TheVariants.{Plain, Nop, Endbr, Push, PushBp, Pop, PopBp, Popf, AddSp, AndSp, LeaSpBp, LeaBpSp, StoreBp, LoadBp, Leave, SpOther, BpOther, Call, CallInd, Jmp, Jcc, JmpInd, Ret, RetImm, Iret, IretNext, Switch, Ud2, Int3, Stac, Clac}
+use Rattle.operation_defs.specs.declared.op.Op.TheVariants.{Plain, Nop, Endbr, Push, PushBp, Pop, PopBp, Popf, AddSp, AndSp, LeaSpBp, LeaBpSp, LeaBpRoom, SubSp, SpReg, StoreBp, LoadBp, Leave, SpOther, BpOther, Call, Hop, CallInd, Jmp, Jcc, JmpInd, Ret, RetImm, Iret, IretNext, Switch, Ud2, Int3, Stac, Clac}
 use Rattle.state_defs.specs.Address.{up, shifted}
 use Rattle.state_defs.specs.Region.{hi_of}
 use Rattle.state_defs.specs.Frame.{Slot, Unsaved, SavedAt, PartialAt, FullAt, is_of_call, Frame, saved_slot, loaded_slot, popped_slot, with_top_slot, after_save}
@@ -79,6 +79,9 @@ module _ (c d : Core) where
   effect_shape (AndSp mask) e = same_shadow c d (ap (λ (x : Core). x.shadow) e)
   effect_shape (LeaSpBp by) e = same_shadow c d (ap (λ (x : Core). x.shadow) e)
   effect_shape (LeaBpSp by) e = same_shadow c d (ap (λ (x : Core). x.shadow) e)
+  effect_shape (LeaBpRoom by) e = same_shadow c d (ap (λ (x : Core). x.shadow) e)
+  effect_shape SubSp e = same_shadow c d (ap (λ (x : Core). x.shadow) e.1)
+  effect_shape SpReg e = same_shadow c d (ap (λ (x : Core). x.shadow) e.1)
   effect_shape (StoreBp at) e = go (store_saves c.rsp c.rbp at c.shadow) e.1
     where
       go : (b : Bool) → MatchBool b (d ≡ record c { region = d.region; shadow = after_save c.rbp (shifted c.rsp at) c.shadow }) (StoresOrdinarily c d × (d ≡ record c { region = d.region })) → IsSlotChange c.shadow d.shadow
@@ -89,6 +92,7 @@ module _ (c d : Core) where
   effect_shape SpOther e = same_shadow c d (ap (λ (x : Core). x.shadow) e.1)
   effect_shape BpOther e = same_shadow c d (ap (λ (x : Core). x.shadow) e.1)
   effect_shape (Call rel) e = absurd e
+  effect_shape Hop e = same_shadow c d (ap (λ (x : Core). x.shadow) e.1)
   effect_shape CallInd e = absurd e
   effect_shape (Jmp rel wide) e = same_shadow c d (ap (λ (x : Core). x.shadow) e)
   effect_shape (Jcc rel wide) e = same_shadow c d (ap (λ (x : Core). x.shadow) e)
@@ -116,12 +120,16 @@ module _ (c d : Core) where
   effect_hi (AndSp mask) e = ap (λ (x : Core). hi_of x.region) e
   effect_hi (LeaSpBp by) e = ap (λ (x : Core). hi_of x.region) e
   effect_hi (LeaBpSp by) e = ap (λ (x : Core). hi_of x.region) e
+  effect_hi (LeaBpRoom by) e = ap (λ (x : Core). hi_of x.region) e
+  effect_hi SubSp e = ap (λ (x : Core). hi_of x.region) e.1
+  effect_hi SpReg e = ap (λ (x : Core). hi_of x.region) e.1
   effect_hi (StoreBp at) e = same_hi c.region d.region e.0.only.addresses
   effect_hi (LoadBp at) e = ap (λ (x : Core). hi_of x.region) e.1
   effect_hi Leave e = ap (λ (x : Core). hi_of x.region) e.1
   effect_hi SpOther e = same_hi c.region d.region e.0.addresses
   effect_hi BpOther e = same_hi c.region d.region e.0.addresses
   effect_hi (Call rel) e = absurd e
+  effect_hi Hop e = same_hi c.region d.region e.0.addresses
   effect_hi CallInd e = absurd e
   effect_hi (Jmp rel wide) e = ap (λ (x : Core). hi_of x.region) e
   effect_hi (Jcc rel wide) e = ap (λ (x : Core). hi_of x.region) e

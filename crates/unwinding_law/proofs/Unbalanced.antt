@@ -13,7 +13,7 @@ use Rattle.state_defs.specs.declared.state.State.{State}
 use Rattle.state_defs.specs.declared.state.State.TheVariants.{Live}
 use Rattle.state_defs.specs.Effect.{HasSignedNumber}
 use Rattle.state_defs.specs.Frame.{Unsaved}
-use Rattle.machine_defs.specs.Program.{TextSection, below, is_call, edge}
+use Rattle.machine_defs.specs.Program.{TextSection, below, entry_points, is_call, edge}
 use Rattle.machine_defs.specs.Machine.{IsPlacement, IsOutside, Standing, Wrecked, At}
 use Rattle.machine_defs.specs.Step.{other_depth, wrecks, wrong_return}
 use Rattle.machine_defs.specs.Run.{Run, stepped}
@@ -56,6 +56,11 @@ may_return : (q : ℕ) → MayReturn unbalanced q
 may_return zero = may.goes_on 0 (edge 1 Next) refl (here (edge 1 Next) []) (may.returns 1 refl)
 may_return (suc q) = may.returns (suc q) refl
 
+stands : (q r : ℕ) → q < 2 → Contains (entry_points unbalanced q) r → r ≡ q
+stands zero r below c = elim (cases 0 [] r c) [ inl e ↦ sym e | inr d ↦ nowhere r d ]
+stands (suc zero) r below c = elim (cases 1 [] r c) [ inl e ↦ sym e | inr d ↦ nowhere r d ]
+stands (suc (suc q)) r below c = absurd (omega (arith, below))
+
 pub program : IsProgram unbalanced
 program = record {
   edges = λ q e point c. subst (λ (x : Edge). x.to < 2) (sym (one_edge q e c)) (lit< tt);
@@ -65,6 +70,7 @@ program = record {
   checked = λ q e h u c k. refl;
   unowned = λ q point e. refl;
   entries_checked = λ entry q c d. refl;
+  arrives_alone = λ q r point v out c. stands q r point c;
   calls_entry = λ q entry point e. absurd (no_call_of q (CallIn entry) refl e);
   calls_weak_entry = λ q entry symbol point e. absurd (no_call_of q (CallEither entry symbol) refl e);
   siblings = λ q r point c. absurd (let k : Sibling ≡ Next = ap (λ (e : Edge). e.kind) (one_edge q (edge r Sibling) c) in let m : ⊥ = cc in m);
@@ -109,4 +115,4 @@ pushes =
     (record { ended = refl; mark = refl }) refl (run.in_zeros 0x8000 0 at_return.core.shadow (lit≤ tt) (lit≤ tt) (lit< tt))
 
 pub wrecked : Run unbalanced base Wrecked
-wrecked = stepped (At at_return) Wrecked pushes (wrecks at_return (wrong_return refl (other_depth (caller Unsaved) [] (λ e. let k : 0x8000 ≡ 0x8008 = e in absurd (omega arith))))) tt
+wrecked = stepped (At at_return) Wrecked pushes (wrecks at_return (wrong_return refl refl (other_depth (caller Unsaved) [] (λ e. let k : 0x8000 ≡ 0x8008 = e in absurd (omega arith))))) tt

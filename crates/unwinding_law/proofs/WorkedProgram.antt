@@ -15,11 +15,11 @@ use Rattle.state_defs.specs.declared.state.HintState.{HintState}
 use Rattle.state_defs.specs.declared.state.HintState.TheVariants.{Set}
 use Rattle.state_defs.specs.Effect.{HasSignedNumber}
 use Rattle.state_defs.specs.State.{IsConsistent}
-use Rattle.machine_defs.specs.Program.{below, entry_points, is_call, is_call_op, edge}
+use Rattle.machine_defs.specs.Program.{Site, below, in_site, entry_points, is_call, is_call_op, edge}
 use Rattle.machine_defs.specs.MayReturn.{MayReturn, may_call_out}
 use Rattle.machine_defs.specs.MayReturn as may
 use Rattle.machine_defs.specs.IsProgram.{IsProgram, HintsStandAtPoints}
-use Rattle.unwinding_law.specs.Worked.{place_at, point, worked, interrupted}
+use Rattle.unwinding_law.specs.Worked.{place_at, point, site, worked, interrupted}
 use Rattle.unwinding_law.proofs.Elements.{each, none, one, two}
 use Rattle.unwinding_law.proofs.Lists.{here, cases, nowhere, from_filter, from_below}
 
@@ -127,7 +127,7 @@ from_table : MayReturn worked 1
 from_table = may.goes_on 1 (edge 2 Table) refl (here (edge 2 Table) []) from_load
 
 from_call : MayReturn worked 0
-from_call = may.comes_back_in 0 1 4 4 refl refl (0, lit< tt, refl) from_g (here (edge 1 Next) []) from_table
+from_call = may.comes_back_in 0 1 4 4 refl refl refl (0, lit< tt, refl) from_g (here (edge 1 Next) []) from_table
 
 from_padding : MayReturn worked 10
 from_padding = may.goes_on 10 (edge 1 Next) refl (here (edge 1 Next) []) from_table
@@ -149,7 +149,7 @@ stuck q g l (may.jumps_out q2 symbol e n) = let k : goes_out (worked.role q) ≡
 stuck q g l (may.goes_on q2 e call c m) = nowhere e (subst (λ (xs : List Edge). Contains xs e) g c)
 stuck q g l (may.branches q2 e kind c m) = nowhere e (subst (λ (xs : List Edge). Contains xs e) g c)
 stuck q g l (may.comes_back q2 r out passed c m) = nowhere (edge r Next) (subst (λ (xs : List Edge). Contains xs (edge r Next)) g c)
-stuck q g l (may.comes_back_in q2 r entry start role passed c m d n) = nowhere (edge r Next) (subst (λ (xs : List Edge). Contains xs (edge r Next)) g d)
+stuck q g l (may.comes_back_in q2 r entry start role unlisted passed c m d n) = nowhere (edge r Next) (subst (λ (xs : List Edge). Contains xs (edge r Next)) g d)
 
 told : (q : ℕ) → MayReturn worked q → worked.may_return q ≡ true
 told = each (λ q. MayReturn worked q → worked.may_return q ≡ true) (λ _. refl) (λ _. refl) (λ _. refl) (λ _. refl) (λ _. refl) (λ _. refl) (λ _. refl) (λ m. absurd (stuck 7 refl refl m)) (λ m. absurd (stuck 8 refl refl m)) (λ _. refl) (λ _. refl) (λ q m. absurd (stuck _ refl refl m))
@@ -176,6 +176,22 @@ call_next q r e c = go (subst (λ (x : ℕ). Contains (worked.after x) r) zero_i
 consistent : (q : ℕ) (s : State) → worked.hint q ≡ Some (Set s) → IsConsistent s
 consistent q s e = let k : Set interrupted ≡ Set s = (one_hint q (Set s) e).1 in let m : interrupted ≡ s = cc in subst IsConsistent m (omega arith)
 
+-- outside its site control that comes to a plain point stands there
+alone : (q r : ℕ) → Contains (q ∷ []) r → r ≡ q
+alone q r c = elim (cases q [] r c) [ inl e ↦ sym e | inr d ↦ nowhere r d ]
+
+abbrev StandsAt : ℕ → Type 0
+StandsAt q = worked.variant q ≡ 0 → ((s : Site) → Contains worked.sites s → in_site s (worked.place q) ≡ false) → (r : ℕ) → Contains (entry_points worked q) r → r ≡ q
+
+in_its_site : StandsAt 0
+in_its_site v out r c = absurd (let k : true ≡ false = out site (here site []) in let z : ⊥ = cc in z)
+
+of_replacement : {P : Type 0} → ◌≡◌ {A = ℕ} 1 0 → P
+of_replacement e = absurd (omega (arith, e))
+
+stands : (q : ℕ) → StandsAt q
+stands = each StandsAt in_its_site (λ v out r c. alone 1 r c) (λ v out r c. alone 2 r c) (λ v out r c. alone 3 r c) (λ v out r c. alone 4 r c) (λ v out r c. alone 5 r c) (λ v out r c. alone 6 r c) (λ v out r c. alone 7 r c) (λ v out r c. alone 8 r c) (λ v out r c. of_replacement v) (λ v out r c. of_replacement v) (λ q v out r c. nowhere r c)
+
 -- so it is a program
 pub program : IsProgram worked
 program = record {
@@ -186,7 +202,8 @@ program = record {
   checked = λ q e point u c k. refl;
   unowned = λ q point e. refl;
   entries_checked = λ entry q c d. refl;
-  calls_entry = λ q entry point e. call_in q entry e;
+  arrives_alone = λ q r point v out c. stands q v out r c;
+  calls_entry = λ q entry point e. inl (call_in q entry e);
   calls_weak_entry = λ q entry symbol point e. absurd (no_weak_call q entry symbol e);
   siblings = λ q r point c. (4, (1, lit< tt, refl), subst (λ (x : ℕ). Contains (entry_points worked 4) x) (sym (one_tail q r c).1) (0, lit< tt, refl));
   calls = λ q point e. subst (λ (x : ℕ). is_call_op (worked.insn x).op ≡ true) (sym (one_call q e)) refl;

@@ -137,18 +137,18 @@ no_rule rule o e f = let k : None ≡ Some rule = sym e ∙ f in cc
 refuted : (place : Place) (rule : ℕ) (a b : ℤ) → Warns worked place rule a b → ⊥
 refuted place rule a b (broken.bad_target q s k e) = cc
 refuted place rule a b (broken.falls_through q r s k c ne) = ne ((right_edge q (edge r Next) c).owner refl)
-refuted place rule a b (broken.runs_off q s k e) = of_state (λ _. ⊥) q s k (past_end q e)
+refuted place rule a b (broken.runs_off q s k e followed) = of_state (λ _. ⊥) q s k (past_end q e)
 refuted place rule a b (broken.mismatch q r s t u kq brings kr free ne) = let e : Some t ≡ Some u = sym (brought_state q r s t (kept_state q s kq) brings) ∙ kept_state r u kr in ne (let m : t ≡ u = cc in m)
 refuted place rule a b (broken.modified_return q s k role r) = no_rule 5 (return_rule s) (ap return_rule (sym (state_there q 6 s initial (one_return q (ap is_return role)) refl k))) r
 refuted place rule a b (broken.drops_bytes q s k role op n) = no_imm_or_switch q (ap is_imm_or_switch op)
 refuted place rule a b (broken.modified_sibling q s k l r) = no_rule 6 (sibling_rule s) (ap sibling_rule (sym (state_there q 3 s initial (tail q l) refl k))) r
-refuted place rule a b (broken.refused q n s k e) = let m = of_state (λ s. (t : State) × (move s (worked.insn q).op ≡ Ok t)) q s k (moves_well q) in let i : Ok m.0 ≡ Err n = sym m.1 ∙ e in cc
+refuted place rule a b (broken.refused q n s k e before) = let m = of_state (λ s. (t : State) × (move s (worked.insn q).op ≡ Ok t)) q s k (moves_well q) in let i : Ok m.0 ≡ Err n = sym m.1 ∙ e in cc
 refuted place rule a b (broken.unfit q s n k e) = let i : None ≡ Some n = sym (of_state (λ s. unfit_offset s ≡ None) q s k (fits q)) ∙ e in cc
 refuted place rule a b (broken.variants_disagree other q r s t kq kr e ne) = ne (ap row_of (site_state other q s kq ∙ sym (site_state other r t kr)))
 refuted place rule a b (broken.call_disagrees other q r s t kq c f ne) = ne (ap row_of (site_state other r t f.kept ∙ sym (site_state other q s kq)))
 refuted place rule a b (broken.into_site q s k e) = cc
-refuted place rule a b (broken.unallowed_return q s k role r) = no_rule 15 (return_rule s) (ap return_rule (sym (state_there q 6 s initial (one_return q (ap is_return role)) refl k))) r
-refuted place rule a b (broken.unallowed_sibling q s k l r) = no_rule 15 (sibling_rule s) (ap sibling_rule (sym (state_there q 3 s initial (tail q l) refl k))) r
+refuted place rule a b (broken.unallowed_return q s k role r stays) = no_rule 15 (return_rule s) (ap return_rule (sym (state_there q 6 s initial (one_return q (ap is_return role)) refl k))) r
+refuted place rule a b (broken.unallowed_sibling q s k l r stays) = no_rule 15 (sibling_rule s) (ap sibling_rule (sym (state_there q 3 s initial (tail q l) refl k))) r
 refuted place rule a b (broken.unallowed_switch q s k op r) = no_imm_or_switch q (ap is_imm_or_switch op)
 refuted place rule a b (broken.unallowed_iret q s k op r) = no_rule 15 (iret_rule s) (ap iret_rule (sym (state_there q 7 s interrupted (one_iret q (ap is_iret op)) refl k))) r
 refuted place rule a b (broken.into_function q s k e) = cc

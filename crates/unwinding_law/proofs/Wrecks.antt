@@ -11,12 +11,14 @@ use Rattle.state_defs.specs.Effect.{Core, IsInStack}
 use Rattle.state_defs.specs.State.{initial, ended_by, MeansTop}
 use Rattle.machine_defs.specs.Program.{Program}
 use Rattle.machine_defs.specs.Machine.{Standing}
-use Rattle.machine_defs.specs.Step.{MissesReturn, no_return, return_in_interrupt, other_return, other_depth, other_rbp, MissesIret, no_interrupt, iret_in_call, other_address, other_rsp, other_interrupted_rbp, Wrecks, wrong_return, wrong_iret, drops_bytes, bad_target, into_site, into_function, past_end}
+use Rattle.machine_defs.specs.Ways.{may_leave}
+use Rattle.machine_defs.specs.Step.{ends_run, MissesReturn, no_return, return_in_interrupt, other_return, other_depth, other_rbp, MissesIret, no_interrupt, iret_in_call, other_address, other_rsp, other_interrupted_rbp, Wrecks, wrong_return, wrong_iret, drops_bytes, bad_target, into_site, into_function, past_end}
 use Rattle.machine_defs.specs.Broken.{IsAccepted}
 use Rattle.machine_defs.specs.Broken as broken
 use Rattle.machine_defs.specs.IsProgram.{IsProgram}
 use Rattle.machine_defs.specs.Law.{HasRunInvariant}
 use Rattle.unwinding_law.proofs.Numbers.{holds_reads, holds_inside, up_none}
+use Rattle.unwinding_law.proofs.WaysOn.{dropping_stays, followed, Allows, allows, is_followed_live}
 use Rattle.unwinding_law.proofs.Leaves.{at_leave, at_iret}
 
 -- the initial state is ready for a return
@@ -84,17 +86,21 @@ module _ (p : Program) (is : IsProgram p) (acc : IsAccepted p) (s : Standing) (r
   means_state : (a : State) → r.state ≡ a → MeansTop a s.core.rsp s.core.rbp s.core.shadow
   means_state a e = subst (λ (x : State). MeansTop x s.core.rsp s.core.rbp s.core.shadow) e r.means
 
+  -- where a way out is followed, its state allows it
+  pub allowed_here : ends_run p s ≡ false → may_leave p s.point ≡ true → Allows r.state
+  allowed_here stays may = let f = followed p s stays may in allows r.state s.core.rsp s.core.rbp s.core.shadow (sym r.ended ∙ f.live) r.means f.of_call
+
   pub not_wrecked : Wrecks p s → ⊥
-  not_wrecked (wrong_return leaves misses) =
-      let e = at_leave p acc s.point r.state r.kept (p.role s.point) refl leaves in
+  not_wrecked (wrong_return leaves stays misses) =
+      let e = at_leave p acc s.point r.state r.kept (allowed_here stays) (p.role s.point) refl leaves in
       ready_to_return s.core s.core.shadow (means_state initial e) (live_slots (r.ended ∙ ap ended_by e)) misses
   not_wrecked (wrong_iret op live misses) =
       let e = at_iret p acc s.point r.state r.kept op (sym r.ended ∙ live) in
       ready_to_iret s.core s.core.shadow stack (means_state (Regs false (pos 0)) e) (live_slots live) misses
   not_wrecked (drops_bytes op) =
       let role = is.returns s.point r.point op in
-      acc _ _ _ _ (broken.drops_bytes s.point r.state r.kept role op (λ h. acc _ _ _ _ (broken.unallowed_return s.point r.state r.kept role h)))
+      acc _ _ _ _ (broken.drops_bytes s.point r.state r.kept role op (λ h. acc _ _ _ _ (broken.unallowed_return s.point r.state r.kept role h (dropping_stays p s.point op))))
   not_wrecked (bad_target e) = acc _ _ _ _ (broken.bad_target s.point r.state r.kept e)
   not_wrecked (into_site e) = acc _ _ _ _ (broken.into_site s.point r.state r.kept e)
   not_wrecked (into_function e) = acc _ _ _ _ (broken.into_function s.point r.state r.kept e)
-  not_wrecked (past_end e) = acc _ _ _ _ (broken.runs_off s.point r.state r.kept e)
+  not_wrecked (past_end e live) = acc _ _ _ _ (broken.runs_off s.point r.state r.kept e (λ none. is_followed_live r.state (sym r.ended ∙ live none)))

@@ -19,10 +19,10 @@ use Rattle.x86_map.specs.Form.{imm_len, look_form}
 use Rattle.x86_map.proofs.Looks.{look_append}
 use Rattle.x86_decode.specs.declared.fields.Fields.{Fields}
 use Rattle.x86_decode.specs.declared.action.Action.{Action}
-use Rattle.x86_decode.specs.declared.action.Action.TheVariants.{Other, Exchange, NoOperation, Hint, PushRegister, Push, PopRegister, PopOperand, Pop, PopFlags, Arithmetic, Store, Load, LoadAddress, Enter, Leave, Call, ShortJump, Jump, ShortCondition, Condition, Return, ReturnImmediate, InterruptReturn, Far, Undefined, Breakpoint, Group5, Group7, Group11}
+use Rattle.x86_decode.specs.declared.action.Action.TheVariants.{Other, Exchange, NoOperation, Hint, PushRegister, Push, PopRegister, PopOperand, Pop, PopFlags, Arithmetic, SubtractFrom, Subtract, Store, Load, LoadAddress, Enter, Leave, Call, ShortJump, Jump, ShortCondition, Condition, Return, ReturnImmediate, InterruptReturn, Far, Undefined, Breakpoint, Group5, Group7, Group11}
 use Rattle.x86_decode.specs.Action.{action_of}
 use Rattle.x86_decode.specs.Fields.{writes_number}
-use Rattle.x86_decode.specs.Operation.{written, push_operand, pop_operand, arithmetic, stored, loaded, address_loaded, jump_table, group_5, group_7, group_11, operation_by, operation}
+use Rattle.x86_decode.specs.Operation.{written, push_operand, pop_operand, arithmetic, subtracted_from, subtracted_by, stored, loaded, address_loaded, jump_table, group_5, group_7, group_11, operation_by, operation}
 use Rattle.x86_decode.specs.Spelling.{map_of, byte_of, prefixes_in, fields_in}
 use Rattle.x86_decode.specs.MapLaw.{WholeExtendsBase}
 
@@ -93,7 +93,7 @@ same_written : (f : Fields) → written (of_whole f) ≡ written f
 same_written f = rw (same_number f.shape.written.write f 4, same_number f.shape.written.write f 5) refl
 
 same_by : (action : Action) (f : Fields) → operation_by action (of_whole f) ≡ operation_by action f
-unfolding operation_by push_operand pop_operand arithmetic stored loaded address_loaded jump_table group_5 group_7 group_11
+unfolding operation_by push_operand pop_operand arithmetic subtracted_from subtracted_by stored loaded address_loaded jump_table group_5 group_7 group_11
 same_by Other f = rw (same_written f) refl
 same_by Exchange f = rw (same_written f) refl
 same_by NoOperation f = refl
@@ -105,6 +105,8 @@ same_by PopOperand f = refl
 same_by Pop f = refl
 same_by PopFlags f = refl
 same_by Arithmetic f = rw (same_written f) refl
+same_by SubtractFrom f = rw (same_written f) refl
+same_by Subtract f = rw (same_written f) refl
 same_by Store f = rw (same_written f) refl
 same_by Load f = rw (same_written f) refl
 same_by LoadAddress f = rw (same_written f) refl

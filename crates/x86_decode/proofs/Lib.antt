@@ -10,5 +10,5 @@ pub mod Parsed
 pub mod Fronts
 pub mod Decided
 pub mod Exact
-pub mod NoNext
+pub mod OnlyDecoded
 pub mod Extends

@@ -2,7 +2,7 @@
 use Rattle.std.specs.Prelude.{ℕ, Bool, ◌==◌, if◌then◌else◌, List, [], ◌∷◌}
 use Rattle.x86_map.specs.Row.{◌to◌, one_of}
 use Rattle.x86_decode.specs.declared.action.Action.{Action}
-use Rattle.x86_decode.specs.declared.action.Action.TheVariants.{Other, Exchange, NoOperation, Hint, PushRegister, Push, PopRegister, PopOperand, Pop, PopFlags, Arithmetic, Store, Load, LoadAddress, Enter, Leave, Call, ShortJump, Jump, ShortCondition, Condition, Return, ReturnImmediate, InterruptReturn, Far, Undefined, Breakpoint, Group5, Group7, Group11}
+use Rattle.x86_decode.specs.declared.action.Action.TheVariants.{Other, Exchange, NoOperation, Hint, PushRegister, Push, PopRegister, PopOperand, Pop, PopFlags, Arithmetic, SubtractFrom, Subtract, Store, Load, LoadAddress, Enter, Leave, Call, ShortJump, Jump, ShortCondition, Condition, Return, ReturnImmediate, InterruptReturn, Far, Undefined, Breakpoint, Group5, Group7, Group11}
 
 -- some opcodes and what they do
 pub record Row : Type 0 where
@@ -15,7 +15,9 @@ does opcodes action = record { opcodes = opcodes; action = action }
 -- one-byte opcodes
 abbrev pub one_byte_actions : List Row
 one_byte_actions =
-    does (0x50 to 0x57) PushRegister
+    does (one_of (0x29 ∷ [])) SubtractFrom
+    ∷ does (one_of (0x2B ∷ [])) Subtract
+    ∷ does (0x50 to 0x57) PushRegister
     ∷ does (0x58 to 0x5F) PopRegister
     ∷ does (one_of (0x68 ∷ 0x6A ∷ 0x9C ∷ [])) Push
     ∷ does (0x70 to 0x7F) ShortCondition

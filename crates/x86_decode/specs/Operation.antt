@@ -5,7 +5,7 @@ use Rattle.operation_defs.specs.declared.op.Op.TheVariants as ops
 use Rattle.x86_map.specs.Prefixes.{rex_w, rex_b}
 use Rattle.x86_decode.specs.declared.fields.Fields.{Fields}
 use Rattle.x86_decode.specs.declared.action.Action.{Action}
-use Rattle.x86_decode.specs.declared.action.Action.TheVariants.{Other, Exchange, NoOperation, Hint, PushRegister, Push, PopRegister, PopOperand, Pop, PopFlags, Arithmetic, Store, Load, LoadAddress, Enter, Leave, Call, ShortJump, Jump, ShortCondition, Condition, Return, ReturnImmediate, InterruptReturn, Far, Undefined, Breakpoint, Group5, Group7, Group11}
+use Rattle.x86_decode.specs.declared.action.Action.TheVariants.{Other, Exchange, NoOperation, Hint, PushRegister, Push, PopRegister, PopOperand, Pop, PopFlags, Arithmetic, SubtractFrom, Subtract, Store, Load, LoadAddress, Enter, Leave, Call, ShortJump, Jump, ShortCondition, Condition, Return, ReturnImmediate, InterruptReturn, Far, Undefined, Breakpoint, Group5, Group7, Group11}
 use Rattle.x86_decode.specs.Fields.{modrm, is_register, digit, reg_register, rm_register, opcode_register, is_at_rsp, is_at_rbp, is_table_entry, writes}
 use Rattle.x86_decode.specs.Action.{action_of}
 
@@ -35,11 +35,24 @@ arithmetic f =
     else (if digit f == 4 then ops.AndSp f.immediate else written f)))
     else written f
 
+-- SUB of one register from another, by their numbers
+abbrev pub subtracted : ℕ → ℕ → Fields → Op
+subtracted to from f = if (to == 4) && not (from == 4) then ops.SubSp else written f
+
+-- SUB Ev, Gv
+unfoldable pub subtracted_from : Fields → Op
+subtracted_from f = if rex_w f.prefixes && is_register f then subtracted (rm_register f) (reg_register f) f else written f
+
+-- SUB Gv, Ev
+unfoldable pub subtracted_by : Fields → Op
+subtracted_by f = if rex_w f.prefixes && is_register f then subtracted (reg_register f) (rm_register f) f else written f
+
 -- MOV of one register to another, by their numbers
 abbrev pub copied : ℕ → ℕ → Fields → Op
 copied to from f =
     if (to == 4) && (from == 5) then ops.LeaSpBp (pos 0)
-    else (if (to == 5) && (from == 4) then ops.LeaBpSp (pos 0) else written f)
+    else (if (to == 5) && (from == 4) then ops.LeaBpSp (pos 0)
+    else (if (to == 4) && not (from == 4) then ops.SpReg else written f))
 
 -- MOV Ev, Gv
 unfoldable pub stored : Fields → Op
@@ -98,6 +111,8 @@ operation_by PopOperand f = pop_operand f
 operation_by Pop f = ops.Pop
 operation_by PopFlags f = ops.Popf
 operation_by Arithmetic f = arithmetic f
+operation_by SubtractFrom f = subtracted_from f
+operation_by Subtract f = subtracted_by f
 operation_by Store f = stored f
 operation_by Load f = loaded f
 operation_by LoadAddress f = address_loaded f

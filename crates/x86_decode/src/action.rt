@@ -26,6 +26,10 @@ pub enum Action {
     PopFlags,
     /// ADD, OR, ADC, SBB, AND, SUB, XOR or CMP of an operand and an immediate.
     Arithmetic,
+    /// SUB Ev, Gv.
+    SubtractFrom,
+    /// SUB Gv, Ev.
+    Subtract,
     /// MOV Ev, Gv.
     Store,
     /// MOV Gv, Ev.
@@ -82,6 +86,8 @@ fn one_byte_action(opcode: u8) -> Action
     ensures { result ≡ action_of 1 opcode }
 {
     match opcode {
+        0x29 => Action::SubtractFrom,
+        0x2B => Action::Subtract,
         0x50..=0x57 => Action::PushRegister,
         0x58..=0x5F => Action::PopRegister,
         0x68 | 0x6A | 0x9C => Action::Push,

@@ -2,7 +2,8 @@
 //! (Intel SDM, volume 2, cut to the opcode map of `x86_map`).
 #![tactic(auto)]
 
-ghost use Rattle.std.specs.Prelude.{◌≡◌, ◌≢◌, ◌<◌, ◌≤◌, ◌↔◌, ℕ, length, IfOk};
+ghost use Rattle.std.specs.Prelude.{◌≡◌, true, ◌<◌, ◌≤◌, ◌↔◌, ℕ, length, IfOk};
+ghost use Rattle.operation_defs.specs.Made.{is_decoded};
 ghost use Rattle.x86_decode.specs.MapLaw.{MapIsExact, WholeExtendsBase};
 ghost use Rattle.x86_decode.specs.Decoding.{StandsInFront, EndsOutside, IsCut, IsTooLong, OneOutcome, OneSpelling, decoded};
 
@@ -40,8 +41,8 @@ pub fn decode(map: Map, bytes: &[u8]) -> Result<Insn, DecodeFault>
     // An instruction has 1 to 15 bytes, all of them among the bytes given.
     ensures within { IfOk result (λ insn.
         (0 < insn.len) × (insn.len ≤ 15) × (insn.len ≤ length bytes.now)) }
-    // An IRET is told as one that returns; whether it goes on behind itself is nothing that its bytes say.
-    ensures no_next { IfOk result (λ insn. insn.op ≢ Op.IretNext) }
+    // Some operations only a program has: nothing that the bytes say makes them.
+    ensures only_decoded { IfOk result (λ insn. is_decoded insn.op ≡ true) }
 {
     decode_front(map, bytes)
 }

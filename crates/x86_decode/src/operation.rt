@@ -6,6 +6,9 @@ ghost use Rattle.x86_decode.specs.Operation.{
   push_operand,
   pop_operand,
   arithmetic,
+  subtracted,
+  subtracted_from,
+  subtracted_by,
   copied,
   stored,
   loaded,
@@ -54,6 +57,8 @@ fn operation_by(action: Action, f: &Fields) -> Op
         Action::Pop => Op::Pop,
         Action::PopFlags => Op::Popf,
         Action::Arithmetic => arithmetic(f),
+        Action::SubtractFrom => subtracted_from(f),
+        Action::Subtract => subtracted_by(f),
         Action::Store => stored(f),
         Action::Load => loaded(f),
         Action::LoadAddress => address_loaded(f),
@@ -163,12 +168,46 @@ fn arithmetic(f: &Fields) -> Op
     }
 }
 
+fn subtracted(to: u8, from: u8, f: &Fields) -> Op
+    ensures { result ≡ subtracted to from f.now }
+{
+    if to == 4 && from != 4 {
+        Op::SubSp
+    } else {
+        written(f)
+    }
+}
+
+#[tactic(auto, unfolding(crate::specs::Operation::subtracted_from))]
+fn subtracted_from(f: &Fields) -> Op
+    ensures { result ≡ subtracted_from f.now }
+{
+    if f.prefixes.rex_w() && f.is_register() {
+        subtracted(f.rm_register(), f.reg_register(), f)
+    } else {
+        written(f)
+    }
+}
+
+#[tactic(auto, unfolding(crate::specs::Operation::subtracted_by))]
+fn subtracted_by(f: &Fields) -> Op
+    ensures { result ≡ subtracted_by f.now }
+{
+    if f.prefixes.rex_w() && f.is_register() {
+        subtracted(f.reg_register(), f.rm_register(), f)
+    } else {
+        written(f)
+    }
+}
+
 fn copied(to: u8, from: u8, f: &Fields) -> Op
     ensures { result ≡ copied to from f.now }
 {
     match (to, from) {
         (4, 5) => Op::LeaSpBp { by: 0 },
         (5, 4) => Op::LeaBpSp { by: 0 },
+        (4, 4) => written(f),
+        (4, _) => Op::SpReg,
         _ => written(f),
     }
 }

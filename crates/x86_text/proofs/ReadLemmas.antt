@@ -8,7 +8,7 @@ use Rattle.std.proofs.lemmas.List.{drop-drop, drop_all, map-append}
 use Rattle.operation_defs.specs.declared.insn.Insn.{Insn}
 use Rattle.x86_decode.specs.Decoding.{StandsInFront, decoded}
 use Rattle.x86_text.specs.declared.placed.PlacedInsn.{PlacedInsn}
-use Rattle.x86_text.specs.Code.{Body, IsBoundary, start, behind, code_from, code_of, insns_of, is_table_jump, LeadsTo}
+use Rattle.x86_text.specs.Code.{Body, IsBoundary, start, behind, code_from, code_of, insns_of, may_use_table, LeadsTo}
 use Rattle.x86_text.specs.Listed.{StandsIn, IsListing, IsKept}
 use Rattle.x86_text.proofs.CodeLemmas.{code_from_more}
 
@@ -89,7 +89,7 @@ pub record IsKeptTo (body : Body) (offsets : List ℕ) (jumps : List PlacedInsn)
   pub code : List PlacedInsn
   pub read : IsReadTo body code off
   pub all_offsets : offsets ≡ map (λ p. p.off) code
-  pub all_jumps : jumps ≡ filter (λ p. is_table_jump p.insn.op) code
+  pub all_jumps : jumps ≡ filter (λ p. may_use_table p.insn.op) code
   pub all_insns : insns ≡ before ++ map (λ p. p.insn) code
 
 pub kept_nothing : (body : Body) (offsets : List ℕ) (jumps : List PlacedInsn) (before : List Insn) → offsets ≡ [] → jumps ≡ [] → IsKeptTo body offsets jumps before before 0
@@ -102,7 +102,7 @@ kept_nothing body offsets jumps before no_offsets no_jumps = record {
 }
 
 pub kept_more : (body : Body) (offsets more_offsets : List ℕ) (jumps more_jumps : List PlacedInsn) (before insns more_insns : List Insn) (off : ℕ) (insn : Insn) → IsKeptTo body offsets jumps before insns off → off < length body.bytes → decoded body.map (drop off body.bytes) ≡ Ok insn → StandsInFront body.map (drop off body.bytes) insn → ((other : Insn) → StandsInFront body.map (drop off body.bytes) other → other ≡ insn) → 0 < insn.len → insn.len ≤ length (drop off body.bytes)
-    → more_offsets ≡ offsets ++ off ∷ [] → more_jumps ≡ jumps ++ filter (λ p. is_table_jump p.insn.op) (record { off = off; insn = insn } ∷ []) → more_insns ≡ insns ++ insn ∷ []
+    → more_offsets ≡ offsets ++ off ∷ [] → more_jumps ≡ jumps ++ filter (λ p. may_use_table p.insn.op) (record { off = off; insn = insn } ∷ []) → more_insns ≡ insns ++ insn ∷ []
     → IsKeptTo body more_offsets more_jumps before more_insns (off + insn.len)
 kept_more body offsets more_offsets jumps more_jumps before insns more_insns off insn kept inside here stands only long fits its_offset its_jump its_insn =
     let p : PlacedInsn = record { off = off; insn = insn } in
@@ -110,7 +110,7 @@ kept_more body offsets more_offsets jumps more_jumps before insns more_insns off
       code = kept.code ++ p ∷ [];
       read = read_more body kept.code off insn kept.read inside here stands only long fits;
       all_offsets = its_offset ∙ ap (λ os. os ++ off ∷ []) kept.all_offsets ∙ sym (map-append (λ (q : PlacedInsn). q.off) kept.code (p ∷ []));
-      all_jumps = its_jump ∙ ap (λ js. js ++ filter (λ (q : PlacedInsn). is_table_jump q.insn.op) (p ∷ [])) kept.all_jumps ∙ sym (filter-append (λ (q : PlacedInsn). is_table_jump q.insn.op) kept.code (p ∷ []));
+      all_jumps = its_jump ∙ ap (λ js. js ++ filter (λ (q : PlacedInsn). may_use_table q.insn.op) (p ∷ [])) kept.all_jumps ∙ sym (filter-append (λ (q : PlacedInsn). may_use_table q.insn.op) kept.code (p ∷ []));
       all_insns =
           its_insn
           ∙ ap (λ is. is ++ insn ∷ []) kept.all_insns
@@ -125,7 +125,7 @@ kept_all body offsets jumps before insns off kept end small =
       record {
         listing = subst (IsListing body) listing.same listing;
         all_offsets = kept.all_offsets ∙ ap (map (λ (p : PlacedInsn). p.off)) listing.same;
-        all_jumps = kept.all_jumps ∙ ap (filter (λ (p : PlacedInsn). is_table_jump p.insn.op)) listing.same;
+        all_jumps = kept.all_jumps ∙ ap (filter (λ (p : PlacedInsn). may_use_table p.insn.op)) listing.same;
       },
       kept.all_insns ∙ ap (λ (ps : List PlacedInsn). before ++ map (λ (p : PlacedInsn). p.insn) ps) listing.same,
     )

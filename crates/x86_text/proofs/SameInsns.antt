@@ -88,10 +88,10 @@ same_address x y e = let one : Option ℕ → Option ℕ × Unit {0} = λ n. (n,
 -- ---- operations and instructions
 
 abbrev each_variant : Each Bool the_parts
-each_variant = (no_numbers, (no_numbers, (no_numbers, (no_numbers, (no_numbers, (no_numbers, (no_numbers, (no_numbers, (long_number, (long_number, (long_number, (long_number, (long_number, (long_number, (no_numbers, (no_numbers, (no_numbers, (number, (no_numbers, (jump, (jump, (address, (no_numbers, (no_numbers, (no_numbers, (no_numbers, (no_numbers, (no_numbers, (no_numbers, (no_numbers, (no_numbers, tt)))))))))))))))))))))))))))))))
+each_variant = (no_numbers, (no_numbers, (no_numbers, (no_numbers, (no_numbers, (no_numbers, (no_numbers, (no_numbers, (long_number, (long_number, (long_number, (long_number, (long_number, (no_numbers, (no_numbers, (long_number, (long_number, (no_numbers, (no_numbers, (no_numbers, (number, (no_numbers, (no_numbers, (jump, (jump, (address, (no_numbers, (no_numbers, (no_numbers, (no_numbers, (no_numbers, (no_numbers, (no_numbers, (no_numbers, (no_numbers, tt)))))))))))))))))))))))))))))))))))
 
 pub same_op : (a b : Op) → op_impl.eq-value.it a b ≡ true → a ≡ b
-same_op a b e = sym (the_eta a) ∙ ap the_make (same_choice the_parts each_variant (λ x y e. refl, (λ x y e. refl, (λ x y e. refl, (λ x y e. refl, (λ x y e. refl, (λ x y e. refl, (λ x y e. refl, (λ x y e. refl, (same_long_number, (same_long_number, (same_long_number, (same_long_number, (same_long_number, (same_long_number, (λ x y e. refl, (λ x y e. refl, (λ x y e. refl, (same_number, (λ x y e. refl, (same_jump, (same_jump, (same_address, (λ x y e. refl, (λ x y e. refl, (λ x y e. refl, (λ x y e. refl, (λ x y e. refl, (λ x y e. refl, (λ x y e. refl, (λ x y e. refl, (λ x y e. refl, tt))))))))))))))))))))))))))))))) (as_values a) (as_values b) e) ∙ the_eta b
+same_op a b e = sym (the_eta a) ∙ ap the_make (same_choice the_parts each_variant (λ x y e. refl, (λ x y e. refl, (λ x y e. refl, (λ x y e. refl, (λ x y e. refl, (λ x y e. refl, (λ x y e. refl, (λ x y e. refl, (same_long_number, (same_long_number, (same_long_number, (same_long_number, (same_long_number, (λ x y e. refl, (λ x y e. refl, (same_long_number, (same_long_number, (λ x y e. refl, (λ x y e. refl, (λ x y e. refl, (same_number, (λ x y e. refl, (λ x y e. refl, (same_jump, (same_jump, (same_address, (λ x y e. refl, (λ x y e. refl, (λ x y e. refl, (λ x y e. refl, (λ x y e. refl, (λ x y e. refl, (λ x y e. refl, (λ x y e. refl, (λ x y e. refl, tt))))))))))))))))))))))))))))))))))) (as_values a) (as_values b) e) ∙ the_eta b
 
 pub same_insn : (one other : Insn) → insn_impl.eq-value.it one other ≡ true → one ≡ other
 same_insn one other e =

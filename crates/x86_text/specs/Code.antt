@@ -2,7 +2,7 @@
 use Rattle.std.specs.Prelude.{◌≡◌, ℕ, zero, suc, ◌+◌, ◌-◌, ◌<◌, ◌≤◌, ◌==◌, Bool, true, false, List, [], ◌∷◌, length, map, filter, drop, Option, Some, None, Result, Ok, Err, if◌then◌else◌}
 use Rattle.operation_defs.specs.declared.insn.Insn.{Insn}
 use Rattle.operation_defs.specs.declared.op.Op.{Op}
-use Rattle.operation_defs.specs.declared.op.Op.TheVariants.{JmpInd}
+use Rattle.operation_defs.specs.declared.op.Op.TheVariants.{Jmp, JmpInd}
 use Rattle.x86_map.specs.declared.map.Map.{Map}
 use Rattle.x86_decode.specs.declared.DecodeFault.{DecodeFault}
 use Rattle.x86_decode.specs.Decoding.{StandsInFront, decoded}
@@ -50,14 +50,16 @@ offsets_of body = map (λ p. p.off) (code_of body)
 abbrev pub insns_of : Body → List Insn
 insns_of body = map (λ p. p.insn) (code_of body)
 
--- an operation jumps by a table
-abbrev pub is_table_jump : Op → Bool
-is_table_jump (JmpInd (Some table)) = true
-is_table_jump op = false
+-- an operation may jump by a table: an indirect jump, and a jump whose displacement has 32 bits, which may lead to a thunk
+-- that stands for one
+abbrev pub may_use_table : Op → Bool
+may_use_table (JmpInd table) = true
+may_use_table (Jmp rel wide) = wide
+may_use_table op = false
 
--- the instructions that jump by a table
+-- the instructions that may jump by a table
 abbrev pub table_jumps_of : Body → List PlacedInsn
-table_jumps_of body = filter (λ p. is_table_jump p.insn.op) (code_of body)
+table_jumps_of body = filter (λ p. may_use_table p.insn.op) (code_of body)
 
 -- the instruction at an offset among these
 abbrev pub insn_listed : List PlacedInsn → ℕ → Option Insn

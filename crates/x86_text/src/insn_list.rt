@@ -9,7 +9,7 @@ use std::alloc::Global;
 use std::marker::Model;
 
 /// How many variants of operations have no number.
-const BARE: usize = 21;
+const BARE: usize = 24;
 
 /// How many places there are for hashes: of each half the first are for operations without a number, and the others for
 /// those with one.
@@ -149,6 +149,7 @@ fn number_in(op: Op) -> u64 {
         Op::AndSp { mask } => mask.cast_unsigned(),
         Op::LeaSpBp { by } => by.cast_unsigned(),
         Op::LeaBpSp { by } => by.cast_unsigned(),
+        Op::LeaBpRoom { by } => by.cast_unsigned(),
         Op::StoreBp { at } => at.cast_unsigned(),
         Op::LoadBp { at } => at.cast_unsigned(),
         Op::Call { rel } => i64::from(rel).cast_unsigned(),
@@ -183,15 +184,19 @@ fn variant_of(op: Op) -> usize {
         Op::Int3 => 18,
         Op::Stac => 19,
         Op::Clac => 20,
-        Op::AddSp { .. } => 21,
-        Op::AndSp { .. } => 22,
-        Op::LeaSpBp { .. } => 23,
-        Op::LeaBpSp { .. } => 24,
-        Op::StoreBp { .. } => 25,
-        Op::LoadBp { .. } => 26,
-        Op::Call { .. } => 27,
-        Op::Jmp { .. } => 28,
-        Op::Jcc { .. } => 29,
-        Op::JmpInd { .. } => 30,
+        Op::Hop => 21,
+        Op::SubSp => 22,
+        Op::SpReg => 23,
+        Op::AddSp { .. } => 24,
+        Op::AndSp { .. } => 25,
+        Op::LeaSpBp { .. } => 26,
+        Op::LeaBpSp { .. } => 27,
+        Op::LeaBpRoom { .. } => 28,
+        Op::StoreBp { .. } => 29,
+        Op::LoadBp { .. } => 30,
+        Op::Call { .. } => 31,
+        Op::Jmp { .. } => 32,
+        Op::Jcc { .. } => 33,
+        Op::JmpInd { .. } => 34,
     }
 }

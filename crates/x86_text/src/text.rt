@@ -1,7 +1,8 @@
-ghost use Rattle.std.specs.Prelude.{◌≡◌, ◌++◌, ◌+◌, ◌<◌, ◌≤◌, ◌↔◌, ℕ, true, All, [], ◌∷◌, length, drop, filter, slice_get, slice_index_or, slice_range, Contains, is_some, IfOk, IfErr, OnOk, IfSome, IfNone, MatchBool, MatchOption};
+ghost use Rattle.std.specs.Prelude.{◌≡◌, ◌++◌, ◌+◌, ◌^◌, ◌<◌, ◌≤◌, ◌↔◌, ℕ, true, All, [], ◌∷◌, length, drop, filter, slice_get, slice_index_or, slice_range, Contains, is_some, IfOk, IfErr, OnOk, IfSome, IfNone, MatchBool, MatchOption};
 ghost use Rattle.std.specs.List.Sorted.{IsNonDecreasingBy};
 ghost use Rattle.x86_decode.specs.Decoding.{StandsInFront};
-ghost use Rattle.x86_text.specs.Code.{is_table_jump as is_a_table_jump, read_by, code_of, insn_listed, insns_of, offsets_of, table_jumps_of, IsBoundary, IsCode, IsNextBoundary, IsPreviousBoundary, LeadsTo};
+ghost use Rattle.x86_text.specs.Code.{may_use_table as may_use_a_table, read_by, code_of, insn_listed, insns_of, offsets_of, table_jumps_of, IsBoundary, IsCode, IsNextBoundary, IsPreviousBoundary, LeadsTo};
+ghost use Rattle.x86_text.specs.declared.placed.PlacedInsn.{PlacedInsn};
 ghost use Rattle.x86_text.specs.Refused.{IsTextFault};
 ghost use Rattle.x86_text.specs.declared.fault.TextFault.TheVariants.{NoMemory};
 
@@ -21,7 +22,7 @@ pub struct Text<'a> {
     body: &'a [u8],
     /// Where its instructions begin, in bytes from the body's start.
     offsets: Vec<u32>,
-    /// Those of its instructions that jump by a table.
+    /// Those of its instructions that may jump by a table.
     table_jumps: Vec<PlacedInsn>,
 }
 
@@ -38,7 +39,7 @@ impl<'a> Model for Text<'a> {
 
 impl<'a> Text<'a> {
     /// Reads a body of at most 16,777,216 bytes by an opcode map, from its first byte on without gaps, and adds its
-    /// instructions to a list. It keeps none of them but those that jump by a table.
+    /// instructions to a list. It keeps none of them but those that may jump by a table.
     pub fn read(
         alloc: Global,
         map: Map,
@@ -109,12 +110,23 @@ impl<'a> Text<'a> {
         requires { i < length (code_of self.now) }
         ensures listed { slice_get (code_of self.now) i ≡ Some (record { off = result.0; insn = result.1 }) }
         ensures stands { StandsInFront self.now.map (drop result.0 self.now.bytes) result.1 }
+        ensures low { result.0 < 2 ^ 32 }
     {
         let off = self.offsets[i as usize];
         match decode(self.map, &self.body[off as usize..]) {
             Ok(insn) => (u64::from(off), insn),
             Err(_) => unreachable!(),
         }
+    }
+
+    /// How many of its instructions begin before an offset.
+    pub fn count_before(&self, off: u64) -> u32
+        ensures within { result ≤ length (code_of self.now) }
+        ensures before { (k : ℕ) (d : PlacedInsn) → k < result → (slice_index_or (code_of self.now) k d).off < off }
+        ensures others { (k : ℕ) (d : PlacedInsn) → result ≤ k → k < length (code_of self.now) → off ≤ (slice_index_or (code_of self.now) k d).off }
+    {
+        let offsets = self.offsets.as_slice();
+        count_below(offsets, off) as u32
     }
 
     /// The bytes of the instruction with this number.
@@ -127,7 +139,7 @@ impl<'a> Text<'a> {
         &self.body[start..start + insn.len as usize]
     }
 
-    /// Those of its instructions that jump by a table, in their order.
+    /// Those of its instructions that may jump by a table, in their order.
     pub fn table_jumps(&self) -> &[PlacedInsn]
         ensures jumps { result.now ≡ table_jumps_of self.now }
         // All its instructions have a byte each at least, and fill the body from its first byte to its last.
@@ -187,19 +199,19 @@ impl<'a> Text<'a> {
     }
 }
 
-/// Whether an operation jumps by a table.
-fn is_table_jump(op: Op) -> bool
-    ensures { result ≡ is_a_table_jump op }
+/// Whether an operation may jump by a table.
+fn may_use_table(op: Op) -> bool
+    ensures { result ≡ may_use_a_table op }
 {
-    matches!(op, Op::JmpInd { table: Some(_) })
+    matches!(op, Op::JmpInd { .. } | Op::Jmp { wide: true, .. })
 }
 
-/// Adds the instruction at an offset where it jumps by a table.
+/// Adds the instruction at an offset where it may jump by a table.
 fn push_table_jump(jumps: &mut Vec<PlacedInsn>, off: u64, insn: Insn) -> Result<(), TextFault>
-    ensures added { OnOk result (jumps.new.items ≡ jumps.old.items ++ filter (λ p. is_a_table_jump p.insn.op) (record { off = off; insn = insn } ∷ [])) }
+    ensures added { OnOk result (jumps.new.items ≡ jumps.old.items ++ filter (λ p. may_use_a_table p.insn.op) (record { off = off; insn = insn } ∷ [])) }
     ensures fault { IfErr result (λ fault. fault ≡ NoMemory) }
 {
-    if is_table_jump(insn.op) {
+    if may_use_table(insn.op) {
         jumps.push(PlacedInsn { off, insn })?;
     }
     Ok(())

@@ -13,7 +13,7 @@ use stack_rules::{
     list_site_points, push_site_warnings, push_unreachable, push_warnings, push_without_frame,
     sort_warnings, unfit_offset,
 };
-use state_defs::State;
+use state_defs::{EndKind, State};
 use state_pool::count_states;
 use std::alloc::{AllocError, Global};
 use std::process::Abort;
@@ -103,6 +103,14 @@ fn fit_row(state: State) -> Option<Row> {
     }
 }
 
+/// Whether what a table has in force tells a state. Where it has no row, nothing is known.
+fn is_row_of(state: State, found: Option<Row>) -> bool {
+    match found {
+        Some(row) => fit_row(state) == Some(row),
+        None => state == State::Ended(EndKind::Undefined),
+    }
+}
+
 /// How many different states there are.
 fn count_different(alloc: Global, states: &[Option<State>]) -> Result<usize, AllocError> {
     let mut different = Vec::new(alloc);
@@ -159,8 +167,7 @@ fn expect_rows_of_states(
             && is_told(p, states.as_slice(), address)
         {
             let found = row_in_force(table.as_slice(), address);
-            assert!(rt; found.is_some(), "{name} at {n}: no row");
-            assert_eq!(rt; fit_row(state), found, "{name} at {n}");
+            assert!(rt; is_row_of(state, found), "{name} at {n}: {found:?}");
         }
     }
     Ok(())

@@ -5,6 +5,7 @@ use machine_defs::{Edge, EdgeKind, Role};
 use operation_defs::Op;
 use ot_base::Place;
 use program_model::{ModelPoint, Program};
+use state_defs::{HintState, State};
 use std::alloc::{AllocError, Global};
 
 /// Where control goes from a point, and what it is to its function.
@@ -46,14 +47,45 @@ fn after(alloc: Global, p: &Program, point: &ModelPoint) -> Result<Vec<u32>, All
 fn goes_on(op: Op) -> bool {
     !matches!(
         op,
-        Op::Jmp { .. } | Op::JmpInd { .. } | Op::Ret | Op::RetImm | Op::Iret | Op::Switch | Op::Ud2
+        Op::Hop
+            | Op::Jmp { .. }
+            | Op::JmpInd { .. }
+            | Op::Ret
+            | Op::RetImm
+            | Op::Iret
+            | Op::Switch
+            | Op::Ud2
     )
 }
 
+/// Whether code of no function may call a point: it is of no function and in no site, and a hint there tells a call frame or
+/// ends the stack.
+fn may_be_called(p: &Program, q: u32) -> bool {
+    p.point(q).is_some_and(|point| {
+        point.variant == 0
+            && point.owner.is_none()
+            && p.site_at(point.place).is_none()
+            && matches!(
+                point.hint,
+                Some(HintState::Set(State::Live { .. } | State::Ended(_)))
+            )
+    })
+}
+
+/// What a call from a point calls in the program: an entry, or now and then from code of no function such code.
+fn draw_callee(draw: &mut Draw, p: &Program, point: &ModelPoint) -> u32 {
+    let q = draw.number(p.count());
+    if point.owner.is_none() && may_be_called(p, q) {
+        return q;
+    }
+    draw.one_of(p.entries.as_slice(), 0)
+}
+
 /// What a point with an operation is to its function.
-fn draw_role(draw: &mut Draw, p: &Program, op: Op) -> Role {
+fn draw_role(draw: &mut Draw, p: &Program, point: &ModelPoint) -> Role {
+    let op = point.insn.op;
     let sym = draw.number(3);
-    let entry = draw.one_of(p.entries.as_slice(), 0);
+    let entry = draw_callee(draw, p, point);
     let call_in = Role::CallIn { entry };
     let either = Role::CallEither { entry, sym };
     let call_out = Role::CallOut { sym };
@@ -97,7 +129,7 @@ fn add_edges(
 fn draw_branch(draw: &mut Draw, op: Op, is_wild: bool) -> Option<EdgeKind> {
     match op {
         Op::Jmp { .. } | Op::Jcc { .. } if draw.once_in(4) => Some(EdgeKind::Sibling),
-        Op::Jmp { .. } | Op::Jcc { .. } => Some(EdgeKind::Taken),
+        Op::Jmp { .. } | Op::Jcc { .. } | Op::Hop => Some(EdgeKind::Taken),
         Op::JmpInd { .. } => Some(EdgeKind::Table),
         Op::Nop if draw.once_in(8) => Some(EdgeKind::Taken),
         _ if draw.once_in(if is_wild { 8 } else { 30 }) => Some(EdgeKind::Fixup),
@@ -131,7 +163,7 @@ fn draw_way(
     is_wild: bool,
 ) -> Result<Way, AllocError> {
     let op = point.insn.op;
-    let role = draw_role(draw, p, op);
+    let role = draw_role(draw, p, point);
     let is_dead_end = op == Op::Ud2 || draw.once_in(30);
     let after = after(alloc, p, point)?;
     let mut goes = Vec::new(alloc);

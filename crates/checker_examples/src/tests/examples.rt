@@ -6,6 +6,7 @@ mod exits;
 mod functions;
 mod operations;
 mod targets;
+mod ways;
 
 use super::compare::expect_same;
 use stack_examples::builder::program;

@@ -28,6 +28,7 @@ pub struct Body {
     pub function: Option<u32>,
     pub owner: Option<u32>,
     pub is_unchecked: bool,
+    pub is_in_patches: bool,
 }
 
 /// Operations that leave the stack as it is.
@@ -51,7 +52,7 @@ const QUIET: [Op; 10] = [
 ];
 
 /// Any operations.
-const ANY: [Op; 40] = [
+const ANY: [Op; 44] = [
     Op::Plain,
     Op::Nop,
     Op::Endbr,
@@ -71,6 +72,9 @@ const ANY: [Op; 40] = [
     Op::LeaSpBp { by: -8 },
     Op::LeaBpSp { by: 0 },
     Op::LeaBpSp { by: 8 },
+    Op::LeaBpRoom { by: 0 },
+    Op::SubSp,
+    Op::SpReg,
     Op::StoreBp { at: -8 },
     Op::StoreBp { at: 8 },
     Op::LoadBp { at: 0 },
@@ -79,6 +83,7 @@ const ANY: [Op; 40] = [
     Op::BpOther,
     Op::Call { rel: 0 },
     Op::CallInd,
+    Op::Hop,
     Op::Jmp {
         rel: 0,
         wide: false,
@@ -165,6 +170,7 @@ pub fn point(alloc: Global, insn: Insn, place: Place, body: Body) -> ModelPoint 
         function: body.function,
         owner: body.owner,
         is_unchecked: body.is_unchecked,
+        is_in_patches: body.is_in_patches,
         previous: None,
         hint: None,
         save_of: None,
@@ -184,13 +190,14 @@ pub fn point(alloc: Global, insn: Insn, place: Place, body: Body) -> ModelPoint 
 }
 
 /// Whose the points from this one on are. Now and then they are of no function, or of a part of the first, or their
-/// function isn't checked.
+/// function isn't checked; and control comes there by patching alone.
 fn draw_body(draw: &mut Draw, first: u32) -> Body {
     if first == 0 || !draw.once_in(4) {
         return Body {
             function: Some(first),
             owner: Some(first),
             is_unchecked: false,
+            is_in_patches: false,
         };
     }
     let owner = draw.one_of(&[None, Some(0), Some(first)], None);
@@ -198,6 +205,7 @@ fn draw_body(draw: &mut Draw, first: u32) -> Body {
         function: owner.and(Some(first)),
         owner,
         is_unchecked: owner == Some(first),
+        is_in_patches: draw.once_in(4),
     }
 }
 

@@ -1,12 +1,12 @@
 //! The parts of a graph, of a program of the plain reading.
 
-use machine_defs::{EdgeKind, Role};
+use machine_defs::EdgeKind;
 use ot_base::{NoMemory, Place};
 use program_graph::{
     GraphParts, GraphPoint, GraphSite, Hinted, Owner, PointKind, Previous, Rare, Replaced,
     TextSection, Transfer,
 };
-use program_model::{ModelPoint, Program, may_return};
+use program_model::{ModelPoint, Program, may_return, target_may_return};
 use state_defs::HintState;
 use std::alloc::{AllocError, Global};
 
@@ -18,17 +18,6 @@ fn number(n: usize) -> u32 {
 /// The offset of a place, which is below 2^32.
 fn offset(place: Place) -> u32 {
     u32::try_from(place.off).unwrap_or(u32::MAX)
-}
-
-/// Whether what is called or jumped to by this role may return.
-fn comes_back(p: &Program, returning: &[bool], role: Role) -> bool {
-    match role {
-        Role::CallIn { entry } => (0u32..)
-            .zip(returning)
-            .any(|(q, returns)| *returns && p.enters(entry, q)),
-        Role::CallOut { sym } => !p.never_returns(sym),
-        _ => true,
-    }
 }
 
 /// Adds the RESTORE points that mean a point, and gives where they begin and end.
@@ -92,7 +81,7 @@ fn add_edges(
     point: &ModelPoint,
 ) -> Result<(), AllocError> {
     parts.starts.push(number(parts.edges.len()))?;
-    let comes_back = comes_back(p, returning, point.role);
+    let comes_back = target_may_return(p, returning, point.role);
     for edge in &point.goes {
         if comes_back || edge.kind != EdgeKind::Next {
             parts.edges.push(*edge)?;
@@ -115,6 +104,7 @@ fn add_point(
         function: point.function,
         owner: point.owner,
         is_unchecked: point.is_unchecked,
+        in_patches: point.is_in_patches,
     })?;
     parts.transfers.push(Transfer {
         role: point.role,

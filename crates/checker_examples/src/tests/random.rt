@@ -20,7 +20,7 @@ fn draw_program(alloc: Global, draw: &mut Draw) -> Result<Program, AllocError> {
     let mut p = Program {
         points: Vec::new(alloc),
         entries: Vec::new(alloc),
-        never_returning: vec![in alloc; 1u32]?,
+        never_returning: vec![in alloc; 1u32, 4]?,
         sites: Vec::new(alloc),
         texts: Vec::new(alloc),
         without_size: Vec::new(alloc),

@@ -57,6 +57,7 @@ fn add_replacement(
         function: original.function,
         owner: original.owner,
         is_unchecked: original.is_unchecked,
+        is_in_patches: original.is_in_patches,
     };
     let same = original.insn.op;
     let mut from: u64 = 0;

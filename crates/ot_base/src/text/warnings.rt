@@ -35,6 +35,9 @@ fn fixed_text(rule: u8) -> &'static str
         rules::ACCESS_OFF_TWICE => "user access turned off twice",
         rules::SAFE_FUNCTION_ACCESS_OFF => "safe function turns user access off",
         rules::POPF_WITH_ACCESS_TRACKED => "popf where user access is tracked",
+        rules::RETURN_WITHOUT_INT3 => "missing int3 after return",
+        rules::JUMP_WITHOUT_INT3 => "missing int3 after indirect jump",
+        rules::TAKEN_WITHOUT_ENDBR => "address taken without endbr",
         _ => "",
     }
 }
@@ -71,6 +74,13 @@ impl<N: Names> fmt::Display for RuleText<'_, N> {
                     number: a,
                 };
                 write!(f, "call to {callee} with user access on")
+            }
+            rules::CALL_LEAVES_NOINSTR => {
+                let callee = Callee {
+                    names: self.names,
+                    number: a,
+                };
+                write!(f, "call to {callee} leaves noinstr code")
             }
             rule => f.write_str(fixed_text(rule)),
         }

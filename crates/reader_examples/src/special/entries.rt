@@ -20,6 +20,7 @@ fn each_kind(rt: HostRuntime) -> Result<(), Fail> {
     ];
     let one = [to_text(0, 5)];
     let end = [to_text(0, 16), to_text(0, 1)];
+    let last = [to_text(0, 15), to_text(0, 1)];
     let data = [
         Reloc {
             sym: 2,
@@ -45,6 +46,7 @@ fn each_kind(rt: HostRuntime) -> Result<(), Fail> {
         piece(b".discard.unreachable", &[0; 8], &end),
         piece(b".discard.func_stack_frame_non_standard", &[0; 8], &data),
         piece(b".discard.retpoline_safe", &[0; 4], &one),
+        piece(b".discard.intra_function_calls", &[0; 8], &last),
     ];
     let special = read(&rt, rt.alloc(), &pieces)?.expect(&rt, "entries");
     let alternative = AltEntry {
@@ -81,5 +83,6 @@ fn each_kind(rt: HostRuntime) -> Result<(), Fail> {
     assert_eq!(rt; special.after_unreachable(), [text(16), text(1)].as_slice());
     assert_eq!(rt; special.unchecked(), [text(0)].as_slice());
     assert_eq!(rt; special.safe_branches(), [text(5)].as_slice());
+    assert_eq!(rt; special.intra_calls(), [text(15), text(1)].as_slice());
     Ok(())
 }

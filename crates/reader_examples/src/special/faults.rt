@@ -154,7 +154,7 @@ fn hints(rt: HostRuntime) -> Result<(), Fail> {
         (
             b"\0\0\0\0\0\0\0\x06\0\0\0\0\0\0\0\0\0\0\0\x07\0\0\0\0",
             &twice,
-            told(1, Why::Repeated),
+            None,
         ),
     ];
     for (body, relocs, fault) in table {
@@ -178,13 +178,18 @@ fn lists_of_places(rt: HostRuntime) -> Result<(), Fail> {
         kind: 4,
         ..to_text(0, 0)
     }];
+    let at = [to_text(0, 4)];
     let unchecked = b".discard.func_stack_frame_non_standard";
-    let table: [(&[u8], &[Reloc], Option<SpecialFault>); 7] = [
+    let intra_calls = b".discard.intra_function_calls";
+    let table: [(&[u8], &[Reloc], Option<SpecialFault>); 10] = [
         (b".discard.reachable", &end, None),
         (b".discard.reachable", &past, told(1, Why::NotText)),
         (b".discard.unreachable", &end, None),
         (b".discard.retpoline_safe", &end, told(0, Why::NotText)),
         (b".discard.retpoline_safe", &plt, told(0, Why::NoReloc)),
+        (intra_calls, &at, None),
+        (intra_calls, &end, told(0, Why::NotText)),
+        (intra_calls, &plt, told(0, Why::NoReloc)),
         (unchecked, &data, None),
         (unchecked, &plt, told(0, Why::NoReloc)),
     ];
@@ -230,5 +235,39 @@ fn the_first_in_order(rt: HostRuntime) -> Result<(), Fail> {
     assert_eq!(rt; earlier_kind, told_first(4, Why::NoReloc));
     let later_kind = fault_before(&rt, rt.alloc(), b".discard.unwind_hints")?;
     assert_eq!(rt; later_kind, told_first(3, Why::Size));
+    Ok(())
+}
+
+#[test]
+fn calls_behind_safe_branches(rt: HostRuntime) -> Result<(), Fail> {
+    let end = [to_text(0, 16)];
+    let calls = piece(b".discard.intra_function_calls", &[0; 4], &end);
+    let branches = piece(b".discard.retpoline_safe", &[0; 4], &end);
+    let fault = read(&rt, rt.alloc(), &[calls, branches])?.err();
+    assert_eq!(rt; fault, told_first(4, Why::NotText));
+    Ok(())
+}
+
+// The second original is as long as the first one, and a replacement may not be longer than its own as it is written.
+#[test]
+fn nested_alternatives(rt: HostRuntime) -> Result<(), Fail> {
+    let places = [
+        to_text(0, 4),
+        to_text(4, 10),
+        to_text(14, 4),
+        to_text(18, 12),
+    ];
+    let name = b".altinstructions";
+    let body = b"\0\0\0\0\0\0\0\0\0\0\0\0\x05\x02\0\0\0\0\0\0\0\0\0\0\0\0\x03\x01";
+    let special = read(&rt, rt.alloc(), &[piece(name, body, &places)])?.expect(&rt, "entries");
+    let lens = [5u8, 5];
+    assert!(rt; special.alternatives().len() == lens.len());
+    for (i, len) in lens.iter().enumerate() {
+        let alternative = special.alternatives().get(i);
+        assert_eq!(rt; alternative.map(|a| a.original_len), Some(*len));
+    }
+    let long = b"\0\0\0\0\0\0\0\0\0\0\0\0\x05\x02\0\0\0\0\0\0\0\0\0\0\0\0\x03\x04";
+    let fault = fault_in(&rt, rt.alloc(), name, long, &places)?;
+    assert_eq!(rt; fault, told(1, Why::Length));
     Ok(())
 }

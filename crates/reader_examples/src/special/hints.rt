@@ -62,3 +62,29 @@ fn each_type(rt: HostRuntime) -> Result<(), Fail> {
     assert_eq!(rt; hints.hint_at(Place { sec: 2, off: 2 }), None);
     Ok(())
 }
+
+/// What the hint at `.text` 0 does, where sections of hints stand with these bodies of one hint each, or more.
+fn hint_in(rt: &impl Abort, alloc: Global, bodies: &[&[u8]]) -> Result<Option<HintState>, Fail> {
+    let relocs = [to_text(0, 0), to_text(12, 0)];
+    let mut pieces = Vec::new(alloc);
+    for body in bodies {
+        let (here, _) = relocs.split_at((body.len() / 12).min(2));
+        pieces.push(piece(b".discard.unwind_hints", *body, here))?;
+    }
+    let special = read(rt, alloc, &pieces)?.expect(rt, "hints");
+    let hints = Hints::build(alloc, &special).expect(rt, "memory");
+    Ok(hints.hint_at(text(0)))
+}
+
+// Of several hints at one place the last counts: FUNC and then CALL 16, and the other way round.
+#[test]
+fn several_at_one_place(rt: HostRuntime) -> Result<(), Fail> {
+    let both: &[u8] = b"\0\0\0\0\0\0\0\x05\0\0\0\0\0\0\0\0\x10\0\x05\x02\0\0\0\0";
+    let call: &[u8] = b"\0\0\0\0\x10\0\x05\x02\0\0\0\0";
+    let func: &[u8] = b"\0\0\0\0\0\0\0\x05\0\0\0\0";
+    assert_eq!(rt; hint_in(&rt, rt.alloc(), &[both])?, frame(16));
+    assert_eq!(rt; hint_in(&rt, rt.alloc(), &[func, call])?, frame(16));
+    assert_eq!(rt; hint_in(&rt, rt.alloc(), &[call, func])?, frame(8));
+    assert_eq!(rt; hint_in(&rt, rt.alloc(), &[call, both, func])?, frame(8));
+    Ok(())
+}

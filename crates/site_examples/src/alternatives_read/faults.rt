@@ -10,9 +10,9 @@ const MIDDLE: Entry = Entry {
     replacement_len: 4,
 };
 
-/// A part of the sub, by a part of an instruction.
+/// A part of the sub from within it, by a part of an instruction.
 const WITHIN: Entry = Entry {
-    original: 4,
+    original: 5,
     original_len: 3,
     replacement: Place { sec: 2, off: 0 },
     replacement_len: 2,

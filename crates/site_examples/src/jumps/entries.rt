@@ -32,7 +32,7 @@ const F: Option<u32> = Some(5);
 const G: Option<u32> = Some(6);
 
 /// Which tables are recognised: by the section's name, and by the relocation of the jump.
-const RECOGNISED: [Case<'static>; 8] = [
+const RECOGNISED: [Case<'static>; 10] = [
     // Two entries, for f alone. The second jump has no relocation, and at 14 there is none.
     (
         b".rodata",
@@ -60,9 +60,19 @@ const RECOGNISED: [Case<'static>; 8] = [
         &[(1, 0, F, &[])],
     ),
     (
-        b".data.rel.ro",
+        b".data.rel",
         &[(1, 3, 11, 2, 0), (2, 0, 1, 1, 14)],
         &[(1, 0, F, &[])],
+    ),
+    (
+        b".data.rel.ro",
+        &[(1, 3, 11, 2, 0), (2, 0, 1, 1, 14)],
+        &[(1, 0, F, &[14])],
+    ),
+    (
+        b".data.rel.ro.c_jump_table",
+        &[(1, 3, 11, 2, 0), (2, 0, 1, 1, 14)],
+        &[(1, 0, F, &[14])],
     ),
     (
         b".rodat",

@@ -3,7 +3,7 @@ use Rattle.std.proofs.Common.{Ok, Err, subst, sym, arith}
 use Rattle.x86_decode.specs.declared.DecodeFault.TheVariants.{Cut, Outside, Long}
 use Rattle.x86_decode.specs.Decoding.{Outcome}
 use Rattle.x86_decode.proofs.Decided.{bytes_from_each, outcome, decides, lengths}
-use Rattle.x86_decode.proofs.NoNext.{none_goes_on}
+use Rattle.x86_decode.proofs.OnlyDecoded.{only_decoded}
 use Rattle.x86_decode.proofs.decode.Goals as goal
 
 pub returns-clause-ok : goal.returns-clause-ok
@@ -22,6 +22,6 @@ pub returns-clause-within : goal.returns-clause-within
 returns-clause-within c = lengths c.args.map c.args.bytes.now c.decode_front.result
     (subst (Outcome c.args.map c.args.bytes.now) (sym c.decode_front.ensures) (outcome c.args.map c.args.bytes.now (bytes_from_each c.args.bytes.now (λ k. omega (arith, c.type_inv.bytes k)))))
 
-pub returns-clause-no_next : goal.returns-clause-no_next
-returns-clause-no_next c = none_goes_on c.args.map c.args.bytes.now c.decode_front.result
+pub returns-clause-only_decoded : goal.returns-clause-only_decoded
+returns-clause-only_decoded c = only_decoded c.args.map c.args.bytes.now c.decode_front.result
     (subst (Outcome c.args.map c.args.bytes.now) (sym c.decode_front.ensures) (outcome c.args.map c.args.bytes.now (bytes_from_each c.args.bytes.now (λ k. omega (arith, c.type_inv.bytes k)))))

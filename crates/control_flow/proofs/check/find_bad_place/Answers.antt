@@ -6,7 +6,7 @@ use Rattle.special_sections.specs.declared.entries.HintEntry.{HintEntry}
 use Rattle.special_sections.specs.Special.{SpecialEntries, special_of}
 use Rattle.flow_defs.specs.declared.fault.FlowFault.TheVariants.{NotBoundary}
 use Rattle.flow_defs.specs.Faults.{is_no_boundary, is_no_end}
-use Rattle.control_flow.proofs.InOrder.{first_of_branches, first_of_fixes, first_of_hints, first_of_reachable, first_of_unreachable, first_of_safe, in_branches, in_fixes, in_hints, in_reachable, in_unreachable, in_safe, in_none}
+use Rattle.control_flow.proofs.InOrder.{first_of_branches, first_of_fixes, first_of_hints, first_of_reachable, first_of_unreachable, first_of_safe, first_of_intra, in_branches, in_fixes, in_hints, in_reachable, in_unreachable, in_safe, in_intra, in_none}
 use Rattle.control_flow.proofs.ToldFaults.{number_fits}
 use Rattle.control_flow.proofs.check.find_bad_place.Goals as goal
 
@@ -73,6 +73,20 @@ returns-in-Some-place_off_boundary c =
     (first_of_unreachable c.args.places.now c.after_unreachable.result.now c.place_off_end-2.result None c.place_off_end-2.ensures c.in_default-place_off_end-2.is (c.after_unreachable.ensures ∙ ap (λ (s : SpecialEntries). s.after_unreachable) (c.special-special.ensures ∙ ap (λ (e : Coded). special_of e.elf) c.linked.ensures)))
     (first_of_safe c.args.places.now c.safe_branches.result.now c.place_off_boundary.result (Some c.in-Some-place_off_boundary.entry) c.place_off_boundary.ensures c.in-Some-place_off_boundary.is (c.safe_branches.ensures ∙ ap (λ (s : SpecialEntries). s.safe_branches) (c.special-special.ensures ∙ ap (λ (e : Coded). special_of e.elf) c.linked.ensures)))
 
+pub overflow_cast-result-in-Some-place_off_boundary-2 : goal.overflow_cast-result-in-Some-place_off_boundary-2
+overflow_cast-result-in-Some-place_off_boundary-2 c = omega (arith, number_fits (is_no_boundary c.args.places.now) (special_of c.args.places.now.elf).intra_calls c.intra_calls.result.now c.place_off_boundary-2.result c.in-Some-place_off_boundary-2.entry c.place_off_boundary-2.ensures c.in-Some-place_off_boundary-2.is (c.intra_calls.ensures ∙ ap (λ (s : SpecialEntries). s.intra_calls) (c.special-special.ensures ∙ ap (λ (e : Coded). special_of e.elf) c.linked.ensures)) c.requires.intra_calls)
+
+pub returns-in-Some-place_off_boundary-2 : goal.returns-in-Some-place_off_boundary-2
+returns-in-Some-place_off_boundary-2 c =
+    in_intra c.args.places.now (NotBoundary 7 c.in-Some-place_off_boundary-2.entry)
+    (first_of_branches c.args.places.now c.branches.result.now c.branch_off_boundary.result None c.branch_off_boundary.ensures c.in_default.is (c.branches.ensures ∙ ap (λ (s : SpecialEntries). s.branches) (c.special-special.ensures ∙ ap (λ (e : Coded). special_of e.elf) c.linked.ensures)))
+    (first_of_fixes c.args.places.now c.fixes.result.now c.fix_off_boundary.result None c.fix_off_boundary.ensures c.in_default-fix_off_boundary.is (c.fixes.ensures ∙ ap (λ (s : SpecialEntries). s.fixes) (c.special-special.ensures ∙ ap (λ (e : Coded). special_of e.elf) c.linked.ensures)))
+    (first_of_hints c.args.places.now c.hints.result.now c.hint_off_boundary.result None c.hint_off_boundary.ensures c.in_default-hint_off_boundary.is (c.hints.ensures ∙ ap (λ (s : SpecialEntries). s.hints) (c.special-special.ensures ∙ ap (λ (e : Coded). special_of e.elf) c.linked.ensures)))
+    (first_of_reachable c.args.places.now c.after_reachable.result.now c.place_off_end.result None c.place_off_end.ensures c.in_default-place_off_end.is (c.after_reachable.ensures ∙ ap (λ (s : SpecialEntries). s.after_reachable) (c.special-special.ensures ∙ ap (λ (e : Coded). special_of e.elf) c.linked.ensures)))
+    (first_of_unreachable c.args.places.now c.after_unreachable.result.now c.place_off_end-2.result None c.place_off_end-2.ensures c.in_default-place_off_end-2.is (c.after_unreachable.ensures ∙ ap (λ (s : SpecialEntries). s.after_unreachable) (c.special-special.ensures ∙ ap (λ (e : Coded). special_of e.elf) c.linked.ensures)))
+    (first_of_safe c.args.places.now c.safe_branches.result.now c.place_off_boundary.result None c.place_off_boundary.ensures c.in_default-place_off_boundary.is (c.safe_branches.ensures ∙ ap (λ (s : SpecialEntries). s.safe_branches) (c.special-special.ensures ∙ ap (λ (e : Coded). special_of e.elf) c.linked.ensures)))
+    (first_of_intra c.args.places.now c.intra_calls.result.now c.place_off_boundary-2.result (Some c.in-Some-place_off_boundary-2.entry) c.place_off_boundary-2.ensures c.in-Some-place_off_boundary-2.is (c.intra_calls.ensures ∙ ap (λ (s : SpecialEntries). s.intra_calls) (c.special-special.ensures ∙ ap (λ (e : Coded). special_of e.elf) c.linked.ensures)))
+
 pub returns : goal.returns
 returns c =
     in_none c.args.places.now
@@ -82,3 +96,4 @@ returns c =
     (first_of_reachable c.args.places.now c.after_reachable.result.now c.place_off_end.result None c.place_off_end.ensures c.in_default-place_off_end.is (c.after_reachable.ensures ∙ ap (λ (s : SpecialEntries). s.after_reachable) (c.special-special.ensures ∙ ap (λ (e : Coded). special_of e.elf) c.linked.ensures)))
     (first_of_unreachable c.args.places.now c.after_unreachable.result.now c.place_off_end-2.result None c.place_off_end-2.ensures c.in_default-place_off_end-2.is (c.after_unreachable.ensures ∙ ap (λ (s : SpecialEntries). s.after_unreachable) (c.special-special.ensures ∙ ap (λ (e : Coded). special_of e.elf) c.linked.ensures)))
     (first_of_safe c.args.places.now c.safe_branches.result.now c.place_off_boundary.result None c.place_off_boundary.ensures c.in_default-place_off_boundary.is (c.safe_branches.ensures ∙ ap (λ (s : SpecialEntries). s.safe_branches) (c.special-special.ensures ∙ ap (λ (e : Coded). special_of e.elf) c.linked.ensures)))
+    (first_of_intra c.args.places.now c.intra_calls.result.now c.place_off_boundary-2.result None c.place_off_boundary-2.ensures c.in_default-place_off_boundary-2.is (c.intra_calls.ensures ∙ ap (λ (s : SpecialEntries). s.intra_calls) (c.special-special.ensures ∙ ap (λ (e : Coded). special_of e.elf) c.linked.ensures)))

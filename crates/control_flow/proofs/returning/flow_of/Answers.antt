@@ -19,8 +19,8 @@ returns c =
     let entered : AreEntered o c.in_ok-entered.entered.items (count_of o) = subst (λ (e : Coded). AreEntered e c.in_ok-entered.entered.items (count_of e)) c.places-places.ensures c.in_ok-entered.ensures in
     record {
       listed = (refl, refl);
-      told = tells_flow o lists flow c.requires.edges.0 c.requires.edges.1 c.requires.exits c.in_ok-dead_ends.ensures entered;
-      shape = has_shape o lists flow c.requires.edges.0 c.requires.edges.1 c.requires.exits c.in_ok-dead_ends.ensures entered c.requires.few;
-      count = flow_count o lists flow c.requires.edges.0 c.requires.edges.1 c.requires.exits c.in_ok-dead_ends.ensures entered;
+      told = tells_flow o lists flow c.requires.edges.0 c.requires.edges.1 c.requires.exits c.in_ok-dead_ends.ensures entered c.program_is_right.ensures;
+      shape = has_shape o lists flow c.requires.edges.0 c.requires.edges.1 c.requires.exits c.in_ok-dead_ends.ensures entered c.program_is_right.ensures c.requires.few;
+      count = flow_count o lists flow c.requires.edges.0 c.requires.edges.1 c.requires.exits c.in_ok-dead_ends.ensures entered c.program_is_right.ensures;
       entered = entered;
     }

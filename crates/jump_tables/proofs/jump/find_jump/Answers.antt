@@ -1,4 +1,4 @@
-use Rattle.std.proofs.Common.{ℕ, ◌<◌, List, length, get_or, inl, inr, arith, sym}
+use Rattle.std.proofs.Common.{ℕ, ◌<◌, false, List, length, get_or, inl, inr, arith, sym}
 use Rattle.std.proofs.lemmas.Bool.{cases_lt}
 use Rattle.ot_base.specs.Places.{same_place}
 use Rattle.jump_tables.specs.declared.jump.Jump.{Jump}
@@ -7,7 +7,7 @@ use Rattle.jump_tables.proofs.JumpOrder.{before_is_other, behind_is_other}
 use Rattle.jump_tables.proofs.jump.find_jump.Goals as goal
 
 abbrev none : Jump
-none = record { place = record { sec = 0; off = 0 }; table = record { sec = 0; off = 0 } }
+none = record { place = record { sec = 0; off = 0 }; table = record { sec = 0; off = 0 }; named = false }
 
 pub returns-then-at-jumps : goal.returns-then-at-jumps
 returns-then-at-jumps c =

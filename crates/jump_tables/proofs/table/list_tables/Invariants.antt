@@ -7,5 +7,5 @@ use Rattle.jump_tables.proofs.table.list_tables.Given as goal
 abbrev pub invariant-loop-start : goal.invariant-loop-start
 invariant-loop-start l = record {
   len : length l.tables.items ≡ l.start-index;
-  each : (k : ℕ) (d : Place) (e : Table) → k < l.start-index → IsTableFrom l.index.elf l.texts (get_or l.starts k d) (get_or l.tables.items k e);
+  each : (k : ℕ) (d : Place) (e : Table) → k < l.start-index → IsTableFrom l.code.index.now.elf l.code.texts.now l.code.sites.now.entries (get_or l.starts k d) (get_or l.tables.items k e);
 }

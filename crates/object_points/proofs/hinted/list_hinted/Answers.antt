@@ -11,8 +11,8 @@ pub loop-n-preserved : goal.loop-n-preserved
 loop-n-preserved c =
     let o : Coded = c.args.places.now in
     let n : ℕ = c.loop-n.n in
-    let saves : c.is_save.result ≡ is_save_at o n = c.is_save.ensures ∙ ap is_save c.hint_of-hint.ensures in
-    let restores : c.is_restore.result ≡ is_restore_at o n = c.is_restore.ensures ∙ ap is_restore c.hint_of-hint.ensures in
+    let saves : c.is_save.result ≡ is_save_at o n = c.is_save.ensures ∙ ap is_save c.hint-hint.ensures in
+    let restores : c.is_restore.result ≡ is_restore_at o n = c.is_restore.ensures ∙ ap is_restore c.hint-hint.ensures in
     record {
       all_saves = elim c.if-is_save.branch [
         | then-is_save+in_ok-push w ↦

@@ -5,4 +5,4 @@ use Rattle.point_edges.proofs.bad_targets.is_bad_jump.Goals as goal
 
 pub leaves_owner-requires-clause-known : goal.leaves_owner-requires-clause-known
 leaves_owner-requires-clause-known c =
-    within_point c.args.places.now (point_at c.args.places.now c.args.n) c.in-ToOwnPoint.other c.args.insn (sym c.requires.to ∙ c.in-ToOwnPoint.is)
+    within_point c.args.places.now (point_at c.args.places.now c.args.n) c.in-ToOwnPoint.other (sym c.requires.to ∙ c.in-ToOwnPoint.is)

@@ -10,5 +10,5 @@ unfolding calls_into_function
 returns c =
     let o : Coded = c.args.points.now in
     c.is_inner_branch.ensures
-    ∙ ap (λ (e : Coded). is_inner_call_by e (point_at e c.args.n) c.args.insn c.args.insn.op) c.places.ensures
-    ∙ ap (λ (insn : Insn). is_inner_call_by o (point_at o c.args.n) insn insn.op) c.requires.insn
+    ∙ ap (λ (e : Coded). is_inner_call_by e (point_at e c.args.n) c.args.insn.op) c.places.ensures
+    ∙ ap (λ (insn : Insn). is_inner_call_by o (point_at o c.args.n) insn.op) c.requires.insn

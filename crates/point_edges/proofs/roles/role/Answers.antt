@@ -8,7 +8,7 @@ use Rattle.point_edges.proofs.roles.role.Goals as goal
 pub returns-clause-value : goal.returns-clause-value
 unfolding role_of
 returns-clause-value c =
-    c.role_by.ensures ∙ ap (λ (insn : Insn). role_by c.args.points.now (point_at c.args.points.now c.args.n) insn insn.op) c.requires.insn
+    c.role_by.ensures ∙ ap (λ (insn : Insn). role_by c.args.points.now (point_at c.args.points.now c.args.n) insn.op) c.requires.insn
 
 pub returns-clause-known : goal.returns-clause-known
 returns-clause-known c = λ entry is. call_inside c.args.points.now (point_at c.args.points.now c.args.n) entry (sym (returns-clause-value c) ∙ is)

@@ -12,4 +12,4 @@ returns-then-branch_enters c =
 pub returns-else-branch_enters : goal.returns-else-branch_enters
 returns-else-branch_enters c =
     let o : Coded = c.args.points.now in
-    or_second _ _ _ _ c.if-branch_enters.false c.branch_enters.ensures c.has_entry_in_site.ensures ∙ parts_in_site o (point_at o c.args.n) c.args.insn c.requires.insn
+    or_second _ _ _ _ c.if-branch_enters.false c.branch_enters.ensures c.leads_into_site.ensures ∙ parts_in_site o (point_at o c.args.n) c.args.insn c.requires.insn

@@ -1,5 +1,5 @@
 -- The next point's owner, then a way to another function, then what is brought.
-use Rattle.std.proofs.Common.{◌≡◌, ap, ◌∙◌, subst}
+use Rattle.std.proofs.Common.{◌≡◌, false, ap, ◌∙◌, subst}
 use Rattle.std.proofs.lemmas.Result.{on_ok_weaker}
 use Rattle.ot_base.specs.declared.place.Place.{Place}
 use Rattle.ot_base.specs.Warnings.{bare_warning}
@@ -21,7 +21,7 @@ returns c = on_ok_weaker c.push_arrival.result (λ h p ch e.
     subst (λ (o : Op). IsBrought c.args.state o c.args.edge.kind c.brought_along-brought.result) op c.brought_along-brought.ensures in
     gains_both _ _ _ _ _ (gains_for _ _ _ _ _ _ (c.bare_warning.ensures ∙ ap (λ x. bare_warning x 2) place) (c.falls_out.ensures p ch.tells) c.in_ok-push_if.ensures)
     (gains_both _ _ _ _ _
-    (subst (λ (x : Place). Gains c.push_if.new.into.items c.push_sibling_edge.new.into.items (λ w. c.args.edge.kind ≡ Sibling × SiblingWarns x c.args.state w)) place
+    (subst (λ (x : Place). Gains c.push_if.new.into.items c.push_sibling_edge.new.into.items (λ w. c.args.edge.kind ≡ Sibling × SiblingWarns x c.args.state false w)) place
     (c.in_ok-push_sibling_edge.ensures (consistent_there p c.args.graph.now.parts c.args.kept.now ch c.args.n c.args.state e)))
     (arrival_by p c.args.kept.now c.push_sibling_edge.new.into.items c.push_arrival.new.into.items c.args.edge.to c.args.state (p.insn c.args.n).op c.args.edge.kind c.brought_along-brought.result is
     (h p ch (λ t b. brought_consistent p c.args.graph.now.parts c.args.kept.now ch c.args.n c.args.state t c.args.edge.kind e

@@ -1,4 +1,5 @@
 -- One rule after another.
+use Rattle.std.proofs.Common.{◌≡◌, ◌↔◌, ℕ, false, Option, Some, IsTrue, subst}
 use Rattle.std.proofs.lemmas.Result.{on_ok_weaker}
 use Rattle.stack_rules.proofs.GainsLemmas.{gains_both, gains_for, by_rule}
 use Rattle.stack_rules.proofs.exits.push_sibling.Goals as goal
@@ -6,4 +7,4 @@ use Rattle.stack_rules.proofs.exits.push_sibling.Goals as goal
 pub returns : goal.returns
 returns c = on_ok_weaker c.push_if-2.result (λ last consistent.
     gains_both _ _ _ _ _ (gains_for _ _ _ _ _ _ (c.depth_warning-modified.ensures consistent) (by_rule _ _ _ _ c.sibling_rule-broken.ensures c.is_rule.ensures) c.in_ok-push_if.ensures)
-    (gains_for _ _ _ _ _ _ c.bare_warning-unallowed.ensures (by_rule _ _ _ _ c.sibling_rule-broken.ensures c.is_rule-2.ensures) last)) c.push_if-2.ensures
+    (gains_for _ _ _ _ _ _ c.bare_warning-unallowed.ensures (subst (λ (o : Option ℕ). IsTrue c.is_unallowed.result ↔ (o ≡ Some 15 × c.args.may_leave ≡ false)) c.sibling_rule-broken.ensures c.is_unallowed.ensures) last)) c.push_if-2.ensures

@@ -11,8 +11,8 @@ returns-clause-unreached c p ch =
     let same = c.is_telling.ensures p ch.tells in
     let none : at c.args.kept.now c.args.n ≡ None = none_of _ _ c.is_kept.ensures c.if-is_kept.false in
     let point : IsPoint p c.args.n = omega (arith, c.if-n-points.false, c.points.ensures.points, ch.tells.count) in (
-      λ h. let k = same.0 h in record { point = point; plain = k.plain; function = k.function; inside = k.inside; checked = k.checked; telling = k.telling; not_kept = not_kept p c.args.graph.now.parts c.args.kept.now ch c.args.n none },
-      λ u. same.1 (record { plain = u.plain; function = u.function; inside = u.inside; checked = u.checked; telling = u.telling }),
+      λ h. let k = same.0 h in record { point = point; plain = k.plain; checked = k.checked; reachable = k.reachable; telling = k.telling; not_kept = not_kept p c.args.graph.now.parts c.args.kept.now ch c.args.n none },
+      λ u. same.1 (record { plain = u.plain; checked = u.checked; reachable = u.reachable; telling = u.telling }),
     )
 
 pub returns-then-is_kept-clause-unreached : goal.returns-then-is_kept-clause-unreached

@@ -1,9 +1,6 @@
 use Rattle.std.proofs.Common.{List, map, ap, ◌∙◌, subst, arith}
 use Rattle.std.specs.List.Sorted.{IsPermutation}
 use Rattle.std.proofs.lemmas.List.Sorted.{length_permutation}
-use Rattle.flow_defs.specs.Coded.{Coded}
-use Rattle.special_sections.specs.Special.{special_of, SpecialEntries}
-use Rattle.special_sections.specs.Places.{HaveSameFirst}
 use Rattle.object_points.specs.declared.meanings.Meaning.{Meaning}
 use Rattle.object_points.specs.declared.saves.SavePoint.{SavePoint}
 use Rattle.object_points.proofs.hint_points.HintPoints.build.Goals as goal
@@ -13,7 +10,6 @@ invariant_of-result c =
     let saves : List SavePoint = c.sort_saves.new.saves.items in
     let meanings : List Meaning = c.sort_meanings.new.meanings.items in
     record {
-      same_hints = subst (λ (s : SpecialEntries). HaveSameFirst s.hints c.in_ok-hints.hints) (c.special.ensures ∙ ap (λ (e : Coded). special_of e.elf) c.linked.ensures) c.in_ok-hints.ensures;
       all_saves = record {
         all = subst (λ (list : List SavePoint). IsPermutation list saves) c.in_ok-saves.ensures.saves c.sort_saves.ensures.same;
         ordered = c.in_ok-sort_saves.ensures.sorted;

@@ -20,7 +20,13 @@ returns-in_err-unchecked-clause-err c =
 pub returns-in_err-safe_branches-clause-err : goal.returns-in_err-safe_branches-clause-err
 returns-in_err-safe_branches-clause-err c =
     let p = err_from_is_err_and c.from_residual-in_err-safe_branches.result c.from_residual-in_err-safe_branches.ensures.1 in
-    rw (p.1, p.2) (tells_behind_tables _ _ c.requires (tells_behind _ _ _ c.in_ok-after_reachable.ensures.right (tells_behind _ _ _ c.in_ok-after_unreachable.ensures.right (tells_behind _ _ _ c.in_ok-unchecked.ensures.right c.in_err-safe_branches.ensures.err))))
+    rw (p.1, p.2) (tells_behind_tables _ _ c.requires (tells_behind _ _ _ c.in_ok-after_reachable.ensures.right (tells_behind _ _ _ c.in_ok-after_unreachable.ensures.right (tells_behind _ _ _ c.in_ok-unchecked.ensures.right (tells_front _ _ _ c.in_err-safe_branches.ensures.err)))))
+
+pub returns-in_err-intra_calls-clause-err : goal.returns-in_err-intra_calls-clause-err
+returns-in_err-intra_calls-clause-err c =
+    let p = err_from_is_err_and c.from_residual-in_err-intra_calls.result c.from_residual-in_err-intra_calls.ensures.1 in
+    rw (p.1, p.2) (tells_behind_tables _ _ c.requires (tells_behind _ _ _ c.in_ok-after_reachable.ensures.right (tells_behind _ _ _ c.in_ok-after_unreachable.ensures.right (tells_behind _ _ _ c.in_ok-unchecked.ensures.right (tells_behind _ _ _ c.in_ok-safe_branches.ensures.right c.in_err-intra_calls.ensures.err)))))
 
 pub returns-clause-right : goal.returns-clause-right
-returns-clause-right c = none_behind_tables _ c.requires (none_in_both _ _ c.in_ok-after_reachable.ensures.right (none_in_both _ _ c.in_ok-after_unreachable.ensures.right (none_in_both _ _ c.in_ok-unchecked.ensures.right c.in_ok-safe_branches.ensures.right)))
+returns-clause-right c =
+    none_behind_tables _ c.requires (none_in_both _ _ c.in_ok-after_reachable.ensures.right (none_in_both _ _ c.in_ok-after_unreachable.ensures.right (none_in_both _ _ c.in_ok-unchecked.ensures.right (none_in_both _ _ c.in_ok-safe_branches.ensures.right c.in_ok-intra_calls.ensures.right))))

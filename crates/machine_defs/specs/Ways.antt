@@ -1,0 +1,73 @@
+-- The ways that lead on from a point: what stands right before a hint, and what code of no function may call, and how it may leave.
+use Rattle.std.specs.Prelude.{◌≡◌, ℕ, ◌&&◌, ◌||◌, not, Bool, true, false, Option, Some, None, is_none, Contains}
+use Rattle.std.specs.List.{list_any, list_all}
+use Rattle.operation_defs.specs.declared.op.Op.{Op}
+use Rattle.operation_defs.specs.declared.op.Op.TheVariants.{RetImm}
+use Rattle.machine_defs.specs.declared.flow.Edge.{Edge}
+use Rattle.machine_defs.specs.declared.flow.EdgeKind.{EdgeKind}
+use Rattle.machine_defs.specs.declared.flow.EdgeKind.TheVariants.{Next, Taken, Fixup, Table, Sibling}
+use Rattle.machine_defs.specs.declared.flow.Role.{Role}
+use Rattle.machine_defs.specs.declared.flow.Role.TheVariants.{Return, JumpOut, JumpAny}
+use Rattle.state_defs.specs.declared.state.HintState.{HintState}
+use Rattle.state_defs.specs.declared.state.HintState.TheVariants.{Set, Save, Restore}
+use Rattle.state_defs.specs.Rules.{may_be_called}
+use Rattle.machine_defs.specs.Program.{Program, IsPoint, Site, in_site}
+use Rattle.machine_defs.specs.Kept.{edges_of, is_free}
+
+abbrev pub is_fixup : EdgeKind → Bool
+is_fixup Next = false
+is_fixup Taken = false
+is_fixup Fixup = true
+is_fixup Table = false
+is_fixup Sibling = false
+
+abbrev pub is_sibling : EdgeKind → Bool
+is_sibling Next = false
+is_sibling Taken = false
+is_sibling Fixup = false
+is_sibling Table = false
+is_sibling Sibling = true
+
+-- A point is right before a hint: it has edges besides those to fixups, and at each point to which these lead a hint sets or
+-- restores the state. No instruction comes in between, so what the point leaves in rsp is what the hint tells.
+abbrev pub is_before_hint : Program → ℕ → Bool
+is_before_hint p q =
+    list_any (λ e. not (is_fixup e.kind)) (edges_of p q)
+    && list_all (λ e. is_fixup e.kind || not (is_free (p.hint e.to))) (edges_of p q)
+
+-- whether a hint tells a call frame, or ends the stack
+abbrev pub is_call_hint : Option HintState → Bool
+is_call_hint None = false
+is_call_hint (Some (Set state)) = may_be_called state
+is_call_hint (Some Save) = false
+is_call_hint (Some Restore) = false
+
+-- Code of no function may call a place, though no function starts there: the place is of no function and in no site, and a
+-- hint there tells a call frame, or ends the stack (CALL, FUNC, UNDEFINED or END_OF_STACK).
+pub record MayCall (p : Program) (q entry : ℕ) : Type 0 where
+  pub point : IsPoint p entry
+  pub plain : p.variant entry ≡ 0
+  pub from_none : p.owner q ≡ None
+  pub of_none : p.owner entry ≡ None
+  pub outside : (site : Site) → Contains p.sites site → in_site site (p.place entry) ≡ false
+  pub hinted : is_call_hint (p.hint entry) ≡ true
+
+-- whether a role leads out of a function: back to the caller, or to code outside
+abbrev pub leads_out : Role → Bool
+leads_out Return = true
+leads_out (JumpOut sym) = true
+leads_out JumpAny = true
+leads_out _ = false
+
+abbrev pub drops_bytes : Op → Bool
+drops_bytes RetImm = true
+drops_bytes _ = false
+
+-- Code may leave, whatever its stack is: it is of no function; it returns or jumps outside; it drops no bytes as it returns;
+-- and it jumps to no function of the program.
+abbrev pub may_leave : Program → ℕ → Bool
+may_leave p q =
+    is_none (p.owner q)
+    && (leads_out (p.role q)
+    && (not (drops_bytes (p.insn q).op)
+    && not (list_any (λ e. is_sibling e.kind) (edges_of p q))))

@@ -1,0 +1,20 @@
+-- The worked operations come out by computing.
+use Rattle.std.proofs.Common.{refl}
+use Rattle.operation_defs.specs.Worked.{HasWorkedMade}
+
+pub worked_made : HasWorkedMade
+worked_made = record {
+  hop = refl;
+  call = refl;
+  over_room = refl;
+  without_room = refl;
+  iret_goes_on = refl;
+  iret_leaves = refl;
+  syscall_comes_back = refl;
+  syscall_leaves = refl;
+  syscall_leaves_alone = refl;
+  hop_isnt_decoded = refl;
+  room_isnt_decoded = refl;
+  iret_next_isnt_decoded = refl;
+  plain_is_decoded = refl;
+}

@@ -1,0 +1,31 @@
+-- What a program makes of some decoded operations.
+use Rattle.std.specs.Prelude.{◌≡◌, Bool, true, false, pos}
+use Rattle.operation_defs.specs.declared.op.Op.TheVariants.{Plain, LeaBpSp, LeaBpRoom, SpOther, Call, Hop, Iret, IretNext, Switch}
+use Rattle.operation_defs.specs.Made.{Around, is_decoded, made}
+
+-- in code of no function, and in a function with its code behind the instruction
+abbrev pub alone : Around
+alone = record { intra_call = false; within = false; hinted = true; makes_room = false }
+
+abbrev pub in_function : Around
+in_function = record { intra_call = false; within = true; hinted = false; makes_room = false }
+
+pub record HasWorkedMade : Type 0 where
+  -- a call is one within its function where its place is listed
+  pub hop : made (record in_function { intra_call = true }) (Call (pos 1)) ≡ Hop
+  pub call : made in_function (Call (pos 1)) ≡ Call (pos 1)
+  -- rbp is set as the base over room in a function that makes room
+  pub over_room : made (record in_function { makes_room = true }) (LeaBpSp (pos 8)) ≡ LeaBpRoom (pos 8)
+  pub without_room : made in_function (LeaBpSp (pos 8)) ≡ LeaBpSp (pos 8)
+  -- an iretq goes on in its function, and nowhere else
+  pub iret_goes_on : made in_function Iret ≡ IretNext
+  pub iret_leaves : made alone Iret ≡ Iret
+  -- a system call comes back in its function where hints tell the stack again
+  pub syscall_comes_back : made (record in_function { hinted = true }) Switch ≡ SpOther
+  pub syscall_leaves : made in_function Switch ≡ Switch
+  pub syscall_leaves_alone : made alone Switch ≡ Switch
+  -- what no decoding gives
+  pub hop_isnt_decoded : is_decoded Hop ≡ false
+  pub room_isnt_decoded : is_decoded (LeaBpRoom (pos 0)) ≡ false
+  pub iret_next_isnt_decoded : is_decoded IretNext ≡ false
+  pub plain_is_decoded : is_decoded Plain ≡ true

@@ -1,0 +1,147 @@
+-- What follows from how ways lead on from a point.
+use Rattle.std.proofs.Common.{◌≡◌, ℕ, ◌&&◌, ◌||◌, not, Bool, true, false, if◌then◌else◌, List, [], ◌∷◌, Option, Some, None, is_some, is_none, Contains, refl, sym, ap, ◌∙◌, subst}
+use Rattle.std.specs.List.{list_any, list_all}
+use Rattle.std.proofs.lemmas.Bool.{and_parts, or_parts}
+use Rattle.operation_defs.specs.declared.op.Op.{Op}
+use Rattle.operation_defs.specs.declared.op.Op.TheVariants.{SubSp, SpReg, RetImm}
+use Rattle.machine_defs.specs.declared.flow.Edge.{Edge}
+use Rattle.machine_defs.specs.declared.flow.EdgeKind.{EdgeKind}
+use Rattle.machine_defs.specs.declared.flow.EdgeKind.TheVariants.{Next, Taken, Fixup, Table, Sibling}
+use Rattle.state_defs.specs.declared.state.EndKind.{EndKind}
+use Rattle.state_defs.specs.declared.state.State.{State}
+use Rattle.state_defs.specs.declared.state.State.TheVariants.{Live, Ended, Regs}
+use Rattle.state_defs.specs.declared.state.HintState.{HintState}
+use Rattle.state_defs.specs.declared.state.HintState.TheVariants.{Set, Save, Restore}
+use Rattle.state_defs.specs.Frame.{is_of_call, Frame}
+use Rattle.state_defs.specs.State.{ended_by, MeansTop}
+use Rattle.state_defs.specs.Rules.{is_initial, return_rule, sibling_rule, is_followed}
+use Rattle.machine_defs.specs.Program.{Program, entry_points, is_call_op, edge, is_local}
+use Rattle.machine_defs.specs.Kept.{can_go, edges_of, is_free}
+use Rattle.machine_defs.specs.Ways.{is_fixup, is_sibling, is_before_hint, is_call_hint, MayCall, leads_out, drops_bytes, may_leave}
+use Rattle.machine_defs.specs.Machine.{Standing}
+use Rattle.machine_defs.specs.Step.{as_any_write, op_at, is_in_interrupt, ends_run}
+use Rattle.machine_defs.specs.IsProgram.{IsProgram}
+use Rattle.unwinding_law.proofs.Lists.{each_passes, found, in_filter}
+
+-- along a local edge, to where states come in along edges, no hint follows right behind
+local_no_fixup : (kind : EdgeKind) → is_local kind ≡ true → is_fixup kind ≡ false
+local_no_fixup Next l = refl
+local_no_fixup Taken l = refl
+local_no_fixup Fixup l = absurd (let k : ⊥ = cc in k)
+local_no_fixup Table l = refl
+local_no_fixup Sibling l = absurd (let k : ⊥ = cc in k)
+
+not_before : (some all : Bool) → (all ≡ true → ⊥) → (some && all) ≡ false
+not_before true true h = absurd (h refl)
+not_before true false h = refl
+not_before false all h = refl
+
+untold : (fixup free : Bool) → fixup ≡ false → free ≡ true → (fixup || not free) ≡ true → ⊥
+untold true free f g h = let k : ⊥ = cc in k
+untold false true f g h = let k : ⊥ = cc in k
+untold false false f g h = let k : ⊥ = cc in k
+
+pub no_hint_behind : (p : Program) (a q : ℕ) (kind : EdgeKind) → is_local kind ≡ true → Contains (p.goes a) (edge q kind) → can_go p a kind ≡ true → is_free (p.hint q) ≡ true → is_before_hint p a ≡ false
+no_hint_behind p a q kind l c can free =
+    not_before (list_any (λ e. not (is_fixup e.kind)) (edges_of p a)) (list_all (λ e. is_fixup e.kind || not (is_free (p.hint e.to))) (edges_of p a))
+    (λ all. untold (is_fixup kind) (is_free (p.hint q)) (local_no_fixup kind l) free (each_passes (λ e. is_fixup e.kind || not (is_free (p.hint e.to))) (edges_of p a) (edge q kind) all (in_filter (λ (e : Edge). can_go p a e.kind) (p.goes a) (edge q kind) c can)))
+
+-- what makes room is no call, as whatever it acts
+pub acts_no_call : (p : Program) (s : Standing) → is_call_op (op_at p s) ≡ false → is_call_op (p.insn s.point).op ≡ false
+acts_no_call p s h = go (is_some s.ended || is_before_hint p s.point) (p.insn s.point).op h
+  where
+    go : (b : Bool) (op : Op) → is_call_op (if b then as_any_write op else op) ≡ false → is_call_op op ≡ false
+    go false op h = h
+    go true SubSp h = refl
+    go true SpReg h = refl
+    go true _ h = h
+
+-- where the stack hasn't ended, and no hint follows right behind, an operation acts as it is
+pub acts_as_it_is : (p : Program) (s : Standing) → s.ended ≡ None → is_before_hint p s.point ≡ false → op_at p s ≡ (p.insn s.point).op
+acts_as_it_is p s live h = ap (λ (b : Bool). if b then as_any_write (p.insn s.point).op else (p.insn s.point).op) both
+  where
+    both : (is_some s.ended || is_before_hint p s.point) ≡ false
+    both = rw (live, h) refl
+
+-- a point that may leave has no way to another function of the program, and drops no bytes
+pub sibling_edge_stays : (p : Program) (a q : ℕ) → Contains (edges_of p a) (edge q Sibling) → may_leave p a ≡ false
+sibling_edge_stays p a q along =
+    let any : list_any (λ e. is_sibling e.kind) (edges_of p a) ≡ true = found (λ e. is_sibling e.kind) (edges_of p a) (edge q Sibling) along refl in
+    last (is_none (p.owner a)) (leads_out (p.role a)) (not (drops_bytes (p.insn a).op)) (list_any (λ e. is_sibling e.kind) (edges_of p a)) any
+  where
+    last : (x y z w : Bool) → w ≡ true → (x && (y && (z && not w))) ≡ false
+    last false y z w e = refl
+    last true false z w e = refl
+    last true true false w e = refl
+    last true true true true e = refl
+    last true true true false e = absurd (let k : ⊥ = cc in k)
+
+pub dropping_stays : (p : Program) (a : ℕ) → (p.insn a).op ≡ RetImm → may_leave p a ≡ false
+dropping_stays p a op = third (is_none (p.owner a)) (leads_out (p.role a)) (drops_bytes (p.insn a).op) (not (list_any (λ e. is_sibling e.kind) (edges_of p a))) (ap drops_bytes op)
+  where
+    third : (x y z w : Bool) → z ≡ true → (x && (y && (not z && w))) ≡ false
+    third false y z w e = refl
+    third true false z w e = refl
+    third true true true w e = refl
+    third true true false w e = absurd (let k : ⊥ = cc in k)
+
+-- where a way out is followed, nothing has ended and the frame is a call's, if the point may leave
+pub record IsFollowed (s : Standing) : Type 0 where
+  pub live : s.ended ≡ None
+  pub of_call : is_in_interrupt s.core.shadow ≡ false
+
+pub followed : (p : Program) (s : Standing) → ends_run p s ≡ false → may_leave p s.point ≡ true → IsFollowed s
+followed p s stays may =
+    let both : (is_some s.ended || is_in_interrupt s.core.shadow) ≡ false = second (may_leave p s.point) _ may stays in
+    let parts = or_parts (is_some s.ended) (is_in_interrupt s.core.shadow) both in
+    record { live = not_some s.ended parts.0; of_call = parts.1 }
+  where
+    second : (x y : Bool) → x ≡ true → (x && y) ≡ false → y ≡ false
+    second true y e h = h
+    second false y e h = absurd (let k : ⊥ = cc in k)
+
+    not_some : (o : Option EndKind) → is_some o ≡ false → o ≡ None
+    not_some None e = refl
+    not_some (Some k) e = absurd (let k : ⊥ = cc in k)
+
+-- there the state allows to leave
+pub record Allows (a : State) : Type 0 where
+  pub return : return_rule a ≡ Some 15 → ⊥
+  pub jump : sibling_rule a ≡ Some 15 → ⊥
+
+other_rule : (b : Bool) (n : ℕ) → (n ≡ 15 → ⊥) → (if b then None else Some n) ≡ Some 15 → ⊥
+other_rule true n h e = let k : ⊥ = cc in k
+other_rule false n h e = let k : n ≡ 15 = cc in h k
+
+not_both : (b : Bool) → b ≡ false → not b ≡ false → ⊥
+not_both true e h = let k : ⊥ = cc in k
+not_both false e h = let k : ⊥ = cc in k
+
+pub allows : (a : State) (rsp rbp : ℕ) (fs : List Frame) → ended_by a ≡ None → MeansTop a rsp rbp fs → is_in_interrupt fs ≡ false → Allows a
+allows (Live d m b) rsp rbp fs e means of_call = record {
+  return = λ r. other_rule (is_initial (Live d m b)) 5 (λ k. let z : ⊥ = cc in z) r;
+  jump = λ r. other_rule (is_initial (Live d m b)) 6 (λ k. let z : ⊥ = cc in z) r;
+}
+allows (Ended k) rsp rbp fs e means of_call = absurd (let z : ⊥ = cc in z)
+allows (Regs full d) rsp rbp [] e means of_call = absurd means
+allows (Regs true d) rsp rbp (f ∷ fs) e means of_call = let k : is_of_call f.slot ≡ false = ap is_of_call means.slot in absurd (not_both (is_of_call f.slot) k of_call)
+allows (Regs false d) rsp rbp (f ∷ fs) e means of_call = let k : is_of_call f.slot ≡ false = ap is_of_call means.slot in absurd (not_both (is_of_call f.slot) k of_call)
+
+-- a state that hasn't ended is followed
+pub is_followed_live : (a : State) → ended_by a ≡ None → is_followed a ≡ true
+is_followed_live (Live d m b) e = refl
+is_followed_live (Ended k) e = absurd (let z : ⊥ = cc in z)
+is_followed_live (Regs full d) e = refl
+
+-- control that comes to what code of no function may call stands there, where a hint tells everything
+pub called_alone : (p : Program) → IsProgram p → (a entry q : ℕ) → MayCall p a entry → Contains (entry_points p entry) q → q ≡ entry
+called_alone p is a entry q may c = is.arrives_alone entry q may.point may.plain may.outside c
+
+call_hint_tells : (h : Option HintState) → is_call_hint h ≡ true → is_free h ≡ false
+call_hint_tells None e = absurd (let k : ⊥ = cc in k)
+call_hint_tells (Some (Set s)) e = refl
+call_hint_tells (Some Save) e = absurd (let k : ⊥ = cc in k)
+call_hint_tells (Some Restore) e = absurd (let k : ⊥ = cc in k)
+
+pub called_is_told : (p : Program) (a entry q : ℕ) → MayCall p a entry → q ≡ entry → is_free (p.hint q) ≡ false
+called_is_told p a entry q may e = subst (λ (x : ℕ). is_free (p.hint x) ≡ false) (sym e) (call_hint_tells (p.hint entry) may.hinted)
