@@ -38,7 +38,10 @@ length-olds o rows = length-each (old_section (input_of_object o) (length o.sect
 
 -- there are no fewer sections
 sections_grow : (o : Elf) (rows : List PlacedRow) → length o.sections ≤ length (with_frames_object o rows).sections
-sections_grow o rows = let l = length-olds o rows in let a = length-append (olds o rows) (news o rows) in omega arith
+sections_grow o rows =
+    let l = length-olds o rows in
+    let all : length (with_frames_object o rows).sections ≡ length (olds o rows) + length (news o rows) = length-append (olds o rows) (news o rows) in
+    omega arith
 
 -- an old section keeps its name
 old-name : (i : Input) (count : ℕ) (new : List NewEntry) (k : ℕ) (s : SectionEntry) → (old_section i count new (k, s)).name ≡ s.name

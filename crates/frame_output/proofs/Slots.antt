@@ -30,7 +30,8 @@ pub record IsInside (o : Elf) (end : ℕ) (r : Reloc) : Type 0 where
 slot_inside : (o : Elf) (at sec symbol end : ℕ) → at + 12 ≤ end → end < 2 ^ 32 → length o.symbols ≤ 4194304 → section_symbol_of o sec ≡ Some symbol
     → IsInside o end (address_slot (section_symbol_of o) at sec)
 slot_inside o at sec symbol end h short few is =
-    let zero : Fits w64 0 = record { fits = omega arith } in
+    let nothing : Fits w64 0 = record { fits = omega arith } in
+    let low : 0 < 2 ^ 63 = omega arith in
     let same : unwrap_or (section_symbol_of o sec) 0 ≡ symbol = ap (λ (s : Option ℕ). unwrap_or s 0) is in
     let below : symbol < length o.symbols = symbol_below o sec symbol is in
     let ends : at + 8 + 4 ≤ end = omega arith in
@@ -39,7 +40,7 @@ slot_inside o at sec symbol end h short few is =
         offset = omega arith;
         kind = omega arith;
         sym = omega arith;
-        addend = subst (FitsSigned w64) (to_z_pos w64 (omega arith)) (sfits_to_z zero);
+        addend = subst (FitsSigned w64) (to_z_pos w64 low) (sfits_to_z nothing);
       };
       inside = record { symbol = omega arith; field = λ read. ends };
     }
@@ -49,9 +50,9 @@ slots_inside_from : (o : Elf) (rows : List PlacedRow) (secs : List ℕ) (at end 
 slots_inside_from o rows [] at end h short few ready = All-nil (IsInside o end)
 slots_inside_from o rows (sec ∷ secs) at end h short few ready =
     let one : IsReady o rows sec = All-head (IsReady o rows) sec secs ready in
-    let own : List ℕ = entry_bytes at (section_at o sec).size (spelled_in o rows sec) in
-    let parts = length-append (entry_bytes at (section_at o sec).size (spelled_in o rows sec)) (entries_bytes o rows (at + 17 + length (spelled_in o rows sec)) secs) in
-    let long = entry_length at (section_at o sec).size (spelled_in o rows sec) in
+    let whole : length (entries_bytes o rows at (sec ∷ secs)) ≡ 17 + length (spelled_in o rows sec) + length (entries_bytes o rows (at + 17 + length (spelled_in o rows sec)) secs) =
+    length-append (entry_bytes at (section_at o sec).size (spelled_in o rows sec)) (entries_bytes o rows (at + 17 + length (spelled_in o rows sec)) secs)
+    ∙ ap (λ (k : ℕ). k + length (entries_bytes o rows (at + 17 + length (spelled_in o rows sec)) secs)) (entry_length at (section_at o sec).size (spelled_in o rows sec)) in
     All-cons (IsInside o end) (address_slot (section_symbol_of o) at sec) (slots_from o rows (at + 17 + length (spelled_in o rows sec)) secs)
     (slot_inside o at sec one.symbol end (omega arith) short few one.stands.symbol)
     (slots_inside_from o rows secs (at + 17 + length (spelled_in o rows sec)) end (omega arith) short few (All-tail (IsReady o rows) sec secs ready))

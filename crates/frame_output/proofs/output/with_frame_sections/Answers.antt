@@ -22,6 +22,9 @@ two : (o : Elf) (rows : List PlacedRow) (frame rela : NewEntry) (a b : List ℕ)
     → (frame ∷ rela ∷ []) ≡ frame_sections o rows
 two o rows frame rela a b h1 h2 k1 k2 = cc
 
+pub encode-requires : goal.encode-requires
+encode-requires c = c.requires.rows
+
 pub append-requires : goal.append-requires
 append-requires c =
     let o : Elf = c.args.object.now in
