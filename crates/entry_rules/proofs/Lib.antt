@@ -6,3 +6,4 @@ pub mod OverBytes
 pub mod Behind
 pub mod TakenLists
 pub mod Numbered
+pub mod Gaining
