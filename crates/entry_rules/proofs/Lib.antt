@@ -5,3 +5,5 @@ pub mod RuleWarnings
 pub mod OverBytes
 pub mod Behind
 pub mod TakenLists
+pub mod Numbered
+pub mod Gaining
