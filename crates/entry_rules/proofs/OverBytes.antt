@@ -1,0 +1,73 @@
+-- The instruction that has a byte is the last that begins at the byte or before it.
+use Rattle.std.proofs.Common.{◌≡◌, ℕ, zero, suc, ◌+◌, ◌<◌, ◌≤◌, Bool, true, false, cond, List, [], ◌∷◌, length, map, get_or, Contains, Option, Some, None, refl, sym, ap, ◌∙◌, subst, inl, inr, arith}
+use Rattle.std.specs.Prelude.{◌==◌, ◌&&◌, All, find, nat_le, nat_lt}
+use Rattle.std.proofs.lemmas.Bool.{and_from, and_right, cases_Bool, cases_lt, eqb-false, eqb-true, le-leb, le-ltb, lt-ltb}
+use Rattle.std.proofs.lemmas.List.Elements.{All-head, All-tail}
+use Rattle.std.proofs.lemmas.Option.{none-some}
+use Rattle.operation_defs.specs.declared.insn.Insn.{Insn}
+use Rattle.x86_text.specs.declared.placed.PlacedInsn.{PlacedInsn}
+use Rattle.x86_text.specs.Code.{LeadsTo, insn_listed}
+use Rattle.entry_rules.specs.Taken.{has_byte}
+
+-- what is listed behind an offset begins there or later
+from_on : (from to : ℕ) (code : List PlacedInsn) (b : ℕ) (insn : Insn) → LeadsTo from code to → insn_listed code b ≡ Some insn → from ≤ b
+from_on from to [] b insn leads e = absurd (none-some _ e)
+from_on from to (q ∷ code) b insn leads e = by_test (λ h. from_on (from + q.insn.len) to code b insn leads.1 h) (q.off == b) refl e
+  where
+    by_test : (insn_listed code b ≡ Some insn → from + q.insn.len ≤ b) → (t : Bool) → (q.off == b) ≡ t → cond t (Some q.insn) (insn_listed code b) ≡ Some insn → from ≤ b
+    by_test later true here h = let same = eqb-true q.off b here in let at = leads.0 in omega arith
+    by_test later false other h = let rest = later h in omega arith
+
+-- no instruction begins between two offsets
+abbrev pub NoneBetween : ℕ → ℕ → List PlacedInsn → Type 0
+NoneBetween b off code = All (λ (p : PlacedInsn). p.off ≤ off → p.off ≤ b) code
+
+placed_alike : (q : PlacedInsn) (b : ℕ) (insn : Insn) → q.off ≡ b → q.insn ≡ insn → ◌≡◌ {A = PlacedInsn} q (record { off = b; insn = insn })
+placed_alike q b insn at is = made q.off b q.insn insn at is
+  where
+    made : (x x' : ℕ) (i i' : Insn) → x ≡ x' → i ≡ i' → ◌≡◌ {A = PlacedInsn} (record { off = x; insn = i }) (record { off = x'; insn = i' })
+    made x x' i i' e f = cc
+
+pub over_is : (from to off : ℕ) (code : List PlacedInsn) (b : ℕ) (insn : Insn) → LeadsTo from code to → All (λ (p : PlacedInsn). 0 < p.insn.len) code → insn_listed code b ≡ Some insn
+    → b ≤ off → off < to → NoneBetween b off code → find (has_byte off) code ≡ Some (record { off = b; insn = insn })
+over_is from to off [] b insn leads some e low high none = absurd (none-some _ e)
+over_is from to off (q ∷ code) b insn leads some e low high none =
+    by_test (λ h. over_is (from + q.insn.len) to off code b insn leads.1 (All-tail (λ (p : PlacedInsn). 0 < p.insn.len) q code some) h low high (All-tail (λ (p : PlacedInsn). p.off ≤ off → p.off ≤ b) q code none)) (q.off == b) refl e
+  where
+    at : q.off ≡ from
+    at = leads.0
+
+    len : 0 < q.insn.len
+    len = All-head (λ (p : PlacedInsn). 0 < p.insn.len) q code some
+
+    ends_behind : q.off ≡ b → (rest : List PlacedInsn) → LeadsTo (from + q.insn.len) rest to → NoneBetween b off rest → off < q.off + q.insn.len
+    ends_behind here [] l n = omega (arith, l)
+    ends_behind here (r ∷ rest) l n = elim (cases_lt off (q.off + q.insn.len)) [
+      | inl inside ↦ inside
+      | inr beyond ↦ absurd (let begins : r.off ≡ from + q.insn.len = l.0 in let back : r.off ≤ b = All-head (λ (p : PlacedInsn). p.off ≤ off → p.off ≤ b) r rest n (omega (arith, at, begins, beyond)) in omega (arith, at, len, here, begins, back))
+    ]
+
+    by_test : (insn_listed code b ≡ Some insn → find (has_byte off) code ≡ Some (record { off = b; insn = insn })) → (t : Bool) → (q.off == b) ≡ t → cond t (Some q.insn) (insn_listed code b) ≡ Some insn → find (has_byte off) (q ∷ code) ≡ Some (record { off = b; insn = insn })
+    by_test rest true here h =
+        let same = eqb-true q.off b here in
+        let inside = ends_behind same code leads.1 (All-tail (λ (p : PlacedInsn). p.off ≤ off → p.off ≤ b) q code none) in
+        let has : has_byte off q ≡ true = and_from (nat_le q.off off) (nat_lt off (q.off + q.insn.len)) (le-leb q.off off (omega arith)) (lt-ltb off (q.off + q.insn.len) inside) in
+        ap (λ (t : Bool). cond t (Some q) (find (has_byte off) code)) has ∙ ap (λ (x : PlacedInsn). Some x) (placed_alike q b insn same (let k = h in cc))
+    by_test rest false other h =
+        let later : from + q.insn.len ≤ b = from_on (from + q.insn.len) to code b insn leads.1 h in
+        let misses : has_byte off q ≡ false = and_right (nat_le q.off off) (nat_lt off (q.off + q.insn.len)) (le-ltb off (q.off + q.insn.len) (omega (arith, at, later, low))) in
+        ap (λ (t : Bool). cond t (Some q) (find (has_byte off) code)) misses
+        ∙ rest h
+
+-- past the body's end there is none
+leads_up : (from to : ℕ) (code : List PlacedInsn) → LeadsTo from code to → from ≤ to
+leads_up from to [] leads = omega (arith, leads)
+leads_up from to (q ∷ code) leads = let rest = leads_up (from + q.insn.len) to code leads.1 in omega arith
+
+pub over_none : (from to off : ℕ) (code : List PlacedInsn) → LeadsTo from code to → to ≤ off → find (has_byte off) code ≡ None
+over_none from to off [] leads beyond = refl
+over_none from to off (q ∷ code) leads beyond =
+    let at = leads.0 in
+    let rest = leads_up (from + q.insn.len) to code leads.1 in
+    let misses : has_byte off q ≡ false = and_right (nat_le q.off off) (nat_lt off (q.off + q.insn.len)) (le-ltb off (q.off + q.insn.len) (omega arith)) in
+    ap (λ (t : Bool). cond t (Some q) (find (has_byte off) code)) misses ∙ over_none (from + q.insn.len) to off code leads.1 beyond

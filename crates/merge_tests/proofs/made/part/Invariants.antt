@@ -1,0 +1,11 @@
+use Rattle.std.proofs.Common.{ℕ, ◌<◌, get_or}
+use Rattle.ot_base.specs.declared.row.PlacedRow.{PlacedRow}
+use Rattle.orc_bytes.specs.RowBytes.{IsRow}
+use Rattle.orc_walk.specs.Table.{IsWithin}
+use Rattle.merge_tests.proofs.made.part.Given as goal
+
+abbrev pub invariant-loop-placed : goal.invariant-loop-placed
+invariant-loop-placed g l = record {
+  within : (k : ℕ) → k < l.placed-index → (d : PlacedRow) → IsWithin l.ranges (get_or l.rows k d);
+  held : (k : ℕ) → k < l.placed-index → (d : PlacedRow) → IsRow (get_or l.rows k d).row;
+}
