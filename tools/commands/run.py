@@ -24,6 +24,8 @@ from transcript import Step, fits, lines_of
 SECONDS = 600
 # Of longer files only what the system tells is compared, not their bytes.
 SMALL = 1 << 20
+# The commands that write a file, which is their second name.
+WRITING = {"check", "sites", "cfi", "merge"}
 
 
 def state_of(folder: Path) -> dict[str, object]:
@@ -37,9 +39,9 @@ def state_of(folder: Path) -> dict[str, object]:
 
 
 def written_by(step: Step, status: int) -> set[str]:
-    """The file that the command has to write: OUT of a `check` that is done."""
+    """The file that the command has to write: OUT of one that writes and is done."""
     names = [word for word in step.words[1:] if not word.startswith("-")]
-    is_done = step.words[:1] == ["check"] and status == 0 and len(names) > 1
+    is_done = WRITING.intersection(step.words[:1]) and status == 0 and len(names) > 1
     return {names[1]} if is_done else set()
 
 
