@@ -1,6 +1,6 @@
 use Rattle.std.proofs.Common.{◌≡◌, ◌<◌, Bool, ℕ, length, slice_index_or, take}
 use Rattle.orc_output.specs.Needed.{has_row}
-use Rattle.orc_output.proofs.needed.mark_sections.Given as goal
+use Rattle.orc_output.proofs.symbols.mark_sections.Given as goal
 
 abbrev pub invariant-loop-placed : goal.invariant-loop-placed
 invariant-loop-placed l = record {
