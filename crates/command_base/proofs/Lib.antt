@@ -4,3 +4,4 @@ pub mod DumpLaws
 pub mod DumpLemmas
 pub mod UnwindLaws
 pub mod UnwindLemmas
+pub mod NamesLemmas

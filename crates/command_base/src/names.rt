@@ -1,11 +1,11 @@
-//! The lists of function names that `check` goes by.
+//! The lists of function names that a command goes by.
 
 ghost use Rattle.std.specs.Prelude.{◌≡◌, ◌≤◌, option_map, IfErr, IfOk, OnOk, Some};
 ghost use Rattle.ot_base.specs.NameLists.{lists_with};
 ghost use Rattle.ot_base.specs.NamesFile.{IsNamesFile};
-ghost use Rattle.objtool_cli.specs.Lists.{HasNames, HoldsNames, IsListsStop, StopsAtNames};
+ghost use Rattle.command_base.specs.Names.{HasNames, HoldsNames, IsListsStop, StopsAtNames};
 
-use command_base::{CommandStop, lists_stop, read_file};
+use crate::{CommandStop, lists_stop, read_file};
 use elf_objects::MAX_FILE_BYTES;
 use ot_base::{Lists, NoMemory};
 use ot_files::Files;

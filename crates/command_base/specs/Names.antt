@@ -1,4 +1,4 @@
--- The lists of function names that `check` goes by: the built-in ones, and what the names file adds.
+-- The lists of function names that a command goes by: the built-in ones, and what the names file adds.
 use Rattle.std.specs.Prelude.{◌≡◌, ℕ, List, Option, Some, None, Ok}
 use Rattle.ot_files.specs.Content.{Content}
 use Rattle.ot_base.specs.NameLists.{NameLists, built_in, lists_with}

@@ -1,7 +1,7 @@
 use Rattle.std.proofs.Common.{refl}
-use Rattle.objtool_cli.specs.Lists.{names_unread}
-use Rattle.objtool_cli.proofs.CheckLemmas.{names_held, names_refused}
-use Rattle.objtool_cli.proofs.lists.read_lists.Goals as goal
+use Rattle.command_base.specs.Names.{names_unread}
+use Rattle.command_base.proofs.NamesLemmas.{names_held, names_refused}
+use Rattle.command_base.proofs.names.read_lists.Goals as goal
 
 pub returns-in-Ok-clause-ok : goal.returns-in-Ok-clause-ok
 returns-in-Ok-clause-ok g c = names_held c.lists_of.result _ c.args.file.now c.in-Ok.text.items c.as_slice.result.now c.in-Ok.ensures.ok c.as_slice.ensures.value c.lists_of.ensures.right c.lists_of.ensures.are

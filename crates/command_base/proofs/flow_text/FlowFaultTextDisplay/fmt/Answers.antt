@@ -1,5 +1,5 @@
 use Rattle.std.proofs.Common.{append_assoc}
-use Rattle.control_flow.proofs.fault_text.FlowFaultTextDisplay.fmt.Goals as goal
+use Rattle.command_base.proofs.flow_text.FlowFaultTextDisplay.fmt.Goals as goal
 
 pub returns-in-NotBoundary-clause-writes : goal.returns-in-NotBoundary-clause-writes
 returns-in-NotBoundary-clause-writes g c = λ plain ok. rw c.in-NotBoundary.is (simp append_assoc (c.write-in-NotBoundary.ensures.writes plain ok))

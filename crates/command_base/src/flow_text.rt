@@ -1,7 +1,7 @@
 //! What keeps an object's program from being checked, in words.
 
 ghost use Rattle.std.specs.Prelude.{Some};
-ghost use Rattle.control_flow.specs.FaultText.{fault_text};
+ghost use Rattle.command_base.specs.FlowText.{fault_text};
 
 use flow_defs::FlowFault;
 use std::fmt;
