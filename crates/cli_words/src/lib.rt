@@ -12,7 +12,7 @@ mod word;
 pub use command::Command;
 pub use fault::{UsageFault, UsageKind};
 pub use line::judge_words;
-pub use number::number_of;
+pub use number::{address_of, number_of};
 pub use options::CheckOptions;
 pub use word::CommandWord;
 pub use x86_map::Map;
