@@ -16,7 +16,7 @@ from elf_make import NewSection, make
 from output import with_rows
 from rows import ZERO, Row
 
-SIZE = 4096
+SIZE = 64
 
 
 def rows_of(sections: int, count: int, rng: random.Random) -> list[tuple[Place, Row]]:
