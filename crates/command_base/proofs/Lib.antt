@@ -5,3 +5,4 @@ pub mod DumpLemmas
 pub mod UnwindLaws
 pub mod UnwindLemmas
 pub mod NamesLemmas
+mod WarningLemmas

@@ -11,4 +11,5 @@ pub mod Stop
 pub mod TextSections
 pub mod Unwind
 pub mod WalkText
+pub mod Warnings
 pub mod Writing

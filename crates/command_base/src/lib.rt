@@ -14,6 +14,7 @@ mod stop;
 mod unwinding;
 mod usage;
 mod walk_text;
+mod warnings;
 mod writing;
 
 pub use code::{flow_stop, link_stop};
@@ -30,4 +31,5 @@ pub use status::Status;
 pub use stop::{CommandStop, of_part};
 pub use unwinding::{is_text_section, ranges_of, unwind};
 pub use usage::Usage;
+pub use warnings::print_warnings;
 pub use writing::write_file;

@@ -10,7 +10,7 @@ use Rattle.command_base.specs.Printing.{Prints, fails, fault_stays, runs_out, wh
 use Rattle.command_base.specs.Stop.{usage_at}
 use Rattle.command_base.proofs.ConcludeLemmas.{concluded_no_warnings, concluded_not_done, printed_done, printed_warnings}
 use Rattle.objtool_cli.specs.Command.{Ends, EndsCheck, PrintsWarnings, checked, demoed, done, faulty, of_check, of_demo, stopped, shown, unfinished, warned, dumped, unwound}
-use Rattle.objtool_cli.specs.Warnings.{warnings_text}
+use Rattle.command_base.specs.Warnings.{warnings_text}
 use Rattle.ot_files.specs.Output.{appending}
 use Rattle.objtool_cli.specs.Promises.{InKeepsPromises}
 use Rattle.objtool_cli.specs.Unwinding.{OutUnwinds}

@@ -32,7 +32,7 @@ use Rattle.command_base.specs.Reading.{MayRead}
 use Rattle.objtool_cli.specs.Checked.{Accepts, IsRefusal, crowded}
 use Rattle.objtool_cli.specs.Command.{EndsCheck, IsDone, IsRead, Stops, refused, unwritten, warned}
 use Rattle.objtool_cli.specs.Lists.{HoldsNames, IsListsStop, StopsAtNames, no_names}
-use Rattle.objtool_cli.specs.Warnings.{warnings_text}
+use Rattle.command_base.specs.Warnings.{warnings_text}
 use Rattle.objtool_cli.specs.Writing.{IsCrowded, IsTable, StopsAtTable, StopsAtWrite, WritesTable, crowded as too_many, cut_off}
 use Rattle.objtool_cli.proofs.ContentLemmas.{is_done}
 use Rattle.objtool_cli.proofs.UnwindingLemmas.{unwinds_by}

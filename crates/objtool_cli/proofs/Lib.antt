@@ -21,4 +21,3 @@ pub mod TextEnds
 pub mod UnwindingLemmas
 pub mod UsageEnds
 pub mod UsageLemmas
-pub mod WarningLemmas

@@ -14,7 +14,7 @@ use Rattle.command_base.specs.Stop.{line_of, status_of}
 use Rattle.command_base.proofs.ConcludeLemmas.{concluded_fault, concluded_no_memory, concluded_no_warnings, concluded_not_done, concluded_sink_fault, printed_done, printed_fault, printed_sink_fault, printed_warnings}
 use Rattle.objtool_cli.specs.Checked.{IsUncheckable, IsUncheckableStop}
 use Rattle.objtool_cli.specs.Summary.{PrintsRefusal, PrintsSummary, PrintsWarningsOf, SumsUp, no_options, passed, stopped, summary_line, warned}
-use Rattle.objtool_cli.specs.Warnings.{warnings_text}
+use Rattle.command_base.specs.Warnings.{warnings_text}
 
 -- no fault, nor want of memory
 record IsPlain (x : Status) : Type 0 where

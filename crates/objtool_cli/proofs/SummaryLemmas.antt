@@ -26,7 +26,7 @@ use Rattle.command_base.proofs.ConcludeLemmas.{concluded_no_memory}
 use Rattle.command_base.proofs.PrintLemmas.{nothing_printed}
 use Rattle.objtool_cli.specs.Checked.{BreaksRule, IsUncheckable, IsUncheckableStop}
 use Rattle.objtool_cli.specs.Summary.{IsOrFails, Passes, SumsUp, no_options, passed, stopped, summary_line, warned}
-use Rattle.objtool_cli.specs.Warnings.{warnings_text}
+use Rattle.command_base.specs.Warnings.{warnings_text}
 use Rattle.objtool_cli.proofs.AcceptsLemmas.{breaks_unbroken, warns_breaks}
 use Rattle.objtool_cli.proofs.CheckableLemmas.{checkable_unrefused, one_object, one_rows}
 

@@ -24,7 +24,7 @@ use Rattle.cli_words.specs.declared.options.CheckOptions.{CheckOptions}
 use Rattle.ot_base.specs.declared.warning.Warning.{Warning}
 use Rattle.objtool_cli.specs.Lists.{HasNames, StopsAtNames}
 use Rattle.objtool_cli.specs.Summary.{PrintsWarningsOf, SumsUp, demo_bytes, demo_title}
-use Rattle.objtool_cli.specs.Warnings.{warnings_text}
+use Rattle.command_base.specs.Warnings.{warnings_text}
 use Rattle.objtool_cli.specs.Words.{Meaning, is_told, told_text}
 use Rattle.objtool_cli.specs.Writing.{StopsAtWrite}
 

@@ -5,6 +5,5 @@ pub mod Promises
 pub mod Refused
 pub mod Summary
 pub mod Unwinding
-pub mod Warnings
 pub mod Words
 pub mod Writing

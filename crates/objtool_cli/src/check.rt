@@ -9,10 +9,9 @@ ghost use Rattle.object_code.specs.Linked.{IsLinkFault};
 ghost use Rattle.objtool_cli.specs.Checked.{IsUnchecked, IsWorded};
 ghost use Rattle.objtool_cli.specs.Command.{EndsCheck, IsRead};
 
-use crate::warnings::print_warnings;
 use crate::words::Check;
 use crate::writing::write_table;
-use command_base::{CommandStop, Refusal, Status, conclude, parse_stop};
+use command_base::{CommandStop, Refusal, Status, conclude, parse_stop, print_warnings};
 use control_flow::FlowFaultText;
 use elf_objects::{Counted, MAX_FILE_BYTES, Object};
 use object_check::{CheckFault, ObjectVerdict, check_object};

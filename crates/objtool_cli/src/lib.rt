@@ -7,7 +7,6 @@ mod command;
 mod demo;
 mod lists;
 mod summaries;
-mod warnings;
 mod words;
 mod writing;
 

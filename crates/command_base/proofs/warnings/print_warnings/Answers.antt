@@ -1,8 +1,8 @@
 use Rattle.std.proofs.Common.{◌∙◌}
 use Rattle.command_base.specs.declared.status.Status.TheVariants as status
 use Rattle.command_base.proofs.PrintLemmas.{no_lower, part_failed, stands_still}
-use Rattle.objtool_cli.proofs.WarningLemmas.{all_printed, line_fails, line_printed}
-use Rattle.objtool_cli.proofs.warnings.print_warnings.Goals as goal
+use Rattle.command_base.proofs.WarningLemmas.{all_printed, line_fails, line_printed}
+use Rattle.command_base.proofs.warnings.print_warnings.Goals as goal
 
 pub returns-in-Err-clause-printed : goal.returns-in-Err-clause-printed
 returns-in-Err-clause-printed g c =

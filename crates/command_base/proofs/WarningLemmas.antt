@@ -11,7 +11,7 @@ use Rattle.command_base.specs.declared.status.Status.TheVariants as status
 use Rattle.command_base.specs.Outside.{Output}
 use Rattle.command_base.specs.Printing.{FailsToPrint, Prints, whole}
 use Rattle.command_base.proofs.PrintLemmas.{appended_twice, part_fails_of}
-use Rattle.objtool_cli.specs.Warnings.{line_of, warnings_text}
+use Rattle.command_base.specs.Warnings.{line_of, warnings_text}
 
 -- those before an index, and those from it on
 text_split : (o : Elf) (warnings : List Warning) (i : ℕ) → warnings_text o warnings ≡ warnings_text o (take i warnings) ++ warnings_text o (drop i warnings)

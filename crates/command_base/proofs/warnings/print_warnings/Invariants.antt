@@ -1,7 +1,7 @@
 use Rattle.std.proofs.Common.{◌≡◌, take}
 use Rattle.ot_files.specs.Output.{appending}
-use Rattle.objtool_cli.specs.Warnings.{warnings_text}
-use Rattle.objtool_cli.proofs.warnings.print_warnings.Given as goal
+use Rattle.command_base.specs.Warnings.{warnings_text}
+use Rattle.command_base.proofs.warnings.print_warnings.Given as goal
 
 abbrev pub invariant-loop-warning : goal.invariant-loop-warning
 invariant-loop-warning g l = record {

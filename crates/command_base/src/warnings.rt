@@ -4,9 +4,9 @@ ghost use Rattle.std.specs.Prelude.{◌≡◌, ◌<◌, ◌≤◌, IfErr, IsErrO
 ghost use Rattle.ot_files.specs.Output.{appending};
 ghost use Rattle.command_base.specs.declared.status.Status.TheVariants as status;
 ghost use Rattle.command_base.specs.Printing.{FailsToPrint, IsOutputFault, Prints};
-ghost use Rattle.objtool_cli.specs.Warnings.{line_of, warnings_text};
+ghost use Rattle.command_base.specs.Warnings.{line_of, warnings_text};
 
-use command_base::{Status, print_part};
+use crate::{Status, print_part};
 use elf_objects::Object;
 use ot_base::{NoMemory, Warning, warning_text};
 use ot_files::Sink;
