@@ -37,8 +37,9 @@ fn link<'o, 'a>(
     }
 }
 
-/// Checks that what an object says of its code fits the code, or tells why a command stops whose object doesn't.
+/// Checks that what an object says of its code fits the code, or tells why a command stops where it doesn't.
 fn check_code<'a>(alloc: Global, linked: &Linked<'_, '_>) -> Result<(), CommandStop<'a>>
+    requires { IsLinked linked.now }
     ensures right { OnOk result (IsInOrder linked.now) }
     ensures stopped { (bytes : List ℕ) → IsObject bytes linked.now.elf → IfErr result (GetNoSites linked.now.map bytes) }
 {

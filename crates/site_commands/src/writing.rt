@@ -17,17 +17,6 @@ use site_output::with_sites;
 use std::alloc::Global;
 use x86_map::Map;
 
-/// Why a command stops whose object can't have site lists.
-fn table_stop<'a>(fault: TableFault) -> CommandStop<'a> {
-    match fault {
-        TableFault::TooManySymbols { count } => CommandStop::Refused(Refusal::TooMany {
-            what: Counted::Symbols,
-            count,
-        }),
-        TableFault::NoMemory => CommandStop::NoMemory,
-    }
-}
-
 /// The bytes of an object with the lists of its sites and the section symbols that these need, or why a command stops whose object
 /// gets none.
 pub(crate) fn with_its_sites<'a>(
@@ -45,6 +34,10 @@ pub(crate) fn with_its_sites<'a>(
     check_room(object)?;
     match with_sites(alloc, object, &lists) {
         Ok(file) => Ok(file),
-        Err(fault) => Err(table_stop(fault)),
+        Err(TableFault::TooManySymbols { count }) => Err(CommandStop::Refused(Refusal::TooMany {
+            what: Counted::Symbols,
+            count,
+        })),
+        Err(TableFault::NoMemory) => Err(CommandStop::NoMemory),
     }
 }

@@ -1,6 +1,6 @@
 -- The sections that need a section symbol.
-use Rattle.std.proofs.Common.{◌≡◌, ℕ, zero, suc, ◌<◌, ◌≤◌, Bool, true, cond, List, [], ◌∷◌, length, get_or, Option, Some, None, refl, sym, ap, subst, ◌∙◌, inl, inr, arith}
-use Rattle.std.specs.Prelude.{◌==◌, ◌&&◌, ◌||◌, All, AllPairs, Contains, filter, is_none, slice_get}
+use Rattle.std.proofs.Common.{◌≡◌, ℕ, zero, suc, ◌<◌, ◌≤◌, Bool, true, false, cond, List, [], ◌∷◌, length, get_or, Option, Some, None, refl, sym, ap, subst, ◌∙◌, inl, inr, arith}
+use Rattle.std.specs.Prelude.{◌==◌, ◌&&◌, ◌||◌, All, AllPairs, Contains, filter, is_none, slice_get, slice_index_or}
 use Rattle.std.specs.List.{range_with_len}
 use Rattle.std.proofs.lemmas.Bool.{and_from, and_parts, eqb-true, false≢true, or_cases}
 use Rattle.std.proofs.lemmas.List.Elements.{All-filter, filter_passes}
@@ -12,6 +12,8 @@ use Rattle.elf_objects.specs.Contents.{is_text, section_symbol_of}
 use Rattle.elf_objects.specs.Elf.{Elf, SectionEntry}
 use Rattle.site_lists.specs.Listed.{Listed}
 use Rattle.site_lists.specs.Sites.{can_have_symbol}
+use Rattle.orc_output.specs.Needed.{unnamed}
+use Rattle.orc_output.proofs.NeededSections.{agree_below, is_unnamed, unnamed-is}
 use Rattle.site_output.specs.Needed.{has_place, is_listed, needed_symbols}
 use Rattle.site_lists.specs.Sites.{AreSitesIn, IsSiteIn}
 
@@ -22,6 +24,14 @@ is_needed o lists sec = is_listed lists sec && is_none (section_symbol_of o sec)
 pub needed-is : (o : Elf) (lists : Listed) → needed_symbols o lists ≡ filter (is_needed o lists) (range_with_len 0 (length o.sections))
 unfolding needed_symbols
 needed-is o lists = refl
+
+-- the sections that are marked where a list names them
+pub unnamed_needed : (o : Elf) (lists : Listed) (marks : List Bool) → ((sec : ℕ) → sec < length o.sections → slice_index_or marks sec false ≡ is_listed lists sec)
+    → unnamed o marks ≡ needed_symbols o lists
+unnamed_needed o lists marks same =
+    unnamed-is o marks
+    ∙ agree_below (is_unnamed o marks) (is_needed o lists) (length o.sections) (λ sec h. ap (λ (b : Bool). b && is_none (section_symbol_of o sec)) (same sec h))
+    ∙ sym (needed-is o lists)
 
 none_is : (f : Option ℕ) → is_none f ≡ true → f ≡ None
 none_is None h = refl
@@ -102,8 +112,8 @@ pub section_of_lists : (o : Elf) (lists : Listed) (sec : ℕ) → AreSitesIn o l
 section_of_lists o lists sec each named =
     elim (or_cases (has_place lists.retpoline sec || has_place lists.returns sec) (has_place lists.calls sec) named) [
       | inl early ↦ elim (or_cases (has_place lists.retpoline sec) (has_place lists.returns sec) early) [
-          | inl first ↦ section_of_place o lists.retpoline sec each.retpoline first
-          | inr second ↦ section_of_place o lists.returns sec each.returns second
-        ]
+        | inl first ↦ section_of_place o lists.retpoline sec each.retpoline first
+        | inr second ↦ section_of_place o lists.returns sec each.returns second
+      ]
       | inr third ↦ section_of_place o lists.calls sec each.calls third
     ]

@@ -3,7 +3,6 @@
 #![tactic(auto)]
 
 mod existing;
-mod law;
 mod needed;
 mod output;
 mod sections;

@@ -1,11 +1,11 @@
 //! The section symbols that site lists need.
 
-ghost use Rattle.std.specs.Prelude.{◌≡◌, ◌<◌, ◌&&◌, ◌||◌, All, Bool, IfOk, ℕ, false, is_none, length, slice_index_or, OnOk};
-ghost use Rattle.elf_objects.specs.Contents.{section_symbol_of};
+ghost use Rattle.std.specs.Prelude.{◌≡◌, ◌<◌, ◌||◌, All, Bool, IfOk, ℕ, false, length, slice_index_or};
 ghost use Rattle.site_lists.specs.Listed.{listed};
 ghost use Rattle.site_output.specs.Needed.{has_place, is_listed, needed_symbols as needed_by};
 
 use elf_objects::Object;
+use orc_output::symbols::unnamed_sections;
 use ot_base::{NoMemory, Place};
 use site_lists::SiteLists;
 use std::alloc::Global;
@@ -36,15 +36,6 @@ fn mark_listed(alloc: Global, count: u32, lists: &SiteLists) -> Result<Vec<bool>
     Ok(marks)
 }
 
-/// Whether a section is marked and has no section symbol.
-fn needs_symbol(object: &Object<'_>, marks: &[bool], sec: u32) -> bool
-    requires known { sec < length object.now.sections }
-    requires inside { sec < length marks.now }
-    ensures { result ≡ (slice_index_or marks.now sec false && is_none (section_symbol_of object.now sec)) }
-{
-    marks[sec as usize] && object.section_symbol(sec).is_none()
-}
-
 /// The sections that a list names and that have no section symbol, ascending.
 pub(crate) fn needed_symbols(
     alloc: Global,
@@ -56,13 +47,6 @@ pub(crate) fn needed_symbols(
     requires calls { All (λ place. place.sec < length object.now.sections) lists.now.calls.items }
     ensures { IfOk result (λ secs. secs.items ≡ needed_by object.now (listed lists.now)) }
 {
-    let count = object.sections();
-    let marks = mark_listed(alloc, count, lists)?;
-    let mut secs = Vec::new(alloc);
-    for sec in 0..count {
-        if needs_symbol(object, &marks, sec) {
-            secs.push(sec)?;
-        }
-    }
-    Ok(secs)
+    let marks = mark_listed(alloc, object.sections(), lists)?;
+    unnamed_sections(alloc, object, &marks)
 }

@@ -10,11 +10,7 @@ use ot_base::NoMemory;
 use std::alloc::Global;
 
 /// The section of the list with this number: four bytes for each place.
-pub(crate) fn list_section(
-    alloc: Global,
-    which: u8,
-    body: Vec<u8>,
-) -> Result<NewSection, NoMemory>
+pub(crate) fn list_section(alloc: Global, which: u8, body: Vec<u8>) -> Result<NewSection, NoMemory>
     ensures { IfOk result (λ section. entry_of section ≡ list_entry which body.items) }
 {
     let name: &[u8] = match which {

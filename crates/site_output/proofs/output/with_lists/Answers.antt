@@ -24,3 +24,11 @@ six : (o : Elf) (lists : Listed) (a p b q c r : NewEntry) (x x' y y' z z' : List
     → z ≡ slot_section lists.calls → z' ≡ rela_section (section_symbol_of o) lists.calls
     → (a ∷ p ∷ b ∷ q ∷ c ∷ r ∷ []) ≡ site_sections o lists
 six o lists a p b q c r x x' y y' z z' h1 h2 h3 h4 h5 h6 k1 k2 k3 k4 k5 k6 = rw (h1, h2, h3, h4, h5, h6, k1, k2, k3, k4, k5, k6) refl
+
+pub append-requires : goal.append-requires
+append-requires c =
+    let o : Elf = c.args.object.now in
+    let lists = listed c.args.lists.now in
+    let is = made c in
+    let can = can_add o lists (known o.bytes o c.sections-first.ensures.object) c.requires in
+    subst (CanAppend o) (sym is) (can_append o.bytes o (site_sections o lists) c.sections-first.ensures.object can)
