@@ -1,5 +1,5 @@
 -- What a list of words means: a command, or the first word at fault and what is wrong with it.
-use Rattle.std.specs.Prelude.{◌≡◌, ℕ, ◌+◌, ◌==◌, ◌&&◌, ◌||◌, not, Bool, true, false, List, [], ◌∷◌, ◌++◌, length, nat_le, codes, Option, Some, None, Result, Ok, Err, is_some, if◌then◌else◌, bytes_eq, option_map, string_bytes}
+use Rattle.std.specs.Prelude.{◌≡◌, ℕ, ◌+◌, ◌==◌, ◌&&◌, ◌||◌, not, Bool, false, List, [], ◌∷◌, ◌++◌, length, nat_le, codes, Option, Some, None, Result, Ok, Err, is_some, if◌then◌else◌, bytes_eq, option_map, string_bytes}
 use Rattle.std.specs.List.{list_any}
 use Rattle.ot_base.specs.declared.options.Options.{Options}
 use Rattle.x86_map.specs.declared.map.Map.{Map}
@@ -14,7 +14,7 @@ use Rattle.cli_words.specs.declared.fault.UsageFault.TheVariants as fault
 use Rattle.cli_words.specs.declared.command.Command as declared
 use Rattle.cli_words.specs.declared.command.Command.TheVariants as variant
 use Rattle.cli_words.specs.Numbers.{address_of, number_of}
-use Rattle.cli_words.specs.Words.{Word, command_named, gives, is_names_option, is_option, is_option_of, is_same_option, names_file, names_in, places_of}
+use Rattle.cli_words.specs.Words.{Word, command_named, gives, is_option, is_option_of, is_same_option, names_file, names_in, places_of}
 
 -- a command, with the names of its files
 pub data Command : Type 0 where

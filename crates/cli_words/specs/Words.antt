@@ -1,5 +1,5 @@
 -- The words of a command line: command words, options, and names and numbers.
-use Rattle.std.specs.Prelude.{ℕ, ◌==◌, ◌&&◌, ◌||◌, not, Bool, true, false, List, [], ◌∷◌, take, drop, length, filter, find, codes, Option, Some, None, option_and_then, is_some, if◌then◌else◌, bytes_eq}
+use Rattle.std.specs.Prelude.{ℕ, ◌==◌, ◌&&◌, ◌||◌, not, Bool, false, List, [], ◌∷◌, take, drop, filter, find, codes, Option, Some, None, option_and_then, is_some, if◌then◌else◌, bytes_eq}
 use Rattle.std.specs.List.{list_any}
 use Rattle.cli_words.specs.declared.word.CommandWord.{CommandWord}
 use Rattle.cli_words.specs.declared.word.CommandWord.TheVariants as the
