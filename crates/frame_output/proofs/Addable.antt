@@ -52,8 +52,8 @@ rela_form o rows k can =
     let few = can.few in
     let few_sections : length o.sections ≤ 262144 = omega arith in
     let size : length (frame_rela o rows) ≡ 24 * length (frame_slots o rows) = length-relocs (frame_slots o rows) in
-    let back = relocs_back o rows few_sections k.few_symbols can.rows in
-    let inside = slots_inside o rows few_sections k.few_symbols can.rows in
+    let back = relocs_back o rows few_sections k.few_symbols can.frames in
+    let inside = slots_inside o rows few_sections k.few_symbols can.frames in
     let target = target_size o rows in
     let some : o.name_table < length o.sections = k.in_table in
     record {

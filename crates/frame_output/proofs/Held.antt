@@ -135,8 +135,8 @@ held o rows known can =
     (omega arith)
     (sym (get_or-map-range_with_len (relocs_with o (frame_sections o rows)) 0 (length o.sections + 2) (frame_number o) (frame_number o) _ (omega arith) (omega arith))) in
     let grow = sections_grow o rows in
-    let inside = rows_inside o rows can.rows in
-    let sizes = sizes_stay o rows known can.rows in
+    let inside = rows_inside o rows can.frames in
+    let sizes = sizes_stay o rows known can.frames in
     record {
       can = record {
         each = All-weaker (IsFrameRowOf o) (IsFrameRowOf (with_frames_object o rows)) (λ placed is. record {
@@ -147,9 +147,9 @@ held o rows known can =
           inside = is.inside;
           short = is.short;
           row = is.row;
-        }) rows can.rows.each;
-        ascend = can.rows.ascend;
-        few = can.rows.few;
+        }) rows can.frames.each;
+        ascend = can.frames.ascend;
+        few = can.frames.few;
       };
       body =
           body-new o rows (codes ".eh_frame") 0 (frame_section o rows) found refl
@@ -157,5 +157,5 @@ held o rows known can =
       relocs =
           ap (option_and_then (λ i. slice_get all i)) (found ∙ ap (λ (n : ℕ). Some n) zero)
           ∙ read
-          ∙ ap (λ (rs : List Reloc). Some rs) (relocs-new o rows ∙ relocs_back o rows few_sections known.few_symbols can.rows ∙ frame_slots_same o (with_frames_object o rows) rows grow inside (λ sec. refl) sizes);
+          ∙ ap (λ (rs : List Reloc). Some rs) (relocs-new o rows ∙ relocs_back o rows few_sections known.few_symbols can.frames ∙ frame_slots_same o (with_frames_object o rows) rows grow inside (λ sec. refl) sizes);
     }

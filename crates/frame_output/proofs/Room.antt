@@ -41,7 +41,7 @@ room o rows k can =
     let place : headers_place i new ≤ length o.bytes + length (all_names i new) + length (frame_section o rows) + length (frame_rela o rows) + 28 =
     end_within (length o.bytes) (length (all_names i new)) (length (frame_section o rows)) (length (frame_rela o rows)) in
     sums (length (appended_to o new)) (headers_place i new) (length i.headers) (length o.bytes) (length (all_names i new)) (length i.names) (length (frame_section o rows)) (length (frame_rela o rows)) (length (frame_slots o rows)) (length rows) (length o.sections) o.headers_at
-    whole place names k.names a b c headers k.headers can.few can.short can.rows.few
+    whole place names k.names a b c headers k.headers can.few can.short can.frames.few
   where
     sums : (l p h f all n x y m r s at : ℕ) → l ≡ p + (h + 128) → p ≤ f + all + x + y + 28 → all ≡ n + 25 → n ≤ f → x ≤ 28 + 26 * s + 16 * r → y ≡ 24 * m → m ≤ s
         → h ≡ 64 * s → at + 64 * s ≤ f → s + 2 ≤ 262144 → f ≤ 268435456 → r ≤ 67108865 → l < 2 ^ 32

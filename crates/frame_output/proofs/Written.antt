@@ -91,7 +91,7 @@ can_have_sections o rows fit =
     let sections = sections_stay o secs in
     let few = fit.can.few in
     record {
-      rows = record {
+      frames = record {
         each = λ k d inside. row_of o rows fit _ (list_any_at (λ (placed : PlacedRow). placed.place.sec == (get_or rows k d).place.sec) rows k d inside (eq-eqb _ _ refl)) (fit.can.each k d inside);
         ascend = fit.can.ascend;
         few = fit.can.few_rows;

@@ -54,7 +54,7 @@ pub record IsOther (s : SectionEntry) : Type 0 where
 -- The object can have the call frame information of the rows; it has no frame section yet and room for two sections; and its file
 -- (at most 256 MiB) isn't too long for one of 32 bits.
 pub record CanHaveSections (o : Elf) (rows : List PlacedRow) : Type 0 where
-  pub rows : CanHaveFrames o rows
+  pub frames : CanHaveFrames o rows
   pub none : All IsOther o.sections
   pub few : length o.sections + 2 ≤ 262144
   pub short : length o.bytes ≤ 268435456

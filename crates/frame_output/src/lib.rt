@@ -4,8 +4,6 @@
 
 mod existing;
 mod frames;
-mod law;
-mod needed;
 mod output;
 mod sections;
 

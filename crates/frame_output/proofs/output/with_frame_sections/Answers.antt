@@ -23,7 +23,7 @@ two : (o : Elf) (rows : List PlacedRow) (frame rela : NewEntry) (a b : List ℕ)
 two o rows frame rela a b h1 h2 k1 k2 = cc
 
 pub encode-requires : goal.encode-requires
-encode-requires c = c.requires.rows
+encode-requires c = c.requires.frames
 
 pub append-requires : goal.append-requires
 append-requires c =
