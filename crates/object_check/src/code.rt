@@ -1,4 +1,4 @@
-//! The control-flow graph of an object's program, and how much code it has.
+//! The code of an object: its control-flow graph, what is allowed at its points, and how much there is.
 
 ghost use Rattle.std.specs.Prelude.{◌≡◌, ◌≤◌, IfErr, IfOk, length};
 ghost use Rattle.flow_defs.specs.Coded.{coded_by};
@@ -6,12 +6,11 @@ ghost use Rattle.flow_defs.specs.Program.{program_of};
 ghost use Rattle.option_rules.specs.AskedRules.{IsEnough, needs_allowances as need_allowances};
 ghost use Rattle.point_allowances.specs.Allowances.{allowances_of};
 ghost use Rattle.elf_objects.specs.declared.TheConstants.{MAX_FILE_BYTES as most_bytes};
-ghost use Rattle.object_check.specs.Counts.{IsCounted};
-ghost use Rattle.object_check.specs.Order.{IsCheckFault};
-ghost use Rattle.object_check.specs.Ready.{IsGraphOf, IsTableOf};
+ghost use Rattle.object_check.specs.Code.{IsCodeFault, IsCodeOf};
+ghost use Rattle.object_check.specs.Ready.{IsTableOf};
 
 use crate::counts::{CodeCounts, count_code};
-use crate::fault::CheckFault;
+use crate::fault::CodeFault;
 use control_flow::{flow, object_is_in_order};
 use elf_objects::Object;
 use object_code::{Linked, Map};
@@ -23,7 +22,7 @@ use std::alloc::Global;
 
 /// What is kept of an object's code.
 #[derive(Drop)]
-pub(crate) struct ReadCode {
+pub struct ReadCode {
     /// The control-flow graph.
     pub(crate) graph: Graph,
     /// What is allowed at its points and symbols, where the options ask for rules that look at it.
@@ -56,26 +55,23 @@ fn table_if_needed(
     }
 }
 
-/// Reads the code of an object by an opcode map and follows its control flow. Of what it reads it keeps the graph, what is allowed at its points
-/// and symbols, and the counts alone.
+/// Reads the code of an object of at most 67,108,864 bytes (64 MiB) by an opcode map and follows its control flow, under lists of
+/// function names. Of what it reads it keeps the graph, the counts, and what the rules that the options ask for look at.
 ///
 /// # Errors
 ///
 /// The first fault of texts, special sections, functions and alternatives; then the first of the starts of functions, lists
-/// of places, static branches, calls within functions and unchecked functions. [`CheckFault::NoMemory`] may come at any object.
-pub(crate) fn read_code(
+/// of places, static branches, calls within functions and unchecked functions. [`CodeFault::NoMemory`] may come at any object.
+pub fn read_code(
     alloc: Global,
     map: Map,
     object: &Object<'_>,
     lists: &Lists,
     options: Options,
-) -> Result<ReadCode, CheckFault>
+) -> Result<ReadCode, CodeFault>
     requires { length object.now.bytes ≤ most_bytes }
-    ensures ok { IfOk result (λ read. IsGraphOf (coded_by map object.now) lists.now read.graph.parts) }
-    ensures enough { IfOk result (λ read. IsEnough options read.table) }
-    ensures allows { IfOk result (λ read. IsTableOf (program_of (coded_by map object.now) lists.now) (allowances_of (coded_by map object.now) lists.now) read.table) }
-    ensures counted { IfOk result (λ read. IsCounted (coded_by map object.now) read.counts) }
-    ensures err { IfErr result (IsCheckFault (coded_by map object.now)) }
+    ensures ok { IfOk result (IsCodeOf (coded_by map object.now) lists.now options) }
+    ensures err { IfErr result (IsCodeFault (coded_by map object.now)) }
 {
     let linked = Linked::link(alloc, map, object)?;
     object_is_in_order(&linked);

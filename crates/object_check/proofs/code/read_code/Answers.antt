@@ -4,10 +4,13 @@ use Rattle.flow_defs.specs.Coded.{Coded, coded_by}
 use Rattle.program_graph.specs.Tells.{Tells}
 use Rattle.flow_defs.specs.Faults.{IsFirstFlowFault, flow_faults}
 use Rattle.flow_defs.specs.Program.{program_of}
+use Rattle.point_allowances.specs.Allowances.{allowances_of}
 use Rattle.object_law.specs.Flows.{ObjectIsInOrder}
-use Rattle.object_check.specs.Order.{no_memory}
+use Rattle.object_check.specs.Code.{no_memory}
+use Rattle.object_check.specs.Counts.{IsCounted}
+use Rattle.object_check.specs.Ready.{IsTableOf}
 use Rattle.object_check.proofs.Faults.{flow_told, link_told}
-use Rattle.object_check.proofs.graph.read_code.Goals as goal
+use Rattle.object_check.proofs.code.read_code.Goals as goal
 
 pub returns-in_err-linked-clause-err : goal.returns-in_err-linked-clause-err
 returns-in_err-linked-clause-err c =
@@ -26,9 +29,15 @@ pub returns-clause-ok : goal.returns-clause-ok
 returns-clause-ok c =
     let same = c.in_ok-linked.ensures.ok in
     record {
-      tells = subst (λ (e : Coded). Tells (program_of e c.args.lists.now) c.in_ok-graph.graph.parts) same c.in_ok-graph.ensures.tells;
-      in_order = record { linked = c.in_ok-linked.ensures.right; flow = subst (λ (e : Coded). flow_faults e ≡ []) same c.in_ok-graph.ensures.right };
-      object = subst ObjectIsInOrder same c.object_is_in_order.ensures;
+      short = c.requires;
+      graph = record {
+        tells = subst (λ (e : Coded). Tells (program_of e c.args.lists.now) c.in_ok-graph.graph.parts) same c.in_ok-graph.ensures.tells;
+        in_order = record { linked = c.in_ok-linked.ensures.right; flow = subst (λ (e : Coded). flow_faults e ≡ []) same c.in_ok-graph.ensures.right };
+        object = subst ObjectIsInOrder same c.object_is_in_order.ensures;
+      };
+      enough = c.in_ok-table.ensures.enough;
+      allows = subst (λ (e : Coded). IsTableOf (program_of e c.args.lists.now) (allowances_of e c.args.lists.now) c.in_ok-table.table) same c.in_ok-table.ensures.allows;
+      counted = subst (λ (e : Coded). IsCounted e c.count_code-counts.result) same c.count_code-counts.ensures;
     }
 
 pub returns-in_err-table-clause-err : goal.returns-in_err-table-clause-err
