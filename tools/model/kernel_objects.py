@@ -1,7 +1,7 @@
 """Checks the objects of a folder by the model, and compares with the answers that are expected:
 kernel_objects.py FOLDER [--all-opcodes].
 
-With --all-opcodes the expected answers stand in expected-all-opcodes. FOLDER is as tools/kernel-objects.sh takes it: objects/NAME.o, expected/NAME.status and NAME.lines, and linux-rows/NAME.rows, whose
+With --all-opcodes the expected answers stand in expected-all-opcodes. FOLDER is as tools/compare/kernel-objects.sh takes it: objects/NAME.o, expected/NAME.status and NAME.lines, and linux-rows/NAME.rows, whose
 rows are those of accepted objects but for `.altinstr_aux`.
 """
 

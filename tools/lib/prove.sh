@@ -1,0 +1,105 @@
+#!/usr/bin/env bash
+# Proves and builds one program and the crates that it stands on, and nothing else: `rt ci` over a copy of these crates alone,
+# without their must-fail edits, as many side by side as there are processors. Where the kit's `rt ci` keeps what it proved, that
+# isn't proved again.
+#   prove.sh FOLDER NAME [FILE]
+# FOLDER is where the copy is laid, unless it was laid there before; the program then is FOLDER/crates/NAME/out/NAME, and what
+# Rattle's own compiler makes of it stands beside it as NAME.by-rattle. NAME is a program of crates.txt. With FILE it is a program
+# of one file, whose first line says what it uses, `// uses: LIBRARY ..`; rt tries it on the words of the file `args` beside it, one a
+# line, and it has to print what the file `stdout` has. With LAY set the copy is only laid, and what is printed is a sum of all that a
+# proof of it reads.
+# Tells each crate on the standard error as it is done. Where anything isn't proved it prints what rt said and ends with status 1.
+set -eu -o pipefail
+root=$(cd "$(dirname "$0")/../.." && pwd)
+folder=$1 name=$2 file=${3:-}
+failed() { echo "prove: $*" >&2; exit 1; }
+command -v rt >/dev/null || failed "no rt: it comes with the Rattle kit"
+mkdir -p "$folder/crates"
+folder=$(cd "$folder" && pwd)
+
+# needed NAME..: the lines of crates.txt of these crates and of all that they stand on, each once.
+needed() {
+    awk -v wanted="$*" '
+        { sub(/#.*/, "") }
+        /:/ { split($0, side, ":"); split(side[1], word, " "); line[word[1]] = $0; uses[word[1]] = side[2] }
+        END {
+            count = split(wanted, todo, " ")
+            for (i = 1; i <= count; i++) {
+                if (!(todo[i] in line) || todo[i] in seen) continue
+                seen[todo[i]] = 1
+                print line[todo[i]]
+                more = split(uses[todo[i]], used, " ")
+                for (j = 1; j <= more; j++) todo[++count] = used[j]
+            }
+        }' "$root/crates.txt"
+}
+lay() {
+    local libraries
+    if [ -n "$file" ]; then
+        local uses
+        uses=$(sed -n '1s|^// uses: ||p' "$file")
+        needed $uses >"$folder/crates.new"
+        libraries=$(sed 's/[ :].*//' "$folder/crates.new")
+        echo "$name: $uses" >>"$folder/crates.new"
+        mkdir -p "$folder/crates/$name/src"
+        cp "$file" "$folder/crates/$name/src/main.rt"
+        local beside
+        for beside in args stdout; do
+            [ ! -e "$(dirname "$file")/$beside" ] || cp "$(dirname "$file")/$beside" "$folder/crates/$name/$beside"
+        done
+    else
+        needed "$name" >"$folder/crates.new"
+        libraries=$(sed 's/[ :].*//' "$folder/crates.new")
+        [ -n "$libraries" ] || failed "crates.txt has no crate $name"
+    fi
+    sed 's|^|crates/|' <<<"$libraries" |
+        tar -C "$root" --anchored --no-wildcards-match-slash --exclude='crates/*/out' --exclude='crates/*/must-fail' -T - -cf - |
+        tar -C "$folder" -xf -
+    [ ! -e "$root/HANDLES" ] || cp "$root/HANDLES" "$folder/HANDLES"
+    mv "$folder/crates.new" "$folder/crates.txt"
+}
+if [ ! -e "$folder/crates.txt" ]; then lay; fi
+if [ -n "${LAY:-}" ]; then
+    cd "$folder"
+    { rt version; find . -type f -print0 | LC_ALL=C sort -z | xargs -0 sha256sum; } | sha256sum
+    exit 0
+fi
+number_of=$(wc -l <"$folder/crates.txt")
+
+# It is the top of a repository, wherever it lies.
+mkdir -p "$folder/.git"
+log=$folder/.git/log
+: >"$log"
+# Tells what rt says, a line a crate.
+told() {
+    local number=0 line crate
+    while IFS= read -r line; do
+        crate=${line#rt: }
+        case $line in
+            "rt: "*" NOT PROVED"* | "rt: "*": its tests are proved") echo "prove: $crate" ;;
+            "rt: "*" proved") number=$((number + 1)) && echo "prove: $number of $number_of: $crate" ;;
+            "rt: "*" is kept: "*) number=$((number + 1)) && echo "prove: $number of $number_of: ${crate%% *} was proved by an earlier run" ;;
+            "rt: waiting "* | "rt: note: "* | "rt: "*" waiting for it" | "rt: $name ran"*) echo "prove: $crate" ;;
+        esac
+    done
+}
+echo "prove: $name, $number_of crates" >&2
+(cd "$folder" && exec rt ci) >"$log" 2>&1 &
+rt=$!
+trap 'kill "$rt" 2>/dev/null || true' EXIT
+trap 'exit 1' INT TERM HUP
+# (a child, so that a signal is heard while it runs)
+tail -n +1 -f --pid="$rt" "$log" | told >&2 &
+teller=$!
+status=0
+wait "$rt" || status=$?
+wait "$teller" || true
+if [ "$status" -ne 0 ] || [ ! -x "$folder/crates/$name/out/$name" ]; then
+    # What rt said but of the crates that it proved, in terms of this folder.
+    awk '
+        /^== / { block = $0; next }
+        block != "" { if (/^rt: .* proved$/ && !/NOT PROVED$/) block = ""; else { block = block "\n" $0; if (/^rt: .* NOT PROVED$/) { print block; block = "" } } next }
+        !/ is kept: / { print }
+        END { if (block != "") print block }' "$log" | sed "s|$folder/||g" >&2
+    failed "$name isn't built: rt said the above"
+fi

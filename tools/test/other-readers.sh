@@ -1,0 +1,28 @@
+#!/usr/bin/env bash
+# Other tools read what `cfi` and `sites` write, and tell the same as `cfa` and `list`; and `find` on a table of all objects tells the rows
+# that `dump` prints of each.
+#   other-readers.sh            objects that gcc compiles from tools/test/gcc-objects/*.c, each with and without frame pointers
+#   other-readers.sh FOLDER     the objects FOLDER/*.o that `check --all-opcodes` accepts
+# Of each object's call frame information the rules of `readelf --debug-dump=frames-interp`, and that neither it nor `objdump
+# --dwarf=frames` complains; of its site lists the relocations that `readelf -r` shows; of the merged table the row at each row's address,
+# and one before and behind. `.eh_frame` that is there already is taken away first. Ends with status 1 where something differs.
+set -eu
+. "$(dirname "$0")/../lib/prepare.sh"
+needs "other readers" gcc readelf objdump objcopy python3
+program=$(built)
+if [ $# -ge 1 ]; then
+    folder=$(cd "$1" && pwd)
+else
+    folder=$scratch/objects
+    mkdir "$folder"
+    flags="-O2 -ffreestanding -fno-pic -mcmodel=kernel -mno-red-zone -mno-sse -mno-mmx -mno-80387 -mgeneral-regs-only -fno-jump-tables"
+    flags+=" -fcf-protection=none -fno-stack-protector -fno-stack-clash-protection -fno-asynchronous-unwind-tables"
+    flags+=" -mindirect-branch=thunk-extern -mindirect-branch-register -mfunction-return=thunk-extern"
+    for source in "$root"/tools/test/gcc-objects/*.c; do
+        name=$(basename "$source" .c)
+        gcc $flags -fomit-frame-pointer -c -o "$folder/$name.o" "$source"
+        gcc $flags -fno-omit-frame-pointer -DFRAMES -c -o "$folder/$name.framed.o" "$source"
+    done
+fi
+cd "$scratch"
+PYTHONDONTWRITEBYTECODE=1 python3 "$root/tools/test/other_readers.py" "$program" "$folder"
