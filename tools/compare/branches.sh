@@ -8,14 +8,8 @@ set -eu
 . "$(dirname "$0")/../lib/prepare.sh"
 needs "branches" objdump readelf python3
 [ $# -gt 0 ] || { echo "usage: branches.sh FOLDER.., with objects below the folders"; exit 2; }
-export PYTHONDONTWRITEBYTECODE=1
-paths=()
-for folder; do while read -r path; do paths+=("$path"); done < <(find "$(readlink -f "$folder")" -name '*.o' | sort); done
+mapfile -t paths < <(objects_below "$@")
 [ "${#paths[@]}" -gt 0 ] || { echo "branches: no objects"; exit 2; }
-if [ -n "${GRAPHS:-}" ]; then
-    "$GRAPHS" "${paths[@]}" >"$scratch/said"
-else
-    "$root/tools/lib/with-library.sh" "$scratch" graphs_of "$root/tools/compare/programs/graphs.rt.txt"
-    (cd "$scratch/crates/graphs_of" && rt run -- "${paths[@]}") >"$scratch/said" || { tail -20 "$scratch/said"; exit 1; }
-fi
-python3 "$root/tools/compare/branches/compare.py" "$scratch/said"
+graphs=$(over_libraries graphs)
+"$graphs" "${paths[@]}" >"$scratch/said" || { tail -n 20 "$scratch/said"; exit 1; }
+python3 "$here/branches/compare.py" "$scratch/said"

@@ -3,21 +3,12 @@
 # opcode with each ModRM byte behind prefixes by lot, bytes by lot, and each operation from a grid of states.
 #   decoding.sh [TIMES]
 # TIMES is how many lots of prefixes are drawn, 1 where it isn't given. DECODING and MOVES name programs that print what is decoded, and
-# the moves; where they aren't given, those of `programs` are proved and built. Ends with status 1 where something
-# is different.
+# the moves; where they aren't given, those of `programs` are proved and built. Ends with status 1 where something is different.
 set -eu
 . "$(dirname "$0")/../lib/prepare.sh"
 needs "decoding" python3
-export PYTHONDONTWRITEBYTECODE=1
-
-# Builds the program programs/NAME.rt.txt, and prints where it lies.
-built() {
-    "$root/tools/lib/with-library.sh" "$scratch" "$1" "$root/tools/compare/programs/$1.rt.txt"
-    (cd "$scratch/crates/$1" && rt run -- /dev/null) >"$scratch/said" 2>&1 || { tail -20 "$scratch/said" >&2; exit 1; }
-    echo "$scratch/crates/$1/out/$1"
-}
-moves=${MOVES:-$(built moves)}
-decoding=${DECODING:-$(built decoding)}
+moves=$(over_libraries moves)
+decoding=$(over_libraries decoding)
 python3 "$root/tools/model/moves.py" "$moves"
 for seed in $(seq "${1:-1}"); do
     for options in "" --all-opcodes; do python3 "$root/tools/model/decoding.py" "$decoding" "$seed" $options; done

@@ -1,9 +1,10 @@
 #!/usr/bin/env bash
 # Parses objects that gcc and the assembler make, and compares how many sections, symbols and relocations each has with
-# what `readelf` tells. Run at the top of the repository.
+# what `readelf` tells.
 set -eu
 . "$(dirname "$0")/../lib/prepare.sh"
-needs "real objects" gcc as readelf
+needs "elf counts" gcc as readelf
+counts=$(over_libraries elf_counts)
 cd "$scratch"
 mkdir sources objects
 
@@ -131,10 +132,6 @@ for object in objects/*.o; do
     echo "$object $sections $symbols $relocs"
 done >wanted
 
-"$root/tools/lib/with-library.sh" "$scratch" real_objects "$root/tools/compare/programs/elf_counts.rt.txt"
-paths=()
-for object in objects/*.o; do paths+=("$scratch/$object"); done
-(cd crates/real_objects && rt run -- "${paths[@]}") >said || { cat said; exit 1; }
-sed -n "s|^$scratch/objects/|objects/|p" said >counted
-diff wanted counted || { echo "real objects: readelf (<) and elf_objects (>) differ"; exit 1; }
-echo "real objects: $(wc -l <wanted) objects have the sections, symbols and relocations that readelf tells"
+"$counts" objects/*.o >counted || { cat counted; exit 1; }
+diff wanted counted || { echo "elf counts: readelf (<) and elf_objects (>) differ"; exit 1; }
+echo "elf counts: $(wc -l <wanted) objects have the sections, symbols and relocations that readelf tells"

@@ -1,12 +1,12 @@
 #!/usr/bin/env bash
 # Reads the functions and relocations of objects, and compares the functions and their sizes with those of `nm -S`, and each
 # relocation and the place that it names with those of `readelf -r`. functions.sh [FOLDER..]: besides the objects that gcc
-# and the assembler make, those below the folders (*.o), as of a kernel's build. Run at the top of the repository.
+# and the assembler make, those below the folders (*.o), as of a kernel's build.
 set -eu
 . "$(dirname "$0")/../lib/prepare.sh"
 needs "functions" gcc as nm readelf python3
-paths=()
-for folder; do while read -r path; do paths+=("$path"); done < <(find "$(readlink -f "$folder")" -name '*.o' | sort); done
+mapfile -t paths < <(objects_below "$@")
+functions=$(over_libraries functions)
 cd "$scratch"
 
 cat >made.c <<'C'
@@ -73,7 +73,5 @@ done
 as -o as.o made.s
 paths+=("$scratch/as.o")
 
-"$root/tools/lib/with-library.sh" "$scratch" functions_of "$root/tools/compare/programs/functions.rt.txt"
-(cd crates/functions_of && rt run -- "${paths[@]}") >said || { tail -20 said; exit 1; }
-grep '^object \|^function \|^reloc \|^refused ' said >told
-python3 "$root/tools/compare/functions.py" told
+"$functions" "${paths[@]}" >told || { tail -n 20 told; exit 1; }
+python3 "$here/functions.py" told

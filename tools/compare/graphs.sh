@@ -7,17 +7,10 @@
 set -eu
 . "$(dirname "$0")/../lib/prepare.sh"
 needs "graphs" python3
-count=${1:-1000} seed=${2:-1}
-export PYTHONDONTWRITEBYTECODE=1
+graphs=$(over_libraries graphs)
 objects=$scratch/objects
 mkdir "$objects"
 python3 "$root/tools/model/features.py" "$objects"
-python3 "$root/tools/model/generate.py" "$objects" "$count" "$seed"
-paths=("$objects"/*.o)
-if [ -n "${GRAPHS:-}" ]; then
-    "$GRAPHS" "${paths[@]}" >"$scratch/said"
-else
-    "$root/tools/lib/with-library.sh" "$scratch" graphs_of "$root/tools/compare/programs/graphs.rt.txt"
-    (cd "$scratch/crates/graphs_of" && rt run -- "${paths[@]}") >"$scratch/said" || { tail -20 "$scratch/said"; exit 1; }
-fi
-python3 "$root/tools/model/graph.py" --compare "$scratch/said" "${paths[@]}"
+python3 "$root/tools/model/generate.py" "$objects" "${1:-1000}" "${2:-1}"
+"$graphs" "$objects"/*.o >"$scratch/said" || { tail -n 20 "$scratch/said"; exit 1; }
+python3 "$root/tools/model/graph.py" --compare "$scratch/said" "$objects"/*.o

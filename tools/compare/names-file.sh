@@ -1,8 +1,9 @@
 #!/usr/bin/env bash
 # Reads the names file that this repository ships, and asks of each of its names and of some others which lists hold it.
-# Run at the top of the repository.
 set -eu
 . "$(dirname "$0")/../lib/prepare.sh"
+needs "names file" awk diff
+lists=$(over_libraries names_file)
 
 file=$root/share/linux.names
 # Built in, and not in the file.
@@ -14,8 +15,6 @@ awk '$1 == "noreturn" || $1 == "uaccess" { lists[$2] = lists[$2] " " $1 }
 printf '%s\n' "${built_in[@]}" "${others[@]}" >>"$scratch/wanted"
 mapfile -t names < <(sed 's/:.*//' "$scratch/wanted")
 
-"$root/tools/lib/with-library.sh" "$scratch" names_file "$root/tools/compare/programs/names_file.rt.txt"
-(cd "$scratch/crates/names_file" && rt run -- "$file" "${names[@]}") >"$scratch/said" || { cat "$scratch/said"; exit 1; }
-grep ':\( noreturn\)\?\( uaccess\)\?$' "$scratch/said" >"$scratch/listed"
+"$lists" "$file" "${names[@]}" >"$scratch/listed" || { cat "$scratch/listed"; exit 1; }
 diff "$scratch/wanted" "$scratch/listed" || { echo "names file: the file (<) and Lists (>) differ"; exit 1; }
 echo "names file: $(wc -l <"$scratch/wanted") names are in the lists that the file and the program tell"

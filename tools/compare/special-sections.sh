@@ -1,12 +1,13 @@
 #!/usr/bin/env bash
 # Reads the special sections of objects, and compares how many entries of each kind there are with what `readelf` tells of
 # their sections. special-sections.sh [OBJECT..]: the objects, as those of a kernel's build; with none, one that the
-# assembler makes. Run at the top of the repository.
+# assembler makes.
 set -eu
 . "$(dirname "$0")/../lib/prepare.sh"
 needs "special sections" as readelf python3
 paths=()
 for object; do paths+=("$(readlink -f "$object")"); done
+counts=$(over_libraries special_counts)
 cd "$scratch"
 
 if [ ${#paths[@]} -eq 0 ]; then
@@ -56,8 +57,7 @@ for path in sys.argv[1:]:
     counts += [sizes.get(".rela" + name, 0) // 24 for name in LISTS]
     print(path, *counts)
 P
-"$root/tools/lib/with-library.sh" "$scratch" special_counts "$root/tools/compare/programs/special_sections.rt.txt"
-(cd crates/special_counts && rt run -- "${paths[@]}") >said || { cat said; exit 1; }
+"$counts" "${paths[@]}" >said || { cat said; exit 1; }
 for object in "${paths[@]}"; do grep -F "$object " said; done >counted
 
 # Of an object that is refused only the fault is told: it is printed, and not compared.

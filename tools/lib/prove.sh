@@ -2,56 +2,25 @@
 # Proves and builds one program and the crates that it stands on, and nothing else: `rt ci` over a copy of these crates alone,
 # without their must-fail edits, as many side by side as there are processors. Where the kit's `rt ci` keeps what it proved, that
 # isn't proved again.
-#   prove.sh FOLDER NAME [FILE]
+#   prove.sh FOLDER NAME
 # FOLDER is where the copy is laid, unless it was laid there before; the program then is FOLDER/crates/NAME/out/NAME, and what
-# Rattle's own compiler makes of it stands beside it as NAME.by-rattle. NAME is a program of crates.txt. With FILE it is a program
-# of one file, whose first line says what it uses, `// uses: LIBRARY ..`; rt tries it on the words of the file `args` beside it, one a
-# line, and it has to print what the file `stdout` has. With LAY set the copy is only laid, and what is printed is a sum of all that a
-# proof of it reads.
+# Rattle's own compiler makes of it stands beside it as NAME.by-rattle. NAME is a program of crates.txt. With LAY set the copy is only
+# laid, and what is printed is a sum of all that a proof of it reads.
 # Tells each crate on the standard error as it is done. Where anything isn't proved it prints what rt said and ends with status 1.
 set -eu -o pipefail
 root=$(cd "$(dirname "$0")/../.." && pwd)
-folder=$1 name=$2 file=${3:-}
+folder=$1 name=$2
+. "$root/tools/lib/crates.sh"
 failed() { echo "prove: $*" >&2; exit 1; }
 command -v rt >/dev/null || failed "no rt: it comes with the Rattle kit"
 mkdir -p "$folder/crates"
 folder=$(cd "$folder" && pwd)
 
-# needed NAME..: the lines of crates.txt of these crates and of all that they stand on, each once.
-needed() {
-    awk -v wanted="$*" '
-        { sub(/#.*/, "") }
-        /:/ { split($0, side, ":"); split(side[1], word, " "); line[word[1]] = $0; uses[word[1]] = side[2] }
-        END {
-            count = split(wanted, todo, " ")
-            for (i = 1; i <= count; i++) {
-                if (!(todo[i] in line) || todo[i] in seen) continue
-                seen[todo[i]] = 1
-                print line[todo[i]]
-                more = split(uses[todo[i]], used, " ")
-                for (j = 1; j <= more; j++) todo[++count] = used[j]
-            }
-        }' "$root/crates.txt"
-}
 lay() {
     local libraries
-    if [ -n "$file" ]; then
-        local uses
-        uses=$(sed -n '1s|^// uses: ||p' "$file")
-        needed $uses >"$folder/crates.new"
-        libraries=$(sed 's/[ :].*//' "$folder/crates.new")
-        echo "$name: $uses" >>"$folder/crates.new"
-        mkdir -p "$folder/crates/$name/src"
-        cp "$file" "$folder/crates/$name/src/main.rt"
-        local beside
-        for beside in args stdout; do
-            [ ! -e "$(dirname "$file")/$beside" ] || cp "$(dirname "$file")/$beside" "$folder/crates/$name/$beside"
-        done
-    else
-        needed "$name" >"$folder/crates.new"
-        libraries=$(sed 's/[ :].*//' "$folder/crates.new")
-        [ -n "$libraries" ] || failed "crates.txt has no crate $name"
-    fi
+    needed "$name" >"$folder/crates.new"
+    libraries=$(sed 's/[ :].*//' "$folder/crates.new")
+    [ -n "$libraries" ] || failed "crates.txt has no crate $name"
     sed 's|^|crates/|' <<<"$libraries" |
         tar -C "$root" --anchored --no-wildcards-match-slash --exclude='crates/*/out' --exclude='crates/*/must-fail' -T - -cf - |
         tar -C "$folder" -xf -

@@ -1,10 +1,11 @@
 #!/usr/bin/env bash
 # How fast `check` goes over an object of 16 MB of straight code, in which the depth changes 850,000 times, beside
-# `objdump -d` over the same object: the processor time of each. Run at the top of the repository.
+# `objdump -d` over the same object: the processor time of each.
 set -eu
 . "$(dirname "$0")/../lib/prepare.sh"
-needs "check speed" as ld objdump awk
-cd "$root"
+. "$root/tools/lib/speed.sh"
+needs "check speed" as ld objdump python3
+program=$(built)
 
 {
     printf '\t.text\n\t.globl leaf\n\t.type leaf, @function\nleaf:\n'
@@ -16,21 +17,9 @@ cd "$root"
 as -o "$scratch/assembled.o" "$scratch/leaf.s"
 ld -r -o "$scratch/leaf.o" "$scratch/assembled.o"
 
-program=$(built)
-
-# The processor time of a command in microseconds, the least of three runs.
-TIMEFORMAT='%U %S'
-least() {
-    local micros best=
-    for _ in 1 2 3; do
-        micros=$({ time "$@" >/dev/null 2>&1; } 2>&1 | awk '{ printf "%d", ($1 + $2) * 1000000 }')
-        if [ -z "$best" ] || [ "$micros" -lt "$best" ]; then best=$micros; fi
-    done
-    echo "$best"
-}
-checked=$(least "$program" check "$scratch/leaf.o" "$scratch/checked.o")
+checked=$(least 3 "$program" check "$scratch/leaf.o" "$scratch/checked.o")
 [ -s "$scratch/checked.o" ] || { echo "check speed: the object isn't accepted"; exit 1; }
-listed=$(least objdump -d "$scratch/leaf.o")
+listed=$(least 3 objdump -d "$scratch/leaf.o")
 echo "check: $checked us of processor time for $(stat -c %s "$scratch/leaf.o") bytes; OUT has $(stat -c %s "$scratch/checked.o") bytes"
 echo "objdump -d: $listed us"
-echo "check speed: $((listed / checked)).$((listed * 10 / checked % 10)) times as fast as objdump -d"
+echo "check speed: $(ratio %.1f "$listed" "$checked") times as fast as objdump -d"

@@ -1,9 +1,10 @@
 #!/usr/bin/env bash
 # How fast 16 MB of code are decoded by each opcode map, beside `objdump -d` over the same bytes. The code is what gcc makes of a few
-# functions, again and again. Run at the top of the repository.
+# functions, again and again. DECODE names a program that decodes it; where it isn't given, programs/decode.rt.txt is proved and built.
 set -eu
 . "$(dirname "$0")/../lib/prepare.sh"
 needs "decode speed" gcc objcopy objdump
+decode=$(over_libraries decode)
 
 cat >"$scratch/code.c" <<'C'
 struct node { struct node *next; unsigned long key; unsigned char tag; };
@@ -48,8 +49,7 @@ while [ $(($(stat -c %s "$scratch/body") + size)) -le 16777216 ]; do
     cat "$scratch/more" >>"$scratch/body"
 done
 
-"$root/tools/lib/with-library.sh" "$scratch" decode_speed "$root/tools/speed/programs/decode.rt.txt"
-(cd "$scratch/crates/decode_speed" && rt run -- "$scratch/body")
+"$decode" "$scratch/body"
 
 before=$(date +%s%N)
 count=$(objdump -w -D -b binary -m i386:x86-64 "$scratch/body" | grep -c '^ *[0-9a-f]*:')

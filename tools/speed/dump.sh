@@ -1,26 +1,17 @@
 #!/usr/bin/env bash
 # How fast `dump` prints the rows of a kernel module, beside Linux's own objtool and `readelf -x` of the same sections: the
-# processor time of each, the least of three runs. dump-speed.sh MODULE OBJTOOL: a module (.ko), and Linux's objtool; as
-# kernel-modules.sh fetches them.
+# processor time of each, the least of three runs.
+#   dump.sh MODULE       a module (.ko); OBJTOOL_LINUX names Linux's objtool, which is fetched where it isn't given
 set -eu
 . "$(dirname "$0")/../lib/prepare.sh"
-needs "dump speed" readelf awk
-[ $# -ge 2 ] || { echo "usage: dump-speed.sh MODULE OBJTOOL"; exit 2; }
-cd "$root"
+. "$root/tools/lib/speed.sh"
+. "$root/tools/lib/linux.sh"
+needs "dump speed" readelf awk python3
+[ $# -eq 1 ] || { echo "usage: dump.sh MODULE"; exit 2; }
+linux=$(linux_objtool)
 program=$(built)
-
-TIMEFORMAT='%U %S'
-least() {
-    local micros best=
-    for _ in 1 2 3; do
-        micros=$({ time "$@" >/dev/null 2>&1; } 2>&1 | awk '{ printf "%d", ($1 + $2) * 1000000 }')
-        if [ -z "$best" ] || [ "$micros" -lt "$best" ]; then best=$micros; fi
-    done
-    echo "$best"
-}
-ratio() { awk -v a="$1" -v b="$2" 'BEGIN { printf "%.2f", a / b }'; }
-dumped=$(least "$program" dump "$1")
-linux=$(least "$2" --dump=orc "$1")
-hex=$(least readelf -x .orc_unwind -x .orc_unwind_ip "$1")
-echo "dump: $dumped us of processor time for $("$program" dump "$1" | wc -l) rows; objtool --dump=orc: $linux us; readelf -x: $hex us"
-echo "dump speed: $(ratio "$linux" "$dumped") times as fast as objtool --dump=orc, $(ratio "$hex" "$dumped") times as readelf -x"
+dumped=$(least 3 "$program" dump "$1")
+by_linux=$(least 3 "$linux" --dump=orc "$1")
+hex=$(least 3 readelf -x .orc_unwind -x .orc_unwind_ip "$1")
+echo "dump: $dumped us of processor time for $("$program" dump "$1" | wc -l) rows; objtool --dump=orc: $by_linux us; readelf -x: $hex us"
+echo "dump speed: $(ratio %.2f "$by_linux" "$dumped") times as fast as objtool --dump=orc, $(ratio %.2f "$hex" "$dumped") times as readelf -x"

@@ -6,4 +6,4 @@ set -eu
 . "$(dirname "$0")/../lib/prepare.sh"
 needs "stack bound" python3 objdump
 program=$(built)
-python3 "$root/tools/speed/stack_bound.py" "$program" 131072
+python3 "$here/stack_bound.py" "$program" 131072

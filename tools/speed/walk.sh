@@ -3,8 +3,8 @@
 # of each, the least of three runs. Each frame is one of a function that has pushed a register, called by itself.
 set -eu
 . "$(dirname "$0")/../lib/prepare.sh"
-needs "walk speed" as ld awk
-cd "$root"
+. "$root/tools/lib/speed.sh"
+needs "walk speed" as ld awk python3
 program=$(built)
 frames=100000
 
@@ -25,16 +25,7 @@ image 9001 >unwalked.txt
 lines=$("$program" unwind out.o walked.txt | wc -l)
 [ "$lines" -eq $((frames + 1)) ] || { echo "walk speed: $lines lines"; exit 1; }
 
-TIMEFORMAT='%U %S'
-least() {
-    local micros best=
-    for _ in 1 2 3; do
-        micros=$({ time "$@" >/dev/null 2>&1; } 2>&1 | awk '{ printf "%d", ($1 + $2) * 1000000 }')
-        if [ -z "$best" ] || [ "$micros" -lt "$best" ]; then best=$micros; fi
-    done
-    echo "$best"
-}
-walked=$(least "$program" unwind out.o walked.txt)
-unwalked=$(least "$program" unwind out.o unwalked.txt)
+walked=$(least 3 "$program" unwind out.o walked.txt)
+unwalked=$(least 3 "$program" unwind out.o unwalked.txt)
 echo "unwind: $walked us of processor time for $frames frames, $unwalked us for an image of the same size and none"
-echo "walk speed: $(awk -v a="$walked" -v b="$unwalked" 'BEGIN { printf "%.1f", a / b }') times as long as reading the image alone"
+echo "walk speed: $(ratio %.1f "$walked" "$unwalked") times as long as reading the image alone"

@@ -8,6 +8,7 @@
 # and one before and behind. `.eh_frame` that is there already is taken away first. Ends with status 1 where something differs.
 set -eu
 . "$(dirname "$0")/../lib/prepare.sh"
+. "$root/tools/lib/compile.sh"
 needs "other readers" gcc readelf objdump objcopy python3
 program=$(built)
 if [ $# -ge 1 ]; then
@@ -15,14 +16,7 @@ if [ $# -ge 1 ]; then
 else
     folder=$scratch/objects
     mkdir "$folder"
-    flags="-O2 -ffreestanding -fno-pic -mcmodel=kernel -mno-red-zone -mno-sse -mno-mmx -mno-80387 -mgeneral-regs-only -fno-jump-tables"
-    flags+=" -fcf-protection=none -fno-stack-protector -fno-stack-clash-protection -fno-asynchronous-unwind-tables"
-    flags+=" -mindirect-branch=thunk-extern -mindirect-branch-register -mfunction-return=thunk-extern"
-    for source in "$root"/tools/test/gcc-objects/*.c; do
-        name=$(basename "$source" .c)
-        gcc $flags -fomit-frame-pointer -c -o "$folder/$name.o" "$source"
-        gcc $flags -fno-omit-frame-pointer -DFRAMES -c -o "$folder/$name.framed.o" "$source"
-    done
+    compile_all "$folder" -mindirect-branch=thunk-extern -mindirect-branch-register -mfunction-return=thunk-extern
 fi
 cd "$scratch"
-PYTHONDONTWRITEBYTECODE=1 python3 "$root/tools/test/other_readers.py" "$program" "$folder"
+python3 "$here/other_readers.py" "$program" "$folder"

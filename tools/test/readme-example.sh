@@ -1,77 +1,39 @@
 #!/usr/bin/env bash
-# Checks real objects with the built program, each passed through `ld -r`, which gives its section a symbol: a leaf
-# function of the system's assembler, whose rows `readelf` reads, and one that gcc compiles from C, whose rows are those
-# that gcc itself tells in `.eh_frame` of the same code.
+# README's example, as the system's assembler makes an object of it, which `ld -r` gives a section symbol: what `check` and `dump` print
+# is what README says, also without the second `pop`; and `readelf` finds the sections that were added, with these rows. The names file
+# that is shipped changes nothing of it.
 set -eu
 . "$(dirname "$0")/../lib/prepare.sh"
-needs "real object" as ld readelf awk gcc
-cd "$root"
-
+needs "readme example" as ld readelf awk cmp
 program=$(built)
-objtool() { "$program" "$@"; }
+failed() { echo "readme example: FAILED, $*"; exit 1; }
+cd "$scratch"
 
-# The rows of a checked object, a line each: the offset in hexadecimal, and the row's six bytes.
-rows_of() {
-    paste -d ' ' \
-        <(readelf -rW "$1" | awk '/R_X86_64_PC32/ { print $NF }') \
-        <(readelf -x .orc_unwind "$1" | awk '/^  0x/ { for (i = 2; i <= 5 && $i ~ /^[0-9a-f]+$/; i++) printf "%s", $i }' | fold -w 12)
+# block N: the Nth block of code in README's section of the example.
+block() { sed -n '/^## An example$/,/^## What /p' "$root/README.md" | awk -v wanted="$1" '/^```/ { fences++; next } fences == 2 * wanted - 1'; }
+# object NAME: what the assembler and the linker make of the code on the standard input.
+object() {
+    { printf '\t.text\n\t.globl leaf\n\t.type leaf, @function\n' && cat && printf '\t.size leaf, .-leaf\n'; } | as -o assembled.o -
+    ld -r -o "$1" assembled.o
 }
+block 1 | object leaf.o
+printed=$("$program" check leaf.o checked.o) && [ -z "$printed" ] || failed "check prints $printed"
+[ "$("$program" dump checked.o)" = "$(block 2)" ] || failed "dump prints other rows than README has"
+block 1 | awk '!/pop/ || ++pops != 2' | object unpopped.o
+status=0
+printed=$("$program" check unpopped.o out.o) || status=$?
+[ "$status" = 1 ] && [ ! -e out.o ] && [ "$printed" = "$(block 3)" ] || failed "without the second pop the status is $status, and check prints $printed"
+echo "readme example: check and dump print what README says"
 
-cat >"$scratch/leaf.s" <<'S'
-	.text
-	.globl	leaf
-	.type	leaf, @function
-leaf:
-	push	%rbx
-	push	%rsi
-	nop
-	pop	%rsi
-	pop	%rbx
-	ret
-	.size	leaf, .-leaf
-S
-as -o "$scratch/assembled.o" "$scratch/leaf.s"
-ld -r -o "$scratch/leaf.o" "$scratch/assembled.o"
-objtool check "$scratch/leaf.o" "$scratch/checked.o"
-
-sections=$(readelf -SW "$scratch/checked.o")
+# The rows of the checked object, each by its offset in hexadecimal and its six bytes.
+sections=$(readelf -SW checked.o)
 for section in .orc_unwind .orc_unwind_ip .rela.orc_unwind_ip; do
-    grep -q " $section " <<<"$sections" || { echo "real object: no section $section"; exit 1; }
+    grep -q " $section " <<<"$sections" || failed "no section $section"
 done
-rows=$(rows_of "$scratch/checked.o" | tr '\n' ';')
+rows=$(paste -d ' ' \
+    <(readelf -rW checked.o | awk '/R_X86_64_PC32/ { print $NF }') \
+    <(readelf -x .orc_unwind checked.o | awk '/^  0x/ { for (i = 2; i <= 5 && $i ~ /^[0-9a-f]+$/; i++) printf "%s", $i }' | fold -w 12) | tr '\n' ';')
 wanted='0 080000000502;1 100000000502;2 180000000502;4 100000000502;5 080000000502;6 000000000000;'
-[ "$rows" = "$wanted" ] || { echo "real object: the rows are $rows"; exit 1; }
-echo "real object: one leaf function checked, six rows as expected"
-objtool check --names="$root/share/linux.names" "$scratch/leaf.o" "$scratch/named.o"
-cmp "$scratch/checked.o" "$scratch/named.o" || { echo "real object: the shipped names change a leaf function's rows"; exit 1; }
-echo "real object: the shipped names file is read"
-
-cat >"$scratch/mix.c" <<'C'
-struct state { unsigned long a, b, c, d, e, f, g; };
-
-void mix(struct state *s, unsigned long key)
-{
-	unsigned long a = s->a + key, b = s->b ^ key, c = s->c, d = s->d;
-	unsigned long e = s->e, f = s->f;
-
-	a += b * 3; b ^= c << 7; c -= d; d += e >> 3;
-	e ^= f + key; f += a * 5;
-	s->a = a ^ e; s->b = b + f; s->c = c ^ a; s->d = d + b;
-	s->e = e + a; s->f = f ^ b;
-	s->g = a * b + c * d;
-}
-C
-compile() { gcc -O2 -fcf-protection=none -mno-sse -mgeneral-regs-only -ffreestanding "$@" "$scratch/mix.c"; }
-compile -fno-asynchronous-unwind-tables -c -o "$scratch/compiled.o"
-ld -r -o "$scratch/mix.o" "$scratch/compiled.o"
-objtool check "$scratch/mix.o" "$scratch/mixed.o"
-
-# Where each offset of the frame's top from rsp begins, by the rows and by gcc. The last row ends the section.
-told=$(rows_of "$scratch/mixed.o" | awk '$2 ~ /00000502$/ { print $1, substr($2, 3, 2) substr($2, 1, 2) }')
-compile -fasynchronous-unwind-tables -c -o "$scratch/framed.o"
-known=$(readelf --debug-dump=frames-interp "$scratch/framed.o" | awk '
-    / FDE / { inside = 1 }
-    inside && $2 ~ /^rsp\+[0-9]+$/ && $2 != before { before = $2; sub(/^0+/, "", $1); printf "%s %04x\n", $1 == "" ? "0" : $1, substr($2, 5) }')
-[ -n "$known" ] && [ "$told" = "$known" ] || { printf 'compiled object: the rows are\n%s\nand gcc has\n%s\n' "$told" "$known"; exit 1; }
-[ "$(wc -l <<<"$told")" -ge 3 ] || { echo "compiled object: gcc pushes nothing, so its rows show little"; exit 1; }
-echo "compiled object: one function of gcc checked, its rows as gcc's own"
+[ "$rows" = "$wanted" ] || failed "readelf shows the rows $rows"
+"$program" check --names="$root/share/linux.names" leaf.o named.o && cmp checked.o named.o || failed "the names that are shipped change the rows"
+echo "readme example: six rows as readelf shows them, also with the names that are shipped"

@@ -1,12 +1,17 @@
 """Compares the rows of `dump` with gcc's own frames, at each address of each function.
 
-compare.py NAME..: for each object NAME.rows, NAME.frames, NAME.relocs and NAME.symbols are what `dump`, `readelf
---debug-dump=frames-interp`, `readelf -rW` and `readelf -sW` print. At each address the top of the frame has to be the same
-register with the same offset, and rbp has to be saved in the same place below it, or in none, as both say. Prints how much was
-compared, or the first difference of each object, with status 1.
+compare.py NAME..: for each object NAME.rows and NAME.bytes are what `dump` and `readelf -x .orc_unwind -rW` print of it with tables;
+NAME.frames, NAME.relocs and NAME.symbols what `readelf --debug-dump=frames-interp`, `readelf -rW` and `readelf -sW` print of it.
+At each address the top of the frame has to be the same register with the same offset, and rbp has to be saved in the same place below
+it, or in none, as both say; and the rows of `dump` have to be those that the bytes hold. Prints how much was compared, or the first
+difference of each object, with status 1.
 """
 import re
+import struct
 import sys
+
+REGISTERS = {0: "undef", 1: "prev", 4: "bp", 5: "sp"}
+KINDS = ["undefined", "end", "call", "regs", "partial"]
 
 
 def lines_of(path):
@@ -24,6 +29,24 @@ def rows_of(path):
         row = (f"r{base}{top}", saved) if kind == "call" else (kind, "")
         rows.setdefault(section, []).append((int(offset, 16), row))
     return rows
+
+
+def held_by(path):
+    """The rows that the bytes of the sections hold, in the form of `dump`."""
+    places, body, inside = [], "", None
+    for line in lines_of(path):
+        found = re.match(r"(?:Relocation section|Hex dump of section) '(\S+)'", line)
+        inside = found[1] if found else inside
+        words = line.split()
+        if inside == ".rela.orc_unwind_ip" and len(words) == 7 and words[2] == "R_X86_64_PC32":
+            places.append(f"{words[4]}+0x{words[6]}")
+        elif inside == ".orc_unwind" and line.startswith("  0x"):
+            body += "".join(line[13:48].split())
+    rows = []
+    for top, slot, registers, about in struct.iter_unpack("<hhBB", bytes.fromhex(body)):
+        signal = " signal" if about >> 3 else ""
+        rows.append(f"{KINDS[about & 7]} cfa {REGISTERS[registers & 15]}{top:+d} bp {REGISTERS[registers >> 4]}{slot:+d}{signal}")
+    return [f"{place}: {row}" for place, row in zip(places, rows, strict=True)]
 
 
 def starts_of(path):
@@ -76,6 +99,8 @@ def at(rows, offset):
 
 def compare(name):
     """How many addresses were compared, and of how many rows of `dump` and of gcc; or the first difference."""
+    if lines_of(f"{name}.rows") != held_by(f"{name}.bytes"):
+        return "readelf shows other rows than `dump`"
     rows = rows_of(f"{name}.rows")
     frames = frames_of(f"{name}.frames", starts_of(f"{name}.relocs"))
     places = ours = known = 0
