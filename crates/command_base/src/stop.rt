@@ -72,7 +72,7 @@ impl CommandStop<'_> {
 
 /// Why a command stops that stops so at file number `part` of a layout: a refusal is one of that file.
 pub fn of_part<'a>(part: u32, stop: CommandStop<'a>) -> CommandStop<'a>
-    ensures { result ≡ of_part part stop }
+    ensures { result ≡ of_part part stop.entry }
 {
     match stop {
         CommandStop::Missing { file } => CommandStop::PartMissing { part, file },

@@ -124,6 +124,9 @@ Faults x = (x ≡ status.FileFault) ⊎ (x ≡ status.NoMemory)
 
 stopped_unread : (s : CommandStop) (name read : List ℕ) (held : Content) (before after : Outside) (out out' : Output) (x : Status) → before.content ≡ Some held → reading held name MAX_FILE_BYTES ≡ Ok read → StopsAtRead MAX_FILE_BYTES name before after s → Concludes s out out' x → Faults x
 stopped_unread (stop.Usage usage) name read held before after out out' x c is h t = absurd h
+stopped_unread (stop.PartMissing part file) name read held before after out out' x c is h t = absurd h
+stopped_unread (stop.PartTooLong part file limit) name read held before after out out' x c is h t = absurd h
+stopped_unread (stop.PartRefused part refusal) name read held before after out out' x c is h t = absurd h
 stopped_unread (stop.Missing told) name read held before after out out' x c is h t = let u : ◌≡◌ {A = Result (List ℕ) FileError} (Err file.Missing) (Ok read) = told_read MAX_FILE_BYTES before.content held name _ c h.1 ∙ is in cc
 stopped_unread (stop.TooLong told limit) name read held before after out out' x c is h t = let u : ◌≡◌ {A = Result (List ℕ) FileError} (Err (file.TooLong MAX_FILE_BYTES)) (Ok read) = told_read MAX_FILE_BYTES before.content held name _ c h.1.1 ∙ is in cc
 stopped_unread (stop.Refused refusal) name read held before after out out' x c is h t = absurd h
@@ -133,6 +136,9 @@ stopped_unread stop.NoMemory name read held before after out out' x c is h t = i
 stopped_refused : (s : CommandStop) (read : List ℕ) (lists : NameLists) (options : CheckOptions) (out out' : Output) (x : Status) → IsUnrefused read lists options → IsRefusal read lists options s → Concludes s out out' x → Faults x
 stopped_refused (stop.Refused told) read lists options out out' x never h t = absurd (never told h)
 stopped_refused (stop.Usage usage) read lists options out out' x never h t = absurd h
+stopped_refused (stop.PartMissing part file) read lists options out out' x never h t = absurd h
+stopped_refused (stop.PartTooLong part file limit) read lists options out out' x never h t = absurd h
+stopped_refused (stop.PartRefused part refusal) read lists options out out' x never h t = absurd h
 stopped_refused (stop.Missing told) read lists options out out' x never h t = absurd h
 stopped_refused (stop.TooLong told limit) read lists options out out' x never h t = absurd h
 stopped_refused (stop.FileFault told) read lists options out out' x never h t = absurd h
@@ -140,6 +146,9 @@ stopped_refused stop.NoMemory read lists options out out' x never h t = inr (con
 
 stopped_unwritten : (s : CommandStop) (name : List ℕ) (before after : Outside) (out out' : Output) (x : Status) → StopsAtWrite name before after s → Concludes s out out' x → Faults x
 stopped_unwritten (stop.Usage usage) name before after out out' x h t = absurd h
+stopped_unwritten (stop.PartMissing part file) name before after out out' x h t = absurd h
+stopped_unwritten (stop.PartTooLong part file limit) name before after out out' x h t = absurd h
+stopped_unwritten (stop.PartRefused part refusal) name before after out out' x h t = absurd h
 stopped_unwritten (stop.Missing told) name before after out out' x h t = absurd h
 stopped_unwritten (stop.TooLong told limit) name before after out out' x h t = absurd h
 stopped_unwritten (stop.Refused refusal) name before after out out' x h t = absurd h
@@ -166,9 +175,20 @@ stopped_unlisted (stop.Refused (refusal.Unplaced fault)) text out out' x right h
 stopped_unlisted (stop.Refused (refusal.Unlinked told)) text out out' x right h t = absurd h
 stopped_unlisted (stop.Refused (refusal.Unflowed told)) text out out' x right h t = absurd h
 stopped_unlisted (stop.Refused (refusal.HasOrc sec)) text out out' x right h t = absurd h
+stopped_unlisted (stop.Refused (refusal.HasSites sec)) text out out' x right h t = absurd h
+stopped_unlisted (stop.Refused (refusal.Sites why)) text out out' x right h t = absurd h
+stopped_unlisted (stop.Refused (refusal.HasFrames sec)) text out out' x right h t = absurd h
+stopped_unlisted (stop.Refused (refusal.Frames why)) text out out' x right h t = absurd h
+stopped_unlisted (stop.Refused (refusal.Layout why)) text out out' x right h t = absurd h
+stopped_unlisted (stop.Refused (refusal.TooManyFiles count)) text out out' x right h t = absurd h
+stopped_unlisted (stop.Refused (refusal.Merge why)) text out out' x right h t = absurd h
+stopped_unlisted (stop.Refused (refusal.Table why)) text out out' x right h t = absurd h
 stopped_unlisted (stop.Refused (refusal.TooMany what count)) text out out' x right h t = absurd h
 stopped_unlisted stop.NoMemory text out out' x right h t = inr (concluded_no_memory out out' x t)
 stopped_unlisted (stop.Usage usage) text out out' x right h t = absurd h
+stopped_unlisted (stop.PartMissing part file) text out out' x right h t = absurd h
+stopped_unlisted (stop.PartTooLong part file limit) text out out' x right h t = absurd h
+stopped_unlisted (stop.PartRefused part refusal) text out out' x right h t = absurd h
 stopped_unlisted (stop.Missing told) text out out' x right h t = absurd h
 stopped_unlisted (stop.TooLong told limit) text out out' x right h t = absurd h
 stopped_unlisted (stop.FileFault told) text out out' x right h t = absurd h

@@ -23,6 +23,9 @@ neither x (inr e) f m = m e
 
 write_told : (s : CommandStop) (name : List ℕ) (before after : Outside) (out out' : Output) (x : Status) → StopsAtWrite name before after s → Concludes s out out' x → (x ≡ FileFault) ⊎ (x ≡ NoMemory)
 write_told (stop.Usage usage) name before after out out' x h t = absurd h
+write_told (stop.PartMissing part file) name before after out out' x h t = absurd h
+write_told (stop.PartTooLong part file limit) name before after out out' x h t = absurd h
+write_told (stop.PartRefused part refusal) name before after out out' x h t = absurd h
 write_told (stop.Missing file) name before after out out' x h t = absurd h
 write_told (stop.TooLong file limit) name before after out out' x h t = absurd h
 write_told (stop.Refused refusal) name before after out out' x h t = absurd h

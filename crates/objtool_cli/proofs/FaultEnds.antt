@@ -27,6 +27,9 @@ use Rattle.objtool_cli.proofs.StatusLemmas.{no_usage_fault, no_memory_fault, don
 -- a stop with the status of a file's fault is one
 read_fault : (s : CommandStop) (name : List ℕ) (before after : Outside) → StopsAtRead MAX_FILE_BYTES name before after s → status_of s ≡ FileFault → Rose before.faults after.faults
 read_fault (stop.Usage usage) name before after h e = absurd h
+read_fault (stop.PartMissing part file) name before after h e = absurd h
+read_fault (stop.PartTooLong part file limit) name before after h e = absurd h
+read_fault (stop.PartRefused part refusal) name before after h e = absurd h
 read_fault (stop.Missing file) name before after h e = cc
 read_fault (stop.TooLong file limit) name before after h e = cc
 read_fault (stop.Refused refusal) name before after h e = absurd h
@@ -35,6 +38,9 @@ read_fault stop.NoMemory name before after h e = cc
 
 write_fault : (s : CommandStop) (name : List ℕ) (before after : Outside) → StopsAtWrite name before after s → status_of s ≡ FileFault → Rose before.faults after.faults
 write_fault (stop.Usage usage) name before after h e = absurd h
+write_fault (stop.PartMissing part file) name before after h e = absurd h
+write_fault (stop.PartTooLong part file limit) name before after h e = absurd h
+write_fault (stop.PartRefused part refusal) name before after h e = absurd h
 write_fault (stop.Missing file) name before after h e = absurd h
 write_fault (stop.TooLong file limit) name before after h e = absurd h
 write_fault (stop.Refused refusal) name before after h e = absurd h
@@ -43,6 +49,9 @@ write_fault stop.NoMemory name before after h e = cc
 
 refusal_no_fault : (s : CommandStop) (bytes : List ℕ) (lists : NameLists) (options : CheckOptions) → IsRefusal bytes lists options s → status_of s ≢ FileFault
 refusal_no_fault (stop.Usage usage) bytes lists options h e = absurd h
+refusal_no_fault (stop.PartMissing part file) bytes lists options h e = absurd h
+refusal_no_fault (stop.PartTooLong part file limit) bytes lists options h e = absurd h
+refusal_no_fault (stop.PartRefused part refusal) bytes lists options h e = absurd h
 refusal_no_fault (stop.Missing file) bytes lists options h e = absurd h
 refusal_no_fault (stop.TooLong file limit) bytes lists options h e = absurd h
 refusal_no_fault (stop.Refused refusal) bytes lists options h e = cc
@@ -52,6 +61,9 @@ refusal_no_fault stop.NoMemory bytes lists options h e = cc
 -- nor is a faulty line of a names file a file's fault
 lists_no_fault : (s : CommandStop) (text : List ℕ) → IsListsStop text s → status_of s ≢ FileFault
 lists_no_fault (stop.Usage usage) text h e = absurd h
+lists_no_fault (stop.PartMissing part file) text h e = absurd h
+lists_no_fault (stop.PartTooLong part file limit) text h e = absurd h
+lists_no_fault (stop.PartRefused part refusal) text h e = absurd h
 lists_no_fault (stop.Missing file) text h e = absurd h
 lists_no_fault (stop.TooLong file limit) text h e = absurd h
 lists_no_fault (stop.Refused refusal) text h e = cc

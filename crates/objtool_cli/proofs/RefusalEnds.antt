@@ -88,6 +88,9 @@ of_stop meaning held s out out' x t e is =
 
 unreadable : (limit : ℕ) (s : CommandStop) (name : List ℕ) (held : Content) (before after : Outside) → before.content ≡ Some held → StopsAtRead limit name before after s → status_of s ≡ Refused → IsUnreadable limit held name s
 unreadable limit (stop.Usage usage) name held before after c h e = absurd h
+unreadable limit (stop.PartMissing part file) name held before after c h e = absurd h
+unreadable limit (stop.PartTooLong part file told_limit) name held before after c h e = absurd h
+unreadable limit (stop.PartRefused part refusal) name held before after c h e = absurd h
 unreadable limit (stop.Missing told) name held before after c h e = (h.0, sym (told_read limit before.content held name _ c h.1))
 unreadable limit (stop.TooLong told at) name held before after c h e = (h.0, (h.1.0, sym (told_read limit before.content held name _ c h.1.1)))
 unreadable limit (stop.Refused why) name held before after c h e = absurd h
@@ -109,9 +112,20 @@ faulty_line (stop.Refused (refusal.Unplaced fault)) input options names held rea
 faulty_line (stop.Refused (refusal.Unlinked told)) input options names held read file text is given said h e = absurd h
 faulty_line (stop.Refused (refusal.Unflowed told)) input options names held read file text is given said h e = absurd h
 faulty_line (stop.Refused (refusal.HasOrc sec)) input options names held read file text is given said h e = absurd h
+faulty_line (stop.Refused (refusal.HasSites sec)) input options names held read file text is given said h e = absurd h
+faulty_line (stop.Refused (refusal.Sites why)) input options names held read file text is given said h e = absurd h
+faulty_line (stop.Refused (refusal.HasFrames sec)) input options names held read file text is given said h e = absurd h
+faulty_line (stop.Refused (refusal.Frames why)) input options names held read file text is given said h e = absurd h
+faulty_line (stop.Refused (refusal.Layout why)) input options names held read file text is given said h e = absurd h
+faulty_line (stop.Refused (refusal.TooManyFiles count)) input options names held read file text is given said h e = absurd h
+faulty_line (stop.Refused (refusal.Merge why)) input options names held read file text is given said h e = absurd h
+faulty_line (stop.Refused (refusal.Table why)) input options names held read file text is given said h e = absurd h
 faulty_line (stop.Refused (refusal.TooMany what count)) input options names held read file text is given said h e = absurd h
 faulty_line stop.NoMemory input options names held read file text is given said h e = absurd (memory_not_refused e)
 faulty_line (stop.Usage usage) input options names held read file text is given said h e = absurd h
+faulty_line (stop.PartMissing part told_file) input options names held read file text is given said h e = absurd h
+faulty_line (stop.PartTooLong part told_file limit) input options names held read file text is given said h e = absurd h
+faulty_line (stop.PartRefused part refusal) input options names held read file text is given said h e = absurd h
 faulty_line (stop.Missing told) input options names held read file text is given said h e = absurd h
 faulty_line (stop.TooLong told limit) input options names held read file text is given said h e = absurd h
 faulty_line (stop.FileFault told) input options names held read file text is given said h e = absurd h
@@ -125,6 +139,9 @@ bytes_refuse : (s : CommandStop) (input : List ℕ) (options : CheckOptions) (na
 bytes_refuse (stop.Refused why) input options names held read lists is has h e = input_refused read lists is has h
 bytes_refuse stop.NoMemory input options names held read lists is has h e = absurd (memory_not_refused e)
 bytes_refuse (stop.Usage usage) input options names held read lists is has h e = absurd h
+bytes_refuse (stop.PartMissing part file) input options names held read lists is has h e = absurd h
+bytes_refuse (stop.PartTooLong part file limit) input options names held read lists is has h e = absurd h
+bytes_refuse (stop.PartRefused part refusal) input options names held read lists is has h e = absurd h
 bytes_refuse (stop.Missing told) input options names held read lists is has h e = absurd h
 bytes_refuse (stop.TooLong told limit) input options names held read lists is has h e = absurd h
 bytes_refuse (stop.FileFault told) input options names held read lists is has h e = absurd h
@@ -134,6 +151,9 @@ write_not_refused (stop.FileFault told) name before after h e = file_fault_not_r
 write_not_refused stop.NoMemory name before after h e = memory_not_refused e
 write_not_refused (stop.Refused why) name before after h e = h
 write_not_refused (stop.Usage usage) name before after h e = h
+write_not_refused (stop.PartMissing part file) name before after h e = h
+write_not_refused (stop.PartTooLong part file limit) name before after h e = h
+write_not_refused (stop.PartRefused part refusal) name before after h e = h
 write_not_refused (stop.Missing told) name before after h e = h
 write_not_refused (stop.TooLong told limit) name before after h e = h
 
@@ -188,6 +208,9 @@ readable : (limit : ℕ) (s : CommandStop) (held : Content) (name bytes : List �
 readable limit (stop.Missing told) held name bytes h is = let u : ◌≡◌ {A = Result (List ℕ) FileError} (Err file_error.Missing) (Ok bytes) = sym h.1 ∙ is in cc
 readable limit (stop.TooLong told at) held name bytes h is = let u : ◌≡◌ {A = Result (List ℕ) FileError} (Err (file_error.TooLong limit)) (Ok bytes) = sym h.1.1 ∙ is in cc
 readable limit (stop.Usage usage) held name bytes h is = h
+readable limit (stop.PartMissing part file) held name bytes h is = h
+readable limit (stop.PartTooLong part file told_limit) held name bytes h is = h
+readable limit (stop.PartRefused part refusal) held name bytes h is = h
 readable limit (stop.Refused why) held name bytes h is = h
 readable limit (stop.FileFault told) held name bytes h is = h
 readable limit stop.NoMemory held name bytes h is = h

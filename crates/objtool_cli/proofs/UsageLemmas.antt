@@ -38,6 +38,9 @@ IsOther s = (usage : Usage) → s ≡ stop.Usage usage → ⊥
 
 other_status : (s : CommandStop) → IsOther s → status_of s ≢ status.Usage
 other_status (stop.Usage usage) other e = other usage refl
+other_status (stop.PartMissing part file) other e = other usage refl
+other_status (stop.PartTooLong part file limit) other e = other usage refl
+other_status (stop.PartRefused part refusal) other e = other usage refl
 other_status (stop.Missing file) other e = cc
 other_status (stop.TooLong file limit) other e = cc
 other_status (stop.Refused refusal) other e = cc
