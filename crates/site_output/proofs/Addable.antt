@@ -132,16 +132,22 @@ can_add o lists k can =
     let rela1 = no_zeros (rela_name 1) (AllPass-from_list_all (λ c. not (c == 0)) (rela_name 1) refl) in
     let rela2 = no_zeros (rela_name 2) (AllPass-from_list_all (λ c. not (c == 0)) (rela_name 2) refl) in
     let P = IsAddable o new in
+    let a : NewEntry = list_entry 0 (slot_section lists.retpoline) in
+    let p : NewEntry = rela_entry o 0 (rela_section ss lists.retpoline) in
+    let b : NewEntry = list_entry 1 (slot_section lists.returns) in
+    let q : NewEntry = rela_entry o 1 (rela_section ss lists.returns) in
+    let c : NewEntry = list_entry 2 (slot_section lists.calls) in
+    let r : NewEntry = rela_entry o 2 (rela_section ss lists.calls) in
     record {
       few = omega arith;
       size = room o lists k can;
       each =
-          All-cons P _ _ (list_addable o new 0 (slot_section lists.retpoline) name0)
-          (All-cons P _ _ (rela_addable o lists 0 lists.retpoline k can (omega arith) can.each.retpoline few0 size0 rela0)
-          (All-cons P _ _ (list_addable o new 1 (slot_section lists.returns) name1)
-          (All-cons P _ _ (rela_addable o lists 1 lists.returns k can (omega arith) can.each.returns few1 size1 rela1)
-          (All-cons P _ _ (list_addable o new 2 (slot_section lists.calls) name2)
-          (All-cons P _ _ (rela_addable o lists 2 lists.calls k can (omega arith) can.each.calls few2 size2 rela2)
+          All-cons P a (p ∷ b ∷ q ∷ c ∷ r ∷ []) (list_addable o new 0 (slot_section lists.retpoline) name0)
+          (All-cons P p (b ∷ q ∷ c ∷ r ∷ []) (rela_addable o lists 0 lists.retpoline k can (omega arith) can.each.retpoline few0 size0 rela0)
+          (All-cons P b (q ∷ c ∷ r ∷ []) (list_addable o new 1 (slot_section lists.returns) name1)
+          (All-cons P q (c ∷ r ∷ []) (rela_addable o lists 1 lists.returns k can (omega arith) can.each.returns few1 size1 rela1)
+          (All-cons P c (r ∷ []) (list_addable o new 2 (slot_section lists.calls) name2)
+          (All-cons P r [] (rela_addable o lists 2 lists.calls k can (omega arith) can.each.calls few2 size2 rela2)
           (All-nil P))))));
-      apart = apart_of _ _ _ _ _ _ (λ e. omega arith) (λ e. omega arith) (λ e. omega arith) (λ e. omega arith) (λ e. omega arith) (λ e. omega arith);
+      apart = apart_of a p b q c r (λ e. omega arith) (λ e. omega arith) (λ e. omega arith) (λ e. omega arith) (λ e. omega arith) (λ e. omega arith);
     }

@@ -28,7 +28,35 @@ six o lists a p b q c r x x' y y' z z' h1 h2 h3 h4 h5 h6 k1 k2 k3 k4 k5 k6 = rw 
 pub append-requires : goal.append-requires
 append-requires c =
     let o : Elf = c.args.object.now in
-    let lists = listed c.args.lists.now in
-    let is = made c in
+    let lists : Listed = listed c.args.lists.now in
+    let made = c.in_ok-retpoline.ensures in
+    let is = six o lists _ _ _ _ _ _ _ _ _ _ _ _ c.in_ok-list_section.ensures c.in_ok-rela_section.ensures c.in_ok-list_section-2.ensures c.in_ok-rela_section-2.ensures c.in_ok-list_section-3.ensures c.in_ok-rela_section-3.ensures
+    made.retpoline_body made.retpoline_rela made.returns_body made.returns_rela made.calls_body made.calls_rela in
     let can = can_add o lists (known o.bytes o c.sections-first.ensures.object) c.requires in
     subst (CanAppend o) (sym is) (can_append o.bytes o (site_sections o lists) c.sections-first.ensures.object can)
+
+pub returns-clause-layout : goal.returns-clause-layout
+returns-clause-layout c =
+    let o : Elf = c.args.object.now in
+    let lists : Listed = listed c.args.lists.now in
+    let made = c.in_ok-retpoline.ensures in
+    let is = six o lists _ _ _ _ _ _ _ _ _ _ _ _ c.in_ok-list_section.ensures c.in_ok-rela_section.ensures c.in_ok-list_section-2.ensures c.in_ok-rela_section-2.ensures c.in_ok-list_section-3.ensures c.in_ok-rela_section-3.ensures
+    made.retpoline_body made.retpoline_rela made.returns_body made.returns_rela made.calls_body made.calls_rela in
+    subst (λ (new : List NewEntry). IfOk c.append.result (λ file. file.items ≡ appended_to o new)) is c.append.ensures.layout
+
+pub returns-clause-object : goal.returns-clause-object
+returns-clause-object c =
+    let o : Elf = c.args.object.now in
+    let lists : Listed = listed c.args.lists.now in
+    let made = c.in_ok-retpoline.ensures in
+    let is = six o lists _ _ _ _ _ _ _ _ _ _ _ _ c.in_ok-list_section.ensures c.in_ok-rela_section.ensures c.in_ok-list_section-2.ensures c.in_ok-rela_section-2.ensures c.in_ok-list_section-3.ensures c.in_ok-rela_section-3.ensures
+    made.retpoline_body made.retpoline_rela made.returns_body made.returns_rela made.calls_body made.calls_rela in
+    let can = can_add o lists (known o.bytes o c.sections-first.ensures.object) c.requires in
+    subst (λ (new : List NewEntry). IfOk c.append.result (λ file. IsObject file.items (object_with o new))) is (c.append.ensures.object (subst (CanAdd o) (sym is) can))
+
+pub returns-clause-holds : goal.returns-clause-holds
+returns-clause-holds c =
+    let o : Elf = c.args.object.now in
+    let lists : Listed = listed c.args.lists.now in
+    let done = held o lists (known o.bytes o c.sections-first.ensures.object) c.requires in
+    IfOk-weaker c.append.result (λ file. file.items ≡ _) (λ _. HoldsSites (with_lists_object o lists) lists) (λ file e. done) c.append.ensures.layout
