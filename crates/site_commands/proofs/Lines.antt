@@ -102,7 +102,7 @@ first_fails part rest before after status.FileFault h = absurd h
 
 pub next_fails : (front part : List ℕ) (before middle after : Output) (s : Status) → middle.written ≡ appending before.written front → before.faults ≤ middle.faults → FailsToPrint part middle after s → FailsToPrint (front ++ part) before after s
 next_fails front part before middle after s so later h =
-    subst (λ (text : List ℕ). FailsToPrint text before after s) (append-nil (front ++ part) )
+    subst (λ (text : List ℕ). FailsToPrint text before after s) (append-nil (front ++ part))
     (subst (λ (text : List ℕ). FailsToPrint text before after s) (sym (append_assoc front part [])) (part_fails front part [] before middle after s so later h))
 
 -- a text that isn't printed whole ends the command so

@@ -60,6 +60,10 @@ no_lists_held bytes o (sites_fault.BadLength which len) is h = no_lists o is (li
 no_lists_held bytes o (sites_fault.BadSlot which slot why) is h = no_lists o is (lists_fault o _ h (λ x. cc))
 no_lists_held bytes o sites_fault.NoMemory is h = no_memory
 
+-- what is told of the bytes that were read
+pub listed_as : (one other : List ℕ) (before after : Output) (x : Status) → one ≡ other → ListsBytes one before after x → ListsBytes other before after x
+listed_as one other before after x same h = subst (λ (bytes : List ℕ). ListsBytes bytes before after x) same h
+
 -- ---- where it is done
 
 bytes_listed : (file bytes : List ℕ) (content : Option Content) (before after : Output) (x : Status) → MayRead MAX_FILE_BYTES content file (Ok bytes) → ListsBytes bytes before after x → x ≡ Done → IsListed file content before.written after.written

@@ -10,6 +10,7 @@ use Rattle.site_lists.specs.Laws.{OneChoiceFits}
 use Rattle.site_lists.specs.Listed.{Listed}
 use Rattle.site_lists.specs.Sites.{sites_of}
 use Rattle.site_output.specs.Tables.{HasSites, with_sites_object}
+use Rattle.command_base.specs.Names.{StopsAtNames}
 use Rattle.command_base.specs.Outside.{Outside, Output}
 use Rattle.command_base.specs.declared.status.Status.{Status}
 use Rattle.command_base.specs.declared.status.Status.TheVariants as status
@@ -46,3 +47,10 @@ ends_earlier map input output names content before middle after out out' x later
 
 pub ends_later : (map : Map) (input output : List ℕ) (names : Option (List ℕ)) (content middle : Option Content) (before faults : ℕ) (after : Outside) (out out' : Output) (x : Status) → middle ≡ content → before ≤ faults → EndsSites map input output names (outside middle faults) after out out' x → EndsSites map input output names (outside content before) after out out' x
 ends_later map input output names content middle before faults after out out' x same later h = ends_earlier map input output names content before faults after out out' x later (subst (λ (c : Option Content). EndsSites map input output names (outside c faults) after out out' x) same h)
+
+pub names_later : (s : CommandStop) (names : Option (List ℕ)) (content middle : Option Content) (before faults : ℕ) (after : Outside) → middle ≡ content → before ≤ faults → StopsAtNames names (outside middle faults) after s → StopsAtNames names (outside content before) after s
+names_later s names content middle before faults after same later h = names_earlier s names content before faults after later (subst (λ (c : Option Content). StopsAtNames names (outside c faults) after s) same h)
+
+-- what was written is the file that was made
+pub written_as : (before after : Option Content) (output file shown : List ℕ) → shown ≡ file → after ≡ writing before output shown → after ≡ writing before output file
+written_as before after output file shown same h = subst (λ (bytes : List ℕ). after ≡ writing before output bytes) same h

@@ -121,6 +121,24 @@ fn list_bytes<S: Sink>(alloc: Global, bytes: &[u8], out: &mut S) -> Status
     }
 }
 
+/// Reads FILE, and prints its site lists, or why there are none.
+fn read_and_list<F: Files, S: Sink>(alloc: Global, file: &str, files: &mut F, out: &mut S) -> Status
+    ensures ends { EndsList file.now
+        (record { content = F.content files.old; faults = F.faults files.old })
+        (record { content = F.content files.new; faults = F.faults files.new })
+        (record { written = S.written out.old; faults = S.faults out.old })
+        (record { written = S.written out.new; faults = S.faults out.new }) result }
+    ensures unchanged { F.content files.new ≡ F.content files.old }
+    ensures files_later { F.faults files.old ≤ F.faults files.new }
+    ensures out_later { S.faults out.old ≤ S.faults out.new }
+    ensures output_failed { S.faults out.old < S.faults out.new → IsOutputFault result }
+{
+    match read_file(alloc, file, MAX_FILE_BYTES, files) {
+        Ok(bytes) => list_bytes(alloc, bytes.as_slice(), out),
+        Err(stop) => conclude(alloc, stop, out),
+    }
+}
+
 /// Prints the site lists of the object FILE, one line for each place, or why there are none, and gives the status that the command
 /// ends with. No file is changed.
 pub fn list<F: Files, S: Sink>(alloc: Global, file: &str, files: &mut F, out: &mut S) -> Status
@@ -147,8 +165,5 @@ pub fn list<F: Files, S: Sink>(alloc: Global, file: &str, files: &mut F, out: &m
     ensures out_later { S.faults out.old ≤ S.faults out.new }
     ensures output_failed { S.faults out.old < S.faults out.new → IsOutputFault result }
 {
-    match read_file(alloc, file, MAX_FILE_BYTES, files) {
-        Ok(bytes) => list_bytes(alloc, bytes.as_slice(), out),
-        Err(stop) => conclude(alloc, stop, out),
-    }
+    read_and_list(alloc, file, files, out)
 }
