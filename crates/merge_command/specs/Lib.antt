@@ -1,0 +1,6 @@
+pub mod Layouts
+pub mod Objects
+pub mod Alike
+pub mod Merge
+pub mod Find
+pub mod Refused
