@@ -20,6 +20,7 @@ complete -c objtool -n 'contains -- (commandline -opc)[2] check; and not __fish_
 complete -c objtool -n 'contains -- (commandline -opc)[2] check; and not __fish_contains_opt uaccess' -l uaccess -d 'Check that user access is off outside of listed functions'
 complete -c objtool -n 'contains -- (commandline -opc)[2] check; and not __fish_contains_opt no-unreachable' -l no-unreachable -d 'Do not check that each instruction is reached'
 complete -c objtool -n 'contains -- (commandline -opc)[2] check sites cfi; and not __fish_contains_opt all-opcodes' -l all-opcodes -d 'Read vector, virtualization and newer system instructions too'
-complete -c objtool -n 'contains -- (commandline -opc)[2] check sites cfi; and not __fish_contains_opt names' -l names -r -F -d 'Add the function names of a file'
+# (the name of the file stands right behind --names=)
+complete -c objtool -n 'contains -- (commandline -opc)[2] check sites cfi; and not string match -q -- "--names=*" (commandline -opc)' -a --names= -d 'Add the function names of a file'
 
 complete -c objtool -n 'contains -- (commandline -opc)[2] check dump unwind sites list cfi cfa merge find' -F

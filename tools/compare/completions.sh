@@ -86,7 +86,6 @@ words_of_fish() (
             -a) words=$2 && shift ;;
             -s) short=$2 && shift ;;
             -l) long=$2 && shift ;;
-            -r) option== ;;
             -c | -d) shift ;;
             -f | -F) ;;
             *) echo "fish: unknown word $1" ;;
@@ -101,9 +100,13 @@ words_of_fish() (
             ;;
         'contains -- (commandline -opc)[2] '*)
             when=${when#*\[2\] }
-            [[ -z $long || $when == *"; and not __fish_contains_opt $long" ]] || echo "fish: $long may stand twice"
+            option=${long:+--$long}$words
+            case $when in
+            *"; and not __fish_contains_opt $long" | *"; and not string match -q -- \"$option*\" (commandline -opc)") ;;
+            *) [ -z "$option" ] || echo "fish: $option may stand twice" ;;
+            esac
             for words in ${when%%;*}; do
-                [ -n "$long" ] && echo "$words --$long$option" || echo "file $words"
+                [ -n "$option" ] && echo "$words $option" || echo "file $words"
             done
             ;;
         '') [ -z "$words$short$long" ] ;;
