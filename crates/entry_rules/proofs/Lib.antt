@@ -6,4 +6,8 @@ pub mod OverBytes
 pub mod Behind
 pub mod TakenLists
 pub mod Numbered
-pub mod Gaining
+pub mod AskedRules
+pub mod ObjectTexts
+pub mod NamedParts
+pub mod BarePoints
+pub mod TakenPoints

@@ -1,12 +1,13 @@
 -- The instruction that has a byte is the last that begins at the byte or before it.
-use Rattle.std.proofs.Common.{◌≡◌, ℕ, zero, suc, ◌+◌, ◌<◌, ◌≤◌, Bool, true, false, cond, List, [], ◌∷◌, length, map, get_or, Contains, Option, Some, None, refl, sym, ap, ◌∙◌, subst, inl, inr, arith}
+use Rattle.std.proofs.Common.{◌≡◌, ◌↔◌, ℕ, ◌+◌, ◌<◌, ◌≤◌, Bool, true, false, cond, List, [], ◌∷◌, length, map, get_or, Contains, Option, Some, None, refl, sym, ap, ◌∙◌, subst, inl, inr, arith}
 use Rattle.std.specs.Prelude.{◌==◌, ◌&&◌, All, find, nat_le, nat_lt}
-use Rattle.std.proofs.lemmas.Bool.{and_from, and_right, cases_Bool, cases_lt, eqb-false, eqb-true, le-leb, le-ltb, lt-ltb}
+use Rattle.std.proofs.lemmas.Bool.{and_from, and_parts, and_right, cases_lt, eqb-true, le-leb, le-ltb, lt-ltb, ltb-true}
+use Rattle.std.proofs.lemmas.List.{get_or-map, length-map}
 use Rattle.std.proofs.lemmas.List.Elements.{All-head, All-tail}
 use Rattle.std.proofs.lemmas.Option.{none-some}
 use Rattle.operation_defs.specs.declared.insn.Insn.{Insn}
 use Rattle.x86_text.specs.declared.placed.PlacedInsn.{PlacedInsn}
-use Rattle.x86_text.specs.Code.{LeadsTo, insn_listed}
+use Rattle.x86_text.specs.Code.{Body, IsBoundary, IsPreviousBoundary, LeadsTo, code_of, insn_listed, offsets_of}
 use Rattle.entry_rules.specs.Taken.{has_byte}
 
 -- what is listed behind an offset begins there or later
@@ -71,3 +72,33 @@ over_none from to off (q ∷ code) leads beyond =
     let rest = leads_up (from + q.insn.len) to code leads.1 in
     let misses : has_byte off q ≡ false = and_right (nat_le q.off off) (nat_lt off (q.off + q.insn.len)) (le-ltb off (q.off + q.insn.len) (omega arith)) in
     ap (λ (t : Bool). cond t (Some q) (find (has_byte off) code)) misses ∙ over_none (from + q.insn.len) to off code leads.1 beyond
+
+-- where an instruction is the last that begins at an offset or before it
+pub none_between : (begin off : ℕ) (code : List PlacedInsn) → ((b : ℕ) → Contains (map (λ p. p.off) code) b → b < off + 1 → b ≤ begin) → NoneBetween begin off code
+none_between begin off code greatest k d inside low =
+    let b : ℕ = (get_or code k d).off in
+    greatest b (k, omega (arith, length-map code (λ (p : PlacedInsn). p.off), inside), get_or-map (λ (p : PlacedInsn). p.off) code k d b inside) (omega (arith, low))
+
+-- in no code there is none
+pub over_nothing : (off : ℕ) (code : List PlacedInsn) → length code ≡ 0 → find (has_byte off) code ≡ None
+over_nothing off [] e = refl
+over_nothing off (q ∷ code) e = let k : ⊥ = omega (arith, e) in absurd k
+
+-- what has the byte begins at it or before it, and ends behind it
+pub finds_over : (off : ℕ) (code : List PlacedInsn) (p : PlacedInsn) → find (has_byte off) code ≡ Some p → has_byte off p ≡ true
+finds_over off (q ∷ code) p e = by_test (has_byte off q) refl e
+  where
+    by_test : (t : Bool) → has_byte off q ≡ t → cond t (Some q) (find (has_byte off) code) ≡ Some p → has_byte off p ≡ true
+    by_test true has h = subst (λ (x : PlacedInsn). has_byte off x ≡ true) (let k = h in cc) has
+    by_test false misses h = finds_over off code p h
+finds_over off [] p e = absurd (none-some p e)
+
+pub over_ends : (off : ℕ) (p : PlacedInsn) → has_byte off p ≡ true → off < p.off + p.insn.len
+over_ends off p has = ltb-true off (p.off + p.insn.len) (and_parts (nat_le p.off off) (nat_lt off (p.off + p.insn.len)) has).1
+
+-- the last instruction that begins at a byte of a body of code or before it has the byte
+pub over_found : (body : Body) (off begin : ℕ) (insn : Insn) → All (λ (p : PlacedInsn). 0 < p.insn.len) (code_of body) → LeadsTo 0 (code_of body) (length body.bytes) → ((b : ℕ) → IsBoundary body b ↔ Contains (offsets_of body) b)
+    → IsPreviousBoundary body (off + 1) begin → Some insn ≡ insn_listed (code_of body) begin → off < length body.bytes → find (has_byte off) (code_of body) ≡ Some (record { off = begin; insn = insn })
+over_found body off begin insn some whole bounds last listed inside =
+    let low : begin ≤ off = omega (arith, last.below) in
+    over_is 0 (length body.bytes) off (code_of body) begin insn whole some (sym listed) low inside (none_between begin off (code_of body) (λ b has before. last.greatest b ((bounds b).1 has) before))

@@ -10,7 +10,7 @@ use Rattle.machine_defs.specs.declared.flow.Role.TheVariants.{CallIn, CallEither
 use Rattle.machine_defs.specs.Program.{IsPoint, Program, below, edge, entry_points}
 use Rattle.machine_defs.specs.Kept.{edges_of}
 use Rattle.entry_rules.specs.declared.options.EntryOptions.{EntryOptions}
-use Rattle.entry_rules.specs.declared.rules.TheConstants.{CALL_LEAVES_NOINSTR, JUMP_WITHOUT_INT3, RETURN_WITHOUT_INT3, TAKEN_WITHOUT_ENDBR}
+use Rattle.ot_base.specs.declared.rules.TheConstants.{CALL_LEAVES_NOINSTR, JUMP_WITHOUT_INT3, RETURN_WITHOUT_INT3, TAKEN_WITHOUT_ENDBR}
 use Rattle.entry_rules.specs.Facts.{EntryFacts}
 
 -- a point runs in code that isn't instrumented

@@ -1,7 +1,6 @@
 pub mod Facts
 pub mod EntryWarns
 pub mod Taken
-pub mod Placed
 pub mod ObjectFacts
 pub mod Law
 pub mod Table

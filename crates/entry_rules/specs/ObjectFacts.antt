@@ -1,5 +1,5 @@
 -- What an object says that the entry rules look at.
-use Rattle.std.specs.Prelude.{ℕ, ◌+◌, ◌&&◌, ◌||◌, nat_lt, Bool, List, [], ◌∷◌, ◌++◌, length, take, bytes_eq, codes}
+use Rattle.std.specs.Prelude.{ℕ, ◌&&◌, ◌||◌, nat_lt, Bool, List, [], ◌∷◌, ◌++◌, length, take, bytes_eq, codes}
 use Rattle.std.specs.List.{list_any}
 use Rattle.elf_objects.specs.Elf.{Elf, SectionEntry}
 use Rattle.elf_objects.specs.Contents.{is_text, section_at}
@@ -12,11 +12,13 @@ use Rattle.entry_rules.specs.Taken.{is_taken}
 abbrev pub noinstr_names : List (List ℕ)
 noinstr_names = codes ".noinstr.text" ∷ codes ".entry.text" ∷ codes ".cpuidle.text" ∷ []
 
+-- a name begins with a prefix, and is longer
+abbrev pub is_part : List ℕ → List ℕ → Bool
+is_part name prefix = bytes_eq (take (length prefix) name) prefix && nat_lt (length prefix) (length name)
+
 -- the name, or the name, a dot and more
 abbrev pub is_name_or_part : List ℕ → List ℕ → Bool
-is_name_or_part name base =
-    bytes_eq name base
-    || (bytes_eq (take (length base + 1) name) (base ++ codes ".") && nat_lt (length base + 1) (length name))
+is_name_or_part name base = bytes_eq name base || is_part name (base ++ codes ".")
 
 abbrev pub is_noinstr_section : SectionEntry → Bool
 is_noinstr_section s = is_text s && list_any (is_name_or_part s.name) noinstr_names

@@ -1,10 +1,11 @@
 -- The places in an object whose addresses are taken: those that relocations name, other than the fields of branches (x86-64 psABI,
 -- "Relocation"; Linux 6.6, tools/objtool/check.c, `validate_ibt`).
-use Rattle.std.specs.Prelude.{ℕ, ℤ, pos, ◌+ℤ◌, ◌+◌, ◌-◌, ◌==◌, ◌&&◌, ◌||◌, not, nat_le, nat_lt, Bool, true, false, List, [], ◌∷◌, ◌++◌, filter, filter_map, flat_map, find, length, Option, Some, None, bit_and, bytes_eq, codes, if◌then◌else◌}
+use Rattle.std.specs.Prelude.{ℕ, ℤ, pos, ◌+ℤ◌, ◌+◌, ◌-◌, ◌==◌, ◌&&◌, ◌||◌, not, nat_le, nat_lt, Bool, true, false, List, [], ◌∷◌, ◌++◌, filter, filter_map, flat_map, find, length, Option, Some, None, option_map, bit_and, bytes_eq, codes, if◌then◌else◌}
 use Rattle.std.specs.List.{list_any, range_with_len}
 use Rattle.ot_base.specs.declared.place.Place.{Place}
 use Rattle.ot_base.specs.Places.{same_place}
 use Rattle.operation_defs.specs.declared.insn.Insn.{Insn}
+use Rattle.operation_defs.specs.declared.op.Op.{Op}
 use Rattle.elf_objects.specs.declared.symbol.Reloc.{Reloc}
 use Rattle.elf_objects.specs.Elf.{Elf, SectionEntry}
 use Rattle.elf_objects.specs.Contents.{is_text, relocs_at, section_at, symbol_at}
@@ -13,7 +14,7 @@ use Rattle.x86_text.specs.declared.placed.PlacedInsn.{PlacedInsn}
 use Rattle.x86_text.specs.Code.{code_of}
 use Rattle.alternatives.specs.declared.texts.SectionText.{SectionText}
 use Rattle.symbols_relocs.specs.NamedPlaces.{offset_of, place_in, place_named}
-use Rattle.flow_defs.specs.Targets.{Displacement, displacement_of}
+use Rattle.flow_defs.specs.Targets.{displacement_of}
 use Rattle.flow_defs.specs.Code.{texts_of}
 use Rattle.flow_defs.specs.Coded.{Coded}
 
@@ -55,13 +56,17 @@ address_in_data o r = if is_absolute r.kind || r.kind == R_X86_64_PC32 then plac
 abbrev pub has_byte : ℕ → PlacedInsn → Bool
 has_byte off p = nat_le p.off off && nat_lt off (p.off + p.insn.len)
 
--- the field at an offset is the displacement of a direct call or branch
-abbrev pub is_displacement_by : ℕ → PlacedInsn → Option Displacement → Bool
-is_displacement_by off p (Some d) = off + d.bytes == p.off + p.insn.len
-is_displacement_by off p None = false
+-- how many bytes the displacement of a direct call or branch has, with which the instruction ends
+abbrev pub displacement_bytes : Op → Option ℕ
+displacement_bytes op = option_map (λ d. d.bytes) (displacement_of op)
 
+abbrev pub ends_with : ℕ → PlacedInsn → Option ℕ → Bool
+ends_with off p (Some bytes) = off + bytes == p.off + p.insn.len
+ends_with off p None = false
+
+-- the field at an offset is the displacement of a direct call or branch
 abbrev pub is_displacement : ℕ → PlacedInsn → Bool
-is_displacement off p = is_displacement_by off p (displacement_of p.insn.op)
+is_displacement off p = ends_with off p (displacement_bytes p.insn.op)
 
 -- the place so many bytes behind the one that a relocation names
 abbrev pub place_behind : Elf → Reloc → ℕ → Option Place

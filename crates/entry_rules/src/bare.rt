@@ -10,7 +10,7 @@ ghost use Rattle.entry_rules.specs.EntryWarns.{is_before_int3 as is_before_int3_
 ghost use Rattle.entry_rules.specs.PointWarns.{BareWarns, PointIsBare};
 
 use crate::listing::push_if;
-use crate::rules::{JUMP_WITHOUT_INT3, RETURN_WITHOUT_INT3};
+use ot_base::rules::{JUMP_WITHOUT_INT3, RETURN_WITHOUT_INT3};
 use object_code::Linked;
 use operation_defs::Op;
 use ot_base::{NoMemory, Warning};
@@ -63,7 +63,10 @@ fn push_point(
     let op = graph.insn(n).op;
     let is_return = is_return(op);
     let is_jump = is_indirect_jump(op);
-    if !is_return && !is_jump || is_before_int3(linked, n) {
+    if !is_return && !is_jump {
+        return Ok(());
+    }
+    if is_before_int3(linked, n) {
         return Ok(());
     }
     let place = graph.place(n);

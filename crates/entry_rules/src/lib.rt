@@ -10,7 +10,6 @@ mod leaving;
 mod listing;
 mod noinstr;
 mod options;
-pub mod rules;
 mod taken;
 mod targets;
 

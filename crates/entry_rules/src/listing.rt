@@ -3,9 +3,8 @@
 ghost use Rattle.std.specs.Prelude.{◌≡◌, IsTrue, OnOk, pos};
 ghost use Rattle.ot_base.specs.Warnings.{bare_warning, numbered_warning};
 ghost use Rattle.stack_rules.specs.Gains.{Gains};
-ghost use Rattle.entry_rules.specs.declared.rules.TheConstants.{CALL_LEAVES_NOINSTR as call_leaves_noinstr};
+ghost use Rattle.ot_base.specs.declared.rules.TheConstants.{CALL_LEAVES_NOINSTR as call_leaves_noinstr};
 
-use crate::rules::CALL_LEAVES_NOINSTR;
 use ot_base::{NoMemory, Place, Warning};
 
 /// Adds a warning that a call or jump leaves code that isn't instrumented, with the number that tells the callee.
@@ -16,12 +15,7 @@ pub(crate) fn push_callee(
 ) -> Result<(), NoMemory>
     ensures { OnOk result (Gains into.old.items into.new.items (λ w. w ≡ numbered_warning place call_leaves_noinstr callee (pos 0))) }
 {
-    into.push(Warning {
-        place,
-        rule: CALL_LEAVES_NOINSTR,
-        a: callee,
-        b: 0,
-    })?;
+    into.push(Warning::leaves_noinstr(place, callee))?;
     Ok(())
 }
 

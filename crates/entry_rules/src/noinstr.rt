@@ -2,11 +2,19 @@
 
 ghost use Rattle.std.specs.Prelude.{◌≡◌, ◌<◌, ◌++◌, ℕ, codes, false, length, slice_index_or, IfOk};
 ghost use Rattle.elf_objects.specs.Contents.{section_at};
-ghost use Rattle.entry_rules.specs.ObjectFacts.{is_name_or_part as is_name_or_part_of, is_noinstr_section as is_noinstr_section_of};
+ghost use Rattle.entry_rules.specs.ObjectFacts.{is_name_or_part as is_name_or_part_of, is_part as is_part_of, is_noinstr_section as is_noinstr_section_of};
 
 use elf_objects::Object;
 use ot_base::NoMemory;
 use std::alloc::Global;
+
+/// Whether the name of a section begins with a prefix, and is longer.
+fn is_part(object: &Object<'_>, sec: u32, prefix: &[u8]) -> bool
+    requires { sec < length object.now.sections }
+    ensures { result ≡ is_part_of (section_at object.now sec).name prefix.now }
+{
+    object.section_name_begins(sec, prefix) && !object.section_is_named(sec, prefix)
+}
 
 /// Whether the name of a section is this one, or this one with a dot and more, where `prefix` is it with the dot.
 fn is_name_or_part(object: &Object<'_>, sec: u32, name: &[u8], prefix: &[u8]) -> bool
@@ -14,8 +22,7 @@ fn is_name_or_part(object: &Object<'_>, sec: u32, name: &[u8], prefix: &[u8]) ->
     requires prefix { prefix.now ≡ name.now ++ codes "." }
     ensures { result ≡ is_name_or_part_of (section_at object.now sec).name name.now }
 {
-    object.section_is_named(sec, name)
-        || object.section_name_begins(sec, prefix) && !object.section_is_named(sec, prefix)
+    object.section_is_named(sec, name) || is_part(object, sec, prefix)
 }
 
 /// Whether the code of a section isn't instrumented.

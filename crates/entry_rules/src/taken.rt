@@ -13,7 +13,7 @@ ghost use Rattle.entry_rules.specs.PointWarns.{PointIsTaken, TakenWarns};
 ghost use Rattle.entry_rules.specs.Taken.{taken_places};
 
 use crate::listing::push_if;
-use crate::rules::TAKEN_WITHOUT_ENDBR;
+use ot_base::rules::TAKEN_WITHOUT_ENDBR;
 use control_flow::entry_of_point;
 use object_points::{PlaceSet, PointPlaces};
 use operation_defs::Op;

@@ -1,22 +1,21 @@
 //! The places whose addresses are taken.
 
-ghost use Rattle.std.specs.Prelude.{◌≡◌, ◌<◌, ◌≤◌, ◌+◌, ◌-◌, ◌++◌, find, length, bytes_eq, IfOk, OnOk, option_map};
+ghost use Rattle.std.specs.Prelude.{◌≡◌, ◌<◌, ◌≤◌, ◌+◌, ◌+ℤ◌, ◌++◌, find, length, bytes_eq, pos, IfOk, IfSome, OnOk};
 ghost use Rattle.elf_objects.specs.Contents.{section_at};
-ghost use Rattle.flow_defs.specs.Targets.{displacement_of as displacement_of_op};
+ghost use Rattle.symbols_relocs.specs.NamedPlaces.{offset_of};
 ghost use Rattle.x86_text.specs.Code.{code_of};
-ghost use Rattle.entry_rules.specs.Placed.{placed};
-ghost use Rattle.entry_rules.specs.Taken.{address_behind as address_behind_of, address_in_code as address_in_code_of, address_in_data as address_in_data_of, addresses_in_section, addresses_in_text, discarded_names, has_byte, is_absolute as is_absolute_kind, is_data as is_data_section, is_displacement as is_displacement_of, is_one_of, may_take_at, place_behind as place_behind_of, special_names, table_names, taken_by_code, taken_by_data, taken_places};
+ghost use Rattle.entry_rules.specs.Taken.{address_behind as address_behind_of, address_in_code as address_in_code_of, address_in_data as address_in_data_of, addresses_in_section, addresses_in_text, discarded_names, displacement_bytes as displacement_bytes_of, has_byte, is_absolute as is_absolute_kind, is_data as is_data_section, is_displacement as is_displacement_of, is_one_of, may_take_at, place_behind as place_behind_of, special_names, table_names, taken_by_code, taken_by_data, taken_places};
 
 use alternatives::SectionText;
 use elf_objects::{
     Home, Object, R_X86_64_32, R_X86_64_32S, R_X86_64_64, R_X86_64_PC32, Reloc, SHF_ALLOC,
 };
 use object_code::Linked;
-use operation_defs::{Insn, Op};
+use operation_defs::Op;
 use ot_base::{NoMemory, Place};
 use std::alloc::Global;
 use symbols_relocs::named_place;
-use x86_text::Text;
+use x86_text::{PlacedInsn, Text};
 
 /// Whether the name of a section is this one.
 fn is_named(object: &Object<'_>, sec: u32, name: &[u8]) -> bool
@@ -89,28 +88,55 @@ fn address_in_data(object: &Object<'_>, reloc: Reloc) -> Option<Place>
     }
 }
 
-/// The instruction of a text that has the byte at an offset, and where it begins.
-fn insn_over(text: &Text<'_>, off: u64) -> Option<(u64, Insn)>
+/// The instruction of a text that has the byte at an offset.
+fn insn_over(text: &Text<'_>, off: u64) -> Option<PlacedInsn>
     requires { length text.now.bytes ≤ 16777216 }
-    ensures { option_map placed result ≡ find (has_byte off) (code_of text.now) }
+    ensures found { result ≡ find (has_byte off) (code_of text.now) }
+    ensures begins { IfSome result (λ p. p.off ≤ off) }
+    ensures ends { IfSome result (λ p. off < p.off + p.insn.len) }
+    ensures inside { IfSome result (λ p. p.off < 16777216) }
 {
-    if text.count() == 0 || off >= text.size() {
+    if text.count() == 0 {
+        return None;
+    }
+    if off >= text.size() {
         return None;
     }
     let begin = text.prev(off + 1)?;
     let insn = text.insn_at(begin)?;
-    Some((begin, insn))
+    Some(PlacedInsn { off: begin, insn })
 }
 
-/// How many bytes the displacement of a direct call or branch has.
+/// How many bytes the displacement of a direct call or branch has, with which the instruction ends.
 fn displacement_bytes(op: Op) -> Option<u64>
-    ensures { result ≡ option_map (λ d. d.bytes) (displacement_of_op op) }
+    ensures value { result ≡ displacement_bytes_of op }
+    ensures few { IfSome result (λ bytes. bytes ≤ 4) }
 {
     match op {
         Op::Call { .. } => Some(4),
         Op::Jmp { wide, .. } | Op::Jcc { wide, .. } => Some(if wide { 4 } else { 1 }),
         _ => None,
     }
+}
+
+/// Whether the field at an offset of an instruction is the displacement of a direct call or branch.
+fn is_displacement(off: u64, placed: PlacedInsn) -> bool
+    requires ends { off < placed.off + placed.insn.len }
+    requires inside { placed.off < 16777216 }
+    ensures { result ≡ is_displacement_of off placed }
+{
+    match displacement_bytes(placed.insn.op) {
+        Some(bytes) => off + bytes == placed.off + u64::from(placed.insn.len),
+        None => false,
+    }
+}
+
+/// The sum of a symbol's value, an addend and a distance in bytes, where 64 bits hold it.
+fn sum_of(value: u64, addend: i64, distance: u64) -> Option<u64>
+    ensures { result ≡ offset_of (pos value +ℤ addend +ℤ pos distance) }
+{
+    let sum = i128::from(value) + i128::from(addend) + i128::from(distance);
+    u64::try_from(sum).ok()
 }
 
 /// The place so many bytes behind the one that a relocation names.
@@ -124,8 +150,7 @@ fn place_behind(object: &Object<'_>, reloc: Reloc, distance: u64) -> Option<Plac
     let Home::Section(sec) = symbol.home else {
         return None;
     };
-    let sum = i128::from(symbol.value) + i128::from(reloc.addend) + i128::from(distance);
-    let off = u64::try_from(sum).ok()?;
+    let off = sum_of(symbol.value, reloc.addend, distance)?;
     Some(Place { sec, off })
 }
 
@@ -134,13 +159,11 @@ fn address_behind(object: &Object<'_>, text: &Text<'_>, reloc: Reloc) -> Option<
     requires { length text.now.bytes ≤ 16777216 }
     ensures { result ≡ address_behind_of object.now reloc (find (has_byte reloc.offset) (code_of text.now)) }
 {
-    let (begin, insn) = insn_over(text, reloc.offset)?;
-    let end = begin + u64::from(insn.len);
-    if let Some(bytes) = displacement_bytes(insn.op)
-        && reloc.offset + bytes == end
-    {
+    let placed = insn_over(text, reloc.offset)?;
+    if is_displacement(reloc.offset, placed) {
         return None;
     }
+    let end = placed.off + u64::from(placed.insn.len);
     place_behind(object, reloc, end - reloc.offset)
 }
 

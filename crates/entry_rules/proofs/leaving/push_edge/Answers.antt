@@ -1,10 +1,10 @@
 use Rattle.std.proofs.Common.{◌≡◌, ◌<◌, inl, inr, sym, ap, ◌∙◌, subst, arith}
 use Rattle.machine_defs.specs.Program.{IsPoint}
-use Rattle.entry_rules.proofs.Gaining.{on_ok}
+use Rattle.std.proofs.lemmas.Result.{on_ok_weaker}
 use Rattle.entry_rules.proofs.leaving.push_edge.Goals as goal
 
 pub returns-in-Sibling : goal.returns-in-Sibling
-returns-in-Sibling c = on_ok c.push_point.result (λ gains. λ p facts knows w.
+returns-in-Sibling c = on_ok_weaker c.push_point.result (λ gains. λ p facts knows w.
     let point : IsPoint p c.args.edge.to = omega (arith, c.requires, knows.tells.count) in
     let own = gains p facts knows point w in (
       λ has. elim (own.0 has) [ inl old ↦ inl old | inr h ↦ inr (c.in-Sibling.is, h) ],

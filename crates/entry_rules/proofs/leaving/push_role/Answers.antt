@@ -7,7 +7,7 @@ use Rattle.machine_defs.specs.IsProgram.{IsCallee}
 use Rattle.machine_defs.specs.Allowances.{EntersFunctions}
 use Rattle.stack_rules.specs.Gains.{Gains}
 use Rattle.entry_rules.specs.PointWarns.{PointIsLeftFor, RoleLeaves, callee_warning}
-use Rattle.entry_rules.proofs.Gaining.{on_ok}
+use Rattle.std.proofs.lemmas.Result.{on_ok_weaker}
 use Rattle.entry_rules.proofs.leaving.push_role.Goals as goal
 
 -- what is called is a point
@@ -29,12 +29,12 @@ both_gains old mid new P Q one other w = (
 )
 
 pub returns-in-CallIn : goal.returns-in-CallIn
-returns-in-CallIn c = on_ok c.push_point.result (λ gains. λ p facts q knows point role.
+returns-in-CallIn c = on_ok_weaker c.push_point.result (λ gains. λ p facts q knows point role.
     subst (λ (r : Role). Gains c.args.into.now.items c.push_point.new.into.items (RoleLeaves p facts c.args.place r)) (sym c.in-CallIn.is)
     (gains p facts knows (callee_point p q c.in-CallIn.entry knows.functions (knows.is_program.calls_entry q c.in-CallIn.entry point (role ∙ c.in-CallIn.is))))) c.push_point.ensures
 
 pub returns-in-CallOut : goal.returns-in-CallOut
-returns-in-CallOut c = on_ok c.push_callee-in-CallOut.result (λ gains. λ p facts q knows point role.
+returns-in-CallOut c = on_ok_weaker c.push_callee-in-CallOut.result (λ gains. λ p facts q knows point role.
     let named : Gains c.args.into.now.items c.push_callee-in-CallOut.new.into.items (λ w. w ≡ callee_warning c.args.place (pos c.in-CallOut.sym)) =
     subst (λ (z : ℤ). Gains c.args.into.now.items c.push_callee-in-CallOut.new.into.items (λ w. w ≡ callee_warning c.args.place z)) (to_z-of_z w64 c.from-in-CallOut.result (search (rules, ints)) ∙ c.from-in-CallOut.ensures) gains in
     elim c.in-CallOut.is [
@@ -43,13 +43,13 @@ returns-in-CallOut c = on_ok c.push_callee-in-CallOut.result (λ gains. λ p fac
     ]) c.push_callee-in-CallOut.ensures
 
 pub returns-in-CallAny : goal.returns-in-CallAny
-returns-in-CallAny c = on_ok c.push_callee-in-CallAny.result (λ gains. λ p facts q knows point role. elim c.in-CallAny.is [
+returns-in-CallAny c = on_ok_weaker c.push_callee-in-CallAny.result (λ gains. λ p facts q knows point role. elim c.in-CallAny.is [
   | inl call ↦ subst (λ (r : Role). Gains c.args.into.now.items c.push_callee-in-CallAny.new.into.items (RoleLeaves p facts c.args.place r)) (sym call) gains
   | inr jump ↦ subst (λ (r : Role). Gains c.args.into.now.items c.push_callee-in-CallAny.new.into.items (RoleLeaves p facts c.args.place r)) (sym jump) gains
 ]) c.push_callee-in-CallAny.ensures
 
 pub returns-in_ok-push_point-in-CallEither : goal.returns-in_ok-push_point-in-CallEither
-returns-in_ok-push_point-in-CallEither c = on_ok c.push_callee.result (λ gains. λ p facts q knows point role.
+returns-in_ok-push_point-in-CallEither c = on_ok_weaker c.push_callee.result (λ gains. λ p facts q knows point role.
     let entry : ℕ = c.in-CallEither.entry in
     let mid : List Warning = c.push_point-in-CallEither.new.into.items in
     let named : Gains mid c.push_callee.new.into.items (λ w. w ≡ callee_warning c.args.place (pos c.in-CallEither.sym)) =
