@@ -22,10 +22,10 @@ points_listed o parts g = sym g.tells.count
 
 -- nothing is added by a rule that isn't asked for, and of one that is, all is
 pub unasked : (asked : Bool) (old : List Warning) (P : Warning → Type 0) → asked ≡ false → Gains old old (λ w. asked ≡ true × P w)
-unasked asked old P no = gains_none old (λ w. asked ≡ true × P w) (λ w k. let both : false ≡ true = sym no ∙ k.0 in let z : ⊥ = cc in z)
+unasked asked old P off = gains_none old (λ w. asked ≡ true × P w) (λ w k. let both : false ≡ true = sym off ∙ k.0 in let z : ⊥ = cc in z)
 
 pub asked_for : (asked : Bool) (old new : List Warning) (P : Warning → Type 0) → asked ≡ true → Gains old new P → Gains old new (λ w. asked ≡ true × P w)
-asked_for asked old new P yes gains = gains_same old new P (λ w. asked ≡ true × P w) gains (λ w. (λ h. (yes, h), λ k. k.1))
+asked_for asked old new P on gains = gains_same old new P (λ w. asked ≡ true × P w) gains (λ w. (λ h. (on, h), λ k. k.1))
 
 -- the warnings of all rules, whatever their order
 pub all_asked : (p : Program) (facts : EntryFacts) (options : EntryOptions) (none one two three sorted : List Warning) → none ≡ []

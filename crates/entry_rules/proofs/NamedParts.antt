@@ -17,7 +17,7 @@ module _ (name prefix : List ℕ) where
   longer true same begins = sym (le-ltb (length prefix) (length name) (let e : length name ≡ length prefix = ap length (same.0 refl) in omega arith))
   longer false same begins = elim (cases_lt (length prefix) (length name)) [
     | inl more ↦ sym (lt-ltb (length prefix) (length name) more)
-    | inr short ↦ same.1 (sym (take_all (length prefix) name short) ∙ begins) ∙ sym (le-ltb (length prefix) (length name) short)
+    | inr short ↦ sym (same.1 (sym (take_all (length prefix) name short) ∙ begins)) ∙ sym (le-ltb (length prefix) (length name) short)
   ]
 
   pub is_longer : (begins alone : Bool) → IsTrue begins ↔ (take (length prefix) name ≡ prefix) → IsTrue alone ↔ (name ≡ prefix) → (begins && not alone) ≡ is_part name prefix

@@ -86,11 +86,11 @@ over_nothing off (q ∷ code) e = let k : ⊥ = omega (arith, e) in absurd k
 
 -- what has the byte begins at it or before it, and ends behind it
 pub finds_over : (off : ℕ) (code : List PlacedInsn) (p : PlacedInsn) → find (has_byte off) code ≡ Some p → has_byte off p ≡ true
-finds_over off (q ∷ code) p e = by_test (has_byte off q) refl e
+finds_over off (q ∷ code) p e = by_test (λ h. finds_over off code p h) (has_byte off q) refl e
   where
-    by_test : (t : Bool) → has_byte off q ≡ t → cond t (Some q) (find (has_byte off) code) ≡ Some p → has_byte off p ≡ true
-    by_test true has h = subst (λ (x : PlacedInsn). has_byte off x ≡ true) (let k = h in cc) has
-    by_test false misses h = finds_over off code p h
+    by_test : (find (has_byte off) code ≡ Some p → has_byte off p ≡ true) → (t : Bool) → has_byte off q ≡ t → cond t (Some q) (find (has_byte off) code) ≡ Some p → has_byte off p ≡ true
+    by_test rest true has h = let same : q ≡ p = let k = h in cc in subst (λ (x : PlacedInsn). has_byte off x ≡ true) same has
+    by_test rest false misses h = rest h
 finds_over off [] p e = absurd (none-some p e)
 
 pub over_ends : (off : ℕ) (p : PlacedInsn) → has_byte off p ≡ true → off < p.off + p.insn.len

@@ -23,7 +23,7 @@ returns-clause-warnings c lists tells =
     record {
       ascend = c.sort_warnings.ensures.ascending;
       all = all_warned p (facts_of o) c.args.options sorted is
-        (all_asked p (facts_of o) c.args.options c.new-warnings.result.items c.push_noinstr.new.into.items c.push_sls.new.into.items c.push_ibt.new.into.items sorted c.new-warnings.ensures
+        (all_asked p (facts_of o) c.args.options c.new-warnings.result.items c.push_noinstr.new.into.items c.push_sls.new.into.items c.push_ibt.new.into.items sorted c.new-warnings.ensures.items
           (c.in_ok-push_noinstr.ensures lists tells) (c.in_ok-push_sls.ensures lists tells) (c.in_ok-push_ibt.ensures lists tells) c.sort_warnings.ensures.members);
     }
 

@@ -28,7 +28,7 @@ returns c = on_ok_weaker c.push_taken.result (λ h lists tells.
     let new : List _ = c.push_taken.new.into.items in
     let gains : Gains old new (TakenWarns (program_of o lists) (facts_of o)) =
     subst (λ (x : Coded). Tells (program_of x lists) c.args.graph.now.parts → Gains old new (TakenWarns (program_of x lists) (facts_of x))) c.in_ok-places.ensures (h lists) tells in
-    asked_for c.args.options.ibt old new (TakenWarns (program_of o lists) (facts_of o)) c.if-not-options_ibt.false gains) c.push_taken.ensures
+    asked_for c.args.options.ibt old new (TakenWarns (program_of o lists) (facts_of o)) c.if-not-options.false gains) c.push_taken.ensures
 
-pub returns-then-not-options_ibt : goal.returns-then-not-options_ibt
-returns-then-not-options_ibt c lists tells = unasked c.args.options.ibt c.args.into.now.items (TakenWarns (program_of c.args.linked.now lists) (facts_of c.args.linked.now)) c.if-not-options_ibt.true
+pub returns-then-not-options : goal.returns-then-not-options
+returns-then-not-options c lists tells = unasked c.args.options.ibt c.args.into.now.items (TakenWarns (program_of c.args.linked.now lists) (facts_of c.args.linked.now)) c.if-not-options.true

@@ -25,7 +25,7 @@ returns c = on_ok_weaker c.push_leaving.result (λ h lists tells.
       functions = c.program_has_functions.ensures o lists;
       noinstr = told;
     } in
-    asked_for c.args.options.noinstr c.args.into.now.items c.push_leaving.new.into.items (LeavingWarns p facts) c.if-not-options_noinstr.false (h p facts knows)) c.push_leaving.ensures
+    asked_for c.args.options.noinstr c.args.into.now.items c.push_leaving.new.into.items (LeavingWarns p facts) c.if-not-options.false (h p facts knows)) c.push_leaving.ensures
 
-pub returns-then-not-options_noinstr : goal.returns-then-not-options_noinstr
-returns-then-not-options_noinstr c lists tells = unasked c.args.options.noinstr c.args.into.now.items (LeavingWarns (program_of c.args.linked.now lists) (facts_of c.args.linked.now)) c.if-not-options_noinstr.true
+pub returns-then-not-options : goal.returns-then-not-options
+returns-then-not-options c lists tells = unasked c.args.options.noinstr c.args.into.now.items (LeavingWarns (program_of c.args.linked.now lists) (facts_of c.args.linked.now)) c.if-not-options.true

@@ -10,7 +10,7 @@ push_bare-requires c = points_listed c.args.linked.now c.args.graph.now.parts c.
 
 pub returns : goal.returns
 returns c = on_ok_weaker c.push_bare.result (λ h lists tells.
-    asked_for c.args.options.sls c.args.into.now.items c.push_bare.new.into.items (BareWarns (program_of c.args.linked.now lists)) c.if-not-options_sls.false (h lists tells)) c.push_bare.ensures
+    asked_for c.args.options.sls c.args.into.now.items c.push_bare.new.into.items (BareWarns (program_of c.args.linked.now lists)) c.if-not-options.false (h lists tells)) c.push_bare.ensures
 
-pub returns-then-not-options_sls : goal.returns-then-not-options_sls
-returns-then-not-options_sls c lists tells = unasked c.args.options.sls c.args.into.now.items (BareWarns (program_of c.args.linked.now lists)) c.if-not-options_sls.true
+pub returns-then-not-options : goal.returns-then-not-options
+returns-then-not-options c lists tells = unasked c.args.options.sls c.args.into.now.items (BareWarns (program_of c.args.linked.now lists)) c.if-not-options.true

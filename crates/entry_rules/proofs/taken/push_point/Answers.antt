@@ -24,5 +24,5 @@ returns-then-is_endbr c lists tells =
     let p : Program = program_of c.args.places.now lists in
     none_at_endbr c.args.places.now lists c.args.n c.args.into.now.items (sym (ap (λ (i : Insn). is_endbr i.op) (c.insn.ensures p tells)) ∙ sym c.is_endbr.ensures ∙ c.if-is_endbr.true)
 
-pub returns-in-None : goal.returns-in-None
-returns-in-None c lists tells = none_entered c.args.places.now lists c.args.n c.args.into.now.items c.entry_of_point.result c.entry_of_point.ensures.is c.in-None.is
+pub returns-in_default : goal.returns-in_default
+returns-in_default c lists tells = none_entered c.args.places.now lists c.args.n c.args.into.now.items c.entry_of_point.result c.entry_of_point.ensures.is c.in_default.is
