@@ -1,6 +1,5 @@
 -- The rules that are asked for, one behind the other.
-use Rattle.std.proofs.Common.{◌≡◌, ◌↔◌, ℕ, Bool, true, false, List, [], ◌⊎◌, Contains, length, sym, ap, ◌∙◌, refl, subst}
-use Rattle.ot_base.specs.NameLists.{NameLists}
+use Rattle.std.proofs.Common.{◌≡◌, ◌↔◌, Bool, true, false, not, List, [], ◌⊎◌, Contains, length, sym, ◌∙◌, refl, subst}
 use Rattle.ot_base.specs.declared.warning.Warning.{Warning}
 use Rattle.flow_defs.specs.Code.{points_of_object}
 use Rattle.flow_defs.specs.Coded.{Coded}
@@ -20,12 +19,20 @@ pub points_listed : (o : Coded) (parts : GraphParts) → IsGraphOf o parts → l
 unfolding program_of returning_graph graph_of
 points_listed o parts g = sym g.tells.count
 
--- nothing is added by a rule that isn't asked for, and of one that is, all is
-pub unasked : (asked : Bool) (old : List Warning) (P : Warning → Type 0) → asked ≡ false → Gains old old (λ w. asked ≡ true × P w)
-unasked asked old P off = gains_none old (λ w. asked ≡ true × P w) (λ w k. let both : false ≡ true = sym off ∙ k.0 in let z : ⊥ = cc in z)
+is_on : (b : Bool) → not b ≡ false → b ≡ true
+is_on true e = refl
+is_on false e = sym e
 
-pub asked_for : (asked : Bool) (old new : List Warning) (P : Warning → Type 0) → asked ≡ true → Gains old new P → Gains old new (λ w. asked ≡ true × P w)
-asked_for asked old new P on gains = gains_same old new P (λ w. asked ≡ true × P w) gains (λ w. (λ h. (on, h), λ k. k.1))
+is_off : (b : Bool) → not b ≡ true → b ≡ false
+is_off true e = sym e
+is_off false e = refl
+
+-- nothing is added by a rule that isn't asked for, and of one that is, all is
+pub unasked : (asked : Bool) (old : List Warning) (P : Warning → Type 0) → not asked ≡ true → Gains old old (λ w. asked ≡ true × P w)
+unasked asked old P off = gains_none old (λ w. asked ≡ true × P w) (λ w k. let both : false ≡ true = sym (is_off asked off) ∙ k.0 in let z : ⊥ = cc in z)
+
+pub asked_for : (asked : Bool) (old new : List Warning) (P : Warning → Type 0) → not asked ≡ false → Gains old new P → Gains old new (λ w. asked ≡ true × P w)
+asked_for asked old new P on gains = gains_same old new P (λ w. asked ≡ true × P w) gains (λ w. (λ h. (is_on asked on, h), λ k. k.1))
 
 -- the warnings of all rules, whatever their order
 pub all_asked : (p : Program) (facts : EntryFacts) (options : EntryOptions) (none one two three sorted : List Warning) → none ≡ []

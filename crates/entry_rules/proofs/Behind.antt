@@ -1,13 +1,11 @@
 -- The point right behind another, and whether it is an INT3.
-use Rattle.std.proofs.Common.{◌≡◌, ℕ, ◌+◌, ◌<◌, Bool, true, false, cond, List, Contains, Some, length, get_or, refl, sym, ap, ◌∙◌, subst, inl, inr, arith}
-use Rattle.std.specs.Prelude.{◌==◌, ◌&&◌, All, unwrap_or}
+use Rattle.std.proofs.Common.{◌≡◌, ℕ, ◌+◌, ◌<◌, Bool, true, false, cond, Contains, length, get_or, refl, sym, ap, ◌∙◌, inl, inr}
+use Rattle.std.specs.Prelude.{◌==◌, ◌&&◌}
 use Rattle.std.specs.List.{list_any}
-use Rattle.std.proofs.lemmas.Bool.{and_from, and_left, and_parts, and_right, cases_Bool, eq-eqb, eqb-true, false_from_ne_true, false≢true}
+use Rattle.std.proofs.lemmas.Bool.{and_from, and_parts, cases_Bool, eq-eqb, eqb-true, false_from_ne_true, false≢true}
 use Rattle.std.proofs.lemmas.List.{get_or_default}
 use Rattle.std.proofs.lemmas.List.Folds.{list_any_none, list_any-from_Any}
 use Rattle.ot_base.specs.NameLists.{NameLists}
-use Rattle.ot_base.specs.declared.place.Place.{Place}
-use Rattle.operation_defs.specs.declared.insn.Insn.{Insn}
 use Rattle.operation_defs.specs.declared.op.Op.{Op}
 use Rattle.operation_defs.specs.declared.op.Op.TheVariants as ops
 use Rattle.alternatives.specs.declared.point.Point.{Point}
@@ -19,7 +17,7 @@ use Rattle.flow_defs.specs.Code.{no_point, point_at, points_of_object}
 use Rattle.flow_defs.specs.Coded.{Coded}
 use Rattle.flow_defs.specs.Program.{graph_of, program_of, returning_graph}
 use Rattle.unwinding_law.proofs.Lists.{from_below, in_below}
-use Rattle.entry_rules.specs.EntryWarns.{is_before_int3, is_int3, is_right_behind}
+use Rattle.entry_rules.specs.EntryWarns.{is_before_int3, is_int3}
 
 -- An INT3 stays one in the program, and nothing becomes one.
 either_way : (b : Bool) (one other : Op) → is_int3 one ≡ false → is_int3 other ≡ false → is_int3 (cond b one other) ≡ false

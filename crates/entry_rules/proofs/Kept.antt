@@ -1,5 +1,5 @@
 -- A program that breaks none of the entry rules keeps what they promise.
-use Rattle.std.proofs.Common.{◌≡◌, ℕ, Bool, true, false, List, ◌⊎◌, inl, inr, not, refl, sym, ap, ◌∙◌, subst}
+use Rattle.std.proofs.Common.{◌≡◌, ℕ, Bool, true, false, inl, inr, refl, sym, ap, ◌∙◌, subst}
 use Rattle.std.specs.Prelude.{Contains, IsTrue}
 use Rattle.machine_defs.specs.declared.flow.Role.{Role}
 use Rattle.machine_defs.specs.declared.flow.Role.TheVariants as roles
@@ -7,19 +7,18 @@ use Rattle.machine_defs.specs.declared.flow.Edge.{Edge}
 use Rattle.machine_defs.specs.declared.flow.EdgeKind.TheVariants.{Sibling}
 use Rattle.ot_base.specs.declared.place.Place.{Place}
 use Rattle.machine_defs.specs.IsProgram.{IsCallee, IsProgram}
-use Rattle.machine_defs.specs.Kept.{can_go, edges_of}
+use Rattle.machine_defs.specs.Kept.{can_go}
 use Rattle.machine_defs.specs.Machine.{At, Bases, Machine, Standing, Wrecked}
 use Rattle.machine_defs.specs.MayReturn.{may_call_out}
 use Rattle.machine_defs.specs.Program.{IsPoint, Program, edge, entry_points}
-use Rattle.machine_defs.specs.Run.{Run}
 use Rattle.machine_defs.specs.Step.{IsTarget, JumpsTo, Step, calls_in, calls_out, faults, goes_on, indirect, interrupted, irets, may_go_back, returns, sibling, tail_calls, wrecks}
 use Rattle.unwinding_law.proofs.Lists.{in_filter}
 use Rattle.option_law.proofs.Effects.{landed}
 use Rattle.entry_rules.specs.declared.options.EntryOptions.{EntryOptions}
-use Rattle.entry_rules.specs.EntryWarns.{IsClean, LeavesNoinstr, bare_jump, bare_return, calls, calls_anywhere, calls_outside, calls_weak, calls_weak_outside, is_before_int3, is_endbr, is_indirect_jump, is_noinstr, is_return, jumps, jumps_anywhere, jumps_outside, leaves_noinstr, taken_bare}
+use Rattle.entry_rules.specs.EntryWarns.{IsClean, LeavesNoinstr, bare_jump, bare_return, calls, calls_anywhere, calls_outside, calls_weak_outside, is_before_int3, is_endbr, is_noinstr, jumps, jumps_anywhere, jumps_outside, leaves_noinstr, taken_bare}
 use Rattle.entry_rules.specs.Facts.{EntryFacts}
-use Rattle.entry_rules.specs.Law.{ArrivesAtPlaces, ComesToEndbr, EntryLaw, IsBeforeInt3, StaysThere, StepsInside, StepsToEndbr}
-use Rattle.entry_rules.proofs.RunPoints.{StandsAtPoint, StandsThere, run_there}
+use Rattle.entry_rules.specs.Law.{ArrivesAtPlaces, ComesToEndbr, EntryLaw, IsBeforeInt3, StepsInside, StepsToEndbr}
+use Rattle.entry_rules.proofs.RunPoints.{StandsThere, run_there}
 
 unless_false : (b : Bool) → (b ≡ false → ⊥) → b ≡ true
 unless_false true h = refl

@@ -1,5 +1,5 @@
 -- What comes to a place of an object runs there.
-use Rattle.std.proofs.Common.{◌≡◌, ℕ, ◌-◌, ◌<◌, true, cond, Contains, length, sym, ap, ◌∙◌, subst}
+use Rattle.std.proofs.Common.{◌≡◌, ℕ, ◌-◌, true, cond, Contains, sym, ap, subst}
 use Rattle.std.specs.Prelude.{filter}
 use Rattle.ot_base.specs.NameLists.{NameLists}
 use Rattle.alternatives.specs.declared.point.Point.{Point}

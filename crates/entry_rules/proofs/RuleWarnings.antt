@@ -1,6 +1,5 @@
 -- The warnings of all rules together are those that the definition tells.
-use Rattle.std.proofs.Common.{◌≡◌, ◌↔◌, ℕ, Bool, true, false, List, [], ◌⊎◌, inl, inr, Contains, ℤ, pos, refl, sym, ap, subst}
-use Rattle.std.specs.Prelude.{negsuc}
+use Rattle.std.proofs.Common.{◌≡◌, ◌↔◌, ℕ, true, List, [], ◌⊎◌, inl, inr, Contains, ℤ, refl, sym, ap, subst}
 use Rattle.ot_base.specs.declared.place.Place.{Place}
 use Rattle.ot_base.specs.declared.warning.Warning.{Warning}
 use Rattle.ot_base.specs.Warnings.{numbered_warning}
@@ -9,16 +8,15 @@ use Rattle.machine_defs.specs.declared.flow.EdgeKind.{EdgeKind}
 use Rattle.machine_defs.specs.declared.flow.EdgeKind.TheVariants.{Sibling}
 use Rattle.machine_defs.specs.declared.flow.Role.{Role}
 use Rattle.machine_defs.specs.declared.flow.Role.TheVariants as roles
-use Rattle.machine_defs.specs.Program.{IsPoint, Program, edge, entry_points}
+use Rattle.machine_defs.specs.Program.{Program, edge}
 use Rattle.machine_defs.specs.IsProgram.{IsProgram}
 use Rattle.machine_defs.specs.Kept.{edges_of}
 use Rattle.unwinding_law.proofs.Lists.{nowhere}
 use Rattle.stack_rules.specs.Gains.{Gains}
 use Rattle.entry_rules.specs.declared.options.EntryOptions.{EntryOptions}
-use Rattle.entry_rules.specs.EntryWarns.{EntryWarns, IsClean, LeavesNoinstr, bare_jump, bare_return, calls, calls_anywhere, calls_outside, calls_weak, calls_weak_outside, is_noinstr, jumps, jumps_anywhere, jumps_outside, leaves_noinstr, taken_bare}
+use Rattle.entry_rules.specs.EntryWarns.{EntryWarns, IsClean, LeavesNoinstr, bare_jump, bare_return, calls, calls_anywhere, calls_outside, calls_weak, calls_weak_outside, jumps, jumps_anywhere, jumps_outside, leaves_noinstr, taken_bare}
 use Rattle.entry_rules.specs.Facts.{EntryFacts}
-use Rattle.entry_rules.specs.Law.{ArrivesAtPlaces}
-use Rattle.entry_rules.specs.PointWarns.{BareWarns, EdgesLeave, LeavingWarns, PointLeaves, RoleLeaves, TakenWarns, callee_warning}
+use Rattle.entry_rules.specs.PointWarns.{BareWarns, EdgesLeave, LeavingWarns, RoleLeaves, TakenWarns, callee_warning}
 
 module _ (p : Program) (facts : EntryFacts) (q : ℕ) where
   -- Rule 51 at a point, by its role and its edges.

@@ -1,12 +1,11 @@
 -- Runs stand at points, and so do the calls of their frames.
-use Rattle.std.proofs.Common.{◌≡◌, ℕ, List, [], ◌∷◌, Option, Some, None, refl, sym, ap, ◌∙◌, subst}
-use Rattle.std.specs.Prelude.{Contains}
+use Rattle.std.proofs.Common.{◌≡◌, ℕ, List, [], ◌∷◌, Some, sym, ap, subst}
 use Rattle.machine_defs.specs.declared.flow.EdgeKind.TheVariants.{Fixup, Sibling}
 use Rattle.state_defs.specs.Frame.{Frame, Slot}
 use Rattle.state_defs.specs.Effect.{Core}
 use Rattle.machine_defs.specs.IsProgram.{IsProgram}
 use Rattle.machine_defs.specs.Machine.{At, Bases, Machine, Standing, Wrecked}
-use Rattle.machine_defs.specs.Program.{IsPoint, Program, edge, entry_points}
+use Rattle.machine_defs.specs.Program.{IsPoint, Program, edge}
 use Rattle.machine_defs.specs.Run.{Run, Start, StartsFrom, at_call_hint, at_end_hint, at_entry, at_regs_hint, outermost, started, stepped}
 use Rattle.machine_defs.specs.Step.{JumpsTo, Step, calls_in, calls_out, call_frame, faults, goes_on, indirect, interrupt_frame, interrupted, irets, op_at, returns, sibling, tail_calls, wrecks}
 use Rattle.unwinding_law.proofs.Shadow.{IsSlotChange, effect_shape, no_frame, top}

@@ -1,15 +1,14 @@
 -- An entry at which control may come to stand at a point, and whether its address is taken.
-use Rattle.std.proofs.Common.{◌≡◌, ◌↔◌, ℕ, Bool, true, false, IsTrue, Option, Some, None, List, Contains, refl, sym, ap, ◌∙◌, subst}
+use Rattle.std.proofs.Common.{◌≡◌, ◌↔◌, ℕ, Bool, true, false, IsTrue, Option, Some, None, List, Contains, refl, sym, ap, ◌∙◌}
 use Rattle.std.proofs.lemmas.Option.{none-some}
 use Rattle.ot_base.specs.NameLists.{NameLists}
 use Rattle.ot_base.specs.Warnings.{bare_warning}
 use Rattle.ot_base.specs.declared.place.Place.{Place}
 use Rattle.ot_base.specs.declared.rules.TheConstants.{TAKEN_WITHOUT_ENDBR}
 use Rattle.ot_base.specs.declared.warning.Warning.{Warning}
-use Rattle.flow_defs.specs.Code.{point_at}
 use Rattle.flow_defs.specs.Coded.{Coded}
 use Rattle.flow_defs.specs.Program.{graph_of, program_of, returning_graph}
-use Rattle.machine_defs.specs.Program.{Program, entry_points}
+use Rattle.machine_defs.specs.Program.{entry_points}
 use Rattle.control_flow.specs.Entered.{IsEnteredAt}
 use Rattle.object_points.specs.Places.{is_among}
 use Rattle.stack_rules.specs.Gains.{Gains}
@@ -50,10 +49,10 @@ module _ (o : Coded) (lists : NameLists) (n : ℕ) where
       gains_same old new (λ w. IsTrue contained × w ≡ bare_warning place TAKEN_WITHOUT_ENDBR) (PointIsTaken (program_of o lists) (facts_of o) n) gains (λ w. (
         λ (h, e). (entry, entered entry ((is entry).1 some), sym told ∙ h, other, e ∙ ap (λ (x : Place). bare_warning x TAKEN_WITHOUT_ENDBR) at),
         λ (other_entry, comes, taken, bare, e).
-          let same : other_entry ≡ entry = some_is (sym ((is other_entry).0 (enters other_entry comes.0 comes.1)) ∙ some) in (
-            told ∙ ap (facts_of o).taken (sym same) ∙ taken,
-            e ∙ ap (λ (x : ℕ). bare_warning ((program_of o lists).place x) TAKEN_WITHOUT_ENDBR) same ∙ ap (λ (x : Place). bare_warning x TAKEN_WITHOUT_ENDBR) (sym at),
-          ),
+            let same : other_entry ≡ entry = some_is (sym ((is other_entry).0 (enters other_entry comes.0 comes.1)) ∙ some) in (
+              told ∙ ap (facts_of o).taken (sym same) ∙ taken,
+              e ∙ ap (λ (x : ℕ). bare_warning ((program_of o lists).place x) TAKEN_WITHOUT_ENDBR) same ∙ ap (λ (x : Place). bare_warning x TAKEN_WITHOUT_ENDBR) (sym at),
+            ),
       ))
     where
       told : contained ≡ (facts_of o).taken entry

@@ -1,7 +1,7 @@
 -- What an object says that the entry rules look at.
 use Rattle.std.specs.Prelude.{ℕ, ◌&&◌, ◌||◌, nat_lt, Bool, List, [], ◌∷◌, ◌++◌, length, take, bytes_eq, codes}
 use Rattle.std.specs.List.{list_any}
-use Rattle.elf_objects.specs.Elf.{Elf, SectionEntry}
+use Rattle.elf_objects.specs.Elf.{SectionEntry}
 use Rattle.elf_objects.specs.Contents.{is_text, section_at}
 use Rattle.flow_defs.specs.Code.{point_at}
 use Rattle.flow_defs.specs.Coded.{Coded}

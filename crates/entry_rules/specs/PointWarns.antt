@@ -9,9 +9,8 @@ use Rattle.machine_defs.specs.declared.flow.Role.{Role}
 use Rattle.machine_defs.specs.declared.flow.Role.TheVariants.{CallIn, CallEither, CallOut, CallAny, JumpOut, JumpAny}
 use Rattle.machine_defs.specs.Kept.{edges_of}
 use Rattle.machine_defs.specs.Program.{IsPoint, Program, entry_points}
-use Rattle.entry_rules.specs.declared.options.EntryOptions.{EntryOptions}
 use Rattle.ot_base.specs.declared.rules.TheConstants.{CALL_LEAVES_NOINSTR, JUMP_WITHOUT_INT3, RETURN_WITHOUT_INT3, TAKEN_WITHOUT_ENDBR}
-use Rattle.entry_rules.specs.EntryWarns.{EntryWarns, LeavesNoinstr, callee_number, is_before_int3, is_endbr, is_indirect_jump, is_noinstr, is_return}
+use Rattle.entry_rules.specs.EntryWarns.{LeavesNoinstr, callee_number, is_before_int3, is_endbr, is_indirect_jump, is_noinstr, is_return}
 use Rattle.entry_rules.specs.Facts.{EntryFacts}
 
 -- a warning of rule 51

@@ -1,10 +1,10 @@
-use Rattle.std.proofs.Common.{◌≡◌, List, sym, ap, ◌∙◌}
+use Rattle.std.proofs.Common.{sym, ap, ◌∙◌}
 use Rattle.std.proofs.lemmas.Result.{on_ok_weaker}
 use Rattle.operation_defs.specs.declared.insn.Insn.{Insn}
 use Rattle.flow_defs.specs.Program.{program_of}
 use Rattle.machine_defs.specs.Program.{Program}
 use Rattle.entry_rules.specs.EntryWarns.{is_indirect_jump, is_return}
-use Rattle.entry_rules.proofs.BarePoints.{none_before_int3, none_otherwise, one_bare}
+use Rattle.entry_rules.proofs.BarePoints.{none_before_int3, one_bare}
 use Rattle.entry_rules.proofs.bare.push_point.Goals as goal
 
 pub returns : goal.returns

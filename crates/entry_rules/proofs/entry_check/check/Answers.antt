@@ -1,13 +1,9 @@
-use Rattle.std.proofs.Common.{◌≡◌, ◌↔◌, List, [], Contains, sym}
-use Rattle.ot_base.specs.NameLists.{NameLists}
+use Rattle.std.proofs.Common.{List}
 use Rattle.ot_base.specs.declared.warning.Warning.{Warning}
 use Rattle.flow_defs.specs.Coded.{Coded}
 use Rattle.flow_defs.specs.Program.{program_of}
 use Rattle.machine_defs.specs.IsProgram.{IsProgram}
 use Rattle.machine_defs.specs.Program.{Program}
-use Rattle.program_graph.specs.Tells.{Tells}
-use Rattle.entry_rules.specs.EntryWarns.{EntryWarns}
-use Rattle.entry_rules.specs.Facts.{EntryFacts}
 use Rattle.entry_rules.specs.ObjectFacts.{facts_of}
 use Rattle.entry_rules.proofs.AskedRules.{all_asked}
 use Rattle.entry_rules.proofs.ObjectPlaces.{arrives_at_places}
@@ -23,7 +19,7 @@ returns-clause-warnings c lists tells =
     record {
       ascend = c.sort_warnings.ensures.ascending;
       all = all_warned p (facts_of o) c.args.options sorted is
-        (all_asked p (facts_of o) c.args.options c.new-warnings.result.items c.push_noinstr.new.into.items c.push_sls.new.into.items c.push_ibt.new.into.items sorted c.new-warnings.ensures.items
+          (all_asked p (facts_of o) c.args.options c.new-warnings.result.items c.push_noinstr.new.into.items c.push_sls.new.into.items c.push_ibt.new.into.items sorted c.new-warnings.ensures.items
           (c.in_ok-push_noinstr.ensures lists tells) (c.in_ok-push_sls.ensures lists tells) (c.in_ok-push_ibt.ensures lists tells) c.sort_warnings.ensures.members);
     }
 

@@ -1,4 +1,4 @@
-use Rattle.std.proofs.Common.{◌≡◌, List, sym, ap, ◌∙◌, length, subst}
+use Rattle.std.proofs.Common.{List, sym, ap, ◌∙◌, length, subst}
 use Rattle.std.proofs.lemmas.Result.{on_ok_weaker}
 use Rattle.ot_base.specs.declared.place.Place.{Place}
 use Rattle.flow_defs.specs.Code.{points_of_object}

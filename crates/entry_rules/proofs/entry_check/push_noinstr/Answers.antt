@@ -1,4 +1,4 @@
-use Rattle.std.proofs.Common.{◌≡◌, ◌∙◌, ℕ, sym, ap}
+use Rattle.std.proofs.Common.{◌∙◌, Bool, List, sym, ap, subst}
 use Rattle.std.proofs.lemmas.Result.{on_ok_weaker}
 use Rattle.elf_objects.specs.Contents.{section_at}
 use Rattle.elf_objects.specs.Elf.{Elf}
@@ -18,8 +18,10 @@ returns c = on_ok_weaker c.push_leaving.result (λ h lists tells.
     let o : Coded = c.args.linked.now in
     let p : Program = program_of o lists in
     let facts : EntryFacts = facts_of o in
-    let told : TellsNoinstr facts c.in_ok-flags.flags.items = λ sec. sym (c.in_ok-flags.ensures sec ∙ ap (λ (e : Elf). is_noinstr_section (section_at e sec)) c.object.ensures) in
-    let knows : Knows p facts c.args.graph.now.parts c.in_ok-flags.flags.items = record {
+    let flags : List Bool = c.deref.result.now in
+    let told : TellsNoinstr facts flags =
+    subst (TellsNoinstr facts) (sym c.deref.ensures.value) (λ sec. sym (c.in_ok-flags.ensures sec ∙ ap (λ (e : Elf). is_noinstr_section (section_at e sec)) c.object.ensures)) in
+    let knows : Knows p facts c.args.graph.now.parts flags = record {
       tells = tells;
       is_program = c.program_is_one.ensures o lists c.object_is_in_order.ensures.bytes c.object_is_in_order.ensures.special;
       functions = c.program_has_functions.ensures o lists;

@@ -1,4 +1,3 @@
-use Rattle.std.proofs.Common.{◌≡◌}
 use Rattle.std.proofs.lemmas.Result.{on_ok_weaker}
 use Rattle.flow_defs.specs.Program.{program_of}
 use Rattle.entry_rules.specs.PointWarns.{BareWarns}

@@ -1,4 +1,4 @@
-use Rattle.std.proofs.Common.{◌≡◌, ◌<◌, inl, inr, sym, ap, ◌∙◌, subst, arith}
+use Rattle.std.proofs.Common.{inl, inr, arith}
 use Rattle.machine_defs.specs.Program.{IsPoint}
 use Rattle.std.proofs.lemmas.Result.{on_ok_weaker}
 use Rattle.entry_rules.proofs.leaving.push_edge.Goals as goal

@@ -1,4 +1,4 @@
-use Rattle.std.proofs.Common.{◌≡◌, List, Bool, false, inl, inr, ℤ, pos, rules, w64, sym, ap, ◌∙◌}
+use Rattle.std.proofs.Common.{◌≡◌, false, inl, inr, ℤ, pos, rules, w64, sym, ap, ◌∙◌}
 use Rattle.std.proofs.lemmas.Int.{ints, to_z-of_z}
 use Rattle.ot_base.specs.Warnings.{numbered_warning}
 use Rattle.entry_rules.specs.EntryWarns.{is_noinstr}

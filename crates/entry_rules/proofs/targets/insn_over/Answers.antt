@@ -1,8 +1,6 @@
 -- The last instruction that begins at the byte or before it.
-use Rattle.std.proofs.Common.{◌≡◌, ◌<◌, ◌≤◌, ◌+◌, Some, length, refl, sym, ◌∙◌, arith}
-use Rattle.std.specs.Prelude.{find}
-use Rattle.x86_text.specs.Code.{IsBoundary, code_of, start}
-use Rattle.entry_rules.specs.Taken.{has_byte}
+use Rattle.std.proofs.Common.{◌<◌, ◌≤◌, ◌+◌, length, refl, sym, arith}
+use Rattle.x86_text.specs.Code.{code_of, start}
 use Rattle.entry_rules.proofs.OverBytes.{finds_over, over_ends, over_found, over_none}
 use Rattle.entry_rules.proofs.targets.insn_over.Goals as goal
 

@@ -2,14 +2,12 @@
 use Rattle.std.proofs.Common.{◌≡◌, ◌<◌, ◌≤◌, ℕ, Bool, List, [], ◌++◌, length, get_or, sym, ap, ◌∙◌, subst, arith}
 use Rattle.std.specs.Prelude.{filter, flat_map}
 use Rattle.std.proofs.lemmas.List.{take_all}
-use Rattle.ot_base.specs.declared.place.Place.{Place}
 use Rattle.elf_objects.specs.Elf.{Elf}
-use Rattle.alternatives.specs.Texts.{text_bytes}
 use Rattle.alternatives.specs.declared.texts.SectionText.{SectionText}
 use Rattle.flow_defs.specs.Code.{texts_of}
 use Rattle.flow_defs.specs.Coded.{Coded}
 use Rattle.entry_rules.specs.Taken.{addresses_in_text, may_take_at, taken_by_code}
-use Rattle.entry_rules.proofs.ObjectTexts.{text_short, text_within}
+use Rattle.entry_rules.proofs.ObjectTexts.{text_within}
 use Rattle.entry_rules.proofs.TakenLists.{joined_more, none_joined}
 use Rattle.entry_rules.proofs.targets.list_code.Goals as goal
 use Rattle.entry_rules.proofs.targets.list_code.Goals.{then-may_take+in_ok-push_text, else-may_take}
@@ -38,3 +36,14 @@ returns c =
     let o : Coded = c.args.linked.now in
     let past : length (texts_of o) ≤ c.loop-text.text-index = omega (arith, c.loop-text-test.false, ap (λ (ts : List SectionText). length ts) c.texts-text-items.ensures.value) in
     c.loop-text.invariant ∙ ap (λ (ts : List SectionText). flat_map (addresses_in_text o.elf) (filter (λ (t : SectionText). may_take_at o.elf t.sec) ts)) (take_all c.loop-text.text-index (texts_of o) past)
+
+-- a text is of a section of the object, and short enough
+pub may_take-requires : goal.may_take-requires
+may_take-requires c =
+    let o : Coded = c.args.linked.now in
+    let i : ℕ = c.loop-text.text-index in
+    let t : SectionText = c.text-item.result in
+    let same = c.texts-text-items.ensures.value in
+    let inside : i < length (texts_of o) = omega (arith, c.loop-text-test.true, ap (λ (ts : List SectionText). length ts) same) in
+    let at : get_or (texts_of o) i t ≡ t = ap (λ (ts : List SectionText). get_or ts i t) (sym same) ∙ sym c.text-item.is in
+    subst (λ (e : Elf). t.sec < length e.sections) (sym c.object-object.ensures) (text_within o t i inside at)
