@@ -1,8 +1,9 @@
 -- Sections for which a section symbol can be made.
-use Rattle.std.proofs.Common.{◌≡◌, ℕ, ◌<◌, ◌≤◌, Bool, true, false, List, length, get_or, Option, Some, None, refl, sym, ◌∙◌, ap, inl, inr, arith}
-use Rattle.std.specs.Prelude.{◌==◌, ◌||◌, IsSome, nat_lt}
+use Rattle.std.proofs.Common.{◌≡◌, ℕ, ◌≤◌, true, false, length, get_or, Option, Some, None, refl, sym, ◌∙◌, ap, inl, inr, arith}
+use Rattle.std.specs.Prelude.{◌==◌, IsSome, nat_lt}
 use Rattle.std.specs.List.{list_any}
 use Rattle.std.proofs.lemmas.Bool.{and_parts, false≢true, ltb-true, or_cases}
+use Rattle.std.proofs.lemmas.List.{get_or_default}
 use Rattle.std.proofs.lemmas.List.Folds.{Any-from_list_any}
 use Rattle.elf_objects.specs.Contents.{no_section, section_at}
 use Rattle.elf_objects.specs.Elf.{Elf, SectionEntry}
@@ -20,7 +21,7 @@ has_table o some = by_found (index_table o) refl
     by_found None e =
         let any = Any-from_list_any (λ (s : SectionEntry). s.kind == SHT_SYMTAB_SHNDX) o.sections some in
         let none : ((section_at o any.0).kind == SHT_SYMTAB_SHNDX) ≡ false = least_below-none (λ i. (section_at o i).kind == SHT_SYMTAB_SHNDX) (length o.sections) e any.0 any.2 in
-        let is : get_or o.sections any.0 no_section ≡ any.1 = any.3 in
+        let is : get_or o.sections any.0 no_section ≡ any.1 = get_or_default o.sections any.0 no_section any.1 any.2 ∙ any.3 in
         absurd (false≢true (sym none ∙ ap (λ (s : SectionEntry). s.kind == SHT_SYMTAB_SHNDX) is ∙ any.4))
 
 pub record CanName (o : Elf) (sec : ℕ) : Type 0 where

@@ -1,7 +1,5 @@
-use Rattle.std.proofs.Common.{◌≡◌, ℕ, ◌<◌, ◌∙◌, false, length, sym, arith}
-use Rattle.elf_objects.specs.Contents.{section_at}
+use Rattle.std.proofs.Common.{◌<◌, ◌∙◌, length, sym, arith}
 use Rattle.elf_objects.specs.Elf.{Elf}
-use Rattle.site_output.specs.SiteOutput.{is_site_name}
 use Rattle.site_output.proofs.NoSites.{all_other, first_site, no_site}
 use Rattle.site_output.proofs.existing.first_site_section.Goals as goal
 
