@@ -2,7 +2,7 @@ mod Faults
 mod OrcSections
 mod SmallSites
 mod Verdicts
-mod RowForms
-mod RowOrder
+pub mod RowForms
+pub mod RowOrder
 mod Found
 pub mod OneCount

@@ -28,7 +28,6 @@ use Rattle.unwinding_law.proofs.KeptStates.{kept_consistent}
 use Rattle.unwinding_law.proofs.Lists.{all_of, from_flat_map}
 use Rattle.table_law.proofs.Lists.{some_is}
 use Rattle.table_law.proofs.Sections.{end_row, from_ended, left_is_row, rows_left}
-use Rattle.orc_bytes.specs.RowBytes.{IsRow}
 use Rattle.eh_frame.specs.RowFrames.{IsFrameRow}
 use Rattle.object_law.specs.Rows.{IsPlacedRow}
 
@@ -54,48 +53,49 @@ state_tells (Regs false depth) is = record { sp_reg = λ e. absurd (omega (arith
 zero_tells : TellsFrame zero_row
 zero_tells = record { sp_reg = λ e. absurd (omega (arith, e)); bp_reg = λ e. absurd (omega (arith, e)) }
 
-module _ (p : Program) (states : ℕ → Option State) (kept : AreKeptStates p states) (each : (q : ℕ) (s : State) → Kept p q s → TellsFrame (row_of s)) where
-  point_tells : (q : ℕ) → TellsFrame (row_of_point states q)
-  point_tells q = go (states q) refl
+-- what holds of the rows of a program's states, and of the row that says that nothing is known
+module _ (p : Program) (states : ℕ → Option State) (P : Row → Type 0) (nothing : P zero_row) (each : (q : ℕ) (s : State) → states q ≡ Some s → P (row_of s)) where
+  of_point : (q : ℕ) → P (row_of_point states q)
+  of_point q = go (states q) refl
     where
-      go : (s : Option State) → states q ≡ s → TellsFrame (row_or_zero s)
-      go None is = zero_tells
-      go (Some s) is = each q s ((kept q s).0 is)
+      go : (s : Option State) → states q ≡ s → P (row_or_zero s)
+      go None is = nothing
+      go (Some s) is = each q s is
 
-  found_tells : (found : Option ℕ) (row : Row) → option_map (row_of_point states) found ≡ Some row → TellsFrame row
-  found_tells None row is = absurd (let k : ⊥ = cc in k)
-  found_tells (Some q) row is = subst TellsFrame (some_is is) (point_tells q)
+  of_found : (found : Option ℕ) (row : Row) → option_map (row_of_point states) found ≡ Some row → P row
+  of_found None row is = absurd (let k : ⊥ = cc in k)
+  of_found (Some q) row is = subst P (some_is is) (of_point q)
 
-  site_tells : (site : Site) (place : Place) (row : Row) → row_in_site p states site place ≡ Some row → TellsFrame row
-  site_tells site place row is = by_kept (is_kept_site p states site) (same_place site.start place) is
+  of_site : (site : Site) (place : Place) (row : Row) → row_in_site p states site place ≡ Some row → P row
+  of_site site place row is = by_kept (is_kept_site p states site) (same_place site.start place) is
     where
-      by_kept : (b c : Bool) → cond b (option_map (row_of_point states) (kept_at p states place)) (cond c (Some zero_row) None) ≡ Some row → TellsFrame row
-      by_kept true c is = found_tells (kept_at p states place) row is
-      by_kept false true is = subst TellsFrame (some_is is) zero_tells
+      by_kept : (b c : Bool) → cond b (option_map (row_of_point states) (kept_at p states place)) (cond c (Some zero_row) None) ≡ Some row → P row
+      by_kept true c is = of_found (kept_at p states place) row is
+      by_kept false true is = subst P (some_is is) nothing
       by_kept false false is = absurd (let k : ⊥ = cc in k)
 
-  -- so does each row that begins at a place
-  row_tells : (place : Place) (row : Row) → row_at p states place ≡ Some row → TellsFrame row
-  row_tells place row is = go (site_at p place) is
+  -- holds of each row that begins at a place
+  pub of_row : (place : Place) (row : Row) → row_at p states place ≡ Some row → P row
+  of_row place row is = go (site_at p place) is
     where
-      go : (site : Option Site) → row_by p states site place ≡ Some row → TellsFrame row
-      go None is = found_tells (plain_at p place) row is
-      go (Some site) is = site_tells site place row is
+      go : (site : Option Site) → row_by p states site place ≡ Some row → P row
+      go None is = of_found (plain_at p place) row is
+      go (Some site) is = of_site site place row is
 
-  -- and each of the program's rows
-  each_tells : (x : PlacedRow) → Contains (rows_of p states) x → TellsFrame x.row
-  each_tells x c =
+  -- and of each of the program's rows
+  pub of_each : (x : PlacedRow) → Contains (rows_of p states) x → P x.row
+  of_each x c =
       let one = from_flat_map (section_rows p states) p.texts x c in
       let text : TextSection = one.0 in
       elim (from_ended text (rows_left (row_at p states) text) x one.2) [
         | inl left ↦
             let r = left_is_row (row_at p states) text x left in
-            row_tells (place_in text x.place.off) x.row r.row_is
-        | inr end ↦ subst TellsFrame (sym (ap (λ (z : PlacedRow). z.row) end)) zero_tells
+            of_row (place_in text x.place.off) x.row r.row_is
+        | inr end ↦ subst P (sym (ap (λ (z : PlacedRow). z.row) end)) nothing
       ]
 
-frame_row : (row : Row) → IsRow row → TellsFrame row → IsFrameRow row
-frame_row row fields tells = record { fields = fields; sp_reg = tells.sp_reg; bp_reg = tells.bp_reg }
+frame_row : (o : Coded) (x : PlacedRow) → IsPlacedRow o x → TellsFrame x.row → IsFrameRow x.row
+frame_row o x placed tells = record { fields = placed.row; sp_reg = tells.sp_reg; bp_reg = tells.bp_reg }
 
 pub rows_are_frame_rows : (o : Coded) (lists : NameLists) (states : ℕ → Option State) → MoveIsConsistent → IsProgram (program_of o lists) → HintsStandAtPoints (program_of o lists) → AreKeptStates (program_of o lists) states
     → All (IsPlacedRow o) (rows_of (program_of o lists) states) → All (λ placed. IsFrameRow placed.row) (rows_of (program_of o lists) states)
@@ -103,5 +103,5 @@ rows_are_frame_rows o lists states keeps is hints kept placed =
     let p : Program = program_of o lists in
     let all : List PlacedRow = rows_of p states in
     all_of (λ (x : PlacedRow). IsFrameRow x.row) all
-    (λ x c. frame_row x.row (All-contains (IsPlacedRow o) all x placed c).row
-    (each_tells p states kept (λ q s k. state_tells s (kept_consistent p is keeps q s (kept_are_points p is hints q s k) k)) x c))
+    (λ x c. frame_row o x (All-contains (IsPlacedRow o) all x placed c)
+    (of_each p states TellsFrame zero_tells (λ q s at. let k = (kept q s).0 at in state_tells s (kept_consistent p is keeps q s (kept_are_points p is hints q s k) k)) x c))

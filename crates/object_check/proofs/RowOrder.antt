@@ -1,9 +1,10 @@
 -- The rows of an object's program strictly ascend by their places.
-use Rattle.std.proofs.Common.{◌≡◌, ℕ, ◌<◌, ◌⊎◌, Bool, true, false, cond, List, [], ◌∷◌, ◌++◌, Option, Contains, map, filter, flat_map, length, refl, sym, ap, ◌∙◌, subst, inl, inr, arith}
-use Rattle.std.specs.Prelude.{AllPairs}
+use Rattle.std.proofs.Common.{◌≡◌, ℕ, ◌<◌, ◌⊎◌, Bool, true, false, cond, List, [], ◌∷◌, ◌++◌, Option, Some, None, Contains, map, filter, flat_map, length, refl, sym, ap, ◌∙◌, subst, inl, inr, arith}
+use Rattle.std.specs.Prelude.{AllPairs, option_map}
 use Rattle.std.specs.List.{range_with_len}
 use Rattle.std.proofs.lemmas.List.Elements.{Contains-append_cases}
 use Rattle.std.proofs.lemmas.List.Kept.{AllPairs-cons}
+use Rattle.std.proofs.lemmas.Option.{none-some}
 use Rattle.ot_base.specs.NameLists.{NameLists}
 use Rattle.ot_base.specs.Rows.{same_row}
 use Rattle.ot_base.specs.Section.{TextSection}
@@ -18,12 +19,13 @@ use Rattle.flow_defs.specs.Code.{text_numbers}
 use Rattle.flow_defs.specs.Coded.{Coded}
 use Rattle.flow_defs.specs.Program.{graph_of, program_of, returning_graph, text_sections_of}
 use Rattle.machine_defs.specs.Program.{Program}
-use Rattle.machine_defs.specs.Rows.{row_at, rows_of, section_rows, with_end, without_repeats}
+use Rattle.machine_defs.specs.Rows.{place_in, placed, row_at, rows_of, section_rows, with_end, without_repeats}
 use Rattle.table_defs.specs.Order.{ComesBefore}
 use Rattle.alternatives.proofs.Ascending.{Rising, every-in, every-map, every-weaker, in_contains, rising-filter, rising-range}
 use Rattle.unwinding_law.proofs.Lists.{all_of, cases, from_flat_map, nowhere, there, here}
-use Rattle.table_law.proofs.Compress.{Rises, left_in}
-use Rattle.table_law.proofs.Sections.{end_row, from_ended, left_is_row, rises, rows_at, rows_left}
+use Rattle.table_law.proofs.Compress.{Rises, left_in, rises_below}
+use Rattle.table_law.proofs.Lists.{some_is}
+use Rattle.table_law.proofs.Sections.{end_row, from_ended, left_is_row, row_from, rows_at, rows_left}
 
 -- each element is in a relation to all behind it
 abbrev Ascends : {X : Type 0} → (X → X → Type 0) → List X → Type 0
@@ -46,7 +48,7 @@ abbrev Before : PlacedRow → PlacedRow → Type 0
 Before one other = ComesBefore one.place other.place
 
 -- rows that are left of rows that rise, rise
-rises_left : (before : Row) (xs : List PlacedRow) → Rises xs → Rises (without_repeats before xs)
+pub rises_left : (before : Row) (xs : List PlacedRow) → Rises xs → Rises (without_repeats before xs)
 rises_left before [] h = tt
 rises_left before (x ∷ xs) h = go (same_row before x.row) (rises_left before xs h.1) (rises_left x.row xs h.1)
   where
@@ -61,11 +63,15 @@ in_section sec (x ∷ xs) own h =
     ((λ y c. inr (own x (here x xs) ∙ sym (own y (there x xs y c)), h.0 y c)), in_section sec xs (λ y c. own y (there x xs y c)) h.1)
 
 module _ (row : Place → Option Row) (text : TextSection) where
+  offset_is : (off : ℕ) (o : Option Row) (x : PlacedRow) → option_map (placed (place_in text off)) o ≡ Some x → x.place.off ≡ off
+  offset_is off None x e = absurd (none-some _ e)
+  offset_is off (Some r) x e = sym (ap (λ (z : PlacedRow). z.place.off) (some_is e))
+
   own_section : (x : PlacedRow) → Contains (rows_left row text) x → x.place.sec ≡ text.sec
   own_section x c = ap (λ (z : Place). z.sec) (left_is_row row text x c).place
 
   left_ascend : Ascends Before (rows_left row text)
-  left_ascend = in_section text.sec (rows_left row text) own_section (rises_left zero_row (rows_at row text) (rises row text))
+  left_ascend = in_section text.sec (rows_left row text) own_section (rises_left zero_row (rows_at row text) (rises_below (row_from row text) (λ off x e. offset_is off (row (place_in text off)) x e) text.size))
 
   end_alone : Ascends Before (end_row text ∷ [])
   end_alone = ((λ y c. nowhere y c), tt)
@@ -84,7 +90,7 @@ module _ (row : Place → Option Row) (text : TextSection) where
       go [] h between = tt
       go (x ∷ xs) h between = joined Before (x ∷ xs) (end_row text ∷ []) h end_alone between
 
-  section_own : (x : PlacedRow) → Contains (with_end text (rows_left row text)) x → x.place.sec ≡ text.sec
+  pub section_own : (x : PlacedRow) → Contains (with_end text (rows_left row text)) x → x.place.sec ≡ text.sec
   section_own x c = elim (from_ended text (rows_left row text) x c) [
     | inl left ↦ own_section x left
     | inr is ↦ ap (λ (z : PlacedRow). z.place.sec) is
@@ -103,7 +109,7 @@ texts_ascend p states (text ∷ texts) h =
     inl (omega (arith, later, left, right)))
 
 -- the text sections of an object do
-sections_rise : (o : Elf) → Rising (λ (t u : TextSection). t.sec < u.sec) (text_sections_of o)
+pub sections_rise : (o : Elf) → Rising (λ (t u : TextSection). t.sec < u.sec) (text_sections_of o)
 unfolding text_sections_of
 sections_rise o = mapped (text_numbers o) (rising-filter (λ i j. i < j) (λ i. is_text (section_at o i)) (range_with_len 0 (length o.sections)) (rising-range 0 (length o.sections)))
   where

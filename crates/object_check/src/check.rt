@@ -70,12 +70,12 @@ pub fn check_code(
     options: Options,
 ) -> Result<ObjectVerdict, NoMemory>
     requires { (o : Coded) × (lists : NameLists) × IsCodeOf o lists options code }
-    ensures ok { (o : Coded) (lists : NameLists) → IsCodeOf o lists options code.entry → IfOk result (IsFound o lists options) }
+    ensures ok { (o : Coded) (lists : NameLists) → IsCodeOf o lists options code → IfOk result (IsFound o lists options) }
     // The rows can be added to the object, and unwind its program.
-    ensures rows { (o : Coded) (lists : NameLists) → IsCodeOf o lists options code.entry → IfOk result (λ outcome. OnAccepted outcome (CanHaveRows o.elf)) }
+    ensures rows { (o : Coded) (lists : NameLists) → IsCodeOf o lists options code → IfOk result (λ outcome. OnAccepted outcome (CanHaveRows o.elf)) }
     // What the options promise of every run of its program.
-    ensures promises { (o : Coded) (lists : NameLists) → IsCodeOf o lists options code.entry → IfOk result (λ outcome. OnAccepted outcome (λ rows. KeepsPromises o lists options)) }
-    ensures unwinds { (o : Coded) (lists : NameLists) → IsCodeOf o lists options code.entry → IfOk result (λ outcome. OnAccepted outcome (RowsUnwind o lists)) }
+    ensures promises { (o : Coded) (lists : NameLists) → IsCodeOf o lists options code → IfOk result (λ outcome. OnAccepted outcome (λ rows. KeepsPromises o lists options)) }
+    ensures unwinds { (o : Coded) (lists : NameLists) → IsCodeOf o lists options code → IfOk result (λ outcome. OnAccepted outcome (RowsUnwind o lists)) }
 {
     program_is_one();
     program_is_laid_out();
