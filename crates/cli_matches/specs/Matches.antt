@@ -44,19 +44,39 @@ pub record SaysCheck (rows : List Row) (input output : Word) (options : CheckOpt
 abbrev pub SaysPair : List Row → (first second : Text) → Word → Word → Type 0
 SaysPair rows first second one other = (first_of first rows ≡ Some one) × (first_of second rows ≡ Some other)
 
+-- the word of a command, beside which others may stand
+abbrev pub name_of : Command → Option Text
+name_of (check input output options names) = Some (codes "check")
+name_of (dump file) = Some (codes "dump")
+name_of (unwind file image) = Some (codes "unwind")
+name_of (sites input output map names) = Some (codes "sites")
+name_of (list file) = Some (codes "list")
+name_of (cfi input output map names) = Some (codes "cfi")
+name_of (cfa file) = Some (codes "cfa")
+name_of (merge layout output) = Some (codes "merge")
+name_of (find table address) = Some (codes "find")
+name_of (demo n) = Some (codes "demo")
+name_of help = None
+name_of version = None
+
+-- the matches of its arguments say what it has
+abbrev pub SaysArguments : List Row → Command → Type 0
+SaysArguments rows (check input output options names) = SaysCheck rows input output options names
+SaysArguments rows (dump file) = first_of (codes "FILE") rows ≡ Some file
+SaysArguments rows (unwind file image) = SaysPair rows (codes "FILE") (codes "IMAGE") file image
+SaysArguments rows (sites input output map names) = SaysRewriting rows input output map names
+SaysArguments rows (list file) = first_of (codes "FILE") rows ≡ Some file
+SaysArguments rows (cfi input output map names) = SaysRewriting rows input output map names
+SaysArguments rows (cfa file) = first_of (codes "FILE") rows ≡ Some file
+SaysArguments rows (merge layout output) = SaysPair rows (codes "LAYOUT") (codes "OUT") layout output
+SaysArguments rows (find table address) = (text : Word) × SaysPair rows (codes "TABLE") (codes "ADDR") table text × (address_of text ≡ Some address)
+SaysArguments rows (demo n) = (text : Word) × (first_of (codes "N") rows ≡ Some text) × (number_of text ≡ Some n)
+SaysArguments rows _ = ⊥
+
 -- a subcommand with its matches says this command
 abbrev pub Says : Option (Text × List Row) → Command → Type 0
-Says (Some found) (check input output options names) = (found.0 ≡ codes "check") × SaysCheck found.1 input output options names
-Says (Some found) (dump file) = (found.0 ≡ codes "dump") × (first_of (codes "FILE") found.1 ≡ Some file)
-Says (Some found) (unwind file image) = (found.0 ≡ codes "unwind") × SaysPair found.1 (codes "FILE") (codes "IMAGE") file image
-Says (Some found) (sites input output map names) = (found.0 ≡ codes "sites") × SaysRewriting found.1 input output map names
-Says (Some found) (list file) = (found.0 ≡ codes "list") × (first_of (codes "FILE") found.1 ≡ Some file)
-Says (Some found) (cfi input output map names) = (found.0 ≡ codes "cfi") × SaysRewriting found.1 input output map names
-Says (Some found) (cfa file) = (found.0 ≡ codes "cfa") × (first_of (codes "FILE") found.1 ≡ Some file)
-Says (Some found) (merge layout output) = (found.0 ≡ codes "merge") × SaysPair found.1 (codes "LAYOUT") (codes "OUT") layout output
-Says (Some found) (find table address) = (found.0 ≡ codes "find") × (text : Word) × SaysPair found.1 (codes "TABLE") (codes "ADDR") table text × (address_of text ≡ Some address)
-Says (Some found) (demo n) = (found.0 ≡ codes "demo") × (text : Word) × (first_of (codes "N") found.1 ≡ Some text) × (number_of text ≡ Some n)
-Says found command = ⊥
+Says (Some found) command = (name_of command ≡ Some found.0) × SaysArguments found.1 command
+Says None command = ⊥
 
 -- the matches of a command's own arguments
 abbrev pub rows_in : ArgMatches → List Row
