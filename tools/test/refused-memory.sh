@@ -3,14 +3,19 @@
 # refused too: it ends with status 6, what it told is a beginning of the text that it tells with ample memory, and OUT is as
 # it was. Where one alone is refused, all may be done as well: a list that can't grow to twice its length asks again for what
 # it needs.
+#
+# And `demo 3` makes at least as many requests as the three calls that it is made of: one that made up its numbers would make fewer. These
+# calls are a test of command_tests, run alone by the program of tests that `rt ci` leaves; or TESTS names that program.
 set -eu
 . "$(dirname "$0")/../lib/prepare.sh"
 needs "refused memory" gcc as ld python3
 program=$(built)
-failed() { echo "refused memory: $*"; exit 1; }
+tests=$(realpath -m "${TESTS:-$root/crates/command_tests/out/command_tests_tests}")
+failed() { echo "refused memory: FAILED, $*"; exit 1; }
+[ -x "$tests" ] || failed "no program of tests: rt ci makes it"
 cd "$scratch"
 
-gcc -O1 -shared -fPIC -o refuse.so "$root/tools/test/refused-memory/refuse.c" -ldl
+gcc -O1 -shared -fPIC -o refuse.so "$here/refused-memory/refuse.c" -ldl
 
 # object NAME: what the assembler makes of its standard input, passed through ld -r, which gives sections a symbol.
 object() { as -o assembled - && ld -r -o "$1.o" assembled; }
@@ -21,6 +26,7 @@ leaf jumping 'test %rax, %rax\n\tje 1f\n\tpush %rbp\n\tmov %rsp, %rbp\n\tpop %rb
 leaf vector 'vzeroupper\n\tret'
 leaf broken 'push %rbx\n\tje 1f\n\tcall far\n\tud2\n1:\tret\n\tret'
 leaf unclosed 'ret\n\t.section .orc_unwind,"a"\n\t.text'
+leaf thunks 'call __x86_indirect_thunk_rax\n\tcall far\n\tjmp __x86_return_thunk'
 leaf access 'stac\n\tcall near\n\tclac\n\tret'
 head -c 300 straight.o >cut.o
 # Code of two sections, one of them a function's seldom part; a call that doesn't return, and one through a pointer; a jump
@@ -119,7 +125,7 @@ faulty unsited <<<'	.section .altinstructions,"a"
 	.long leaf - ., leaf - .
 	.word 5, 0
 	.byte 2, 1'
-faulty listed <<<'	.section .discard.func_stack_frame_non_standard,""
+faulty unlisted <<<'	.section .discard.func_stack_frame_non_standard,""
 	.quad leaf + 1'
 faulty sized <<<'	.type other, @function
 	.set other, leaf + 1
@@ -160,6 +166,13 @@ printf 'regs 1 2 3\nmem ffffffffffffffff 0000\n' >wraps
 printf 'regs 1 2 3\nplace 2 1000\n' >misplaced
 printf 'regs 1005 8000 5\nplace 1 1000\nmem 8008 0210000000000000\n' >in_second
 "$program" check ended.o ended.checked.o || failed "an object isn't accepted"
+# Site lists, call frame information, and a table of two objects; a layout that names none, and one in which sections lie over one another.
+"$program" sites thunks.o listed.o && "$program" cfi jumping.o framed.o || failed "an object isn't given lists or frames"
+printf 'file table.o\nplace 1 1000\nfile ended.checked.o\nplace 1 2000\n' >layout
+printf 'file table.o\nplace 1 1000\nfile none.o\nplace 1 2000\n' >lacking_layout
+printf 'file table.o\nplace 1 1000\nfile ended.checked.o\nplace 1 1001\n' >crowded_layout
+"$program" merge layout merged || failed "a table isn't merged"
+head -c 40 merged >cut_table
 cp straight.o itself.o
 
 # The worked objects that together come to every request of `check`, with their tables and an image for each: at the first
@@ -207,7 +220,7 @@ commands=(
     "2 check unclosed.o out"
     "2 check hinted.o out"
     "2 check unsited.o out"
-    "2 check listed.o out"
+    "2 check unlisted.o out"
     "2 check sized.o out"
     "2 check straight.o out --names=faulty_names"
     "4 check straight.o no/out"
@@ -219,6 +232,24 @@ commands=(
     "2 unwind table.o wraps"
     "2 unwind table.o misplaced"
     "0 demo 3"
+    "0 sites thunks.o out"
+    "0 sites many.o out --all-opcodes --names=names"
+    "2 sites vector.o out"
+    "2 sites listed.o out"
+    "0 list listed.o"
+    "2 list cut.o"
+    "0 cfi jumping.o out"
+    "0 cfi special.o out --all-opcodes --names=names"
+    "1 cfi broken.o out"
+    "2 cfi framed.o out"
+    "0 cfa framed.o"
+    "2 cfa cut.o"
+    "0 merge layout out"
+    "2 merge lacking_layout out"
+    "2 merge crowded_layout out"
+    "2 merge names out"
+    "0 find merged 2001"
+    "2 find cut_table 1000"
     "1 check a-site-that-pushes.o out"
     "1 check a-jump-table-that-ends.o out"
     "1 check a-call-with-user-access-on.o out --uaccess"
@@ -264,3 +295,13 @@ for command in "${commands[@]}"; do
     total=$((total + count))
 done
 echo "refused memory: $total requests of ${#commands[@]} commands"
+
+# count WORD..: how many requests a program makes, which has to end with status 0 and print the line of `demo 3`.
+count() {
+    COUNT=$scratch/count LD_PRELOAD=$scratch/refuse.so "$@" >printed
+    grep -qx 'demo 3: functions 3, instructions 15, rows 11, text bytes 29' printed && cat count
+}
+parts=$(count "$tests" tests::calls::demo_3_in_three_calls) || failed "the three calls print no line of demo 3"
+whole=$(count "$program" demo 3) || failed "demo 3 prints another line"
+[ "$parts" -gt 100 ] && [ "$whole" -ge "$parts" ] || failed "demo 3 makes $whole requests, and its three calls $parts"
+echo "refused memory: demo 3 makes $whole requests, and its three calls $parts"
