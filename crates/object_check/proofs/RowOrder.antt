@@ -48,7 +48,7 @@ abbrev Before : PlacedRow → PlacedRow → Type 0
 Before one other = ComesBefore one.place other.place
 
 -- rows that are left of rows that rise, rise
-pub rises_left : (before : Row) (xs : List PlacedRow) → Rises xs → Rises (without_repeats before xs)
+rises_left : (before : Row) (xs : List PlacedRow) → Rises xs → Rises (without_repeats before xs)
 rises_left before [] h = tt
 rises_left before (x ∷ xs) h = go (same_row before x.row) (rises_left before xs h.1) (rises_left x.row xs h.1)
   where
@@ -70,8 +70,12 @@ module _ (row : Place → Option Row) (text : TextSection) where
   own_section : (x : PlacedRow) → Contains (rows_left row text) x → x.place.sec ≡ text.sec
   own_section x c = ap (λ (z : Place). z.sec) (left_is_row row text x c).place
 
+  -- they rise
+  pub rows_rise : Rises (rows_left row text)
+  rows_rise = rises_left zero_row (rows_at row text) (rises_below (row_from row text) (λ off x e. offset_is off (row (place_in text off)) x e) text.size)
+
   left_ascend : Ascends Before (rows_left row text)
-  left_ascend = in_section text.sec (rows_left row text) own_section (rises_left zero_row (rows_at row text) (rises_below (row_from row text) (λ off x e. offset_is off (row (place_in text off)) x e) text.size))
+  left_ascend = in_section text.sec (rows_left row text) own_section rows_rise
 
   end_alone : Ascends Before (end_row text ∷ [])
   end_alone = ((λ y c. nowhere y c), tt)

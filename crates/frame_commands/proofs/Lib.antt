@@ -1,0 +1,7 @@
+mod Stops
+mod Content
+mod Gets
+mod CfiEnds
+pub mod CfiLaws
+pub mod CfaLaws
+mod RuleLines

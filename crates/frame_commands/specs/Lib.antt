@@ -1,0 +1,6 @@
+pub mod Order
+pub mod Written
+pub mod Cfi
+pub mod Checked
+pub mod Cfa
+pub mod Refused
