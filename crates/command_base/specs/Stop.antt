@@ -12,6 +12,9 @@ use Rattle.command_base.specs.declared.usage.Usage as declared
 use Rattle.command_base.specs.declared.stop.CommandStop.{CommandStop}
 use Rattle.command_base.specs.declared.stop.CommandStop.TheVariants.{Usage, Missing, TooLong, Refused, PartMissing, PartTooLong, PartRefused, FileFault, NoMemory}
 
+abbrev pub missing_text : List ℕ → List ℕ
+missing_text file = escaped file ++ codes " is missing"
+
 abbrev pub longer_text : List ℕ → ℕ → List ℕ
 longer_text file limit = escaped file ++ codes " is longer than " ++ decimal limit ++ codes " bytes"
 
@@ -25,10 +28,10 @@ usage_at word kind = record { word = word; kind = kind }
 
 abbrev pub line_of : CommandStop → List ℕ
 line_of (Usage usage) = codes "usage: " ++ usage_text usage ++ codes "\n"
-line_of (Missing file) = codes "refused: " ++ escaped file.now ++ codes " is missing\n"
+line_of (Missing file) = codes "refused: " ++ missing_text file.now ++ codes "\n"
 line_of (TooLong file limit) = codes "refused: " ++ longer_text file.now limit ++ codes "\n"
 line_of (Refused refusal) = codes "refused: " ++ refusal_text refusal ++ codes "\n"
-line_of (PartMissing part file) = codes "refused: file " ++ decimal part ++ codes ": " ++ escaped file.now ++ codes " is missing\n"
+line_of (PartMissing part file) = codes "refused: file " ++ decimal part ++ codes ": " ++ missing_text file.now ++ codes "\n"
 line_of (PartTooLong part file limit) = codes "refused: file " ++ decimal part ++ codes ": " ++ longer_text file.now limit ++ codes "\n"
 line_of (PartRefused part refusal) = codes "refused: file " ++ decimal part ++ codes ": " ++ refusal_text refusal ++ codes "\n"
 line_of (FileFault file) = codes "file fault: " ++ escaped file.now ++ codes "\n"

@@ -82,6 +82,23 @@ pub fn of_part<'a>(part: u32, stop: CommandStop<'a>) -> CommandStop<'a>
     }
 }
 
+/// That no file has a name.
+#[derive(Clone, Copy)]
+struct Absent<'a> {
+    file: Escaped<'a>,
+}
+
+impl fmt::Display for Absent<'_> {
+    ghost use Rattle.std.specs.Prelude.{Some};
+    ghost use Rattle.command_base.specs.Stop.{missing_text};
+
+    ghost output = { λ a. Some (missing_text a.file.0.now) };
+
+    fn fmt<W: fmt::Write>(&self, f: &mut fmt::Formatter<W>) -> fmt::Result {
+        write!(f, "{} is missing", self.file)
+    }
+}
+
 /// That a file is longer than a limit.
 #[derive(Clone, Copy)]
 struct Longer<'a> {
@@ -111,7 +128,7 @@ impl fmt::Display for CommandStop<'_> {
             CommandStop::Usage(usage) => write!(f, "usage: {usage}\n"),
             CommandStop::Missing { file } => {
                 let file = Escaped(file.as_bytes());
-                write!(f, "refused: {file} is missing\n")
+                write!(f, "refused: {}\n", Absent { file })
             }
             CommandStop::TooLong { file, limit } => {
                 let file = Escaped(file.as_bytes());
@@ -120,7 +137,7 @@ impl fmt::Display for CommandStop<'_> {
             CommandStop::Refused(refusal) => write!(f, "refused: {refusal}\n"),
             CommandStop::PartMissing { part, file } => {
                 let file = Escaped(file.as_bytes());
-                write!(f, "refused: file {part}: {file} is missing\n")
+                write!(f, "refused: file {part}: {}\n", Absent { file })
             }
             CommandStop::PartTooLong { part, file, limit } => {
                 let file = Escaped(file.as_bytes());
