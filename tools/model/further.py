@@ -5,6 +5,7 @@ import random
 from typing import NamedTuple, Optional
 
 from commands import Answer
+from entry import entry
 from frames import cfa, cfi
 from merge import find, merge
 from mutate import mutated
@@ -40,6 +41,14 @@ def written_objects(program: Program, data: bytes, whole: bool, names: Optional[
             changed = mutated(answer.written, rng)
             found += told_apart(program, {"changed": changed}, [reader, "changed"], read(changed))
     return found
+
+
+def entry_rules(program: Program, data: bytes, whole: bool, names: Optional[bytes], rng: random.Random) -> list[Difference]:
+    """What differs in the entry rules, by lot of their options."""
+    rules = rng.random() < 0.6, rng.random() < 0.6, rng.random() < 0.6
+    options = [f"--{name}" for name, given in zip(("noinstr", "sls", "ibt"), rules) if given] + ["--all-opcodes"] * whole
+    files = {"in.o": data} | ({"names": names} if names is not None else {})
+    return told_apart(program, files, ["entry", "in.o", *options, *["--names=names"] * (names is not None)], entry(data, rules, whole, names))
 
 
 def layout_by_lot(names: list[str], sizes: list[int], rng: random.Random) -> str:

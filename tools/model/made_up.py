@@ -2,7 +2,8 @@
 
 Object after object, the program checks it with the options of its turn, in a folder of its own. Its status, its lines and what it
 writes are compared with the model's answer, and where the object is accepted, its rows with those that `dump` prints. Each fourth
-object is also given site lists and call frame information, and the last accepted ones a merged table (further.py). The
+object is also given site lists and call frame information and checked against the entry rules, and the last accepted ones are given
+a merged table (further.py). The
 program must leave all other files alone. Before the made-up objects come the worked ones and those of single features. Objects
 with different answers are kept in the folder KEPT. The objects of FOLDER, as those of a kernel's build, are changed by lot too;
 where they are large, of the changed ones only the form of the answer is asked. The objects are shared out to as many processes as
@@ -24,7 +25,7 @@ from commands import Answer
 from containers import container_by_lot
 from entries import entries_by_lot
 from features import FEATURES
-from further import Difference, merged_tables, written_objects
+from further import Difference, entry_rules, merged_tables, written_objects
 from generate import made_object
 from mutate import mutated
 from program import Program, Run, differences, is_well_formed
@@ -151,7 +152,8 @@ class Comparison:
     def further(self, case: Case) -> list[Difference]:
         """What is different in what else an object can be given."""
         rng = random.Random(hashlib.sha256(case.data).digest())
-        found = written_objects(self.program, case.data, "--all-opcodes" in case.options, case.names, rng)
+        how = self.program, case.data, "--all-opcodes" in case.options, case.names, rng
+        found = written_objects(*how) + entry_rules(*how)
         return found + merged_tables(self.program, self.accepted, rng)
 
     def keep_files(self, difference: Difference, what: str) -> None:
