@@ -28,7 +28,7 @@ text_rule name letter action = record (flag_rule name action) { short = Some let
 abbrev pub names_rule : Rule
 names_rule = record (new_rule (codes "names")) { long = Some (codes "names"); value_names = 1 }
 
--- with the options that `check`, `sites` and `cfi` have
+-- with the options that `check`, `sites`, `entry` and `cfi` have
 abbrev pub with_common_options : App → App
 with_common_options app = with_rule (with_rule app (switch_rule (codes "all-opcodes"))) names_rule
 
@@ -56,6 +56,14 @@ check_app =
     let app = with_rule app (switch_rule (codes "rethunk")) in
     let app = with_rule app (switch_rule (codes "uaccess")) in
     let app = with_rule app (switch_rule (codes "no-unreachable")) in
+    with_common_options app
+
+abbrev pub entry_app : App
+entry_app =
+    let app = with_rule (command_app (codes "entry")) (place_rule (codes "IN")) in
+    let app = with_rule app (switch_rule (codes "noinstr")) in
+    let app = with_rule app (switch_rule (codes "sls")) in
+    let app = with_rule app (switch_rule (codes "ibt")) in
     with_common_options app
 
 abbrev pub unwind_app : App
@@ -99,6 +107,7 @@ line_app =
     let app = with_subcommand app unwind_app.top in
     let app = with_subcommand app (rewriting_app (codes "sites")).top in
     let app = with_subcommand app (file_app (codes "list")).top in
+    let app = with_subcommand app entry_app.top in
     let app = with_subcommand app (rewriting_app (codes "cfi")).top in
     let app = with_subcommand app (file_app (codes "cfa")).top in
     let app = with_subcommand app merge_app.top in

@@ -5,11 +5,12 @@ use Rattle.clap.specs.declared.error.ErrorKind.{ErrorKind}
 use Rattle.clap.specs.declared.error.ErrorKind.TheVariants.{DisplayHelp, DisplayVersion}
 use Rattle.clap.specs.declared.ArgMatches.{ArgMatches}
 use Rattle.cli_words.specs.declared.options.CheckOptions.{CheckOptions}
+use Rattle.cli_words.specs.declared.options.EntryRules.{EntryRules}
 use Rattle.x86_map.specs.declared.map.Map.{Map}
 use Rattle.x86_map.specs.declared.map.Map.TheVariants.{Base, Whole}
 use Rattle.cli_words.specs.Words.{Word}
 use Rattle.cli_words.specs.Numbers.{address_of, number_of}
-use Rattle.cli_words.specs.Grammar.{Command, cfa, cfi, check, demo, dump, find, help, list, merge, sites, unwind, version}
+use Rattle.cli_words.specs.Grammar.{Command, cfa, cfi, check, demo, dump, entry, find, help, list, merge, sites, unwind, version}
 
 -- the value of an option that has none of its own
 abbrev pub switch_text : Bool → Text
@@ -40,6 +41,15 @@ pub record SaysCheck (rows : List Row) (input output : Word) (options : CheckOpt
   pub uaccess : SaysSwitch rows (codes "uaccess") options.rules.uaccess
   pub unreachable : SaysSwitch rows (codes "no-unreachable") (not options.rules.unreachable)
 
+-- the matches of `entry` say this
+pub record SaysEntry (rows : List Row) (input : Word) (rules : EntryRules) (map : Map) (names : Option Word) : Type 0 where
+  pub input_is : first_of (codes "IN") rows ≡ Some input
+  pub noinstr : SaysSwitch rows (codes "noinstr") rules.noinstr
+  pub sls : SaysSwitch rows (codes "sls") rules.sls
+  pub ibt : SaysSwitch rows (codes "ibt") rules.ibt
+  pub all_opcodes : SaysSwitch rows (codes "all-opcodes") (is_asked map)
+  pub names_are : first_of (codes "names") rows ≡ names
+
 -- the matches of a command that asks for two names say these
 abbrev pub SaysPair : List Row → (first second : Text) → Word → Word → Type 0
 SaysPair rows first second one other = (first_of first rows ≡ Some one) × (first_of second rows ≡ Some other)
@@ -51,6 +61,7 @@ name_of (dump file) = Some (codes "dump")
 name_of (unwind file image) = Some (codes "unwind")
 name_of (sites input output map names) = Some (codes "sites")
 name_of (list file) = Some (codes "list")
+name_of (entry input rules map names) = Some (codes "entry")
 name_of (cfi input output map names) = Some (codes "cfi")
 name_of (cfa file) = Some (codes "cfa")
 name_of (merge layout output) = Some (codes "merge")
@@ -66,6 +77,7 @@ SaysArguments rows (dump file) = first_of (codes "FILE") rows ≡ Some file
 SaysArguments rows (unwind file image) = SaysPair rows (codes "FILE") (codes "IMAGE") file image
 SaysArguments rows (sites input output map names) = SaysRewriting rows input output map names
 SaysArguments rows (list file) = first_of (codes "FILE") rows ≡ Some file
+SaysArguments rows (entry input rules map names) = SaysEntry rows input rules map names
 SaysArguments rows (cfi input output map names) = SaysRewriting rows input output map names
 SaysArguments rows (cfa file) = first_of (codes "FILE") rows ≡ Some file
 SaysArguments rows (merge layout output) = SaysPair rows (codes "LAYOUT") (codes "OUT") layout output

@@ -2,7 +2,7 @@
 
 ghost use Rattle.std.specs.Prelude.{◌≡◌, IfOk, codes, true};
 ghost use Rattle.clap.specs.Words.{App, app_of, with_rule, with_subcommand};
-ghost use Rattle.cli_matches.specs.Definition.{Makes, check_app, command_app, demo_app, file_app, find_app, line_app, merge_app, names_rule, place_rule, program_app, rewriting_app, switch_rule, text_rule, unwind_app, with_common_options};
+ghost use Rattle.cli_matches.specs.Definition.{Makes, check_app, command_app, demo_app, entry_app, file_app, find_app, line_app, merge_app, names_rule, place_rule, program_app, rewriting_app, switch_rule, text_rule, unwind_app, with_common_options};
 
 use clap::{Arg, ArgAction, Command};
 use std::alloc::{AllocError, Global};
@@ -23,6 +23,8 @@ const UNWIND: &str = "Print the frames of a stack, by an object's ORC tables";
 const SITES: &str = "Write an object with lists of its returns, calls through thunks and calls";
 
 const LIST: &str = "Print the site lists of an object";
+
+const ENTRY: &str = "Check code against the entry rules";
 
 const CFI: &str = "Check an object and write it with call frame information";
 
@@ -248,6 +250,33 @@ pub fn list<'a>(alloc: Global) -> Result<Command<'a>, AllocError>
     of_file(alloc, "list", "objtool list", LIST)
 }
 
+/// The command `entry`, with its word and options.
+pub fn entry<'a>(alloc: Global) -> Result<Command<'a>, AllocError>
+    ensures { IfOk result (λ command. app_of command ≡ entry_app) }
+{
+    let entry = command(alloc, "entry", "objtool entry", ENTRY);
+    let entry = with_place(alloc, entry, "IN", "The object to check");
+    let entry = with_switch(
+        alloc,
+        entry,
+        "noinstr",
+        "Check that code that isn't instrumented calls no code that is",
+    );
+    let entry = with_switch(
+        alloc,
+        entry,
+        "sls",
+        "Check that an INT3 stands behind each return and each indirect jump",
+    );
+    let entry = with_switch(
+        alloc,
+        entry,
+        "ibt",
+        "Check that functions whose address is taken begin with ENDBR",
+    );
+    with_common_options(alloc, entry)
+}
+
 /// The command `cfi`, with its words and options.
 pub fn cfi<'a>(alloc: Global) -> Result<Command<'a>, AllocError>
     ensures { IfOk result (λ command. app_of command ≡ rewriting_app (codes "cfi")) }
@@ -330,6 +359,7 @@ pub fn command_line<'a>(alloc: Global) -> Result<Command<'a>, AllocError>
     let line = with_command(line, unwind(alloc));
     let line = with_command(line, sites(alloc));
     let line = with_command(line, list(alloc));
+    let line = with_command(line, entry(alloc));
     let line = with_command(line, cfi(alloc));
     let line = with_command(line, cfa(alloc));
     let line = with_command(line, merge(alloc));

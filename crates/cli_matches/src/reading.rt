@@ -3,16 +3,19 @@
 ghost use Rattle.std.specs.Prelude.{◌≡◌, Ok, Option, Some, codes, map, string_bytes, option_and_then, option_map, IfOk, IfErr, ℕ, Bool};
 ghost use Rattle.clap.specs.Words.{first_of, subcommand_rows_of};
 ghost use Rattle.cli_words.specs.declared.options.CheckOptions.{CheckOptions};
+ghost use Rattle.cli_words.specs.declared.options.EntryRules.{EntryRules};
 ghost use Rattle.x86_map.specs.declared.map.Map.{Map as MapKind};
-ghost use Rattle.cli_words.specs.Grammar.{Command as Meant, cfa, cfi, check, command_in, demo, dump, find, IsFaultOf, list, meaning, merge, sites, unwind};
+ghost use Rattle.cli_words.specs.Grammar.{Command as Meant, cfa, cfi, check, command_in, demo, dump, entry, find, IsFaultOf, list, meaning, merge, sites, unwind};
 ghost use Rattle.cli_words.specs.Numbers.{address_of, number_of};
 ghost use Rattle.cli_words.specs.Words.{Word};
-ghost use Rattle.cli_matches.specs.Matches.{Says, SaysCheck, SaysPair, SaysRewriting, SaysSwitch, is_asked, request_of, rows_in};
+ghost use Rattle.cli_matches.specs.Matches.{Says, SaysCheck, SaysEntry, SaysPair, SaysRewriting, SaysSwitch, is_asked, request_of, rows_in};
 
 use crate::definition::command_line;
 use clap::ArgMatches;
 use clap::error::ErrorKind;
-use cli_words::{CheckOptions, Command, Map, UsageFault, address_of, judge_words, number_of};
+use cli_words::{
+    CheckOptions, Command, EntryRules, Map, UsageFault, address_of, judge_words, number_of,
+};
 use ot_base::Options;
 use std::alloc::{AllocError, Global};
 
@@ -163,6 +166,37 @@ fn cfi_of(alloc: Global, found: &ArgMatches<'_>) -> Result<Option<Command>, Allo
     }
 }
 
+/// The entry rules that the options of `entry` ask for.
+fn entry_rules_of(found: &ArgMatches<'_>) -> EntryRules
+    ensures { (input : Word) (rules : EntryRules) (map : MapKind) (names : Option Word)
+        → SaysEntry (rows_in found.now) input rules map names → result ≡ rules }
+{
+    EntryRules {
+        noinstr: is_given(found, "noinstr"),
+        sls: is_given(found, "sls"),
+        ibt: is_given(found, "ibt"),
+    }
+}
+
+/// The command of `entry`.
+fn entry_of(alloc: Global, found: &ArgMatches<'_>) -> Result<Option<Command>, AllocError>
+    ensures { IfOk result (λ read. (input : Word) (rules : EntryRules) (map : MapKind) (names : Option Word)
+        → SaysEntry (rows_in found.now) input rules map names
+        → option_map command_in read ≡ Some (entry input rules map names)) }
+{
+    let input = text_of(alloc, found, "IN")?;
+    let names = text_of(alloc, found, "names")?;
+    match input {
+        Some(input) => Ok(Some(Command::Entry {
+            input,
+            rules: entry_rules_of(found),
+            map: map_of(found),
+            names,
+        })),
+        None => Ok(None),
+    }
+}
+
 /// The command of `dump`.
 fn dump_of(alloc: Global, found: &ArgMatches<'_>) -> Result<Option<Command>, AllocError>
     ensures { IfOk result (λ read. (file : Word) → first_of (codes "FILE") (rows_in found.now) ≡ Some file
@@ -286,6 +320,7 @@ fn named_command(
         "unwind" => unwind_of(alloc, found),
         "sites" => sites_of(alloc, found),
         "list" => list_of(alloc, found),
+        "entry" => entry_of(alloc, found),
         "cfi" => cfi_of(alloc, found),
         "cfa" => cfa_of(alloc, found),
         "merge" => merge_of(alloc, found),

@@ -16,6 +16,7 @@ Commands:
   unwind  Print the frames of a stack, by an object's ORC tables
   sites   Write an object with lists of its returns, calls through thunks and calls
   list    Print the site lists of an object
+  entry   Check code against the entry rules
   cfi     Check an object and write it with call frame information
   cfa     Print the call frame information of an object
   merge   Merge the rows of several objects' ORC tables into one table
@@ -76,6 +77,20 @@ Usage: objtool list <FILE>
 
 Arguments:
   <FILE>  The object
+
+Check code against the entry rules
+
+Usage: objtool entry [OPTIONS] <IN>
+
+Arguments:
+  <IN>  The object to check
+
+Options:
+      --noinstr       Check that code that isn't instrumented calls no code that is
+      --sls           Check that an INT3 stands behind each return and each indirect jump
+      --ibt           Check that functions whose address is taken begin with ENDBR
+      --all-opcodes   Read vector, virtualization and newer system instructions too
+      --names=<FILE>  Add the function names of FILE to the lists that are built in
 
 Check an object and write it with call frame information
 

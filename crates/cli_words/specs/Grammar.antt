@@ -5,6 +5,7 @@ use Rattle.ot_base.specs.declared.options.Options.{Options}
 use Rattle.x86_map.specs.declared.map.Map.{Map}
 use Rattle.x86_map.specs.declared.map.Map.TheVariants.{Base, Whole}
 use Rattle.cli_words.specs.declared.options.CheckOptions.{CheckOptions}
+use Rattle.cli_words.specs.declared.options.EntryRules.{EntryRules}
 use Rattle.cli_words.specs.declared.word.CommandWord.{CommandWord}
 use Rattle.cli_words.specs.declared.word.CommandWord.TheVariants as the
 use Rattle.cli_words.specs.declared.fault.UsageKind.{UsageKind}
@@ -23,6 +24,7 @@ pub data Command : Type 0 where
   unwind : (file image : Word) → Command
   sites : (input output : Word) (map : Map) (names : Option Word) → Command
   list : (file : Word) → Command
+  entry : (input : Word) (rules : EntryRules) (map : Map) (names : Option Word) → Command
   cfi : (input output : Word) (map : Map) (names : Option Word) → Command
   cfa : (file : Word) → Command
   merge : (layout output : Word) → Command
@@ -38,6 +40,7 @@ command_in (variant.Dump file) = dump (string_bytes file)
 command_in (variant.Unwind file image) = unwind (string_bytes file) (string_bytes image)
 command_in (variant.Sites input output map names) = sites (string_bytes input) (string_bytes output) map (option_map string_bytes names)
 command_in (variant.List file) = list (string_bytes file)
+command_in (variant.Entry input rules map names) = entry (string_bytes input) rules map (option_map string_bytes names)
 command_in (variant.Cfi input output map names) = cfi (string_bytes input) (string_bytes output) map (option_map string_bytes names)
 command_in (variant.Cfa file) = cfa (string_bytes file)
 command_in (variant.Merge layout output) = merge (string_bytes layout) (string_bytes output)
@@ -100,6 +103,14 @@ map_in words = if gives (codes "--all-opcodes") words then Whole else Base
 abbrev pub options_in : List Word → CheckOptions
 options_in words = record { map = map_in words; rules = rules_in words }
 
+-- the entry rules that the options of `entry` ask for
+abbrev pub entry_rules_in : List Word → EntryRules
+entry_rules_in words = record {
+  noinstr = gives (codes "--noinstr") words;
+  sls = gives (codes "--sls") words;
+  ibt = gives (codes "--ibt") words;
+}
+
 -- what a command asks for with these names or numbers and these options, where none is missing
 unfoldable pub asked : CommandWord → List Word → List Word → Option Command
 asked the.Check (input ∷ output ∷ []) words = Some (check input output (options_in words) (names_file words))
@@ -107,6 +118,7 @@ asked the.Dump (file ∷ []) words = Some (dump file)
 asked the.Unwind (file ∷ image ∷ []) words = Some (unwind file image)
 asked the.Sites (input ∷ output ∷ []) words = Some (sites input output (map_in words) (names_file words))
 asked the.List (file ∷ []) words = Some (list file)
+asked the.Entry (input ∷ []) words = Some (entry input (entry_rules_in words) (map_in words) (names_file words))
 asked the.Cfi (input ∷ output ∷ []) words = Some (cfi input output (map_in words) (names_file words))
 asked the.Cfa (file ∷ []) words = Some (cfa file)
 asked the.Merge (layout ∷ output ∷ []) words = Some (merge layout output)

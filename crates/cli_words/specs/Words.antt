@@ -15,6 +15,7 @@ command_named word =
     else if bytes_eq word (codes "unwind") then Some the.Unwind
     else if bytes_eq word (codes "sites") then Some the.Sites
     else if bytes_eq word (codes "list") then Some the.List
+    else if bytes_eq word (codes "entry") then Some the.Entry
     else if bytes_eq word (codes "cfi") then Some the.Cfi
     else if bytes_eq word (codes "cfa") then Some the.Cfa
     else if bytes_eq word (codes "merge") then Some the.Merge
@@ -26,6 +27,7 @@ command_named word =
 abbrev pub places_of : CommandWord → ℕ
 places_of the.Dump = 1
 places_of the.List = 1
+places_of the.Entry = 1
 places_of the.Cfa = 1
 places_of the.Demo = 1
 places_of _ = 2
@@ -45,7 +47,7 @@ file_after word = if bytes_eq (take 8 word) (codes "--names=") then Some (drop 8
 abbrev pub is_names_option : Word → Bool
 is_names_option word = is_some (file_after word)
 
--- the options that each of `check`, `sites` and `cfi` has
+-- the options that each of `check`, `sites`, `entry` and `cfi` has
 abbrev pub is_common_option : Word → Bool
 is_common_option word = bytes_eq word (codes "--all-opcodes") || is_names_option word
 
@@ -58,11 +60,19 @@ is_check_option word =
     || (bytes_eq word (codes "--uaccess")
     || (bytes_eq word (codes "--no-unreachable") || is_common_option word))))
 
+-- the options of `entry`
+abbrev pub is_entry_option : Word → Bool
+is_entry_option word =
+    bytes_eq word (codes "--noinstr")
+    || (bytes_eq word (codes "--sls")
+    || (bytes_eq word (codes "--ibt") || is_common_option word))
+
 -- an option of this command
 abbrev pub is_option_of : CommandWord → Word → Bool
 is_option_of the.Check word = is_check_option word
 is_option_of the.Sites word = is_common_option word
 is_option_of the.Cfi word = is_common_option word
+is_option_of the.Entry word = is_entry_option word
 is_option_of _ word = false
 
 -- two words give the same option: they are spelled alike, or each gives a file of names

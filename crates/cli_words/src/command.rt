@@ -1,4 +1,4 @@
-use crate::options::CheckOptions;
+use crate::options::{CheckOptions, EntryRules};
 use x86_map::Map;
 
 /// What the words of a command line ask for.
@@ -33,6 +33,14 @@ pub enum Command {
     /// `list FILE`: print the site lists of an object.
     List {
         file: String,
+    },
+    /// `entry IN` and its options: check the code of the object `input` against the entry rules.
+    Entry {
+        input: String,
+        rules: EntryRules,
+        map: Map,
+        /// The file of function names, where one is given.
+        names: Option<String>,
     },
     /// `cfi IN OUT` and its options: check the object `input`, and write it to `output` with call frame
     /// information.
