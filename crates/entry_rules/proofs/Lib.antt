@@ -5,6 +5,7 @@ pub mod RuleWarnings
 pub mod OverBytes
 pub mod Behind
 pub mod TakenLists
+pub mod EverySection
 pub mod Numbered
 pub mod AskedRules
 pub mod ObjectTexts

@@ -1,6 +1,6 @@
 -- The places in an object whose addresses are taken: those that relocations name, other than the fields of branches (x86-64 psABI,
 -- "Relocation"; Linux 6.6, tools/objtool/check.c, `validate_ibt`).
-use Rattle.std.specs.Prelude.{ℕ, pos, ◌+ℤ◌, ◌+◌, ◌-◌, ◌==◌, ◌&&◌, ◌||◌, not, nat_le, nat_lt, Bool, false, List, [], ◌∷◌, ◌++◌, filter, filter_map, flat_map, find, length, Option, Some, None, option_map, bit_and, bytes_eq, codes, if◌then◌else◌}
+use Rattle.std.specs.Prelude.{ℕ, pos, ◌+ℤ◌, ◌+◌, ◌-◌, ◌==◌, ◌&&◌, ◌||◌, not, nat_le, nat_lt, Bool, false, List, [], ◌∷◌, filter_map, flat_map, find, length, Option, Some, None, option_map, bit_and, bytes_eq, codes, if◌then◌else◌}
 use Rattle.std.specs.List.{list_any, range_with_len}
 use Rattle.ot_base.specs.declared.place.Place.{Place}
 use Rattle.ot_base.specs.Places.{same_place}
@@ -11,10 +11,9 @@ use Rattle.elf_objects.specs.Contents.{is_text, relocs_at, section_at, symbol_at
 use Rattle.elf_objects.specs.declared.TheConstants.{R_X86_64_64, R_X86_64_PC32, R_X86_64_32, R_X86_64_32S, SHF_ALLOC}
 use Rattle.x86_text.specs.declared.placed.PlacedInsn.{PlacedInsn}
 use Rattle.x86_text.specs.Code.{code_of}
-use Rattle.alternatives.specs.declared.texts.SectionText.{SectionText}
 use Rattle.symbols_relocs.specs.NamedPlaces.{offset_of, place_in, place_named}
 use Rattle.flow_defs.specs.Targets.{displacement_of}
-use Rattle.flow_defs.specs.Code.{texts_of}
+use Rattle.flow_defs.specs.Code.{body_of}
 use Rattle.flow_defs.specs.Coded.{Coded}
 
 -- The names of sections that tell of code to other programs than the one that runs, so that their relocations take no address:
@@ -83,28 +82,22 @@ address_in_code o code r =
     else if r.kind == R_X86_64_PC32 then address_behind o r (find (has_byte r.offset) code)
     else None
 
--- the places that the relocations of a text section name, and those of another section
-abbrev pub addresses_in_text : Elf → SectionText → List Place
-addresses_in_text o t = filter_map (address_in_code o (code_of t.text)) (relocs_at o t.sec)
-
-abbrev pub addresses_in_section : Elf → ℕ → List Place
-addresses_in_section o sec = filter_map (address_in_data o) (relocs_at o sec)
+-- the place whose address a relocation of a section takes
+abbrev pub address_taken : Coded → ℕ → Reloc → Option Place
+address_taken o sec r =
+    if is_text (section_at o.elf sec) then address_in_code o.elf (code_of (body_of o sec)) r
+    else address_in_data o.elf r
 
 abbrev pub may_take_at : Elf → ℕ → Bool
 may_take_at o sec = may_take (section_at o sec)
 
-abbrev pub is_data : Elf → ℕ → Bool
-is_data o sec = may_take_at o sec && not (is_text (section_at o sec))
+-- those whose addresses the relocations of a section take
+abbrev pub taken_in : Coded → ℕ → List Place
+taken_in o sec = if may_take_at o.elf sec then filter_map (address_taken o sec) (relocs_at o.elf sec) else []
 
--- the places whose addresses are taken, by code and by data
-unfoldable pub taken_by_code : Coded → List Place
-taken_by_code o = flat_map (addresses_in_text o.elf) (filter (λ t. may_take_at o.elf t.sec) (texts_of o))
-
-unfoldable pub taken_by_data : Elf → List Place
-taken_by_data o = flat_map (addresses_in_section o) (filter (is_data o) (range_with_len 0 (length o.sections)))
-
-abbrev pub taken_places : Coded → List Place
-taken_places o = taken_by_code o ++ taken_by_data o.elf
+-- the places whose addresses are taken: those that the relocations of any section take
+unfoldable pub taken_places : Coded → List Place
+taken_places o = flat_map (taken_in o) (range_with_len 0 (length o.elf.sections))
 
 -- the address of a place is taken
 abbrev pub is_taken : Coded → Place → Bool

@@ -4,7 +4,9 @@ ghost use Rattle.std.specs.Prelude.{◌≡◌, ◌<◌, ◌≤◌, ◌+◌, ◌+
 ghost use Rattle.elf_objects.specs.Contents.{section_at};
 ghost use Rattle.symbols_relocs.specs.NamedPlaces.{offset_of};
 ghost use Rattle.x86_text.specs.Code.{code_of};
-ghost use Rattle.entry_rules.specs.Taken.{address_behind as address_behind_of, address_in_code as address_in_code_of, address_in_data as address_in_data_of, addresses_in_section, addresses_in_text, discarded_names, displacement_bytes as displacement_bytes_of, has_byte, is_absolute as is_absolute_kind, is_data as is_data_section, is_displacement as is_displacement_of, is_one_of, may_take_at, place_behind as place_behind_of, special_names, table_names, taken_by_code, taken_by_data, taken_places};
+ghost use Rattle.object_points.specs.Places.{HaveSamePlaces};
+ghost use Rattle.entry_rules.specs.Listed.{addresses_in_section, addresses_in_text, is_data as is_data_section, taken_by_code, taken_by_data};
+ghost use Rattle.entry_rules.specs.Taken.{address_behind as address_behind_of, address_in_code as address_in_code_of, address_in_data as address_in_data_of, discarded_names, displacement_bytes as displacement_bytes_of, has_byte, is_absolute as is_absolute_kind, is_displacement as is_displacement_of, is_one_of, may_take_at, place_behind as place_behind_of, special_names, table_names, taken_places};
 
 use alternatives::SectionText;
 use elf_objects::{
@@ -250,7 +252,7 @@ fn list_code(alloc: Global, linked: &Linked<'_, '_>) -> Result<Vec<Place>, NoMem
 
 /// The places whose addresses are taken: those that relocations name, of code and of data, other than the fields of branches.
 pub(crate) fn list_taken(alloc: Global, linked: &Linked<'_, '_>) -> Result<Vec<Place>, NoMemory>
-    ensures { IfOk result (λ places. places.items ≡ taken_places linked.now) }
+    ensures { IfOk result (λ places. HaveSamePlaces (taken_places linked.now) places.items) }
 {
     let mut places = list_code(alloc, linked)?;
     push_data(linked.object(), &mut places)?;

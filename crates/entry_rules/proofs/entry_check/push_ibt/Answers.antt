@@ -16,10 +16,12 @@ use Rattle.entry_rules.proofs.entry_check.push_ibt.Goals as goal
 pub push_taken-requires-clause-listed : goal.push_taken-requires-clause-listed
 push_taken-requires-clause-listed c = points_listed c.args.linked.now c.args.graph.now.parts c.requires ∙ ap (λ (o : Coded). length (points_of_object o)) (sym c.in_ok-places.ensures)
 
+-- the set is of the places that are listed, which are those whose addresses are taken
 pub push_taken-requires-clause-taken : goal.push_taken-requires-clause-taken
 push_taken-requires-clause-taken c =
-    subst (λ (o : Coded). HaveSamePlaces (taken_places o) c.in_ok-taken.taken) (sym c.in_ok-places.ensures)
-    (subst (λ (places : List Place). HaveSamePlaces places c.in_ok-taken.taken) (c.deref.ensures.value ∙ c.in_ok-listed.ensures) c.in_ok-taken.ensures)
+    let places : List Place = c.deref.result.now in
+    let listed : HaveSamePlaces (taken_places c.args.linked.now) places = subst (λ (ps : List Place). HaveSamePlaces (taken_places c.args.linked.now) ps) (sym c.deref.ensures.value) c.in_ok-listed.ensures in
+    subst (λ (o : Coded). HaveSamePlaces (taken_places o) c.in_ok-taken.taken) (sym c.in_ok-places.ensures) (record { same = λ place. c.in_ok-taken.ensures.same place ∙ listed.same place })
 
 pub returns : goal.returns
 returns c = on_ok_weaker c.push_taken.result (λ h lists tells.

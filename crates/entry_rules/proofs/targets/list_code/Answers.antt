@@ -6,7 +6,8 @@ use Rattle.elf_objects.specs.Elf.{Elf}
 use Rattle.alternatives.specs.declared.texts.SectionText.{SectionText}
 use Rattle.flow_defs.specs.Code.{texts_of}
 use Rattle.flow_defs.specs.Coded.{Coded}
-use Rattle.entry_rules.specs.Taken.{addresses_in_text, may_take_at, taken_by_code}
+use Rattle.entry_rules.specs.Listed.{addresses_in_text, taken_by_code}
+use Rattle.entry_rules.specs.Taken.{may_take_at}
 use Rattle.entry_rules.proofs.ObjectTexts.{text_within}
 use Rattle.entry_rules.proofs.TakenLists.{joined_more, none_joined}
 use Rattle.entry_rules.proofs.targets.list_code.Goals as goal

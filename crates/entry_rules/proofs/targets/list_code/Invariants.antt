@@ -2,7 +2,8 @@ use Rattle.std.proofs.Common.{◌≡◌, take}
 use Rattle.std.specs.Prelude.{filter, flat_map}
 use Rattle.alternatives.specs.declared.texts.SectionText.{SectionText}
 use Rattle.flow_defs.specs.Code.{texts_of}
-use Rattle.entry_rules.specs.Taken.{addresses_in_text, may_take_at}
+use Rattle.entry_rules.specs.Listed.{addresses_in_text}
+use Rattle.entry_rules.specs.Taken.{may_take_at}
 use Rattle.entry_rules.proofs.targets.list_code.Given as goal
 
 abbrev pub invariant-loop-text : goal.invariant-loop-text

@@ -5,7 +5,7 @@ use Rattle.std.specs.List.{range_with_len}
 use Rattle.std.proofs.lemmas.List.{take_all}
 use Rattle.std.proofs.lemmas.List.FromFn.{get_or-range_with_len, length-range_with_len}
 use Rattle.elf_objects.specs.Elf.{Elf}
-use Rattle.entry_rules.specs.Taken.{addresses_in_section, is_data, taken_by_data}
+use Rattle.entry_rules.specs.Listed.{addresses_in_section, is_data, taken_by_data}
 use Rattle.entry_rules.proofs.TakenLists.{joined_more, none_joined}
 use Rattle.entry_rules.proofs.targets.push_data.Goals as goal
 use Rattle.entry_rules.proofs.targets.push_data.Goals.{then-is_data+in_ok-push_section, else-is_data}

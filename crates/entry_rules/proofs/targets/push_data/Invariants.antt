@@ -1,7 +1,7 @@
 use Rattle.std.proofs.Common.{◌≡◌, ◌++◌, length, take}
 use Rattle.std.specs.Prelude.{filter, flat_map}
 use Rattle.std.specs.List.{range_with_len}
-use Rattle.entry_rules.specs.Taken.{addresses_in_section, is_data}
+use Rattle.entry_rules.specs.Listed.{addresses_in_section, is_data}
 use Rattle.entry_rules.proofs.targets.push_data.Given as goal
 
 abbrev pub invariant-loop-sec : goal.invariant-loop-sec
