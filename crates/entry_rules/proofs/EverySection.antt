@@ -1,9 +1,8 @@
 -- The places that are listed, code before data, are those whose addresses are taken.
-use Rattle.std.proofs.Common.{◌≡◌, ℕ, ◌&&◌, ◌||◌, Bool, true, false, cond, List, [], ◌∷◌, ◌++◌, map, length, not, refl, sym, ap, ◌∙◌}
+use Rattle.std.proofs.Common.{◌≡◌, ℕ, ◌&&◌, ◌||◌, Bool, true, false, cond, List, [], ◌∷◌, ◌++◌, map, length, not, refl, ap, ◌∙◌}
 use Rattle.std.specs.Prelude.{filter, filter_map, flat_map}
 use Rattle.std.specs.List.{list_any, range_with_len}
 use Rattle.std.proofs.lemmas.List.Folds.{list_any-append}
-use Rattle.ot_base.specs.declared.place.Place.{Place}
 use Rattle.ot_base.specs.Places.{same_place}
 use Rattle.elf_objects.specs.Contents.{is_text, relocs_at, section_at}
 use Rattle.elf_objects.specs.declared.symbol.Reloc.{Reloc}
@@ -12,7 +11,7 @@ use Rattle.alternatives.specs.declared.texts.SectionText.{SectionText}
 use Rattle.flow_defs.specs.Code.{body_of, texts_of}
 use Rattle.flow_defs.specs.Coded.{Coded}
 use Rattle.object_points.specs.Places.{HaveSamePlaces}
-use Rattle.entry_rules.specs.Listed.{addresses_in_section, addresses_in_text, is_data, taken_by_code, taken_by_data}
+use Rattle.entry_rules.specs.Listed.{addresses_in_section, addresses_in_text, taken_by_code, taken_by_data}
 use Rattle.entry_rules.specs.Taken.{address_in_code, address_in_data, address_taken, may_take_at, taken_in, taken_places}
 
 behind_code : (one code other all : Bool) → (code || other) ≡ all → ((one || code) || other) ≡ (one || all)

@@ -1,5 +1,5 @@
 -- The places whose addresses are taken, as they are listed: those of code, and those of data.
-use Rattle.std.specs.Prelude.{ℕ, ◌&&◌, not, Bool, List, ◌++◌, filter, filter_map, flat_map, length}
+use Rattle.std.specs.Prelude.{ℕ, ◌&&◌, not, Bool, List, filter, filter_map, flat_map, length}
 use Rattle.std.specs.List.{range_with_len}
 use Rattle.ot_base.specs.declared.place.Place.{Place}
 use Rattle.elf_objects.specs.Elf.{Elf}
