@@ -24,12 +24,11 @@ pub record IsPart (bytes : List ℕ) (places : List (ℕ × ℕ)) (part : Part) 
   pub texts : first_foreign object places ≡ None
   pub ranges : part.ranges.items ≡ ranges_of object places
 
--- Why bytes and places are no part, in this order: the bytes hold no rows; a place names no text section, and this is the first such; or
--- memory ran out.
+-- Why bytes and places are no part, in this order: the bytes hold no rows, or memory ran out; or a place names no text section, and this
+-- is the first such.
 pub data IsNoPart (bytes : List ℕ) (places : List (ℕ × ℕ)) : CommandStop → Type 0 where
   no_rows : {stop : CommandStop} → HoldsNoRows bytes stop → IsNoPart bytes places stop
   foreign : {sec : ℕ} (o : Elf) (rows : List PlacedRow) → HoldsRows bytes o rows → first_foreign o places ≡ Some sec → IsNoPart bytes places (Refused (NoText sec))
-  no_memory : IsNoPart bytes places NoMemory
 
 -- a file of a layout may read as bytes that are this part with its places
 pub record IsPartOf (content : Option Content) (file : FileSaid) (part : Part) : Type 0 where

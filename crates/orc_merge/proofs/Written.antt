@@ -67,7 +67,7 @@ module _ (rows : List AddressedRow) (is : IsMergedTable rows) where
       ∙ ap (λ (n : ℕ). drop n (address_bytes rows ++ row_section rows)) (let e = long_addresses in omega (arith, e))
       ∙ drop-append-add (address_bytes rows) (row_section rows) 0
 
-  long : length (table_bytes rows) ≡ 16 + 8 * length rows + 6 * length rows
+  pub long : length (table_bytes rows) ≡ 16 + 8 * length rows + 6 * length rows
   long =
       ap length begins
       ∙ length-append magic (little_bytes 8 (length rows) ++ (address_bytes rows ++ row_section rows))

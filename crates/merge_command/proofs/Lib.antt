@@ -1,0 +1,8 @@
+pub mod Content
+pub mod Stops
+pub mod LayoutLemmas
+pub mod ObjectLemmas
+pub mod SameParts
+pub mod TableLemmas
+pub mod MergeLaws
+pub mod FindLaws
