@@ -1,5 +1,5 @@
 -- What follows from how `find` ends.
-use Rattle.std.proofs.Common.{◌≡◌, ⊥, ℕ, List, refl, sym, ap, ◌∙◌, subst, inl, inr}
+use Rattle.std.proofs.Common.{◌≡◌, ℕ, List, refl, sym, ap, ◌∙◌, subst, inl, inr}
 use Rattle.std.specs.Prelude.{◌≢◌, ◌⊎◌, Option, Some, None, Ok}
 use Rattle.ot_base.specs.declared.row.Row.{Row}
 use Rattle.ot_files.specs.Causes.{Rose}
@@ -51,7 +51,7 @@ found_row table address before after out out' x (read bytes may h) e = bytes_fou
 
 pub no_table_excluded : (bytes : List ℕ) (rows : List AddressedRow) (s : CommandStop) → HoldsTable bytes rows → HoldsNoTable bytes s → s ≡ stop.NoMemory
 no_table_excluded bytes rows s holds (bad {off = off} h) =
-    let e : ◌≡◌ {A = Option ℕ} None (Some off) = sym (accepted rows holds.table) ∙ ap first_bad (sym holds.bytes) ∙ h in
+    let e : ◌≡◌ {A = Option ℕ} None (Some off) = sym (accepted rows holds.table) ∙ ap first_bad (sym holds.written) ∙ h in
     absurd (let never : ⊥ = cc in never)
 no_table_excluded bytes rows stop.NoMemory holds no_memory = refl
 

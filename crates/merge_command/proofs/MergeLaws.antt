@@ -1,5 +1,5 @@
 -- What follows from how `merge` ends.
-use Rattle.std.proofs.Common.{◌≡◌, ⊥, ℕ, ◌<◌, ◌≤◌, List, [], ◌∷◌, ◌++◌, length, refl, sym, ap, ◌∙◌, subst, inl, inr, arith}
+use Rattle.std.proofs.Common.{◌≡◌, ℕ, ◌<◌, ◌≤◌, List, [], ◌∷◌, ◌++◌, length, refl, sym, ap, ◌∙◌, subst, inl, inr, arith}
 use Rattle.std.specs.Prelude.{◌≢◌, ◌⊎◌, Option, Some, None, Ok}
 use Rattle.std.specs.FinMap.{get, insert}
 use Rattle.ot_files.specs.Causes.{Rose}

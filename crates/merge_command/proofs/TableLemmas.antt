@@ -1,5 +1,5 @@
 -- The table of merged rows, and what look-ups and walks by it tell.
-use Rattle.std.proofs.Common.{◌≡◌, ◌≢◌, ◌⊎◌, ⊥, ℕ, ◌+◌, ◌*◌, ◌≤◌, List, ◌++◌, length, refl, sym, ap, ◌∙◌, subst, inl, inr, arith}
+use Rattle.std.proofs.Common.{◌≡◌, ◌≢◌, ◌⊎◌, ℕ, ◌+◌, ◌*◌, ◌≤◌, List, ◌++◌, length, refl, sym, ap, ◌∙◌, subst, inl, inr, arith}
 use Rattle.std.specs.Prelude.{Some}
 use Rattle.elf_objects.specs.declared.TheConstants.{MAX_FILE_BYTES}
 use Rattle.table_defs.specs.Lookup.{AddressedRow}
@@ -24,12 +24,12 @@ use Rattle.merge_command.specs.Merge.{HasNoTable, IsTableOf, no_memory, unmerged
 -- bytes are the table of one list of rows
 pub one_table : (bytes : List ℕ) (one other : List AddressedRow) → HoldsTable bytes one → HoldsTable bytes other → one ≡ other
 one_table bytes one other h k =
-    sym (again one h.table) ∙ ap (λ (b : List ℕ). rows_read b (row_count b)) (sym h.bytes ∙ k.bytes) ∙ again other k.table
+    sym (again one h.table) ∙ ap (λ (b : List ℕ). rows_read b (row_count b)) (sym h.written ∙ k.written) ∙ again other k.table
 
 -- and short enough for `find`
 pub short_table : (bytes : List ℕ) (rows : List AddressedRow) → HoldsTable bytes rows → length bytes ≤ MAX_FILE_BYTES
 short_table bytes rows h =
-    let e : length bytes ≡ 16 + 8 * length rows + 6 * length rows = ap length h.bytes ∙ long rows h.table in
+    let e : length bytes ≡ 16 + 8 * length rows + 6 * length rows = ap length h.written ∙ long rows h.table in
     let few : length rows ≤ 4000000 = h.table.few in
     omega (arith, e, few)
 

@@ -18,7 +18,7 @@ use Rattle.orc_merge.specs.declared.part.Part.{Part}
 -- these bytes are the table of these rows
 pub record HoldsTable (bytes : List ℕ) (rows : List AddressedRow) : Type 0 where
   pub table : IsMergedTable rows
-  pub bytes : bytes ≡ table_bytes rows
+  pub written : bytes ≡ table_bytes rows
 
 -- The bytes are a table, and this is what holds at an address in it: a row, or none.
 pub record FindsRow (bytes : List ℕ) (address : ℕ) (found : Option Row) : Type 0 where

@@ -1,5 +1,5 @@
 -- The objects that a layout names.
-use Rattle.std.specs.Prelude.{◌≡◌, ⊤, ⊥, ℕ, ◌^◌, ◌<◌, List, [], ◌∷◌, ◌++◌, length, All, Option, Some, None, Ok}
+use Rattle.std.specs.Prelude.{◌≡◌, ⊤, ℕ, ◌^◌, ◌<◌, List, [], ◌∷◌, ◌++◌, length, All, Option, Some, None, Ok}
 use Rattle.ot_base.specs.declared.row.PlacedRow.{PlacedRow}
 use Rattle.ot_files.specs.Content.{Content}
 use Rattle.elf_objects.specs.declared.TheConstants.{MAX_FILE_BYTES}
@@ -68,11 +68,11 @@ pub data StopsAtParts (files : List FileSaid) (before after : Outside) : Command
 
 -- The rows aren't too many to be numbered, none lies beyond the end of its section's range, six bytes hold each; and there are so many
 -- ranges.
-pub record IsMergeable (part : Part) (ranges : ℕ) : Type 0 where
+pub record IsMergeable (part : Part) (count : ℕ) : Type 0 where
   pub few : length part.rows.items < 2 ^ 32
   pub within : AreWithin part
   pub rows : AreRows part
-  pub ranges : length part.ranges.items ≡ ranges
+  pub ranges : length part.ranges.items ≡ count
 
 -- the same of all parts, of which there are few, as of their ranges
 pub record CanBeMerged (parts : List Part) : Type 0 where

@@ -5,7 +5,7 @@ ghost use Rattle.elf_objects.specs.Elf.{Elf};
 ghost use Rattle.orc_merge.specs.LayoutReading.{file_of};
 ghost use Rattle.orc_merge.specs.Parts.{all_ranges};
 ghost use Rattle.merge_command.specs.Layouts.{number_of_places};
-ghost use Rattle.merge_command.specs.Objects.{ArePartsOf, CanBeMerged, HasNoPart, IsMergeable, IsNoPart, IsPart, IsPartOf, StopsAtFile, StopsAtParts};
+ghost use Rattle.merge_command.specs.Objects.{ArePartsOf, CanBeMerged, HasNoPart, IsMergeable, IsNoPart, IsPart, IsPartOf, StopsAtParts};
 
 use command_base::{CommandStop, of_part, orc_stop, parse_stop, ranges_of, read_file};
 use elf_objects::{MAX_FILE_BYTES, Object};
