@@ -74,4 +74,4 @@ as -o as.o made.s
 paths+=("$scratch/as.o")
 
 "$functions" "${paths[@]}" >told || { tail -n 20 told; exit 1; }
-python3 "$here/functions.py" told
+python3 "$here/functions_by_readelf.py" told

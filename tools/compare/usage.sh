@@ -1,6 +1,5 @@
 #!/usr/bin/env bash
 # Compares the options that `--help`, the manual page and README's usage name, and checks the manual page's language.
-# Run at the top of the repository.
 set -eu
 . "$(dirname "$0")/../lib/prepare.sh"
 needs "usage" mandoc col

@@ -1,4 +1,4 @@
-"""Compares what the program told of objects with what `nm -S` and `readelf` tell of them: functions.py SAID.
+"""Compares what the program told of objects with what `nm -S` and `readelf` tell of them: functions_by_readelf.py SAID.
 
 Prints how many functions and relocations are the same, and every one that isn't.
 """
