@@ -1,7 +1,9 @@
 -- How `sites` ends, from what its parts ensure.
-use Rattle.std.proofs.Common.{◌≡◌, ℕ, ◌≤◌, List, refl, sym, subst}
-use Rattle.std.specs.Prelude.{Option}
+use Rattle.std.proofs.Common.{◌≡◌, ℕ, ◌≤◌, List, sym, ◌∙◌, subst}
+use Rattle.std.specs.Prelude.{Option, Ok}
+use Rattle.ot_base.specs.NameLists.{NameLists}
 use Rattle.ot_files.specs.Content.{Content, writing}
+use Rattle.elf_objects.specs.declared.TheConstants.{MAX_FILE_BYTES}
 use Rattle.elf_objects.specs.Elf.{Elf}
 use Rattle.elf_objects.specs.Object.{IsObject}
 use Rattle.x86_map.specs.declared.map.Map.{Map}
@@ -10,8 +12,9 @@ use Rattle.site_lists.specs.Laws.{OneChoiceFits}
 use Rattle.site_lists.specs.Listed.{Listed}
 use Rattle.site_lists.specs.Sites.{sites_of}
 use Rattle.site_output.specs.Tables.{HasSites, with_sites_object}
-use Rattle.command_base.specs.Names.{StopsAtNames}
+use Rattle.command_base.specs.Names.{HasNames, StopsAtNames}
 use Rattle.command_base.specs.Outside.{Outside, Output}
+use Rattle.command_base.specs.Reading.{MayRead}
 use Rattle.command_base.specs.declared.status.Status.{Status}
 use Rattle.command_base.specs.declared.status.Status.TheVariants as status
 use Rattle.command_base.specs.declared.stop.CommandStop.{CommandStop}
@@ -54,3 +57,11 @@ names_later s names content middle before faults after same later h = names_earl
 -- what was written is the file that was made
 pub written_as : (before after : Option Content) (output file shown : List ℕ) → shown ≡ file → after ≡ writing before output shown → after ≡ writing before output file
 written_as before after output file shown same h = subst (λ (bytes : List ℕ). after ≡ writing before output bytes) same h
+
+-- what is known when IN and the names file have been read
+pub was_read : (before middle after : Option Content) (input : List ℕ) (names : Option (List ℕ)) (bytes shown : List ℕ) (lists : NameLists) → middle ≡ before → after ≡ middle → shown ≡ bytes → MayRead MAX_FILE_BYTES before input (Ok bytes) → HasNames middle names lists → IsRead after input names shown
+was_read before middle after input names bytes shown lists kept still same may named = record {
+  may = subst (λ (content : Option Content). MayRead MAX_FILE_BYTES content input (Ok shown)) (sym (still ∙ kept)) (subst (λ (b : List ℕ). MayRead MAX_FILE_BYTES before input (Ok b)) (sym same) may);
+  lists = lists;
+  named = subst (λ (content : Option Content). HasNames content names lists) (sym still) named;
+}

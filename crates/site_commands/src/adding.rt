@@ -78,7 +78,7 @@ fn read_and_add<F: Files, S: Sink>(
         Err(stop) => return conclude(alloc, stop, out),
     };
     match read_names(alloc, asked.names, files) {
-        Ok(_lists) => add_sites(alloc, asked, bytes.as_slice(), files, out),
+        Ok(_) => add_sites(alloc, asked, bytes.as_slice(), files, out),
         Err(stop) => conclude(alloc, stop, out),
     }
 }
