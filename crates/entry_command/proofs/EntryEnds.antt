@@ -1,0 +1,23 @@
+-- How `entry` ends, from what its parts ensure.
+use Rattle.std.proofs.Common.{◌≡◌, ℕ, ◌≤◌, List, subst}
+use Rattle.std.specs.Prelude.{Option}
+use Rattle.ot_base.specs.NameLists.{NameLists}
+use Rattle.ot_files.specs.Content.{Content}
+use Rattle.elf_objects.specs.Elf.{Elf}
+use Rattle.elf_objects.specs.Object.{IsObject}
+use Rattle.x86_map.specs.declared.map.Map.{Map}
+use Rattle.flow_defs.specs.Coded.{coded_by}
+use Rattle.entry_rules.specs.declared.options.EntryOptions.{EntryOptions}
+use Rattle.command_base.specs.Names.{StopsAtNames}
+use Rattle.command_base.specs.Outside.{Outside, Output}
+use Rattle.command_base.specs.declared.status.Status.{Status}
+use Rattle.command_base.specs.declared.status.Status.TheVariants as status
+use Rattle.command_base.specs.declared.stop.CommandStop.{CommandStop}
+use Rattle.entry_command.specs.Entry.{EndsEntry, IsInOrder, IsRead, MayBeChecked, StopsEntry, done, refused, stopped, unread, warned, without_names}
+use Rattle.entry_command.proofs.Stops.{names_earlier, outside, read_earlier}
+
+pub may_check : (map : Map) (content : Option Content) (input : List ℕ) (names : Option (List ℕ)) (read : List ℕ) (o : Elf) (lists : NameLists) → IsRead content input names read lists → IsObject read o → IsInOrder (coded_by map o) → MayBeChecked map content input names o lists
+may_check map content input names read o lists was is order = record { read = read; is_read = was; is = is; in_order = order }
+
+pub names_later : (s : CommandStop) (names : Option (List ℕ)) (content middle : Option Content) (before faults : ℕ) (after : Outside) → middle ≡ content → before ≤ faults → StopsAtNames names (outside middle faults) after s → StopsAtNames names (outside content before) after s
+names_later s names content middle before faults after same later h = names_earlier s names content before faults after later (subst (λ (c : Option Content). StopsAtNames names (outside c faults) after s) same h)

@@ -1,0 +1,4 @@
+pub mod Stops
+pub mod Uncheckable
+pub mod EntryEnds
+pub mod EntryLaws
