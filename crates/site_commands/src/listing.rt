@@ -80,7 +80,8 @@ fn print_parts<S: Sink>(
 {
     print_places(alloc, object, "retpoline", &lists.retpoline, out)?;
     print_places(alloc, object, "return", &lists.returns, out)?;
-    print_places(alloc, object, "call", &lists.calls, out)
+    print_places(alloc, object, "call", &lists.calls, out)?;
+    Ok(())
 }
 
 /// Prints three site lists, and gives the status that the command ends with.

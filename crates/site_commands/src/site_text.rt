@@ -4,7 +4,7 @@ ghost use Rattle.std.specs.Prelude.{◌≡◌, ◌++◌, OnErr, OnOk};
 ghost use Rattle.site_commands.specs.List.{site_line};
 
 use elf_objects::Object;
-use ot_base::{NoMemory, Place, PlaceText};
+use ot_base::{Names, NoMemory, Place, PlaceText};
 use std::fmt;
 
 /// The line of a site: its list's word, and its place.
@@ -41,7 +41,7 @@ pub(crate) fn push_line(
     let line = SiteLine {
         word,
         place: PlaceText {
-            section: object.name_of_section(place.sec),
+            section: object.section_name(place.sec),
             off: place.off,
         },
     };
