@@ -6,7 +6,7 @@ use Rattle.clap.specs.Takes.{default_passes, entered_passes, is_valid, level_pas
 use Rattle.clap.specs.Walk.{Names, Text, Walk, finished, nothing_held, rows_after, walk, walk_from, walked}
 use Rattle.clap.specs.Words.{built, is_simple}
 use Rattle.clap.proofs.OnLiterals.{clap_on_literals}
-use Rattle.cli_matches.specs.Definition.{check_app, demo_app, file_app, find_app, line_app, merge_app, rewriting_app, unwind_app}
+use Rattle.cli_matches.specs.Definition.{check_app, demo_app, entry_app, file_app, find_app, line_app, merge_app, rewriting_app, unwind_app}
 
 abbrev pub top : Shape
 top = (built line_app).top
@@ -63,6 +63,10 @@ sites_enters = record { met = refl; passes = refl; finds = λ words. refl; level
 pub list_enters : Enters (codes "list") (leaf_of (file_app (codes "list")))
 unfolding clap_on_literals
 list_enters = record { met = refl; passes = refl; finds = λ words. refl; levels = λ words. refl }
+
+pub entry_enters : Enters (codes "entry") (leaf_of entry_app)
+unfolding clap_on_literals
+entry_enters = record { met = refl; passes = refl; finds = λ words. refl; levels = λ words. refl }
 
 pub cfi_enters : Enters (codes "cfi") (leaf_of (rewriting_app (codes "cfi")))
 unfolding clap_on_literals

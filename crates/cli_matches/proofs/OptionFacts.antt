@@ -1,4 +1,4 @@
--- What clap does at each word of a command that asks for IN and OUT, and has options without a value and `--names=FILE`.
+-- What clap does at each word of a command that asks for IN and maybe OUT, and has options without a value and `--names=FILE`.
 use Rattle.std.proofs.Common.{◌≡◌, ℕ, ◌+◌, Bool, true, false, cond, not, ◌&&◌, ◌||◌, List, [], ◌∷◌, ◌++◌, Option, Some, None, option_and_then, refl, ap, ◌∙◌, bytes_eq, codes}
 use Rattle.std.specs.Option.{unwrap_or}
 use Rattle.std.proofs.lemmas.Slice.Eq.{bytes_eq-Decides}
@@ -85,17 +85,20 @@ pub record HasNames (s : Shape) : Type 0 where
       → rows_held s (reacted s.rules (rule_named s (codes "names")) (file ∷ []) h) ≡ rows_held s h ++ text_row s (codes "names") file ∷ []
   pub default : with_defaults (codes "names") s.rules None ≡ None
 
-pub record IsRewriting (s : Shape) (switches : List Text) : Type 0 where
+-- a command with these options, which asks for IN, and for OUT if it writes
+pub record HasOptions (s : Shape) (writes : Bool) (switches : List Text) : Type 0 where
   pub input : HasPlace s (codes "IN") 1
-  pub output : HasPlace s (codes "OUT") 2
+  pub output : writes ≡ true → HasPlace s (codes "OUT") 2
   pub names : HasNames s
   pub input_id : (rule_named s (codes "IN")).id ≡ codes "IN"
   pub output_id : (rule_named s (codes "OUT")).id ≡ codes "OUT"
+  pub input_default : with_defaults (codes "IN") s.rules None ≡ None
+  pub output_default : with_defaults (codes "OUT") s.rules None ≡ None
   pub names_id : (rule_named s (codes "names")).id ≡ codes "names"
   pub each : AllAre (HasSwitch s) switches
   pub level : (words : List Word) → let end = (walk s.rules [] nothing_held words).held in
       level_passes s [] nothing_held words false
-      ≡ (walk_passes s [] (at_idle nothing_held 1) words && (settle_passes s.rules false end && (is_given (codes "IN") (finished s.rules end) && (is_given (codes "OUT") (finished s.rules end) && true))))
+      ≡ (walk_passes s [] (at_idle nothing_held 1) words && (settle_passes s.rules false end && (is_given (codes "IN") (finished s.rules end) && cond writes (is_given (codes "OUT") (finished s.rules end) && true) true)))
 
 -- ---- the rows of these
 

@@ -1,4 +1,4 @@
--- clap's walk of the words behind a command that asks for IN and OUT, and has options.
+-- clap's walk of the words behind a command that asks for IN and maybe OUT, and has options.
 use Rattle.std.proofs.Common.{◌≡◌, ◌⊎◌, ℕ, ◌+◌, ◌<◌, Bool, true, false, cond, not, ◌&&◌, ◌||◌, List, [], ◌∷◌, ◌++◌, Option, Some, None, length, take, drop, find, fold, bytes_eq, codes, is_some, option_map, option_and_then, refl, sym, ap, ap₂, subst, ◌∙◌, inl, inr, arith, true≢false, append_assoc, append-nil, nat_le, slice_get}
 use Rattle.std.specs.List.{list_any}
 use Rattle.std.specs.Option.{option_or}
@@ -16,7 +16,7 @@ use Rattle.cli_words.specs.declared.word.CommandWord.{CommandWord}
 use Rattle.cli_words.specs.Grammar.{first_fault, name_fault, option_fault, or_else, word_fault}
 use Rattle.cli_words.specs.Words.{Word, file_after, gives, is_names_option, is_option, is_option_of, is_same_option, names_file, names_in, places_of}
 use Rattle.cli_matches.proofs.Leaves.{at_idle, no_option_is}
-use Rattle.cli_matches.proofs.OptionFacts.{AllAre, HasPlace, HasSwitch, IsRewriting, all_from, all_of_both, dashed, look_other, look_own, look_switch, rows_held, rule_named, switch_row, switched, text_row}
+use Rattle.cli_matches.proofs.OptionFacts.{AllAre, HasPlace, HasOptions, HasSwitch, all_from, all_of_both, dashed, look_other, look_own, look_switch, rows_held, rule_named, switch_row, switched, text_row}
 use Rattle.cli_matches.proofs.Rows.{has_row_look, look, neither}
 
 -- ---- what the words so far have given
@@ -125,7 +125,7 @@ or_right : (a b : Bool) → b ≡ true → (a || b) ≡ true
 or_right true b e = refl
 or_right false b e = e
 
-module _ (s : Shape) (switches : List Text) (facts : IsRewriting s switches) (words : List Word) (h : Held) (ready : Ready s switches words h) where
+module _ (s : Shape) (writes : Bool) (switches : List Text) (facts : HasOptions s writes switches) (words : List Word) (h : Held) (ready : Ready s switches words h) where
   abbrev R : List Row
   R = rows_held s h
 
@@ -197,14 +197,23 @@ module _ (s : Shape) (switches : List Text) (facts : IsRewriting s switches) (wo
 
 -- ---- names
 
-few : (n : ℕ) → nat_le 2 n ≡ false → n < 2
-few n h = grind (arith, nat_tests)
+-- how many names the command asks for
+abbrev pub places : Bool → ℕ
+places writes = cond writes 2 1
+
+few : (writes : Bool) (n : ℕ) → nat_le (places writes) n ≡ false → n < 2
+few true n h = grind (arith, nat_tests)
+few false n h = grind (arith, nat_tests)
+
+if_two : (writes : Bool) → nat_le (places writes) 1 ≡ false → writes ≡ true
+if_two true h = refl
+if_two false h = cc
 
 no_file : (word : Word) → is_option word ≡ false → is_names_option word ≡ false
 no_file [] e = refl
 no_file (byte ∷ bytes) e = ap (λ b. is_some (cond (b && bytes_eq (take 7 bytes) (codes "-names=")) (Some (drop 7 bytes)) None)) e
 
-module _ (s : Shape) (switches : List Text) (facts : IsRewriting s switches) (words : List Word) (h : Held) (ready : Ready s switches words h) (word : Word) (is_name : is_option word ≡ false) where
+module _ (s : Shape) (writes : Bool) (switches : List Text) (facts : HasOptions s writes switches) (words : List Word) (h : Held) (ready : Ready s switches words h) (word : Word) (is_name : is_option word ≡ false) where
   abbrev R' : List Row
   R' = rows_held s h
 
@@ -240,27 +249,27 @@ module _ (s : Shape) (switches : List Text) (facts : IsRewriting s switches) (wo
         output = same_row (codes "OUT") R' r (look_other s (codes "IN") (codes "OUT") word facts.input_id refl) ∙ ready.given.output
             ∙ ap (λ ns. option_map (text_row s (codes "OUT")) (slice_get ns 1)) none ∙ ap (λ ns. option_map (text_row s (codes "OUT")) (slice_get ns 1)) (sym grow);
         each = options_stay r (λ other has. has.not_input word);
-        names = file_row_stays s switches facts words h ready word r (no_file word is_name) (look_other s (codes "IN") (codes "names") word facts.input_id refl);
+        names = file_row_stays s writes switches facts words h ready word r (no_file word is_name) (look_other s (codes "IN") (codes "names") word facts.input_id refl);
       })
 
-  output_steps : (input : Word) → names_in words ≡ input ∷ [] → Steps s switches words h word
-  output_steps input one =
+  output_steps : HasPlace s (codes "OUT") 2 → (input : Word) → names_in words ≡ input ∷ [] → Steps s switches words h word
+  output_steps has input one =
       let r = text_row s (codes "OUT") word in
       let grow : names_in (words ++ word ∷ []) ≡ input ∷ (word ∷ []) = names_grow words word is_name ∙ ap (λ ns. ns ++ word ∷ []) one in
       let no_row : look (codes "OUT") R' ≡ None = ready.given.output ∙ ap (λ ns. option_map (text_row s (codes "OUT")) (slice_get ns 1)) one in
-      place_steps (codes "OUT") 2 facts.output no_row (ap next_place one) (ap (λ ns. next_place (ns ++ word ∷ [])) one) (record {
+      place_steps (codes "OUT") 2 has no_row (ap next_place one) (ap (λ ns. next_place (ns ++ word ∷ [])) one) (record {
         input = same_row (codes "IN") R' r (look_other s (codes "OUT") (codes "IN") word facts.output_id refl) ∙ ready.given.input
             ∙ ap (λ ns. option_map (text_row s (codes "IN")) (slice_get ns 0)) one ∙ ap (λ ns. option_map (text_row s (codes "IN")) (slice_get ns 0)) (sym grow);
         output = new_row (codes "OUT") R' r no_row (look_own s (codes "OUT") word facts.output_id) ∙ ap (λ ns. option_map (text_row s (codes "OUT")) (slice_get ns 1)) (sym grow);
         each = options_stay r (λ other has. has.not_output word);
-        names = file_row_stays s switches facts words h ready word r (no_file word is_name) (look_other s (codes "OUT") (codes "names") word facts.output_id refl);
+        names = file_row_stays s writes switches facts words h ready word r (no_file word is_name) (look_other s (codes "OUT") (codes "names") word facts.output_id refl);
       })
 
-  name_steps : (ns : List Word) → names_in words ≡ ns → nat_le 2 (length ns) ≡ false → Steps s switches words h word
+  name_steps : (ns : List Word) → names_in words ≡ ns → nat_le (places writes) (length ns) ≡ false → Steps s switches words h word
   name_steps [] is room = input_steps is
-  name_steps (input ∷ []) is room = output_steps input is
+  name_steps (input ∷ []) is room = output_steps (facts.output (if_two writes room)) input is
   name_steps (input ∷ (output ∷ ns)) is room =
-      let short : length (input ∷ (output ∷ ns)) < 2 = few _ room in
+      let short : length (input ∷ (output ∷ ns)) < 2 = few writes _ room in
       absurd (omega arith)
 
 -- ---- any word that is not at fault
@@ -293,14 +302,14 @@ option_judged command words word e = go (is_option_of command word) refl e
     go true is e = (refl, (not_taken (list_any (is_same_option word) words) Repeated _ e).0)
     go false is e = cc
 
-module _ (s : Shape) (switches : List Text) (facts : IsRewriting s switches) (words : List Word) (h : Held) (ready : Ready s switches words h) (word : Word) (new : list_any (is_same_option word) words ≡ false) where
+module _ (s : Shape) (writes : Bool) (switches : List Text) (facts : HasOptions s writes switches) (words : List Word) (h : Held) (ready : Ready s switches words h) (word : Word) (new : list_any (is_same_option word) words ≡ false) where
   by : (option : Word) → option ≡ word → (list_any (is_same_option option) words ≡ false → Steps s switches words h option) → Steps s switches words h word
   by option is steps = subst (λ w. list_any (is_same_option w) words ≡ false → Steps s switches words h w) is steps new
 
   option_steps : (names : List Text) → AllAre (HasSwitch s) names → AllAre (λ name. look name (rows_held s h) ≡ switched s name (gives (dashed name) words)) names → is_own names word ≡ true → Steps s switches words h word
-  option_steps [] has known own = by (codes "--names=" ++ drop 8 word) (is_file word own) (names_steps s switches facts words h ready (drop 8 word))
+  option_steps [] has known own = by (codes "--names=" ++ drop 8 word) (is_file word own) (names_steps s writes switches facts words h ready (drop 8 word))
   option_steps (name ∷ names) has known own = elim (or_case (bytes_eq word (dashed name)) _ own) [
-    | inl is ↦ by (dashed name) (sym ((bytes_eq-Decides word (dashed name)).0 is)) (switch_steps s switches facts words h ready name has.first known.first)
+    | inl is ↦ by (dashed name) (sym ((bytes_eq-Decides word (dashed name)).0 is)) (switch_steps s writes switches facts words h ready name has.first known.first)
     | inr rest ↦ option_steps names has.rest known.rest rest
   ]
 
@@ -314,7 +323,7 @@ pub record Walks (s : Shape) (switches : List Text) (w : Walk) (words all : List
   pub passes : walk_passes s [] w words ≡ true
   pub ready : Ready s switches all (fold (walked s.rules []) w words).held
 
-module _ (s : Shape) (switches : List Text) (facts : IsRewriting s switches) (command : CommandWord) (known : (word : Word) → is_option_of command word ≡ true → is_own switches word ≡ true) (two : places_of command ≡ 2) where
+module _ (s : Shape) (writes : Bool) (switches : List Text) (facts : HasOptions s writes switches) (command : CommandWord) (known : (word : Word) → is_option_of command word ≡ true → is_own switches word ≡ true) (asks : places_of command ≡ places writes) where
   word_steps : (words : List Word) (h : Held) (word : Word) → Ready s switches words h → word_fault command words word ≡ None → Steps s switches words h word
   unfolding word_fault
   word_steps words h word ready right = go (is_option word) refl right
@@ -322,10 +331,10 @@ module _ (s : Shape) (switches : List Text) (facts : IsRewriting s switches) (co
       go : (b : Bool) → is_option word ≡ b → cond b (option_fault command words word) (name_fault command words word) ≡ None → Steps s switches words h word
       go true is right =
           let judged = option_judged command words word right in
-          option_steps s switches facts words h ready word judged.1 switches facts.each ready.given.each (known word judged.0)
+          option_steps s writes switches facts words h ready word judged.1 switches facts.each ready.given.each (known word judged.0)
       go false is right =
           let room = (not_taken (nat_le (places_of command) (length (names_in words))) Extra _ right).0 in
-          name_steps s switches facts words h ready word is (names_in words) refl (subst (λ n. nat_le n (length (names_in words)) ≡ false) two room)
+          name_steps s writes switches facts words h ready word is (names_in words) refl (subst (λ n. nat_le n (length (names_in words)) ≡ false) asks room)
 
   walks_on : (w w' : Walk) (word : Word) (words all : List Word) → walked s.rules [] w word ≡ w' → turn_passes s [] w word ≡ true → Walks s switches w' words all → Walks s switches w (word ∷ words) all
   unfolding walk_passes

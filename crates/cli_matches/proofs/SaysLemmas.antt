@@ -4,13 +4,14 @@ use Rattle.std.specs.Option.{unwrap_or}
 use Rattle.clap.specs.Words.{Row, Text, first_of}
 use Rattle.x86_map.specs.declared.map.Map.{Map}
 use Rattle.cli_words.specs.declared.options.CheckOptions.{CheckOptions}
+use Rattle.cli_words.specs.declared.options.EntryRules.{EntryRules}
 use Rattle.cli_words.specs.declared.word.CommandWord.{CommandWord}
 use Rattle.cli_words.specs.declared.word.CommandWord.TheVariants as the
-use Rattle.cli_words.specs.Grammar.{Command, cfa, cfi, check, demo, dump, find, help, list, merge, sites, unwind, version}
+use Rattle.cli_words.specs.Grammar.{Command, cfa, cfi, check, demo, dump, entry, find, help, list, merge, sites, unwind, version}
 use Rattle.cli_words.specs.Numbers.{address_of, number_of}
 use Rattle.cli_words.specs.Words.{Word, command_named}
 use Rattle.cli_matches.specs.declared.reading.Rewriting.{Rewriting}
-use Rattle.cli_matches.specs.Matches.{Says, SaysArguments, SaysCheck, SaysPair, SaysRewriting, name_of}
+use Rattle.cli_matches.specs.Matches.{Says, SaysArguments, SaysCheck, SaysEntry, SaysPair, SaysRewriting, name_of}
 
 pub some_of : {X : Type 0} (x y : X) → Some x ≡ Some y → x ≡ y
 some_of x y e = ap (λ o. unwrap_or o x) e
@@ -36,6 +37,7 @@ word_of (dump file) = Some the.Dump
 word_of (unwind file image) = Some the.Unwind
 word_of (sites input output map names) = Some the.Sites
 word_of (list file) = Some the.List
+word_of (entry input rules map names) = Some the.Entry
 word_of (cfi input output map names) = Some the.Cfi
 word_of (cfa file) = Some the.Cfa
 word_of (merge layout output) = Some the.Merge
@@ -50,6 +52,7 @@ named (dump file) = refl
 named (unwind file image) = refl
 named (sites input output map names) = refl
 named (list file) = refl
+named (entry input rules map names) = refl
 named (cfi input output map names) = refl
 named (cfa file) = refl
 named (merge layout output) = refl
@@ -68,6 +71,7 @@ IsReadAs the.Dump rows read = (file : Word) → first_of (codes "FILE") rows ≡
 IsReadAs the.Unwind rows read = (file image : Word) → SaysPair rows (codes "FILE") (codes "IMAGE") file image → read ≡ Some (unwind file image)
 IsReadAs the.Sites rows read = (i o : Word) (map : Map) (names : Option Word) → SaysRewriting rows i o map names → read ≡ Some (sites i o map names)
 IsReadAs the.List rows read = (file : Word) → first_of (codes "FILE") rows ≡ Some file → read ≡ Some (list file)
+IsReadAs the.Entry rows read = (input : Word) (rules : EntryRules) (map : Map) (names : Option Word) → SaysEntry rows input rules map names → read ≡ Some (entry input rules map names)
 IsReadAs the.Cfi rows read = (i o : Word) (map : Map) (names : Option Word) → SaysRewriting rows i o map names → read ≡ Some (cfi i o map names)
 IsReadAs the.Cfa rows read = (file : Word) → first_of (codes "FILE") rows ≡ Some file → read ≡ Some (cfa file)
 IsReadAs the.Merge rows read = (layout output : Word) → SaysPair rows (codes "LAYOUT") (codes "OUT") layout output → read ≡ Some (merge layout output)
@@ -84,6 +88,7 @@ module _ (name : Text) (rows : List Row) (read : Option Command) where
   by_word word (unwind file image) is known says = as_word the.Unwind word is known file image says
   by_word word (sites i o map names) is known says = as_word the.Sites word is known i o map names says
   by_word word (list file) is known says = as_word the.List word is known file says
+  by_word word (entry input rules map names) is known says = as_word the.Entry word is known input rules map names says
   by_word word (cfi i o map names) is known says = as_word the.Cfi word is known i o map names says
   by_word word (cfa file) is known says = as_word the.Cfa word is known file says
   by_word word (merge layout output) is known says = as_word the.Merge word is known layout output says
@@ -102,6 +107,7 @@ module _ (name : Text) (rows : List Row) (read : Option Command) where
   no_word (unwind file image) is says = cc
   no_word (sites i o map names) is says = cc
   no_word (list file) is says = cc
+  no_word (entry input rules map names) is says = cc
   no_word (cfi i o map names) is says = cc
   no_word (cfa file) is says = cc
   no_word (merge layout output) is says = cc

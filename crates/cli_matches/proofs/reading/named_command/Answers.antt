@@ -26,6 +26,10 @@ pub returns-in-list : goal.returns-in-list
 returns-in-list c =
     IfOk-weaker c.list_of.result _ _ (λ read known. said_behind (codes "list") the.List c.args.name.now (rows_in c.args.found.now) (option_map command_in read) (search rules) refl known) c.list_of.ensures
 
+pub returns-in-entry : goal.returns-in-entry
+returns-in-entry c =
+    IfOk-weaker c.entry_of.result _ _ (λ read known. said_behind (codes "entry") the.Entry c.args.name.now (rows_in c.args.found.now) (option_map command_in read) (search rules) refl known) c.entry_of.ensures
+
 pub returns-in-cfi : goal.returns-in-cfi
 returns-in-cfi c =
     IfOk-weaker c.cfi_of.result _ _ (λ read known. said_behind (codes "cfi") the.Cfi c.args.name.now (rows_in c.args.found.now) (option_map command_in read) (search rules) refl known) c.cfi_of.ensures
