@@ -3,7 +3,7 @@ _objtool() {
     local current=${COMP_WORDS[COMP_CWORD]} options='' prefix='' files word i
     COMPREPLY=()
     if ((COMP_CWORD == 1)); then
-        word='check dump unwind sites list cfi cfa merge find demo --help --version -h -V'
+        word='check dump unwind sites list entry cfi cfa merge find demo --help --version -h -V'
         mapfile -t COMPREPLY < <(compgen -W "$word" -- "$current")
         return
     fi
@@ -11,6 +11,7 @@ _objtool() {
     case ${COMP_WORDS[1]} in
     check) files=2 options='--fp --retpoline --rethunk --uaccess --no-unreachable --all-opcodes --names= ' ;;
     sites | cfi) files=2 options='--all-opcodes --names= ' ;;
+    entry) files=1 options='--noinstr --sls --ibt --all-opcodes --names= ' ;;
     unwind | merge) files=2 ;;
     dump | list | cfa | find) files=1 ;;
     *) return ;;
