@@ -1,5 +1,5 @@
 -- What keeps an object from getting site lists, and that nothing does where it gets them.
-use Rattle.std.proofs.Common.{◌≡◌, ℕ, ◌≤◌, ◌<◌, List, [], length, drop, refl, sym, ap, ◌∙◌, arith, subst, inl, inr}
+use Rattle.std.proofs.Common.{◌≡◌, ℕ, ◌≤◌, List, [], length, drop, refl, sym, ap, ◌∙◌, arith, subst, inl, inr}
 use Rattle.std.specs.Prelude.{◌≢◌, Some, None, Option, Result, Ok, Err, slice_get}
 use Rattle.operation_defs.specs.declared.insn.Insn.{Insn}
 use Rattle.elf_objects.specs.Elf.{Elf}

@@ -1,6 +1,6 @@
 -- What follows from how `list` ends.
 use Rattle.std.proofs.Common.{◌≡◌, ℕ, List, refl, sym, ◌∙◌, subst, inl, inr}
-use Rattle.std.specs.Prelude.{◌≢◌, ◌⊎◌, Option, Some, Ok}
+use Rattle.std.specs.Prelude.{◌≢◌, Option, Some, Ok}
 use Rattle.ot_files.specs.Causes.{Rose}
 use Rattle.ot_files.specs.Content.{Content, reading}
 use Rattle.elf_objects.specs.declared.TheConstants.{MAX_FILE_BYTES}
@@ -18,11 +18,10 @@ use Rattle.site_lists.specs.declared.fault.SitesFault.TheVariants as sites_fault
 use Rattle.site_lists.proofs.Excluded.{fault_excludes}
 use Rattle.command_base.specs.Dump.{IsAnswered}
 use Rattle.command_base.specs.Outside.{Outside, Output}
-use Rattle.command_base.specs.Printing.{Concludes, Prints}
-use Rattle.command_base.specs.Reading.{MayRead, StopsAtRead, parse_stop, sites_stop}
+use Rattle.command_base.specs.Reading.{MayRead, parse_stop, sites_stop}
 use Rattle.command_base.specs.Stop.{status_of}
 use Rattle.command_base.specs.declared.status.Status.{Status}
-use Rattle.command_base.specs.declared.status.Status.TheVariants.{Done, Warnings, Refused, Usage, FileFault, SinkFault, NoMemory}
+use Rattle.command_base.specs.declared.status.Status.TheVariants.{Done, Warnings, Refused, Usage, FileFault, SinkFault}
 use Rattle.command_base.specs.declared.stop.CommandStop.{CommandStop}
 use Rattle.command_base.specs.declared.stop.CommandStop.TheVariants as stop
 use Rattle.command_base.proofs.ConcludeLemmas.{concluded_fault, concluded_no_warnings, concluded_not_done, concluded_sink_fault, printed_fault, printed_sink_fault, printed_warnings}

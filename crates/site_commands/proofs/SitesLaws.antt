@@ -1,5 +1,5 @@
 -- What follows from how `sites` ends.
-use Rattle.std.proofs.Common.{◌≡◌, ℕ, List, refl, sym, ap, ◌∙◌, subst, inl, inr}
+use Rattle.std.proofs.Common.{◌≡◌, ℕ, List, refl, sym, ap, subst, inl, inr}
 use Rattle.std.specs.Prelude.{◌≢◌, ◌⊎◌, Option, Some, None, Ok}
 use Rattle.std.specs.FinMap.{get}
 use Rattle.ot_base.specs.NameLists.{NameLists}
@@ -29,7 +29,7 @@ use Rattle.site_commands.specs.Order.{GetsSites}
 use Rattle.site_commands.specs.Refused.{IsRefusedOrFails, RefusesSites, Tells, input_refused, input_unread, list_faulty, list_unread}
 use Rattle.site_commands.specs.Sites.{EndsSites, GetNoSites, MayGetSites, OutListsSites, SitesMayChange, StopsSites, done, has_sites, malformed, no_memory, refused, stopped, too_many_sections, too_many_symbols, unflowed, unlinked, unread, unwritten, without_names}
 use Rattle.site_commands.proofs.Content.{get-insert_same, held_is, written_others}
-use Rattle.site_commands.proofs.Gets.{gets_excluded, one_object}
+use Rattle.site_commands.proofs.Gets.{gets_excluded}
 use Rattle.site_commands.proofs.Stops.{concluded_usage, done_not_refused, fault_left, given_names, is_read, left, names_fault, names_left, names_no_usage, neither, no_faulty_line, not_memory, of_stop, one_text, read_no_usage, readable, unreadable, write_fault, write_no_usage, write_not_refused, write_told}
 
 -- ---- what it leaves

@@ -1,5 +1,5 @@
 -- What the command `sites IN OUT` does, on whatever its files hold, and how it ends.
-use Rattle.std.specs.Prelude.{◌≡◌, ◌≢◌, ◌⊎◌, ⊤, ℕ, ◌<◌, ◌≤◌, List, Option, Some, None, Ok, length}
+use Rattle.std.specs.Prelude.{◌≡◌, ◌≢◌, ⊤, ℕ, ◌<◌, ◌≤◌, List, Option, Some, None, Ok, length}
 use Rattle.std.specs.FinMap.{get}
 use Rattle.ot_base.specs.NameLists.{NameLists}
 use Rattle.ot_files.specs.Content.{Content, ChangesAtMost, writing}

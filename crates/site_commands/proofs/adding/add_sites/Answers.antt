@@ -1,5 +1,4 @@
-use Rattle.std.proofs.Common.{◌≡◌, List, ℕ, refl, sym, subst}
-use Rattle.ot_files.specs.Content.{writing}
+use Rattle.std.proofs.Common.{refl, sym, subst}
 use Rattle.site_commands.specs.Sites.{GetNoSites, done, refused, stopped, unwritten}
 use Rattle.site_commands.proofs.Gets.{no_object}
 use Rattle.site_commands.proofs.SitesEnds.{may_get, written_as}

@@ -1,4 +1,4 @@
-use Rattle.std.proofs.Common.{◌≡◌, ℕ, ◌≤◌, ◌∙◌, arith}
+use Rattle.std.proofs.Common.{ℕ, ◌≤◌, ◌∙◌, arith}
 use Rattle.site_commands.specs.Sites.{stopped, unread, without_names}
 use Rattle.site_commands.proofs.SitesEnds.{ends_later, names_later, was_read}
 use Rattle.site_commands.proofs.adding.read_and_add.Goals as goal

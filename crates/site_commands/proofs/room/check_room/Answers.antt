@@ -1,4 +1,4 @@
-use Rattle.std.proofs.Common.{◌≡◌, ◌<◌, ◌∙◌, List, length, sym, subst, arith}
+use Rattle.std.proofs.Common.{◌≡◌, ◌<◌, length, sym, subst, arith}
 use Rattle.std.specs.Prelude.{ℕ, None}
 use Rattle.elf_objects.specs.Elf.{Elf}
 use Rattle.elf_objects.specs.declared.fault.Counted.TheVariants.{Sections}

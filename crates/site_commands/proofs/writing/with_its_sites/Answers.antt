@@ -4,7 +4,7 @@ use Rattle.elf_objects.specs.declared.TheConstants.{MAX_SYMBOLS}
 use Rattle.flow_defs.specs.Coded.{coded_by}
 use Rattle.site_lists.specs.Listed.{Listed, listed}
 use Rattle.site_lists.specs.Sites.{sites_of}
-use Rattle.site_output.specs.Tables.{IsSiteFault, symbols_needed}
+use Rattle.site_output.specs.Tables.{symbols_needed}
 use Rattle.site_commands.specs.Sites.{no_memory, too_many_symbols}
 use Rattle.site_commands.proofs.SitesEnds.{lists_sites}
 use Rattle.site_commands.proofs.writing.with_its_sites.Goals as goal
