@@ -1,6 +1,6 @@
 -- What follows from how `cfa` ends.
 use Rattle.std.proofs.Common.{◌≡◌, ℕ, List, refl, sym, ◌∙◌, subst, inl, inr}
-use Rattle.std.specs.Prelude.{◌≢◌, ◌⊎◌, Option, Some, Ok}
+use Rattle.std.specs.Prelude.{◌≢◌, Option, Some, Ok}
 use Rattle.ot_files.specs.Causes.{Rose}
 use Rattle.ot_files.specs.Content.{Content, reading}
 use Rattle.elf_objects.specs.declared.TheConstants.{MAX_FILE_BYTES}
@@ -18,11 +18,11 @@ use Rattle.eh_frame.specs.declared.rule.PlacedRule.{PlacedRule}
 use Rattle.eh_frame.proofs.Decoded.{no_fault}
 use Rattle.command_base.specs.Dump.{IsAnswered}
 use Rattle.command_base.specs.Outside.{Outside, Output}
-use Rattle.command_base.specs.Printing.{Concludes, Prints}
-use Rattle.command_base.specs.Reading.{MayRead, StopsAtRead, frames_stop, parse_stop}
+use Rattle.command_base.specs.Printing.{Prints}
+use Rattle.command_base.specs.Reading.{MayRead, frames_stop, parse_stop}
 use Rattle.command_base.specs.Stop.{status_of}
 use Rattle.command_base.specs.declared.status.Status.{Status}
-use Rattle.command_base.specs.declared.status.Status.TheVariants.{Done, Warnings, Refused, Usage, FileFault, SinkFault, NoMemory}
+use Rattle.command_base.specs.declared.status.Status.TheVariants.{Done, Warnings, Refused, Usage, FileFault, SinkFault}
 use Rattle.command_base.specs.declared.stop.CommandStop.{CommandStop}
 use Rattle.command_base.specs.declared.stop.CommandStop.TheVariants as stop
 use Rattle.command_base.proofs.ConcludeLemmas.{concluded_fault, concluded_no_warnings, concluded_not_done, concluded_sink_fault, printed_fault, printed_sink_fault, printed_warnings}
@@ -75,7 +75,7 @@ file_told file before after out out' x (read bytes may h) e = bytes_say file byt
 
 pub no_rules_excluded : (bytes : List ℕ) (o : Elf) (rules : List PlacedRule) (s : CommandStop) → SaysRules bytes o rules → SaysNoRules bytes s → s ≡ stop.NoMemory
 no_rules_excluded bytes o rules s held (malformed fault) = absurd (FirstFault-not bytes _ fault held.object.well_formed)
-no_rules_excluded bytes o rules s held (no_rules p is fault) = absurd (fault_excludes p rules _ fault (subst (λ (x : Elf). HoldsRules x rules) (one_object bytes o p held.object is) held.says))
+no_rules_excluded bytes o rules s held (no_rules p is fault) = absurd (no_fault p rules _ fault (subst (λ (x : Elf). HoldsRules x rules) (one_object bytes o p held.object is) held.held))
 no_rules_excluded bytes o rules s held no_memory = refl
 
 bytes_left : (bytes : List ℕ) (o : Elf) (rules : List PlacedRule) (before after : Output) (x : Status) → SaysRules bytes o rules → TellsBytes bytes before after x → IsAnswered x

@@ -1,5 +1,5 @@
 -- How `cfi` ends, from what its parts ensure.
-use Rattle.std.proofs.Common.{◌≡◌, ℕ, ◌≤◌, List, refl, sym, subst, arith}
+use Rattle.std.proofs.Common.{◌≡◌, ℕ, ◌≤◌, List, subst, arith}
 use Rattle.std.specs.Prelude.{Option}
 use Rattle.ot_base.specs.NameLists.{NameLists}
 use Rattle.ot_base.specs.declared.row.PlacedRow.{PlacedRow}
@@ -22,7 +22,7 @@ use Rattle.command_base.specs.declared.status.Status.{Status}
 use Rattle.command_base.specs.declared.status.Status.TheVariants as status
 use Rattle.command_base.specs.declared.stop.CommandStop.{CommandStop}
 use Rattle.command_base.specs.declared.stop.CommandStop.TheVariants as stop
-use Rattle.frame_commands.specs.Cfi.{EndsCfi, GetNoFrames, Gets, IsRead, MayGetFrames, StopsCfi, done, no_memory, refused, stopped, too_many_symbols, unread, unwritten, warned, without_names}
+use Rattle.frame_commands.specs.Cfi.{EndsCfi, GetNoFrames, IsRead, MayGetFrames, StopsCfi, done, no_memory, refused, stopped, too_many_symbols, unread, unwritten, warned, without_names}
 use Rattle.frame_commands.specs.Order.{GetsFrames, IsCheckable, allowances_under, default_rules, program_under}
 use Rattle.frame_commands.specs.Written.{IsCrowded, TellsRows}
 use Rattle.frame_commands.proofs.Stops.{names_earlier, outside, read_earlier, write_earlier}
@@ -102,3 +102,6 @@ names_later s names content middle before faults after same later h = names_earl
 
 pub later_still : (a b c : ℕ) → a ≤ b → b ≤ c → a ≤ c
 later_still a b c h k = omega arith
+
+pub wrote : (output shown file : List ℕ) (before after : Option Content) → shown ≡ file → after ≡ writing before output shown → after ≡ writing before output file
+wrote output shown file before after same h = subst (λ (bytes : List ℕ). after ≡ writing before output bytes) same h

@@ -6,7 +6,6 @@ use Rattle.ot_base.specs.NameLists.{NameLists, lists_with}
 use Rattle.ot_base.specs.NamesFile.{IsNamesFile}
 use Rattle.ot_base.specs.declared.lists.ListsFault.TheVariants as lists_fault
 use Rattle.ot_base.specs.declared.row.PlacedRow.{PlacedRow}
-use Rattle.ot_files.specs.Causes.{Rose}
 use Rattle.ot_files.specs.Content.{Content, reading, writing}
 use Rattle.elf_objects.specs.declared.TheConstants.{MAX_FILE_BYTES}
 use Rattle.elf_objects.specs.Elf.{Elf}
@@ -19,12 +18,12 @@ use Rattle.command_base.specs.Printing.{Concludes}
 use Rattle.command_base.specs.Stop.{status_of}
 use Rattle.command_base.specs.declared.refusal.Refusal.TheVariants as refusal
 use Rattle.command_base.specs.declared.status.Status.{Status}
-use Rattle.command_base.specs.declared.status.Status.TheVariants.{Done, Warnings, Refused, Usage, FileFault, SinkFault, NoMemory}
+use Rattle.command_base.specs.declared.status.Status.TheVariants.{Done, Warnings, Refused, Usage, FileFault, NoMemory}
 use Rattle.command_base.specs.declared.stop.CommandStop.{CommandStop}
 use Rattle.command_base.specs.declared.stop.CommandStop.TheVariants as stop
 use Rattle.command_base.proofs.ConcludeLemmas.{concluded_no_warnings, concluded_not_done}
 use Rattle.command_base.proofs.DumpLaws.{no_memory_left, unread_left}
-use Rattle.frame_commands.specs.Cfi.{BreaksRule, CfiMayChange, EndsCfi, GetNoFrames, Gets, HasWarnings, IsRead, IsUnchecked, MayBeWarned, MayGetFrames, StopsCfi, TellsWarnings, done, has_frames, malformed, no_memory, out_of_memory, refused, stopped, too_many_sections, too_many_symbols, unchecked, unflowed, unlinked, unread, unwritten, warned, without_names}
+use Rattle.frame_commands.specs.Cfi.{BreaksRule, CfiMayChange, EndsCfi, GetNoFrames, Gets, HasWarnings, IsRead, IsUnchecked, MayGetFrames, StopsCfi, TellsWarnings, done, has_frames, malformed, no_memory, out_of_memory, refused, stopped, too_many_sections, too_many_symbols, unchecked, unflowed, unlinked, unread, unwritten, warned, without_names}
 use Rattle.frame_commands.specs.Refused.{IsRefusedOrFails, IsWarnedOrFails, RefusesCfi, Tells, input_refused, input_unread, list_faulty, list_unread}
 use Rattle.frame_commands.specs.Written.{OutTellsFrames}
 use Rattle.frame_commands.proofs.Content.{get-insert_same, held_is, written_others}

@@ -48,7 +48,7 @@ use Rattle.command_base.specs.declared.refusal.Refusal.TheVariants as refusal
 use Rattle.command_base.specs.declared.stop.CommandStop.{CommandStop}
 use Rattle.command_base.specs.declared.stop.CommandStop.TheVariants as stop
 use Rattle.frame_commands.specs.Cfi.{BreaksRule, GetNoFrames, Gets, HasWarnings, IsUnchecked, has_frames, malformed, no_memory, out_of_memory, too_many_sections, too_many_symbols, unchecked, unflowed, unlinked}
-use Rattle.frame_commands.specs.Order.{GetsFrames, IsCheckable, allowances_under, default_rules, most_sections, program_under}
+use Rattle.frame_commands.specs.Order.{IsCheckable, allowances_under, default_rules, most_sections, program_under}
 
 -- ---- from the faults of those who read an object
 
@@ -78,32 +78,32 @@ link_fault_of o fault h = of (code.Link fault) refl h
     of f e checked.no_memory = let z : ⊥ = cc in absurd z
 
 pub no_link : (s : CommandStop) (map : Map) (o : Elf) (fault : LinkFault) → IsCodeFault (coded_by map o) (code.Link fault) → IsLinkStop o fault s → IsUnchecked map o s
-no_link (stop.Usage usage) map o fault why h = absurd h
-no_link (stop.Missing told) map o fault why h = absurd h
-no_link (stop.TooLong told at) map o fault why h = absurd h
-no_link (stop.Refused (refusal.Malformed fault)) map o fault why h = absurd h
-no_link (stop.Refused (refusal.Orc fault)) map o fault why h = absurd h
-no_link (stop.Refused (refusal.Lists fault)) map o fault why h = absurd h
-no_link (stop.Refused (refusal.Image fault)) map o fault why h = absurd h
-no_link (stop.Refused (refusal.NoText sec)) map o fault why h = absurd h
-no_link (stop.Refused (refusal.Unplaced fault)) map o fault why h = absurd h
-no_link (stop.Refused (refusal.Unlinked told)) map o fault why h = unlinked (subst (λ (f : LinkFault). IsCodeFault (coded_by map o) (code.Link f)) (sym h.1.0) why) h.1.1
-no_link (stop.Refused (refusal.Unflowed told)) map o fault why h = absurd h
-no_link (stop.Refused (refusal.HasOrc sec)) map o fault why h = absurd h
-no_link (stop.Refused (refusal.HasSites sec)) map o fault why h = absurd h
-no_link (stop.Refused (refusal.Sites fault)) map o fault why h = absurd h
-no_link (stop.Refused (refusal.HasFrames sec)) map o fault why h = absurd h
-no_link (stop.Refused (refusal.Frames fault)) map o fault why h = absurd h
-no_link (stop.Refused (refusal.TooMany what count)) map o fault why h = absurd h
-no_link (stop.Refused (refusal.Layout fault)) map o fault why h = absurd h
-no_link (stop.Refused (refusal.TooManyFiles count)) map o fault why h = absurd h
-no_link (stop.Refused (refusal.Merge fault)) map o fault why h = absurd h
-no_link (stop.Refused (refusal.Table fault)) map o fault why h = absurd h
-no_link (stop.PartMissing part told) map o fault why h = absurd h
-no_link (stop.PartTooLong part told at) map o fault why h = absurd h
-no_link (stop.PartRefused part why) map o fault why h = absurd h
-no_link (stop.FileFault told) map o fault why h = absurd h
-no_link stop.NoMemory map o fault why h = no_memory
+no_link (stop.Usage usage) map o f is h = absurd h
+no_link (stop.Missing told) map o f is h = absurd h
+no_link (stop.TooLong told at) map o f is h = absurd h
+no_link (stop.Refused (refusal.Malformed fault)) map o f is h = absurd h
+no_link (stop.Refused (refusal.Orc fault)) map o f is h = absurd h
+no_link (stop.Refused (refusal.Lists fault)) map o f is h = absurd h
+no_link (stop.Refused (refusal.Image fault)) map o f is h = absurd h
+no_link (stop.Refused (refusal.NoText sec)) map o f is h = absurd h
+no_link (stop.Refused (refusal.Unplaced fault)) map o f is h = absurd h
+no_link (stop.Refused (refusal.Unlinked told)) map o f is h = unlinked (subst (λ (f : LinkFault). IsCodeFault (coded_by map o) (code.Link f)) (sym h.1.0) is) h.1.1
+no_link (stop.Refused (refusal.Unflowed told)) map o f is h = absurd h
+no_link (stop.Refused (refusal.HasOrc sec)) map o f is h = absurd h
+no_link (stop.Refused (refusal.HasSites sec)) map o f is h = absurd h
+no_link (stop.Refused (refusal.Sites fault)) map o f is h = absurd h
+no_link (stop.Refused (refusal.HasFrames sec)) map o f is h = absurd h
+no_link (stop.Refused (refusal.Frames fault)) map o f is h = absurd h
+no_link (stop.Refused (refusal.TooMany what count)) map o f is h = absurd h
+no_link (stop.Refused (refusal.Layout fault)) map o f is h = absurd h
+no_link (stop.Refused (refusal.TooManyFiles count)) map o f is h = absurd h
+no_link (stop.Refused (refusal.Merge fault)) map o f is h = absurd h
+no_link (stop.Refused (refusal.Table fault)) map o f is h = absurd h
+no_link (stop.PartMissing part told) map o f is h = absurd h
+no_link (stop.PartTooLong part told at) map o f is h = absurd h
+no_link (stop.PartRefused part why) map o f is h = absurd h
+no_link (stop.FileFault told) map o f is h = absurd h
+no_link stop.NoMemory map o f is h = out_of_memory
 
 pub no_flow : (map : Map) (o : Elf) (fault : FlowFault) → IsCodeFault (coded_by map o) (code.Flow fault) → IsUnchecked map o (flow_stop fault)
 no_flow map o (flow.FuncStart sym) h = unflowed h
