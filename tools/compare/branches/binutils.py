@@ -89,6 +89,7 @@ class Binary:
         self._read_relocs()
         self._read_code()
         self._read_alternatives()
+        self._read_hints()
 
     def _read_sections(self) -> None:
         self.sections, self.changed = {}, {}
@@ -156,17 +157,26 @@ class Binary:
         fields = sorted(field for field in self.relocs if self.sections[field.sec].name == name)
         return [self._named_at(field) for field in fields]
 
-    def _read_alternatives(self) -> None:
+    def _entries(self, name: str, size: int) -> list[tuple[Place, bytes]]:
+        """The entries of so many bytes of a special section, each with the place where it lies."""
         with open(self.path, "rb") as file:
             content = file.read()
-        self.alternatives = []
-        lengths = []
-        for sec in self.numbers_of(".altinstructions"):
+        entries = []
+        for sec in self.numbers_of(name):
             section = self.sections[sec]
             body = content[section.start : section.start + section.size]
-            lengths += [(body[off + 12], body[off + 13]) for off in range(0, len(body), 14)]
+            entries += [(Place(sec, off), body[off : off + size]) for off in range(0, len(body), size)]
+        return entries
+
+    def _read_alternatives(self) -> None:
+        self.alternatives = []
+        lengths = [(entry[12], entry[13]) for _, entry in self._entries(".altinstructions", 14)]
         for (original, replacement), (original_len, replacement_len) in zip(self.pairs(".altinstructions", 14), lengths):
             self.alternatives.append(Alternative(original, replacement, original_len, replacement_len))
+
+    def _read_hints(self) -> None:
+        """The kind of the last hint at each place."""
+        self.hints = {self._named_at(field): entry[7] for field, entry in self._entries(".discard.unwind_hints", 12)}
 
     def is_in_text(self, place: Place) -> bool:
         section = self.sections.get(place.sec)

@@ -69,6 +69,7 @@ def found_of(told: Told, points: dict[int, Point]) -> Branch:
 
 def expected_of(branches: Branches, point: Point) -> Branch:
     op = {"call": "Call", "jmp": "Jmp"}.get(branches.binary.branches[point.place].name, "Jcc")
+    op = "Hop" if point.place in branches.calls_within else op
     answer = branches.answer(point)
     role, entry, sym = answer.role
     return Branch(op, (role, Point(entry, 0) if entry is not None else None, sym), answer.edges, answer.marks)
@@ -87,7 +88,7 @@ def compare(path: str, told: list[Told], count: collections.Counter) -> list[str
         count.update(expected.kinds())
         if found != expected:
             differences.append(f"{path}: {point}: expected {expected}, found {found}")
-    others = {each.point for each in told if each.op in ("Call", "Jmp", "Jcc")} - set(wanted)
+    others = {each.point for each in told if each.op in ("Call", "Hop", "Jmp", "Jcc")} - set(wanted)
     return differences + [f"{path}: {point}: no direct call or branch" for point in sorted(others)]
 
 

@@ -8,6 +8,8 @@ from typing import NamedTuple, Optional
 from binutils import Binary, Branch, Place
 from functions import Functions
 
+# Kinds of hints.
+UNDEFINED, END_OF_STACK, CALL, FUNC = 0, 1, 2, 5
 BRANCH_TYPES = "R_X86_64_PC32", "R_X86_64_PLT32"
 
 
@@ -43,6 +45,7 @@ class Branches:
         self.static: dict[Place, list[Place]] = {}
         for code, target in binary.pairs("__jump_table", 16):
             self.static.setdefault(code, []).append(target)
+        self.calls_within = set(binary.listed(".discard.intra_function_calls"))
 
     def points(self) -> list[Point]:
         """Each branch where it stands, and once more in each replacement that has it."""
@@ -78,8 +81,21 @@ class Branches:
         return site is not None and site != place and (point.variant > 0 or self.originals.get(point.place) != site)
 
     def answer(self, point: Point) -> Answer:
-        answer = Answer()
         branch = self.binary.branches[point.place]
+        if point.place in self.calls_within:
+            return self._call_within(point, branch._replace(name="jmp"))
+        return self._branch(point, branch)
+
+    def _call_within(self, point: Point, as_jump: Branch) -> Answer:
+        """A call within a function goes where a jump would, and nowhere else than into the same owner's code."""
+        answer = self._branch(point, as_jump)
+        if answer.role[0] != "Plain" or any(kind != "Taken" for kind, _ in answer.edges):
+            answer.role, answer.edges = ("Plain", None, None), set()
+            answer.marks.add("bad")
+        return answer
+
+    def _branch(self, point: Point, branch: Branch) -> Answer:
+        answer = Answer()
         reloc = self.binary.relocs.get(point.place.behind(branch.len - branch.bytes), [None])[0]
         if reloc is not None:
             self._by_reloc(answer, point, branch, reloc)
@@ -147,10 +163,17 @@ class Branches:
             answer.role = ("CallOut", None, unchecked)
         elif self.functions.is_entry(place):
             answer.role = ("CallIn", place, None) if weak is None else ("CallEither", place, weak)
+        elif self._may_call(point, place):
+            answer.role = ("CallIn", place, None) if weak is None else ("CallEither", place, weak)
         else:
             answer.marks.add("into_function")
         if self._is_start(place) and not in_replacement and self._enters_site(point, place):
             answer.marks.add("into_site")
+
+    def _may_call(self, point: Point, place: Place) -> bool:
+        """Code of no function may call code of no function in no site, where a hint tells the stack as a call leaves it, or ends it."""
+        is_told = self.binary.hints.get(place) in (UNDEFINED, END_OF_STACK, CALL, FUNC)
+        return is_told and self._owner(point) is None and self.functions.owner_at(place) is None and place not in self.originals
 
     def _is_start(self, place: Place) -> bool:
         return self.binary.is_in_text(place) and place in self.binary.starts
