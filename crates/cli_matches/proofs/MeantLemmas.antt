@@ -21,9 +21,9 @@ use Rattle.cli_words.specs.declared.fault.UsageFault.{UsageFault}
 use Rattle.cli_words.specs.declared.command.Command as declared
 use Rattle.cli_words.specs.declared.word.CommandWord.{CommandWord}
 use Rattle.cli_words.specs.declared.word.CommandWord.TheVariants as the
-use Rattle.cli_words.specs.Grammar.{Command, asked, command_in, command_meaning, demo, find, first_fault, first_meaning, help, line_meaning, lone_meaning, map_in, meaning, name_fault, option_fault, or_missing, unless, version, word_fault}
+use Rattle.cli_words.specs.Grammar.{Command, asked, command_in, command_meaning, demo, find, first_fault, first_meaning, help, line_meaning, lone_meaning, meaning, name_fault, option_fault, or_missing, unless, version, word_fault}
 use Rattle.cli_words.specs.Numbers.{address_of, number_of}
-use Rattle.cli_words.specs.Words.{Word, command_named, gives, is_option, is_option_of, is_same_option, names_file, names_in, places_of}
+use Rattle.cli_words.specs.Words.{Word, command_named, gives, is_option, is_option_of, is_same_option, names_in, places_of}
 use Rattle.cli_matches.specs.Definition.{check_app, demo_app, entry_app, file_app, find_app, line_app, merge_app, rewriting_app, unwind_app}
 use Rattle.cli_matches.specs.Matches.{Says, SaysPair, SaysSwitch, request_of}
 use Rattle.cli_matches.proofs.Built.{Enters, cfa_enters, cfi_enters, check_enters, demo_enters, dump_enters, entry_enters, find_enters, leaf_of, line_finds, line_is_simple, line_takes, list_enters, merge_enters, sites_enters, unwind_enters}
