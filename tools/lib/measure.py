@@ -3,14 +3,17 @@
   measure.py [--copy FROM TO] RUNS WORD..
 
 prints microseconds of processor time, KiB of memory and the status, of the least of so many runs. With --copy each of them begins with
-a new copy of the file FROM, as TO. What the command prints is thrown away. No less memory is told than this interpreter itself holds, some 10 MiB.
+a new copy of the file FROM, as TO. What the command prints is thrown away. It is measured by a small program, measure.c, which gcc compiles.
 """
 
+import functools
 import os
 import shutil
 import subprocess
 import sys
+import tempfile
 import time
+from pathlib import Path
 from typing import Callable, NamedTuple, Optional
 
 
@@ -23,13 +26,22 @@ class Taken(NamedTuple):
     passed: float
 
 
+@functools.cache
+def folder() -> tempfile.TemporaryDirectory:
+    """A folder with the program that measures."""
+    made = tempfile.TemporaryDirectory()
+    subprocess.run(["gcc", "-O1", "-o", f"{made.name}/measure", Path(__file__).with_suffix(".c")], check=True)
+    return made
+
+
 def once(words, **how) -> Taken:
-    """What one run takes; `how` is as for `subprocess.Popen`."""
+    """What one run takes; `how` is as for `subprocess.run`."""
+    result = Path(folder().name) / "result"
     begun = time.monotonic()
-    with subprocess.Popen(words, **{"stdout": subprocess.DEVNULL, "stderr": subprocess.DEVNULL, **how}) as child:
-        _, status, used = os.wait4(child.pid, 0)
-        child.returncode = os.waitstatus_to_exitcode(status)
-    return Taken(used.ru_utime + used.ru_stime, used.ru_maxrss, child.returncode, time.monotonic() - begun)
+    subprocess.run([f"{folder().name}/measure", result, *words], check=True, **{"stdout": subprocess.DEVNULL, "stderr": subprocess.DEVNULL, **how})
+    passed = time.monotonic() - begun
+    micros, memory, status = map(int, result.read_text().split())
+    return Taken(micros / 1e6, memory, os.waitstatus_to_exitcode(status), passed)
 
 
 def least(words, runs: int = 3, before: Optional[Callable[[], object]] = None, **how) -> Taken:

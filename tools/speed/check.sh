@@ -4,7 +4,7 @@
 set -eu
 . "$(dirname "$0")/../lib/prepare.sh"
 . "$root/tools/lib/speed.sh"
-needs "check speed" as ld objdump python3
+needs "check speed" as ld objdump gcc python3
 program=$(built)
 
 {

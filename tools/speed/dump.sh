@@ -6,7 +6,7 @@ set -eu
 . "$(dirname "$0")/../lib/prepare.sh"
 . "$root/tools/lib/speed.sh"
 . "$root/tools/lib/linux.sh"
-needs "dump speed" readelf awk python3
+needs "dump speed" readelf awk gcc python3
 [ $# -eq 1 ] || { echo "usage: dump.sh MODULE"; exit 2; }
 linux=$(linux_objtool)
 program=$(built)

@@ -10,7 +10,7 @@
 # benchmark: nothing is asked of the times.
 set -eu
 . "$(dirname "$0")/../lib/prepare.sh"
-needs "large object" python3 ld objcopy readelf
+needs "large object" gcc python3 ld objcopy readelf
 [ $# -ge 1 ] || { echo "usage: large-object.sh FOLDER [MEGABYTES..]"; exit 2; }
 folder=$(cd "$1" && pwd)
 sizes=("${@:2}")

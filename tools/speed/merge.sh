@@ -4,7 +4,7 @@
 #   merge.sh [FILES [SECTIONS [ROWS]]]     ROWS is how many each object has; 1024, 200 and 3906 where they aren't given
 set -eu
 . "$(dirname "$0")/../lib/prepare.sh"
-needs "merge speed" python3 sort
+needs "merge speed" gcc python3 sort
 program=$(built)
 cd "$scratch"
 python3 "$here/inputs/placed_tables.py" . "${1:-1024}" "${2:-200}" "${3:-3906}"

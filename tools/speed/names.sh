@@ -5,7 +5,7 @@
 set -eu
 . "$(dirname "$0")/../lib/prepare.sh"
 . "$root/tools/lib/speed.sh"
-needs "name speed" python3 readelf timeout
+needs "name speed" gcc python3 readelf timeout
 names=$(over_libraries names)
 python3 "$here/inputs/long_names.py" "$scratch/names.o"
 said=$("$names" "$scratch/names.o") || { echo "$said"; exit 1; }

@@ -7,7 +7,7 @@
 set -eu
 . "$(dirname "$0")/../lib/prepare.sh"
 . "$root/tools/lib/linux.sh"
-needs "object speed" ld python3
+needs "object speed" ld gcc python3
 [ $# -eq 1 ] || { echo "usage: objects.sh FOLDER"; exit 2; }
 folder=$(cd "$1" && pwd)
 linux=$(linux_objtool)

@@ -5,7 +5,7 @@
 set -eu
 . "$(dirname "$0")/../lib/prepare.sh"
 . "$root/tools/lib/speed.sh"
-needs "parse speed" python3 readelf
+needs "parse speed" gcc python3 readelf
 parse=$(over_libraries parse)
 python3 "$here/inputs/many_symbols.py" "$scratch/large.o"
 said=$("$parse" "$scratch/large.o") || { echo "$said"; exit 1; }

@@ -6,7 +6,7 @@
 set -eu
 . "$(dirname "$0")/../lib/prepare.sh"
 . "$root/tools/lib/speed.sh"
-needs "readers speed" python3 readelf
+needs "readers speed" gcc python3 readelf
 readers=$(over_libraries readers)
 python3 "$here/inputs/special_code.py" "$scratch/much.o" >"$scratch/much"
 python3 "$here/inputs/special_code.py" "$scratch/shared.o" shared >"$scratch/shared"

@@ -4,7 +4,7 @@
 set -eu
 . "$(dirname "$0")/../lib/prepare.sh"
 . "$root/tools/lib/speed.sh"
-needs "walk speed" as ld awk python3
+needs "walk speed" as ld awk gcc python3
 program=$(built)
 frames=100000
 

@@ -11,7 +11,7 @@
 # all 62 million edges. These edges alone would take 500 MB: they have to stand once.
 set -eu
 . "$(dirname "$0")/../lib/prepare.sh"
-needs "worst objects" python3
+needs "worst objects" gcc python3
 program=$(built)
 PYTHONPATH=$root/tools/lib PROGRAM=$program MAKE=$here/worst-objects/make.py FOLDER=${KEEP:-$scratch} python3 - "$@" <<'PYTHON'
 import os
