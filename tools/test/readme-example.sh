@@ -10,7 +10,7 @@ failed() { echo "readme example: FAILED, $*"; exit 1; }
 cd "$scratch"
 
 # block N: the Nth block of code in README's section of the example.
-block() { sed -n '/^## An example$/,/^## What /p' "$root/README.md" | awk -v wanted="$1" '/^```/ { fences++; next } fences == 2 * wanted - 1'; }
+block() { sed -n '/^## An example$/,/^## /p' "$root/README.md" | awk -v wanted="$1" '/^```/ { fences++; next } fences == 2 * wanted - 1'; }
 # object NAME: what the assembler and the linker make of the code on the standard input.
 object() {
     { printf '\t.text\n\t.globl leaf\n\t.type leaf, @function\n' && cat && printf '\t.size leaf, .-leaf\n'; } | as -o assembled.o -
