@@ -44,8 +44,8 @@ pub record HoldsLists (bytes : List ℕ) (o : Elf) (lists : Listed) : Type 0 whe
   pub object : IsObject bytes o
   pub held : HoldsSites o lists
 
--- Why bytes aren't read as the site lists of an object: they are no object, and this is their first fault; or one whose site lists
--- hold no places, and this is the first fault of these; or memory ran out.
+-- Why bytes aren't read as the site lists of an object: they are no object, and this is their first fault; or one
+-- whose site lists hold no places, and this is the first fault of these; or memory ran out.
 pub data HoldsNoLists (bytes : List ℕ) : CommandStop → Type 0 where
   malformed : {fault : ElfFault} → object.FirstFault bytes fault → HoldsNoLists bytes (Refused (Malformed fault))
   no_lists : {fault : SitesFault} (o : Elf) → IsObject bytes o → sites.FirstFault o fault → HoldsNoLists bytes (Refused (Sites fault))

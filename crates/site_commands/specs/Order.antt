@@ -8,8 +8,8 @@ use Rattle.site_lists.specs.Sites.{sites_of}
 use Rattle.site_output.specs.SiteOutput.{site_section}
 use Rattle.site_output.specs.Tables as output
 
--- The object's code is read, and what it says of it fits the code: texts, special sections, functions, alternatives, starts of
--- functions, lists of places, static branches, calls within functions and unchecked functions are in order.
+-- The object's code is read, and what it says of it fits the code: texts, special sections, functions, alternatives,
+-- starts of functions, lists of places, static branches, calls within functions and unchecked functions are in order.
 pub record IsInOrder (o : Coded) : Type 0 where
   pub linked : IsLinked o
   pub flow : flow_faults o ≡ []

@@ -1,5 +1,5 @@
--- Why `sites` and `list` are refused on files that hold this: what the first step finds that fails, in the order of the steps.
--- Faults of files and of the output, and want of memory, are no refusals.
+-- Why `sites` and `list` are refused on files that hold this: what the first step finds that fails, in the order of
+-- the steps. Faults of files and of the output, and want of memory, are no refusals.
 use Rattle.std.specs.Prelude.{◌≡◌, ◌≢◌, ◌⊎◌, ℕ, List, Option, Some, Ok}
 use Rattle.ot_base.specs.NameLists.{NameLists}
 use Rattle.ot_base.specs.NamesFile.{IsFirstFault}
@@ -20,8 +20,8 @@ use Rattle.command_base.specs.declared.stop.CommandStop.TheVariants.{NoMemory, R
 use Rattle.site_commands.specs.List.{HoldsNoLists}
 use Rattle.site_commands.specs.Sites.{GetNoSites}
 
--- `sites IN OUT`: IN is read; then the names file, where one is given, and its lines; then the bytes of IN are parsed, their code is
--- read, and the lists of its sites are added.
+-- `sites IN OUT`: IN is read; then the names file, where one is given, and its lines; then the bytes of IN are
+-- parsed, their code is read, and the lists of its sites are added.
 pub data RefusesSites (map : Map) (input : List ℕ) (names : Option (List ℕ)) (held : Content) : CommandStop → Type 0 where
   input_unread : {stop : CommandStop} → IsUnreadable MAX_FILE_BYTES held input stop → RefusesSites map input names held stop
   list_unread :

@@ -38,8 +38,9 @@ use Rattle.site_commands.specs.Order.{GetsSites, IsInOrder, most_sections, symbo
 
 -- ---- what OUT is to hold
 
--- The bytes that are written for an object are this object with exactly the section symbols inserted that the lists of its sites
--- need, and then the six sections of these lists added; and its site lists are exactly the object's sites.
+-- The bytes that are written for an object are this object with exactly the section symbols inserted that the lists
+-- of its sites need, and then the six sections of these lists added; and its site lists are exactly the object's
+-- sites.
 pub record ListsSites (o : Coded) (written : List ℕ) : Type 0 where
   pub added : IsAdded o.elf (needed_symbols o.elf (sites_of o)) (site_sections (with_symbols o.elf (sites_of o)) (sites_of o)) written
   pub reads_back : IsObject written (with_sites_object o.elf (sites_of o))
@@ -64,9 +65,10 @@ OutListsSites map input output None after = ⊤
 
 -- ---- what stops the command
 
--- Why bytes get no site lists, in this order: they are no object, and this is their first fault; or an object whose code isn't read,
--- or doesn't fit what the object says of it; which has a site list already, of which this is the first section; or which would have
--- too many sections, or too many symbols, and this is their number; or memory ran out.
+-- Why bytes get no site lists, in this order: they are no object, and this is their first fault; or an object whose
+-- code isn't read, or doesn't fit what the object says of it; which has a site list already, of which this is the
+-- first section; or which would have too many sections, or too many symbols, and this is their number; or memory ran
+-- out.
 pub data GetNoSites (map : Map) (bytes : List ℕ) : CommandStop → Type 0 where
   malformed : {fault : ElfFault} → FirstFault bytes fault → GetNoSites map bytes (Refused (Malformed fault))
   unlinked :
@@ -116,9 +118,9 @@ pub record MayGetSites (map : Map) (content : Option Content) (input : List ℕ)
   pub gets : GetsSites (coded_by map o)
   pub lists : ListsSites (coded_by map o) written
 
--- How `sites` stops, and what stands then. Where IN or the names file isn't read, a line of the names file isn't in order, the bytes
--- of IN get no site lists or memory runs out before OUT is written, no file has changed. Only where writing OUT didn't come to its
--- end is it open what OUT holds; every other name holds what it held.
+-- How `sites` stops, and what stands then. Where IN or the names file isn't read, a line of the names file isn't in
+-- order, the bytes of IN get no site lists or memory runs out before OUT is written, no file has changed. Only where
+-- writing OUT didn't come to its end is it open what OUT holds; every other name holds what it held.
 pub data StopsSites (map : Map) (input output : List ℕ) (names : Option (List ℕ)) (before after : Outside) : CommandStop → Type 0 where
   unread : {stop : CommandStop} → StopsAtRead MAX_FILE_BYTES input before after stop → after.content ≡ before.content → StopsSites map input output names before after stop
   without_names :
@@ -142,8 +144,8 @@ pub data StopsSites (map : Map) (input output : List ℕ) (names : Option (List 
 
 -- ---- how it ends
 
--- How `sites` ends: OUT holds IN with the lists of its sites, every other name what it held, and nothing was printed; or it stops, and
--- tells why.
+-- How `sites` ends: OUT holds IN with the lists of its sites, every other name what it held, and nothing was printed;
+-- or it stops, and tells why.
 pub data EndsSites (map : Map) (input output : List ℕ) (names : Option (List ℕ)) (before after : Outside) (out out' : Output) : Status → Type 0 where
   done :
       (o : Elf) (written : List ℕ)

@@ -22,8 +22,8 @@ use ot_files::{Files, Sink};
 use std::alloc::Global;
 use x86_decode::one_outcome;
 
-/// Adds the lists of their sites to the bytes that were read of the input, and writes them to the output file; or tells why they get
-/// none.
+/// Writes the input, of which these bytes were read, with the lists of its sites to the output file, or tells why it
+/// gets none.
 fn add_sites<F: Files, S: Sink>(
     alloc: Global,
     asked: SitesAsked<'_>,
@@ -56,8 +56,8 @@ fn add_sites<F: Files, S: Sink>(
     }
 }
 
-/// Reads the input and the names file, adds the lists of its sites to the input, writes it to the output file, and tells why where it
-/// stops.
+/// Reads the input and the names file, and writes the input with the lists of its sites to the output file, or tells
+/// why it doesn't.
 fn read_and_add<F: Files, S: Sink>(
     alloc: Global,
     asked: SitesAsked<'_>,
@@ -83,9 +83,9 @@ fn read_and_add<F: Files, S: Sink>(
     }
 }
 
-/// Reads the object IN, and writes it to OUT with its three site lists, which hold the sites of its code, and with the section symbols
-/// that these need; or tells why there are none. A names file, where one is given, is read and has to be in order, and its names
-/// change nothing. Gives the status that the command ends with.
+/// Reads the object IN, and writes it to OUT with its three site lists, which hold the sites of its code, and with
+/// the section symbols that these need; or tells why there are none. A names file, where one is given, is read and
+/// has to be in order, and its names change nothing. Gives the status that the command ends with.
 ///
 /// It reads the code, and doesn't follow its control flow: no rule of stack validation is tested.
 pub fn sites<F: Files, S: Sink>(
@@ -100,19 +100,19 @@ pub fn sites<F: Files, S: Sink>(
         (record { content = F.content files.new; faults = F.faults files.new })
         (record { written = S.written out.old; faults = S.faults out.old })
         (record { written = S.written out.new; faults = S.faults out.new }) result }
-    // Where it is done and the files tell their content, OUT holds IN with its site lists and the section symbols that these need,
-    // and nothing else is changed; its site lists are exactly the sites of IN's code.
+    // Where it is done and the files tell their content, OUT holds IN with its site lists and the section symbols
+    // that these need, and nothing else is changed; its site lists are exactly the sites of IN's code.
     ensures lists { result ≡ Status.Done
         → OutListsSites asked.entry.map asked.entry.input.now asked.entry.output.now (F.content files.old) (F.content files.new) }
-    // An input that gets site lists is refused nowhere, with a names file in order where one is given: it is done, unless a fault or
-    // want of memory is answered.
+    // An input that gets site lists is refused nowhere, with a names file in order where one is given: it is done,
+    // unless a fault or want of memory is answered.
     ensures accepts { (read : List ℕ) (object : Elf) (lists : NameLists) (held : Content)
         → F.content files.old ≡ Some held → reading held asked.entry.input.now MAX_FILE_BYTES ≡ Ok read
         → HasNames (Some held) (option_map (λ file. file.now) asked.entry.names) lists
         → IsObject read object → GetsSites (coded_by asked.entry.map object)
         → IsAnswered result }
-    // Where the files tell their content: it is refused only where a step finds a refusal, the first that fails, and exactly its line
-    // was printed. And where one does, it is refused, unless a fault or want of memory is answered.
+    // Where the files tell their content: it is refused only where a step finds a refusal, the first that fails, and
+    // exactly its line was printed. And where one does, it is refused, unless a fault or want of memory is answered.
     ensures refused { (held : Content) → result ≡ Status.Refused → F.content files.old ≡ Some held
         → Tells (RefusesSites asked.entry.map asked.entry.input.now (option_map (λ file. file.now) asked.entry.names) held) (S.written out.old) (S.written out.new) }
     ensures refuses { (held : Content) (stop : StopValue) → F.content files.old ≡ Some held

@@ -140,8 +140,8 @@ fn read_and_list<F: Files, S: Sink>(alloc: Global, file: &str, files: &mut F, ou
     }
 }
 
-/// Prints the site lists of the object FILE, one line for each place, or why there are none, and gives the status that the command
-/// ends with. No file is changed.
+/// Prints the site lists of the object FILE, one line for each place, or why there are none, and gives the status
+/// that the command ends with. No file is changed.
 pub fn list<F: Files, S: Sink>(alloc: Global, file: &str, files: &mut F, out: &mut S) -> Status
     // What was told to the output, and why.
     ensures ends { EndsList file.now
@@ -155,8 +155,8 @@ pub fn list<F: Files, S: Sink>(alloc: Global, file: &str, files: &mut F, out: &m
     ensures accepts { (bytes : List ℕ) (object : Elf) (lists : Listed) (held : Content)
         → F.content files.old ≡ Some held → reading held file.now MAX_FILE_BYTES ≡ Ok bytes → HoldsLists bytes object lists
         → IsAnswered result }
-    // Where the files tell their content: it is refused only where a step finds a refusal, the first that fails, and exactly its line
-    // was printed. And where one does, it is refused, unless a fault or want of memory is answered.
+    // Where the files tell their content: it is refused only where a step finds a refusal, the first that fails, and
+    // exactly its line was printed. And where one does, it is refused, unless a fault or want of memory is answered.
     ensures refused { (held : Content) → result ≡ Status.Refused → F.content files.old ≡ Some held
         → Tells (RefusesList file.now held) (S.written out.old) (S.written out.new) }
     ensures refuses { (held : Content) (stop : StopValue) → F.content files.old ≡ Some held

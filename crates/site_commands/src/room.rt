@@ -12,8 +12,8 @@ use command_base::{CommandStop, Refusal};
 use elf_objects::{Counted, MAX_SECTIONS, Object};
 use site_output::first_site_section;
 
-/// Checks that an object whose code is in order has no site list yet, and room for three with their relocations, or tells why a
-/// command stops whose object hasn't.
+/// Checks that an object whose code is in order has no site list yet, and room for three with their relocations, or
+/// tells why a command stops whose object hasn't.
 pub(crate) fn check_room<'a>(object: &Object<'_>) -> Result<(), CommandStop<'a>>
     ensures new { OnOk result (site_section object.now ≡ None) }
     ensures others { OnOk result (All IsOther object.now.sections) }

@@ -17,8 +17,8 @@ use site_output::with_sites;
 use std::alloc::Global;
 use x86_map::Map;
 
-/// The bytes of an object with the lists of its sites and the section symbols that these need, or why a command stops whose object
-/// gets none.
+/// The bytes of an object with the lists of its sites and the section symbols that these need, or why a command stops
+/// whose object gets none.
 pub(crate) fn with_its_sites<'a>(
     alloc: Global,
     map: Map,
