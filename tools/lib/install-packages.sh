@@ -4,7 +4,7 @@
 set -u
 # Each package with the tools and files that are wanted of it.
 packages="
-binutils as ld readelf
+binutils as ld objcopy objdump readelf
 gcc gcc
 libc6-dev /usr/include/dlfcn.h
 python3 python3
@@ -14,7 +14,7 @@ grep grep
 tar tar
 findutils find xargs
 diffutils cmp diff
-coreutils basename cut fold head mktemp mkfifo paste sha256sum sort stat tail touch tr wc
+coreutils basename cut df fold head mktemp mkfifo paste realpath sha256sum sort stat tail touch tr wc
 mount mount umount
 util-linux prlimit setpriv
 "

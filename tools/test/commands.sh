@@ -7,7 +7,6 @@
 # program that isn't there is a failure.
 set -eu
 . "$(dirname "$0")/../lib/prepare.sh"
-export PYTHONDONTWRITEBYTECODE=1
 failed() { echo "commands: $*" >&2; exit 2; }
 for tool in python3 as prlimit; do
     command -v "$tool" >/dev/null || failed "no $tool"

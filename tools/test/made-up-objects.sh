@@ -15,6 +15,5 @@ count=${1:-1000} seed=${2:-1} program=${3:-}
 kept=${KEPT:-${TMPDIR:-/tmp}/made-up-objects}
 cd "$root"
 [ -n "$program" ] || program=$(built)
-export PYTHONDONTWRITEBYTECODE=1
 "$python" tools/model/worked.py
 "$python" tools/model/made_up.py "$program" "$count" "$seed" "$kept" ${OBJECTS:+"$OBJECTS"}
