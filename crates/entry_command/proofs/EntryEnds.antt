@@ -2,6 +2,7 @@
 use Rattle.std.proofs.Common.{◌≡◌, ℕ, ◌≤◌, List, subst}
 use Rattle.std.specs.Prelude.{Option}
 use Rattle.ot_base.specs.NameLists.{NameLists}
+use Rattle.ot_base.specs.declared.warning.Warning.{Warning}
 use Rattle.ot_files.specs.Content.{Content}
 use Rattle.elf_objects.specs.Elf.{Elf}
 use Rattle.elf_objects.specs.Object.{IsObject}
@@ -10,6 +11,8 @@ use Rattle.flow_defs.specs.Coded.{coded_by}
 use Rattle.entry_rules.specs.declared.options.EntryOptions.{EntryOptions}
 use Rattle.command_base.specs.Names.{StopsAtNames}
 use Rattle.command_base.specs.Outside.{Outside, Output}
+use Rattle.command_base.specs.Printing.{Prints}
+use Rattle.command_base.specs.Warnings.{warnings_text}
 use Rattle.command_base.specs.declared.status.Status.{Status}
 use Rattle.command_base.specs.declared.status.Status.TheVariants as status
 use Rattle.command_base.specs.declared.stop.CommandStop.{CommandStop}
@@ -21,3 +24,7 @@ may_check map content input names read o lists was is order = record { read = re
 
 pub names_later : (s : CommandStop) (names : Option (List ℕ)) (content middle : Option Content) (before faults : ℕ) (after : Outside) → middle ≡ content → before ≤ faults → StopsAtNames names (outside middle faults) after s → StopsAtNames names (outside content before) after s
 names_later s names content middle before faults after same later h = names_earlier s names content before faults after later (subst (λ (c : Option Content). StopsAtNames names (outside c faults) after s) same h)
+
+-- what was printed are the lines of the warnings that were found
+pub printed_as : (o : Elf) (shown warnings : List Warning) (out out' : Output) (x : Status) → shown ≡ warnings → Prints status.Warnings (warnings_text o shown) out out' x → Prints status.Warnings (warnings_text o warnings) out out' x
+printed_as o shown warnings out out' x same h = subst (λ (ws : List Warning). Prints status.Warnings (warnings_text o ws) out out' x) same h

@@ -33,7 +33,7 @@ use Rattle.command_base.proofs.ConcludeLemmas.{concluded_fault, concluded_no_war
 use Rattle.command_base.proofs.DumpLaws.{no_memory_left, not_file_fault, not_sink_fault, not_warnings, one_object, read_fault, unread_left}
 use Rattle.entry_command.specs.Entry.{AreEntryWarnings, BreaksEntryRule, EndsEntry, InKeepsEntryRules, IsInOrder, IsRead, IsUnbroken, IsUncheckable, KeepsEntryRules, MayBeChecked, PrintsEntryWarnings, StopsEntry, done, malformed, no_memory, refused, stopped, unflowed, unlinked, unread, warned, without_names}
 use Rattle.entry_command.specs.Refused.{IsRefusedOrFails, IsWarnedOrFails, RefusesEntry, TellsRefusal, input_refused, input_unread, list_faulty, list_unread}
-use Rattle.entry_command.proofs.Stops.{concluded_usage, done_not_refused, given_names, held_is, is_read, left, names_fault, names_left, names_no_usage, no_faulty_line, not_memory, of_stop, one_text, printed_usage, read_no_usage, readable, unreadable, whole_text}
+use Rattle.entry_command.proofs.Stops.{concluded_usage, done_not_refused, given_names, held_is, is_read, left, names_fault, names_left, names_no_usage, no_faulty_line, not_memory, of_stop, one_text, read_no_usage, readable, unreadable, whole_text}
 use Rattle.entry_command.proofs.Uncheckable.{order_excluded}
 
 -- ---- statuses
@@ -131,6 +131,12 @@ same_object map input names read o p others held content c is of may =
 
 same_lists : (map : Map) (input : List ℕ) (names : Option (List ℕ)) (p : Elf) (lists others : NameLists) (held : Content) (content : Option Content) → content ≡ Some held → HasNames (Some held) names lists → MayBeChecked map content input names p others → others ≡ lists
 same_lists map input names p lists others held content c has may = one_lists names held others lists (named_in names held content others c may.is_read.named) has
+
+-- where there are no warnings no rule is broken
+pub none_broken : (o : Coded) (lists : NameLists) (options : EntryOptions) (warnings : List Warning) → AreEntryWarnings o lists options warnings → warnings ≡ [] → IsUnbroken o lists options
+none_broken o lists options warnings are none place rule a b h =
+    let w : Warning = numbered_warning place rule a b in
+    nowhere w (subst (λ (xs : List Warning). Contains xs w) none ((are.all w).1 h))
 
 -- what breaks no rule has no warnings
 none_warned : (o : Coded) (lists : NameLists) (options : EntryOptions) (warnings : List Warning) → AreEntryWarnings o lists options warnings → IsUnbroken o lists options → warnings ≡ []

@@ -70,7 +70,7 @@ of_stop R s out out' x t e is =
     let told = whole_line s out out' x t e in
     record { stop = s; is = is told.0; printed = told.1 }
 
-printed_usage : (end : Status) (text : List ℕ) (out out' : Output) (x : Status) → Prints end text out out' x → x ≡ Usage → end ≡ Usage
+pub printed_usage : (end : Status) (text : List ℕ) (out out' : Output) (x : Status) → Prints end text out out' x → x ≡ Usage → end ≡ Usage
 printed_usage end text out out' x (whole at all) e = sym at ∙ e
 printed_usage end text out out' FileFault (fault_stays prefix rose at) e = cc
 printed_usage end text out out' SinkFault (fails prefix rose other) e = cc
