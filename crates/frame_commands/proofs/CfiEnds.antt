@@ -12,6 +12,8 @@ use Rattle.elf_objects.specs.declared.fault.Counted.TheVariants as counted
 use Rattle.x86_map.specs.declared.map.Map.{Map}
 use Rattle.flow_defs.specs.Coded.{coded_by}
 use Rattle.object_check.specs.Outcome.{AreWarnings, HasRows, IsUnbroken}
+use Rattle.object_check.specs.Unwinding.{RowsUnwind}
+use Rattle.table_defs.specs.WalkLaws.{FoundIsLast, NoneFoundIsNone}
 use Rattle.orc_output.specs.Tables.{symbols_needed}
 use Rattle.command_base.specs.Names.{StopsAtNames}
 use Rattle.command_base.specs.Outside.{Outside, Output}
@@ -25,6 +27,7 @@ use Rattle.command_base.specs.declared.stop.CommandStop.TheVariants as stop
 use Rattle.frame_commands.specs.Cfi.{EndsCfi, GetNoFrames, IsRead, MayGetFrames, StopsCfi, done, no_memory, refused, stopped, too_many_symbols, unread, unwritten, warned, without_names}
 use Rattle.frame_commands.specs.Order.{GetsFrames, IsCheckable, allowances_under, default_rules, program_under}
 use Rattle.frame_commands.specs.Written.{IsCrowded, TellsRows}
+use Rattle.frame_commands.proofs.Undoes.{rules_undo}
 use Rattle.frame_commands.proofs.Stops.{names_earlier, outside, read_earlier, write_earlier}
 
 -- an object that breaks no rule, and its rows
@@ -34,14 +37,18 @@ IsSound map o lists rows = IsCheckable (coded_by map o) × IsUnbroken (program_u
 gets_frames : (map : Map) (o : Elf) (lists : NameLists) (rows : List PlacedRow) → IsSound map o lists rows → symbols_needed o rows ≤ MAX_SYMBOLS → GetsFrames map lists o rows
 gets_frames map o lists rows sound few = record { checkable = sound.0; unbroken = sound.1; has_rows = sound.2; few_symbols = few }
 
-pub may_get : (map : Map) (content : Option Content) (input : List ℕ) (names : Option (List ℕ)) (read : List ℕ) (lists : NameLists) (o : Elf) (rows told : List PlacedRow) (file : List ℕ) → IsRead content input names read lists → IsObject read o → IsSound map o lists rows → told ≡ rows → symbols_needed o told ≤ MAX_SYMBOLS → TellsRows o told file → MayGetFrames map content input names o rows file
-may_get map content input names read lists o rows told file was is sound same few tells = record {
-  read = read;
-  lists = lists;
-  is_read = was;
-  gets = record { is = is; gets = gets_frames map o lists rows sound (subst (λ (rs : List PlacedRow). symbols_needed o rs ≤ MAX_SYMBOLS) same few) };
-  tells = subst (λ (rs : List PlacedRow). TellsRows o rs file) same tells;
-}
+pub may_get : (map : Map) (content : Option Content) (input : List ℕ) (names : Option (List ℕ)) (read : List ℕ) (lists : NameLists) (o : Elf) (rows told : List PlacedRow) (file : List ℕ) → FoundIsLast → NoneFoundIsNone → IsRead content input names read lists → IsObject read o → IsSound map o lists rows → RowsUnwind (coded_by map o) lists rows → told ≡ rows
+    → symbols_needed o told ≤ MAX_SYMBOLS → TellsRows o told file → MayGetFrames map content input names o rows file
+may_get map content input names read lists o rows told file found none was is sound unwinds same few tells =
+    let here : TellsRows o rows file = subst (λ (rs : List PlacedRow). TellsRows o rs file) same tells in
+    record {
+      read = read;
+      lists = lists;
+      is_read = was;
+      gets = record { is = is; gets = gets_frames map o lists rows sound (subst (λ (rs : List PlacedRow). symbols_needed o rs ≤ MAX_SYMBOLS) same few) };
+      tells = here;
+      undoes = rules_undo found none (coded_by map o) lists rows file sound.2 unwinds here.follows;
+    }
 
 crowd : (map : Map) (read : List ℕ) (lists : NameLists) (o : Elf) (rows : List PlacedRow) (s : CommandStop) → IsObject read o → IsSound map o lists rows → IsCrowded o rows s → GetNoFrames map read lists s
 crowd map read lists o rows (stop.Refused (refusal.TooMany counted.Symbols count)) is sound h = too_many_symbols o rows is sound.0 sound.1 sound.2 h.0 h.1

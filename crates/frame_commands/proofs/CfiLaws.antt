@@ -47,6 +47,7 @@ out_tells map input output names o rows file (Some held) after may e =
       written = file;
       left = get-insert_same held output file;
       tells = may.tells;
+      undoes = may.undoes;
     })
 
 pub frames_told : (map : Map) (input output : List ℕ) (names : Option (List ℕ)) (before after : Outside) (out out' : Output) (x : Status) → EndsCfi map input output names before after out out' x → x ≡ Done → OutTellsFrames map input output names before.content after.content

@@ -5,3 +5,7 @@ mod CfiEnds
 pub mod CfiLaws
 pub mod CfaLaws
 mod RuleLines
+mod Begun
+mod LastRule
+mod Undoing
+mod Undoes

@@ -35,6 +35,7 @@ use Rattle.command_base.specs.declared.status.Status.TheVariants as status
 use Rattle.command_base.specs.declared.stop.CommandStop.{CommandStop}
 use Rattle.command_base.specs.declared.stop.CommandStop.TheVariants.{NoMemory, Refused}
 use Rattle.frame_commands.specs.Order.{GetsFrames, IsCheckable, allowances_under, default_rules, most_sections, program_under}
+use Rattle.frame_commands.specs.Undone.{RulesUndo}
 use Rattle.frame_commands.specs.Written.{TellsRows}
 
 -- ---- what the command makes of the bytes of IN
@@ -99,13 +100,15 @@ pub record IsRead (content : Option Content) (input : List ℕ) (names : Option 
   pub may : MayRead MAX_FILE_BYTES content input (Ok read)
   pub named : HasNames content names lists
 
--- IN may read as the bytes of this object, which gets the call frame information of these rows; and these bytes are it with them.
+-- IN may read as the bytes of this object, which gets the call frame information of these rows; and these bytes are it with them, by
+-- which the frames of its program's runs are undone.
 pub record MayGetFrames (map : Map) (content : Option Content) (input : List ℕ) (names : Option (List ℕ)) (o : Elf) (rows : List PlacedRow) (written : List ℕ) : Type 0 where
   pub read : List ℕ
   pub lists : NameLists
   pub is_read : IsRead content input names read lists
   pub gets : Gets map read lists o rows
   pub tells : TellsRows o rows written
+  pub undoes : RulesUndo (coded_by map o) lists rows
 
 -- IN may read as the bytes of this object, which breaks rules: these are all warnings.
 pub record MayBeWarned (map : Map) (content : Option Content) (input : List ℕ) (names : Option (List ℕ)) (o : Elf) (warnings : List Warning) : Type 0 where

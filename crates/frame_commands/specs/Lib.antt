@@ -1,4 +1,5 @@
 pub mod Order
+pub mod Undone
 pub mod Written
 pub mod Cfi
 pub mod Checked

@@ -10,9 +10,8 @@ use Rattle.machine_defs.specs.Program.{Program}
 use Rattle.x86_map.specs.declared.map.Map.{Map}
 use Rattle.flow_defs.specs.Coded.{Coded, coded_by}
 use Rattle.flow_defs.specs.Program.{program_of}
-use Rattle.point_allowances.specs.Allowances.{allowances_of}
 use Rattle.object_check.specs.Order.{IsInOrder}
-use Rattle.object_check.specs.Outcome.{HasRows, IsUnbroken}
+use Rattle.object_check.specs.Outcome.{HasRows, IsUnbroken, allowances_of}
 use Rattle.orc_output.specs.Tables.{symbols_needed}
 use Rattle.frame_output.specs.FrameOutput.{first_frame}
 

@@ -9,6 +9,7 @@ use Rattle.elf_objects.specs.Object.{IsObject}
 use Rattle.elf_objects.specs.declared.TheConstants.{MAX_SYMBOLS}
 use Rattle.elf_objects.specs.declared.fault.Counted.TheVariants.{Symbols}
 use Rattle.x86_map.specs.declared.map.Map.{Map}
+use Rattle.flow_defs.specs.Coded.{coded_by}
 use Rattle.object_check.specs.Outcome.{HasRows}
 use Rattle.eh_frame.specs.Laws.{rules_of_rows}
 use Rattle.eh_frame.specs.Records.{HoldsRules}
@@ -19,6 +20,7 @@ use Rattle.command_base.specs.declared.refusal.Refusal.TheVariants.{TooMany}
 use Rattle.command_base.specs.declared.stop.CommandStop.{CommandStop}
 use Rattle.command_base.specs.declared.stop.CommandStop.TheVariants.{NoMemory, Refused}
 use Rattle.frame_commands.specs.Order.{program_under}
+use Rattle.frame_commands.specs.Undone.{RulesUndo}
 
 -- These bytes are the object with exactly the section symbols inserted that the rows need, and then the two frame sections of exactly
 -- these rows added. What is read of them has at each place of a text section the rule of the last row at or below it in its section;
@@ -29,7 +31,8 @@ pub record TellsRows (o : Elf) (rows : List PlacedRow) (written : List ℕ) : Ty
   pub rules : HoldsRules (framed_object o rows) (rules_of_rows (framed_object o rows) rows)
 
 -- The bytes that OUT holds after the command tell the rows of the program of the object whose bytes IN held before it, under the
--- lists of names of the names file, or the built-in ones where none is given.
+-- lists of names of the names file, or the built-in ones where none is given. Undoing frames by what is read of them gives the frames
+-- of that program's runs.
 pub record LeavesFrames (map : Map) (input output : List ℕ) (names : Option (List ℕ)) (before after : Content) : Type 0 where
   pub read : List ℕ
   pub held : get before input ≡ Some read
@@ -42,6 +45,7 @@ pub record LeavesFrames (map : Map) (input output : List ℕ) (names : Option (L
   pub written : List ℕ
   pub left : get after output ≡ Some written
   pub tells : TellsRows object rows written
+  pub undoes : RulesUndo (coded_by map object) lists rows
 
 -- the same where the files tell their content
 abbrev pub OutTellsFrames : Map → List ℕ → List ℕ → Option (List ℕ) → Option Content → Option Content → Type 0

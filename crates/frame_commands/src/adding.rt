@@ -24,6 +24,7 @@ use object_check::ObjectVerdict;
 use ot_base::Lists;
 use ot_files::{Files, Sink};
 use std::alloc::Global;
+use table_defs::find_is_exact;
 use x86_decode::one_outcome;
 
 /// Checks the bytes that were read of the input under lists of names. Writes them with their call frame information to the output file;
@@ -47,6 +48,7 @@ fn check_and_add<F: Files, S: Sink>(
     ensures out_later { S.faults out.old ≤ S.faults out.new }
     ensures output_failed { S.faults out.old < S.faults out.new → IsOutputFault result }
 {
+    find_is_exact();
     let object = match Object::parse(alloc, bytes) {
         Ok(object) => object,
         Err(fault) => return conclude(alloc, parse_stop(fault), out),
@@ -113,7 +115,9 @@ pub fn cfi<F: Files, S: Sink>(
         (record { written = S.written out.new; faults = S.faults out.new }) result }
     // Where it is done and the files tell their content, OUT holds IN with exactly the two frame sections of its program's rows and the
     // section symbols that these need; and the frame rule that is read of OUT at every place of a text section is that of the last row
-    // at or below it.
+    // at or below it. Where no row tells of saved registers, then for every placement of the text sections of IN and every state of
+    // every run of the stack machine on IN, undoing frames by the rules that are read of OUT gives exactly the frames of the machine's
+    // shadow call stack, innermost first, down to the outermost frame or to the first place whose unwind hint ends the stack.
     ensures frames { result ≡ Status.Done
         → OutTellsFrames asked.entry.map asked.entry.input.now asked.entry.output.now (option_map (λ file. file.now) asked.entry.names) (F.content files.old) (F.content files.new) }
     // An input that gets call frame information, with a names file in order where one is given, is refused nowhere: it is done, unless a

@@ -1,4 +1,7 @@
 use Rattle.std.proofs.Common.{refl, sym, subst}
+use Rattle.flow_defs.specs.Coded.{coded_by}
+use Rattle.object_check.specs.Outcome.{OnAccepted}
+use Rattle.object_check.specs.Unwinding.{RowsUnwind}
 use Rattle.frame_commands.specs.Cfi.{GetNoFrames, done, refused, stopped, unchecked, unwritten}
 use Rattle.frame_commands.specs.Checked.{IsChecked}
 use Rattle.frame_commands.proofs.CfiEnds.{crowded, may_get, warned_end, wrote}
@@ -33,8 +36,9 @@ returns-in-Err-with_its_frames-clause-ends g c =
 pub returns-in-Ok-write_file-clause-ends : goal.returns-in-Ok-write_file-clause-ends
 returns-in-Ok-write_file-clause-ends g c =
     done c.in-Ok.object c.in-Ok-Accepted.rows.items c.in-Ok-with_its_frames.file.items
-    (may_get _ _ _ _ c.args.bytes.now c.args.lists.now c.in-Ok.object c.in-Ok-Accepted.rows.items c.deref-2.result.now c.in-Ok-with_its_frames.file.items c.requires.read c.in-Ok.ensures.ok
-    (subst (IsChecked c.args.asked.map c.in-Ok.object c.args.lists.now) c.in-Ok-Accepted.field-0-is c.in-Ok-Accepted.ensures.checked) c.deref-2.ensures.value c.in-Ok-with_its_frames.ensures.few c.in-Ok-with_its_frames.ensures.tells)
+    (may_get _ _ _ _ c.args.bytes.now c.args.lists.now c.in-Ok.object c.in-Ok-Accepted.rows.items c.deref-2.result.now c.in-Ok-with_its_frames.file.items c.find_is_exact.ensures.found c.find_is_exact.ensures.none c.requires.read c.in-Ok.ensures.ok
+    (subst (IsChecked c.args.asked.map c.in-Ok.object c.args.lists.now) c.in-Ok-Accepted.field-0-is c.in-Ok-Accepted.ensures.checked)
+    (subst (λ outcome. OnAccepted outcome (RowsUnwind (coded_by c.args.asked.map c.in-Ok.object) c.args.lists.now)) c.in-Ok-Accepted.field-0-is c.in-Ok-Accepted.ensures.unwinds) c.deref-2.ensures.value c.in-Ok-with_its_frames.ensures.few c.in-Ok-with_its_frames.ensures.tells)
     (wrote _ _ _ _ _ c.as_slice.ensures.value c.in-Ok-write_file.ensures.written)
     refl
 
@@ -42,7 +46,8 @@ pub returns-clause-ends : goal.returns-clause-ends
 returns-clause-ends g c =
     stopped c.in-Err-write_file.stop
     (unwritten c.in-Ok.object c.in-Ok-Accepted.rows.items c.in-Ok-with_its_frames.file.items
-    (may_get _ _ _ _ c.args.bytes.now c.args.lists.now c.in-Ok.object c.in-Ok-Accepted.rows.items c.deref-2.result.now c.in-Ok-with_its_frames.file.items c.requires.read c.in-Ok.ensures.ok
-    (subst (IsChecked c.args.asked.map c.in-Ok.object c.args.lists.now) c.in-Ok-Accepted.field-0-is c.in-Ok-Accepted.ensures.checked) c.deref-2.ensures.value c.in-Ok-with_its_frames.ensures.few c.in-Ok-with_its_frames.ensures.tells)
+    (may_get _ _ _ _ c.args.bytes.now c.args.lists.now c.in-Ok.object c.in-Ok-Accepted.rows.items c.deref-2.result.now c.in-Ok-with_its_frames.file.items c.find_is_exact.ensures.found c.find_is_exact.ensures.none c.requires.read c.in-Ok.ensures.ok
+    (subst (IsChecked c.args.asked.map c.in-Ok.object c.args.lists.now) c.in-Ok-Accepted.field-0-is c.in-Ok-Accepted.ensures.checked)
+    (subst (λ outcome. OnAccepted outcome (RowsUnwind (coded_by c.args.asked.map c.in-Ok.object) c.args.lists.now)) c.in-Ok-Accepted.field-0-is c.in-Ok-Accepted.ensures.unwinds) c.deref-2.ensures.value c.in-Ok-with_its_frames.ensures.few c.in-Ok-with_its_frames.ensures.tells)
     c.in-Err-write_file.ensures.stopped c.in-Err-write_file.ensures.others)
     c.conclude-in-Err-write_file.ensures.concluded
