@@ -27,6 +27,7 @@ leaf vector 'vzeroupper\n\tret'
 leaf broken 'push %rbx\n\tje 1f\n\tcall far\n\tud2\n1:\tret\n\tret'
 leaf unclosed 'ret\n\t.section .orc_unwind,"a"\n\t.text'
 leaf thunks 'call __x86_indirect_thunk_rax\n\tcall far\n\tjmp __x86_return_thunk'
+leaf taken 'ret\n\t.data\n\t.quad leaf\n\t.text'
 leaf access 'stac\n\tcall near\n\tclac\n\tret'
 head -c 300 straight.o >cut.o
 # Code of two sections, one of them a function's seldom part; a call that doesn't return, and one through a pointer; a jump
@@ -249,6 +250,10 @@ commands=(
     "2 merge crowded_layout out"
     "2 merge names out"
     "0 find merged 2001"
+    "0 entry special.o --noinstr --all-opcodes --names=names"
+    "1 entry straight.o --sls"
+    "1 entry taken.o --ibt"
+    "2 entry vector.o --sls"
     "2 find cut_table 1000"
     "1 check a-site-that-pushes.o out"
     "1 check a-jump-table-that-ends.o out"
