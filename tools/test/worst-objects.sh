@@ -5,7 +5,8 @@
 #   worst-objects.sh [NAME..]    all of them, or those of these names
 # SCALE=N makes all an Nth as large, and the limits an Nth as well; ALLOWED=N allows so many seconds in the place of 10. STACK=KIB runs the
 # program with so small a stack, MEMORY=MIB with so much memory at most (5,000), SECONDS_MOST=N with so much time at most (60);
-# KEEP=FOLDER keeps the objects.
+# KEEP=FOLDER keeps the objects. COMMAND=sites or cfi runs that command in the place of `check`, without options of `check` alone; it may
+# also accept what `check` does not.
 #
 # `.ci/run` runs one of them alone, with SCALE=4 and MEMORY=196: `shared-table`, in which 250 jumps share a table of 250,000 entries, in
 # all 62 million edges. These edges alone would take 500 MB: they have to stand once.
@@ -45,11 +46,17 @@ def first_line(words):
 # A small object for the commands whose other file is the worst.
 subprocess.run([sys.executable, make, "small", "small.o"], check=True)
 subprocess.run([program, "check", "small.o", "small.checked.o"], check=True)
+other, SHARED = os.environ.get("COMMAND"), ("--all-opcodes", "--names=")
 bad, tried = 0, 0
 for line in subprocess.run([sys.executable, make], capture_output=True, text=True, check=True).stdout.splitlines():
     name, command, statuses, what = line.split("\t")
     if name == "small" or sys.argv[1:] and name not in sys.argv[1:]:
         continue
+    if other:
+        if not command.startswith("check "):
+            continue
+        command = " ".join([other, *(word for word in command.split()[1:] if not word.startswith("--") or word.startswith(SHARED))])
+        statuses += "0"
     object = f"{name}.o"
     tried += 1
     if not os.path.exists(object):
