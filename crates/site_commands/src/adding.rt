@@ -1,6 +1,6 @@
 //! The command `sites IN OUT`.
 
-ghost use Rattle.std.specs.Prelude.{◌≡◌, ◌≢◌, ◌⊎◌, ◌<◌, ◌≤◌, ℕ, List, Ok, Some, IfErr, OnErr, OnOk, length, option_map};
+ghost use Rattle.std.specs.Prelude.{◌≡◌, ◌≢◌, ◌⊎◌, ◌<◌, ◌≤◌, ℕ, List, Ok, Some, length, option_map};
 ghost use Rattle.ot_base.specs.NameLists.{NameLists};
 ghost use Rattle.ot_files.specs.Content.{Content, reading};
 ghost use Rattle.elf_objects.specs.Elf.{Elf};

@@ -1,6 +1,6 @@
 //! The bytes of an object with its site lists.
 
-ghost use Rattle.std.specs.Prelude.{◌≡◌, ◌≤◌, ℕ, List, IfErr, IfOk, OnOk, length};
+ghost use Rattle.std.specs.Prelude.{◌≤◌, ℕ, List, IfErr, IfOk, OnOk, length};
 ghost use Rattle.elf_objects.specs.Object.{IsObject};
 ghost use Rattle.elf_objects.specs.declared.TheConstants.{MAX_FILE_BYTES};
 ghost use Rattle.flow_defs.specs.Coded.{coded_by};
