@@ -44,7 +44,7 @@ file_app name = with_rule (command_app name) (place_rule (codes "FILE"))
 abbrev pub pair_app : (name first second : Text) → App
 pair_app name first second = with_rule (with_rule (command_app name) (place_rule first)) (place_rule second)
 
--- a command that reads an object, and writes it with something added, by no rules of its own
+-- a command that reads an object, and writes it to a file, with the common options alone
 abbrev pub rewriting_app : Text → App
 rewriting_app name = with_common_options (pair_app name (codes "IN") (codes "OUT"))
 

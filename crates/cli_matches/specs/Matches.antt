@@ -25,7 +25,7 @@ abbrev pub is_asked : Map → Bool
 is_asked Base = false
 is_asked Whole = true
 
--- the matches of a command that reads an object, and writes it with something added, say this
+-- the matches of a command that reads an object, and writes it to a file, say this
 pub record SaysRewriting (rows : List Row) (input output : Word) (map : Map) (names : Option Word) : Type 0 where
   pub input_is : first_of (codes "IN") rows ≡ Some input
   pub output_is : first_of (codes "OUT") rows ≡ Some output

@@ -144,7 +144,7 @@ fn of_file<'a>(
     with_place(alloc, command, "FILE", "The object")
 }
 
-/// With the places of a command that reads an object, and writes it with something added.
+/// With the places of a command that reads an object, and writes it to a file.
 fn with_objects<'a>(alloc: Global, command: Making<'a>) -> Making<'a>
     ensures { (app : App) → Makes command.entry app
         → Makes result (with_rule (with_rule app (place_rule (codes "IN"))) (place_rule (codes "OUT"))) }
@@ -163,7 +163,7 @@ fn with_objects<'a>(alloc: Global, command: Making<'a>) -> Making<'a>
     )
 }
 
-/// A command that reads an object, and writes it with something added, by no rules of its own.
+/// A command that reads an object, and writes it to a file, with the common options alone.
 fn rewriting<'a>(
     alloc: Global,
     name: &'a str,

@@ -61,7 +61,7 @@ fn rules_of(found: &ArgMatches<'_>) -> Options
     }
 }
 
-/// What a command has that reads an object, and writes it with something added.
+/// What the words behind `check`, `sites` or `cfi` give, but for the rules that `check` asks for.
 #[derive(Drop)]
 struct Rewriting {
     input: String,
