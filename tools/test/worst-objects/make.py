@@ -623,7 +623,7 @@ def small():
 
 def rows():
     """Not an object to check, but the longest tables: 1,800,000 rows"""
-    count = scaled(1_800_000)
+    count = scaled(1_800_000) // 2 * 2
     made, text, symbol = one_function(NOP * count)
     section = made.section(b".orc_unwind", (struct.pack("<hhH", 8, 0, 0x205) + struct.pack("<hhH", 16, 0, 0x205)) * (count // 2), ALLOC)
     places_of = made.section(b".orc_unwind_ip", bytes(4 * count), ALLOC)
