@@ -2,6 +2,7 @@
 use Rattle.std.specs.Prelude.{◌≡◌, ⊤, ℕ, ◌<◌, List, Option, Some, None}
 use Rattle.std.specs.FinMap.{get}
 use Rattle.ot_base.specs.NameLists.{NameLists}
+use Rattle.ot_base.specs.declared.place.Place.{Place}
 use Rattle.ot_base.specs.declared.row.PlacedRow.{PlacedRow}
 use Rattle.ot_files.specs.Content.{Content}
 use Rattle.elf_objects.specs.Elf.{Elf}
@@ -13,6 +14,8 @@ use Rattle.flow_defs.specs.Coded.{coded_by}
 use Rattle.object_check.specs.Outcome.{HasRows}
 use Rattle.eh_frame.specs.Laws.{rules_of_rows}
 use Rattle.eh_frame.specs.Records.{HoldsRules}
+use Rattle.eh_frame.specs.RuleAt.{HasRule}
+use Rattle.eh_frame.specs.declared.rule.CfaRule.{CfaRule}
 use Rattle.frame_output.specs.Framed.{FollowsRows, IsFramed, framed_object}
 use Rattle.orc_output.specs.Tables.{symbols_needed}
 use Rattle.command_base.specs.Names.{HasNames}
@@ -23,11 +26,12 @@ use Rattle.frame_commands.specs.Order.{program_under}
 use Rattle.frame_commands.specs.Undone.{RulesUndo}
 
 -- These bytes are the object with exactly the section symbols inserted that the rows need, and then the two frame sections of exactly
--- these rows added. What is read of them has at each place of a text section the rule of the last row at or below it in its section;
--- and the rules that it says are those of the rows.
+-- these rows added. What is read of them has at each place of a text section the rule of the last row at or below it in its section,
+-- and no other; and the rules that it says are those of the rows.
 pub record TellsRows (o : Elf) (rows : List PlacedRow) (written : List ℕ) : Type 0 where
   pub framed : IsFramed o rows written
   pub follows : FollowsRows o rows written
+  pub only : (place : Place) (rule other : CfaRule) → HasRule (framed_object o rows) place rule → HasRule (framed_object o rows) place other → rule ≡ other
   pub rules : HoldsRules (framed_object o rows) (rules_of_rows (framed_object o rows) rows)
 
 -- The bytes that OUT holds after the command tell the rows of the program of the object whose bytes IN held before it, under the
