@@ -3,7 +3,7 @@ use Rattle.std.proofs.Common.{◌≡◌, ℕ, ◌+◌, ◌-◌, ◌<◌, ◌≤�
 use Rattle.std.specs.Prelude.{◌==◌, filter_map, fold}
 use Rattle.std.specs.List.{cons_option}
 use Rattle.std.specs.Result.{result_ok}
-use Rattle.std.proofs.lemmas.List.Sums.{count_by-le-length, sum_by-append}
+use Rattle.std.proofs.lemmas.List.Sums.{count_by-le-length, sum_by-append, sum_by-cons}
 use Rattle.std.proofs.lemmas.List.Splits.{length-slice_split}
 use Rattle.ot_base.specs.NamesFile.{lines}
 use Rattle.orc_merge.specs.declared.faults.LayoutFault.{LayoutFault}
@@ -31,7 +31,11 @@ no_faulty_line text line why is h =
 one_more : (files : List FileSaid) (at : ℕ × ℕ) → number_of_places (with_place files at) ≤ number_of_places files + 1
 one_more [] at = omega arith
 one_more (one ∷ []) at = omega (arith, length-append one.places (at ∷ []))
-one_more (one ∷ other ∷ files) at = omega (arith, one_more (other ∷ files) at)
+one_more (one ∷ other ∷ files) at =
+    let e : number_of_places (with_place (one ∷ other ∷ files) at) ≡ length one.places + number_of_places (with_place (other ∷ files) at) = sum_by-cons (λ (file : FileSaid). length file.places) one (with_place (other ∷ files) at) in
+    let f : number_of_places (one ∷ other ∷ files) ≡ length one.places + number_of_places (other ∷ files) = sum_by-cons (λ (file : FileSaid). length file.places) one (other ∷ files) in
+    let g = one_more (other ∷ files) at in
+    omega (arith, e, f, g)
 
 -- what a line says adds at most one
 saying_more : (files : List FileSaid) (saying : Said) → number_of_places (with_saying files saying) ≤ number_of_places files + 1

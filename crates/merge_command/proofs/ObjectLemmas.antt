@@ -1,5 +1,5 @@
 -- The objects that a layout names, from what reading them ensures.
-use Rattle.std.proofs.Common.{◌≡◌, ⊤, ℕ, zero, suc, ◌+◌, ◌^◌, ◌<◌, ◌≤◌, List, [], ◌∷◌, ◌++◌, length, take, drop, get_or, map, refl, sym, ap, ◌∙◌, subst, arith, drop-cons, length-append}
+use Rattle.std.proofs.Common.{◌≡◌, ℕ, zero, suc, ◌+◌, ◌^◌, ◌<◌, ◌≤◌, List, [], ◌∷◌, ◌++◌, length, take, drop, get_or, map, refl, sym, ap, ◌∙◌, subst, arith, drop-cons, length-append}
 use Rattle.std.specs.Prelude.{All, None, Option, Some, sum_by}
 use Rattle.std.proofs.lemmas.List.Elements.{All-push}
 use Rattle.std.proofs.lemmas.List.{length-map, length-take-le, map-append, take-append-drop, take_all, take_more}
@@ -10,7 +10,7 @@ use Rattle.table_defs.specs.declared.range.Range.{Range}
 use Rattle.elf_objects.specs.Elf.{Elf}
 use Rattle.orc_merge.specs.LayoutFile.{FileSaid}
 use Rattle.orc_merge.specs.LayoutReading.{file_of, files_of}
-use Rattle.orc_merge.specs.Parts.{AreRows, AreWithin, all_ranges, owned_ranges, ranges_from}
+use Rattle.orc_merge.specs.Parts.{OwnedRange, AreRows, AreWithin, all_ranges, owned_ranges, ranges_from}
 use Rattle.orc_merge.specs.declared.layout.LayoutFile.{LayoutFile}
 use Rattle.orc_merge.specs.declared.part.Part.{Part}
 use Rattle.command_base.specs.Dump.{HoldsRows, no_memory as rows_no_memory}
@@ -82,7 +82,7 @@ range_count parts = sum_by (λ part. length part.ranges.items) parts
 
 ranges_length : (k : ℕ) (parts : List Part) → length (ranges_from k parts) ≡ range_count parts
 ranges_length k [] = refl
-ranges_length k (part ∷ parts) = omega (arith, length-append (owned_ranges k part.ranges.items) (ranges_from (k + 1) parts), length-map part.ranges.items (λ (range : Range). (k, range)), ranges_length (k + 1) parts)
+ranges_length k (part ∷ parts) = omega (arith, length-append (owned_ranges k part.ranges.items) (ranges_from (k + 1) parts), length-map {B = OwnedRange} part.ranges.items (λ (range : Range). (k, range)), ranges_length (k + 1) parts)
 
 -- the files that were read so far, of those that a layout has, and what is known of their rows and ranges
 pub record ReadSoFar (content : Option Content) (files : List LayoutFile) (parts : List Part) : Type 0 where

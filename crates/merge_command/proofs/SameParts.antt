@@ -1,6 +1,6 @@
 -- What the files hold determines the rows and ranges of the objects that a layout names.
-use Rattle.std.proofs.Common.{◌≡◌, ⊤, ℕ, ◌+◌, List, [], ◌∷◌, ◌++◌, length, refl, sym, ap, ◌∙◌, subst, arith}
-use Rattle.std.specs.Prelude.{IsPermutation, Option, Some, None, if◌then◌else◌, nat_le}
+use Rattle.std.proofs.Common.{◌≡◌, ℕ, ◌+◌, List, [], ◌∷◌, ◌++◌, length, refl, sym, ap, ◌∙◌, subst, arith}
+use Rattle.std.specs.Prelude.{⊤, IsPermutation, Option, Some, None, if◌then◌else◌, nat_le}
 use Rattle.std.specs.Option.{option_or}
 use Rattle.std.specs.List.Sorted.{IsStableBy}
 use Rattle.ot_base.specs.declared.row.PlacedRow.{PlacedRow}
