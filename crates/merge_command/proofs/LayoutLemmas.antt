@@ -1,5 +1,5 @@
 -- What a layout names: why it names no files, and how many places it has.
-use Rattle.std.proofs.Common.{◌≡◌, ℕ, ◌+◌, ◌-◌, ◌<◌, ◌≤◌, List, [], ◌∷◌, ◌++◌, Option, Some, None, sym, ap, ◌∙◌, suc, ◌^◌, length, length-append, arith}
+use Rattle.std.proofs.Common.{◌≡◌, ℕ, ◌+◌, ◌-◌, ◌<◌, ◌≤◌, List, [], ◌∷◌, ◌++◌, Option, Some, None, sym, ap, ◌∙◌, subst, suc, ◌^◌, length, length-append, arith}
 use Rattle.std.specs.Prelude.{◌==◌, filter_map, fold}
 use Rattle.std.specs.List.{cons_option}
 use Rattle.std.specs.Result.{result_ok}
@@ -11,8 +11,14 @@ use Rattle.orc_merge.specs.declared.faults.LayoutFault.TheVariants as layout_fau
 use Rattle.orc_merge.specs.declared.faults.LayoutWhy.{LayoutWhy}
 use Rattle.orc_merge.specs.LayoutLines.{Said, nothing, file, place, said}
 use Rattle.orc_merge.specs.LayoutFile.{FileSaid, IsFirstFault, IsLayout, IsLayoutFault, files_said, layout_files, with_place, with_saying}
+use Rattle.orc_merge.specs.LayoutReading.{file_of, files_of}
+use Rattle.orc_merge.specs.declared.layout.LayoutFile.{LayoutFile}
 use Rattle.command_base.specs.Reading.{layout_stop}
-use Rattle.merge_command.specs.Layouts.{NamesNoFiles, faulty, no_memory, number_of_places}
+use Rattle.command_base.specs.declared.refusal.Refusal.TheVariants.{TooManyFiles}
+use Rattle.command_base.specs.declared.stop.CommandStop.TheVariants.{Refused}
+use Rattle.std.proofs.lemmas.List.{length-map}
+use Rattle.merge_command.specs.Layouts.{NamesNoFiles, faulty, no_memory, number_of_places, too_many}
+use Rattle.merge_command.specs.declared.layouts.TheConstants.{MOST_FILES}
 
 pub no_layout : (text : List ℕ) (fault : LayoutFault) → IsLayoutFault text fault → NamesNoFiles text (layout_stop fault)
 no_layout text (layout_fault.Line line why) h = faulty h
@@ -66,3 +72,8 @@ places_below text =
 
 pub few_places : (text : List ℕ) (files : List FileSaid) → files ≡ layout_files text → length text ≤ 16777216 → number_of_places files < 2 ^ 32
 few_places text files is short = let e = ap number_of_places is in omega (arith, e, places_below text)
+
+pub names_too_many : (text : List ℕ) (layout : List FileSaid) (files : List LayoutFile) → IsLayout text → layout ≡ layout_files text → files_of files ≡ layout → MOST_FILES < length files → NamesNoFiles text (Refused (TooManyFiles (length files)))
+names_too_many text layout files is said same many =
+    let e : length files ≡ length (layout_files text) = sym (length-map files file_of) ∙ ap length (same ∙ said) in
+    too_many is e (subst (λ (n : ℕ). MOST_FILES < n) e many)

@@ -1,6 +1,6 @@
 -- What follows from how `merge` ends.
 use Rattle.std.proofs.Common.{◌≡◌, ℕ, ◌<◌, ◌≤◌, List, [], ◌∷◌, ◌++◌, length, refl, sym, ap, ◌∙◌, subst, inl, inr, arith}
-use Rattle.std.specs.Prelude.{◌≢◌, ◌⊎◌, Option, Some, None, Ok}
+use Rattle.std.specs.Prelude.{◌≢◌, ◌⊎◌, Option, Some, None, Result, Ok, Err, IfErr, OnErr}
 use Rattle.std.specs.FinMap.{get, insert}
 use Rattle.ot_files.specs.Causes.{Rose}
 use Rattle.ot_files.specs.Content.{Content, ChangesAtMost, writing}
@@ -31,9 +31,25 @@ use Rattle.merge_command.specs.Refused.{IsRefusedOrFails, RefusesFile, RefusesMe
 use Rattle.merge_command.specs.declared.layouts.TheConstants.{MAX_LAYOUT_BYTES, MOST_FILES}
 use Rattle.merge_command.proofs.Content.{get-insert_same, written_others}
 use Rattle.merge_command.proofs.LayoutLemmas.{no_faulty_line}
+use Rattle.merge_command.proofs.ObjectLemmas.{parts_earlier}
 use Rattle.merge_command.proofs.SameParts.{fault_same, files_same, parts_same, table_same}
-use Rattle.merge_command.proofs.Stops.{concluded_usage, done_not_refused, is_read, left, not_memory, of_stop, one_text, read_no_usage, readable, unreadable, write_fault, write_no_usage, write_not_refused, write_told}
+use Rattle.merge_command.proofs.Stops.{concluded_usage, done_not_refused, is_read, left, not_memory, of_stop, one_text, outside, read_no_usage, readable, unreadable, write_earlier, write_fault, write_no_usage, write_not_refused, write_told}
 use Rattle.merge_command.proofs.TableLemmas.{find_alike, walk_alike}
+
+-- ---- what was met behind LAYOUT, in the whole time before
+
+pub behind_earlier : (said : List FileSaid) (output : List ℕ) (content middle : Option Content) (before faults : ℕ) (after : Outside) (s : CommandStop) → middle ≡ content → before ≤ faults → StopsBehindLayout said output (outside middle faults) after s → StopsBehindLayout said output (outside content before) after s
+behind_earlier said output content middle before faults after s same later (without_part h kept) = without_part (parts_earlier said content middle before faults after s same later h) (kept ∙ same)
+behind_earlier said output content middle before faults after s same later (without_table parts are h kept) = without_table parts (subst (λ (c : Option Content). ArePartsOf c said parts) same are) h (kept ∙ same)
+behind_earlier said output content middle before faults after s same later (unwritten parts table are is h others) =
+    unwritten parts table (subst (λ (c : Option Content). ArePartsOf c said parts) same are) is
+    (write_earlier s output content before faults after later (subst (λ (c : Option Content). StopsAtWrite output (outside c faults) after s) same h))
+    (subst (λ (c : Option Content). ChangesAtMost output c after.content) same others)
+
+-- what writing OUT stops by
+pub write_stops : {T : Type 0} (r : Result T CommandStop) (P Q : CommandStop → Type 0) (X : Type 0) → ((s : CommandStop) → P s → X → Q s) → IfErr r P → OnErr r X → IfErr r Q
+write_stops (Ok x) P Q X each h k = tt
+write_stops (Err s) P Q X each h k = each s h k
 
 -- ---- where it is done
 

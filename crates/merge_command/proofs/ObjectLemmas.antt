@@ -1,9 +1,9 @@
 -- The objects that a layout names, from what reading them ensures.
-use Rattle.std.proofs.Common.{◌≡◌, ℕ, zero, suc, ◌+◌, ◌^◌, ◌<◌, ◌≤◌, List, [], ◌∷◌, ◌++◌, length, take, drop, get_or, map, refl, sym, ap, ◌∙◌, subst, arith, drop-cons, length-append}
-use Rattle.std.specs.Prelude.{All, None, Option, Some, sum_by}
+use Rattle.std.proofs.Common.{◌≡◌, ℕ, zero, suc, ◌+◌, ◌^◌, ◌<◌, ◌≤◌, false, List, [], ◌∷◌, ◌++◌, length, take, drop, get_or, map, refl, sym, ap, ◌∙◌, subst, arith, drop-cons, length-append}
+use Rattle.std.specs.Prelude.{All, None, Option, Some, Result, Ok, Err, is_err, is_ok, sum_by, if◌then◌else◌}
 use Rattle.std.proofs.lemmas.List.Elements.{All-push}
 use Rattle.std.proofs.lemmas.List.{length-map, length-take-le, map-append, take-append-drop, take_all, take_more}
-use Rattle.std.proofs.lemmas.List.Sums.{sum_by_push}
+use Rattle.std.proofs.lemmas.List.Sums.{sum_by-cons, sum_by_push}
 use Rattle.ot_base.specs.declared.row.PlacedRow.{PlacedRow}
 use Rattle.ot_files.specs.Content.{Content}
 use Rattle.table_defs.specs.declared.range.Range.{Range}
@@ -21,8 +21,12 @@ use Rattle.command_base.specs.declared.refusal.Refusal.TheVariants as refusal
 use Rattle.command_base.specs.declared.stop.CommandStop.{CommandStop}
 use Rattle.command_base.specs.declared.stop.CommandStop.TheVariants as stop
 use Rattle.command_base.proofs.UnwindLemmas.{rows_within}
+use Rattle.command_base.specs.Reading.{MayRead, StopsAtRead}
+use Rattle.elf_objects.specs.declared.TheConstants.{MAX_FILE_BYTES}
+use Rattle.std.proofs.lemmas.Bool.{false≢true}
+use Rattle.merge_command.proofs.Stops.{outside, read_earlier}
 use Rattle.merge_command.specs.Layouts.{number_of_places}
-use Rattle.merge_command.specs.Objects.{ArePartsOf, CanBeMerged, HasNoPart, IsMergeable, IsNoPart, IsPartOf, StopsAtParts, at_file, foreign, no_rows}
+use Rattle.merge_command.specs.Objects.{ArePartsOf, CanBeMerged, HasNoPart, IsMergeable, IsNoPart, IsPartOf, StopsAtParts, at_file, foreign, no_memory, no_part, no_rows, unread}
 
 -- ---- one object
 
@@ -82,7 +86,12 @@ range_count parts = sum_by (λ part. length part.ranges.items) parts
 
 ranges_length : (k : ℕ) (parts : List Part) → length (ranges_from k parts) ≡ range_count parts
 ranges_length k [] = refl
-ranges_length k (part ∷ parts) = omega (arith, length-append (owned_ranges k part.ranges.items) (ranges_from (k + 1) parts), length-map {B = OwnedRange} part.ranges.items (λ (range : Range). (k, range)), ranges_length (k + 1) parts)
+ranges_length k (part ∷ parts) =
+    let e : length (ranges_from k (part ∷ parts)) ≡ length (owned_ranges k part.ranges.items) + length (ranges_from (k + 1) parts) = length-append (owned_ranges k part.ranges.items) (ranges_from (k + 1) parts) in
+    let f : range_count (part ∷ parts) ≡ length part.ranges.items + range_count parts = sum_by-cons (λ (one : Part). length one.ranges.items) part parts in
+    let g : length (owned_ranges k part.ranges.items) ≡ length part.ranges.items = length-map {B = OwnedRange} part.ranges.items (λ (range : Range). (k, range)) in
+    let h = ranges_length (k + 1) parts in
+    omega (arith, e, f, g, h)
 
 -- the files that were read so far, of those that a layout has, and what is known of their rows and ranges
 pub record ReadSoFar (content : Option Content) (files : List LayoutFile) (parts : List Part) : Type 0 where
@@ -154,3 +163,40 @@ stops_at content said files i d parts faults after s told same inside so none is
     at_file (files_of (take i files)) (files_of (drop (suc i) files)) (file_of (get_or files i d)) parts s
     (sym same ∙ around files i d inside) so.are none
     (is ∙ ap (λ (n : ℕ). of_part n s) (sym (length-map (take i files) file_of ∙ length-take-le i files (omega arith))))
+
+-- ---- what was met at a file, in the whole time before
+
+none_earlier : (file : FileSaid) (content middle : Option Content) (before faults : ℕ) (after : Outside) (s : CommandStop) → middle ≡ content → before ≤ faults → HasNoPart file (outside middle faults) after s → HasNoPart file (outside content before) after s
+none_earlier file content middle before faults after s same later (unread h) =
+    unread (read_earlier MAX_FILE_BYTES s file.name content before faults after later (subst (λ (c : Option Content). StopsAtRead MAX_FILE_BYTES file.name (outside c faults) after s) same h))
+none_earlier file content middle before faults after s same later (no_part bytes may h) =
+    no_part bytes (subst (λ (c : Option Content). MayRead MAX_FILE_BYTES c file.name (Ok bytes)) same may) h
+
+pub none_at : (files : List LayoutFile) (i : ℕ) (d : LayoutFile) (content middle : Option Content) (before faults : ℕ) (after : Outside) (s : CommandStop) → d ≡ get_or files i d → middle ≡ content → before ≤ faults → HasNoPart (file_of d) (outside middle faults) after s → HasNoPart (file_of (get_or files i d)) (outside content before) after s
+none_at files i d content middle before faults after s is same later h =
+    subst (λ (one : LayoutFile). HasNoPart (file_of one) (outside content before) after s) is (none_earlier (file_of d) content middle before faults after s same later h)
+
+pub part_at : (files : List LayoutFile) (i : ℕ) (d : LayoutFile) (content middle : Option Content) (part : Part) → d ≡ get_or files i d → middle ≡ content → IsPartOf middle (file_of d) part → IsPartOf content (file_of (get_or files i d)) part
+part_at files i d content middle part is same h =
+    subst (λ (one : LayoutFile). IsPartOf content (file_of one) part) is (subst (λ (c : Option Content). IsPartOf c (file_of d) part) same h)
+
+pub mergeable_at : (files : List LayoutFile) (i : ℕ) (d : LayoutFile) (part : Part) → d ≡ get_or files i d → IsMergeable part (length d.places.items) → IsMergeable part (length (get_or files i d).places.items)
+mergeable_at files i d part is h = subst (λ (one : LayoutFile). IsMergeable part (length one.places.items)) is h
+
+pub parts_earlier : (said : List FileSaid) (content middle : Option Content) (before faults : ℕ) (after : Outside) (s : CommandStop) → middle ≡ content → before ≤ faults → StopsAtParts said (outside middle faults) after s → StopsAtParts said (outside content before) after s
+parts_earlier said content middle before faults after s same later (at_file ahead behind file parts told split are none at) =
+    at_file ahead behind file parts told split (subst (λ (c : Option Content). ArePartsOf c ahead parts) same are) (none_earlier file content middle before faults after told same later none) at
+parts_earlier said content middle before faults after stop.NoMemory same later no_memory = no_memory
+
+-- a file that is read as no part
+pub part_missing : (content : Option Content) (faults : ℕ) (after : Outside) (file : FileSaid) (name bytes slice : List ℕ) (places : List (ℕ × ℕ)) (s : CommandStop) → name ≡ file.name → slice ≡ bytes → places ≡ file.places → MayRead MAX_FILE_BYTES content name (Ok bytes) → IsNoPart slice places s → HasNoPart file (outside content faults) after s
+part_missing content faults after file name bytes slice places s named same placed may h =
+    no_part bytes (subst (λ (n : List ℕ). MayRead MAX_FILE_BYTES content n (Ok bytes)) named may)
+    (subst (λ (b : List ℕ). IsNoPart b file.places s) same (subst (λ (ps : List (ℕ × ℕ)). IsNoPart slice ps s) placed h))
+
+pub part_unread : (content : Option Content) (faults : ℕ) (after : Outside) (file : FileSaid) (name : List ℕ) (s : CommandStop) → name ≡ file.name → StopsAtRead MAX_FILE_BYTES name (outside content faults) after s → HasNoPart file (outside content faults) after s
+part_unread content faults after file name s named h = unread (subst (λ (n : List ℕ). StopsAtRead MAX_FILE_BYTES n (outside content faults) after s) named h)
+
+pub pushed : {T E : Type 0} (r : Result T E) (after more before : List Part) → is_err r ≡ false → after ≡ (if is_ok r then more else before) → after ≡ more
+pushed (Ok x) after more before e h = h
+pushed (Err x) after more before e h = absurd (false≢true (sym e))

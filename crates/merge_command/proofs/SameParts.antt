@@ -2,6 +2,7 @@
 use Rattle.std.proofs.Common.{◌≡◌, ℕ, ◌+◌, List, [], ◌∷◌, ◌++◌, length, refl, sym, ap, ◌∙◌, subst, arith}
 use Rattle.std.specs.Prelude.{⊤, IsPermutation, Option, Some, None, if◌then◌else◌, nat_le}
 use Rattle.std.specs.Option.{option_or}
+use Rattle.std.proofs.lemmas.List.Sums.{sum_by-cons}
 use Rattle.std.specs.List.Sorted.{IsStableBy}
 use Rattle.ot_base.specs.declared.row.PlacedRow.{PlacedRow}
 use Rattle.ot_files.specs.Content.{Content}
@@ -67,7 +68,12 @@ numbers_same : (ones others : List Part) → AllSame ones others → number_of_r
 numbers_same [] [] same = refl
 numbers_same [] (other ∷ others) same = absurd same
 numbers_same (one ∷ ones) [] same = absurd same
-numbers_same (one ∷ ones) (other ∷ others) same = omega (arith, ap length same.0.0, numbers_same ones others same.1)
+numbers_same (one ∷ ones) (other ∷ others) same =
+    let e : number_of_rows (one ∷ ones) ≡ length one.rows.items + number_of_rows ones = sum_by-cons (λ (part : Part). length part.rows.items) one ones in
+    let f : number_of_rows (other ∷ others) ≡ length other.rows.items + number_of_rows others = sum_by-cons (λ (part : Part). length part.rows.items) other others in
+    let g : length one.rows.items ≡ length other.rows.items = ap length same.0.0 in
+    let h = numbers_same ones others same.1 in
+    omega (arith, e, f, g, h)
 
 rows_same : (ones others : List Part) → AllSame ones others → all_rows ones ≡ all_rows others
 rows_same [] [] same = refl
