@@ -1,28 +1,25 @@
 -- What follows from how `find` ends.
-use Rattle.std.proofs.Common.{◌≡◌, ℕ, List, refl, sym, ap, ◌∙◌, subst, inl, inr}
-use Rattle.std.specs.Prelude.{◌≢◌, ◌⊎◌, Option, Some, None, Ok}
-use Rattle.ot_base.specs.declared.row.Row.{Row}
+use Rattle.std.proofs.Common.{◌≡◌, ℕ, List, refl, sym, ap, ◌∙◌, subst}
+use Rattle.std.specs.Prelude.{◌≢◌, Option, Some, None, Ok}
 use Rattle.ot_files.specs.Causes.{Rose}
 use Rattle.ot_files.specs.Content.{Content, reading}
 use Rattle.elf_objects.specs.declared.TheConstants.{MAX_FILE_BYTES}
 use Rattle.table_defs.specs.Lookup.{AddressedRow}
-use Rattle.orc_merge.specs.TableBytes.{table_bytes}
 use Rattle.orc_merge.specs.TableFaults.{IsTableFault, first_bad}
 use Rattle.orc_merge.specs.declared.faults.TableFault.{TableFault}
 use Rattle.orc_merge.specs.declared.faults.TableFault.TheVariants as fault
 use Rattle.orc_merge.proofs.Written.{accepted}
 use Rattle.command_base.specs.Dump.{IsAnswered}
 use Rattle.command_base.specs.Outside.{Outside, Output}
-use Rattle.command_base.specs.Printing.{Concludes, Prints}
-use Rattle.command_base.specs.Reading.{MayRead, StopsAtRead, table_stop}
+use Rattle.command_base.specs.Reading.{MayRead, table_stop}
 use Rattle.command_base.specs.Stop.{status_of}
 use Rattle.command_base.specs.declared.status.Status.{Status}
-use Rattle.command_base.specs.declared.status.Status.TheVariants.{Done, Warnings, Refused, Usage, FileFault, SinkFault, NoMemory}
+use Rattle.command_base.specs.declared.status.Status.TheVariants.{Done, Warnings, Refused, Usage, FileFault, SinkFault}
 use Rattle.command_base.specs.declared.stop.CommandStop.{CommandStop}
 use Rattle.command_base.specs.declared.stop.CommandStop.TheVariants as stop
 use Rattle.command_base.proofs.ConcludeLemmas.{concluded_fault, concluded_no_warnings, concluded_not_done, concluded_sink_fault, printed_fault, printed_sink_fault, printed_warnings}
 use Rattle.command_base.proofs.DumpLaws.{no_memory_left, not_file_fault, not_sink_fault, not_warnings, printed_done, read_fault, same_read, text_left, told_read, unread_left}
-use Rattle.merge_command.specs.Alike.{FindsRow, HoldsTable}
+use Rattle.merge_command.specs.Alike.{HoldsTable}
 use Rattle.merge_command.specs.Find.{EndsFind, Finds, HoldsNoTable, IsFound, bad, found_line, no_memory, printed, read, stopped, unread}
 use Rattle.merge_command.specs.Refused.{IsRefusedOrFails, RefusesFind, Tells, table_unread, without_table}
 use Rattle.merge_command.proofs.Stops.{concluded_usage, done_no_usage, done_not_refused, is_read, left, not_memory, of_stop, one_text, read_no_usage, readable, unreadable, whole_text}

@@ -1,5 +1,5 @@
 -- What a layout names: why it names no files, and how many places it has.
-use Rattle.std.proofs.Common.{◌≡◌, ℕ, ◌+◌, ◌-◌, ◌<◌, ◌≤◌, List, [], ◌∷◌, ◌++◌, Option, Some, None, sym, ap, ◌∙◌, subst, suc, ◌^◌, length, length-append, arith}
+use Rattle.std.proofs.Common.{◌≡◌, ℕ, ◌+◌, ◌-◌, ◌<◌, ◌≤◌, List, [], ◌∷◌, Option, Some, None, sym, ap, ◌∙◌, subst, suc, ◌^◌, length, length-append, arith}
 use Rattle.std.specs.Prelude.{◌==◌, filter_map, fold}
 use Rattle.std.specs.List.{cons_option}
 use Rattle.std.specs.Result.{result_ok}
@@ -10,7 +10,7 @@ use Rattle.orc_merge.specs.declared.faults.LayoutFault.{LayoutFault}
 use Rattle.orc_merge.specs.declared.faults.LayoutFault.TheVariants as layout_fault
 use Rattle.orc_merge.specs.declared.faults.LayoutWhy.{LayoutWhy}
 use Rattle.orc_merge.specs.LayoutLines.{Said, nothing, file, place, said}
-use Rattle.orc_merge.specs.LayoutFile.{FileSaid, IsFirstFault, IsLayout, IsLayoutFault, files_said, layout_files, with_place, with_saying}
+use Rattle.orc_merge.specs.LayoutFile.{FileSaid, IsFirstFault, IsLayout, IsLayoutFault, layout_files, with_place, with_saying}
 use Rattle.orc_merge.specs.LayoutReading.{file_of, files_of}
 use Rattle.orc_merge.specs.declared.layout.LayoutFile.{LayoutFile}
 use Rattle.command_base.specs.Reading.{layout_stop}

@@ -1,19 +1,18 @@
 -- What follows from how `merge` ends.
-use Rattle.std.proofs.Common.{◌≡◌, ℕ, ◌<◌, ◌≤◌, List, [], ◌∷◌, ◌++◌, length, refl, sym, ap, ◌∙◌, subst, inl, inr, arith}
+use Rattle.std.proofs.Common.{◌≡◌, ℕ, ◌≤◌, List, [], ◌∷◌, ◌++◌, length, refl, sym, ap, ◌∙◌, subst, inl, inr, arith}
 use Rattle.std.specs.Prelude.{◌≢◌, ◌⊎◌, Option, Some, None, Result, Ok, Err, IfErr, OnErr}
 use Rattle.std.specs.FinMap.{get, insert}
 use Rattle.ot_files.specs.Causes.{Rose}
 use Rattle.ot_files.specs.Content.{Content, ChangesAtMost, writing}
 use Rattle.elf_objects.specs.declared.TheConstants.{MAX_FILE_BYTES}
 use Rattle.elf_objects.specs.Elf.{Elf}
-use Rattle.orc_merge.specs.LayoutFile.{FileSaid, layout_files}
+use Rattle.orc_merge.specs.LayoutFile.{FileSaid}
 use Rattle.orc_merge.specs.MergeFaults.{merge_fault}
 use Rattle.orc_merge.specs.declared.faults.MergeFault.{MergeFault}
 use Rattle.orc_merge.specs.declared.part.Part.{Part}
 use Rattle.command_base.specs.Dump.{HoldsNoRows, malformed, no_memory as rows_no_memory, no_rows as no_rows_held}
 use Rattle.command_base.specs.Outside.{Outside, Output}
 use Rattle.command_base.specs.Printing.{Concludes}
-use Rattle.command_base.specs.Reading.{StopsAtRead}
 use Rattle.command_base.specs.Stop.{of_part, status_of}
 use Rattle.command_base.specs.Unwind.{first_foreign}
 use Rattle.command_base.specs.Writing.{StopsAtWrite}
@@ -28,7 +27,7 @@ use Rattle.merge_command.specs.Layouts.{IsLayoutOf, NamesFiles, NamesNoFiles, St
 use Rattle.merge_command.specs.Merge.{EndsMerge, HasNoTable, IsMerged, IsTableOf, MayBeMerged, StopsBehindLayout, StopsMerge, WritesMerged, at_layout, behind_layout, done, no_memory as table_no_memory, stopped, unmerged as table_unmerged, unwritten, without_part, without_table}
 use Rattle.merge_command.specs.Objects.{ArePartsOf, HasNoPart, IsNoPart, IsPart, IsPartOf, StopsAtParts, at_file, foreign, no_memory as parts_no_memory, no_part, no_rows, unread}
 use Rattle.merge_command.specs.Refused.{IsRefusedOrFails, RefusesFile, RefusesMerge, Tells, file_refused, layout_unread, object_unread, unmerged, without_files, without_part as file_without_part}
-use Rattle.merge_command.specs.declared.layouts.TheConstants.{MAX_LAYOUT_BYTES, MOST_FILES}
+use Rattle.merge_command.specs.declared.layouts.TheConstants.{MAX_LAYOUT_BYTES}
 use Rattle.merge_command.proofs.Content.{get-insert_same, written_others}
 use Rattle.merge_command.proofs.LayoutLemmas.{no_faulty_line}
 use Rattle.merge_command.proofs.ObjectLemmas.{parts_earlier}

@@ -12,10 +12,7 @@ use Rattle.elf_objects.specs.declared.TheConstants.{MAX_FILE_BYTES}
 use Rattle.elf_objects.specs.Elf.{Elf}
 use Rattle.orc_bytes.specs.Sections.{HoldsOrc}
 use Rattle.orc_bytes.proofs.OneList.{one_list_fits}
-use Rattle.orc_walk.specs.Faults.{place_fault}
-use Rattle.orc_merge.specs.Ends.{first_unended}
 use Rattle.orc_merge.specs.LayoutFile.{FileSaid, layout_files}
-use Rattle.orc_merge.specs.Merged.{IsMergeOf}
 use Rattle.orc_merge.specs.MergeFaults.{merge_fault, number_of_rows, too_many, unended, unplaced}
 use Rattle.orc_merge.specs.Overlaps.{first_overlap}
 use Rattle.orc_merge.specs.Parts.{all_ranges, all_rows, first_in, owned_ranges, ranges_from, rows_of_part}
@@ -120,9 +117,10 @@ same_rows o p rows others e h k = one_list_fits p rows others (subst (λ (x : El
 
 same_part : (bytes : List ℕ) (places : List (ℕ × ℕ)) (one other : Part) → IsPart bytes places one → IsPart bytes places other → Same one other
 same_part bytes places one other h k =
-    let same = one_object bytes h.object k.object h.held.object k.held.object in
-    (same_rows h.object k.object one.rows.items other.rows.items same h.held.held k.held.held,
-    h.ranges ∙ ap (λ (o : Elf). ranges_of o places) same ∙ sym k.ranges)
+    let same = one_object bytes h.object k.object h.held.object k.held.object in (
+      same_rows h.object k.object one.rows.items other.rows.items same h.held.held k.held.held,
+      h.ranges ∙ ap (λ (o : Elf). ranges_of o places) same ∙ sym k.ranges,
+    )
 
 one_part : (held : Content) (file : FileSaid) (one other : Part) → IsPartOf (Some held) file one → IsPartOf (Some held) file other → Same one other
 one_part held file one other h k =

@@ -1,5 +1,5 @@
 -- The table of merged rows, and what look-ups and walks by it tell.
-use Rattle.std.proofs.Common.{◌≡◌, ◌≢◌, ◌⊎◌, ℕ, ◌+◌, ◌*◌, ◌≤◌, List, ◌++◌, length, refl, sym, ap, ◌∙◌, subst, inl, inr, arith}
+use Rattle.std.proofs.Common.{◌≡◌, ◌≢◌, ◌⊎◌, ℕ, ◌+◌, ◌*◌, ◌≤◌, List, length, sym, ap, ◌∙◌, subst, inl, inr, arith}
 use Rattle.std.specs.Prelude.{Some}
 use Rattle.elf_objects.specs.declared.TheConstants.{MAX_FILE_BYTES}
 use Rattle.table_defs.specs.Lookup.{AddressedRow}
@@ -8,7 +8,6 @@ use Rattle.orc_walk.specs.Rows.{row_at}
 use Rattle.orc_merge.specs.Alike.{known}
 use Rattle.orc_merge.specs.MergedWalk.{StopAlike, TableWalks, ranges_of_all}
 use Rattle.orc_merge.specs.MergeFaults.{merge_fault}
-use Rattle.orc_merge.specs.TableBytes.{table_bytes}
 use Rattle.orc_merge.specs.TableFaults.{row_count}
 use Rattle.orc_merge.specs.TableRows.{rows_read}
 use Rattle.orc_merge.specs.declared.faults.MergeFault.{MergeFault}

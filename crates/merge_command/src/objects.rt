@@ -15,11 +15,7 @@ use ot_files::Files;
 use std::alloc::Global;
 
 /// The rows of an object, and the ranges of its sections at the bases that places tell; or why there are none.
-fn part_of<'a>(
-    alloc: Global,
-    bytes: &[u8],
-    places: &[(u32, u64)],
-) -> Result<Part, CommandStop<'a>>
+fn part_of<'a>(alloc: Global, bytes: &[u8], places: &[(u32, u64)]) -> Result<Part, CommandStop<'a>>
     requires { length bytes.now ≤ MAX_FILE_BYTES }
     ensures part { IfOk result (IsPart bytes.now places.now) }
     ensures mergeable { IfOk result (λ part. IsMergeable part (length places.now)) }

@@ -17,9 +17,9 @@ returns-in-Ok-table_of-clause-stopped g c =
     write_stops c.write_file.result (StopsAtWrite c.args.output.now (record { content = g.F.Files.content c.parts_of.new.files; faults = g.F.Files.faults c.parts_of.new.files }) (record { content = g.F.Files.content c.write_file.new.files; faults = g.F.Files.faults c.write_file.new.files })) (StopsBehindLayout c.args.layout.now c.args.output.now (record { content = g.F.Files.content c.args.files.now; faults = g.F.Files.faults c.args.files.now }) (record { content = g.F.Files.content c.write_file.new.files; faults = g.F.Files.faults c.write_file.new.files }))
     (ChangesAtMost c.args.output.now (g.F.Files.content c.parts_of.new.files) (g.F.Files.content c.write_file.new.files))
     (λ (s : CommandStop) h others.
-        behind_earlier c.args.layout.now c.args.output.now (g.F.Files.content c.args.files.now) (g.F.Files.content c.parts_of.new.files) (g.F.Files.faults c.args.files.now) (g.F.Files.faults c.parts_of.new.files) (record { content = g.F.Files.content c.write_file.new.files; faults = g.F.Files.faults c.write_file.new.files }) s c.parts_of.ensures.unchanged c.parts_of.ensures.later
-        (unwritten c.in-Ok.parts.items c.in-Ok-table_of.table.items (subst (λ (content : Option Content). ArePartsOf content c.args.layout.now c.in-Ok.parts.items) (sym c.parts_of.ensures.unchanged) c.in-Ok.ensures.parts)
-        (subst (λ (parts : List Part). IsTableOf parts c.in-Ok-table_of.table.items) c.deref.ensures.value c.in-Ok-table_of.ensures.table) h others))
+    behind_earlier c.args.layout.now c.args.output.now (g.F.Files.content c.args.files.now) (g.F.Files.content c.parts_of.new.files) (g.F.Files.faults c.args.files.now) (g.F.Files.faults c.parts_of.new.files) (record { content = g.F.Files.content c.write_file.new.files; faults = g.F.Files.faults c.write_file.new.files }) s c.parts_of.ensures.unchanged c.parts_of.ensures.later
+    (unwritten c.in-Ok.parts.items c.in-Ok-table_of.table.items (subst (λ (content : Option Content). ArePartsOf content c.args.layout.now c.in-Ok.parts.items) (sym c.parts_of.ensures.unchanged) c.in-Ok.ensures.parts)
+    (subst (λ (parts : List Part). IsTableOf parts c.in-Ok-table_of.table.items) c.deref.ensures.value c.in-Ok-table_of.ensures.table) h others))
     c.write_file.ensures.stopped c.write_file.ensures.others
 
 pub returns-clause-stopped : goal.returns-clause-stopped

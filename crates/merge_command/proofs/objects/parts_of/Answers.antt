@@ -1,4 +1,4 @@
-use Rattle.std.proofs.Common.{◌≤◌, ◌+◌, ◌∙◌, List, arith, refl, subst, sym, take}
+use Rattle.std.proofs.Common.{◌+◌, ◌∙◌, List, arith, refl, subst, sym, take}
 use Rattle.orc_merge.specs.declared.part.Part.{Part}
 use Rattle.merge_command.specs.Objects.{no_memory}
 use Rattle.merge_command.proofs.ObjectLemmas.{ReadSoFar, all_mergeable, all_read, mergeable_at, none_at, none_read, one_more, part_at, pushed, stops_at}
