@@ -73,8 +73,8 @@ fn find_bytes<S: Sink>(alloc: Global, bytes: &[u8], address: u64, out: &mut S) -
     }
 }
 
-/// Prints the row of the table TABLE that holds at an address, or that there is none; or why TABLE is no table. Gives the status that the
-/// command ends with. No file is changed.
+/// Prints the row of the table TABLE that holds at an address, or that there is none; or why TABLE is no table. Gives
+/// the status that the command ends with. No file is changed.
 pub fn find<F: Files, S: Sink>(
     alloc: Global,
     table: &str,
@@ -89,7 +89,8 @@ pub fn find<F: Files, S: Sink>(
         (record { written = S.written out.old; faults = S.faults out.old })
         (record { written = S.written out.new; faults = S.faults out.new }) result }
 
-    // It is done only where TABLE is read as a table, and then exactly the line of what holds at the address was printed.
+    // It is done only where TABLE is read as a table, and then exactly the line of what holds at the address was
+    // printed.
     ensures found { result ≡ Status.Done → IsFound table.now address (F.content files.old) (S.written out.old) (S.written out.new) }
 
     // Such a TABLE isn't refused.
@@ -97,8 +98,8 @@ pub fn find<F: Files, S: Sink>(
         → F.content files.old ≡ Some held → reading held table.now MAX_FILE_BYTES ≡ Ok bytes
         → IsMergedTable rows → bytes ≡ table_bytes rows → IsAnswered result }
 
-    // Where the files tell their content: status 2 comes only where a step finds a refusal, the first that fails, and exactly its line
-    // was printed. And where one does, status 2 comes, unless a fault or want of memory is answered.
+    // Where the files tell their content: status 2 comes only where a step finds a refusal, the first that fails, and
+    // exactly its line was printed. And where one does, status 2 comes, unless a fault or want of memory is answered.
     ensures refused { (held : Content) → result ≡ Status.Refused → F.content files.old ≡ Some held
         → Tells (RefusesFind table.now held) (S.written out.old) (S.written out.new) }
     ensures refuses { (held : Content) (stop : StopValue) → F.content files.old ≡ Some held

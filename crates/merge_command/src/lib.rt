@@ -1,5 +1,5 @@
-//! The commands `merge LAYOUT OUT`, which joins the rows of several objects into one table, and `find TABLE ADDR`, which looks an address
-//! up in such a table.
+//! The commands `merge LAYOUT OUT`, which joins the rows of several objects into one table, and `find TABLE ADDR`,
+//! which looks an address up in such a table.
 #![tactic(auto)]
 
 mod finding;

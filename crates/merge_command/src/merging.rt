@@ -38,7 +38,8 @@ fn table_of<'a>(alloc: Global, parts: &[Part]) -> Result<Vec<u8>, CommandStop<'a
     }
 }
 
-/// Reads the files of a layout and writes the table of their merged rows to OUT, or tells why a command stops that can't.
+/// Reads the files of a layout and writes the table of their merged rows to OUT, or tells why a command stops that
+/// can't.
 fn write_merged<'a, F: Files>(
     alloc: Global,
     layout: &'a Layout,
@@ -63,9 +64,9 @@ fn write_merged<'a, F: Files>(
     }
 }
 
-/// Reads the objects that the layout LAYOUT names, one after the other, and writes to OUT one table of all their rows at the addresses
-/// that LAYOUT gives their sections; or tells why it can't. Gives the status that the command ends with. No file but OUT is changed, and
-/// OUT only after every step before; where it is done, nothing is printed.
+/// Reads the objects that the layout LAYOUT names, one after the other, and writes to OUT one table of all their rows
+/// at the addresses that LAYOUT gives their sections; or tells why it can't. Gives the status that the command ends
+/// with. No file but OUT is changed, and OUT only after every step before; where it is done, nothing is printed.
 pub fn merge<F: Files, S: Sink>(
     alloc: Global,
     layout: &str,
@@ -80,19 +81,21 @@ pub fn merge<F: Files, S: Sink>(
         (record { written = S.written out.old; faults = S.faults out.old })
         (record { written = S.written out.new; faults = S.faults out.new }) result }
 
-    // It is done only where LAYOUT is read as a layout, its files as objects, and nothing hinders that their rows are merged; OUT then
-    // holds the table of their merged rows, short enough for `find`, and every other name what it held.
+    // It is done only where LAYOUT is read as a layout, its files as objects, and nothing hinders that their rows are
+    // merged; OUT then holds the table of their merged rows, short enough for `find`, and every other name what it
+    // held.
     ensures merged { result ≡ Status.Done → IsMerged layout.now output.now (F.content files.old) (F.content files.new) }
 
-    // Where the files tell their content, what `find` gives on OUT at each address inside one of an object's ranges is what the
-    // object's own rows and ranges give; no row, and a row of the undefined kind, count as one.
+    // Where the files tell their content, what `find` gives on OUT at each address inside one of an object's ranges
+    // is what the object's own rows and ranges give; no row, and a row of the undefined kind, count as one.
     ensures finds { (before after : Content) (said : List FileSaid) (parts : List PartValue) (table : List ℕ) → result ≡ Status.Done
         → F.content files.old ≡ Some before → F.content files.new ≡ Some after
         → IsLayoutOf (Some before) layout.now said → ArePartsOf (Some before) said parts
         → get after output.now ≡ Some table → FindAlike table parts }
 
-    // And a walk over the rows of OUT, in the ranges of all objects, gives the frames of the walk over an object's own rows in its ranges,
-    // and stops alike; where that walk leaves the object's ranges, these frames and then maybe more.
+    // And a walk over the rows of OUT, in the ranges of all objects, gives the frames of the walk over an object's
+    // own rows in its ranges, and stops alike; where that walk leaves the object's ranges, these frames and then
+    // maybe more.
     ensures walks { (before after : Content) (said : List FileSaid) (parts : List PartValue) (table : List ℕ) → result ≡ Status.Done
         → F.content files.old ≡ Some before → F.content files.new ≡ Some after
         → IsLayoutOf (Some before) layout.now said → ArePartsOf (Some before) said parts
@@ -103,8 +106,8 @@ pub fn merge<F: Files, S: Sink>(
         → F.content files.old ≡ Some held → IsLayoutOf (Some held) layout.now said → ArePartsOf (Some held) said parts
         → merge_fault parts ≡ None → (result ≡ Status.Done) ⊎ ((result ≡ Status.FileFault) ⊎ (result ≡ Status.NoMemory)) }
 
-    // Where the files tell their content: status 2 comes only where a step finds a refusal, the first that fails, and exactly its line
-    // was printed. And where one does, status 2 comes, unless a fault or want of memory is answered.
+    // Where the files tell their content: status 2 comes only where a step finds a refusal, the first that fails, and
+    // exactly its line was printed. And where one does, status 2 comes, unless a fault or want of memory is answered.
     ensures refused { (held : Content) → result ≡ Status.Refused → F.content files.old ≡ Some held
         → Tells (RefusesMerge layout.now held) (S.written out.old) (S.written out.new) }
     ensures refuses { (held : Content) (stop : StopValue) → F.content files.old ≡ Some held

@@ -1,9 +1,7 @@
 //! Reading the files of a layout.
 
-ghost use Rattle.std.specs.Prelude.{◌≡◌, ◌≤◌, ◌<◌, ◌^◌, All, IfErr, IfOk, length};
-ghost use Rattle.elf_objects.specs.Elf.{Elf};
+ghost use Rattle.std.specs.Prelude.{◌≡◌, ◌≤◌, ◌<◌, ◌^◌, IfErr, IfOk, length};
 ghost use Rattle.orc_merge.specs.LayoutReading.{file_of};
-ghost use Rattle.orc_merge.specs.Parts.{all_ranges};
 ghost use Rattle.merge_command.specs.Layouts.{number_of_places};
 ghost use Rattle.merge_command.specs.Objects.{ArePartsOf, CanBeMerged, HasNoPart, IsMergeable, IsNoPart, IsPart, IsPartOf, StopsAtParts};
 
@@ -56,8 +54,8 @@ fn read_part<'a, F: Files>(
     }
 }
 
-/// Reads the files of a layout in their order, one after the other, and gives the rows and ranges of each; or why a command stops at the
-/// first that has none.
+/// Reads the files of a layout in their order, one after the other, and gives the rows and ranges of each; or why a
+/// command stops at the first that has none.
 pub(crate) fn parts_of<'a, F: Files>(
     alloc: Global,
     layout: &'a Layout,
