@@ -1,6 +1,6 @@
 -- What follows from how `entry` ends.
-use Rattle.std.proofs.Common.{◌≡◌, ℕ, ℤ, List, [], ◌∷◌, Contains, refl, sym, ap, ◌∙◌, subst, inl, inr}
-use Rattle.std.specs.Prelude.{◌≢◌, ◌⊎◌, Option, Some, None, Ok}
+use Rattle.std.proofs.Common.{◌≡◌, ℕ, List, [], ◌∷◌, Contains, refl, sym, ap, ◌∙◌, subst, inl, inr}
+use Rattle.std.specs.Prelude.{◌≢◌, Option, Some, None, Ok}
 use Rattle.std.specs.FinMap.{get}
 use Rattle.ot_base.specs.NameLists.{NameLists, lists_with}
 use Rattle.ot_base.specs.NamesFile.{IsNamesFile}
@@ -19,11 +19,10 @@ use Rattle.flow_defs.specs.Coded.{Coded, coded_by}
 use Rattle.unwinding_law.proofs.Lists.{here, nowhere}
 use Rattle.entry_rules.specs.declared.options.EntryOptions.{EntryOptions}
 use Rattle.command_base.specs.Dump.{IsAnswered}
-use Rattle.command_base.specs.Names.{HasNames, HoldsNames, IsListsStop, StopsAtNames, names_unread, no_lists, no_names}
+use Rattle.command_base.specs.Names.{HasNames, IsListsStop, StopsAtNames, names_unread, no_lists, no_names}
 use Rattle.command_base.specs.Outside.{Outside, Output}
 use Rattle.command_base.specs.Printing.{Concludes, Prints, fails, fault_stays, runs_out, whole}
 use Rattle.command_base.specs.Stop.{status_of}
-use Rattle.command_base.specs.Warnings.{warnings_text}
 use Rattle.command_base.specs.declared.refusal.Refusal.TheVariants as refusal
 use Rattle.command_base.specs.declared.status.Status.{Status}
 use Rattle.command_base.specs.declared.status.Status.TheVariants.{Done, Warnings, Refused, Usage, FileFault, SinkFault, NoMemory}
@@ -31,7 +30,7 @@ use Rattle.command_base.specs.declared.stop.CommandStop.{CommandStop}
 use Rattle.command_base.specs.declared.stop.CommandStop.TheVariants as stop
 use Rattle.command_base.proofs.ConcludeLemmas.{concluded_fault, concluded_no_warnings, concluded_not_done, concluded_sink_fault, printed_done, printed_fault, printed_sink_fault}
 use Rattle.command_base.proofs.DumpLaws.{no_memory_left, not_file_fault, not_sink_fault, not_warnings, one_object, read_fault, unread_left}
-use Rattle.entry_command.specs.Entry.{AreEntryWarnings, BreaksEntryRule, EndsEntry, InKeepsEntryRules, IsInOrder, IsRead, IsUnbroken, IsUncheckable, KeepsEntryRules, MayBeChecked, PrintsEntryWarnings, StopsEntry, done, malformed, no_memory, refused, stopped, unflowed, unlinked, unread, warned, without_names}
+use Rattle.entry_command.specs.Entry.{AreEntryWarnings, BreaksEntryRule, EndsEntry, InKeepsEntryRules, IsInOrder, IsUnbroken, IsUncheckable, KeepsEntryRules, MayBeChecked, PrintsEntryWarnings, StopsEntry, done, malformed, no_memory, refused, stopped, unflowed, unlinked, unread, warned, without_names}
 use Rattle.entry_command.specs.Refused.{IsRefusedOrFails, IsWarnedOrFails, RefusesEntry, TellsRefusal, input_refused, input_unread, list_faulty, list_unread}
 use Rattle.entry_command.proofs.Stops.{concluded_usage, done_not_refused, given_names, held_is, is_read, left, names_fault, names_left, names_no_usage, no_faulty_line, not_memory, of_stop, one_text, read_no_usage, readable, unreadable, whole_text}
 use Rattle.entry_command.proofs.Uncheckable.{order_excluded}

@@ -1,6 +1,6 @@
 -- What stops say: which statuses they come with, and what they say of what the files hold.
 use Rattle.std.proofs.Common.{◌≡◌, ℕ, ◌<◌, ◌≤◌, ◌-◌, Bool, true, false, cond, nat_lt, List, [], length, refl, sym, ap, ◌∙◌, subst, inl, inr, arith}
-use Rattle.std.specs.Prelude.{◌≢◌, ◌⊎◌, Option, Some, None, Result, Ok, Err}
+use Rattle.std.specs.Prelude.{◌≢◌, Option, Some, None, Result, Ok, Err}
 use Rattle.ot_base.specs.NameLists.{NameLists}
 use Rattle.ot_base.specs.NamesFile.{IsFirstFault, IsNamesFile, lines}
 use Rattle.ot_base.specs.declared.lists.ListsFault.TheVariants as lists_fault
@@ -22,7 +22,6 @@ use Rattle.command_base.specs.declared.status.Status.{Status}
 use Rattle.command_base.specs.declared.status.Status.TheVariants.{Done, Warnings, Refused, Usage, FileFault, SinkFault, NoMemory}
 use Rattle.command_base.specs.declared.stop.CommandStop.{CommandStop}
 use Rattle.command_base.specs.declared.stop.CommandStop.TheVariants as stop
-use Rattle.command_base.proofs.ConcludeLemmas.{concluded_after_fault, concluded_no_memory}
 use Rattle.command_base.proofs.DumpLaws.{no_memory_left, read_fault, same_read, told_read, unread_left}
 use Rattle.entry_command.specs.Refused.{IsRefusedOrFails, TellsRefusal}
 

@@ -168,6 +168,9 @@ fn is_right(alloc: Global, example: &Example) -> Result<bool, NoMemory> {
     let Some(bytes) = object(alloc, &[code, data], example.code.len() as u64)? else {
         return Ok(false);
     };
+    if bytes.len() > 67_108_864 {
+        return Ok(false);
+    }
     let Ok(parsed) = Object::parse(alloc, &bytes) else {
         return Ok(false);
     };

@@ -1,11 +1,7 @@
-use Rattle.std.proofs.Common.{◌≡◌, List, [], refl, sym, subst}
-use Rattle.ot_base.specs.declared.warning.Warning.{Warning}
-use Rattle.command_base.specs.Printing.{Prints}
-use Rattle.command_base.specs.Warnings.{warnings_text}
-use Rattle.command_base.specs.declared.status.Status.TheVariants as status
-use Rattle.entry_command.specs.Entry.{IsUncheckable, done, refused, stopped, warned}
+use Rattle.std.proofs.Common.{◌≡◌, [], sym, subst}
+use Rattle.entry_command.specs.Entry.{IsUncheckable, refused, stopped, warned}
 use Rattle.entry_command.proofs.Empty.{is_empty, not_empty}
-use Rattle.entry_command.proofs.EntryEnds.{may_check, printed_as}
+use Rattle.entry_command.proofs.EntryEnds.{done_silently, may_check, printed_as}
 use Rattle.entry_command.proofs.EntryLaws.{none_broken}
 use Rattle.entry_command.proofs.Uncheckable.{no_object}
 use Rattle.entry_command.proofs.answering.answer.Goals as goal
@@ -24,9 +20,9 @@ pub returns-then-is_empty-clause-ends : goal.returns-then-is_empty-clause-ends
 returns-then-is_empty-clause-ends g c before after read =
     let all = c.in-Ok-warnings_of.warnings in
     let none : c.in-Ok-warnings_of.warnings.items ≡ [] = is_empty c.is_empty.result all.len all.items c.is_empty.ensures all.ok.0 c.if-is_empty.true in
-    done c.in-Ok.object c.args.lists.now (may_check _ _ _ _ c.args.bytes.now c.in-Ok.object c.args.lists.now read c.in-Ok.ensures.ok c.in-Ok-warnings_of.ensures.right)
+    done_silently _ _ _ _ _ _ _ c.in-Ok.object c.args.lists.now (may_check _ _ _ _ c.args.bytes.now c.in-Ok.object c.args.lists.now read c.in-Ok.ensures.ok c.in-Ok-warnings_of.ensures.right)
     (none_broken _ c.args.lists.now c.args.asked.options c.in-Ok-warnings_of.warnings.items c.in-Ok-warnings_of.ensures.are none)
-    (c.in-Ok-warnings_of.ensures.keeps none) refl
+    (c.in-Ok-warnings_of.ensures.keeps none)
 
 pub returns-clause-ends : goal.returns-clause-ends
 returns-clause-ends g c before after read =

@@ -1,5 +1,4 @@
-use Rattle.std.proofs.Common.{◌≡◌, ◌∙◌, subst}
-use Rattle.entry_command.specs.Entry.{IsRead, stopped, unread, without_names}
+use Rattle.entry_command.specs.Entry.{stopped, unread, without_names}
 use Rattle.entry_command.proofs.EntryEnds.{names_later}
 use Rattle.entry_command.proofs.command.read_and_answer.Goals as goal
 
