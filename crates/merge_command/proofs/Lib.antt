@@ -6,3 +6,4 @@ pub mod SameParts
 pub mod TableLemmas
 pub mod MergeLaws
 pub mod FindLaws
+pub mod FoundLemmas

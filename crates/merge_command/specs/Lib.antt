@@ -4,3 +4,4 @@ pub mod Alike
 pub mod Merge
 pub mod Find
 pub mod Refused
+pub mod Laws
