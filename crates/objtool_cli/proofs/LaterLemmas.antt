@@ -13,8 +13,8 @@ use Rattle.command_base.specs.declared.status.Status.{Status}
 use Rattle.command_base.specs.declared.status.Status.TheVariants as status
 use Rattle.cli_words.specs.declared.options.CheckOptions.{CheckOptions}
 use Rattle.objtool_cli.specs.Command.{EndsCheck, IsDone, Stops, done, refused, stopped, unread, unwritten, warned, without_names}
-use Rattle.objtool_cli.specs.Lists.{StopsAtNames, names_unread, no_lists, no_names}
-use Rattle.objtool_cli.specs.Writing.{StopsAtWrite}
+use Rattle.command_base.specs.Names.{StopsAtNames, names_unread, no_lists, no_names}
+use Rattle.command_base.specs.Writing.{StopsAtWrite}
 
 abbrev outside : Option Content → ℕ → Outside
 outside content faults = record { content = content; faults = faults }
