@@ -32,7 +32,7 @@ use Rattle.merge_command.proofs.Content.{get-insert_same, written_others}
 use Rattle.merge_command.proofs.LayoutLemmas.{no_faulty_line}
 use Rattle.merge_command.proofs.ObjectLemmas.{parts_earlier}
 use Rattle.merge_command.proofs.SameParts.{fault_same, files_same, parts_same, table_same}
-use Rattle.merge_command.proofs.Stops.{concluded_usage, done_not_refused, is_read, left, not_memory, of_stop, one_text, outside, read_no_usage, readable, unreadable, write_earlier, write_fault, write_no_usage, write_not_refused, write_told}
+use Rattle.merge_command.proofs.Stops.{concluded_usage, done_not_refused, is_read, left, neither, not_memory, of_stop, one_text, outside, read_no_usage, readable, unreadable, write_earlier, write_fault, write_no_usage, write_not_refused, write_told}
 use Rattle.merge_command.proofs.TableLemmas.{find_alike, walk_alike}
 
 -- ---- what was met behind LAYOUT, in the whole time before
@@ -279,10 +279,6 @@ merge_changes layout output before after out out' Done (done is same) =
     inr (record { said = is.said; is_layout = is.is_layout; parts = is.writes.parts; are = is.writes.are; fits = is.writes.is.fits }, written_others output is.writes.table before.content after.content is.writes.written)
 merge_changes layout output before after out out' x (stopped s (at_layout h kept) t) = inl kept
 merge_changes layout output before after out out' x (stopped s (behind_layout said is h) t) = behind_changes s layout output said before after is h
-
-neither : (x : Status) → (x ≡ FileFault) ⊎ (x ≡ NoMemory) → x ≢ FileFault → x ≢ NoMemory → ⊥
-neither x (inl e) f m = f e
-neither x (inr e) f m = m e
 
 pub merge_unchanged : (layout output : List ℕ) (before after : Outside) (out out' : Output) (x : Status) → EndsMerge layout output before after out out' x → x ≢ Done → x ≢ FileFault → x ≢ NoMemory → after.content ≡ before.content
 merge_unchanged layout output before after out out' Done (done is same) d f m = absurd (d refl)

@@ -6,7 +6,6 @@ use Rattle.ot_files.specs.Content.{Content, reading}
 use Rattle.ot_files.specs.Output.{appending}
 use Rattle.ot_files.specs.declared.access.FileError.{FileError}
 use Rattle.ot_files.specs.declared.access.FileError.TheVariants as file_error
-use Rattle.command_base.specs.Dump.{IsAnswered}
 use Rattle.command_base.specs.Outside.{Outside, Output}
 use Rattle.command_base.specs.Printing.{Concludes, Prints, fails, fault_stays, runs_out, silent, tells, whole}
 use Rattle.command_base.specs.Reading.{IsUnreadable, MayRead, StopsAtRead}
@@ -198,7 +197,3 @@ write_told stop.NoMemory name before after out out' x h t = inr (concluded_no_me
 pub neither : (x : Status) → (x ≡ FileFault) ⊎ (x ≡ NoMemory) → x ≢ FileFault → x ≢ NoMemory → ⊥
 neither x (inl e) f m = f e
 neither x (inr e) f m = m e
-
-pub fault_left : (x : Status) → (x ≡ FileFault) ⊎ (x ≡ NoMemory) → IsAnswered x
-fault_left x (inl e) = inr (inl e)
-fault_left x (inr e) = inr (inr (inr e))
