@@ -1,5 +1,5 @@
-//! Runs a command over files and an output that are handed in: the steps of `check` and `demo` in their order, the lines that are
-//! printed, what is written, and the status; and the call of each other command.
+//! Runs a command over files and an output that are handed in: the steps of `check` and `demo` in their order, the
+//! lines that are printed, what is written, and the status; and the call of each other command.
 #![tactic(auto)]
 
 mod check;
