@@ -13,8 +13,8 @@ use ot_base::Lists;
 use ot_files::Sink;
 use std::alloc::Global;
 
-/// Checks the bytes that were read of the input under lists of names. Prints the warnings, where they break rules, and nothing where they
-/// break none; or tells why they aren't checked.
+/// Checks the bytes that were read of the input under lists of names. Prints the warnings, where they break rules,
+/// and nothing where they break none; or tells why they aren't checked.
 pub(crate) fn answer<S: Sink>(
     alloc: Global,
     asked: EntryAsked<'_>,

@@ -49,9 +49,9 @@ fn read_and_answer<F: Files, S: Sink>(
     }
 }
 
-/// Reads the object IN and the names file, where one is given, and checks the code of IN against the entry rules that the options ask
-/// for. Prints the line of each warning where there are some, and nothing where there are none; or tells why IN isn't checked. Gives the
-/// status that the command ends with.
+/// Reads the object IN and the names file, where one is given, and checks the code of IN against the entry rules
+/// that the options ask for. Prints the line of each warning where there are some, and nothing where there are none;
+/// or tells why IN isn't checked. Gives the status that the command ends with.
 ///
 /// It reads the code and how control goes through it, and tests no rule of stack validation.
 pub fn entry<F: Files, S: Sink>(
@@ -67,20 +67,21 @@ pub fn entry<F: Files, S: Sink>(
         (record { written = S.written out.old; faults = S.faults out.old })
         (record { written = S.written out.new; faults = S.faults out.new }) result }
 
-    // Where it is done and the files tell their content: in every run on IN, wherever it is placed, what the options ask for is kept.
-    // With `noinstr` calls and tail calls from code that isn't instrumented go to such code, nothing outside is called from there, and
-    // it is left by its own returns alone; with `sls` an INT3 stands right behind each return and each indirect jump that is come to;
-    // with `ibt` an indirect call or jump to an entry whose address is taken comes to an ENDBR.
+    // Where it is done and the files tell their content: in every run on IN, wherever it is placed, what the options
+    // ask for is kept. With `noinstr` calls and tail calls from code that isn't instrumented go to such code,
+    // nothing outside is called from there, and it is left by its own returns alone; with `sls` an INT3 stands right
+    // behind each return and each indirect jump that is come to; with `ibt` an indirect call or jump to an entry
+    // whose address is taken comes to an ENDBR.
     ensures keeps { result ≡ Status.Done
         → InKeepsEntryRules asked.entry.map asked.entry.options asked.entry.input.now (option_map (λ file. file.now) asked.entry.names) (F.content files.old) }
 
-    // Where warnings are answered, IN is read as an object whose program breaks exactly the rules that they tell, and exactly their
-    // lines were printed.
+    // Where warnings are answered, IN is read as an object whose program breaks exactly the rules that they tell,
+    // and exactly their lines were printed.
     ensures warned { result ≡ Status.Warnings
         → PrintsEntryWarnings asked.entry.map asked.entry.options asked.entry.input.now (option_map (λ file. file.now) asked.entry.names) (F.content files.old) (S.written out.old) (S.written out.new) }
 
-    // An input that breaks a rule that is asked for is neither refused nor done: its warnings are answered, unless a fault or want of
-    // memory is. One that breaks none is done, unless one of these is answered.
+    // An input that breaks a rule that is asked for is neither refused nor done: its warnings are answered, unless a
+    // fault or want of memory is. One that breaks none is done, unless one of these is answered.
     ensures warns { (read : List ℕ) (object : Elf) (lists : NameLists) (held : Content)
         → F.content files.old ≡ Some held → reading held asked.entry.input.now MAX_FILE_BYTES ≡ Ok read
         → HasNames (Some held) (option_map (λ file. file.now) asked.entry.names) lists
@@ -94,8 +95,8 @@ pub fn entry<F: Files, S: Sink>(
         → IsUnbroken (coded_by asked.entry.map object) lists asked.entry.options
         → IsAnswered result }
 
-    // Where the files tell their content: it is refused only where a step finds a refusal, the first that fails, and exactly its line
-    // was printed. And where one does, it is refused, unless a fault or want of memory is answered.
+    // Where the files tell their content: it is refused only where a step finds a refusal, the first that fails, and
+    // exactly its line was printed. And where one does, it is refused, unless a fault or want of memory is answered.
     ensures refused { (held : Content) → result ≡ Status.Refused → F.content files.old ≡ Some held
         → TellsRefusal (RefusesEntry asked.entry.map asked.entry.input.now (option_map (λ file. file.now) asked.entry.names) held) (S.written out.old) (S.written out.new) }
     ensures refuses { (held : Content) (stop : StopValue) → F.content files.old ≡ Some held
@@ -105,8 +106,8 @@ pub fn entry<F: Files, S: Sink>(
     ensures unchanged { F.content files.new ≡ F.content files.old }
     ensures silent { result ≡ Status.Done → S.written out.new ≡ S.written out.old }
 
-    // A fault is answered only where its count rose in this call, and no count falls. And where writing to the output failed, that is
-    // answered, or the fault of the file whose line was being written.
+    // A fault is answered only where its count rose in this call, and no count falls. And where writing to the
+    // output failed, that is answered, or the fault of the file whose line was being written.
     ensures file_fault { result ≡ Status.FileFault → Rose (F.faults files.old) (F.faults files.new) }
     ensures sink_fault { result ≡ Status.SinkFault → Rose (S.faults out.old) (S.faults out.new) }
     ensures files_later { F.faults files.old ≤ F.faults files.new }

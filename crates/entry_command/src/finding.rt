@@ -53,8 +53,8 @@ fn graph_of<'a>(
     }
 }
 
-/// The warnings of the entry rules that the options ask for, of an object whose code is read by an opcode map, under lists of function
-/// names; or why a command stops that can't look for them.
+/// The warnings of the entry rules that the options ask for, of an object whose code is read by an opcode map, under
+/// lists of function names; or why a command stops that can't look for them.
 pub(crate) fn warnings_of<'a>(
     alloc: Global,
     map: Map,

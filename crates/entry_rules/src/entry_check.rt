@@ -82,9 +82,10 @@ fn push_ibt(
     push_taken(&places, graph, &taken, into)
 }
 
-/// The warnings of the entry rules that the options ask for, of an object whose code is read, by the control-flow graph of its
-/// program: 51 for `noinstr`, 52 and 53 for `sls`, 54 for `ibt`. Each is told once, by section, offset, rule and what it tells.
-/// They are of all code, reached or not, and don't ask that the object passes stack validation.
+/// The warnings of the entry rules that the options ask for, of an object whose code is read, by the control-flow
+/// graph of its program: 51 for `noinstr`, 52 and 53 for `sls`, 54 for `ibt`. Each is told once, by section, offset,
+/// rule and what it tells. They are of all code, reached or not, and don't ask that the object passes stack
+/// validation.
 ///
 /// Where there is none, each run of the program keeps what the options ask for, wherever the object is placed.
 ///

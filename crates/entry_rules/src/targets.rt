@@ -250,7 +250,8 @@ fn list_code(alloc: Global, linked: &Linked<'_, '_>) -> Result<Vec<Place>, NoMem
     Ok(places)
 }
 
-/// The places whose addresses are taken: those that relocations name, of code and of data, other than the fields of branches.
+/// The places whose addresses are taken: those that relocations name, of code and of data, other than the fields of
+/// branches.
 pub(crate) fn list_taken(alloc: Global, linked: &Linked<'_, '_>) -> Result<Vec<Place>, NoMemory>
     ensures { IfOk result (λ places. HaveSamePlaces (taken_places linked.now) places.items) }
 {
