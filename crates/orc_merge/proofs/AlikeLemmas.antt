@@ -1,23 +1,22 @@
 -- A look-up in the rows of several objects tells what a look-up in one object's own rows tells.
-use Rattle.std.proofs.Common.{◌≡◌, ℕ, ◌+◌, ◌*◌, ◌<◌, ◌≤◌, ◌⊎◌, Bool, true, false, List, [], ◌∷◌, ◌++◌, Option, Some, None, refl, sym, ◌∙◌, ap, subst, inl, inr, leb, arith, append_assoc}
-use Rattle.std.specs.Prelude.{All, Contains, filter, flat_map, option_map}
-use Rattle.std.specs.Option.{option_or}
+use Rattle.std.proofs.Common.{◌≡◌, ℕ, ◌+◌, ◌≤◌, true, List, [], ◌∷◌, ◌++◌, Option, Some, None, sym, ◌∙◌, ap, subst, inl, inr, leb, arith, append_assoc}
+use Rattle.std.specs.Prelude.{All, Contains}
 use Rattle.std.proofs.lemmas.Bool.{leb-true, le-leb}
 use Rattle.std.proofs.lemmas.List.Elements.{All-contains, All-contains_itself, All-weaker, All-head, All-tail, All-filter, filter-append, filter_passes, Contains-append_left, Contains-append_right}
 use Rattle.std.proofs.lemmas.List.Concat.{flat_map-append}
 use Rattle.ot_base.specs.declared.row.PlacedRow.{PlacedRow}
 use Rattle.table_defs.specs.declared.range.Range.{Range}
-use Rattle.table_defs.specs.Placement.{covers, is_inside}
+use Rattle.table_defs.specs.Placement.{covers}
 use Rattle.table_defs.specs.Lookup.{AddressedRow, addressed, at_or_below, last_of}
-use Rattle.orc_walk.specs.Faults.{place_fault, first_missing, first_faulty, overlap}
+use Rattle.orc_walk.specs.Faults.{place_fault, first_missing, first_faulty}
 use Rattle.orc_merge.specs.declared.part.Part.{Part}
 use Rattle.orc_merge.specs.declared.faults.MergeFault.TheVariants.{Place, NotEnded}
 use Rattle.orc_merge.specs.Parts.{all_rows, all_ranges, rows_of_part, first_in}
 use Rattle.orc_merge.specs.Ends.{first_unended}
 use Rattle.orc_merge.specs.Overlaps.{first_overlap}
 use Rattle.orc_merge.specs.MergeFaults.{merge_fault, unplaced, unended, too_many}
-use Rattle.orc_merge.specs.Merged.{IsMergeOf, MergeIsDetermined}
-use Rattle.orc_merge.specs.Alike.{known, TellsAlike, MergedTellAlike}
+use Rattle.orc_merge.specs.Merged.{MergeIsDetermined}
+use Rattle.orc_merge.specs.Alike.{MergedTellAlike}
 use Rattle.orc_merge.proofs.Latest.{rank, latest, last_of-append, IsGreatest, last_is_greatest, told, IsQuiet, IsQuietBelow, no_later, quiet_front, quiet_back, quiet_both, higher, Contains-head, Contains-tail, Contains-cases, Contains-none}
 use Rattle.orc_merge.proofs.Bounds.{IsBounded, bounded, Contains-filter}
 use Rattle.orc_merge.proofs.Stable.{same_low, same_in_order}

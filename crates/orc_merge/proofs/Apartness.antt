@@ -1,5 +1,5 @@
 -- Which ranges share no address, where nothing is wrong with objects.
-use Rattle.std.proofs.Common.{◌≡◌, ℕ, zero, suc, ◌+◌, ◌^◌, ◌<◌, ◌≤◌, ◌⊎◌, Bool, true, false, cond, ◌&&◌, ◌||◌, List, [], ◌∷◌, ◌++◌, Option, Some, None, refl, sym, ◌∙◌, ap, subst, inl, inr, leb, ltb, max, length, map, append_assoc, arith}
+use Rattle.std.proofs.Common.{◌≡◌, ℕ, ◌+◌, ◌^◌, ◌<◌, ◌≤◌, ◌⊎◌, Bool, true, false, cond, ◌&&◌, ◌||◌, List, [], ◌∷◌, ◌++◌, Option, Some, None, refl, sym, ◌∙◌, ap, subst, inl, inr, leb, ltb, max, length, map, append_assoc, arith}
 use Rattle.std.specs.Prelude.{All, Contains, find, option_map}
 use Rattle.std.specs.List.{list_any}
 use Rattle.std.specs.Option.{option_or}
@@ -8,7 +8,6 @@ use Rattle.std.proofs.lemmas.Bool.Decides.{nat_tests}
 use Rattle.std.proofs.lemmas.List.Elements.{All-contains, Contains-append_left, Contains-append_right, Contains-push}
 use Rattle.table_defs.specs.declared.range.Range.{Range}
 use Rattle.table_defs.specs.Placement.{covers}
-use Rattle.orc_walk.specs.declared.faults.PlaceWhy.{PlaceWhy}
 use Rattle.orc_walk.specs.declared.faults.PlaceWhy.TheVariants.{Wraps, Overlaps as OverlapsWhy}
 use Rattle.orc_walk.specs.declared.faults.PlaceFault.TheVariants.{At}
 use Rattle.orc_walk.specs.Faults.{overlap, range_fault, first_faulty}

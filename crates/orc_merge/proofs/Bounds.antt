@@ -1,5 +1,5 @@
 -- Where the rows of an object lie whose sections are ended.
-use Rattle.std.proofs.Common.{◌≡◌, ℕ, ◌+◌, ◌*◌, ◌<◌, ◌≤◌, ◌⊎◌, Bool, true, false, cond, ◌&&◌, not, List, [], ◌∷◌, Option, Some, None, refl, sym, ◌∙◌, ap, subst, inl, inr, eqb, ltb, arith, rules}
+use Rattle.std.proofs.Common.{◌≡◌, ℕ, ◌+◌, ◌*◌, ◌<◌, ◌≤◌, Bool, true, false, cond, ◌&&◌, not, List, [], ◌∷◌, Option, Some, None, refl, sym, ◌∙◌, ap, subst, inl, inr, eqb, ltb, arith}
 use Rattle.std.specs.Prelude.{All, Contains, IfSome, find, filter, filter_map, option_map}
 use Rattle.std.specs.List.{cons_option}
 use Rattle.std.specs.Option.{option_map_or}
@@ -11,8 +11,7 @@ use Rattle.ot_base.specs.declared.row.Row.{Row}
 use Rattle.ot_base.specs.declared.row.PlacedRow.{PlacedRow}
 use Rattle.ot_base.specs.Rows.{zero_row, same_row}
 use Rattle.table_defs.specs.declared.range.Range.{Range}
-use Rattle.table_defs.specs.Lookup.{AddressedRow, addressed, addressed_row, last_of}
-use Rattle.orc_walk.specs.Table.{IsWithin}
+use Rattle.table_defs.specs.Lookup.{AddressedRow, addressed, addressed_row}
 use Rattle.orc_merge.specs.Ends.{at_offset, rows_of_section, last_row, ends, is_ended, first_unended}
 use Rattle.orc_merge.proofs.Latest.{rank, kind_rank, IsGreatest, last_is_greatest, Contains-head, Contains-tail, Contains-cases, Contains-none}
 

@@ -1,14 +1,13 @@
 -- The last rows of sections, with one row more.
-use Rattle.std.proofs.Common.{◌≡◌, ℕ, ◌+◌, ◌<◌, Bool, true, false, cond, not, List, [], ◌∷◌, ◌++◌, Option, Some, None, refl, sym, ◌∙◌, ap, subst, eqb, take, length, get_or}
-use Rattle.std.specs.Prelude.{filter_map, option_map}
+use Rattle.std.proofs.Common.{◌≡◌, ℕ, Bool, true, false, cond, not, List, [], ◌∷◌, ◌++◌, Option, Some, None, refl, sym, ◌∙◌, ap, eqb}
+use Rattle.std.specs.Prelude.{option_map}
 use Rattle.std.specs.List.{cons_option}
 use Rattle.std.specs.Ordering.{nat_cmp}
 use Rattle.std.specs.BTreeMap.{BTreeMap, get, Updates}
-use Rattle.std.proofs.lemmas.List.{take_more}
 use Rattle.std.proofs.lemmas.List.Elements.{filter_map-append}
 use Rattle.ot_base.specs.declared.row.Row.{Row}
 use Rattle.ot_base.specs.declared.row.PlacedRow.{PlacedRow}
-use Rattle.table_defs.specs.Lookup.{AddressedRow, comes_before, later, last_of}
+use Rattle.table_defs.specs.Lookup.{AddressedRow, comes_before, last_of}
 use Rattle.orc_walk.specs.Rows.{addressed_row}
 use Rattle.orc_walk.proofs.BaseLemmas.{same_key, same_section}
 use Rattle.orc_merge.specs.Ends.{at_offset, rows_of_section, last_row, goes_last, HasLasts}

@@ -1,5 +1,5 @@
 -- The merged rows of objects are those of a table.
-use Rattle.std.proofs.Common.{◌≡◌, ℕ, suc, ◌+◌, ◌*◌, ◌^◌, ◌<◌, ◌≤◌, Bool, true, false, cond, List, [], ◌∷◌, ◌++◌, Option, Some, None, refl, sym, ◌∙◌, ap, subst, eqb, length, length-append, arith}
+use Rattle.std.proofs.Common.{◌≡◌, ℕ, suc, ◌+◌, ◌^◌, ◌<◌, ◌≤◌, Bool, true, false, cond, List, [], ◌∷◌, Option, Some, None, refl, ◌∙◌, ap, subst, eqb, length, length-append, arith}
 use Rattle.std.specs.Prelude.{All, Contains, IfSome, IsPermutation, find, filter, filter_map, nat_le, option_map}
 use Rattle.std.specs.List.{cons_option}
 use Rattle.std.specs.Option.{option_or}
@@ -10,7 +10,7 @@ use Rattle.std.proofs.lemmas.List.Sorted.{All-permutation, length_permutation}
 use Rattle.std.proofs.lemmas.List.Sums.{sum_by-cons}
 use Rattle.ot_base.specs.declared.row.PlacedRow.{PlacedRow}
 use Rattle.table_defs.specs.declared.range.Range.{Range}
-use Rattle.table_defs.specs.Lookup.{AddressedRow, addressed, addressed_row, comes_before}
+use Rattle.table_defs.specs.Lookup.{AddressedRow, addressed_row, comes_before}
 use Rattle.orc_walk.specs.Rows.{IsInOrder}
 use Rattle.orc_walk.specs.Table.{IsWithin, IsLaidOut}
 use Rattle.orc_bytes.specs.RowBytes.{IsRow}

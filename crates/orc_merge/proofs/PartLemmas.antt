@@ -1,10 +1,10 @@
 -- One object more: its rows, its ranges, and the first faulty one.
-use Rattle.std.proofs.Common.{◌≡◌, ℕ, zero, suc, ◌+◌, ◌<◌, ◌≤◌, List, [], ◌∷◌, ◌++◌, Option, Some, None, refl, sym, ◌∙◌, ap, length, get_or, take, drop, map, arith, add-zero, append_assoc}
-use Rattle.std.specs.Prelude.{flat_map, option_map, sum_by}
+use Rattle.std.proofs.Common.{◌≡◌, ℕ, zero, suc, ◌+◌, ◌<◌, List, [], ◌∷◌, ◌++◌, Option, Some, None, refl, sym, ◌∙◌, ap, length, get_or, take, drop, map, arith, append_assoc}
+use Rattle.std.specs.Prelude.{flat_map}
 use Rattle.std.specs.Option.{option_or}
 use Rattle.std.specs.Ordering.{nat_cmp}
 use Rattle.std.specs.BTreeMap.{BTreeMap, get}
-use Rattle.std.proofs.lemmas.List.{take_more, take_all, length-take-le}
+use Rattle.std.proofs.lemmas.List.{take_more, length-take-le}
 use Rattle.std.proofs.lemmas.List.Concat.{flat_map-append}
 use Rattle.ot_base.specs.declared.row.Row.{Row}
 use Rattle.ot_base.specs.declared.row.PlacedRow.{PlacedRow}
@@ -14,7 +14,7 @@ use Rattle.orc_walk.specs.Rows.{addressed_row, rows_of}
 use Rattle.orc_walk.specs.Bases.{HasBases}
 use Rattle.orc_walk.proofs.BaseLemmas.{front_rows, row_added, row_left_out}
 use Rattle.orc_merge.specs.declared.part.Part.{Part}
-use Rattle.orc_merge.specs.Parts.{OwnedRange, first_in, all_rows, ranges_from, owned_ranges}
+use Rattle.orc_merge.specs.Parts.{first_in, ranges_from, owned_ranges}
 
 -- rows as items
 item_of : AddressedRow → ℕ × Row

@@ -2,7 +2,7 @@
 use Rattle.std.proofs.Common.{◌≡◌, ℕ, Bool, true, false, cond, not, ◌&&◌, ◌||◌, List, [], ◌∷◌, refl, sym, ◌∙◌, ap, ltb, eqb, map}
 use Rattle.std.specs.Prelude.{filter}
 use Rattle.std.specs.List.Sorted.{IsStableByKey, IsStableBy, ties}
-use Rattle.std.specs.Ordering.{nat_cmp, bool_cmp, ordering_then, is_lt}
+use Rattle.std.specs.Ordering.{bool_cmp, ordering_then, is_lt}
 use Rattle.std.specs.declared.cmp.Ordering.TheVariants.{Less, Equal, Greater}
 use Rattle.ot_base.specs.declared.row.Row.{Row}
 use Rattle.table_defs.specs.Lookup.{AddressedRow, comes_before}

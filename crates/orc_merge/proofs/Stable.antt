@@ -1,6 +1,6 @@
 -- Lists of rows in which those that tie stand alike.
-use Rattle.std.proofs.Common.{◌≡◌, ℕ, zero, suc, ◌+◌, ◌*◌, ◌<◌, ◌≤◌, ◌⊎◌, Bool, true, false, cond, ◌&&◌, not, List, [], ◌∷◌, ◌++◌, Option, Some, None, refl, sym, ◌∙◌, ap, subst, inl, inr, leb, length, get_or, arith}
-use Rattle.std.specs.Prelude.{All, AllPairs, Contains, filter}
+use Rattle.std.proofs.Common.{◌≡◌, ℕ, suc, ◌<◌, ◌≤◌, Bool, true, false, cond, ◌&&◌, not, List, [], ◌∷◌, Option, Some, None, refl, sym, ◌∙◌, ap, subst, inl, inr, leb, arith}
+use Rattle.std.specs.Prelude.{All, Contains, filter}
 use Rattle.std.specs.List.Sorted.{IsStableBy, ties}
 use Rattle.std.proofs.lemmas.List.Elements.{All-head, All-tail, All-contains, filter_agree}
 use Rattle.table_defs.specs.Lookup.{AddressedRow, at_or_below, comes_before, later, last_of}

@@ -1,35 +1,32 @@
 -- The bytes of a table, and what is read of them.
-use Rattle.std.proofs.Common.{◌≡◌, ℕ, zero, suc, ◌+◌, ◌*◌, ◌/◌, ◌%◌, ◌^◌, ◌<◌, ◌≤◌, ◌⊎◌, Bool, true, false, cond, not, ◌&&◌, ◌||◌, List, [], ◌∷◌, ◌++◌, Option, Some, None, refl, sym, ◌∙◌, ap, subst, inl, inr, leb, ltb, eqb, length, get_or, take, drop, map, append_assoc, length-append, length-drop, length-take, add-one, arith, w16, Fits, FitsSigned, to_z}
-use Rattle.std.proofs.Math.Seq.{take-add, drop-append-add}
+use Rattle.std.proofs.Common.{◌≡◌, ℕ, zero, suc, ◌+◌, ◌*◌, ◌/◌, ◌%◌, ◌^◌, ◌<◌, ◌≤◌, Bool, true, false, not, ◌&&◌, ◌||◌, List, [], ◌∷◌, ◌++◌, Option, Some, None, refl, sym, ◌∙◌, ap, subst, inl, inr, leb, ltb, length, get_or, take, drop, length-append, length-drop, add-one, arith, w16, Fits}
+use Rattle.std.proofs.Math.Seq.{take-add}
 use Rattle.std.proofs.Math.Facts.{sfits_to_z}
-use Rattle.std.specs.Prelude.{All, flat_map, position, option_map, nat_le}
-use Rattle.std.specs.List.{zip}
+use Rattle.std.specs.Prelude.{All, option_map}
 use Rattle.std.specs.Option.{option_or}
 use Rattle.std.specs.List.Sorted.{IsNonDecreasingBy}
-use Rattle.std.proofs.lemmas.Bool.{leb-true, ltb-true, ltb-false, le-leb, lt-ltb, le-ltb, eqb-true, cases_lt}
-use Rattle.std.proofs.lemmas.Bool.Decides.{nat_tests}
-use Rattle.std.proofs.lemmas.List.{drop-drop, take-append-drop, get_or-drop, take_all, take_more, get_or_push, get_or_append_left}
+use Rattle.std.proofs.lemmas.Bool.{leb-true, ltb-true, le-leb, lt-ltb, cases_lt}
+use Rattle.std.proofs.lemmas.List.{drop-drop, take-append-drop, get_or-drop, take_all, get_or_push, get_or_append_left}
 use Rattle.std.proofs.lemmas.List.Concat.{flat_map-append}
-use Rattle.std.proofs.lemmas.List.Elements.{All-nil, All-push, All-head, All-tail, All-get_or}
+use Rattle.std.proofs.lemmas.List.Elements.{All-nil, All-push}
 use Rattle.std.proofs.lemmas.List.Sorted.{IsNonDecreasingBy-from_all_adjacent}
 use Rattle.byteorder.specs.Endian.{little_number, little_bytes}
 use Rattle.byteorder.specs.Numbers.{little_from-lt}
-use Rattle.ot_base.specs.declared.row.Row.{Row}
 use Rattle.ot_base.specs.declared.codes.TheConstants.{REG_SP_INDIRECT, KIND_REGS_PARTIAL}
 use Rattle.elf_objects.specs.Number.{half, xword}
 use Rattle.table_defs.specs.Lookup.{AddressedRow, comes_before}
 use Rattle.orc_walk.specs.Rows.{IsInOrder}
 use Rattle.orc_bytes.specs.RowBytes.{bytes_of_row, IsRow}
 use Rattle.orc_bytes.specs.Faults.{row_in, HasRow}
-use Rattle.orc_bytes.proofs.RowRead.{six_bytes, row_again, has_row}
+use Rattle.orc_bytes.proofs.RowRead.{six_bytes}
 use Rattle.orc_merge.specs.Merged.{IsTableRow, IsMergedTable}
 use Rattle.orc_merge.specs.TableBytes.{magic, address_bytes, row_section, table_bytes}
-use Rattle.orc_merge.specs.TableFaults.{first_below, row_count, address_at, row_offset, address_of, table_row, row_before, address_before, wrong_magic, too_short, wrong_count, wrong_address, has_known_fields, holds_row, is_wrong_row, wrong_row, head_fault, first_bad}
+use Rattle.orc_merge.specs.TableFaults.{first_below, row_count, row_offset, address_of, table_row, row_before, has_known_fields, holds_row, is_wrong_row, wrong_row}
 use Rattle.orc_merge.specs.TableRows.{HasHead, rows_read}
 use Rattle.orc_merge.specs.declared.merged.TheConstants.{MOST_ROWS}
-use Rattle.orc_merge.proofs.Latest.{rank, lower, not_lower, is_lower, is_not_lower}
-use Rattle.orc_merge.proofs.NumberBytes.{eight_bytes, length_eight, xword_here, xword_fits, length_each, drop_each}
-use Rattle.orc_merge.proofs.Firsts.{first_below-none, first_below-all}
+use Rattle.orc_merge.proofs.Latest.{rank, not_lower, is_not_lower}
+use Rattle.orc_merge.proofs.NumberBytes.{eight_bytes, xword_fits}
+use Rattle.orc_merge.proofs.Firsts.{first_below-none}
 
 -- bytes are numbers below 256
 abbrev pub AreBytes : List ℕ → Type 0

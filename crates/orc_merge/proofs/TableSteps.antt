@@ -1,9 +1,8 @@
 -- A table's bytes while they are read.
-use Rattle.std.proofs.Common.{◌≡◌, ℕ, zero, suc, ◌+◌, ◌*◌, ◌<◌, ◌≤◌, Bool, true, false, cond, not, ◌&&◌, ◌||◌, List, [], ◌∷◌, ◌++◌, Option, Some, None, refl, sym, ◌∙◌, ap, subst, leb, ltb, eqb, length, get_or, take, drop, min, add-one, arith}
+use Rattle.std.proofs.Common.{◌≡◌, ℕ, suc, ◌+◌, ◌*◌, ◌<◌, ◌≤◌, Bool, true, false, cond, not, ◌&&◌, ◌||◌, List, [], ◌∷◌, ◌++◌, Option, Some, None, refl, sym, ◌∙◌, ap, leb, ltb, eqb, length, get_or, take, drop, min, add-one, arith}
 use Rattle.std.specs.Prelude.{option_map}
 use Rattle.std.specs.Option.{option_or}
-use Rattle.std.proofs.lemmas.Bool.{le-leb, lt-ltb, le-ltb, leb-true, eqb-true}
-use Rattle.std.proofs.lemmas.Bool.Decides.{nat_tests}
+use Rattle.std.proofs.lemmas.Bool.{lt-ltb, le-ltb, leb-true, eqb-true}
 use Rattle.ot_base.specs.declared.row.Row.{Row}
 use Rattle.table_defs.specs.Lookup.{AddressedRow, comes_before}
 use Rattle.orc_walk.specs.Rows.{addressed_row, rows_of}
@@ -11,9 +10,8 @@ use Rattle.orc_bytes.specs.Faults.{row_in}
 use Rattle.orc_merge.specs.declared.merged.TheConstants.{MOST_ROWS}
 use Rattle.orc_merge.specs.TableBytes.{magic}
 use Rattle.orc_merge.specs.TableFaults.{first_below, row_count, row_offset, address_of, table_row, row_before, address_before, wrong_magic, too_short, wrong_count, wrong_address, holds_row, is_wrong_row, wrong_row, head_fault, first_bad}
-use Rattle.orc_merge.specs.TableRows.{HasHead, rows_read}
+use Rattle.orc_merge.specs.TableRows.{HasHead}
 use Rattle.orc_merge.proofs.Firsts.{first_below-more, first_below-found, first_below-none}
-use Rattle.orc_merge.proofs.TableLemmas.{next_row_read}
 
 -- In front of the addresses.
 magic_first : (bytes : List ℕ) → wrong_magic bytes ≡ None → head_fault bytes ≡ option_or (too_short bytes) (wrong_count bytes)

@@ -1,12 +1,10 @@
 -- A walk over merged rows gives the frames that a walk over one object's own rows gives.
 use Rattle.std.proofs.Common.{◌≡◌, ◌≢◌, ◌⊎◌, ℕ, Bool, true, false, cond, ◌||◌, List, [], ◌∷◌, ◌++◌, Option, Some, None, Result, Ok, Err, refl, sym, ◌∙◌, ap, subst, inl, inr, eqb}
-use Rattle.std.specs.Prelude.{Contains, flat_map}
-use Rattle.std.specs.List.{list_any}
+use Rattle.std.specs.Prelude.{Contains}
 use Rattle.std.proofs.lemmas.Bool.{eqb-true, false≢true}
 use Rattle.std.proofs.lemmas.Option.{none-some}
 use Rattle.std.proofs.lemmas.List.Folds.{list_any-append}
 use Rattle.ot_base.specs.declared.row.Row.{Row}
-use Rattle.table_defs.specs.declared.range.Range.{Range}
 use Rattle.table_defs.specs.declared.frame.Regs.{Regs}
 use Rattle.table_defs.specs.declared.frame.Frame.{Frame}
 use Rattle.table_defs.specs.declared.frame.Stop.{Stop}

@@ -1,26 +1,25 @@
 -- The bytes of a table are read as this table.
-use Rattle.std.proofs.Common.{◌≡◌, ℕ, zero, suc, ◌+◌, ◌*◌, ◌^◌, ◌<◌, ◌≤◌, ◌⊎◌, Bool, true, false, cond, not, ◌&&◌, ◌||◌, List, [], ◌∷◌, ◌++◌, Option, Some, None, refl, sym, ◌∙◌, ap, subst, inl, inr, leb, ltb, eqb, length, get_or, take, drop, min, append_assoc, length-append, length-drop, add-one, arith}
+use Rattle.std.proofs.Common.{◌≡◌, ℕ, zero, suc, ◌+◌, ◌*◌, ◌<◌, ◌≤◌, Bool, true, false, cond, not, ◌&&◌, ◌||◌, List, [], ◌∷◌, ◌++◌, Option, Some, None, refl, sym, ◌∙◌, ap, subst, leb, ltb, eqb, length, get_or, take, drop, min, append_assoc, length-append, add-one, arith}
 use Rattle.std.proofs.Math.Seq.{drop-append-add, drop-cons}
-use Rattle.std.specs.Prelude.{All, flat_map, option_map}
+use Rattle.std.specs.Prelude.{flat_map, option_map}
 use Rattle.std.specs.Option.{option_or}
-use Rattle.std.proofs.lemmas.Bool.{ltb-false, le-leb, lt-ltb, le-ltb, cases_lt}
+use Rattle.std.proofs.lemmas.Bool.{le-leb, le-ltb}
 use Rattle.std.proofs.lemmas.Bool.Decides.{nat_tests}
-use Rattle.std.proofs.lemmas.List.{drop-drop, take_more, take_all, get_or_append_left, get_or_default}
+use Rattle.std.proofs.lemmas.List.{drop-drop, take_more, take_all, get_or_append_left}
 use Rattle.std.proofs.lemmas.List.Elements.{All-get_or}
-use Rattle.byteorder.specs.Endian.{little_number, little_bytes}
+use Rattle.byteorder.specs.Endian.{little_bytes}
 use Rattle.ot_base.specs.Rows.{zero_row}
 use Rattle.ot_base.specs.declared.row.Row.{Row}
-use Rattle.elf_objects.specs.Number.{half, xword}
 use Rattle.table_defs.specs.Lookup.{AddressedRow, comes_before}
-use Rattle.orc_bytes.specs.RowBytes.{bytes_of_row, IsRow}
+use Rattle.orc_bytes.specs.RowBytes.{bytes_of_row}
 use Rattle.orc_bytes.specs.Faults.{row_in, HasRow}
 use Rattle.orc_bytes.proofs.RowRead.{row_again, has_row}
 use Rattle.orc_merge.specs.Merged.{IsTableRow, IsMergedTable}
 use Rattle.orc_merge.specs.TableBytes.{magic, address_bytes, row_section, table_bytes}
-use Rattle.orc_merge.specs.TableFaults.{first_below, row_count, row_offset, address_of, table_row, row_before, address_before, wrong_magic, too_short, wrong_count, wrong_address, holds_row, is_wrong_row, wrong_row, head_fault, first_bad}
+use Rattle.orc_merge.specs.TableFaults.{row_count, row_offset, address_of, table_row, row_before, address_before, wrong_magic, too_short, wrong_count, wrong_address, holds_row, is_wrong_row, wrong_row, head_fault, first_bad}
 use Rattle.orc_merge.specs.TableRows.{rows_read}
 use Rattle.orc_merge.specs.declared.merged.TheConstants.{MOST_ROWS}
-use Rattle.orc_merge.proofs.Latest.{rank, is_not_lower, not_lower}
+use Rattle.orc_merge.proofs.Latest.{is_not_lower}
 use Rattle.orc_merge.proofs.NumberBytes.{length_eight, xword_here, length_each, drop_each}
 use Rattle.orc_merge.proofs.Firsts.{first_below-all}
 use Rattle.orc_merge.proofs.TableLemmas.{row_tested}

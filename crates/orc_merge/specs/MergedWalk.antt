@@ -1,5 +1,5 @@
 -- Walks over merged rows.
-use Rattle.std.specs.Prelude.{◌≡◌, ◌≢◌, ◌⊎◌, ℕ, Bool, true, false, List, [], ◌∷◌, ◌++◌, flat_map, Some, None, Ok, Err, Contains}
+use Rattle.std.specs.Prelude.{◌≡◌, ◌≢◌, ◌⊎◌, Bool, true, false, List, [], ◌∷◌, ◌++◌, flat_map, Some, None, Ok, Err, Contains}
 use Rattle.ot_base.specs.declared.row.Row.{Row}
 use Rattle.table_defs.specs.declared.range.Range.{Range}
 use Rattle.table_defs.specs.declared.frame.Regs.{Regs}

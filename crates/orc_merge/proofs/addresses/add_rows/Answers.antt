@@ -1,4 +1,4 @@
-use Rattle.std.proofs.Common.{◌+◌, ◌<◌, ◌^◌, arith, ap, sym, subst, ◌∙◌, get_or, rules}
+use Rattle.std.proofs.Common.{◌+◌, ◌<◌, ◌^◌, ap, sym, subst, ◌∙◌, get_or, rules}
 use Rattle.std.specs.Prelude.{IfSome}
 use Rattle.orc_walk.specs.Rows.{rows_of}
 use Rattle.orc_walk.proofs.BaseLemmas.{some_placed}

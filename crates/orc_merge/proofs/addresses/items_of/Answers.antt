@@ -1,5 +1,4 @@
-use Rattle.std.proofs.Common.{ap, sym, subst, ◌∙◌, ◌++◌, get_or, take}
-use Rattle.orc_walk.specs.Rows.{rows_of}
+use Rattle.std.proofs.Common.{ap, sym, subst, ◌∙◌, ◌++◌, take}
 use Rattle.orc_walk.specs.Table.{IsLaidOut}
 use Rattle.orc_merge.specs.Parts.{all_rows, rows_of_part}
 use Rattle.orc_merge.proofs.PartLemmas.{flat_map-more}

@@ -1,4 +1,4 @@
-use Rattle.std.proofs.Common.{◌≡◌, ◌+◌, ap, sym, subst, ◌∙◌, inl, inr, get_or, arith}
+use Rattle.std.proofs.Common.{◌+◌, ap, sym, ◌∙◌, inl, inr}
 use Rattle.std.proofs.lemmas.Result.{err_from_is_err_and}
 use Rattle.orc_merge.specs.MergeFaults.{unended}
 use Rattle.orc_merge.proofs.PartLemmas.{first_more, first_stays}

@@ -1,4 +1,4 @@
-use Rattle.std.proofs.Common.{◌≡◌, sym, subst, ◌∙◌, get_or, take, [], ◌∷◌, ◌++◌}
+use Rattle.std.proofs.Common.{sym, subst, ◌∙◌, get_or, take, [], ◌∷◌, ◌++◌}
 use Rattle.std.proofs.lemmas.List.{take_more}
 use Rattle.orc_walk.proofs.BaseLemmas.{some_placed}
 use Rattle.orc_merge.specs.Ends.{HasLasts}

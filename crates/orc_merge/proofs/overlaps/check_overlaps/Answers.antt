@@ -1,4 +1,4 @@
-use Rattle.std.proofs.Common.{◌≡◌, ◌<◌, ℕ, Some, ap, sym, ◌∙◌, inr, get_or, length, arith}
+use Rattle.std.proofs.Common.{Some, ap, sym, ◌∙◌, inr, get_or, arith}
 use Rattle.std.proofs.lemmas.List.{get_or_read}
 use Rattle.orc_merge.specs.Overlaps.{numbered, overlapped}
 use Rattle.orc_merge.specs.Parts.{OwnedRange}

@@ -1,4 +1,4 @@
-use Rattle.std.proofs.Common.{rules, ◌≡◌, ℕ, ◌<◌, ◌≤◌, sym, w16, of_z, to_z, ◌∙◌, ap, FitsSigned, List, length, arith}
+use Rattle.std.proofs.Common.{rules, w16, of_z, to_z, ◌∙◌, ap, FitsSigned, arith}
 use Rattle.std.proofs.Math.Facts.{to_z-of_z}
 use Rattle.byteorder.specs.Endian.{little_number}
 use Rattle.elf_objects.specs.Number.{half}

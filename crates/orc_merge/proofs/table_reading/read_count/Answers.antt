@@ -1,4 +1,4 @@
-use Rattle.std.proofs.Common.{◌≡◌, ◌≤◌, sym, ap, ◌∙◌, refl, length, arith}
+use Rattle.std.proofs.Common.{sym, ap, ◌∙◌, refl, arith}
 use Rattle.byteorder.specs.Endian.{little_number}
 use Rattle.elf_objects.specs.Number.{xword}
 use Rattle.orc_bytes.proofs.Decoding.{tail_is}

@@ -1,4 +1,4 @@
-use Rattle.std.proofs.Common.{◌≡◌, ℕ, ◌+◌, ◌*◌, ◌∙◌, ap, sym, subst, inr, refl, arith}
+use Rattle.std.proofs.Common.{◌≡◌, ℕ, ◌+◌, ◌*◌, ◌∙◌, ap, sym, inr, refl, arith}
 use Rattle.ot_base.specs.declared.row.Row.{Row}
 use Rattle.orc_walk.specs.Rows.{addressed_row, rows_of}
 use Rattle.orc_bytes.proofs.Decoding.{row_tail_is, tail_is}

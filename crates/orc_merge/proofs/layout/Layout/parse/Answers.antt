@@ -1,4 +1,4 @@
-use Rattle.std.proofs.Common.{ℕ, ◌+◌, List, [], map, take, sym, ap, ◌∙◌, subst, Bor}
+use Rattle.std.proofs.Common.{ℕ, List, [], map, take, sym, ap, ◌∙◌, subst, Bor}
 use Rattle.orc_merge.specs.LayoutFile.{IsLayoutFault}
 use Rattle.orc_merge.proofs.LayoutLemmas.{no_fault_more, holds_more, first_fault, all_read, no_fault_at_all}
 use Rattle.orc_merge.proofs.layout.Layout.parse.Goals as goal

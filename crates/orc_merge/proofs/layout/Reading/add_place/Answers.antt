@@ -1,6 +1,5 @@
 use Rattle.std.proofs.Common.{◌≡◌, ◌<◌, ◌+◌, ◌-◌, ap, sym, refl, length, arith}
 use Rattle.std.specs.Prelude.{string_bytes}
-use Rattle.orc_merge.specs.LayoutFile.{FileSaid}
 use Rattle.orc_merge.proofs.LayoutLemmas.{not_again, place_fits, place_held, with_places}
 use Rattle.orc_merge.proofs.layout.Reading.add_place.Goals as goal
 

@@ -1,8 +1,8 @@
-use Rattle.std.proofs.Common.{◌≡◌, ◌++◌, ap, ◌∙◌, length, arith}
+use Rattle.std.proofs.Common.{◌++◌, ap, ◌∙◌, arith}
 use Rattle.std.proofs.lemmas.List.{length-map}
 use Rattle.orc_walk.specs.Rows.{addressed_row, rows_of}
 use Rattle.orc_merge.specs.Merged.{MergedTable}
-use Rattle.orc_merge.specs.TableBytes.{address_bytes, row_section, table_bytes}
+use Rattle.orc_merge.specs.TableBytes.{row_section, table_bytes}
 use Rattle.orc_merge.proofs.Writing.{whole_table}
 use Rattle.orc_merge.proofs.merged.Merged.to_bytes.Goals as goal
 
