@@ -1,6 +1,6 @@
 #!/usr/bin/env bash
-# Proves and builds the program, and prints where it lies. Only what it needs is proved, with all processors (prove.sh, beside
-# this file); what isn't proved isn't built. Where nothing has changed since it was built, that is all that is found out.
+# Proves and builds the program, and prints where it lies. Only what it needs is proved, with all processors (lib/prove.sh);
+# what isn't proved isn't built. Where nothing has changed since it was built, that is all that is found out.
 set -eu
 root=$(cd "$(dirname "$0")/.." && pwd)
 out=$root/crates/objtool/out
@@ -13,9 +13,9 @@ trap 'exit 1' INT TERM HUP
 # The sums of what the program was proved from and of the program itself, as of the last call.
 proved=$out/objtool.proved
 sums() { echo "$1" && sha256sum <"$program"; }
-made_of=$(LAY=1 "$root/tools/prove.sh" "$scratch/copy" objtool)
+made_of=$(LAY=1 "$root/tools/lib/prove.sh" "$scratch/copy" objtool)
 if [ ! -x "$program" ] || [ ! -e "$proved" ] || [ "$(sums "$made_of")" != "$(cat "$proved")" ]; then
-    "$root/tools/prove.sh" "$scratch/copy" objtool &
+    "$root/tools/lib/prove.sh" "$scratch/copy" objtool &
     prover=$!
     wait "$prover" || exit 1
     mkdir -p "$out"

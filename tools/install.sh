@@ -1,46 +1,24 @@
 #!/usr/bin/env bash
-# Installs what the scripts of `.ci/run` call and this machine lacks, by the package manager of Debian and Ubuntu. Where nothing is
-# missing it does nothing. Ends with status 1 where something is missing then.
-set -u
-# Each package with the tools and files that are wanted of it.
-packages="
-binutils as ld readelf
-gcc gcc
-libc6-dev /usr/include/dlfcn.h
-python3 python3
-mawk awk
-sed sed
-grep grep
-tar tar
-findutils find xargs
-diffutils cmp diff
-coreutils basename cut fold head mktemp mkfifo paste sha256sum sort stat tail touch tr wc
-mount mount umount
-util-linux prlimit setpriv
-"
-# lacking: the packages of which something is missing.
-lacking() {
-    local package wanted tool
-    while read -r package wanted; do
-        for tool in $wanted; do
-            case $tool in /*) [ -e "$tool" ] ;; *) command -v "$tool" >/dev/null ;; esac || { echo "$package"; break; }
-        done
-    done <<<"$packages"
+# Puts the program, its manual page, the names of Linux 6.6 and the completions of bash, zsh and fish in place.
+#   install.sh PREFIX
+# PREFIX is a folder such as /usr/local or ~/.local, which is made where it isn't there. DESTDIR goes before it, as for packages. The
+# program is the one that OBJTOOL names, or else what tools/build.sh builds. Prints each file that is put in place.
+set -eu
+. "$(dirname "$0")/lib/prepare.sh"
+needs "install" install
+[ $# -eq 1 ] && [ -n "$1" ] || { echo "usage: install.sh PREFIX"; exit 2; }
+prefix=${DESTDIR:-}$1
+program=$(built)
+# puts MODE FILE TARGET: FILE as PREFIX/TARGET, in one step.
+puts() {
+    mkdir -p "$(dirname "$prefix/$3")"
+    install -m "$1" "$2" "$prefix/$3.new"
+    mv "$prefix/$3.new" "$prefix/$3"
+    echo "$prefix/$3"
 }
-missing=$(lacking)
-[ -n "$missing" ] || exit 0
-echo "install:" $missing
-if ! command -v apt-get >/dev/null; then
-    echo "install: FAILED, no apt-get here: install" $missing >&2
-    exit 1
-fi
-log=$(mktemp)
-trap 'rm -f "$log"' EXIT
-export DEBIAN_FRONTEND=noninteractive
-if ! { apt-get -q update && apt-get -q install -y --no-install-recommends $missing; } >"$log" 2>&1 </dev/null; then
-    tail -n 30 "$log" >&2
-    echo "install: FAILED, the package manager said the above" >&2
-    exit 1
-fi
-missing=$(lacking)
-[ -z "$missing" ] || { echo "install: FAILED, still missing what these have:" $missing >&2; exit 1; }
+puts 755 "$program" bin/objtool
+puts 644 "$root/docs/objtool.1" share/man/man1/objtool.1
+puts 644 "$root/share/linux.names" share/objtool/linux.names
+puts 644 "$root/share/completions/objtool.bash" share/bash-completion/completions/objtool
+puts 644 "$root/share/completions/_objtool" share/zsh/site-functions/_objtool
+puts 644 "$root/share/completions/objtool.fish" share/fish/vendor_completions.d/objtool.fish

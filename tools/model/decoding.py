@@ -2,7 +2,7 @@
 
 Each opcode of each map stands with each ModRM byte, behind prefixes by lot; besides there are bytes by lot, and bytes that end
 early. With --all-opcodes the whole map reads them, and there are those behind VEX and EVEX. PROGRAM prints what it decodes from
-records (tools/decoding).
+records (tools/compare/programs/decoding.rt.txt).
 """
 
 import itertools

@@ -78,7 +78,6 @@ class Flow:
     """The graph. Each attribute that is a dict has the points for its keys; each that is a set has those of which it holds."""
 
     def __init__(self, object: Object, code: Code, special: Special, functions: Functions, sites: Sites, names: Names):
-        check_places(code, special, functions, sites)
         self.object, self.code, self.special, self.functions, self.sites, self.names = object, code, special, functions, sites, names
         self.points: list[Point] = sites.points
         self.address: dict[Point, Place] = {point: sites.address(point) for point in self.points}

@@ -1,4 +1,4 @@
-"""Prints the control-flow graphs of objects by the model, as tools/graphs does by the program's libraries: graph.py OBJECT..
+"""Prints the control-flow graphs of objects by the model, as tools/compare/programs/graphs.rt.txt does by the program's libraries: graph.py OBJECT..
 
     graph.py --compare SAID OBJECT..
 

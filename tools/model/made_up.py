@@ -1,7 +1,9 @@
 """Compares the built program with the model over made-up objects: made_up.py PROGRAM COUNT SEED KEPT [FOLDER].
 
 Object after object, the program checks it with the options of its turn, in a folder of its own. Its status, its lines and what it
-writes are compared with the model's answer, and where the object is accepted, its rows with those that `dump` prints. The
+writes are compared with the model's answer, and where the object is accepted, its rows with those that `dump` prints. Each fourth
+object is also given site lists and call frame information and checked against the entry rules, and the last accepted ones are given
+a merged table (further.py). The
 program must leave all other files alone. Before the made-up objects come the worked ones and those of single features. Objects
 with different answers are kept in the folder KEPT. The objects of FOLDER, as those of a kernel's build, are changed by lot too;
 where they are large, of the changed ones only the form of the answer is asked. The objects are shared out to as many processes as
@@ -17,10 +19,13 @@ import sys
 from collections import Counter
 from typing import NamedTuple, Optional
 
-from check import Answer, check, options_of, read_file
+import elf
+from check import check, options_of, read_file
+from commands import Answer
 from containers import container_by_lot
 from entries import entries_by_lot
 from features import FEATURES
+from further import Difference, entry_rules, merged_tables, written_objects
 from generate import made_object
 from mutate import mutated
 from program import Program, Run, differences, is_well_formed
@@ -29,6 +34,8 @@ from worked import WORKED
 
 OPTIONS = ("fp", "no-unreachable", "retpoline", "rethunk", "uaccess", "all-opcodes")
 LARGE = 20_000
+# How many accepted objects are merged at most, and each how manieth object is given what further.py compares.
+MERGED, FURTHER = 3, 4
 NAMES_FILES = [
     b"noreturn stop_here\nuaccess safe_one\n",
     b"# names\n\nuaccess memcpy\nuaccess out\nnoreturn g",
@@ -113,26 +120,57 @@ def keep(folder: str, name: str, case: Case, run: Run, answer: Optional[Answer])
             print("model:", answer.status, *answer.lines, *answer.rows, sep="\n", file=file)
 
 
-def is_right(program: Program, case: Case, kept: str, statuses: Counter[int]) -> bool:
-    """Checks a case, and tells what is different."""
-    run = program.check(case.data, case.options, case.names)
-    answer = check(case.data, options_of(case.options), case.names) if case.compared else None
-    found = differences(run, answer) if answer is not None else [] if is_well_formed(run) else ["form of the answer"]
-    statuses[run.status] += 1
-    if found:
-        name = hashlib.sha256(case.data).hexdigest()[:12]
-        print(f"object {case.what}, {' '.join(case.options)}: different {', '.join(found)}; kept as {kept}/{name}.o", flush=True)
-        keep(kept, name, case, run, answer)
-    return not found
+class Comparison:
+    """The comparison of one part of the cases."""
+
+    def __init__(self, path: str, kept: str):
+        self.program, self.kept = Program(path), kept
+        self.statuses: Counter[int] = Counter()
+        self.number = 0
+        # The last accepted objects with their tables, and the sizes of their first sections.
+        self.accepted: list[tuple[bytes, int]] = []
+
+    def is_right(self, case: Case) -> bool:
+        """Checks a case, and tells what is different."""
+        run = self.program.check(case.data, case.options, case.names)
+        answer = check(case.data, options_of(case.options), case.names) if case.compared else None
+        found = differences(run, answer) if answer is not None else [] if is_well_formed(run) else ["form of the answer"]
+        self.statuses[run.status] += 1
+        self.number += 1
+        if found:
+            name = hashlib.sha256(case.data).hexdigest()[:12]
+            print(f"object {case.what}, {' '.join(case.options)}: different {', '.join(found)}; kept as {self.kept}/{name}.o", flush=True)
+            keep(self.kept, name, case, run, answer)
+        if answer is not None and answer.written is not None:
+            sizes = [section.size for section in elf.parse(case.data).sections[1:2]]
+            self.accepted = [*self.accepted[1 - MERGED :], (answer.written, sum(sizes))]
+        further = self.further(case) if case.compared and self.number % FURTHER == 0 else []
+        for difference in further:
+            self.keep_files(difference, case.what)
+        return not found and not further
+
+    def further(self, case: Case) -> list[Difference]:
+        """What is different in what else an object can be given."""
+        rng = random.Random(hashlib.sha256(case.data).digest())
+        how = self.program, case.data, "--all-opcodes" in case.options, case.names, rng
+        found = written_objects(*how) + entry_rules(*how)
+        return found + merged_tables(self.program, self.accepted, rng)
+
+    def keep_files(self, difference: Difference, what: str) -> None:
+        folder = f"{self.kept}/{hashlib.sha256(repr(difference).encode()).hexdigest()[:12]}"
+        print(f"object {what}: different {difference.what}; kept in {folder}", flush=True)
+        os.makedirs(folder, exist_ok=True)
+        for name, body in difference.files.items():
+            with open(f"{folder}/{name}", "wb") as file:
+                file.write(body)
 
 
 def compare(path: str, count: int, seed: str, kept: str, real: list[str], part: int, parts: int) -> tuple[Counter[int], int]:
     """Checks one of so many parts of the cases, and tells how many had each status, and how many answers are different."""
-    program = Program(path)
-    statuses: Counter[int] = Counter()
+    comparison = Comparison(path, kept)
     cases = itertools.chain(itertools.islice(worked_cases(), part, None, parts), made_cases(range(part, count, parts), seed, real))
-    different = sum(not is_right(program, case, kept, statuses) for case in cases)
-    return statuses, different
+    different = sum(not comparison.is_right(case) for case in cases)
+    return comparison.statuses, different
 
 
 def main(path: str, count: str, seed: str, kept: str, folder: str = "") -> int:

@@ -1,6 +1,6 @@
 """Compares the moves of states with the model: moves.py PROGRAM.
 
-Each operation, by an instruction that has it, moves the states of a grid; PROGRAM prints what becomes of them (tools/moves).
+Each operation, by an instruction that has it, moves the states of a grid; PROGRAM prints what becomes of them (tools/compare/programs/moves.rt.txt).
 """
 
 import subprocess

@@ -9,7 +9,8 @@ import subprocess
 import tempfile
 from typing import NamedTuple, Optional
 
-from check import Answer, read_file
+from check import read_file
+from commands import Answer
 from texts import WARNINGS
 
 SECONDS = 120
@@ -56,28 +57,36 @@ class Program:
         status = int(self.shell.stdout.readline())
         return status, read_file(self.output.name).decode("ascii", "replace").splitlines()
 
-    def check(self, data: bytes, options: list[str], names: Optional[bytes]) -> Run:
-        """Its answer on an object, with the rows that it prints of what it writes."""
+    def run(self, files: dict[str, bytes], *words: str, reader: str = "") -> Run:
+        """Its answer to these words where these files and no other are there, with the lines that the command `reader` prints of
+        the file `out`, where that is written."""
         folder = self.folder.name
-        files = {"in.o": data} | ({"names": names} if names is not None else {})
         for name in os.listdir(folder):
             os.unlink(f"{folder}/{name}")
         for name, body in files.items():
             with open(f"{folder}/{name}", "wb") as file:
                 file.write(body)
-        words = options + (["--names=names"] if names is not None else [])
         try:
-            status, lines = self.call("check", "in.o", "out.o", *words)
+            status, lines = self.call(*words)
         except NoAnswer:
             return Run(-1, [], None, [], f"no answer in {SECONDS} seconds")
         there = {name: read_file(f"{folder}/{name}") for name in os.listdir(folder)}
-        written = there.pop("out.o", None)
+        written = there.pop("out", None)
         fault = "" if there == files else "other files changed"
         rows = []
-        if written is not None:
-            dumped, rows = self.call("dump", "out.o")
-            fault = fault or ("" if dumped == 0 else f"dump has status {dumped}")
+        if written is not None and reader:
+            told, rows = self.call(reader, "out")
+            fault = fault or ("" if told == 0 else f"{reader} has status {told}")
         return Run(status, lines, written, rows, fault)
+
+    def write(self, command: str, data: bytes, options: list[str], names: Optional[bytes], reader: str) -> Run:
+        """Its answer to a command that reads an object and writes another, with what `reader` prints of that."""
+        files = {"in.o": data} | ({"names": names} if names is not None else {})
+        return self.run(files, command, "in.o", "out", *options, *(["--names=names"] if names is not None else []), reader=reader)
+
+    def check(self, data: bytes, options: list[str], names: Optional[bytes]) -> Run:
+        """Its answer to `check`, with the rows that it prints of what it writes."""
+        return self.write("check", data, options, names, "dump")
 
 
 def differences(run: Run, answer: Answer) -> list[str]:

@@ -56,12 +56,16 @@ WARNINGS = {
     45: "user access turned off twice",
     46: "safe function turns user access off",
     47: "popf where user access is tracked",
+    51: "call to {name} leaves noinstr code",
+    52: "missing int3 after return",
+    53: "missing int3 after indirect jump",
+    54: "address taken without endbr",
 }
 
 
 def warning_text(object, warning) -> str:
     name = ""
-    if warning.rule == 41:
+    if warning.rule in (41, 51):
         name = "indirect target" if warning.a == -1 else escaped(object.symbols[warning.a].name)
     text = WARNINGS[warning.rule].format(a=warning.a, b=warning.b, name=name)
     return f"{place_text(object, warning.place)}: rule {warning.rule}: {text}"

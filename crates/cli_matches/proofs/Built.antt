@@ -1,12 +1,12 @@
 -- The definition as clap builds it, and where its walk of the words stops.
 use Rattle.std.proofs.Common.{◌≡◌, true, false, ◌&&◌, List, [], ◌∷◌, ◌++◌, Some, is_some, refl, sym, ap, ap₂, ◌∙◌, fold, codes, append_assoc, append-nil}
 use Rattle.std.specs.List.{list_all}
-use Rattle.clap.specs.Simple.{Shape, entered, names_of}
-use Rattle.clap.specs.Takes.{default_passes, entered_passes, is_valid, settle_passes, takes, turn_passes, walk_passes}
-use Rattle.clap.specs.Walk.{Names, Text, Walk, finished, nothing_held, walk, walk_from, walked}
+use Rattle.clap.specs.Simple.{App, Shape, built_leaf, entered, inherited, names_of, subcommand_of}
+use Rattle.clap.specs.Takes.{default_passes, entered_passes, is_valid, level_passes, settle_passes, takes, turn_passes, walk_passes}
+use Rattle.clap.specs.Walk.{Names, Text, Walk, finished, nothing_held, rows_after, walk, walk_from, walked}
 use Rattle.clap.specs.Words.{built, is_simple}
 use Rattle.clap.proofs.OnLiterals.{clap_on_literals}
-use Rattle.cli_matches.specs.Definition.{line_app}
+use Rattle.cli_matches.specs.Definition.{check_app, demo_app, entry_app, file_app, find_app, line_app, merge_app, rewriting_app, unwind_app}
 
 abbrev pub top : Shape
 top = (built line_app).top
@@ -33,38 +33,76 @@ stopped_passes w name seen (word ∷ words) = stopped_passes w name (seen ++ wor
 abbrev pub stopped_at : Text → List Text → Walk
 stopped_at name words = let w = walk_from nothing_held in record w { stopped = Some (name, words) }
 
+-- a command of the line, as clap builds it
+abbrev pub leaf_of : App → Shape
+leaf_of command = built_leaf (inherited top command.top)
+
 -- clap enters the command of this name
-pub record Enters (name : Text) : Type 0 where
+pub record Enters (name : Text) (s : Shape) : Type 0 where
   pub met : walked top.rules names (walk_from nothing_held) name ≡ stopped_at name []
   pub passes : turn_passes top names (walk_from nothing_held) name ≡ true
+  pub finds : (words : List Text) → entered (built line_app) (Some (name, words)) ≡ Some (name, rows_after s.rules [] words)
+  pub levels : (words : List Text) → entered_passes (built line_app) (Some (name, words)) ≡ level_passes s [] nothing_held words false
 
-pub check_enters : Enters (codes "check")
+pub check_enters : Enters (codes "check") (leaf_of check_app)
 unfolding clap_on_literals
-check_enters = record { met = refl; passes = refl }
+check_enters = record { met = refl; passes = refl; finds = λ words. refl; levels = λ words. refl }
 
-pub dump_enters : Enters (codes "dump")
+pub dump_enters : Enters (codes "dump") (leaf_of (file_app (codes "dump")))
 unfolding clap_on_literals
-dump_enters = record { met = refl; passes = refl }
+dump_enters = record { met = refl; passes = refl; finds = λ words. refl; levels = λ words. refl }
 
-pub unwind_enters : Enters (codes "unwind")
+pub unwind_enters : Enters (codes "unwind") (leaf_of unwind_app)
 unfolding clap_on_literals
-unwind_enters = record { met = refl; passes = refl }
+unwind_enters = record { met = refl; passes = refl; finds = λ words. refl; levels = λ words. refl }
 
-pub demo_enters : Enters (codes "demo")
+pub sites_enters : Enters (codes "sites") (leaf_of (rewriting_app (codes "sites")))
 unfolding clap_on_literals
-demo_enters = record { met = refl; passes = refl }
+sites_enters = record { met = refl; passes = refl; finds = λ words. refl; levels = λ words. refl }
 
-pub stops : (name : Text) → Enters name → (words : List Text) → walk top.rules names nothing_held (name ∷ words) ≡ stopped_at name words
-stops name e words = ap (λ w. fold (walked top.rules names) w words) e.met ∙ stopped_stays (walk_from nothing_held) name [] words
+pub list_enters : Enters (codes "list") (leaf_of (file_app (codes "list")))
+unfolding clap_on_literals
+list_enters = record { met = refl; passes = refl; finds = λ words. refl; levels = λ words. refl }
 
-walk_is_taken : (name : Text) → Enters name → (words : List Text) → walk_passes top names (walk_from nothing_held) (name ∷ words) ≡ true
-unfolding walk_passes
-walk_is_taken name e words = ap₂ (λ t w. t && walk_passes top names w words) e.passes e.met ∙ stopped_passes (walk_from nothing_held) name [] words
+pub entry_enters : Enters (codes "entry") (leaf_of entry_app)
+unfolding clap_on_literals
+entry_enters = record { met = refl; passes = refl; finds = λ words. refl; levels = λ words. refl }
 
--- it takes the words if the command takes those behind its name
-pub line_takes : (name : Text) → Enters name → (words : List Text) → is_some (entered (built line_app) (Some (name, words))) ≡ true
-    → entered_passes (built line_app) (Some (name, words)) ≡ true → takes line_app (name ∷ words) ≡ true
-line_takes name e words known passes =
-    ap₂ (λ (w : Walk) p. entered_passes (built line_app) w.stopped
-    && (p && (settle_passes top.rules false w.held && (list_all default_passes top.rules && is_valid top (finished top.rules w.held) (is_some (entered (built line_app) w.stopped)))))) (stops name e words) (walk_is_taken name e words)
-    ∙ ap₂ (λ a b. a && (true && (true && (true && is_valid top (finished top.rules nothing_held) b)))) passes known
+pub cfi_enters : Enters (codes "cfi") (leaf_of (rewriting_app (codes "cfi")))
+unfolding clap_on_literals
+cfi_enters = record { met = refl; passes = refl; finds = λ words. refl; levels = λ words. refl }
+
+pub cfa_enters : Enters (codes "cfa") (leaf_of (file_app (codes "cfa")))
+unfolding clap_on_literals
+cfa_enters = record { met = refl; passes = refl; finds = λ words. refl; levels = λ words. refl }
+
+pub merge_enters : Enters (codes "merge") (leaf_of merge_app)
+unfolding clap_on_literals
+merge_enters = record { met = refl; passes = refl; finds = λ words. refl; levels = λ words. refl }
+
+pub find_enters : Enters (codes "find") (leaf_of find_app)
+unfolding clap_on_literals
+find_enters = record { met = refl; passes = refl; finds = λ words. refl; levels = λ words. refl }
+
+pub demo_enters : Enters (codes "demo") (leaf_of demo_app)
+unfolding clap_on_literals
+demo_enters = record { met = refl; passes = refl; finds = λ words. refl; levels = λ words. refl }
+
+module _ (name : Text) (s : Shape) (e : Enters name s) (words : List Text) where
+  stops : walk top.rules names nothing_held (name ∷ words) ≡ stopped_at name words
+  stops = ap (λ w. fold (walked top.rules names) w words) e.met ∙ stopped_stays (walk_from nothing_held) name [] words
+
+  walk_is_taken : walk_passes top names (walk_from nothing_held) (name ∷ words) ≡ true
+  unfolding walk_passes
+  walk_is_taken = ap₂ (λ t w. t && walk_passes top names w words) e.passes e.met ∙ stopped_passes (walk_from nothing_held) name [] words
+
+  -- the subcommand of the line, with its matches
+  pub line_finds : subcommand_of line_app (name ∷ words) ≡ Some (name, rows_after s.rules [] words)
+  line_finds = ap (λ (w : Walk). entered (built line_app) w.stopped) stops ∙ e.finds words
+
+  -- it takes the words if the command takes those behind its name
+  pub line_takes : level_passes s [] nothing_held words false ≡ true → takes line_app (name ∷ words) ≡ true
+  line_takes passes =
+      ap₂ (λ (w : Walk) p. entered_passes (built line_app) w.stopped
+      && (p && (settle_passes top.rules false w.held && (list_all default_passes top.rules && is_valid top (finished top.rules w.held) (is_some (entered (built line_app) w.stopped)))))) stops walk_is_taken
+      ∙ ap₂ (λ a b. a && (true && (true && (true && is_valid top (finished top.rules nothing_held) (is_some b))))) (e.levels words ∙ passes) (e.finds words)

@@ -1,19 +1,13 @@
 -- One word of a command's own, where clap waits for no value.
-use Rattle.std.proofs.Common.{◌≡◌, ℕ, Bool, true, false, cond, ◌&&◌, ◌||◌, [], ◌∷◌, Option, Some, None, bytes_eq, find, refl, ap, ap₂, ◌∙◌}
-use Rattle.std.specs.Option.{option_map_or, unwrap_or}
+use Rattle.std.proofs.Common.{◌≡◌, ℕ, Bool, true, false, cond, ◌&&◌, ◌||◌, [], ◌∷◌, Option, Some, None, bytes_eq, refl, ap, ap₂, ◌∙◌}
+use Rattle.std.specs.Option.{option_map_or}
 use Rattle.std.specs.Prelude.{option_and_then}
 use Rattle.clap.specs.Lexer.{long_of, long_of_rest, short_of, short_of_rest, strip_byte}
-use Rattle.clap.specs.Simple.{Shape, label_of}
-use Rattle.clap.specs.Words.{Text, built}
-use Rattle.clap.specs.Simple.{new_shape}
+use Rattle.clap.specs.Simple.{Shape}
+use Rattle.clap.specs.Words.{Text}
 use Rattle.clap.specs.Takes.{bundle_passes, flag_word_passes, step_passes, turn_passes}
-use Rattle.clap.specs.Walk.{Held, Step, Walk, after_step, answers_to, arg_by_index, idle, long_or_other, short_or_plain, to_positional, trailing, value, walked}
+use Rattle.clap.specs.Walk.{Held, Step, Walk, after_step, arg_by_index, idle, long_or_other, short_or_plain, to_positional, trailing, value, walked}
 use Rattle.cli_words.specs.Words.{Word, is_option}
-use Rattle.cli_matches.specs.Definition.{line_app}
-
--- the command of this name, as clap builds it
-abbrev pub leaf_of : Text → Shape
-leaf_of name = unwrap_or (find (λ s. answers_to name (label_of s)) (built line_app).subs) (new_shape name)
 
 -- the walk behind words that are done with
 abbrev pub at_idle : Held → ℕ → Walk

@@ -1,7 +1,10 @@
 mod Built
-mod CheckReads
-mod CheckWalk
 mod Leaves
 mod MeantLemmas
+mod OptionFacts
+mod OptionReads
+mod OptionWalk
+mod PlainReads
+mod Rewritings
 mod Rows
 mod SaysLemmas

@@ -1,5 +1,5 @@
 -- What clap reads of words that mean a command.
-use Rattle.std.proofs.Common.{◌≡◌, ℕ, Bool, true, false, cond, not, ◌&&◌, List, [], ◌∷◌, ◌++◌, Option, Some, None, Result, Ok, Err, codes, option_map, refl, sym, ap, ap₂, subst, ◌∙◌, inl, inr, bytes_eq}
+use Rattle.std.proofs.Common.{◌≡◌, ℕ, Bool, true, false, cond, not, ◌&&◌, ◌||◌, List, [], ◌∷◌, ◌++◌, Option, Some, None, Result, Ok, Err, codes, is_some, option_map, slice_get, refl, sym, ap, ap₂, subst, ◌∙◌, inl, inr, bytes_eq}
 use Rattle.std.specs.Prelude.{IfOk, is_ok, ok_or}
 use Rattle.std.specs.List.{list_all, list_any}
 use Rattle.std.specs.Option.{unwrap_or}
@@ -10,9 +10,9 @@ use Rattle.clap.specs.Words.{App, HasMatchesOf, kind_of, subcommand_rows_of}
 use Rattle.clap.specs.declared.ArgMatches.{ArgMatches}
 use Rattle.clap.specs.declared.Error.{Error}
 use Rattle.clap.specs.declared.error.ErrorKind.{ErrorKind}
-use Rattle.clap.specs.Simple.{Shape, built, entered, new_rule, subcommand_of}
-use Rattle.clap.specs.Takes.{is_valid, level_passes, settle_passes, takes, turn_passes, walk_passes}
-use Rattle.clap.specs.Walk.{Held, Row, Text, Walk, arg_by_id, finished, first_of, nothing_held, rows_after, walk, walked}
+use Rattle.clap.specs.Simple.{Shape, subcommand_of}
+use Rattle.clap.specs.Takes.{takes}
+use Rattle.clap.specs.Walk.{Row, Text, first_of, rows_after}
 use Rattle.clap.specs.declared.error.ErrorKind.TheVariants.{DisplayHelp, DisplayVersion, OutOfMemory}
 use Rattle.clap.proofs.OnLiterals.{clap_on_literals}
 use Rattle.cli_words.specs.declared.fault.UsageKind.{UsageKind}
@@ -20,17 +20,18 @@ use Rattle.cli_words.specs.declared.fault.UsageKind.TheVariants.{Empty, Repeated
 use Rattle.cli_words.specs.declared.fault.UsageFault.{UsageFault}
 use Rattle.cli_words.specs.declared.command.Command as declared
 use Rattle.cli_words.specs.declared.word.CommandWord.{CommandWord}
-use Rattle.cli_words.specs.declared.word.CommandWord.TheVariants.{Check, Demo, Dump, Unwind}
-use Rattle.cli_words.specs.Grammar.{Command, asked, command_in, command_meaning, demo, dump, first_fault, first_meaning, help, line_meaning, lone_meaning, meaning, name_fault, option_fault, or_missing, unless, unwind, version, word_fault}
-use Rattle.cli_words.specs.Numbers.{number_of}
-use Rattle.cli_words.specs.Words.{Word, command_named, is_option, is_option_of, is_same_option, names_in}
-use Rattle.cli_matches.specs.Definition.{line_app}
-use Rattle.cli_matches.specs.Matches.{Says, request_of}
-use Rattle.cli_matches.proofs.Built.{check_enters, demo_enters, dump_enters, line_is_simple, line_takes, stops, unwind_enters}
-use Rattle.cli_matches.proofs.CheckReads.{check_passes, check_says}
-use Rattle.cli_matches.proofs.CheckWalk.{no_fault}
-use Rattle.cli_matches.proofs.Rows.{set_row}
-use Rattle.cli_matches.proofs.Leaves.{at_idle, leaf_of, name_passes, name_walked}
+use Rattle.cli_words.specs.declared.word.CommandWord.TheVariants as the
+use Rattle.cli_words.specs.Grammar.{Command, asked, command_in, command_meaning, demo, find, first_fault, first_meaning, help, line_meaning, lone_meaning, meaning, name_fault, option_fault, or_missing, unless, version, word_fault}
+use Rattle.cli_words.specs.Numbers.{address_of, number_of}
+use Rattle.cli_words.specs.Words.{Word, command_named, gives, is_option, is_option_of, is_same_option, names_in, places_of}
+use Rattle.cli_matches.specs.Definition.{check_app, demo_app, entry_app, file_app, find_app, line_app, merge_app, rewriting_app, unwind_app}
+use Rattle.cli_matches.specs.Matches.{Says, SaysPair, SaysSwitch, request_of}
+use Rattle.cli_matches.proofs.Built.{Enters, cfa_enters, cfi_enters, check_enters, demo_enters, dump_enters, entry_enters, find_enters, leaf_of, line_finds, line_is_simple, line_takes, list_enters, merge_enters, sites_enters, unwind_enters}
+use Rattle.cli_matches.proofs.OptionFacts.{AllAre, HasOptions, dashed}
+use Rattle.cli_matches.proofs.OptionReads.{SaysFiles, each_said, files_said, line_passes, map_said, rewriting_said}
+use Rattle.cli_matches.proofs.OptionWalk.{is_own, no_fault, or_case, places}
+use Rattle.cli_matches.proofs.PlainReads.{AsksOne, AsksTwo, demo_asks, file_asks, find_asks, merge_asks, one_found, one_level, two_found, two_level, unwind_asks}
+use Rattle.cli_matches.proofs.Rewritings.{check_facts, check_switches, common_facts, common_switches, entry_facts, entry_switches}
 
 -- clap takes the words, and its matches say the command
 pub record Reads (words : List Word) (command : Command) : Type 0 where
@@ -72,28 +73,93 @@ line_ok command words meant e =
     let parts = unless_ok (first_fault command [] words) _ meant e in
     (parts.0, missing_ok (asked command (names_in words) words) _ meant parts.1)
 
--- ---- `check`
+-- ---- commands that ask for IN and maybe OUT, and have options
 
-entered_check : (words : List Word) → subcommand_of line_app (codes "check" ∷ words) ≡ Some (codes "check", rows_after (leaf_of (codes "check")).rules [] words)
-entered_check words = ap (λ (w : Walk). entered (built line_app) w.stopped) (stops (codes "check") check_enters words)
+-- what such a command asks for is said by matches that say its options, and IN, OUT and FILE
+record AsksFiles (name : Text) (writes : Bool) (switches : List Text) (ws words : List Word) (meant : Command) : Type 0 where
+  has_input : is_some (slice_get ws 0) ≡ true
+  has_output : cond writes (is_some (slice_get ws 1)) true ≡ true
+  says : (rows : List Row) → AllAre (λ option. SaysSwitch rows option (gives (dashed option) words)) switches → SaysFiles rows ws words → Says (Some (name, rows)) meant
 
-check_read : (words : List Word) (meant : Command) → line_meaning Check words ≡ Ok meant → Reads (codes "check" ∷ words) meant
+module _ (command : CommandWord) (name : Text) (s : Shape) (writes : Bool) (switches : List Text) (enters : Enters name s) (facts : HasOptions s writes switches)
+    (known : (word : Word) → is_option_of command word ≡ true → is_own switches word ≡ true) (count : places_of command ≡ places writes)
+    (asks : (ws words : List Word) (meant : Command) → asked command ws words ≡ Some meant → AsksFiles name writes switches ws words meant) where
+  files_read : (words : List Word) (meant : Command) → line_meaning command words ≡ Ok meant → Reads (name ∷ words) meant
+  files_read words meant e =
+      let parts = line_ok command words meant e in
+      let files = asks (names_in words) words meant parts.1 in
+      record {
+        takes = line_takes name s enters words (line_passes s writes switches facts command known count words parts.0 files.has_input files.has_output);
+        says = subst (λ found. Says found meant) (sym (line_finds name s enters words))
+            (files.says (rows_after s.rules [] words) (each_said s writes switches facts command known count words parts.0) (files_said s writes switches facts command known count words parts.0));
+      }
+
+check_files : (ws words : List Word) (meant : Command) → asked the.Check ws words ≡ Some meant → AsksFiles (codes "check") true check_switches ws words meant
 unfolding asked
-check_read words meant e =
-    let parts = line_ok Check words meant e in
-    go (names_in words) refl parts.1 parts.0
+check_files (input ∷ (output ∷ [])) words meant e = record {
+  has_input = refl;
+  has_output = refl;
+  says = λ rows each files. subst (Says (Some (codes "check", rows))) (some_is _ meant e) (
+    refl,
+    record {
+      rewriting = rewriting_said rows input output words files each.rest.rest.rest.rest.rest.first;
+      fp = each.first;
+      retpoline = each.rest.first;
+      rethunk = each.rest.rest.first;
+      uaccess = each.rest.rest.rest.first;
+      unreachable = subst (SaysSwitch rows (codes "no-unreachable")) (not_not (gives (codes "--no-unreachable") words)) each.rest.rest.rest.rest.first;
+    },
+  );
+}
   where
-    go : (ns : List Word) → names_in words ≡ ns → asked Check ns words ≡ Some meant → first_fault Check [] words ≡ None → Reads (codes "check" ∷ words) meant
-    go (input ∷ (output ∷ [])) is e right =
-        let means = some_is _ meant e in
-        record {
-          takes = line_takes (codes "check") check_enters words refl (check_passes words right input output is);
-          says = subst (λ found. Says found meant) (sym (entered_check words))
-              (subst (λ c. Says (Some (codes "check", rows_after (leaf_of (codes "check")).rules [] words)) c) means (refl, check_says words right input output is));
-        }
-    go [] is e right = cc
-    go (input ∷ []) is e right = cc
-    go (input ∷ (output ∷ (more ∷ ns))) is e right = cc
+    not_not : (b : Bool) → b ≡ not (not b)
+    not_not true = refl
+    not_not false = refl
+check_files [] words meant e = cc
+check_files (input ∷ []) words meant e = cc
+check_files (input ∷ (output ∷ (more ∷ ws))) words meant e = cc
+
+sites_files : (ws words : List Word) (meant : Command) → asked the.Sites ws words ≡ Some meant → AsksFiles (codes "sites") true common_switches ws words meant
+unfolding asked
+sites_files (input ∷ (output ∷ [])) words meant e = record {
+  has_input = refl;
+  has_output = refl;
+  says = λ rows each files. subst (Says (Some (codes "sites", rows))) (some_is _ meant e) (refl, rewriting_said rows input output words files each.first);
+}
+sites_files [] words meant e = cc
+sites_files (input ∷ []) words meant e = cc
+sites_files (input ∷ (output ∷ (more ∷ ws))) words meant e = cc
+
+entry_files : (ws words : List Word) (meant : Command) → asked the.Entry ws words ≡ Some meant → AsksFiles (codes "entry") false entry_switches ws words meant
+unfolding asked
+entry_files (input ∷ []) words meant e = record {
+  has_input = refl;
+  has_output = refl;
+  says = λ rows each files. subst (Says (Some (codes "entry", rows))) (some_is _ meant e) (
+    refl,
+    record {
+      input_is = files.input;
+      noinstr = each.first;
+      sls = each.rest.first;
+      ibt = each.rest.rest.first;
+      all_opcodes = map_said rows words each.rest.rest.rest.first;
+      names_are = files.names;
+    },
+  );
+}
+entry_files [] words meant e = cc
+entry_files (input ∷ (more ∷ ws)) words meant e = cc
+
+cfi_files : (ws words : List Word) (meant : Command) → asked the.Cfi ws words ≡ Some meant → AsksFiles (codes "cfi") true common_switches ws words meant
+unfolding asked
+cfi_files (input ∷ (output ∷ [])) words meant e = record {
+  has_input = refl;
+  has_output = refl;
+  says = λ rows each files. subst (Says (Some (codes "cfi", rows))) (some_is _ meant e) (refl, rewriting_said rows input output words files each.first);
+}
+cfi_files [] words meant e = cc
+cfi_files (input ∷ []) words meant e = cc
+cfi_files (input ∷ (output ∷ (more ∷ ws))) words meant e = cc
 
 -- ---- commands without options
 
@@ -127,151 +193,169 @@ own_words command none words meant e =
     let all = all_names command none words [] parts.0 in
     (subst (λ ns. asked command ns words ≡ Some meant) all.0 parts.1, all.1)
 
--- a name or a number is being read
-abbrev holds : Text → Word → List Row → Held
-holds place word rows = record { rows = rows; pending = Some (place, word ∷ []); skip = 0 }
+-- one word, which is said by matches that have it
+record IsOne (name place : Text) (words : List Word) (meant : Command) : Type 0 where
+  word : Word
+  is : words ≡ word ∷ []
+  says : (rows : List Row) → first_of place rows ≡ Some word → Says (Some (name, rows)) meant
 
-abbrev D : Shape
-D = leaf_of (codes "dump")
+module _ (command : CommandWord) (name place : Text) (s : Shape) (enters : Enters name s) (asks : AsksOne s place) (none : (w : Word) → is_option_of command w ≡ false)
+    (one : (words : List Word) (meant : Command) → asked command words words ≡ Some meant → IsOne name place words meant) where
+  one_read : (words : List Word) (meant : Command) → line_meaning command words ≡ Ok meant → Reads (name ∷ words) meant
+  one_read words meant e =
+      let own = own_words command none words meant e in
+      let it = one words meant own.0 in
+      let all = subst (λ ws. list_all (λ w. not (is_option w)) ws ≡ true) it.is own.1 in
+      let is_name = (not_true (is_option it.word) _ all).0 in
+      subst (λ ws. Reads (name ∷ ws) meant) (sym it.is) (record {
+        takes = line_takes name s enters (it.word ∷ []) (one_level s place asks it.word is_name);
+        says = subst (λ found. Says found meant) (sym (line_finds name s enters (it.word ∷ []))) (it.says (rows_after s.rules [] (it.word ∷ [])) (one_found s place asks it.word is_name));
+      })
 
-dump_walk : (file : Word) → is_option file ≡ false → walk D.rules [] nothing_held (file ∷ []) ≡ at_idle (holds (codes "FILE") file []) 2
-dump_walk file e = name_walked D nothing_held 1 file e
-
-dump_level : (file : Word) → is_option file ≡ false → level_passes D [] nothing_held (file ∷ []) false ≡ true
-unfolding walk_passes
-dump_level file e = ap₂ (λ t (w : Walk). (t && true) && (settle_passes D.rules false w.held && (true && is_valid D (finished D.rules w.held) false))) (name_passes D nothing_held 1 file e) (dump_walk file e)
-
-dump_read : (words : List Word) (meant : Command) → line_meaning Dump words ≡ Ok meant → Reads (codes "dump" ∷ words) meant
+dump_one : (words : List Word) (meant : Command) → asked the.Dump words words ≡ Some meant → IsOne (codes "dump") (codes "FILE") words meant
 unfolding asked
-dump_read words meant e = let own = own_words Dump (λ w. refl) words meant e in go words own.0 own.1
-  where
-    go : (words : List Word) → asked Dump words words ≡ Some meant → list_all (λ w. not (is_option w)) words ≡ true → Reads (codes "dump" ∷ words) meant
-    go (file ∷ []) e all =
-        let name = (not_true (is_option file) _ all).0 in
-        record {
-          takes = line_takes (codes "dump") dump_enters (file ∷ []) refl (dump_level file name);
-          says = subst (Says (subcommand_of line_app (codes "dump" ∷ (file ∷ [])))) (some_is _ meant e)
-              (subst (λ found. Says found (dump file)) (sym (ap (λ (w : Walk). entered (built line_app) w.stopped) (stops (codes "dump") dump_enters (file ∷ []))))
-              (refl, ap (λ (w : Walk). first_of (codes "FILE") (finished D.rules w.held)) (dump_walk file name)));
-        }
-    go [] e all = cc
-    go (file ∷ (more ∷ words)) e all = cc
+dump_one (file ∷ []) meant e = record { word = file; is = refl; says = λ rows is. subst (Says (Some (codes "dump", rows))) (some_is _ meant e) (refl, is) }
+dump_one [] meant e = cc
+dump_one (file ∷ (more ∷ words)) meant e = cc
 
-abbrev N : Shape
-N = leaf_of (codes "demo")
-
-demo_walk : (number : Word) → is_option number ≡ false → walk N.rules [] nothing_held (number ∷ []) ≡ at_idle (holds (codes "N") number []) 2
-demo_walk number e = name_walked N nothing_held 1 number e
-
-demo_level : (number : Word) → is_option number ≡ false → level_passes N [] nothing_held (number ∷ []) false ≡ true
-unfolding walk_passes
-demo_level number e = ap₂ (λ t (w : Walk). (t && true) && (settle_passes N.rules false w.held && (true && is_valid N (finished N.rules w.held) false))) (name_passes N nothing_held 1 number e) (demo_walk number e)
-
-demo_read : (words : List Word) (meant : Command) → line_meaning Demo words ≡ Ok meant → Reads (codes "demo" ∷ words) meant
+list_one : (words : List Word) (meant : Command) → asked the.List words words ≡ Some meant → IsOne (codes "list") (codes "FILE") words meant
 unfolding asked
-demo_read words meant e = let own = own_words Demo (λ w. refl) words meant e in go words own.0 own.1
-  where
-    counted : (number : Word) (n : Option ℕ) → number_of number ≡ n → option_map demo n ≡ Some meant → list_all (λ w. not (is_option w)) (number ∷ []) ≡ true → Reads (codes "demo" ∷ (number ∷ [])) meant
-    counted number (Some n) is e all =
-        let name = (not_true (is_option number) _ all).0 in
-        record {
-          takes = line_takes (codes "demo") demo_enters (number ∷ []) refl (demo_level number name);
-          says = subst (Says (subcommand_of line_app (codes "demo" ∷ (number ∷ [])))) (some_is _ meant e)
-              (subst (λ found. Says found (demo n)) (sym (ap (λ (w : Walk). entered (built line_app) w.stopped) (stops (codes "demo") demo_enters (number ∷ []))))
-              (refl, number, ap (λ (w : Walk). first_of (codes "N") (finished N.rules w.held)) (demo_walk number name), is));
-        }
-    counted number None is e all = cc
+list_one (file ∷ []) meant e = record { word = file; is = refl; says = λ rows is. subst (Says (Some (codes "list", rows))) (some_is _ meant e) (refl, is) }
+list_one [] meant e = cc
+list_one (file ∷ (more ∷ words)) meant e = cc
 
-    go : (words : List Word) → asked Demo words words ≡ Some meant → list_all (λ w. not (is_option w)) words ≡ true → Reads (codes "demo" ∷ words) meant
-    go (number ∷ []) e all = counted number (number_of number) refl e all
-    go [] e all = cc
-    go (number ∷ (more ∷ words)) e all = cc
-
-abbrev U : Shape
-U = leaf_of (codes "unwind")
-
-abbrev file_row : Word → Row
-file_row file = set_row (unwrap_or (arg_by_id U.rules (codes "FILE")) (new_rule (codes "FILE"))) (file ∷ [])
-
-unwind_walk : (file image : Word) → is_option file ≡ false → is_option image ≡ false
-    → walk U.rules [] nothing_held (file ∷ (image ∷ [])) ≡ at_idle (holds (codes "IMAGE") image (file_row file ∷ [])) 3
-unwind_walk file image e f = ap (λ w. walked U.rules [] w image) (name_walked U nothing_held 1 file e) ∙ name_walked U (holds (codes "FILE") file []) 2 image f
-
-unwind_level : (file image : Word) → is_option file ≡ false → is_option image ≡ false → level_passes U [] nothing_held (file ∷ (image ∷ [])) false ≡ true
-unfolding walk_passes
-unwind_level file image e f =
-    ap₂ (λ t (w : Walk). t && (settle_passes U.rules false w.held && (true && is_valid U (finished U.rules w.held) false))) both (unwind_walk file image e f)
-  where
-    both : (turn_passes U [] (at_idle nothing_held 1) file && (turn_passes U [] (walked U.rules [] (at_idle nothing_held 1) file) image && true)) ≡ true
-    both =
-        ap₂ (λ t w. t && (turn_passes U [] w image && true)) (name_passes U nothing_held 1 file e) (name_walked U nothing_held 1 file e)
-        ∙ ap (λ t. t && true) (name_passes U (holds (codes "FILE") file []) 2 image f)
-
-unwind_read : (words : List Word) (meant : Command) → line_meaning Unwind words ≡ Ok meant → Reads (codes "unwind" ∷ words) meant
+cfa_one : (words : List Word) (meant : Command) → asked the.Cfa words words ≡ Some meant → IsOne (codes "cfa") (codes "FILE") words meant
 unfolding asked
-unwind_read words meant e = let own = own_words Unwind (λ w. refl) words meant e in go words own.0 own.1
+cfa_one (file ∷ []) meant e = record { word = file; is = refl; says = λ rows is. subst (Says (Some (codes "cfa", rows))) (some_is _ meant e) (refl, is) }
+cfa_one [] meant e = cc
+cfa_one (file ∷ (more ∷ words)) meant e = cc
+
+demo_one : (words : List Word) (meant : Command) → asked the.Demo words words ≡ Some meant → IsOne (codes "demo") (codes "N") words meant
+unfolding asked
+demo_one (number ∷ []) meant e = go (number_of number) refl e
   where
-    go : (words : List Word) → asked Unwind words words ≡ Some meant → list_all (λ w. not (is_option w)) words ≡ true → Reads (codes "unwind" ∷ words) meant
-    go (file ∷ (image ∷ [])) e all =
-        let first = not_true (is_option file) _ all in
-        let second = not_true (is_option image) _ first.1 in
-        record {
-          takes = line_takes (codes "unwind") unwind_enters (file ∷ (image ∷ [])) refl (unwind_level file image first.0 second.0);
-          says = subst (Says (subcommand_of line_app (codes "unwind" ∷ (file ∷ (image ∷ []))))) (some_is _ meant e)
-              (subst (λ found. Says found (unwind file image)) (sym (ap (λ (w : Walk). entered (built line_app) w.stopped) (stops (codes "unwind") unwind_enters (file ∷ (image ∷ []))))) (
-                refl,
-                ap (λ (w : Walk). first_of (codes "FILE") (finished U.rules w.held)) (unwind_walk file image first.0 second.0),
-                ap (λ (w : Walk). first_of (codes "IMAGE") (finished U.rules w.held)) (unwind_walk file image first.0 second.0),
-              ));
-        }
-    go [] e all = cc
-    go (file ∷ []) e all = cc
-    go (file ∷ (image ∷ (more ∷ words))) e all = cc
+    go : (n : Option ℕ) → number_of number ≡ n → option_map demo n ≡ Some meant → IsOne (codes "demo") (codes "N") (number ∷ []) meant
+    go (Some n) is e = record { word = number; is = refl; says = λ rows found. subst (Says (Some (codes "demo", rows))) (some_is _ meant e) (refl, (number, found, is)) }
+    go None is e = cc
+demo_one [] meant e = cc
+demo_one (number ∷ (more ∷ words)) meant e = cc
+
+-- two words
+record IsTwo (name first second : Text) (words : List Word) (meant : Command) : Type 0 where
+  word : Word
+  other : Word
+  are : words ≡ word ∷ (other ∷ [])
+  says : (rows : List Row) → SaysPair rows first second word other → Says (Some (name, rows)) meant
+
+module _ (command : CommandWord) (name first second : Text) (s : Shape) (enters : Enters name s) (asks : AsksTwo s first second) (none : (w : Word) → is_option_of command w ≡ false)
+    (two : (words : List Word) (meant : Command) → asked command words words ≡ Some meant → IsTwo name first second words meant) where
+  two_read : (words : List Word) (meant : Command) → line_meaning command words ≡ Ok meant → Reads (name ∷ words) meant
+  two_read words meant e =
+      let own = own_words command none words meant e in
+      let them = two words meant own.0 in
+      let all = subst (λ ws. list_all (λ w. not (is_option w)) ws ≡ true) them.are own.1 in
+      let one = not_true (is_option them.word) _ all in
+      let next = not_true (is_option them.other) _ one.1 in
+      let both = them.word ∷ (them.other ∷ []) in
+      subst (λ ws. Reads (name ∷ ws) meant) (sym them.are) (record {
+        takes = line_takes name s enters both (two_level s first second asks them.word them.other one.0 next.0);
+        says = subst (λ found. Says found meant) (sym (line_finds name s enters both)) (them.says (rows_after s.rules [] both) (two_found s first second asks them.word them.other one.0 next.0));
+      })
+
+unwind_two : (words : List Word) (meant : Command) → asked the.Unwind words words ≡ Some meant → IsTwo (codes "unwind") (codes "FILE") (codes "IMAGE") words meant
+unfolding asked
+unwind_two (file ∷ (image ∷ [])) meant e = record { word = file; other = image; are = refl; says = λ rows pair. subst (Says (Some (codes "unwind", rows))) (some_is _ meant e) (refl, pair) }
+unwind_two [] meant e = cc
+unwind_two (file ∷ []) meant e = cc
+unwind_two (file ∷ (image ∷ (more ∷ words))) meant e = cc
+
+merge_two : (words : List Word) (meant : Command) → asked the.Merge words words ≡ Some meant → IsTwo (codes "merge") (codes "LAYOUT") (codes "OUT") words meant
+unfolding asked
+merge_two (layout ∷ (output ∷ [])) meant e = record { word = layout; other = output; are = refl; says = λ rows pair. subst (Says (Some (codes "merge", rows))) (some_is _ meant e) (refl, pair) }
+merge_two [] meant e = cc
+merge_two (layout ∷ []) meant e = cc
+merge_two (layout ∷ (output ∷ (more ∷ words))) meant e = cc
+
+find_two : (words : List Word) (meant : Command) → asked the.Find words words ≡ Some meant → IsTwo (codes "find") (codes "TABLE") (codes "ADDR") words meant
+unfolding asked
+find_two (table ∷ (text ∷ [])) meant e = go (address_of text) refl e
+  where
+    go : (address : Option ℕ) → address_of text ≡ address → option_map (find table) address ≡ Some meant → IsTwo (codes "find") (codes "TABLE") (codes "ADDR") (table ∷ (text ∷ [])) meant
+    go (Some address) is e = record { word = table; other = text; are = refl; says = λ rows pair. subst (Says (Some (codes "find", rows))) (some_is _ meant e) (refl, (text, pair, is)) }
+    go None is e = cc
+find_two [] meant e = cc
+find_two (table ∷ []) meant e = cc
+find_two (table ∷ (text ∷ (more ∷ words))) meant e = cc
 
 -- ---- the first word
 
-command_read : (word : Word) (words : List Word) (meant : Command) → command_meaning (command_named word) words ≡ Ok meant → Reads (word ∷ words) meant
-command_read word words meant e = check_or (bytes_eq word (codes "check")) refl e
-  where
-    named : (name : Word) → bytes_eq word name ≡ true → Reads (name ∷ words) meant → Reads (word ∷ words) meant
-    named name is reads = subst (λ w. Reads (w ∷ words) meant) (sym ((bytes_eq-Decides word name).0 is)) reads
+module _ (word : Word) (words : List Word) (meant : Command) where
+  -- the word is this command's, or what it means is among the rest
+  named_or : (name : Word) (command : CommandWord) (rest : Option CommandWord) → (line_meaning command words ≡ Ok meant → Reads (name ∷ words) meant) → (command_meaning rest words ≡ Ok meant → Reads (word ∷ words) meant)
+      → command_meaning (cond (bytes_eq word name) (Some command) rest) words ≡ Ok meant → Reads (word ∷ words) meant
+  named_or name command rest reads or e = go (bytes_eq word name) refl e
+    where
+      go : (b : Bool) → bytes_eq word name ≡ b → command_meaning (cond b (Some command) rest) words ≡ Ok meant → Reads (word ∷ words) meant
+      go true is e = subst (λ w. Reads (w ∷ words) meant) (sym ((bytes_eq-Decides word name).0 is)) (reads e)
+      go false is e = or e
 
-    demo_or : (b : Bool) → bytes_eq word (codes "demo") ≡ b → command_meaning (cond b (Some Demo) None) words ≡ Ok meant → Reads (word ∷ words) meant
-    demo_or true is e = named (codes "demo") is (demo_read words meant e)
-    demo_or false is e = cc
+  none_read : command_meaning None words ≡ Ok meant → Reads (word ∷ words) meant
+  none_read e = cc
 
-    unwind_or : (b : Bool) → bytes_eq word (codes "unwind") ≡ b → command_meaning (cond b (Some Unwind) (cond (bytes_eq word (codes "demo")) (Some Demo) None)) words ≡ Ok meant → Reads (word ∷ words) meant
-    unwind_or true is e = named (codes "unwind") is (unwind_read words meant e)
-    unwind_or false is e = demo_or (bytes_eq word (codes "demo")) refl e
-
-    dump_or : (b : Bool) → bytes_eq word (codes "dump") ≡ b → command_meaning (cond b (Some Dump) (cond (bytes_eq word (codes "unwind")) (Some Unwind) (cond (bytes_eq word (codes "demo")) (Some Demo) None))) words ≡ Ok meant → Reads (word ∷ words) meant
-    dump_or true is e = named (codes "dump") is (dump_read words meant e)
-    dump_or false is e = unwind_or (bytes_eq word (codes "unwind")) refl e
-
-    check_or : (b : Bool) → bytes_eq word (codes "check") ≡ b → command_meaning (cond b (Some Check) (cond (bytes_eq word (codes "dump")) (Some Dump) (cond (bytes_eq word (codes "unwind")) (Some Unwind) (cond (bytes_eq word (codes "demo")) (Some Demo) None)))) words ≡ Ok meant → Reads (word ∷ words) meant
-    check_or true is e = named (codes "check") is (check_read words meant e)
-    check_or false is e = dump_or (bytes_eq word (codes "dump")) refl e
+  command_read : command_meaning (command_named word) words ≡ Ok meant → Reads (word ∷ words) meant
+  command_read =
+      named_or (codes "check") the.Check _ (files_read the.Check (codes "check") (leaf_of check_app) true check_switches check_enters check_facts (λ w is. is) refl check_files words meant)
+      (named_or (codes "dump") the.Dump _ (one_read the.Dump (codes "dump") (codes "FILE") (leaf_of (file_app (codes "dump"))) dump_enters (file_asks (codes "dump")) (λ w. refl) dump_one words meant)
+      (named_or (codes "unwind") the.Unwind _ (two_read the.Unwind (codes "unwind") (codes "FILE") (codes "IMAGE") (leaf_of unwind_app) unwind_enters unwind_asks (λ w. refl) unwind_two words meant)
+      (named_or (codes "sites") the.Sites _ (files_read the.Sites (codes "sites") (leaf_of (rewriting_app (codes "sites"))) true common_switches sites_enters (common_facts (codes "sites")) (λ w is. is) refl sites_files words meant)
+      (named_or (codes "list") the.List _ (one_read the.List (codes "list") (codes "FILE") (leaf_of (file_app (codes "list"))) list_enters (file_asks (codes "list")) (λ w. refl) list_one words meant)
+      (named_or (codes "entry") the.Entry _ (files_read the.Entry (codes "entry") (leaf_of entry_app) false entry_switches entry_enters entry_facts (λ w is. is) refl entry_files words meant)
+      (named_or (codes "cfi") the.Cfi _ (files_read the.Cfi (codes "cfi") (leaf_of (rewriting_app (codes "cfi"))) true common_switches cfi_enters (common_facts (codes "cfi")) (λ w is. is) refl cfi_files words meant)
+      (named_or (codes "cfa") the.Cfa _ (one_read the.Cfa (codes "cfa") (codes "FILE") (leaf_of (file_app (codes "cfa"))) cfa_enters (file_asks (codes "cfa")) (λ w. refl) cfa_one words meant)
+      (named_or (codes "merge") the.Merge _ (two_read the.Merge (codes "merge") (codes "LAYOUT") (codes "OUT") (leaf_of merge_app) merge_enters merge_asks (λ w. refl) merge_two words meant)
+      (named_or (codes "find") the.Find _ (two_read the.Find (codes "find") (codes "TABLE") (codes "ADDR") (leaf_of find_app) find_enters find_asks (λ w. refl) find_two words meant)
+      (named_or (codes "demo") the.Demo None (one_read the.Demo (codes "demo") (codes "N") (leaf_of demo_app) demo_enters demo_asks (λ w. refl) demo_one words meant) none_read))))))))))
 
 help_answers : fault_of line_app (codes "--help" ∷ []) ≡ DisplayHelp ∷ []
 unfolding clap_on_literals
 help_answers = refl
 
+short_help_answers : fault_of line_app (codes "-h" ∷ []) ≡ DisplayHelp ∷ []
+unfolding clap_on_literals
+short_help_answers = refl
+
 version_answers : fault_of line_app (codes "--version" ∷ []) ≡ DisplayVersion ∷ []
 unfolding clap_on_literals
 version_answers = refl
 
+short_version_answers : fault_of line_app (codes "-V" ∷ []) ≡ DisplayVersion ∷ []
+unfolding clap_on_literals
+short_version_answers = refl
+
 lone_answers : (word : Word) (meant : Command) → first_meaning (lone_meaning word []) word [] ≡ Ok meant → Answers (word ∷ []) meant
-lone_answers word meant e = help_or (bytes_eq word (codes "--help")) refl e
+lone_answers word meant e = help_or (bytes_eq word (codes "--help") || bytes_eq word (codes "-h")) refl e
   where
-    version_or : (b : Bool) → bytes_eq word (codes "--version") ≡ b → first_meaning (cond b (Some version) None) word [] ≡ Ok meant → Answers (word ∷ []) meant
+    spelled : (text : Word) → bytes_eq word text ≡ true → Answers (text ∷ []) meant → Answers (word ∷ []) meant
+    spelled text is answers = subst (λ w. Answers (w ∷ []) meant) (sym ((bytes_eq-Decides word text).0 is)) answers
+
+    version_or : (b : Bool) → (bytes_eq word (codes "--version") || bytes_eq word (codes "-V")) ≡ b → first_meaning (cond b (Some version) None) word [] ≡ Ok meant → Answers (word ∷ []) meant
     version_or true is e =
-        subst (λ w. Answers (w ∷ []) meant) (sym ((bytes_eq-Decides word (codes "--version")).0 is)) (shows_version (sym (some_is version meant (ok_is version meant e))) version_answers)
+        let same : meant ≡ version = sym (some_is version meant (ok_is version meant e)) in
+        elim (or_case (bytes_eq word (codes "--version")) _ is) [
+          | inl is ↦ spelled (codes "--version") is (shows_version same version_answers)
+          | inr is ↦ spelled (codes "-V") is (shows_version same short_version_answers)
+        ]
     version_or false is e = read (command_read word [] meant e)
 
-    help_or : (b : Bool) → bytes_eq word (codes "--help") ≡ b → first_meaning (cond b (Some help) (cond (bytes_eq word (codes "--version")) (Some version) None)) word [] ≡ Ok meant → Answers (word ∷ []) meant
+    help_or : (b : Bool) → (bytes_eq word (codes "--help") || bytes_eq word (codes "-h")) ≡ b
+        → first_meaning (cond b (Some help) (cond (bytes_eq word (codes "--version") || bytes_eq word (codes "-V")) (Some version) None)) word [] ≡ Ok meant → Answers (word ∷ []) meant
     help_or true is e =
-        subst (λ w. Answers (w ∷ []) meant) (sym ((bytes_eq-Decides word (codes "--help")).0 is)) (shows_help (sym (some_is help meant (ok_is help meant e))) help_answers)
-    help_or false is e = version_or (bytes_eq word (codes "--version")) refl e
+        let same : meant ≡ help = sym (some_is help meant (ok_is help meant e)) in
+        elim (or_case (bytes_eq word (codes "--help")) _ is) [
+          | inl is ↦ spelled (codes "--help") is (shows_help same help_answers)
+          | inr is ↦ spelled (codes "-h") is (shows_help same short_help_answers)
+        ]
+    help_or false is e = version_or (bytes_eq word (codes "--version") || bytes_eq word (codes "-V")) refl e
 
 pub answers : (words : List Word) (meant : Command) → meaning words ≡ Ok meant → Answers words meant
 unfolding meaning

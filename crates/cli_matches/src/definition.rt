@@ -1,8 +1,8 @@
 //! The command line as `clap` defines it.
 
-ghost use Rattle.std.specs.Prelude.{◌≡◌, IfOk, true};
+ghost use Rattle.std.specs.Prelude.{◌≡◌, IfOk, codes, true};
 ghost use Rattle.clap.specs.Words.{App, app_of, with_rule, with_subcommand};
-ghost use Rattle.cli_matches.specs.Definition.{Makes, check_app, command_app, demo_app, dump_app, flag_rule, line_app, names_rule, place_rule, program_app, unwind_app};
+ghost use Rattle.cli_matches.specs.Definition.{Makes, check_app, command_app, demo_app, entry_app, file_app, find_app, line_app, merge_app, names_rule, place_rule, program_app, rewriting_app, switch_rule, text_rule, unwind_app, with_common_options};
 
 use clap::{Arg, ArgAction, Command};
 use std::alloc::{AllocError, Global};
@@ -20,6 +20,20 @@ const DUMP: &str = "Print the rows of an object's ORC tables";
 
 const UNWIND: &str = "Print the frames of a stack, by an object's ORC tables";
 
+const SITES: &str = "Write an object with lists of its returns, calls through thunks and calls";
+
+const LIST: &str = "Print the site lists of an object";
+
+const ENTRY: &str = "Check code against the entry rules";
+
+const CFI: &str = "Check an object and write it with call frame information";
+
+const CFA: &str = "Print the call frame information of an object";
+
+const MERGE: &str = "Merge the rows of several objects' ORC tables into one table";
+
+const FIND: &str = "Print the row of a merged table that holds at an address";
+
 const DEMO: &str = "Make an object of N functions, check it, and print what it has";
 
 /// A command in the making, unless memory ran out. Each step hands that on, so that none is left by `?`
@@ -36,23 +50,45 @@ fn with_place<'a>(alloc: Global, command: Making<'a>, name: &'a str, help: &'a s
     }
 }
 
-/// With one more option that has no value.
-fn with_flag<'a>(
-    alloc: Global,
-    command: Making<'a>,
-    name: &'a str,
-    action: ArgAction,
-    help: &'a str,
-) -> Making<'a>
-    ensures { (app : App) → Makes command.entry app → Makes result (with_rule app (flag_rule name.entry.now action)) }
+/// With one more option that has no value, which is given by its long name alone.
+fn with_switch<'a>(alloc: Global, command: Making<'a>, name: &'a str, help: &'a str) -> Making<'a>
+    ensures { (app : App) → Makes command.entry app → Makes result (with_rule app (switch_rule name.entry.now)) }
 {
     match command {
-        Ok(command) => command.arg(Arg::new(alloc, name).long(name).action(action).help(help)),
+        Ok(command) => command.arg(
+            Arg::new(alloc, name)
+                .long(name)
+                .action(ArgAction::SetTrue)
+                .help(help),
+        ),
         Err(fault) => Err(fault),
     }
 }
 
-/// With the option of `check` that has a value.
+/// With one more option that asks for a text of the program, by its long name or by one letter.
+fn with_text<'a>(
+    alloc: Global,
+    command: Making<'a>,
+    name: &'a str,
+    letter: char,
+    action: ArgAction,
+    help: &'a str,
+) -> Making<'a>
+    ensures { (app : App) → Makes command.entry app → Makes result (with_rule app (text_rule name.entry.now letter action)) }
+{
+    match command {
+        Ok(command) => command.arg(
+            Arg::new(alloc, name)
+                .short(letter)
+                .long(name)
+                .action(action)
+                .help(help),
+        ),
+        Err(fault) => Err(fault),
+    }
+}
+
+/// With the option that has a value.
 fn with_names<'a>(alloc: Global, command: Making<'a>) -> Making<'a>
     ensures { (app : App) → Makes command.entry app → Makes result (with_rule app names_rule) }
 {
@@ -65,6 +101,19 @@ fn with_names<'a>(alloc: Global, command: Making<'a>) -> Making<'a>
         ),
         Err(fault) => Err(fault),
     }
+}
+
+/// With the options that each command has which checks an object.
+fn with_common_options<'a>(alloc: Global, command: Making<'a>) -> Making<'a>
+    ensures { (app : App) → Makes command.entry app → Makes result (with_common_options app) }
+{
+    let command = with_switch(
+        alloc,
+        command,
+        "all-opcodes",
+        "Read vector, virtualization and newer system instructions too",
+    );
+    with_names(alloc, command)
 }
 
 /// A command, whose words are `program`, those of the program and of the command, and its own.
@@ -82,88 +131,187 @@ fn command<'a>(
         .bin_name(program)
 }
 
+/// A command that asks for an object.
+fn of_file<'a>(
+    alloc: Global,
+    name: &'a str,
+    program: &str,
+    about: &'a str,
+) -> Result<Command<'a>, AllocError>
+    ensures { IfOk result (λ command. app_of command ≡ file_app name.entry.now) }
+{
+    let command = command(alloc, name, program, about);
+    with_place(alloc, command, "FILE", "The object")
+}
+
+/// With the places of a command that reads an object, and writes it to a file.
+fn with_objects<'a>(alloc: Global, command: Making<'a>) -> Making<'a>
+    ensures { (app : App) → Makes command.entry app
+        → Makes result (with_rule (with_rule app (place_rule (codes "IN"))) (place_rule (codes "OUT"))) }
+{
+    let command = with_place(
+        alloc,
+        command,
+        "IN",
+        "The object, an ELF64 relocatable file for x86-64",
+    );
+    with_place(
+        alloc,
+        command,
+        "OUT",
+        "The file to write, which may have the name IN",
+    )
+}
+
+/// A command that reads an object, and writes it to a file, with the common options alone.
+fn rewriting<'a>(
+    alloc: Global,
+    name: &'a str,
+    program: &str,
+    about: &'a str,
+) -> Result<Command<'a>, AllocError>
+    ensures { IfOk result (λ command. app_of command ≡ rewriting_app name.entry.now) }
+{
+    let command = command(alloc, name, program, about);
+    let command = with_objects(alloc, command);
+    with_common_options(alloc, command)
+}
+
 /// The command `check`, with its words and options.
 pub fn check<'a>(alloc: Global) -> Result<Command<'a>, AllocError>
     ensures { IfOk result (λ command. app_of command ≡ check_app) }
 {
     let check = command(alloc, "check", "objtool check", CHECK);
-    let check = with_place(
-        alloc,
-        check,
-        "IN",
-        "The object, an ELF64 relocatable file for x86-64",
-    );
-    let check = with_place(
-        alloc,
-        check,
-        "OUT",
-        "The file to write, which may have the name IN",
-    );
-    let check = with_flag(
+    let check = with_objects(alloc, check);
+    let check = with_switch(
         alloc,
         check,
         "fp",
-        ArgAction::SetTrue,
         "Check that each call is made with a frame pointer set up",
     );
-    let check = with_flag(
+    let check = with_switch(
         alloc,
         check,
         "retpoline",
-        ArgAction::SetTrue,
         "Check that no indirect branch is left outside listed places",
     );
-    let check = with_flag(
+    let check = with_switch(
         alloc,
         check,
         "rethunk",
-        ArgAction::SetTrue,
         "Check that no return instruction is left outside listed places",
     );
-    let check = with_flag(
+    let check = with_switch(
         alloc,
         check,
         "uaccess",
-        ArgAction::SetTrue,
         "Check that user access is off outside of listed functions",
     );
-    let check = with_flag(
+    let check = with_switch(
         alloc,
         check,
         "no-unreachable",
-        ArgAction::SetTrue,
         "Don't check that each instruction is reached",
     );
-    let check = with_flag(
-        alloc,
-        check,
-        "all-opcodes",
-        ArgAction::SetTrue,
-        "Read vector, virtualization and newer system instructions too",
-    );
-    with_names(alloc, check)
+    with_common_options(alloc, check)
 }
 
 /// The command `dump`, with its word.
 pub fn dump<'a>(alloc: Global) -> Result<Command<'a>, AllocError>
-    ensures { IfOk result (λ command. app_of command ≡ dump_app) }
+    ensures { IfOk result (λ command. app_of command ≡ file_app (codes "dump")) }
 {
-    let dump = command(alloc, "dump", "objtool dump", DUMP);
-    with_place(alloc, dump, "FILE", "The object")
+    of_file(alloc, "dump", "objtool dump", DUMP)
 }
 
 /// The command `unwind`, with its words.
 pub fn unwind<'a>(alloc: Global) -> Result<Command<'a>, AllocError>
     ensures { IfOk result (λ command. app_of command ≡ unwind_app) }
 {
-    let unwind = command(alloc, "unwind", "objtool unwind", UNWIND);
-    let unwind = with_place(alloc, unwind, "FILE", "The object");
+    let unwind = of_file(alloc, "unwind", "objtool unwind", UNWIND);
     with_place(
         alloc,
         unwind,
         "IMAGE",
         "The text that says the registers, the placement and the memory",
     )
+}
+
+/// The command `sites`, with its words and options.
+pub fn sites<'a>(alloc: Global) -> Result<Command<'a>, AllocError>
+    ensures { IfOk result (λ command. app_of command ≡ rewriting_app (codes "sites")) }
+{
+    rewriting(alloc, "sites", "objtool sites", SITES)
+}
+
+/// The command `list`, with its word.
+pub fn list<'a>(alloc: Global) -> Result<Command<'a>, AllocError>
+    ensures { IfOk result (λ command. app_of command ≡ file_app (codes "list")) }
+{
+    of_file(alloc, "list", "objtool list", LIST)
+}
+
+/// The command `entry`, with its word and options.
+pub fn entry<'a>(alloc: Global) -> Result<Command<'a>, AllocError>
+    ensures { IfOk result (λ command. app_of command ≡ entry_app) }
+{
+    let entry = command(alloc, "entry", "objtool entry", ENTRY);
+    let entry = with_place(alloc, entry, "IN", "The object to check");
+    let entry = with_switch(
+        alloc,
+        entry,
+        "noinstr",
+        "Check that code that isn't instrumented calls no code that is",
+    );
+    let entry = with_switch(
+        alloc,
+        entry,
+        "sls",
+        "Check that an INT3 stands behind each return and each indirect jump",
+    );
+    let entry = with_switch(
+        alloc,
+        entry,
+        "ibt",
+        "Check that functions whose address is taken begin with ENDBR",
+    );
+    with_common_options(alloc, entry)
+}
+
+/// The command `cfi`, with its words and options.
+pub fn cfi<'a>(alloc: Global) -> Result<Command<'a>, AllocError>
+    ensures { IfOk result (λ command. app_of command ≡ rewriting_app (codes "cfi")) }
+{
+    rewriting(alloc, "cfi", "objtool cfi", CFI)
+}
+
+/// The command `cfa`, with its word.
+pub fn cfa<'a>(alloc: Global) -> Result<Command<'a>, AllocError>
+    ensures { IfOk result (λ command. app_of command ≡ file_app (codes "cfa")) }
+{
+    of_file(alloc, "cfa", "objtool cfa", CFA)
+}
+
+/// The command `merge`, with its words.
+pub fn merge<'a>(alloc: Global) -> Result<Command<'a>, AllocError>
+    ensures { IfOk result (λ command. app_of command ≡ merge_app) }
+{
+    let merge = command(alloc, "merge", "objtool merge", MERGE);
+    let merge = with_place(
+        alloc,
+        merge,
+        "LAYOUT",
+        "The text that names the objects and says where their sections lie",
+    );
+    with_place(alloc, merge, "OUT", "The file to write")
+}
+
+/// The command `find`, with its words.
+pub fn find<'a>(alloc: Global) -> Result<Command<'a>, AllocError>
+    ensures { IfOk result (λ command. app_of command ≡ find_app) }
+{
+    let find = command(alloc, "find", "objtool find", FIND);
+    let find = with_place(alloc, find, "TABLE", "The merged table");
+    with_place(alloc, find, "ADDR", "The address, in hexadecimal digits")
 }
 
 /// The command `demo`, with its word.
@@ -209,7 +357,21 @@ pub fn command_line<'a>(alloc: Global) -> Result<Command<'a>, AllocError>
     let line = with_command(Ok(program(alloc)), check(alloc));
     let line = with_command(line, dump(alloc));
     let line = with_command(line, unwind(alloc));
+    let line = with_command(line, sites(alloc));
+    let line = with_command(line, list(alloc));
+    let line = with_command(line, entry(alloc));
+    let line = with_command(line, cfi(alloc));
+    let line = with_command(line, cfa(alloc));
+    let line = with_command(line, merge(alloc));
+    let line = with_command(line, find(alloc));
     let line = with_command(line, demo(alloc));
-    let line = with_flag(alloc, line, "help", ArgAction::Help, "Print help");
-    with_flag(alloc, line, "version", ArgAction::Version, "Print version")
+    let line = with_text(alloc, line, "help", 'h', ArgAction::Help, "Print help");
+    with_text(
+        alloc,
+        line,
+        "version",
+        'V',
+        ArgAction::Version,
+        "Print version",
+    )
 }

@@ -3,15 +3,19 @@
 ghost use Rattle.std.specs.Prelude.{◌≡◌, Ok, Option, Some, codes, map, string_bytes, option_and_then, option_map, IfOk, IfErr, ℕ, Bool};
 ghost use Rattle.clap.specs.Words.{first_of, subcommand_rows_of};
 ghost use Rattle.cli_words.specs.declared.options.CheckOptions.{CheckOptions};
-ghost use Rattle.cli_words.specs.Grammar.{Command as Meant, check, command_in, demo, dump, IsFaultOf, meaning, unwind};
-ghost use Rattle.cli_words.specs.Numbers.{number_of};
+ghost use Rattle.cli_words.specs.declared.options.EntryRules.{EntryRules};
+ghost use Rattle.x86_map.specs.declared.map.Map.{Map as MapKind};
+ghost use Rattle.cli_words.specs.Grammar.{Command as Meant, cfa, cfi, check, command_in, demo, dump, entry, find, IsFaultOf, list, meaning, merge, sites, unwind};
+ghost use Rattle.cli_words.specs.Numbers.{address_of, number_of};
 ghost use Rattle.cli_words.specs.Words.{Word};
-ghost use Rattle.cli_matches.specs.Matches.{Says, SaysCheck, SaysSwitch, request_of, rows_in};
+ghost use Rattle.cli_matches.specs.Matches.{Says, SaysCheck, SaysEntry, SaysPair, SaysRewriting, SaysSwitch, is_asked, request_of, rows_in};
 
 use crate::definition::command_line;
 use clap::ArgMatches;
 use clap::error::ErrorKind;
-use cli_words::{CheckOptions, Command, Map, UsageFault, judge_words, number_of};
+use cli_words::{
+    CheckOptions, Command, EntryRules, Map, UsageFault, address_of, judge_words, number_of,
+};
 use ot_base::Options;
 use std::alloc::{AllocError, Global};
 
@@ -32,10 +36,9 @@ fn is_given(found: &ArgMatches<'_>, name: &str) -> bool
     found.get_flag(name)
 }
 
-/// The opcode map that the options of `check` ask for.
+/// The opcode map that the options ask for.
 fn map_of(found: &ArgMatches<'_>) -> Map
-    ensures { (input output : Word) (options : CheckOptions) (names : Option Word)
-        → SaysCheck (rows_in found.now) input output options names → result ≡ options.map }
+    ensures { (map : MapKind) → SaysSwitch (rows_in found.now) (codes "all-opcodes") (is_asked map) → result ≡ map }
 {
     if is_given(found, "all-opcodes") {
         Map::Whole
@@ -44,7 +47,7 @@ fn map_of(found: &ArgMatches<'_>) -> Map
     }
 }
 
-/// The rules that they ask for.
+/// The rules that the options of `check` ask for.
 fn rules_of(found: &ArgMatches<'_>) -> Options
     ensures { (input output : Word) (options : CheckOptions) (names : Option Word)
         → SaysCheck (rows_in found.now) input output options names → result ≡ options.rules }
@@ -58,14 +61,33 @@ fn rules_of(found: &ArgMatches<'_>) -> Options
     }
 }
 
-/// What they ask for.
-fn options_of(found: &ArgMatches<'_>) -> CheckOptions
-    ensures { (input output : Word) (options : CheckOptions) (names : Option Word)
-        → SaysCheck (rows_in found.now) input output options names → result ≡ options }
+/// What the words behind `check`, `sites` or `cfi` give, but for the rules that `check` asks for.
+#[derive(Drop)]
+struct Rewriting {
+    input: String,
+    output: String,
+    map: Map,
+    names: Option<String>,
+}
+
+/// What such a command has in these matches.
+fn rewriting_of(alloc: Global, found: &ArgMatches<'_>) -> Result<Option<Rewriting>, AllocError>
+    ensures { IfOk result (λ read. (input output : Word) (map : MapKind) (names : Option Word)
+        → SaysRewriting (rows_in found.now) input output map names
+        → option_map {U = Word × Word × MapKind × Option Word} (λ r. (string_bytes r.input, string_bytes r.output, r.map, option_map string_bytes r.names)) read
+        ≡ Some (input, output, map, names)) }
 {
-    CheckOptions {
-        map: map_of(found),
-        rules: rules_of(found),
+    let input = text_of(alloc, found, "IN")?;
+    let output = text_of(alloc, found, "OUT")?;
+    let names = text_of(alloc, found, "names")?;
+    match (input, output) {
+        (Some(input), Some(output)) => Ok(Some(Rewriting {
+            input,
+            output,
+            map: map_of(found),
+            names,
+        })),
+        _ => Ok(None),
     }
 }
 
@@ -75,17 +97,103 @@ fn check_of(alloc: Global, found: &ArgMatches<'_>) -> Result<Option<Command>, Al
         → SaysCheck (rows_in found.now) input output options names
         → option_map command_in read ≡ Some (check input output options names)) }
 {
-    let input = text_of(alloc, found, "IN")?;
-    let output = text_of(alloc, found, "OUT")?;
-    let names = text_of(alloc, found, "names")?;
-    match (input, output) {
-        (Some(input), Some(output)) => Ok(Some(Command::Check {
+    match rewriting_of(alloc, found)? {
+        Some(
+            Rewriting {
+                input,
+                output,
+                map,
+                names,
+            },
+        ) => Ok(Some(Command::Check {
             input,
             output,
-            options: options_of(found),
+            options: CheckOptions {
+                map,
+                rules: rules_of(found),
+            },
             names,
         })),
-        _ => Ok(None),
+        None => Ok(None),
+    }
+}
+
+/// The command of `sites`.
+fn sites_of(alloc: Global, found: &ArgMatches<'_>) -> Result<Option<Command>, AllocError>
+    ensures { IfOk result (λ read. (input output : Word) (map : MapKind) (names : Option Word)
+        → SaysRewriting (rows_in found.now) input output map names
+        → option_map command_in read ≡ Some (sites input output map names)) }
+{
+    match rewriting_of(alloc, found)? {
+        Some(
+            Rewriting {
+                input,
+                output,
+                map,
+                names,
+            },
+        ) => Ok(Some(Command::Sites {
+            input,
+            output,
+            map,
+            names,
+        })),
+        None => Ok(None),
+    }
+}
+
+/// The command of `cfi`.
+fn cfi_of(alloc: Global, found: &ArgMatches<'_>) -> Result<Option<Command>, AllocError>
+    ensures { IfOk result (λ read. (input output : Word) (map : MapKind) (names : Option Word)
+        → SaysRewriting (rows_in found.now) input output map names
+        → option_map command_in read ≡ Some (cfi input output map names)) }
+{
+    match rewriting_of(alloc, found)? {
+        Some(
+            Rewriting {
+                input,
+                output,
+                map,
+                names,
+            },
+        ) => Ok(Some(Command::Cfi {
+            input,
+            output,
+            map,
+            names,
+        })),
+        None => Ok(None),
+    }
+}
+
+/// The entry rules that the options of `entry` ask for.
+fn entry_rules_of(found: &ArgMatches<'_>) -> EntryRules
+    ensures { (input : Word) (rules : EntryRules) (map : MapKind) (names : Option Word)
+        → SaysEntry (rows_in found.now) input rules map names → result ≡ rules }
+{
+    EntryRules {
+        noinstr: is_given(found, "noinstr"),
+        sls: is_given(found, "sls"),
+        ibt: is_given(found, "ibt"),
+    }
+}
+
+/// The command of `entry`.
+fn entry_of(alloc: Global, found: &ArgMatches<'_>) -> Result<Option<Command>, AllocError>
+    ensures { IfOk result (λ read. (input : Word) (rules : EntryRules) (map : MapKind) (names : Option Word)
+        → SaysEntry (rows_in found.now) input rules map names
+        → option_map command_in read ≡ Some (entry input rules map names)) }
+{
+    let input = text_of(alloc, found, "IN")?;
+    let names = text_of(alloc, found, "names")?;
+    match input {
+        Some(input) => Ok(Some(Command::Entry {
+            input,
+            rules: entry_rules_of(found),
+            map: map_of(found),
+            names,
+        })),
+        None => Ok(None),
     }
 }
 
@@ -100,16 +208,80 @@ fn dump_of(alloc: Global, found: &ArgMatches<'_>) -> Result<Option<Command>, All
     }
 }
 
+/// The command of `list`.
+fn list_of(alloc: Global, found: &ArgMatches<'_>) -> Result<Option<Command>, AllocError>
+    ensures { IfOk result (λ read. (file : Word) → first_of (codes "FILE") (rows_in found.now) ≡ Some file
+        → option_map command_in read ≡ Some (list file)) }
+{
+    match text_of(alloc, found, "FILE")? {
+        Some(file) => Ok(Some(Command::List { file })),
+        None => Ok(None),
+    }
+}
+
+/// The command of `cfa`.
+fn cfa_of(alloc: Global, found: &ArgMatches<'_>) -> Result<Option<Command>, AllocError>
+    ensures { IfOk result (λ read. (file : Word) → first_of (codes "FILE") (rows_in found.now) ≡ Some file
+        → option_map command_in read ≡ Some (cfa file)) }
+{
+    match text_of(alloc, found, "FILE")? {
+        Some(file) => Ok(Some(Command::Cfa { file })),
+        None => Ok(None),
+    }
+}
+
+/// Two texts, where the matches have both.
+fn pair_of(
+    alloc: Global,
+    found: &ArgMatches<'_>,
+    first: &str,
+    second: &str,
+) -> Result<Option<(String, String)>, AllocError>
+    ensures { IfOk result (λ pair. (one other : Word) → SaysPair (rows_in found.now) first.now second.now one other
+        → option_map {U = Word × Word} (λ pair. (string_bytes pair.0, string_bytes pair.1)) pair ≡ Some (one, other)) }
+{
+    let first = text_of(alloc, found, first)?;
+    let second = text_of(alloc, found, second)?;
+    match (first, second) {
+        (Some(first), Some(second)) => Ok(Some((first, second))),
+        _ => Ok(None),
+    }
+}
+
 /// The command of `unwind`.
 fn unwind_of(alloc: Global, found: &ArgMatches<'_>) -> Result<Option<Command>, AllocError>
-    ensures { IfOk result (λ read. (file image : Word) → first_of (codes "FILE") (rows_in found.now) ≡ Some file
-        → first_of (codes "IMAGE") (rows_in found.now) ≡ Some image → option_map command_in read ≡ Some (unwind file image)) }
+    ensures { IfOk result (λ read. (file image : Word) → SaysPair (rows_in found.now) (codes "FILE") (codes "IMAGE") file image
+        → option_map command_in read ≡ Some (unwind file image)) }
 {
-    let file = text_of(alloc, found, "FILE")?;
-    let image = text_of(alloc, found, "IMAGE")?;
-    match (file, image) {
-        (Some(file), Some(image)) => Ok(Some(Command::Unwind { file, image })),
-        _ => Ok(None),
+    match pair_of(alloc, found, "FILE", "IMAGE")? {
+        Some((file, image)) => Ok(Some(Command::Unwind { file, image })),
+        None => Ok(None),
+    }
+}
+
+/// The command of `merge`.
+fn merge_of(alloc: Global, found: &ArgMatches<'_>) -> Result<Option<Command>, AllocError>
+    ensures { IfOk result (λ read. (layout output : Word) → SaysPair (rows_in found.now) (codes "LAYOUT") (codes "OUT") layout output
+        → option_map command_in read ≡ Some (merge layout output)) }
+{
+    match pair_of(alloc, found, "LAYOUT", "OUT")? {
+        Some((layout, output)) => Ok(Some(Command::Merge { layout, output })),
+        None => Ok(None),
+    }
+}
+
+/// The command of `find`.
+fn find_of(alloc: Global, found: &ArgMatches<'_>) -> Result<Option<Command>, AllocError>
+    ensures { IfOk result (λ read. (table text : Word) (address : ℕ)
+        → SaysPair (rows_in found.now) (codes "TABLE") (codes "ADDR") table text → address_of text ≡ Some address
+        → option_map command_in read ≡ Some (find table address)) }
+{
+    match pair_of(alloc, found, "TABLE", "ADDR")? {
+        Some((table, text)) => match address_of(text.as_str()) {
+            Some(address) => Ok(Some(Command::Find { table, address })),
+            None => Ok(None),
+        },
+        None => Ok(None),
     }
 }
 
@@ -146,6 +318,13 @@ fn named_command(
         "check" => check_of(alloc, found),
         "dump" => dump_of(alloc, found),
         "unwind" => unwind_of(alloc, found),
+        "sites" => sites_of(alloc, found),
+        "list" => list_of(alloc, found),
+        "entry" => entry_of(alloc, found),
+        "cfi" => cfi_of(alloc, found),
+        "cfa" => cfa_of(alloc, found),
+        "merge" => merge_of(alloc, found),
+        "find" => find_of(alloc, found),
         "demo" => Ok(demo_of(found)),
         _ => Ok(None),
     }

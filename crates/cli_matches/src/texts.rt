@@ -14,11 +14,18 @@ Commands:
   check   Check an object, and write it with its ORC tables added
   dump    Print the rows of an object's ORC tables
   unwind  Print the frames of a stack, by an object's ORC tables
+  sites   Write an object with lists of its returns, calls through thunks and calls
+  list    Print the site lists of an object
+  entry   Check code against the entry rules
+  cfi     Check an object and write it with call frame information
+  cfa     Print the call frame information of an object
+  merge   Merge the rows of several objects' ORC tables into one table
+  find    Print the row of a merged table that holds at an address
   demo    Make an object of N functions, check it, and print what it has
 
 Options:
-      --help     Print help
-      --version  Print version
+  -h, --help     Print help
+  -V, --version  Print version
 
 Check an object, and write it with its ORC tables added
 
@@ -51,6 +58,74 @@ Usage: objtool unwind <FILE> <IMAGE>
 Arguments:
   <FILE>   The object
   <IMAGE>  The text that says the registers, the placement and the memory
+
+Write an object with lists of its returns, calls through thunks and calls
+
+Usage: objtool sites [OPTIONS] <IN> <OUT>
+
+Arguments:
+  <IN>   The object, an ELF64 relocatable file for x86-64
+  <OUT>  The file to write, which may have the name IN
+
+Options:
+      --all-opcodes   Read vector, virtualization and newer system instructions too
+      --names=<FILE>  Add the function names of FILE to the lists that are built in
+
+Print the site lists of an object
+
+Usage: objtool list <FILE>
+
+Arguments:
+  <FILE>  The object
+
+Check code against the entry rules
+
+Usage: objtool entry [OPTIONS] <IN>
+
+Arguments:
+  <IN>  The object to check
+
+Options:
+      --noinstr       Check that code that isn't instrumented calls no code that is
+      --sls           Check that an INT3 stands behind each return and each indirect jump
+      --ibt           Check that functions whose address is taken begin with ENDBR
+      --all-opcodes   Read vector, virtualization and newer system instructions too
+      --names=<FILE>  Add the function names of FILE to the lists that are built in
+
+Check an object and write it with call frame information
+
+Usage: objtool cfi [OPTIONS] <IN> <OUT>
+
+Arguments:
+  <IN>   The object, an ELF64 relocatable file for x86-64
+  <OUT>  The file to write, which may have the name IN
+
+Options:
+      --all-opcodes   Read vector, virtualization and newer system instructions too
+      --names=<FILE>  Add the function names of FILE to the lists that are built in
+
+Print the call frame information of an object
+
+Usage: objtool cfa <FILE>
+
+Arguments:
+  <FILE>  The object
+
+Merge the rows of several objects' ORC tables into one table
+
+Usage: objtool merge <LAYOUT> <OUT>
+
+Arguments:
+  <LAYOUT>  The text that names the objects and says where their sections lie
+  <OUT>     The file to write
+
+Print the row of a merged table that holds at an address
+
+Usage: objtool find <TABLE> <ADDR>
+
+Arguments:
+  <TABLE>  The merged table
+  <ADDR>   The address, in hexadecimal digits
 
 Make an object of N functions, check it, and print what it has
 

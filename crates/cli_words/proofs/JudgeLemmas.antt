@@ -1,5 +1,5 @@
 -- The first fault of some words, from that of the words that are left.
-use Rattle.std.proofs.Common.{◌≡◌, ℕ, ◌+◌, ◌<◌, ◌≤◌, List, [], ◌∷◌, ◌++◌, Option, Some, None, length, take, drop, get_or, map, refl, sym, ap, ◌∙◌, arith, subst, string_bytes}
+use Rattle.std.proofs.Common.{◌≡◌, ℕ, ◌+◌, ◌<◌, ◌≤◌, List, [], ◌∷◌, ◌++◌, Option, None, length, take, drop, get_or, map, sym, ap, ◌∙◌, arith}
 use Rattle.std.proofs.lemmas.List.{at_drop_more, at_drop_all, take_more, get_or-map, length-take-le, length-map, take-map}
 use Rattle.cli_words.specs.declared.word.CommandWord.{CommandWord}
 use Rattle.cli_words.specs.declared.fault.UsageKind.{UsageKind}

@@ -1,26 +1,34 @@
 -- What a list of words means: a command, or the first word at fault and what is wrong with it.
-use Rattle.std.specs.Prelude.{◌≡◌, ℕ, ◌+◌, ◌==◌, ◌&&◌, ◌||◌, not, Bool, true, false, List, [], ◌∷◌, ◌++◌, length, nat_le, codes, Option, Some, None, Result, Ok, Err, is_some, if◌then◌else◌, bytes_eq, option_map, string_bytes}
+use Rattle.std.specs.Prelude.{◌≡◌, ℕ, ◌+◌, ◌==◌, ◌&&◌, ◌||◌, not, Bool, false, List, [], ◌∷◌, ◌++◌, length, nat_le, codes, Option, Some, None, Result, Ok, Err, is_some, if◌then◌else◌, bytes_eq, option_map, string_bytes}
 use Rattle.std.specs.List.{list_any}
 use Rattle.ot_base.specs.declared.options.Options.{Options}
 use Rattle.x86_map.specs.declared.map.Map.{Map}
 use Rattle.x86_map.specs.declared.map.Map.TheVariants.{Base, Whole}
 use Rattle.cli_words.specs.declared.options.CheckOptions.{CheckOptions}
+use Rattle.cli_words.specs.declared.options.EntryRules.{EntryRules}
 use Rattle.cli_words.specs.declared.word.CommandWord.{CommandWord}
-use Rattle.cli_words.specs.declared.word.CommandWord.TheVariants.{Check, Dump, Unwind, Demo}
+use Rattle.cli_words.specs.declared.word.CommandWord.TheVariants as the
 use Rattle.cli_words.specs.declared.fault.UsageKind.{UsageKind}
 use Rattle.cli_words.specs.declared.fault.UsageKind.TheVariants.{NoCommand, UnknownCommand, UnknownOption, Repeated, Empty, BadNumber, Extra, Missing}
 use Rattle.cli_words.specs.declared.fault.UsageFault.{UsageFault}
 use Rattle.cli_words.specs.declared.fault.UsageFault.TheVariants as fault
 use Rattle.cli_words.specs.declared.command.Command as declared
 use Rattle.cli_words.specs.declared.command.Command.TheVariants as variant
-use Rattle.cli_words.specs.Numbers.{number_of}
-use Rattle.cli_words.specs.Words.{Word, command_named, gives, is_names_option, is_option, is_option_of, is_same_option, names_file, names_in, places_of}
+use Rattle.cli_words.specs.Numbers.{address_of, number_of}
+use Rattle.cli_words.specs.Words.{Word, command_named, gives, is_option, is_option_of, is_same_option, names_file, names_in, places_of}
 
 -- a command, with the names of its files
 pub data Command : Type 0 where
   check : (input output : Word) (options : CheckOptions) (names : Option Word) → Command
   dump : (file : Word) → Command
   unwind : (file image : Word) → Command
+  sites : (input output : Word) (map : Map) (names : Option Word) → Command
+  list : (file : Word) → Command
+  entry : (input : Word) (rules : EntryRules) (map : Map) (names : Option Word) → Command
+  cfi : (input output : Word) (map : Map) (names : Option Word) → Command
+  cfa : (file : Word) → Command
+  merge : (layout output : Word) → Command
+  find : (table : Word) (address : ℕ) → Command
   demo : (n : ℕ) → Command
   help : Command
   version : Command
@@ -30,6 +38,13 @@ abbrev pub command_in : declared.Command → Command
 command_in (variant.Check input output options names) = check (string_bytes input) (string_bytes output) options (option_map string_bytes names)
 command_in (variant.Dump file) = dump (string_bytes file)
 command_in (variant.Unwind file image) = unwind (string_bytes file) (string_bytes image)
+command_in (variant.Sites input output map names) = sites (string_bytes input) (string_bytes output) map (option_map string_bytes names)
+command_in (variant.List file) = list (string_bytes file)
+command_in (variant.Entry input rules map names) = entry (string_bytes input) rules map (option_map string_bytes names)
+command_in (variant.Cfi input output map names) = cfi (string_bytes input) (string_bytes output) map (option_map string_bytes names)
+command_in (variant.Cfa file) = cfa (string_bytes file)
+command_in (variant.Merge layout output) = merge (string_bytes layout) (string_bytes output)
+command_in (variant.Find table address) = find (string_bytes table) address
 command_in (variant.Demo n) = demo n
 command_in variant.Help = help
 command_in variant.Version = version
@@ -43,19 +58,18 @@ option_fault command before word =
     else if bytes_eq word (codes "--names=") then Some Empty
     else None
 
--- `demo` asks for a number
-abbrev pub is_bad_number : CommandWord → Word → Bool
-is_bad_number Demo word = not (is_some (number_of word))
-is_bad_number Check word = false
-is_bad_number Dump word = false
-is_bad_number Unwind word = false
+-- `demo` asks for a number, and `find` for an address behind the name of a table; places are counted from 0
+abbrev pub is_bad_number : CommandWord → ℕ → Word → Bool
+is_bad_number the.Demo place word = not (is_some (number_of word))
+is_bad_number the.Find place word = place == 1 && not (is_some (address_of word))
+is_bad_number _ place word = false
 
--- The same of a name or a number: the command has all that it asks for, it is empty, it is no number.
+-- The same of a name or a number: the command has all that it asks for, it is empty, it is no number or no address.
 abbrev pub name_fault : CommandWord → List Word → Word → Option UsageKind
 name_fault command before word =
     if nat_le (places_of command) (length (names_in before)) then Some Extra
     else if length word == 0 then Some Empty
-    else if is_bad_number command word then Some BadNumber
+    else if is_bad_number command (length (names_in before)) word then Some BadNumber
     else None
 
 unfoldable pub word_fault : CommandWord → List Word → Word → Option UsageKind
@@ -89,12 +103,27 @@ map_in words = if gives (codes "--all-opcodes") words then Whole else Base
 abbrev pub options_in : List Word → CheckOptions
 options_in words = record { map = map_in words; rules = rules_in words }
 
+-- the entry rules that the options of `entry` ask for
+abbrev pub entry_rules_in : List Word → EntryRules
+entry_rules_in words = record {
+  noinstr = gives (codes "--noinstr") words;
+  sls = gives (codes "--sls") words;
+  ibt = gives (codes "--ibt") words;
+}
+
 -- what a command asks for with these names or numbers and these options, where none is missing
 unfoldable pub asked : CommandWord → List Word → List Word → Option Command
-asked Check (input ∷ output ∷ []) words = Some (check input output (options_in words) (names_file words))
-asked Dump (file ∷ []) words = Some (dump file)
-asked Unwind (file ∷ image ∷ []) words = Some (unwind file image)
-asked Demo (n ∷ []) words = option_map demo (number_of n)
+asked the.Check (input ∷ output ∷ []) words = Some (check input output (options_in words) (names_file words))
+asked the.Dump (file ∷ []) words = Some (dump file)
+asked the.Unwind (file ∷ image ∷ []) words = Some (unwind file image)
+asked the.Sites (input ∷ output ∷ []) words = Some (sites input output (map_in words) (names_file words))
+asked the.List (file ∷ []) words = Some (list file)
+asked the.Entry (input ∷ []) words = Some (entry input (entry_rules_in words) (map_in words) (names_file words))
+asked the.Cfi (input ∷ output ∷ []) words = Some (cfi input output (map_in words) (names_file words))
+asked the.Cfa (file ∷ []) words = Some (cfa file)
+asked the.Merge (layout ∷ output ∷ []) words = Some (merge layout output)
+asked the.Find (table ∷ address ∷ []) words = option_map (find table) (address_of address)
+asked the.Demo (n ∷ []) words = option_map demo (number_of n)
 asked command names words = None
 
 abbrev pub or_missing : Option Command → ℕ → Result Command (ℕ × UsageKind)
@@ -109,9 +138,12 @@ unless None meaning = meaning
 unfoldable pub line_meaning : CommandWord → List Word → Result Command (ℕ × UsageKind)
 line_meaning command words = unless (first_fault command [] words) (or_missing (asked command (names_in words) words) (length words + 1))
 
--- `--help` and `--version`, where no other word stands beside them
+-- `--help` and `--version`, or `-h` and `-V`, where no other word stands beside them
 abbrev pub lone_meaning : Word → List Word → Option Command
-lone_meaning word [] = if bytes_eq word (codes "--help") then Some help else if bytes_eq word (codes "--version") then Some version else None
+lone_meaning word [] =
+    if bytes_eq word (codes "--help") || bytes_eq word (codes "-h") then Some help
+    else if bytes_eq word (codes "--version") || bytes_eq word (codes "-V") then Some version
+    else None
 lone_meaning word (next ∷ rest) = None
 
 abbrev pub command_meaning : Option CommandWord → List Word → Result Command (ℕ × UsageKind)

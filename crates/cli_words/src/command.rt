@@ -1,4 +1,5 @@
-use crate::options::CheckOptions;
+use crate::options::{CheckOptions, EntryRules};
+use x86_map::Map;
 
 /// What the words of a command line ask for.
 #[derive(Debug, Drop)]
@@ -20,12 +21,56 @@ pub enum Command {
         file: String,
         image: String,
     },
+    /// `sites IN OUT` and its options: write the object `input` to `output` with lists of its returns, calls
+    /// through thunks and calls.
+    Sites {
+        input: String,
+        output: String,
+        map: Map,
+        /// The file of function names, where one is given.
+        names: Option<String>,
+    },
+    /// `list FILE`: print the site lists of an object.
+    List {
+        file: String,
+    },
+    /// `entry IN` and its options: check the code of the object `input` against the entry rules.
+    Entry {
+        input: String,
+        rules: EntryRules,
+        map: Map,
+        /// The file of function names, where one is given.
+        names: Option<String>,
+    },
+    /// `cfi IN OUT` and its options: check the object `input`, and write it to `output` with call frame
+    /// information.
+    Cfi {
+        input: String,
+        output: String,
+        map: Map,
+        /// The file of function names, where one is given.
+        names: Option<String>,
+    },
+    /// `cfa FILE`: print the call frame information of an object.
+    Cfa {
+        file: String,
+    },
+    /// `merge LAYOUT OUT`: write one table of the rows of all objects that the text `layout` names.
+    Merge {
+        layout: String,
+        output: String,
+    },
+    /// `find TABLE ADDR`: print the row of a merged table that holds at an address.
+    Find {
+        table: String,
+        address: u64,
+    },
     /// `demo N`: check an object of `n` functions that is made up, from 0 to 100,000.
     Demo {
         n: u32,
     },
-    /// `--help`.
+    /// `--help`, or `-h`.
     Help,
-    /// `--version`.
+    /// `--version`, or `-V`.
     Version,
 }

@@ -16,7 +16,8 @@ pub enum UsageKind {
     Repeated,
     /// A name is empty.
     Empty,
-    /// A number isn't one from 0 to 100,000 in decimal digits, without zeros in front.
+    /// A number isn't one from 0 to 100,000 in decimal digits, without zeros in front, or an address isn't
+    /// 1 to 16 lower-case hexadecimal digits.
     BadNumber,
     /// The command takes no more names or numbers.
     Extra,

@@ -6,7 +6,7 @@ ghost use Rattle.cli_words.specs.Grammar.{first_fault, is_bad_number, name_fault
 ghost use Rattle.cli_words.specs.Words.{is_same_option, names_in};
 
 use crate::fault::UsageKind;
-use crate::number::number_of;
+use crate::number::{address_of, number_of};
 use crate::word::{CommandWord, is_option, is_same_option};
 
 /// Whether an option stands among these words.
@@ -45,13 +45,15 @@ fn option_fault(command: CommandWord, before: &[String], word: &str) -> Option<U
     }
 }
 
-/// Whether the command asks for a number, and the word isn't one.
-fn is_bad_number(command: CommandWord, word: &str) -> bool
-    ensures { result ≡ is_bad_number command word.now }
+/// Whether the command asks for a number or an address at this place, counted from 0, and the word isn't
+/// one.
+fn is_bad_number(command: CommandWord, place: usize, word: &str) -> bool
+    ensures { result ≡ is_bad_number command place word.now }
 {
     match command {
         CommandWord::Demo => number_of(word).is_none(),
-        CommandWord::Check | CommandWord::Dump | CommandWord::Unwind => false,
+        CommandWord::Find => place == 1 && address_of(word).is_none(),
+        _ => false,
     }
 }
 
@@ -59,11 +61,12 @@ fn is_bad_number(command: CommandWord, word: &str) -> bool
 fn name_fault(command: CommandWord, before: &[String], word: &str) -> Option<UsageKind>
     ensures { result ≡ name_fault command (map string_bytes before.now) word.now }
 {
-    if command.places() <= count_names(before) {
+    let place = count_names(before);
+    if command.places() <= place {
         Some(UsageKind::Extra)
     } else if word.is_empty() {
         Some(UsageKind::Empty)
-    } else if is_bad_number(command, word) {
+    } else if is_bad_number(command, place, word) {
         Some(UsageKind::BadNumber)
     } else {
         None

@@ -6,7 +6,7 @@ ghost use Rattle.cli_words.specs.Words.{Word, names_in};
 
 use crate::fault::{UsageFault, UsageKind};
 use crate::judge::first_fault;
-use crate::number::number_of;
+use crate::number::{address_of, number_of};
 use crate::word::{CommandWord, command_named, is_option};
 use std::alloc::{AllocError, Global};
 
@@ -27,9 +27,11 @@ fn is_complete(command: CommandWord, names: &[&str]) -> bool
     ensures { (words : List Word) → result ≡ is_some (asked command (map (λ name. name.now) names.now) words) }
 {
     match (command, names) {
-        (CommandWord::Check, [_, _]) => true,
-        (CommandWord::Dump, [_]) => true,
-        (CommandWord::Unwind, [_, _]) => true,
+        (CommandWord::Check | CommandWord::Sites | CommandWord::Cfi, [_, _]) => true,
+        (CommandWord::Dump | CommandWord::List | CommandWord::Entry | CommandWord::Cfa, [_]) =>
+            true,
+        (CommandWord::Unwind | CommandWord::Merge, [_, _]) => true,
+        (CommandWord::Find, [_, address]) => address_of(address).is_some(),
         (CommandWord::Demo, [n]) => number_of(n).is_some(),
         _ => false,
     }
@@ -59,16 +61,16 @@ fn judge_line(alloc: Global, command: CommandWord, words: &[String]) -> Result<(
 fn is_lone(word: &str, words: &[String]) -> bool
     ensures { result ≡ is_some (lone_meaning word.now (map string_bytes words.now)) }
 {
-    words.is_empty() && (word == "--help" || word == "--version")
+    words.is_empty() && matches!(word, "--help" | "-h" | "--version" | "-V")
 }
 
 /// Whether the words of a command line, which stand here without the program's name, mean a command; or
 /// the first of them that is at fault, and what is wrong with it.
 ///
-/// The first word is a command word. Of the others those that begin with `-` are options, which `check`
-/// alone has, and the rest are names or numbers; they may be mixed. The words are judged from left to
-/// right. At one word `UnknownCommand`, `UnknownOption`, `Repeated`, `Extra`, `Empty` and `BadNumber` are
-/// tested in this order; that a word is missing is found last.
+/// The first word is a command word. Of the others those that begin with `-` are options, which `check`,
+/// `sites`, `entry` and `cfi` alone have, and the rest are names or numbers; they may be mixed. The words
+/// are judged from left to right. At one word `UnknownCommand`, `UnknownOption`, `Repeated`, `Extra`,
+/// `Empty` and `BadNumber` are tested in this order; that a word is missing is found last.
 #[tactic(auto, unfolding(crate::specs::Grammar::meaning))]
 pub fn judge_words(alloc: Global, words: &[String]) -> Result<(), UsageFault>
     ensures ok { OnOk result (is_ok (meaning (map string_bytes words.now)) ≡ true) }

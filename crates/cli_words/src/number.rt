@@ -1,8 +1,8 @@
-//! The number of `demo N`.
+//! The number of `demo N`, and the address of `find TABLE ADDR`.
 
 ghost use Rattle.std.specs.Prelude.{◌≡◌};
 ghost use Rattle.std.specs.List.{list_all};
-ghost use Rattle.cli_words.specs.Numbers.{is_digit, is_numeral, number_of};
+ghost use Rattle.cli_words.specs.Numbers.{address_of, is_address, is_digit, is_hexadecimal_digit, is_numeral, number_of};
 
 /// The most functions that an object may have which is made up.
 const MOST: u32 = 100_000;
@@ -38,6 +38,41 @@ pub fn number_of(word: &str) -> Option<u32>
     }
     match word.parse::<u32>() {
         Ok(number) => (number <= MOST).then_some(number),
+        Err(_) => None,
+    }
+}
+
+/// Whether a byte is a lower-case hexadecimal digit.
+fn is_hexadecimal_digit(byte: u8) -> bool
+    ensures { result ≡ is_hexadecimal_digit byte }
+{
+    is_digit(byte) || b'a' <= byte && byte <= b'f'
+}
+
+/// Whether each byte is a lower-case hexadecimal digit.
+fn are_hexadecimal_digits(word: &[u8]) -> bool
+    ensures { result ≡ list_all is_hexadecimal_digit word.now }
+{
+    word.iter().all(|byte| is_hexadecimal_digit(*byte))
+}
+
+/// Whether a word is 1 to 16 lower-case hexadecimal digits.
+fn is_address(word: &[u8]) -> bool
+    ensures { result ≡ is_address word.now }
+{
+    !word.is_empty() && word.len() <= 16 && are_hexadecimal_digits(word)
+}
+
+/// The address that a word of 1 to 16 lower-case hexadecimal digits writes.
+#[tactic(auto, unfolding(crate::specs::Numbers::address_of))]
+pub fn address_of(word: &str) -> Option<u64>
+    ensures { result ≡ address_of word.now }
+{
+    if !is_address(word.as_bytes()) {
+        return None;
+    }
+    match u64::from_str_radix(word, 16) {
+        Ok(address) => Some(address),
         Err(_) => None,
     }
 }

@@ -9,3 +9,14 @@ pub struct CheckOptions {
     /// The rules that are looked at besides those that always are.
     pub rules: Options,
 }
+
+/// Which entry rules the options of `entry` ask for.
+#[derive(Clone, Copy, Debug, PartialEq, Eq)]
+pub struct EntryRules {
+    /// Code that isn't instrumented calls no code that is.
+    pub noinstr: bool,
+    /// An INT3 stands behind each return and each indirect jump.
+    pub sls: bool,
+    /// Functions whose address is taken begin with ENDBR.
+    pub ibt: bool,
+}

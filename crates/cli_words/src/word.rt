@@ -1,7 +1,7 @@
 //! The words of a command line, one by one.
 
 ghost use Rattle.std.specs.Prelude.{◌≡◌, option_map};
-ghost use Rattle.cli_words.specs.Words.{command_named, is_check_option, is_names_option, is_option, is_option_of, is_same_option, file_after, places_of};
+ghost use Rattle.cli_words.specs.Words.{command_named, is_check_option, is_common_option, is_entry_option, is_names_option, is_option, is_option_of, is_same_option, file_after, places_of};
 
 /// The word of a command.
 #[derive(Clone, Copy, Debug, PartialEq, Eq)]
@@ -12,6 +12,20 @@ pub enum CommandWord {
     Dump,
     /// `unwind`.
     Unwind,
+    /// `sites`.
+    Sites,
+    /// `list`.
+    List,
+    /// `entry`.
+    Entry,
+    /// `cfi`.
+    Cfi,
+    /// `cfa`.
+    Cfa,
+    /// `merge`.
+    Merge,
+    /// `find`.
+    Find,
     /// `demo`.
     Demo,
 }
@@ -24,6 +38,13 @@ pub(crate) fn command_named(word: &str) -> Option<CommandWord>
         "check" => Some(CommandWord::Check),
         "dump" => Some(CommandWord::Dump),
         "unwind" => Some(CommandWord::Unwind),
+        "sites" => Some(CommandWord::Sites),
+        "list" => Some(CommandWord::List),
+        "entry" => Some(CommandWord::Entry),
+        "cfi" => Some(CommandWord::Cfi),
+        "cfa" => Some(CommandWord::Cfa),
+        "merge" => Some(CommandWord::Merge),
+        "find" => Some(CommandWord::Find),
         "demo" => Some(CommandWord::Demo),
         _ => None,
     }
@@ -35,8 +56,9 @@ impl CommandWord {
         ensures { result ≡ places_of self }
     {
         match self {
-            CommandWord::Check | CommandWord::Unwind => 2,
-            CommandWord::Dump | CommandWord::Demo => 1,
+            CommandWord::Dump | CommandWord::List | CommandWord::Entry => 1,
+            CommandWord::Cfa | CommandWord::Demo => 1,
+            _ => 2,
         }
     }
 
@@ -46,7 +68,9 @@ impl CommandWord {
     {
         match self {
             CommandWord::Check => is_check_option(word),
-            CommandWord::Dump | CommandWord::Unwind | CommandWord::Demo => false,
+            CommandWord::Sites | CommandWord::Cfi => is_common_option(word),
+            CommandWord::Entry => is_entry_option(word),
+            _ => false,
         }
     }
 }
@@ -75,14 +99,30 @@ pub(crate) fn is_names_option(word: &str) -> bool
     file_after(word).is_some()
 }
 
+/// Whether a word is an option that each of `check`, `sites`, `entry` and `cfi` has.
+fn is_common_option(word: &str) -> bool
+    ensures { result ≡ is_common_option word.now }
+{
+    word == "--all-opcodes" || is_names_option(word)
+}
+
 /// Whether a word is an option of `check`.
 fn is_check_option(word: &str) -> bool
     ensures { result ≡ is_check_option word.now }
 {
     match word {
-        "--fp" | "--retpoline" | "--rethunk" | "--uaccess" | "--no-unreachable" | "--all-opcodes" =>
-            true,
-        _ => is_names_option(word),
+        "--fp" | "--retpoline" | "--rethunk" | "--uaccess" | "--no-unreachable" => true,
+        _ => is_common_option(word),
+    }
+}
+
+/// Whether a word is an option of `entry`.
+fn is_entry_option(word: &str) -> bool
+    ensures { result ≡ is_entry_option word.now }
+{
+    match word {
+        "--noinstr" | "--sls" | "--ibt" => true,
+        _ => is_common_option(word),
     }
 }
 

@@ -45,6 +45,9 @@ printed_after_fault text before after NoMemory (runs_out prefix) = inr refl
 -- the statuses that no stop has
 stop_not_done : (s : CommandStop) → status_of s ≢ Done
 stop_not_done (stop.Usage usage) e = cc
+stop_not_done (stop.PartMissing part file) e = cc
+stop_not_done (stop.PartTooLong part file limit) e = cc
+stop_not_done (stop.PartRefused part refusal) e = cc
 stop_not_done (stop.Missing file) e = cc
 stop_not_done (stop.TooLong file limit) e = cc
 stop_not_done (stop.Refused refusal) e = cc
@@ -53,6 +56,9 @@ stop_not_done stop.NoMemory e = cc
 
 stop_no_warnings : (s : CommandStop) → status_of s ≢ Warnings
 stop_no_warnings (stop.Usage usage) e = cc
+stop_no_warnings (stop.PartMissing part file) e = cc
+stop_no_warnings (stop.PartTooLong part file limit) e = cc
+stop_no_warnings (stop.PartRefused part refusal) e = cc
 stop_no_warnings (stop.Missing file) e = cc
 stop_no_warnings (stop.TooLong file limit) e = cc
 stop_no_warnings (stop.Refused refusal) e = cc
@@ -61,6 +67,9 @@ stop_no_warnings stop.NoMemory e = cc
 
 stop_no_sink_fault : (s : CommandStop) → status_of s ≢ SinkFault
 stop_no_sink_fault (stop.Usage usage) e = cc
+stop_no_sink_fault (stop.PartMissing part file) e = cc
+stop_no_sink_fault (stop.PartTooLong part file limit) e = cc
+stop_no_sink_fault (stop.PartRefused part refusal) e = cc
 stop_no_sink_fault (stop.Missing file) e = cc
 stop_no_sink_fault (stop.TooLong file limit) e = cc
 stop_no_sink_fault (stop.Refused refusal) e = cc

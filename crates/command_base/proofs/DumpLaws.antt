@@ -70,6 +70,9 @@ fault_left x (inr e) = inr (inr (inr e))
 
 pub unread_left : (limit : ℕ) (s : CommandStop) (file bytes : List ℕ) (content : Content) (before after : Outside) (out out' : Output) (x : Status) → before.content ≡ Some content → reading content file limit ≡ Ok bytes → StopsAtRead limit file before after s → Concludes s out out' x → IsAnswered x
 unread_left limit (stop.Usage usage) file bytes content before after out out' x c is h t = absurd h
+unread_left limit (stop.PartMissing part told_file) file bytes content before after out out' x c is h t = absurd h
+unread_left limit (stop.PartTooLong part told_file told_limit) file bytes content before after out out' x c is h t = absurd h
+unread_left limit (stop.PartRefused part refusal) file bytes content before after out out' x c is h t = absurd h
 unread_left limit (stop.Missing told) file bytes content before after out out' x c is h t = let u : ◌≡◌ {A = Result (List ℕ) FileError} (Err file_error.Missing) (Ok bytes) = told_read limit before.content content file _ c h.1 ∙ is in cc
 unread_left limit (stop.TooLong told at) file bytes content before after out out' x c is h t = let u : ◌≡◌ {A = Result (List ℕ) FileError} (Err (file_error.TooLong limit)) (Ok bytes) = told_read limit before.content content file _ c h.1.1 ∙ is in cc
 unread_left limit (stop.Refused refusal) file bytes content before after out out' x c is h t = absurd h
@@ -107,6 +110,9 @@ bytes_fault bytes before after x (stopped s h t) e = no_rows_fault s bytes h (co
 
 pub read_fault : (limit : ℕ) (s : CommandStop) (name : List ℕ) (before after : Outside) → StopsAtRead limit name before after s → status_of s ≡ FileFault → Rose before.faults after.faults
 read_fault limit (stop.Usage usage) name before after h e = absurd h
+read_fault limit (stop.PartMissing part file) name before after h e = absurd h
+read_fault limit (stop.PartTooLong part file told_limit) name before after h e = absurd h
+read_fault limit (stop.PartRefused part refusal) name before after h e = absurd h
 read_fault limit (stop.Missing file) name before after h e = cc
 read_fault limit (stop.TooLong file at) name before after h e = cc
 read_fault limit (stop.Refused refusal) name before after h e = absurd h

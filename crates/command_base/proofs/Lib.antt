@@ -4,3 +4,5 @@ pub mod DumpLaws
 pub mod DumpLemmas
 pub mod UnwindLaws
 pub mod UnwindLemmas
+pub mod NamesLemmas
+mod WarningLemmas

@@ -172,8 +172,19 @@ foreign_walk bytes text image o rows (stop.Refused (refusal.Unplaced fault)) is 
 foreign_walk bytes text image o rows (stop.Refused (refusal.Unlinked told)) is held h = absurd h
 foreign_walk bytes text image o rows (stop.Refused (refusal.Unflowed told)) is held h = absurd h
 foreign_walk bytes text image o rows (stop.Refused (refusal.HasOrc sec)) is held h = absurd h
+foreign_walk bytes text image o rows (stop.Refused (refusal.HasSites sec)) is held h = absurd h
+foreign_walk bytes text image o rows (stop.Refused (refusal.Sites why)) is held h = absurd h
+foreign_walk bytes text image o rows (stop.Refused (refusal.HasFrames sec)) is held h = absurd h
+foreign_walk bytes text image o rows (stop.Refused (refusal.Frames why)) is held h = absurd h
+foreign_walk bytes text image o rows (stop.Refused (refusal.Layout why)) is held h = absurd h
+foreign_walk bytes text image o rows (stop.Refused (refusal.TooManyFiles count)) is held h = absurd h
+foreign_walk bytes text image o rows (stop.Refused (refusal.Merge why)) is held h = absurd h
+foreign_walk bytes text image o rows (stop.Refused (refusal.Table why)) is held h = absurd h
 foreign_walk bytes text image o rows (stop.Refused (refusal.TooMany what count)) is held h = absurd h
 foreign_walk bytes text image o rows (stop.Usage usage) is held h = absurd h
+foreign_walk bytes text image o rows (stop.PartMissing part file) is held h = absurd h
+foreign_walk bytes text image o rows (stop.PartTooLong part file limit) is held h = absurd h
+foreign_walk bytes text image o rows (stop.PartRefused part refusal) is held h = absurd h
 foreign_walk bytes text image o rows (stop.Missing file) is held h = absurd h
 foreign_walk bytes text image o rows (stop.TooLong file limit) is held h = absurd h
 foreign_walk bytes text image o rows (stop.FileFault file) is held h = absurd h
@@ -216,6 +227,9 @@ rose_before before middle after later rose = omega arith
 
 read_earlier : (limit : ℕ) (s : CommandStop) (name : List ℕ) (content : Option Content) (before middle : ℕ) (after : Outside) → before ≤ middle → StopsAtRead limit name (record { content = content; faults = middle }) after s → StopsAtRead limit name (record { content = content; faults = before }) after s
 read_earlier limit (stop.Usage usage) name content before middle after later h = h
+read_earlier limit (stop.PartMissing part file) name content before middle after later h = h
+read_earlier limit (stop.PartTooLong part file told_limit) name content before middle after later h = h
+read_earlier limit (stop.PartRefused part refusal) name content before middle after later h = h
 read_earlier limit (stop.Missing file) name content before middle after later h = h
 read_earlier limit (stop.TooLong file at) name content before middle after later h = h
 read_earlier limit (stop.Refused refusal) name content before middle after later h = h

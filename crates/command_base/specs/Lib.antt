@@ -1,3 +1,7 @@
+pub mod Code
+pub mod Dump
+pub mod FlowText
+pub mod Names
 pub mod Outside
 pub mod Printing
 pub mod Reading
@@ -5,6 +9,7 @@ pub mod Refusal
 pub mod Status
 pub mod Stop
 pub mod TextSections
-pub mod Dump
 pub mod Unwind
 pub mod WalkText
+pub mod Warnings
+pub mod Writing

@@ -14,9 +14,19 @@ use Rattle.orc_walk.specs.declared.faults.PlaceFault.{PlaceFault}
 use Rattle.orc_walk.specs.declared.faults.PlaceFault.TheVariants as place
 use Rattle.stack_image.specs.declared.fault.ImageFault.{ImageFault}
 use Rattle.stack_image.specs.declared.fault.ImageFault.TheVariants as image
-use Rattle.command_base.specs.declared.refusal.Refusal.TheVariants.{Malformed, Orc, Lists, Image, Unplaced}
+use Rattle.site_lists.specs.declared.fault.SitesFault.{SitesFault}
+use Rattle.site_lists.specs.declared.fault.SitesFault.TheVariants as sites
+use Rattle.eh_frame.specs.declared.fault.EhFault.{EhFault}
+use Rattle.eh_frame.specs.declared.fault.EhFault.TheVariants as frames
+use Rattle.orc_merge.specs.declared.faults.LayoutFault.{LayoutFault}
+use Rattle.orc_merge.specs.declared.faults.LayoutFault.TheVariants as layout
+use Rattle.orc_merge.specs.declared.faults.MergeFault.{MergeFault}
+use Rattle.orc_merge.specs.declared.faults.MergeFault.TheVariants as merge
+use Rattle.orc_merge.specs.declared.faults.TableFault.{TableFault}
+use Rattle.orc_merge.specs.declared.faults.TableFault.TheVariants as table
+use Rattle.command_base.specs.declared.refusal.Refusal.TheVariants.{Malformed, Orc, Lists, Image, Unplaced, Sites, Frames, Layout, Merge, Table}
 use Rattle.command_base.specs.declared.stop.CommandStop.{CommandStop}
-use Rattle.command_base.specs.declared.stop.CommandStop.TheVariants.{Usage, Missing, TooLong, Refused, FileFault, NoMemory}
+use Rattle.command_base.specs.declared.stop.CommandStop.TheVariants.{Missing, TooLong, Refused, FileFault, NoMemory}
 use Rattle.command_base.specs.Outside.{Outside}
 
 -- what a name may read as, at most so many bytes: what the content says, where it is told, and else any file within the
@@ -33,8 +43,13 @@ StopsAtRead limit name before after (Missing told) = (told.now ≡ name) × MayR
 StopsAtRead limit name before after (TooLong told at) = (told.now ≡ name) × ((at ≡ limit) × MayRead limit before.content name (Err (file.TooLong limit)))
 StopsAtRead limit name before after (FileFault told) = (told.now ≡ name) × Rose before.faults after.faults
 StopsAtRead limit name before after NoMemory = Unit {0}
-StopsAtRead limit name before after (Refused refusal) = ⊥
-StopsAtRead limit name before after (Usage usage) = ⊥
+StopsAtRead limit name before after _ = ⊥
+
+-- the file of this name isn't there, or is longer than the limit, and a command that reads it is refused so
+abbrev pub IsUnreadable : ℕ → Content → List ℕ → CommandStop → Type 0
+IsUnreadable limit held name (Missing told) = (told.now ≡ name) × (reading held name limit ≡ Err file.Missing)
+IsUnreadable limit held name (TooLong told at) = (told.now ≡ name) × ((at ≡ limit) × (reading held name limit ≡ Err (file.TooLong limit)))
+IsUnreadable limit held name _ = ⊥
 
 -- why a command stops whose input is no object
 abbrev pub parse_stop : ElfFault → CommandStop
@@ -60,3 +75,28 @@ image_stop fault = Refused (Image fault)
 abbrev pub place_stop : PlaceFault → CommandStop
 place_stop place.NoMemory = NoMemory
 place_stop fault = Refused (Unplaced fault)
+
+-- why a command stops whose input's site lists can't be read
+abbrev pub sites_stop : SitesFault → CommandStop
+sites_stop sites.NoMemory = NoMemory
+sites_stop fault = Refused (Sites fault)
+
+-- why a command stops whose input's call frame information can't be read
+abbrev pub frames_stop : EhFault → CommandStop
+frames_stop frames.NoMemory = NoMemory
+frames_stop fault = Refused (Frames fault)
+
+-- why a command stops whose layout isn't one
+abbrev pub layout_stop : LayoutFault → CommandStop
+layout_stop layout.NoMemory = NoMemory
+layout_stop fault = Refused (Layout fault)
+
+-- why a command stops whose objects' rows can't be merged
+abbrev pub merge_stop : MergeFault → CommandStop
+merge_stop merge.NoMemory = NoMemory
+merge_stop fault = Refused (Merge fault)
+
+-- why a command stops whose merged table isn't one
+abbrev pub table_stop : TableFault → CommandStop
+table_stop table.NoMemory = NoMemory
+table_stop fault = Refused (Table fault)

@@ -8,9 +8,12 @@ use Rattle.orc_bytes.specs.FaultText as orc
 use Rattle.orc_walk.specs.FaultText as placed
 use Rattle.stack_image.specs.FaultText as image
 use Rattle.object_code.specs.FaultText as code
-use Rattle.control_flow.specs.FaultText as flow
+use Rattle.eh_frame.specs.Texts as frames
+use Rattle.site_lists.specs.FaultText as sites
+use Rattle.orc_merge.specs.FaultTexts.{layout_text, merge_text, table_text}
+use Rattle.command_base.specs.FlowText as flow
 use Rattle.command_base.specs.declared.refusal.Refusal.{Refusal}
-use Rattle.command_base.specs.declared.refusal.Refusal.TheVariants.{Malformed, Orc, Lists, Image, NoText, Unplaced, Unlinked, Unflowed, HasOrc, TooMany}
+use Rattle.command_base.specs.declared.refusal.Refusal.TheVariants.{Malformed, Orc, Lists, Image, NoText, Unplaced, Unlinked, Unflowed, HasOrc, HasSites, Sites, HasFrames, Frames, TooMany, Layout, TooManyFiles, Merge, Table}
 
 abbrev pub refusal_text : Refusal → List ℕ
 refusal_text (Malformed fault) = elf.fault_text fault
@@ -22,4 +25,12 @@ refusal_text (Unplaced fault) = placed.fault_text fault
 refusal_text (Unlinked told) = code.fault_text told.fault told.section.now told.body.now
 refusal_text (Unflowed told) = flow.fault_text told.fault
 refusal_text (HasOrc sec) = codes "section " ++ decimal sec ++ codes " is an ORC section"
+refusal_text (HasSites sec) = codes "section " ++ decimal sec ++ codes " is a site list"
+refusal_text (Sites fault) = sites.fault_text fault
+refusal_text (HasFrames sec) = codes "section " ++ decimal sec ++ codes " is a frame section"
+refusal_text (Frames fault) = frames.fault_text fault
 refusal_text (TooMany what count) = elf.fault_text (fault.TooMany what count)
+refusal_text (Layout fault) = layout_text fault
+refusal_text (TooManyFiles count) = codes "too many files: " ++ decimal count
+refusal_text (Merge fault) = merge_text fault
+refusal_text (Table fault) = table_text fault

@@ -1,13 +1,16 @@
 ghost use Rattle.std.specs.Prelude.{◌≡◌, ◌≤◌, Ok, length, IfOk, IfErr};
-ghost use Rattle.command_base.specs.Reading.{MayRead, StopsAtRead, image_stop, lists_stop, orc_stop, parse_stop, place_stop};
+ghost use Rattle.command_base.specs.Reading.{MayRead, StopsAtRead, frames_stop, image_stop, layout_stop, lists_stop, merge_stop, orc_stop, parse_stop, place_stop, sites_stop, table_stop};
 
 use crate::refusal::Refusal;
 use crate::stop::CommandStop;
+use eh_frame::EhFault;
 use elf_objects::ElfFault;
 use orc_bytes::OrcFault;
+use orc_merge::{LayoutFault, MergeFault, TableFault};
 use orc_walk::PlaceFault;
 use ot_base::ListsFault;
 use ot_files::{FileError, Files};
+use site_lists::SitesFault;
 use stack_image::ImageFault;
 use std::alloc::Global;
 
@@ -86,5 +89,55 @@ pub fn place_stop<'a>(fault: PlaceFault) -> CommandStop<'a>
     match fault {
         PlaceFault::NoMemory => CommandStop::NoMemory,
         fault => CommandStop::Refused(Refusal::Unplaced(fault)),
+    }
+}
+
+/// Why a command stops whose input's site lists can't be read.
+pub fn sites_stop<'a>(fault: SitesFault) -> CommandStop<'a>
+    ensures { result ≡ sites_stop fault }
+{
+    match fault {
+        SitesFault::NoMemory => CommandStop::NoMemory,
+        fault => CommandStop::Refused(Refusal::Sites(fault)),
+    }
+}
+
+/// Why a command stops whose input's call frame information can't be read.
+pub fn frames_stop<'a>(fault: EhFault) -> CommandStop<'a>
+    ensures { result ≡ frames_stop fault }
+{
+    match fault {
+        EhFault::NoMemory => CommandStop::NoMemory,
+        fault => CommandStop::Refused(Refusal::Frames(fault)),
+    }
+}
+
+/// Why a command stops whose layout isn't one.
+pub fn layout_stop<'a>(fault: LayoutFault) -> CommandStop<'a>
+    ensures { result ≡ layout_stop fault }
+{
+    match fault {
+        LayoutFault::NoMemory => CommandStop::NoMemory,
+        fault => CommandStop::Refused(Refusal::Layout(fault)),
+    }
+}
+
+/// Why a command stops whose objects' rows can't be merged.
+pub fn merge_stop<'a>(fault: MergeFault) -> CommandStop<'a>
+    ensures { result ≡ merge_stop fault }
+{
+    match fault {
+        MergeFault::NoMemory => CommandStop::NoMemory,
+        fault => CommandStop::Refused(Refusal::Merge(fault)),
+    }
+}
+
+/// Why a command stops whose merged table isn't one.
+pub fn table_stop<'a>(fault: TableFault) -> CommandStop<'a>
+    ensures { result ≡ table_stop fault }
+{
+    match fault {
+        TableFault::NoMemory => CommandStop::NoMemory,
+        fault => CommandStop::Refused(Refusal::Table(fault)),
     }
 }

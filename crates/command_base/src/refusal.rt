@@ -1,9 +1,12 @@
-use control_flow::FlowFaultText;
+use crate::flow_text::FlowFaultText;
+use eh_frame::EhFault;
 use elf_objects::{Counted, ElfFault};
 use object_code::LinkFaultText;
 use orc_bytes::OrcFault;
+use orc_merge::{LayoutFault, MergeFault, TableFault};
 use orc_walk::PlaceFault;
 use ot_base::ListsFault;
+use site_lists::SitesFault;
 use stack_image::ImageFault;
 use std::fmt;
 
@@ -28,8 +31,24 @@ pub enum Refusal<'a> {
     Unflowed(FlowFaultText),
     /// The object has ORC sections already; the section with this number is the first.
     HasOrc { sec: u32 },
-    /// With its tables the object would have too many: it has `count` sections, or needs `count` symbols.
+    /// The object has site lists already; the section with this number is the first.
+    HasSites { sec: u32 },
+    /// The object's site lists can't be read.
+    Sites(SitesFault),
+    /// The object has call frame information already; the section with this number is the first.
+    HasFrames { sec: u32 },
+    /// The object's call frame information can't be read.
+    Frames(EhFault),
+    /// With what is added to it the object would have too many: it has `count` sections, or needs `count` symbols.
     TooMany { what: Counted, count: u64 },
+    /// The text of a layout isn't one.
+    Layout(LayoutFault),
+    /// A layout names too many files: `count`.
+    TooManyFiles { count: u64 },
+    /// The rows of several objects can't be merged.
+    Merge(MergeFault),
+    /// The bytes of a merged table aren't one.
+    Table(TableFault),
 }
 
 impl fmt::Display for Refusal<'_> {
@@ -49,9 +68,17 @@ impl fmt::Display for Refusal<'_> {
             Refusal::Unlinked(fault) => write!(f, "{fault}"),
             Refusal::Unflowed(fault) => write!(f, "{fault}"),
             Refusal::HasOrc { sec } => write!(f, "section {sec} is an ORC section"),
+            Refusal::HasSites { sec } => write!(f, "section {sec} is a site list"),
+            Refusal::Sites(fault) => write!(f, "{fault}"),
+            Refusal::HasFrames { sec } => write!(f, "section {sec} is a frame section"),
+            Refusal::Frames(fault) => write!(f, "{fault}"),
             Refusal::TooMany { what, count } => {
                 write!(f, "{}", ElfFault::TooMany { what, count })
             }
+            Refusal::Layout(fault) => write!(f, "{fault}"),
+            Refusal::TooManyFiles { count } => write!(f, "too many files: {count}"),
+            Refusal::Merge(fault) => write!(f, "{fault}"),
+            Refusal::Table(fault) => write!(f, "{fault}"),
         }
     }
 }

@@ -1,3 +1,6 @@
+ghost use Rattle.std.specs.Prelude.{◌≡◌};
+ghost use Rattle.command_base.specs.Stop.{of_part};
+
 use crate::refusal::Refusal;
 use crate::status::Status;
 use crate::usage::Usage;
@@ -11,13 +14,36 @@ pub enum CommandStop<'a> {
     /// The words ask for nothing that is done.
     Usage(Usage),
     /// No file has an input's name.
-    Missing { file: &'a str },
+    Missing {
+        file: &'a str,
+    },
     /// An input has more than `limit` bytes.
-    TooLong { file: &'a str, limit: u64 },
+    TooLong {
+        file: &'a str,
+        limit: u64,
+    },
     /// The bytes of an input are refused.
     Refused(Refusal<'a>),
+    /// No file has the name that a layout gives its file number `part`, counted from 0.
+    PartMissing {
+        part: u32,
+        file: &'a str,
+    },
+    /// That file has more than `limit` bytes.
+    PartTooLong {
+        part: u32,
+        file: &'a str,
+        limit: u64,
+    },
+    /// The bytes of that file are refused.
+    PartRefused {
+        part: u32,
+        refusal: Refusal<'a>,
+    },
     /// A file couldn't be read or written.
-    FileFault { file: &'a str },
+    FileFault {
+        file: &'a str,
+    },
     /// Memory ran out.
     NoMemory,
 }
@@ -32,11 +58,44 @@ impl CommandStop<'_> {
     {
         match self {
             CommandStop::Usage(_) => Status::Usage,
-            CommandStop::Missing { .. } | CommandStop::TooLong { .. } | CommandStop::Refused(_) =>
-                Status::Refused,
+            CommandStop::Missing { .. }
+            | CommandStop::TooLong { .. }
+            | CommandStop::Refused(_)
+            | CommandStop::PartMissing { .. }
+            | CommandStop::PartTooLong { .. }
+            | CommandStop::PartRefused { .. } => Status::Refused,
             CommandStop::FileFault { .. } => Status::FileFault,
             CommandStop::NoMemory => Status::NoMemory,
         }
+    }
+}
+
+/// Why a command stops that stops so at file number `part` of a layout: a refusal is one of that file.
+pub fn of_part<'a>(part: u32, stop: CommandStop<'a>) -> CommandStop<'a>
+    ensures { result ≡ of_part part stop.entry }
+{
+    match stop {
+        CommandStop::Missing { file } => CommandStop::PartMissing { part, file },
+        CommandStop::TooLong { file, limit } => CommandStop::PartTooLong { part, file, limit },
+        CommandStop::Refused(refusal) => CommandStop::PartRefused { part, refusal },
+        stop => stop,
+    }
+}
+
+/// That no file has a name.
+#[derive(Clone, Copy)]
+struct Absent<'a> {
+    file: Escaped<'a>,
+}
+
+impl fmt::Display for Absent<'_> {
+    ghost use Rattle.std.specs.Prelude.{Some};
+    ghost use Rattle.command_base.specs.Stop.{missing_text};
+
+    ghost output = { λ a. Some (missing_text a.file.0.now) };
+
+    fn fmt<W: fmt::Write>(&self, f: &mut fmt::Formatter<W>) -> fmt::Result {
+        write!(f, "{} is missing", self.file)
     }
 }
 
@@ -69,13 +128,24 @@ impl fmt::Display for CommandStop<'_> {
             CommandStop::Usage(usage) => write!(f, "usage: {usage}\n"),
             CommandStop::Missing { file } => {
                 let file = Escaped(file.as_bytes());
-                write!(f, "refused: {file} is missing\n")
+                write!(f, "refused: {}\n", Absent { file })
             }
             CommandStop::TooLong { file, limit } => {
                 let file = Escaped(file.as_bytes());
                 write!(f, "refused: {}\n", Longer { file, limit })
             }
             CommandStop::Refused(refusal) => write!(f, "refused: {refusal}\n"),
+            CommandStop::PartMissing { part, file } => {
+                let file = Escaped(file.as_bytes());
+                write!(f, "refused: file {part}: {}\n", Absent { file })
+            }
+            CommandStop::PartTooLong { part, file, limit } => {
+                let file = Escaped(file.as_bytes());
+                write!(f, "refused: file {part}: {}\n", Longer { file, limit })
+            }
+            CommandStop::PartRefused { part, refusal } => {
+                write!(f, "refused: file {part}: {refusal}\n")
+            }
             CommandStop::FileFault { file } => {
                 let file = Escaped(file.as_bytes());
                 write!(f, "file fault: {file}\n")

@@ -33,14 +33,14 @@ struct StackWalk {
 }
 
 /// Whether a number is that of a text section.
-fn is_text_section(object: &Object<'_>, sec: u32) -> bool
+pub fn is_text_section(object: &Object<'_>, sec: u32) -> bool
     ensures { result ≡ is_text_section object.now sec }
 {
     sec < object.sections() && object.is_text(sec)
 }
 
 /// The sections at the bases that places tell, or the first place that names no text section.
-fn ranges_of<'a>(
+pub fn ranges_of<'a>(
     alloc: Global,
     object: &Object<'_>,
     places: &[(u32, u64)],

@@ -14,9 +14,7 @@ use Rattle.table_defs.specs.declared.frame.Stop as walk
 use Rattle.table_defs.specs.Walks.{StopsAs}
 use Rattle.elf_objects.specs.declared.TheConstants.{MAX_FILE_BYTES}
 use Rattle.elf_objects.specs.Elf.{Elf}
-use Rattle.orc_output.specs.Tables.{with_symbols, with_tables_object}
-use Rattle.flow_defs.specs.Program.{program_of}
-use Rattle.ot_base.specs.NameLists.{NameLists}
+use Rattle.orc_output.specs.Tables.{with_tables_object}
 use Rattle.orc_walk.specs.Memory.{word_at}
 use Rattle.stack_image.specs.ImageFile.{IsImage}
 use Rattle.stack_image.specs.Laws.{MemoryIsSaid}
@@ -39,17 +37,17 @@ use Rattle.composition_law.proofs.DumpLaw.{rows_are, text_is}
 use Rattle.composition_law.proofs.UnwindLaw.{placed_law, walk_is}
 
 -- a file within the limit is read as what it holds
-read_as : (content : Content) (limit : ℕ) (name bytes : List ℕ) → Holds content limit name bytes → reading content name limit ≡ Ok bytes
+pub read_as : (content : Content) (limit : ℕ) (name bytes : List ℕ) → Holds content limit name bytes → reading content name limit ≡ Ok bytes
 read_as content limit name bytes holds =
     ap (λ found. reading_of found limit) holds.there
     ∙ ap (λ b. cond b (Err (TooLong limit)) (Ok bytes)) (le-ltb limit (length bytes) holds.short)
 
 -- so what was read is what it holds
-was_read : (content : Content) (limit : ℕ) (name bytes other : List ℕ) (told : Option Content) → told ≡ Some content → Holds content limit name bytes → MayRead limit told name (Ok other) → other ≡ bytes
+pub was_read : (content : Content) (limit : ℕ) (name bytes other : List ℕ) (told : Option Content) → told ≡ Some content → Holds content limit name bytes → MayRead limit told name (Ok other) → other ≡ bytes
 was_read content limit name bytes other told is holds may = same_read other bytes (told_read limit told content name (Ok other) is may ∙ read_as content limit name bytes holds)
 
 -- where nothing fails, no fault is answered
-no_fault : (P : Type 0) (meaning : Meaning) (before after : Outside) (out out' : Output) (answer : Status) → Ends meaning before after out out' answer → NothingFails before after out out' → IsAnswered answer → (answer ≡ status.Done → P) → P ⊎ (answer ≡ status.NoMemory)
+pub no_fault : (P : Type 0) (meaning : Meaning) (before after : Outside) (out out' : Output) (answer : Status) → Ends meaning before after out out' answer → NothingFails before after out out' → IsAnswered answer → (answer ≡ status.Done → P) → P ⊎ (answer ≡ status.NoMemory)
 no_fault P meaning before after out out' answer ends nothing (inl done) whole = inl (whole done)
 no_fault P meaning before after out out' answer ends nothing (inr (inl fault)) whole = absurd (nothing.files (file_fault meaning before after out out' answer ends fault))
 no_fault P meaning before after out out' answer ends nothing (inr (inr (inl fault))) whole = absurd (nothing.output (sink_fault meaning before after out out' answer ends fault))

@@ -6,9 +6,8 @@ use Rattle.elf_objects.specs.Object.{IsObject}
 use Rattle.elf_objects.proofs.FirstFault.{FirstFault-not}
 use Rattle.orc_bytes.specs.Sections.{HoldsOrc}
 use Rattle.orc_bytes.proofs.Excluded.{fault_excludes}
-use Rattle.orc_output.specs.Tables.{with_symbols, with_tables_object}
+use Rattle.orc_output.specs.Tables.{with_tables_object}
 use Rattle.flow_defs.specs.Coded.{Coded}
-use Rattle.flow_defs.specs.Program.{program_of}
 use Rattle.ot_base.specs.NameLists.{NameLists}
 use Rattle.command_base.specs.declared.status.Status.TheVariants as status
 use Rattle.command_base.specs.declared.stop.CommandStop.{CommandStop}
@@ -19,7 +18,7 @@ use Rattle.command_base.specs.Dump.{HoldsNoRows, HoldsRows, malformed, no_memory
 use Rattle.composition_law.specs.Laws.{DumpTellsTheRows}
 
 -- bytes are one object
-one_object : (bytes : List ℕ) (o p : Elf) → IsObject bytes o → IsObject bytes p → o ≡ p
+pub one_object : (bytes : List ℕ) (o p : Elf) → IsObject bytes o → IsObject bytes p → o ≡ p
 one_object bytes o p h k = h.says ∙ sym k.says
 
 -- what the bytes hold are the rows by which they unwind

@@ -4,3 +4,4 @@ pub mod Named
 pub mod Placed
 pub mod UnwindLaw
 pub mod DoneLaw
+pub mod ReadLaws

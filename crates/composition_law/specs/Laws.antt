@@ -33,7 +33,17 @@ use Rattle.command_base.specs.Outside.{Outside, Output}
 use Rattle.command_base.specs.Printing.{Concludes, Prints}
 use Rattle.objtool_cli.specs.Command.{Ends}
 use Rattle.objtool_cli.specs.Unwinding.{UnwindsBy}
-use Rattle.cli_words.specs.Grammar.{dump, unwind}
+use Rattle.objtool_cli.specs.CodeSites.{sites_of}
+use Rattle.objtool_cli.specs.SiteText.{lists_text}
+use Rattle.objtool_cli.specs.SiteObjects.{ListsSites}
+use Rattle.eh_frame.specs.Laws.{rules_of_rows}
+use Rattle.objtool_cli.specs.RuleText.{rules_text}
+use Rattle.objtool_cli.specs.FrameObjects.{TellsRows}
+use Rattle.orc_walk.specs.Rows.{row_at}
+use Rattle.orc_merge.specs.declared.part.Part.{Part}
+use Rattle.objtool_cli.specs.RowText.{found_line}
+use Rattle.objtool_cli.specs.MergedTables.{IsTableOf}
+use Rattle.cli_words.specs.Grammar.{cfa, dump, find, list, unwind}
 use Rattle.command_base.specs.Dump.{Dumps, rows_text}
 use Rattle.command_base.specs.Unwind.{IsPlaced, Unwinds, ranges_of}
 use Rattle.command_base.specs.WalkText.{walk_text}
@@ -125,6 +135,51 @@ UnwindIsDone =
     → Ends (Ok (unwind file image)) before after out out' answer
     → NothingFails before after out out'
     → ((answer ≡ status.Done) × ((stop : walk.Stop) × StopsAs (frames_end state) stop × (out'.written ≡ appending out.written (shadow_text state stop)))) ⊎ (answer ≡ status.NoMemory)
+
+-- Where FILE holds bytes that list the sites of an object, and nothing fails, `list FILE` ends with status 0 and has printed the lines of
+-- exactly these sites, or memory ran out.
+abbrev pub ListIsDone : Type 0
+ListIsDone =
+    (o : Coded) (written : List ℕ)
+    → ListsSites o written
+    → (object : Elf)
+    → IsObject written object
+    → (content : Content) (file : List ℕ)
+    → Holds content MAX_FILE_BYTES file written
+    → (before after : Outside) (out out' : Output) (answer : Status)
+    → before.content ≡ Some content
+    → Ends (Ok (list file)) before after out out' answer
+    → NothingFails before after out out'
+    → ((answer ≡ status.Done) × (out'.written ≡ appending out.written (lists_text object (sites_of o)))) ⊎ (answer ≡ status.NoMemory)
+
+-- Where FILE holds bytes that are an object with the call frame information of some rows, and nothing fails, `cfa FILE` ends with status
+-- 0 and has printed the lines of exactly the rules of these rows, or memory ran out.
+abbrev pub CfaIsDone : Type 0
+CfaIsDone =
+    (o : Elf) (rows : List PlacedRow) (written : List ℕ)
+    → TellsRows o rows written
+    → (object : Elf)
+    → IsObject written object
+    → (content : Content) (file : List ℕ)
+    → Holds content MAX_FILE_BYTES file written
+    → (before after : Outside) (out out' : Output) (answer : Status)
+    → before.content ≡ Some content
+    → Ends (Ok (cfa file)) before after out out' answer
+    → NothingFails before after out out'
+    → ((answer ≡ status.Done) × (out'.written ≡ appending out.written (rules_text object (rules_of_rows object rows)))) ⊎ (answer ≡ status.NoMemory)
+
+-- Where TABLE holds the table of the merged rows of some objects, and nothing fails, `find TABLE ADDR` ends with status 0 and has printed
+-- the line of the merged row that holds at the address, or that there is none, or memory ran out.
+abbrev pub FindIsDone : Type 0
+FindIsDone =
+    (parts : List Part) (table : List ℕ) (is : IsTableOf parts table)
+    → (content : Content) (file : List ℕ) (address : ℕ)
+    → Holds content MAX_FILE_BYTES file table
+    → (before after : Outside) (out out' : Output) (answer : Status)
+    → before.content ≡ Some content
+    → Ends (Ok (find file address)) before after out out' answer
+    → NothingFails before after out out'
+    → ((answer ≡ status.Done) × (out'.written ≡ appending out.written (found_line address (row_at address is.rows)))) ⊎ (answer ≡ status.NoMemory)
 
 -- The ORC sections that are added to an object for some rows hold these rows, and no others: who reads them gets these.
 abbrev pub RowsAreReadBack : Type 0

@@ -1,7 +1,8 @@
-//! `check`, `dump` and `unwind` fit together: what one writes the others read back.
+//! The commands fit together: what `check` writes `dump` and `unwind` read back, and what `sites`, `cfi` and `merge`
+//! write `list`, `cfa` and `find`.
 #![tactic(auto)]
 
-ghost use Rattle.composition_law.specs.Laws.{DumpIsDone, DumpTellsTheRows, RowsAreReadBack, StatesAreUnwound, UnwindIsDone, UnwindTellsTheFrames};
+ghost use Rattle.composition_law.specs.Laws.{CfaIsDone, DumpIsDone, DumpTellsTheRows, FindIsDone, ListIsDone, RowsAreReadBack, StatesAreUnwound, UnwindIsDone, UnwindTellsTheFrames};
 
 use stack_image::memory_is_said;
 use table_defs::walk_is_determined;
@@ -48,3 +49,22 @@ pub fn unwind_is_done()
     walk_is_determined();
     memory_is_said();
 }
+
+/// Where a file holds the bytes that `sites` writes for an object, and nothing fails, `list` of it ends with status 0
+/// and has printed the lines of exactly the sites of the object's code, or memory ran out.
+pub fn list_is_done()
+    ensures { ListIsDone }
+{}
+
+/// Where a file holds the bytes that `cfi` writes for an object, and nothing fails, `cfa` of it ends with status 0 and
+/// has printed the lines of exactly the rules of the rows of the object's program, or memory ran out.
+pub fn cfa_is_done()
+    ensures { CfaIsDone }
+{}
+
+/// Where a file holds the table that `merge` writes for some objects, and nothing fails, `find` of it and an address
+/// ends with status 0 and has printed the line of the merged row that holds at the address, or that there is none, or
+/// memory ran out.
+pub fn find_is_done()
+    ensures { FindIsDone }
+{}

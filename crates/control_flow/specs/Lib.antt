@@ -6,7 +6,6 @@ pub mod Search
 pub mod Stays
 pub mod Entered
 pub mod Gapless
-pub mod FaultText
 pub mod Few
 pub mod Judged
 pub mod Listed

@@ -6,7 +6,6 @@ mod backward;
 mod chains;
 mod check;
 mod entered;
-mod fault_text;
 mod found_returns;
 mod graph;
 mod hinted;
@@ -32,7 +31,6 @@ mod transfers;
 
 pub use check::check_flow;
 pub use entered::entry_of_point;
-pub use fault_text::FlowFaultText;
 pub use found_returns::{Returns, find_returns};
 pub use graph::flow;
 pub use order::object_is_in_order;

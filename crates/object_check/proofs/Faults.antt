@@ -1,4 +1,4 @@
--- What the faults of readers are told as is why the object isn't checked.
+-- What the faults of readers are told as is why the code isn't read, and why the object isn't checked.
 use Rattle.flow_defs.specs.Coded.{Coded}
 use Rattle.object_code.specs.declared.fault.LinkFault.{LinkFault}
 use Rattle.object_code.specs.declared.fault.LinkFault.TheVariants as link
@@ -6,20 +6,28 @@ use Rattle.object_code.specs.Linked.{IsLinked, IsLinkFault}
 use Rattle.flow_defs.specs.declared.fault.FlowFault.{FlowFault}
 use Rattle.flow_defs.specs.declared.fault.FlowFault.TheVariants as flow
 use Rattle.flow_defs.specs.Faults.{IsFirstFlowFault}
-use Rattle.object_check.specs.Order.{IsCheckFault, unlinked, unflowed, no_memory}
-use Rattle.object_check.specs.Told.{flow_fault, link_fault}
+use Rattle.object_check.specs.Code.{IsCodeFault, unlinked, unflowed, no_memory}
+use Rattle.object_check.specs.Order.{IsCheckFault}
+use Rattle.object_check.specs.Order as order
+use Rattle.object_check.specs.Told.{check_fault, flow_fault, link_fault}
+use Rattle.object_check.specs.declared.fault.CodeFault.{CodeFault}
 
-pub link_told : (o : Coded) (fault : LinkFault) → IsLinkFault o fault → IsCheckFault o (link_fault fault)
+pub link_told : (o : Coded) (fault : LinkFault) → IsLinkFault o fault → IsCodeFault o (link_fault fault)
 link_told o link.NoMemory is = no_memory
 link_told o (link.Text sec why) is = unlinked (link.Text sec why) (λ e. let z : ⊥ = cc in z) is
 link_told o (link.Special why) is = unlinked (link.Special why) (λ e. let z : ⊥ = cc in z) is
 link_told o (link.Index why) is = unlinked (link.Index why) (λ e. let z : ⊥ = cc in z) is
 link_told o (link.Site why) is = unlinked (link.Site why) (λ e. let z : ⊥ = cc in z) is
 
-pub flow_told : (o : Coded) (fault : FlowFault) → IsLinked o → IsFirstFlowFault o fault → IsCheckFault o (flow_fault fault)
+pub flow_told : (o : Coded) (fault : FlowFault) → IsLinked o → IsFirstFlowFault o fault → IsCodeFault o (flow_fault fault)
 flow_told o flow.NoMemory linked is = no_memory
 flow_told o (flow.FuncStart sym) linked is = unflowed (flow.FuncStart sym) (λ e. let z : ⊥ = cc in z) linked is
 flow_told o (flow.NotBoundary list entry) linked is = unflowed (flow.NotBoundary list entry) (λ e. let z : ⊥ = cc in z) linked is
 flow_told o (flow.StaticSite entry) linked is = unflowed (flow.StaticSite entry) (λ e. let z : ⊥ = cc in z) linked is
 flow_told o (flow.NotCall entry) linked is = unflowed (flow.NotCall entry) (λ e. let z : ⊥ = cc in z) linked is
 flow_told o (flow.NotFunction entry) linked is = unflowed (flow.NotFunction entry) (λ e. let z : ⊥ = cc in z) linked is
+
+pub check_told : (o : Coded) (fault : CodeFault) → IsCodeFault o fault → IsCheckFault o (check_fault fault)
+check_told o _ (unlinked fault other is) = order.unlinked fault other is
+check_told o _ (unflowed fault other linked is) = order.unflowed fault other linked is
+check_told o _ no_memory = order.no_memory

@@ -1,6 +1,6 @@
 -- What the check of an object's program says of the object.
 use Rattle.std.proofs.Common.{◌≡◌, ◌≤◌, List, Option, Bor, length, option_copied, sym, ap, subst, arith}
-use Rattle.std.specs.Prelude.{All}
+use Rattle.std.specs.Prelude.{All, AllPairs}
 use Rattle.std.proofs.lemmas.List.Elements.{All-contains}
 use Rattle.ot_base.specs.declared.options.Options.{Options}
 use Rattle.ot_base.specs.declared.row.PlacedRow.{PlacedRow}
@@ -8,6 +8,7 @@ use Rattle.ot_base.specs.NameLists.{NameLists}
 use Rattle.flow_defs.specs.Coded.{Coded}
 use Rattle.elf_objects.specs.declared.TheConstants.{MAX_FILE_BYTES}
 use Rattle.machine_defs.specs.Rows.{rows_of}
+use Rattle.table_defs.specs.Order.{ComesBefore}
 use Rattle.table_defs.specs.Walks.{WalksToFrames}
 use Rattle.program_graph.specs.declared.parts.GraphParts.{GraphParts}
 use Rattle.unwinding_law.proofs.Lists.{all_of}
@@ -24,10 +25,13 @@ use Rattle.object_law.specs.Rows.{IsPlacedRow, RowsAreFew, RowsArePlaced}
 use Rattle.object_law.specs.SymbolLaws.{RowsAreNamed}
 use Rattle.object_law.specs.Named.{IsNamed}
 use Rattle.orc_output.specs.Tables.{CanHaveTables, IsRowIn}
+use Rattle.eh_frame.specs.RowFrames.{IsFrameRow}
+use Rattle.object_check.specs.Code.{CanHaveRows, IsFound}
 use Rattle.object_check.specs.Counts.{IsCounted}
-use Rattle.object_check.specs.Order.{IsCheckable}
+use Rattle.object_check.specs.Order.{IsCheckable, IsInOrder}
 use Rattle.object_check.specs.Outcome.{IsOutcome, OnAccepted}
 use Rattle.object_check.specs.Promises.{KeepsPromises}
+use Rattle.object_check.specs.RowLaws.{RowsAscend, RowsTellFrames}
 use Rattle.object_check.specs.Ready.{IsGraphOf, IsOutcomeOf, IsReady, IsTableOf}
 use Rattle.object_check.specs.Unwinding.{RowsUnwind}
 use Rattle.object_check.specs.declared.counts.CodeCounts.{CodeCounts}
@@ -48,11 +52,16 @@ ready o lists parts one laid ascend functions is = record {
 pub lent_table : (o : Coded) (lists : NameLists) (table : Option AllowanceTable) (lent : Option (Bor AllowanceTable)) → option_copied lent ≡ table → IsTableOf (program_of o lists) (allowances_of o lists) table → IsTableOf (program_of o lists) (allowances_of o lists) (option_copied lent)
 lent_table o lists table lent same is = subst (IsTableOf (program_of o lists) (allowances_of o lists)) (sym same) is
 
--- what was found of the program of an object that can be checked is the outcome
-pub is_outcome : (o : Coded) (lists : NameLists) (options : Options) (counts : CodeCounts) (outcome : ObjectVerdict)
-    → IsCheckable o → IsCounted o counts → IsOutcomeOf (program_of o lists) (allowances_of o lists) options counts outcome → IsOutcome o lists options outcome
-is_outcome o lists options counts (Accepted rows told) can counted found = (can, found.0, found.1, subst (IsCounted o) (sym found.2) counted)
-is_outcome o lists options counts (Broken warnings) can counted found = (can, found)
+-- what was found of the program of an object in order
+pub is_found : (o : Coded) (lists : NameLists) (options : Options) (counts : CodeCounts) (outcome : ObjectVerdict)
+    → IsInOrder o → IsCounted o counts → IsOutcomeOf (program_of o lists) (allowances_of o lists) options counts outcome → IsFound o lists options outcome
+is_found o lists options counts (Accepted rows told) order counted found = (order, found.0, found.1, subst (IsCounted o) (sym found.2) counted)
+is_found o lists options counts (Broken warnings) order counted found = (order, found)
+
+-- is the outcome of its check, where it has room for the tables
+pub is_outcome : (o : Coded) (lists : NameLists) (options : Options) (outcome : ObjectVerdict) → IsCheckable o → IsFound o lists options outcome → IsOutcome o lists options outcome
+is_outcome o lists options (Accepted rows told) can found = (can, found.1, found.2, found.3)
+is_outcome o lists options (Broken warnings) can found = (can, found.1)
 
 -- a row that lies in a text section that a symbol names
 row_in : (o : Coded) (x : PlacedRow) → IsPlacedRow o x → IsNamed o x.place.sec → IsRowIn o.elf x
@@ -65,10 +74,10 @@ row_in o x is named = record {
   row = is.row;
 }
 
-pub can_have_tables : (o : Coded) (lists : NameLists) (options : Options) (counts : CodeCounts) (outcome : ObjectVerdict)
-    → length o.elf.bytes ≤ MAX_FILE_BYTES → RowsArePlaced → RowsAreFew → RowsAreNamed → ObjectIsInOrder o → IsCheckable o → IsOutcomeOf (program_of o lists) (allowances_of o lists) options counts outcome
-    → OnAccepted outcome (CanHaveTables o.elf)
-can_have_tables o lists options counts (Accepted rows told) short are_placed are_few are_named order can found =
+pub can_have_rows : (o : Coded) (lists : NameLists) (options : Options) (counts : CodeCounts) (outcome : ObjectVerdict)
+    → RowsArePlaced → RowsAreFew → RowsAreNamed → RowsAscend → RowsTellFrames → ObjectIsInOrder o → IsOutcomeOf (program_of o lists) (allowances_of o lists) options counts outcome
+    → OnAccepted outcome (CanHaveRows o.elf)
+can_have_rows o lists options counts (Accepted rows told) are_placed are_few are_named ascend tell order found =
     let has = found.1 in
     let all : List PlacedRow = rows_of (program_of o lists) has.states in
     let placed = are_placed o lists has.states order.object found.0.accepted has.kept in
@@ -77,21 +86,31 @@ can_have_tables o lists options counts (Accepted rows told) short are_placed are
     all_of (IsRowIn o.elf) all (λ x c. row_in o x (All-contains (IsPlacedRow o) all x placed c) (All-contains (λ (y : PlacedRow). IsNamed o y.place.sec) all x named c)) in
     record {
       each = subst (All (IsRowIn o.elf)) (sym has.is) each;
-      none = all_other o.elf can.new;
-      few = omega (arith, can.few);
-      short = short;
-      few_rows = omega (arith, are_few o lists has.states order.object, ap length has.is);
+      frames = subst (All (λ (x : PlacedRow). IsFrameRow x.row)) (sym has.is) (tell o lists has.states order found.0.accepted has.kept);
+      ascend = subst (AllPairs (λ (x y : PlacedRow). ComesBefore x.place y.place)) (sym has.is) (ascend o lists has.states);
+      few = omega (arith, are_few o lists has.states order.object, ap length has.is);
     }
-can_have_tables o lists options counts (Broken warnings) short are_placed are_few are_named order can found = tt
+can_have_rows o lists options counts (Broken warnings) are_placed are_few are_named ascend tell order found = tt
+
+-- rows that the object can have become its tables, where it has room for them
+pub can_have_tables : (o : Coded) (outcome : ObjectVerdict) → length o.elf.bytes ≤ MAX_FILE_BYTES → IsCheckable o → OnAccepted outcome (CanHaveRows o.elf) → OnAccepted outcome (CanHaveTables o.elf)
+can_have_tables o (Accepted rows told) short can have = record {
+  each = have.each;
+  none = all_other o.elf can.new;
+  few = omega (arith, can.few);
+  short = short;
+  few_rows = have.few;
+}
+can_have_tables o (Broken warnings) short can have = tt
 
 pub rows_unwind : (o : Coded) (lists : NameLists) (options : Options) (counts : CodeCounts) (outcome : ObjectVerdict)
-    → ObjectUnwinds → ObjectIsInOrder o → IsCheckable o → IsOutcomeOf (program_of o lists) (allowances_of o lists) options counts outcome
+    → ObjectUnwinds → ObjectIsInOrder o → IsInOrder o → IsOutcomeOf (program_of o lists) (allowances_of o lists) options counts outcome
     → OnAccepted outcome (RowsUnwind o lists)
-rows_unwind o lists options counts (Accepted rows told) unwinds order can found = λ bases ranges placed m run.
+rows_unwind o lists options counts (Accepted rows told) unwinds order right found = λ bases ranges placed m run.
     let has = found.1 in
     subst (λ (all : List PlacedRow). WalksToFrames (program_of o lists) all bases ranges m) (sym has.is)
-    (unwinds o lists has.states bases ranges order can.in_order.flow found.0.accepted has.kept placed m run)
-rows_unwind o lists options counts (Broken warnings) unwinds order can found = tt
+    (unwinds o lists has.states bases ranges order right.flow found.0.accepted has.kept placed m run)
+rows_unwind o lists options counts (Broken warnings) unwinds order right found = tt
 
 -- what the options promise of its runs
 pub keeps_promises : (o : Coded) (lists : NameLists) (options : Options) (counts : CodeCounts) (outcome : ObjectVerdict)

@@ -2,5 +2,7 @@ mod Faults
 mod OrcSections
 mod SmallSites
 mod Verdicts
+pub mod RowForms
+pub mod RowOrder
 mod Found
 pub mod OneCount

@@ -5,3 +5,5 @@ pub mod Outcome
 pub mod Ready
 pub mod Unwinding
 pub mod Promises
+pub mod Code
+pub mod RowLaws

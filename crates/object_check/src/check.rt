@@ -1,11 +1,13 @@
-//! The public call.
+//! The public calls.
 
 ghost use Rattle.std.specs.Prelude.{◌≤◌, IfOk, IfErr, length, option_copied};
+ghost use Rattle.ot_base.specs.NameLists.{NameLists};
 ghost use Rattle.elf_objects.specs.declared.TheConstants.{MAX_FILE_BYTES as most_bytes};
-ghost use Rattle.flow_defs.specs.Coded.{coded_by};
+ghost use Rattle.flow_defs.specs.Coded.{Coded, coded_by};
 ghost use Rattle.machine_defs.specs.Program.{Program};
 ghost use Rattle.machine_defs.specs.Allowances.{Allowances};
 ghost use Rattle.option_rules.specs.AskedRules.{IsEnough};
+ghost use Rattle.object_check.specs.Code.{CanHaveRows, IsCodeOf, IsFound};
 ghost use Rattle.object_check.specs.Order.{IsCheckFault};
 ghost use Rattle.object_check.specs.Outcome.{IsOutcome, OnAccepted};
 ghost use Rattle.object_check.specs.Promises.{KeepsPromises};
@@ -13,9 +15,10 @@ ghost use Rattle.object_check.specs.Ready.{HasSmallSites, IsOutcomeOf, IsReady, 
 ghost use Rattle.object_check.specs.Unwinding.{RowsUnwind};
 ghost use Rattle.orc_output.specs.Tables.{CanHaveTables};
 
+use crate::code::{ReadCode, read_code};
 use crate::counts::CodeCounts;
 use crate::fault::CheckFault;
-use crate::graph::{ReadCode, read_code};
+use crate::laws::rows_tell_frames;
 use crate::outcome::ObjectVerdict;
 use crate::room::check_room;
 use elf_objects::Object;
@@ -55,6 +58,44 @@ fn outcome_of(
     }
 }
 
+/// Checks the code of an object that was read with these options: the rules 1 to 13 and 15 to 19, and 14 (`unreachable`), 21 (`fp`),
+/// 31 (`retpoline`), 32 (`rethunk`) and 41 to 47 (`uaccess`) where they ask for them.
+///
+/// # Errors
+///
+/// [`NoMemory`] where memory was wanted and not there.
+pub fn check_code(
+    alloc: Global,
+    code: ReadCode,
+    options: Options,
+) -> Result<ObjectVerdict, NoMemory>
+    requires { (o : Coded) × (lists : NameLists) × IsCodeOf o lists options code }
+    ensures ok { (o : Coded) (lists : NameLists) → IsCodeOf o lists options code → IfOk result (IsFound o lists options) }
+    // The rows can be added to the object, and unwind its program.
+    ensures rows { (o : Coded) (lists : NameLists) → IsCodeOf o lists options code → IfOk result (λ outcome. OnAccepted outcome (CanHaveRows o.elf)) }
+    // What the options promise of every run of its program.
+    ensures promises { (o : Coded) (lists : NameLists) → IsCodeOf o lists options code → IfOk result (λ outcome. OnAccepted outcome (λ rows. KeepsPromises o lists options)) }
+    ensures unwinds { (o : Coded) (lists : NameLists) → IsCodeOf o lists options code → IfOk result (λ outcome. OnAccepted outcome (RowsUnwind o lists)) }
+{
+    program_is_one();
+    program_is_laid_out();
+    plain_points_ascend();
+    rows_are_rows_of();
+    rows_are_named();
+    rows_tell_frames();
+    object_unwinds();
+    program_has_functions();
+    calls_have_frames();
+    branches_are_safe();
+    access_is_kept();
+    let ReadCode {
+        graph,
+        table,
+        counts,
+    } = code;
+    outcome_of(alloc, graph, table.as_ref(), counts, options)
+}
+
 /// Checks an object of at most 67,108,864 bytes (64 MiB), whose code is read by an opcode map, under lists of function names: the rules 1 to 13 and 15 to 19, and 14
 /// (`unreachable`), 21 (`fp`), 31 (`retpoline`), 32 (`rethunk`) and 41 to 47 (`uaccess`) where the options ask for them.
 ///
@@ -79,22 +120,8 @@ pub fn check_object(
     ensures unwinds { IfOk result (λ outcome. OnAccepted outcome (RowsUnwind (coded_by map object.now) lists.now)) }
     ensures err { IfErr result (IsCheckFault (coded_by map object.now)) }
 {
-    program_is_one();
-    program_is_laid_out();
-    plain_points_ascend();
-    rows_are_rows_of();
-    rows_are_named();
-    object_unwinds();
-    program_has_functions();
-    calls_have_frames();
-    branches_are_safe();
-    access_is_kept();
-    let ReadCode {
-        graph,
-        table,
-        counts,
-    } = read_code(alloc, map, object, lists, options)?;
+    let code = read_code(alloc, map, object, lists, options)?;
     check_room(object)?;
-    let outcome = outcome_of(alloc, graph, table.as_ref(), counts, options)?;
+    let outcome = check_code(alloc, code, options)?;
     Ok(outcome)
 }

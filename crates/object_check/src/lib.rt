@@ -3,14 +3,16 @@
 #![tactic(auto)]
 
 mod check;
+mod code;
 mod counts;
 mod fault;
-mod graph;
+mod laws;
 mod outcome;
 mod room;
 
-pub use check::check_object;
+pub use check::{check_code, check_object};
+pub use code::{ReadCode, read_code};
 pub use counts::CodeCounts;
-pub use fault::CheckFault;
+pub use fault::{CheckFault, CodeFault};
 pub use object_code::Map;
 pub use outcome::ObjectVerdict;

@@ -2,7 +2,7 @@
 #![tactic(auto)]
 
 ghost use Rattle.std.specs.Prelude.{◌≡◌};
-ghost use Rattle.command_base.specs.Status.{exit_code};
+ghost use Rattle.objtool_cli.specs.Status.{exit_code};
 
 use objtool_cli::{Status, run};
 use ot_files::{StdFiles, StdSink};

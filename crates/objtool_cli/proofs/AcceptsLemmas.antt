@@ -17,10 +17,10 @@ use Rattle.command_base.specs.Printing.{Concludes, Prints, fails, fault_stays, r
 use Rattle.command_base.specs.Reading.{MayRead, StopsAtRead}
 use Rattle.command_base.proofs.ConcludeLemmas.{concluded_after_fault, concluded_no_memory}
 use Rattle.objtool_cli.specs.Checked.{Accepts, BreaksRule, HasWarnings, IsRefusal, Refuses, crowded, uncheckable}
-use Rattle.objtool_cli.specs.Command.{Ends, EndsCheck, IsRead, Stops, checked, demoed, done, dumped, faulty, refused, stopped, shown, unfinished, unread, unwound, unwritten, warned, without_names}
-use Rattle.objtool_cli.specs.Lists.{HasNames, HoldsNames, IsListsStop, StopsAtNames, names_unread, no_lists, no_names}
-use Rattle.objtool_cli.specs.Writing.{StopsAtWrite}
-use Rattle.cli_words.specs.Grammar.{check, demo, dump, unwind}
+use Rattle.objtool_cli.specs.Command.{Ends, EndsCheck, IsRead, Stops, done, refused, stopped, unread, unwritten, warned, without_names}
+use Rattle.command_base.specs.Names.{HasNames, HoldsNames, IsListsStop, StopsAtNames, names_unread, no_lists, no_names}
+use Rattle.command_base.specs.Writing.{StopsAtWrite}
+use Rattle.cli_words.specs.Grammar.{check}
 use Rattle.cli_words.specs.declared.options.CheckOptions.{CheckOptions}
 use Rattle.ot_base.specs.declared.row.PlacedRow.{PlacedRow}
 use Rattle.ot_base.specs.declared.warning.Warning.{Warning}
@@ -37,8 +37,7 @@ use Rattle.point_allowances.specs.Allowances.{allowances_of}
 use Rattle.object_check.specs.Outcome.{HasRows, IsUnbroken}
 use Rattle.orc_output.specs.Tables.{symbols_needed}
 use Rattle.objtool_cli.proofs.CheckableLemmas.{checkable_unrefused, one_object, one_rows}
-use Rattle.objtool_cli.proofs.CheckEnds.{ChecksAs}
-use Rattle.objtool_cli.proofs.SameCommand.{no_fault_and_command, not_told as not_text, same_command}
+use Rattle.objtool_cli.proofs.SameCommand.{ends_as}
 
 -- ---- what is known of the bytes
 
@@ -124,6 +123,9 @@ Faults x = (x ≡ status.FileFault) ⊎ (x ≡ status.NoMemory)
 
 stopped_unread : (s : CommandStop) (name read : List ℕ) (held : Content) (before after : Outside) (out out' : Output) (x : Status) → before.content ≡ Some held → reading held name MAX_FILE_BYTES ≡ Ok read → StopsAtRead MAX_FILE_BYTES name before after s → Concludes s out out' x → Faults x
 stopped_unread (stop.Usage usage) name read held before after out out' x c is h t = absurd h
+stopped_unread (stop.PartMissing part file) name read held before after out out' x c is h t = absurd h
+stopped_unread (stop.PartTooLong part file limit) name read held before after out out' x c is h t = absurd h
+stopped_unread (stop.PartRefused part refusal) name read held before after out out' x c is h t = absurd h
 stopped_unread (stop.Missing told) name read held before after out out' x c is h t = let u : ◌≡◌ {A = Result (List ℕ) FileError} (Err file.Missing) (Ok read) = told_read MAX_FILE_BYTES before.content held name _ c h.1 ∙ is in cc
 stopped_unread (stop.TooLong told limit) name read held before after out out' x c is h t = let u : ◌≡◌ {A = Result (List ℕ) FileError} (Err (file.TooLong MAX_FILE_BYTES)) (Ok read) = told_read MAX_FILE_BYTES before.content held name _ c h.1.1 ∙ is in cc
 stopped_unread (stop.Refused refusal) name read held before after out out' x c is h t = absurd h
@@ -133,6 +135,9 @@ stopped_unread stop.NoMemory name read held before after out out' x c is h t = i
 stopped_refused : (s : CommandStop) (read : List ℕ) (lists : NameLists) (options : CheckOptions) (out out' : Output) (x : Status) → IsUnrefused read lists options → IsRefusal read lists options s → Concludes s out out' x → Faults x
 stopped_refused (stop.Refused told) read lists options out out' x never h t = absurd (never told h)
 stopped_refused (stop.Usage usage) read lists options out out' x never h t = absurd h
+stopped_refused (stop.PartMissing part file) read lists options out out' x never h t = absurd h
+stopped_refused (stop.PartTooLong part file limit) read lists options out out' x never h t = absurd h
+stopped_refused (stop.PartRefused part refusal) read lists options out out' x never h t = absurd h
 stopped_refused (stop.Missing told) read lists options out out' x never h t = absurd h
 stopped_refused (stop.TooLong told limit) read lists options out out' x never h t = absurd h
 stopped_refused (stop.FileFault told) read lists options out out' x never h t = absurd h
@@ -140,6 +145,9 @@ stopped_refused stop.NoMemory read lists options out out' x never h t = inr (con
 
 stopped_unwritten : (s : CommandStop) (name : List ℕ) (before after : Outside) (out out' : Output) (x : Status) → StopsAtWrite name before after s → Concludes s out out' x → Faults x
 stopped_unwritten (stop.Usage usage) name before after out out' x h t = absurd h
+stopped_unwritten (stop.PartMissing part file) name before after out out' x h t = absurd h
+stopped_unwritten (stop.PartTooLong part file limit) name before after out out' x h t = absurd h
+stopped_unwritten (stop.PartRefused part refusal) name before after out out' x h t = absurd h
 stopped_unwritten (stop.Missing told) name before after out out' x h t = absurd h
 stopped_unwritten (stop.TooLong told limit) name before after out out' x h t = absurd h
 stopped_unwritten (stop.Refused refusal) name before after out out' x h t = absurd h
@@ -166,9 +174,20 @@ stopped_unlisted (stop.Refused (refusal.Unplaced fault)) text out out' x right h
 stopped_unlisted (stop.Refused (refusal.Unlinked told)) text out out' x right h t = absurd h
 stopped_unlisted (stop.Refused (refusal.Unflowed told)) text out out' x right h t = absurd h
 stopped_unlisted (stop.Refused (refusal.HasOrc sec)) text out out' x right h t = absurd h
+stopped_unlisted (stop.Refused (refusal.HasSites sec)) text out out' x right h t = absurd h
+stopped_unlisted (stop.Refused (refusal.Sites why)) text out out' x right h t = absurd h
+stopped_unlisted (stop.Refused (refusal.HasFrames sec)) text out out' x right h t = absurd h
+stopped_unlisted (stop.Refused (refusal.Frames why)) text out out' x right h t = absurd h
+stopped_unlisted (stop.Refused (refusal.Layout why)) text out out' x right h t = absurd h
+stopped_unlisted (stop.Refused (refusal.TooManyFiles count)) text out out' x right h t = absurd h
+stopped_unlisted (stop.Refused (refusal.Merge why)) text out out' x right h t = absurd h
+stopped_unlisted (stop.Refused (refusal.Table why)) text out out' x right h t = absurd h
 stopped_unlisted (stop.Refused (refusal.TooMany what count)) text out out' x right h t = absurd h
 stopped_unlisted stop.NoMemory text out out' x right h t = inr (concluded_no_memory out out' x t)
 stopped_unlisted (stop.Usage usage) text out out' x right h t = absurd h
+stopped_unlisted (stop.PartMissing part file) text out out' x right h t = absurd h
+stopped_unlisted (stop.PartTooLong part file limit) text out out' x right h t = absurd h
+stopped_unlisted (stop.PartRefused part refusal) text out out' x right h t = absurd h
 stopped_unlisted (stop.Missing told) text out out' x right h t = absurd h
 stopped_unlisted (stop.TooLong told limit) text out out' x right h t = absurd h
 stopped_unlisted (stop.FileFault told) text out out' x right h t = absurd h
@@ -198,14 +217,10 @@ stop_faults s input output options names read lists before after out out' x know
 
 -- words that ask for `check` end as it does, or for want of memory
 pub ends_as_check : (meaning : Meaning) (input output : List ℕ) (options : CheckOptions) (names : Option (List ℕ)) (before after : Outside) (out out' : Output) (x : Status) → meaning ≡ Ok (check input output options names) → Ends meaning before after out out' x → EndsCheck input output options names before after out out' x ⊎ (x ≡ status.NoMemory)
-ends_as_check meaning input output options names before after out out' x n (faulty word kind none same t) = absurd (no_fault_and_command meaning word kind _ none n)
-ends_as_check meaning input output options names before after out out' x n (unfinished same t) = inr (concluded_no_memory out out' x t)
-ends_as_check meaning input output options names before after out out' x n (shown command some shows same t) = absurd (not_text meaning command _ some n shows refl)
-ends_as_check meaning input output options names before after out out' x n (demoed k some same h) = let same : demo k ≡ check input output options names = same_command meaning _ _ some n in cc
-ends_as_check meaning input output options names before after out out' x n (dumped file some h kept) = let same : dump file ≡ check input output options names = same_command meaning _ _ some n in cc
-ends_as_check meaning input output options names before after out out' x n (unwound file image some h kept) = let same : unwind file image ≡ check input output options names = same_command meaning _ _ some n in cc
-ends_as_check meaning input output options names before after out out' x n (checked i o os ns some h) =
-    inl (subst (ChecksAs before after out out' x) (same_command meaning (check i o os ns) (check input output options names) some n) h)
+ends_as_check meaning input output options names before after out out' x n ends = elim (ends_as (check input output options names) meaning before after out out' x ends n) [
+  | inl h ↦ inl h
+  | inr none ↦ inr (concluded_no_memory out out' x none.1)
+]
 
 -- ---- what is accepted
 

@@ -1,15 +1,13 @@
 -- How `check` ends, from what checking and writing ensure.
-use Rattle.std.proofs.Common.{◌≡◌, ℕ, List, refl, subst}
-use Rattle.std.specs.Prelude.{Option, Result, Ok, Err, Some, OnOk, OnErr, IfOk, IfErr}
-use Rattle.ot_base.specs.NameLists.{NameLists, lists_with}
-use Rattle.ot_base.specs.NamesFile.{IsNamesFile}
+use Rattle.std.proofs.Common.{◌≡◌, ℕ, List, subst}
+use Rattle.std.specs.Prelude.{Option, Result, Ok, Err, OnOk, OnErr, IfErr}
+use Rattle.ot_base.specs.NameLists.{NameLists}
 use Rattle.cli_words.specs.declared.options.CheckOptions.{CheckOptions}
 use Rattle.ot_base.specs.declared.row.PlacedRow.{PlacedRow}
 use Rattle.ot_base.specs.declared.warning.Warning.{Warning}
 use Rattle.ot_files.specs.Content.{Content, ChangesAtMost, writing}
 use Rattle.elf_objects.specs.Elf.{Elf}
 use Rattle.elf_objects.specs.Object.{IsObject}
-use Rattle.elf_objects.specs.declared.TheConstants.{MAX_FILE_BYTES}
 use Rattle.elf_objects.specs.declared.fault.Counted.TheVariants as counted
 use Rattle.flow_defs.specs.Coded.{coded_by}
 use Rattle.flow_defs.specs.Program.{program_of}
@@ -28,24 +26,13 @@ use Rattle.command_base.specs.declared.stop.CommandStop.{CommandStop}
 use Rattle.command_base.specs.declared.stop.CommandStop.TheVariants as stop
 use Rattle.command_base.specs.Outside.{Outside, Output}
 use Rattle.command_base.specs.Printing.{Prints}
-use Rattle.command_base.specs.Reading.{MayRead}
 use Rattle.objtool_cli.specs.Checked.{Accepts, IsRefusal, crowded}
 use Rattle.objtool_cli.specs.Command.{EndsCheck, IsDone, IsRead, Stops, refused, unwritten, warned}
-use Rattle.objtool_cli.specs.Lists.{HoldsNames, IsListsStop, StopsAtNames, no_names}
-use Rattle.objtool_cli.specs.Warnings.{warnings_text}
-use Rattle.objtool_cli.specs.Writing.{IsCrowded, IsTable, StopsAtTable, StopsAtWrite, WritesTable, crowded as too_many, cut_off}
+use Rattle.command_base.specs.Warnings.{warnings_text}
+use Rattle.objtool_cli.specs.Writing.{IsCrowded, IsTable, StopsAtTable, WritesTable, crowded as too_many, cut_off}
+use Rattle.command_base.specs.Writing.{StopsAtWrite}
 use Rattle.objtool_cli.proofs.ContentLemmas.{is_done}
 use Rattle.objtool_cli.proofs.UnwindingLemmas.{unwinds_by}
-
--- ---- the lists of names
-
-pub names_held : {E : Type 0} (r : Result NameLists E) (content : Option Content) (file text shown : List ℕ) → MayRead MAX_FILE_BYTES content file (Ok text) → shown ≡ text → OnOk r (IsNamesFile shown) → IfOk r (λ lists. lists ≡ lists_with shown) → IfOk r (HoldsNames content file)
-names_held (Ok lists) content file text shown may same right are = record { text = text; may = may; right = subst IsNamesFile same right; are = subst (λ (t : List ℕ). lists ≡ lists_with t) same are }
-names_held (Err e) content file text shown may same right are = tt
-
-pub names_refused : {T : Type 0} (r : Result T CommandStop) (file text shown : List ℕ) (before after : Outside) → MayRead MAX_FILE_BYTES before.content file (Ok text) → shown ≡ text → IfErr r (IsListsStop shown) → IfErr r (StopsAtNames (Some file) before after)
-names_refused (Ok lists) file text shown before after may same h = tt
-names_refused (Err s) file text shown before after may same h = no_names file text refl may (subst (λ (t : List ℕ). IsListsStop t s) same h)
 
 -- ---- OUT
 
@@ -103,8 +90,19 @@ crowd_refusal o read lists options rows (stop.Refused (refusal.Unplaced why)) is
 crowd_refusal o read lists options rows (stop.Refused (refusal.Unlinked told)) is sound h = absurd h
 crowd_refusal o read lists options rows (stop.Refused (refusal.Unflowed told)) is sound h = absurd h
 crowd_refusal o read lists options rows (stop.Refused (refusal.HasOrc sec)) is sound h = absurd h
+crowd_refusal o read lists options rows (stop.Refused (refusal.HasSites sec)) is sound h = absurd h
+crowd_refusal o read lists options rows (stop.Refused (refusal.Sites why)) is sound h = absurd h
+crowd_refusal o read lists options rows (stop.Refused (refusal.HasFrames sec)) is sound h = absurd h
+crowd_refusal o read lists options rows (stop.Refused (refusal.Frames why)) is sound h = absurd h
+crowd_refusal o read lists options rows (stop.Refused (refusal.Layout why)) is sound h = absurd h
+crowd_refusal o read lists options rows (stop.Refused (refusal.TooManyFiles count)) is sound h = absurd h
+crowd_refusal o read lists options rows (stop.Refused (refusal.Merge why)) is sound h = absurd h
+crowd_refusal o read lists options rows (stop.Refused (refusal.Table why)) is sound h = absurd h
 crowd_refusal o read lists options rows stop.NoMemory is sound h = tt
 crowd_refusal o read lists options rows (stop.Usage usage) is sound h = absurd h
+crowd_refusal o read lists options rows (stop.PartMissing part file) is sound h = absurd h
+crowd_refusal o read lists options rows (stop.PartTooLong part file limit) is sound h = absurd h
+crowd_refusal o read lists options rows (stop.PartRefused part refusal) is sound h = absurd h
 crowd_refusal o read lists options rows (stop.Missing file) is sound h = absurd h
 crowd_refusal o read lists options rows (stop.TooLong file limit) is sound h = absurd h
 crowd_refusal o read lists options rows (stop.FileFault file) is sound h = absurd h

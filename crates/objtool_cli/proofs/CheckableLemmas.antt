@@ -90,6 +90,14 @@ pub not_told : OneOutcome → (o : Coded) (told : Refusal) → IsCheckable o →
 not_told one o (refusal.Unlinked told) can h = not_faulty one o _ (λ e. cc) can h.0
 not_told one o (refusal.Unflowed told) can h = not_faulty one o _ (λ e. cc) can h
 not_told one o (refusal.HasOrc sec) can h = not_faulty one o _ (λ e. cc) can h
+not_told one o (refusal.HasSites sec) can h = h
+not_told one o (refusal.Sites why) can h = h
+not_told one o (refusal.HasFrames sec) can h = h
+not_told one o (refusal.Frames why) can h = h
+not_told one o (refusal.Layout why) can h = h
+not_told one o (refusal.TooManyFiles count) can h = h
+not_told one o (refusal.Merge why) can h = h
+not_told one o (refusal.Table why) can h = h
 not_told one o (refusal.TooMany counted.Sections count) can h = not_faulty one o _ (λ e. cc) can h
 not_told one o (refusal.TooMany counted.Symbols count) can h = h
 not_told one o (refusal.TooMany counted.TextBytes count) can h = h

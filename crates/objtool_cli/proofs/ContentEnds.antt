@@ -9,9 +9,12 @@ use Rattle.command_base.specs.declared.stop.CommandStop.TheVariants as stop
 use Rattle.command_base.specs.Outside.{Outside, Output}
 use Rattle.command_base.specs.Printing.{Concludes}
 use Rattle.command_base.proofs.ConcludeLemmas.{concluded_after_fault, concluded_no_memory}
-use Rattle.objtool_cli.specs.Command.{Ends, EndsCheck, MayChange, Stops, checked, demoed, done, faulty, output_of_check, refused, stopped, shown, unfinished, unread, unwritten, warned, without_names, dumped, unwound}
-use Rattle.objtool_cli.specs.Writing.{StopsAtWrite}
-use Rattle.cli_words.specs.Grammar.{check}
+use Rattle.objtool_cli.specs.Command.{ChangesOut, Ends, EndsAs, EndsCheck, MayChange, Stops, done, ended, faulty, refused, stopped, unfinished, unread, unwritten, warned, without_names}
+use Rattle.command_base.specs.Writing.{StopsAtWrite}
+use Rattle.cli_words.specs.Grammar.{Command, cfa, cfi, check, demo, dump, entry, find, help, list, merge, sites, unwind, version}
+use Rattle.site_commands.proofs.SitesLaws.{sites_changes, sites_unchanged}
+use Rattle.frame_commands.proofs.CfiLaws.{cfi_changes, cfi_unchanged}
+use Rattle.merge_command.proofs.MergeLaws.{merge_changes, merge_unchanged}
 use Rattle.cli_words.specs.declared.options.CheckOptions.{CheckOptions}
 use Rattle.objtool_cli.specs.Words.{Meaning}
 use Rattle.objtool_cli.proofs.ContentLemmas.{get-insert_other}
@@ -23,6 +26,9 @@ neither x (inr e) f m = m e
 
 write_told : (s : CommandStop) (name : List ℕ) (before after : Outside) (out out' : Output) (x : Status) → StopsAtWrite name before after s → Concludes s out out' x → (x ≡ FileFault) ⊎ (x ≡ NoMemory)
 write_told (stop.Usage usage) name before after out out' x h t = absurd h
+write_told (stop.PartMissing part file) name before after out out' x h t = absurd h
+write_told (stop.PartTooLong part file limit) name before after out out' x h t = absurd h
+write_told (stop.PartRefused part refusal) name before after out out' x h t = absurd h
 write_told (stop.Missing file) name before after out out' x h t = absurd h
 write_told (stop.TooLong file limit) name before after out out' x h t = absurd h
 write_told (stop.Refused refusal) name before after out out' x h t = absurd h
@@ -40,14 +46,25 @@ check_keeps input output options names before after out out' Done (done is same)
 check_keeps input output options names before after out out' x (warned o warnings is kept t) d f m = kept
 check_keeps input output options names before after out out' x (stopped s h t) d f m = stop_keeps s input output options names before after out out' x h t f m
 
+kept_as : (c : Command) (before after : Outside) (out out' : Output) (x : Status) → EndsAs c before after out out' x → x ≢ Done → x ≢ FileFault → x ≢ NoMemory → after.content ≡ before.content
+kept_as (check input output options names) before after out out' x h d f m = check_keeps input output options names before after out out' x h d f m
+kept_as (dump file) before after out out' x h d f m = h.1
+kept_as (unwind file image) before after out out' x h d f m = h.1
+kept_as (sites input output map names) before after out out' x h d f m = sites_unchanged map input output names before after out out' x h d f m
+kept_as (list file) before after out out' x h d f m = h.1
+kept_as (entry input rules map names) before after out out' x h d f m = h.1
+kept_as (cfi input output map names) before after out out' x h d f m = cfi_unchanged map input output names before after out out' x h d f m
+kept_as (cfa file) before after out out' x h d f m = h.1
+kept_as (merge layout output) before after out out' x h d f m = merge_unchanged layout output before after out out' x h d f m
+kept_as (find table address) before after out out' x h d f m = h.1
+kept_as (demo n) before after out out' x h d f m = ap (λ (o : Outside). o.content) h.0
+kept_as help before after out out' x h d f m = ap (λ (o : Outside). o.content) h.0
+kept_as version before after out out' x h d f m = ap (λ (o : Outside). o.content) h.0
+
 pub unchanged : (meaning : Meaning) (before after : Outside) (out out' : Output) (x : Status) → Ends meaning before after out out' x → x ≢ Done → x ≢ FileFault → x ≢ NoMemory → after.content ≡ before.content
 unchanged meaning before after out out' x (faulty word kind is same t) d f m = ap (λ (o : Outside). o.content) same
 unchanged meaning before after out out' x (unfinished same t) d f m = ap (λ (o : Outside). o.content) same
-unchanged meaning before after out out' x (shown command is shows same t) d f m = ap (λ (o : Outside). o.content) same
-unchanged meaning before after out out' x (checked input output options names is h) d f m = check_keeps input output options names before after out out' x h d f m
-unchanged meaning before after out out' x (demoed n is same h) d f m = ap (λ (o : Outside). o.content) same
-unchanged meaning before after out out' x (dumped file is h kept) d f m = kept
-unchanged meaning before after out out' x (unwound file image is h kept) d f m = kept
+unchanged meaning before after out out' x (ended command is h) d f m = kept_as command before after out out' x h d f m
 
 -- what writes OUT changes at most OUT
 written_others : (output table : List ℕ) (before after : Option Content) → after ≡ writing before output table → ChangesAtMost output before after
@@ -57,22 +74,41 @@ written_others output table (Some held) after is = subst (λ (c : Option Content
 abbrev Left : Meaning → Outside → Outside → Type 0
 Left meaning before after = (after.content ≡ before.content) ⊎ MayChange meaning before.content after.content
 
-stop_changes : (s : CommandStop) (meaning : Meaning) (input output : List ℕ) (options : CheckOptions) (names : Option (List ℕ)) (before after : Outside) → meaning ≡ Ok (check input output options names) → Stops input output options names before after s → Left meaning before after
-stop_changes s meaning input output options names before after is (unread h kept) = inl kept
-stop_changes s meaning input output options names before after is (without_names read may h kept) = inl kept
-stop_changes s meaning input output options names before after is (refused read lists is_read h kept) = inl kept
-stop_changes s meaning input output options names before after is (unwritten table accepted h others) = inr (output_of_check input output options names table is accepted others)
+-- the same of `check`
+abbrev LeftByCheck : List ℕ → List ℕ → CheckOptions → Option (List ℕ) → Outside → Outside → Type 0
+LeftByCheck input output options names before after = (after.content ≡ before.content) ⊎ ChangesOut (check input output options names) before.content after.content
 
-check_changes : (meaning : Meaning) (input output : List ℕ) (options : CheckOptions) (names : Option (List ℕ)) (before after : Outside) (out out' : Output) (x : Status) → meaning ≡ Ok (check input output options names) → EndsCheck input output options names before after out out' x → Left meaning before after
-check_changes meaning input output options names before after out out' Done is (done d same) = inr (output_of_check input output options names d.table is d.accepted (written_others output d.table before.content after.content d.written))
-check_changes meaning input output options names before after out out' x is (warned o warnings found kept t) = inl kept
-check_changes meaning input output options names before after out out' x is (stopped s h t) = stop_changes s meaning input output options names before after is h
+stop_changes : (s : CommandStop) (input output : List ℕ) (options : CheckOptions) (names : Option (List ℕ)) (before after : Outside) → Stops input output options names before after s → LeftByCheck input output options names before after
+stop_changes s input output options names before after (unread h kept) = inl kept
+stop_changes s input output options names before after (without_names read may h kept) = inl kept
+stop_changes s input output options names before after (refused read lists is_read h kept) = inl kept
+stop_changes s input output options names before after (unwritten table accepted h others) = inr (table, (accepted, others))
+
+check_changes : (input output : List ℕ) (options : CheckOptions) (names : Option (List ℕ)) (before after : Outside) (out out' : Output) (x : Status) → EndsCheck input output options names before after out out' x → LeftByCheck input output options names before after
+check_changes input output options names before after out out' Done (done d same) = inr (d.table, (d.accepted, written_others output d.table before.content after.content d.written))
+check_changes input output options names before after out out' x (warned o warnings found kept t) = inl kept
+check_changes input output options names before after out out' x (stopped s h t) = stop_changes s input output options names before after h
+
+by : (meaning : Meaning) (c : Command) (before after : Outside) → meaning ≡ Ok c → (after.content ≡ before.content) ⊎ ChangesOut c before.content after.content → Left meaning before after
+by meaning c before after is (inl kept) = inl kept
+by meaning c before after is (inr changed) = inr (record { command = c; is = is; changes = changed })
+
+changes_as : (c : Command) (before after : Outside) (out out' : Output) (x : Status) → EndsAs c before after out out' x → (after.content ≡ before.content) ⊎ ChangesOut c before.content after.content
+changes_as (check input output options names) before after out out' x h = check_changes input output options names before after out out' x h
+changes_as (dump file) before after out out' x h = inl h.1
+changes_as (unwind file image) before after out out' x h = inl h.1
+changes_as (sites input output map names) before after out out' x h = sites_changes map input output names before after out out' x h
+changes_as (list file) before after out out' x h = inl h.1
+changes_as (entry input rules map names) before after out out' x h = inl h.1
+changes_as (cfi input output map names) before after out out' x h = cfi_changes map input output names before after out out' x h
+changes_as (cfa file) before after out out' x h = inl h.1
+changes_as (merge layout output) before after out out' x h = merge_changes layout output before after out out' x h
+changes_as (find table address) before after out out' x h = inl h.1
+changes_as (demo n) before after out out' x h = inl (ap (λ (o : Outside). o.content) h.0)
+changes_as help before after out out' x h = inl (ap (λ (o : Outside). o.content) h.0)
+changes_as version before after out out' x h = inl (ap (λ (o : Outside). o.content) h.0)
 
 pub changes : (meaning : Meaning) (before after : Outside) (out out' : Output) (x : Status) → Ends meaning before after out out' x → Left meaning before after
 changes meaning before after out out' x (faulty word kind is same t) = inl (ap (λ (o : Outside). o.content) same)
 changes meaning before after out out' x (unfinished same t) = inl (ap (λ (o : Outside). o.content) same)
-changes meaning before after out out' x (shown command is shows same t) = inl (ap (λ (o : Outside). o.content) same)
-changes meaning before after out out' x (checked input output options names is h) = check_changes meaning input output options names before after out out' x is h
-changes meaning before after out out' x (demoed n is same h) = inl (ap (λ (o : Outside). o.content) same)
-changes meaning before after out out' x (dumped file is h kept) = inl kept
-changes meaning before after out out' x (unwound file image is h kept) = inl kept
+changes meaning before after out out' x (ended command is h) = by meaning command before after is (changes_as command before after out out' x h)

@@ -1,14 +1,14 @@
 -- The number of `demo N` is at most 100,000.
 use Rattle.std.proofs.Common.{◌≡◌, ℕ, ◌≤◌, Bool, true, false, List, [], ◌∷◌, Option, Some, None, Ok, refl, arith}
-use Rattle.std.specs.Prelude.{◌&&◌, bytes_eq, codes, if◌then◌else◌, nat_le, option_map}
+use Rattle.std.specs.Prelude.{◌&&◌, ◌||◌, bytes_eq, codes, if◌then◌else◌, nat_le, option_map}
 use Rattle.std.specs.Str.Parse.{digits_value}
 use Rattle.std.proofs.lemmas.Bool.Decides.{nat_tests}
-use Rattle.cli_words.specs.Grammar.{Command, asked, command_meaning, demo, first_meaning, help, line_meaning, lone_meaning, meaning, or_missing, unless, version}
-use Rattle.cli_words.specs.Numbers.{is_numeral, number_of}
+use Rattle.cli_words.specs.Grammar.{Command, asked, command_meaning, demo, find, first_meaning, help, line_meaning, lone_meaning, meaning, or_missing, unless, version}
+use Rattle.cli_words.specs.Numbers.{address_of, is_numeral, number_of}
 use Rattle.cli_words.specs.Words.{Word, command_named}
 use Rattle.cli_words.specs.declared.fault.UsageKind.{UsageKind}
 use Rattle.cli_words.specs.declared.word.CommandWord.{CommandWord}
-use Rattle.cli_words.specs.declared.word.CommandWord.TheVariants.{Check, Dump, Unwind, Demo}
+use Rattle.cli_words.specs.declared.word.CommandWord.TheVariants as the
 use Rattle.objtool_cli.specs.Words.{Meaning}
 
 -- ---- of its word
@@ -37,22 +37,51 @@ number_asked : (found : Option ℕ) (n : ℕ) → option_map demo found ≡ Some
 number_asked None n h = let none : ◌≡◌ {A = Option Command} None (Some (demo n)) = h in cc
 number_asked (Some m) n h = let same : ◌≡◌ {A = Option Command} (Some (demo m)) (Some (demo n)) = h in cc
 
+no_find : (table : Word) (found : Option ℕ) (n : ℕ) → option_map (find table) found ≡ Some (demo n) → ⊥
+no_find table None n h = let none : ◌≡◌ {A = Option Command} None (Some (demo n)) = h in cc
+no_find table (Some address) n h = let same : ◌≡◌ {A = Option Command} (Some (find table address)) (Some (demo n)) = h in cc
+
 asked_small : (command : CommandWord) (names words : List Word) (n : ℕ) → asked command names words ≡ Some (demo n) → n ≤ 100000
 unfolding asked
-asked_small Demo (word ∷ []) words n h = number_small word n (number_asked (number_of word) n h)
-asked_small Demo [] words n h = cc
-asked_small Demo (a ∷ b ∷ rest) words n h = cc
-asked_small Check [] words n h = cc
-asked_small Check (a ∷ []) words n h = cc
-asked_small Check (a ∷ b ∷ []) words n h = cc
-asked_small Check (a ∷ b ∷ c ∷ rest) words n h = cc
-asked_small Dump [] words n h = cc
-asked_small Dump (a ∷ []) words n h = cc
-asked_small Dump (a ∷ b ∷ rest) words n h = cc
-asked_small Unwind [] words n h = cc
-asked_small Unwind (a ∷ []) words n h = cc
-asked_small Unwind (a ∷ b ∷ []) words n h = cc
-asked_small Unwind (a ∷ b ∷ c ∷ rest) words n h = cc
+asked_small the.Demo (word ∷ []) words n h = number_small word n (number_asked (number_of word) n h)
+asked_small the.Demo [] words n h = cc
+asked_small the.Demo (a ∷ b ∷ rest) words n h = cc
+asked_small the.Check [] words n h = cc
+asked_small the.Check (a ∷ []) words n h = cc
+asked_small the.Check (a ∷ b ∷ []) words n h = cc
+asked_small the.Check (a ∷ b ∷ c ∷ rest) words n h = cc
+asked_small the.Dump [] words n h = cc
+asked_small the.Dump (a ∷ []) words n h = cc
+asked_small the.Dump (a ∷ b ∷ rest) words n h = cc
+asked_small the.Unwind [] words n h = cc
+asked_small the.Unwind (a ∷ []) words n h = cc
+asked_small the.Unwind (a ∷ b ∷ []) words n h = cc
+asked_small the.Unwind (a ∷ b ∷ c ∷ rest) words n h = cc
+asked_small the.Sites [] words n h = cc
+asked_small the.Sites (a ∷ []) words n h = cc
+asked_small the.Sites (a ∷ b ∷ []) words n h = cc
+asked_small the.Sites (a ∷ b ∷ c ∷ rest) words n h = cc
+asked_small the.List [] words n h = cc
+asked_small the.List (a ∷ []) words n h = cc
+asked_small the.List (a ∷ b ∷ rest) words n h = cc
+asked_small the.Entry [] words n h = cc
+asked_small the.Entry (a ∷ []) words n h = cc
+asked_small the.Entry (a ∷ b ∷ rest) words n h = cc
+asked_small the.Cfi [] words n h = cc
+asked_small the.Cfi (a ∷ []) words n h = cc
+asked_small the.Cfi (a ∷ b ∷ []) words n h = cc
+asked_small the.Cfi (a ∷ b ∷ c ∷ rest) words n h = cc
+asked_small the.Cfa [] words n h = cc
+asked_small the.Cfa (a ∷ []) words n h = cc
+asked_small the.Cfa (a ∷ b ∷ rest) words n h = cc
+asked_small the.Merge [] words n h = cc
+asked_small the.Merge (a ∷ []) words n h = cc
+asked_small the.Merge (a ∷ b ∷ []) words n h = cc
+asked_small the.Merge (a ∷ b ∷ c ∷ rest) words n h = cc
+asked_small the.Find [] words n h = cc
+asked_small the.Find (a ∷ []) words n h = cc
+asked_small the.Find (a ∷ b ∷ []) words n h = absurd (no_find a (address_of b) n h)
+asked_small the.Find (a ∷ b ∷ c ∷ rest) words n h = cc
 
 not_missing : (found : Option Command) (at : ℕ) (c : Command) → or_missing found at ≡ Ok c → found ≡ Some c
 not_missing None at c h = cc
@@ -69,7 +98,7 @@ line_small command words n h = asked_small command _ words n (not_missing _ _ _ 
 -- ---- of all words
 
 lone_not_demo : (word : Word) (words : List Word) (n : ℕ) → lone_meaning word words ≡ Some (demo n) → ⊥
-lone_not_demo word [] n h = by (bytes_eq word (codes "--help")) (bytes_eq word (codes "--version")) h
+lone_not_demo word [] n h = by (bytes_eq word (codes "--help") || bytes_eq word (codes "-h")) (bytes_eq word (codes "--version") || bytes_eq word (codes "-V")) h
   where
     by : (a b : Bool) → ◌≡◌ {A = Option Command} (if a then Some help else if b then Some version else None) (Some (demo n)) → ⊥
     by true b is = let other : ◌≡◌ {A = Option Command} (Some help) (Some (demo n)) = is in cc

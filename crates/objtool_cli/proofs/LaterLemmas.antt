@@ -13,8 +13,8 @@ use Rattle.command_base.specs.declared.status.Status.{Status}
 use Rattle.command_base.specs.declared.status.Status.TheVariants as status
 use Rattle.cli_words.specs.declared.options.CheckOptions.{CheckOptions}
 use Rattle.objtool_cli.specs.Command.{EndsCheck, IsDone, Stops, done, refused, stopped, unread, unwritten, warned, without_names}
-use Rattle.objtool_cli.specs.Lists.{StopsAtNames, names_unread, no_lists, no_names}
-use Rattle.objtool_cli.specs.Writing.{StopsAtWrite}
+use Rattle.command_base.specs.Names.{StopsAtNames, names_unread, no_lists, no_names}
+use Rattle.command_base.specs.Writing.{StopsAtWrite}
 
 abbrev outside : Option Content → ℕ → Outside
 outside content faults = record { content = content; faults = faults }
@@ -27,6 +27,9 @@ later_still a b c h k = omega arith
 
 read_earlier : (s : CommandStop) (name : List ℕ) (content : Option Content) (before middle : ℕ) (after : Outside) → before ≤ middle → StopsAtRead MAX_FILE_BYTES name (outside content middle) after s → StopsAtRead MAX_FILE_BYTES name (outside content before) after s
 read_earlier (stop.Usage usage) name content before middle after later h = h
+read_earlier (stop.PartMissing part file) name content before middle after later h = h
+read_earlier (stop.PartTooLong part file limit) name content before middle after later h = h
+read_earlier (stop.PartRefused part refusal) name content before middle after later h = h
 read_earlier (stop.Missing file) name content before middle after later h = h
 read_earlier (stop.TooLong file limit) name content before middle after later h = h
 read_earlier (stop.Refused refusal) name content before middle after later h = h
@@ -35,6 +38,9 @@ read_earlier stop.NoMemory name content before middle after later h = h
 
 write_earlier : (s : CommandStop) (name : List ℕ) (content : Option Content) (before middle : ℕ) (after : Outside) → before ≤ middle → StopsAtWrite name (outside content middle) after s → StopsAtWrite name (outside content before) after s
 write_earlier (stop.Usage usage) name content before middle after later h = h
+write_earlier (stop.PartMissing part file) name content before middle after later h = h
+write_earlier (stop.PartTooLong part file limit) name content before middle after later h = h
+write_earlier (stop.PartRefused part refusal) name content before middle after later h = h
 write_earlier (stop.Missing file) name content before middle after later h = h
 write_earlier (stop.TooLong file limit) name content before middle after later h = h
 write_earlier (stop.Refused refusal) name content before middle after later h = h

@@ -1,4 +1,5 @@
 pub mod AcceptsLemmas
+pub mod CfiEnds
 pub mod CheckEnds
 pub mod CheckLemmas
 pub mod CheckableLemmas
@@ -8,6 +9,7 @@ pub mod DemoBytes
 pub mod DemoEnds
 pub mod DemoWords
 pub mod FaultEnds
+pub mod FileFaults
 pub mod LaterLemmas
 pub mod ParseLemmas
 pub mod PlacementLemmas
@@ -21,4 +23,7 @@ pub mod TextEnds
 pub mod UnwindingLemmas
 pub mod UsageEnds
 pub mod UsageLemmas
-pub mod WarningLemmas
+pub use Rattle.site_commands.proofs.ListLaws
+pub use Rattle.frame_commands.proofs.CfaLaws
+pub use Rattle.merge_command.proofs.FindLaws
+pub use Rattle.merge_command.proofs.TableLemmas

@@ -36,6 +36,9 @@ pub check_uncheckable : (map : Map) (bytes : List ℕ) (o : Elf) (s : CommandSto
 check_uncheckable map bytes o (stop.Refused refusal) is h = unchecked o is h
 check_uncheckable map bytes o stop.NoMemory is h = tt
 check_uncheckable map bytes o (stop.Usage usage) is h = absurd h
+check_uncheckable map bytes o (stop.PartMissing part file) is h = absurd h
+check_uncheckable map bytes o (stop.PartTooLong part file limit) is h = absurd h
+check_uncheckable map bytes o (stop.PartRefused part refusal) is h = absurd h
 check_uncheckable map bytes o (stop.Missing file) is h = absurd h
 check_uncheckable map bytes o (stop.TooLong file limit) is h = absurd h
 check_uncheckable map bytes o (stop.FileFault file) is h = absurd h
@@ -45,6 +48,9 @@ pub uncheckable_refusal : (bytes : List ℕ) (lists : NameLists) (options : Chec
 uncheckable_refusal bytes lists options (stop.Refused refusal) h = uncheckable h
 uncheckable_refusal bytes lists options stop.NoMemory h = tt
 uncheckable_refusal bytes lists options (stop.Usage usage) h = absurd h
+uncheckable_refusal bytes lists options (stop.PartMissing part file) h = absurd h
+uncheckable_refusal bytes lists options (stop.PartTooLong part file limit) h = absurd h
+uncheckable_refusal bytes lists options (stop.PartRefused part refusal) h = absurd h
 uncheckable_refusal bytes lists options (stop.Missing file) h = absurd h
 uncheckable_refusal bytes lists options (stop.TooLong file limit) h = absurd h
 uncheckable_refusal bytes lists options (stop.FileFault file) h = absurd h

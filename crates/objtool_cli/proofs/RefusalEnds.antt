@@ -1,6 +1,6 @@
 -- A command ends with a refusal exactly where a step refuses it, and prints the line of one that does.
 use Rattle.std.proofs.Common.{◌≡◌, ℕ, List, refl, sym, ap, ◌∙◌, subst, inl, inr}
-use Rattle.std.specs.Prelude.{◌≢◌, ◌⊎◌, Option, Some, Result, Ok, Err}
+use Rattle.std.specs.Prelude.{◌≢◌, Option, Some, Result, Ok, Err}
 use Rattle.ot_base.specs.NameLists.{NameLists}
 use Rattle.ot_base.specs.NamesFile.{IsNamesFile}
 use Rattle.ot_base.specs.declared.lists.ListsFault.TheVariants as lists_fault
@@ -8,7 +8,7 @@ use Rattle.ot_files.specs.Content.{Content, reading}
 use Rattle.ot_files.specs.Output.{appending}
 use Rattle.ot_files.specs.declared.access.FileError.{FileError}
 use Rattle.ot_files.specs.declared.access.FileError.TheVariants as file_error
-use Rattle.cli_words.specs.Grammar.{Command, check, dump, unwind}
+use Rattle.cli_words.specs.Grammar.{Command, cfa, cfi, check, demo, dump, entry, find, help, list, merge, sites, unwind, version}
 use Rattle.cli_words.specs.declared.options.CheckOptions.{CheckOptions}
 use Rattle.elf_objects.specs.declared.TheConstants.{MAX_FILE_BYTES}
 use Rattle.x86_decode.specs.Decoding.{OneOutcome}
@@ -18,31 +18,35 @@ use Rattle.command_base.specs.declared.status.Status.{Status}
 use Rattle.command_base.specs.declared.status.Status.TheVariants.{Done, Warnings, Refused, Usage, FileFault, SinkFault, NoMemory}
 use Rattle.command_base.specs.declared.stop.CommandStop.{CommandStop}
 use Rattle.command_base.specs.declared.stop.CommandStop.TheVariants as stop
-use Rattle.command_base.specs.Dump.{Dumps, EndsDump, HoldsNoRows, HoldsRows, IsDumped, printed, read as file_read, stopped as dump_stopped, unread as file_unread}
+use Rattle.command_base.specs.Dump.{Dumps, EndsDump, HoldsRows, IsDumped, printed, read as file_read, stopped as dump_stopped, unread as file_unread}
 use Rattle.command_base.specs.Outside.{Outside, Output}
 use Rattle.command_base.specs.Printing.{Concludes, Prints, fails, fault_stays, runs_out, silent, tells, whole}
-use Rattle.command_base.specs.Reading.{MayRead, StopsAtRead}
+use Rattle.command_base.specs.Reading.{IsUnreadable, MayRead, StopsAtRead}
 use Rattle.command_base.specs.Stop.{line_of, status_of, usage_at}
-use Rattle.command_base.specs.Unwind.{EndsUnwind, HasNoWalk, IsPlaced, IsUnwound, Unwinds, no_file, no_text, read as files_read, stopped as unwind_stopped, walked}
-use Rattle.command_base.proofs.ConcludeLemmas.{concluded_no_warnings, concluded_not_done, printed_done}
-use Rattle.command_base.proofs.DumpLaws.{no_rows_excluded, same_read, told_read}
-use Rattle.command_base.proofs.UnwindLaws.{walk_excluded}
+use Rattle.command_base.specs.Unwind.{EndsUnwind, IsPlaced, IsUnwound, Unwinds, no_file, no_text, read as files_read, stopped as unwind_stopped, walked}
+use Rattle.command_base.proofs.ConcludeLemmas.{concluded_no_memory, concluded_no_warnings, concluded_not_done, printed_done}
+use Rattle.command_base.proofs.DumpLaws.{dump_no_warnings, dumped as file_dumped, no_rows_excluded, same_read, told_read}
+use Rattle.command_base.proofs.UnwindLaws.{unwind_no_warnings, unwound as files_unwound, walk_excluded}
 use Rattle.objtool_cli.specs.Checked.{IsRefusal, Refuses}
-use Rattle.objtool_cli.specs.Command.{Ends, EndsCheck, IsFaulty, PrintsWarnings, Stops, at_fault, checked, demoed, done, dumped, faulty, of_check, of_demo, refused, shown, stopped, unfinished, unread, unwound, unwritten, warned, without_names}
-use Rattle.objtool_cli.specs.Lists.{HasNames, IsListsStop, StopsAtNames, names_unread, no_lists, no_names}
-use Rattle.objtool_cli.specs.Refused.{IsRefused, IsRefusedOrFails, IsUnreadable, RefusesCheck, RefusesDump, RefusesUnwind, TellsRefusal, by_check, by_demo, by_dump, by_unwind, image_unread, input_refused, input_unread, list_faulty, list_unread, object_unread, tables_unread, without_rows, without_walk}
-use Rattle.objtool_cli.specs.Summary.{IsOrFails, demo_bytes, demo_title}
-use Rattle.objtool_cli.specs.Words.{Meaning, told_text}
-use Rattle.objtool_cli.specs.Writing.{StopsAtWrite}
-use Rattle.objtool_cli.proofs.AcceptsLemmas.{IsUnrefused, accepted_unrefused, broken_unrefused, ends_as_check, given_names, no_faulty_line, same_names, warns_breaks}
-use Rattle.objtool_cli.proofs.CheckEnds.{warnings_printed}
-use Rattle.objtool_cli.proofs.DemoEnds.{demo_sums_up}
-use Rattle.objtool_cli.proofs.ReadBackEnds.{rows_dumped, walk_printed}
-use Rattle.objtool_cli.proofs.SameCommand.{no_check_dump, no_check_unwind, no_dump_demo, no_fault_and_command, no_unwind_demo}
+use Rattle.objtool_cli.specs.Command.{Ends, EndsAs, EndsCheck, Stops, done, ended, faulty, refused, stopped, unfinished, unread, unwritten, warned, without_names}
+use Rattle.command_base.specs.Names.{HasNames, IsListsStop, StopsAtNames, names_unread, no_lists, no_names}
+use Rattle.objtool_cli.specs.Refused.{IsRefused, IsRefusedOrFails, RefusesAs, RefusesCheck, RefusesDemo, RefusesDump, RefusesUnwind, TellsRefusal, image_unread, input_refused, input_unread, list_faulty, list_unread, object_unread, tables_unread, without_rows, without_walk}
+use Rattle.objtool_cli.specs.Summary.{IsOrFails, SumsUp, demo_bytes, demo_title}
+use Rattle.objtool_cli.specs.Words.{Meaning, entry_options}
+use Rattle.entry_command.proofs.EntryLaws.{entry_refused, entry_told}
+use Rattle.command_base.specs.Writing.{StopsAtWrite}
+use Rattle.site_commands.proofs.ListLaws.{list_refused, list_told}
+use Rattle.site_commands.proofs.SitesLaws.{sites_refused, sites_told}
+use Rattle.frame_commands.proofs.CfaLaws.{cfa_refused, cfa_told}
+use Rattle.frame_commands.proofs.CfiLaws.{cfi_refused, cfi_told}
+use Rattle.merge_command.proofs.MergeLaws.{merge_refused, merge_told}
+use Rattle.merge_command.proofs.FindLaws.{find_refused, find_told}
+use Rattle.objtool_cli.proofs.AcceptsLemmas.{IsUnrefused, accepted_unrefused, broken_unrefused, given_names, no_faulty_line, same_names, warns_breaks}
+use Rattle.objtool_cli.proofs.SameCommand.{ends_as}
 use Rattle.objtool_cli.proofs.StatusLemmas.{done_no_warnings, warnings_not_done}
 use Rattle.objtool_cli.proofs.SummaryEnds.{sums_refused}
 use Rattle.objtool_cli.proofs.SummaryLemmas.{sums_uncheckable}
-use Rattle.objtool_cli.proofs.UsageLemmas.{only_faulty}
+use Rattle.objtool_cli.proofs.UsageLemmas.{check_ended, file_dumped as dump_no_usage, files_unwound as unwind_no_usage}
 
 -- ---- statuses
 
@@ -79,15 +83,22 @@ whole_line : (s : CommandStop) (out out' : Output) (x : Status) → Concludes s 
 whole_line s out out' x (tells other t) e = whole_text _ _ out out' x t e
 whole_line s out out' NoMemory (silent none same) e = absurd (memory_not_refused e)
 
-of_stop : (meaning : Meaning) (held : Content) (s : CommandStop) (out out' : Output) (x : Status) → Concludes s out out' x → x ≡ Refused → (status_of s ≡ Refused → IsRefused meaning held s) → TellsRefusal meaning held out.written out'.written
-of_stop meaning held s out out' x t e is =
+-- a step of a command refuses it so, and exactly the line that says why was printed
+abbrev TellsBy : (CommandStop → Type 0) → Option (List ℕ) → Option (List ℕ) → Type 0
+TellsBy refuses before after = (s : CommandStop) × (refuses s × (after ≡ appending before (line_of s)))
+
+of_stop : (R : CommandStop → Type 0) (s : CommandStop) (out out' : Output) (x : Status) → Concludes s out out' x → x ≡ Refused → (status_of s ≡ Refused → R s) → TellsBy R out.written out'.written
+of_stop R s out out' x t e is =
     let told = whole_line s out out' x t e in
-    record { stop = s; is = is told.0; printed = told.1 }
+    (s, (is told.0, told.1))
 
 -- ---- each step that refuses
 
 unreadable : (limit : ℕ) (s : CommandStop) (name : List ℕ) (held : Content) (before after : Outside) → before.content ≡ Some held → StopsAtRead limit name before after s → status_of s ≡ Refused → IsUnreadable limit held name s
 unreadable limit (stop.Usage usage) name held before after c h e = absurd h
+unreadable limit (stop.PartMissing part file) name held before after c h e = absurd h
+unreadable limit (stop.PartTooLong part file told_limit) name held before after c h e = absurd h
+unreadable limit (stop.PartRefused part refusal) name held before after c h e = absurd h
 unreadable limit (stop.Missing told) name held before after c h e = (h.0, sym (told_read limit before.content held name _ c h.1))
 unreadable limit (stop.TooLong told at) name held before after c h e = (h.0, (h.1.0, sym (told_read limit before.content held name _ c h.1.1)))
 unreadable limit (stop.Refused why) name held before after c h e = absurd h
@@ -109,9 +120,20 @@ faulty_line (stop.Refused (refusal.Unplaced fault)) input options names held rea
 faulty_line (stop.Refused (refusal.Unlinked told)) input options names held read file text is given said h e = absurd h
 faulty_line (stop.Refused (refusal.Unflowed told)) input options names held read file text is given said h e = absurd h
 faulty_line (stop.Refused (refusal.HasOrc sec)) input options names held read file text is given said h e = absurd h
+faulty_line (stop.Refused (refusal.HasSites sec)) input options names held read file text is given said h e = absurd h
+faulty_line (stop.Refused (refusal.Sites why)) input options names held read file text is given said h e = absurd h
+faulty_line (stop.Refused (refusal.HasFrames sec)) input options names held read file text is given said h e = absurd h
+faulty_line (stop.Refused (refusal.Frames why)) input options names held read file text is given said h e = absurd h
+faulty_line (stop.Refused (refusal.Layout why)) input options names held read file text is given said h e = absurd h
+faulty_line (stop.Refused (refusal.TooManyFiles count)) input options names held read file text is given said h e = absurd h
+faulty_line (stop.Refused (refusal.Merge why)) input options names held read file text is given said h e = absurd h
+faulty_line (stop.Refused (refusal.Table why)) input options names held read file text is given said h e = absurd h
 faulty_line (stop.Refused (refusal.TooMany what count)) input options names held read file text is given said h e = absurd h
 faulty_line stop.NoMemory input options names held read file text is given said h e = absurd (memory_not_refused e)
 faulty_line (stop.Usage usage) input options names held read file text is given said h e = absurd h
+faulty_line (stop.PartMissing part told_file) input options names held read file text is given said h e = absurd h
+faulty_line (stop.PartTooLong part told_file limit) input options names held read file text is given said h e = absurd h
+faulty_line (stop.PartRefused part refusal) input options names held read file text is given said h e = absurd h
 faulty_line (stop.Missing told) input options names held read file text is given said h e = absurd h
 faulty_line (stop.TooLong told limit) input options names held read file text is given said h e = absurd h
 faulty_line (stop.FileFault told) input options names held read file text is given said h e = absurd h
@@ -125,6 +147,9 @@ bytes_refuse : (s : CommandStop) (input : List ℕ) (options : CheckOptions) (na
 bytes_refuse (stop.Refused why) input options names held read lists is has h e = input_refused read lists is has h
 bytes_refuse stop.NoMemory input options names held read lists is has h e = absurd (memory_not_refused e)
 bytes_refuse (stop.Usage usage) input options names held read lists is has h e = absurd h
+bytes_refuse (stop.PartMissing part file) input options names held read lists is has h e = absurd h
+bytes_refuse (stop.PartTooLong part file limit) input options names held read lists is has h e = absurd h
+bytes_refuse (stop.PartRefused part refusal) input options names held read lists is has h e = absurd h
 bytes_refuse (stop.Missing told) input options names held read lists is has h e = absurd h
 bytes_refuse (stop.TooLong told limit) input options names held read lists is has h e = absurd h
 bytes_refuse (stop.FileFault told) input options names held read lists is has h e = absurd h
@@ -134,6 +159,9 @@ write_not_refused (stop.FileFault told) name before after h e = file_fault_not_r
 write_not_refused stop.NoMemory name before after h e = memory_not_refused e
 write_not_refused (stop.Refused why) name before after h e = h
 write_not_refused (stop.Usage usage) name before after h e = h
+write_not_refused (stop.PartMissing part file) name before after h e = h
+write_not_refused (stop.PartTooLong part file limit) name before after h e = h
+write_not_refused (stop.PartRefused part refusal) name before after h e = h
 write_not_refused (stop.Missing told) name before after h e = h
 write_not_refused (stop.TooLong told limit) name before after h e = h
 
@@ -146,41 +174,56 @@ check_refuses s input output options names held before after c (unwritten table 
 
 -- ---- the line that is printed
 
-by_check_told : (meaning : Meaning) (input output : List ℕ) (options : CheckOptions) (names : Option (List ℕ)) (held : Content) (before after : Outside) (out out' : Output) (x : Status) → meaning ≡ Ok (check input output options names) → before.content ≡ Some held → EndsCheck input output options names before after out out' x → x ≡ Refused → TellsRefusal meaning held out.written out'.written
-by_check_told meaning input output options names held before after out out' Done n c (done is same) e = absurd (done_not_refused e)
-by_check_told meaning input output options names held before after out out' x n c (warned o warnings is kept t) e = absurd (warnings_not_refused (whole_text Warnings _ out out' x t e).0)
-by_check_told meaning input output options names held before after out out' x n c (stopped s h t) e =
-    of_stop meaning held s out out' x t e (λ at. by_check input output options names n (check_refuses s input output options names held before after c h at))
+check_told : (input output : List ℕ) (options : CheckOptions) (names : Option (List ℕ)) (held : Content) (before after : Outside) (out out' : Output) (x : Status) → before.content ≡ Some held → EndsCheck input output options names before after out out' x → x ≡ Refused → TellsBy (RefusesCheck input options names held) out.written out'.written
+check_told input output options names held before after out out' Done c (done is same) e = absurd (done_not_refused e)
+check_told input output options names held before after out out' x c (warned o warnings is kept t) e = absurd (warnings_not_refused (whole_text Warnings _ out out' x t e).0)
+check_told input output options names held before after out out' x c (stopped s h t) e =
+    of_stop (RefusesCheck input options names held) s out out' x t e (λ at. check_refuses s input output options names held before after c h at)
 
-rows_refuse : (meaning : Meaning) (file bytes : List ℕ) (held : Content) (out out' : Output) (x : Status) → ((s : CommandStop) → RefusesDump file held s → IsRefused meaning held s) → reading held file MAX_FILE_BYTES ≡ Ok bytes → Dumps bytes out out' x → x ≡ Refused → TellsRefusal meaning held out.written out'.written
-rows_refuse meaning file bytes held out out' x by is (printed o rows holds t) e = absurd (done_not_refused (whole_text Done _ out out' x t e).0)
-rows_refuse meaning file bytes held out out' x by is (dump_stopped s h t) e = of_stop meaning held s out out' x t e (λ at. by s (without_rows bytes is h (not_memory s at)))
+rows_refuse : (file bytes : List ℕ) (held : Content) (out out' : Output) (x : Status) → reading held file MAX_FILE_BYTES ≡ Ok bytes → Dumps bytes out out' x → x ≡ Refused → TellsBy (RefusesDump file held) out.written out'.written
+rows_refuse file bytes held out out' x is (printed o rows holds t) e = absurd (done_not_refused (whole_text Done _ out out' x t e).0)
+rows_refuse file bytes held out out' x is (dump_stopped s h t) e = of_stop (RefusesDump file held) s out out' x t e (λ at. without_rows bytes is h (not_memory s at))
 
-by_dump_told : (meaning : Meaning) (file : List ℕ) (held : Content) (before after : Outside) (out out' : Output) (x : Status) → ((s : CommandStop) → RefusesDump file held s → IsRefused meaning held s) → before.content ≡ Some held → EndsDump file before after out out' x → x ≡ Refused → TellsRefusal meaning held out.written out'.written
-by_dump_told meaning file held before after out out' x by c (file_unread s h t) e = of_stop meaning held s out out' x t e (λ at. by s (object_unread (unreadable MAX_FILE_BYTES s file held before after c h at)))
-by_dump_told meaning file held before after out out' x by c (file_read bytes may h) e = rows_refuse meaning file bytes held out out' x by (is_read MAX_FILE_BYTES file bytes held before.content c may) h e
+dump_told : (file : List ℕ) (held : Content) (before after : Outside) (out out' : Output) (x : Status) → before.content ≡ Some held → EndsDump file before after out out' x → x ≡ Refused → TellsBy (RefusesDump file held) out.written out'.written
+dump_told file held before after out out' x c (file_unread s h t) e = of_stop (RefusesDump file held) s out out' x t e (λ at. object_unread (unreadable MAX_FILE_BYTES s file held before after c h at))
+dump_told file held before after out out' x c (file_read bytes may h) e = rows_refuse file bytes held out out' x (is_read MAX_FILE_BYTES file bytes held before.content c may) h e
 
-walk_refuses : (meaning : Meaning) (file image bytes text : List ℕ) (held : Content) (out out' : Output) (x : Status) → ((s : CommandStop) → RefusesUnwind file image held s → IsRefused meaning held s) → reading held file MAX_FILE_BYTES ≡ Ok bytes → reading held image MAX_IMAGE_BYTES ≡ Ok text → Unwinds bytes text out out' x → x ≡ Refused → TellsRefusal meaning held out.written out'.written
-walk_refuses meaning file image bytes text held out out' x by is said (walked stack o rows frames s placed walks t) e = absurd (done_not_refused (whole_text Done _ out out' x t e).0)
-walk_refuses meaning file image bytes text held out out' x by is said (unwind_stopped s h t) e = of_stop meaning held s out out' x t e (λ at. by s (without_walk bytes text is said h (not_memory s at)))
+walk_refuses : (file image bytes text : List ℕ) (held : Content) (out out' : Output) (x : Status) → reading held file MAX_FILE_BYTES ≡ Ok bytes → reading held image MAX_IMAGE_BYTES ≡ Ok text → Unwinds bytes text out out' x → x ≡ Refused → TellsBy (RefusesUnwind file image held) out.written out'.written
+walk_refuses file image bytes text held out out' x is said (walked stack o rows frames s placed walks t) e = absurd (done_not_refused (whole_text Done _ out out' x t e).0)
+walk_refuses file image bytes text held out out' x is said (unwind_stopped s h t) e = of_stop (RefusesUnwind file image held) s out out' x t e (λ at. without_walk bytes text is said h (not_memory s at))
 
-by_unwind_told : (meaning : Meaning) (file image : List ℕ) (held : Content) (before after : Outside) (out out' : Output) (x : Status) → ((s : CommandStop) → RefusesUnwind file image held s → IsRefused meaning held s) → before.content ≡ Some held → EndsUnwind file image before after out out' x → x ≡ Refused → TellsRefusal meaning held out.written out'.written
-by_unwind_told meaning file image held before after out out' x by c (no_file s h t) e = of_stop meaning held s out out' x t e (λ at. by s (tables_unread (unreadable MAX_FILE_BYTES s file held before after c h at)))
-by_unwind_told meaning file image held before after out out' x by c (no_text bytes s may h t) e =
-    of_stop meaning held s out out' x t e (λ at. by s (image_unread bytes (is_read MAX_FILE_BYTES file bytes held before.content c may) (unreadable MAX_IMAGE_BYTES s image held before after c h at)))
-by_unwind_told meaning file image held before after out out' x by c (files_read bytes text may may_text h) e =
-    walk_refuses meaning file image bytes text held out out' x by (is_read MAX_FILE_BYTES file bytes held before.content c may) (is_read MAX_IMAGE_BYTES image text held before.content c may_text) h e
+unwind_told : (file image : List ℕ) (held : Content) (before after : Outside) (out out' : Output) (x : Status) → before.content ≡ Some held → EndsUnwind file image before after out out' x → x ≡ Refused → TellsBy (RefusesUnwind file image held) out.written out'.written
+unwind_told file image held before after out out' x c (no_file s h t) e = of_stop (RefusesUnwind file image held) s out out' x t e (λ at. tables_unread (unreadable MAX_FILE_BYTES s file held before after c h at))
+unwind_told file image held before after out out' x c (no_text bytes s may h t) e =
+    of_stop (RefusesUnwind file image held) s out out' x t e (λ at. image_unread bytes (is_read MAX_FILE_BYTES file bytes held before.content c may) (unreadable MAX_IMAGE_BYTES s image held before after c h at))
+unwind_told file image held before after out out' x c (files_read bytes text may may_text h) e =
+    walk_refuses file image bytes text held out out' x (is_read MAX_FILE_BYTES file bytes held before.content c may) (is_read MAX_IMAGE_BYTES image text held before.content c may_text) h e
+
+demo_told : (n : ℕ) (out out' : Output) (x : Status) → SumsUp (demo_title n) (demo_bytes n) out out' x → x ≡ Refused → TellsBy (RefusesDemo n) out.written out'.written
+demo_told n out out' x h e = let told = sums_refused _ _ out out' x h e in (stop.Refused told.refusal, (told.uncheckable, told.printed))
+
+by : (meaning : Meaning) (c : Command) (held : Content) (before after : Option (List ℕ)) → meaning ≡ Ok c → TellsBy (RefusesAs c held) before after → TellsRefusal meaning held before after
+by meaning c held before after is told = record { stop = told.0; is = record { command = c; is = is; why = told.1.0 }; printed = told.1.1 }
+
+told_as : (c : Command) (held : Content) (before after : Outside) (out out' : Output) (x : Status) → EndsAs c before after out out' x → x ≡ Refused → before.content ≡ Some held → TellsBy (RefusesAs c held) out.written out'.written
+told_as (check input output options names) held before after out out' x h e c = check_told input output options names held before after out out' x c h e
+told_as (dump file) held before after out out' x h e c = dump_told file held before after out out' x c h.0 e
+told_as (unwind file image) held before after out out' x h e c = unwind_told file image held before after out out' x c h.0 e
+told_as (sites input output map names) held before after out out' x h e c = let told = sites_told map input output names held before after out out' x c h e in (told.stop, (told.is, told.printed))
+told_as (list file) held before after out out' x h e c = let told = list_told file held before after out out' x c h.0 e in (told.stop, (told.is, told.printed))
+told_as (entry input rules map names) held before after out out' x h e c = let told = entry_told map (entry_options rules) input names held before after out out' x c h.0 e in (told.stop, (told.is, told.printed))
+told_as (cfi input output map names) held before after out out' x h e c = let told = cfi_told map input output names held before after out out' x c h e in (told.stop, (told.is, told.printed))
+told_as (cfa file) held before after out out' x h e c = let told = cfa_told file held before after out out' x c h.0 e in (told.stop, (told.is, told.printed))
+told_as (merge layout output) held before after out out' x h e c = let told = merge_told layout output held before after out out' x c h e in (told.stop, (told.is, told.printed))
+told_as (find table address) held before after out out' x h e c = let told = find_told table address held before after out out' x c h.0 e in (told.stop, (told.is, told.printed))
+told_as (demo n) held before after out out' x h e c = demo_told n out out' x h.1 e
+told_as help held before after out out' x h e c = absurd (done_not_refused (whole_text Done _ out out' x h.1 e).0)
+told_as version held before after out out' x h e c = absurd (done_not_refused (whole_text Done _ out out' x h.1 e).0)
 
 pub refusal_told : (meaning : Meaning) (held : Content) (before after : Outside) (out out' : Output) (x : Status) → Ends meaning before after out out' x → x ≡ Refused → before.content ≡ Some held → TellsRefusal meaning held out.written out'.written
 refusal_told meaning held before after out out' x (faulty word kind is same t) e c = absurd (usage_not_refused (whole_line (stop.Usage (usage_at word kind)) out out' x t e).0)
 refusal_told meaning held before after out out' x (unfinished same t) e c = absurd (memory_not_refused (whole_line stop.NoMemory out out' x t e).0)
-refusal_told meaning held before after out out' x (shown command is shows same t) e c = absurd (done_not_refused (whole_text Done (told_text command) out out' x t e).0)
-refusal_told meaning held before after out out' x (demoed n is same h) e c =
-    let told = sums_refused _ _ out out' x h e in
-    record { stop = stop.Refused told.refusal; is = by_demo n is told.uncheckable; printed = told.printed }
-refusal_told meaning held before after out out' x (dumped file is h kept) e c = by_dump_told meaning file held before after out out' x (λ s why. by_dump file is why) c h e
-refusal_told meaning held before after out out' x (unwound file image is h kept) e c = by_unwind_told meaning file image held before after out out' x (λ s why. by_unwind file image is why) c h e
-refusal_told meaning held before after out out' x (checked i o os ns is h) e c = by_check_told meaning i o os ns held before after out out' x is c h e
+refusal_told meaning held before after out out' x (ended command is h) e c = by meaning command held out.written out'.written is (told_as command held before after out out' x h e c)
 
 -- ---- what is refused isn't done, nor warned of
 
@@ -188,6 +231,9 @@ readable : (limit : ℕ) (s : CommandStop) (held : Content) (name bytes : List �
 readable limit (stop.Missing told) held name bytes h is = let u : ◌≡◌ {A = Result (List ℕ) FileError} (Err file_error.Missing) (Ok bytes) = sym h.1 ∙ is in cc
 readable limit (stop.TooLong told at) held name bytes h is = let u : ◌≡◌ {A = Result (List ℕ) FileError} (Err (file_error.TooLong limit)) (Ok bytes) = sym h.1.1 ∙ is in cc
 readable limit (stop.Usage usage) held name bytes h is = h
+readable limit (stop.PartMissing part file) held name bytes h is = h
+readable limit (stop.PartTooLong part file told_limit) held name bytes h is = h
+readable limit (stop.PartRefused part refusal) held name bytes h is = h
 readable limit (stop.Refused why) held name bytes h is = h
 readable limit (stop.FileFault told) held name bytes h is = h
 readable limit stop.NoMemory held name bytes h is = h
@@ -234,17 +280,6 @@ unwind_not_done s file image held content before after c (without_walk bytes tex
     (subst (λ (b : List ℕ). IsPlaced b d.text d.stack d.object d.rows) (one_text MAX_FILE_BYTES held file d.bytes bytes (is_read MAX_FILE_BYTES file d.bytes held content c d.may) is) d.placed) in
     other (walk_excluded bytes text d.stack d.object d.rows s placed h)
 
-dump_not_warned : (meaning : Meaning) (file : List ℕ) (content : Option Content) (before after : Option (List ℕ)) → meaning ≡ Ok (dump file) → PrintsWarnings meaning content before after → ⊥
-dump_not_warned meaning file content before after n (of_check i o os ns elf warnings is w p) = no_check_dump meaning i o os ns file is n
-dump_not_warned meaning file content before after n (of_demo k is p) = no_dump_demo meaning file k n is
-
-unwind_not_warned : (meaning : Meaning) (file image : List ℕ) (content : Option Content) (before after : Option (List ℕ)) → meaning ≡ Ok (unwind file image) → PrintsWarnings meaning content before after → ⊥
-unwind_not_warned meaning file image content before after n (of_check i o os ns elf warnings is w p) = no_check_unwind meaning i o os ns file image is n
-unwind_not_warned meaning file image content before after n (of_demo k is p) = no_unwind_demo meaning file image k n is
-
-not_faulty : (meaning : Meaning) (command : Command) → meaning ≡ Ok command → IsFaulty meaning → ⊥
-not_faulty meaning command n (at_fault word kind is) = no_fault_and_command meaning word kind command is n
-
 -- ---- what is left
 
 left : (x : Status) → x ≢ Done → x ≢ Warnings → x ≢ Usage → IsRefusedOrFails x
@@ -261,22 +296,55 @@ demo_left x (inl e) = inl e
 demo_left x (inr (inl e)) = inr (inr (inl e))
 demo_left x (inr (inr e)) = inr (inr (inr e))
 
+demo_refused : OneOutcome → (s : CommandStop) (n : ℕ) (out out' : Output) (x : Status) → RefusesDemo n s → SumsUp (demo_title n) (demo_bytes n) out out' x → IsRefusedOrFails x
+demo_refused one (stop.Refused why) n out out' x h sums = demo_left x (sums_uncheckable one (demo_title n) (demo_bytes n) _ out out' x sums h)
+demo_refused one stop.NoMemory n out out' x h sums = absurd h
+demo_refused one (stop.Usage usage) n out out' x h sums = absurd h
+demo_refused one (stop.PartMissing part file) n out out' x h sums = absurd h
+demo_refused one (stop.PartTooLong part file limit) n out out' x h sums = absurd h
+demo_refused one (stop.PartRefused part refusal) n out out' x h sums = absurd h
+demo_refused one (stop.Missing told) n out out' x h sums = absurd h
+demo_refused one (stop.TooLong told limit) n out out' x h sums = absurd h
+demo_refused one (stop.FileFault told) n out out' x h sums = absurd h
+
+check_refused : OneOutcome → (s : CommandStop) (input output : List ℕ) (options : CheckOptions) (names : Option (List ℕ)) (held : Content) (before after : Outside) (out out' : Output) (x : Status) → before.content ≡ Some held → RefusesCheck input options names held s → EndsCheck input output options names before after out out' x → IsRefusedOrFails x
+check_refused one s input output options names held before after out out' x c why h =
+    left x
+    (check_not_done one s input output options names held before after out out' x c why h)
+    (check_not_warned one s input output options names held before after out out' x c why h)
+    (check_ended input output options names before after out out' x h)
+
+dump_refused : (s : CommandStop) (file : List ℕ) (held : Content) (before after : Outside) (out out' : Output) (x : Status) → before.content ≡ Some held → RefusesDump file held s → EndsDump file before after out out' x → IsRefusedOrFails x
+dump_refused s file held before after out out' x c why h =
+    left x
+    (λ e. dump_not_done s file held before.content out.written out'.written c why (file_dumped file before after out out' x h e))
+    (dump_no_warnings file before after out out' x h)
+    (dump_no_usage file before after out out' x h)
+
+unwind_refused : (s : CommandStop) (file image : List ℕ) (held : Content) (before after : Outside) (out out' : Output) (x : Status) → before.content ≡ Some held → RefusesUnwind file image held s → EndsUnwind file image before after out out' x → IsRefusedOrFails x
+unwind_refused s file image held before after out out' x c why h =
+    left x
+    (λ e. unwind_not_done s file image held before.content out.written out'.written c why (files_unwound file image before after out out' x h e))
+    (unwind_no_warnings file image before after out out' x h)
+    (unwind_no_usage file image before after out out' x h)
+
+refused_as : OneOutcome → (c : Command) (held : Content) (before after : Outside) (out out' : Output) (x : Status) (s : CommandStop) → EndsAs c before after out out' x → before.content ≡ Some held → RefusesAs c held s → IsRefusedOrFails x
+refused_as one (check input output options names) held before after out out' x s h c why = check_refused one s input output options names held before after out out' x c why h
+refused_as one (dump file) held before after out out' x s h c why = dump_refused s file held before after out out' x c why h.0
+refused_as one (unwind file image) held before after out out' x s h c why = unwind_refused s file image held before after out out' x c why h.0
+refused_as one (sites input output map names) held before after out out' x s h c why = sites_refused one map input output names held before after out out' x s h c why
+refused_as one (list file) held before after out out' x s h c why = list_refused file held before after out out' x s h.0 c why
+refused_as one (entry input rules map names) held before after out out' x s h c why = entry_refused one map (entry_options rules) input names held before after out out' x s h.0 c why
+refused_as one (cfi input output map names) held before after out out' x s h c why = cfi_refused one map input output names held before after out out' x s h c why
+refused_as one (cfa file) held before after out out' x s h c why = cfa_refused file held before after out out' x s h.0 c why
+refused_as one (merge layout output) held before after out out' x s h c why = merge_refused layout output held before after out out' x s h c why
+refused_as one (find table address) held before after out out' x s h c why = find_refused table address held before after out out' x s h.0 c why
+refused_as one (demo n) held before after out out' x s h c why = demo_refused one s n out out' x why h.1
+refused_as one help held before after out out' x s h c why = absurd why
+refused_as one version held before after out out' x s h c why = absurd why
+
 pub refusal_answered : OneOutcome → (meaning : Meaning) (held : Content) (before after : Outside) (out out' : Output) (x : Status) (s : CommandStop) → Ends meaning before after out out' x → before.content ≡ Some held → IsRefused meaning held s → IsRefusedOrFails x
-refusal_answered one meaning held before after out out' x s ends c (by_check i o os ns n why) =
-    let used : x ≢ Usage = λ u. not_faulty meaning _ n (only_faulty meaning before after out out' x ends u) in
-    elim (ends_as_check meaning i o os ns before after out out' x n ends) [
-      | inl h ↦ left x (check_not_done one s i o os ns held before after out out' x c why h) (check_not_warned one s i o os ns held before after out out' x c why h) used
-      | inr none ↦ inr (inr (inr none))
-    ]
-refusal_answered one meaning held before after out out' x s ends c (by_dump file n why) =
-    left x
-    (λ e. dump_not_done s file held before.content out.written out'.written c why (rows_dumped meaning before after out out' x file ends e n))
-    (λ e. dump_not_warned meaning file before.content out.written out'.written n (warnings_printed meaning before after out out' x ends e))
-    (λ e. not_faulty meaning _ n (only_faulty meaning before after out out' x ends e))
-refusal_answered one meaning held before after out out' x s ends c (by_unwind file image n why) =
-    left x
-    (λ e. unwind_not_done s file image held before.content out.written out'.written c why (walk_printed meaning before after out out' x file image ends e n))
-    (λ e. unwind_not_warned meaning file image before.content out.written out'.written n (warnings_printed meaning before after out out' x ends e))
-    (λ e. not_faulty meaning _ n (only_faulty meaning before after out out' x ends e))
-refusal_answered one meaning held before after out out' x s ends c (by_demo n is why) =
-    demo_left x (sums_uncheckable one (demo_title n) (demo_bytes n) _ out out' x (demo_sums_up meaning before after out out' x n ends is) why)
+refusal_answered one meaning held before after out out' x s ends c r = elim (ends_as r.command meaning before after out out' x ends r.is) [
+  | inl h ↦ refused_as one r.command held before after out out' x s h c r.why
+  | inr none ↦ inr (inr (inr (concluded_no_memory out out' x none.1)))
+]

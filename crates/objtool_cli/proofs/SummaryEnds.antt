@@ -14,7 +14,7 @@ use Rattle.command_base.specs.Stop.{line_of, status_of}
 use Rattle.command_base.proofs.ConcludeLemmas.{concluded_fault, concluded_no_memory, concluded_no_warnings, concluded_not_done, concluded_sink_fault, printed_done, printed_fault, printed_sink_fault, printed_warnings}
 use Rattle.objtool_cli.specs.Checked.{IsUncheckable, IsUncheckableStop}
 use Rattle.objtool_cli.specs.Summary.{PrintsRefusal, PrintsSummary, PrintsWarningsOf, SumsUp, no_options, passed, stopped, summary_line, warned}
-use Rattle.objtool_cli.specs.Warnings.{warnings_text}
+use Rattle.command_base.specs.Warnings.{warnings_text}
 
 -- no fault, nor want of memory
 record IsPlain (x : Status) : Type 0 where
@@ -62,6 +62,9 @@ uncheckable_no_fault : (bytes : List ℕ) (s : CommandStop) → IsUncheckableSto
 uncheckable_no_fault bytes (stop.Refused refusal) h e = cc
 uncheckable_no_fault bytes stop.NoMemory h e = cc
 uncheckable_no_fault bytes (stop.Usage usage) h e = absurd h
+uncheckable_no_fault bytes (stop.PartMissing part file) h e = absurd h
+uncheckable_no_fault bytes (stop.PartTooLong part file limit) h e = absurd h
+uncheckable_no_fault bytes (stop.PartRefused part refusal) h e = absurd h
 uncheckable_no_fault bytes (stop.Missing file) h e = absurd h
 uncheckable_no_fault bytes (stop.TooLong file limit) h e = absurd h
 uncheckable_no_fault bytes (stop.FileFault file) h e = absurd h
@@ -104,6 +107,9 @@ stop_refused : (s : CommandStop) (bytes : List ℕ) (out out' : Output) (x : Sta
 stop_refused (stop.Refused told) bytes out out' x h t e = refusal_told told bytes out out' x h t e
 stop_refused stop.NoMemory bytes out out' x h t e = absurd (no_refusal out out' x t e)
 stop_refused (stop.Usage usage) bytes out out' x h t e = absurd h
+stop_refused (stop.PartMissing part file) bytes out out' x h t e = absurd h
+stop_refused (stop.PartTooLong part file limit) bytes out out' x h t e = absurd h
+stop_refused (stop.PartRefused part refusal) bytes out out' x h t e = absurd h
 stop_refused (stop.Missing file) bytes out out' x h t e = absurd h
 stop_refused (stop.TooLong file limit) bytes out out' x h t e = absurd h
 stop_refused (stop.FileFault file) bytes out out' x h t e = absurd h

@@ -26,7 +26,7 @@ use Rattle.command_base.proofs.ConcludeLemmas.{concluded_no_memory}
 use Rattle.command_base.proofs.PrintLemmas.{nothing_printed}
 use Rattle.objtool_cli.specs.Checked.{BreaksRule, IsUncheckable, IsUncheckableStop}
 use Rattle.objtool_cli.specs.Summary.{IsOrFails, Passes, SumsUp, no_options, passed, stopped, summary_line, warned}
-use Rattle.objtool_cli.specs.Warnings.{warnings_text}
+use Rattle.command_base.specs.Warnings.{warnings_text}
 use Rattle.objtool_cli.proofs.AcceptsLemmas.{breaks_unbroken, warns_breaks}
 use Rattle.objtool_cli.proofs.CheckableLemmas.{checkable_unrefused, one_object, one_rows}
 
@@ -80,6 +80,9 @@ passes_stop : OneOutcome → (s : CommandStop) (title bytes : List ℕ) (counts 
 passes_stop one (stop.Refused told) title bytes counts rows out out' x p h t = absurd (checkable_unrefused one no_options.map bytes p.object told p.is p.checkable h)
 passes_stop one stop.NoMemory title bytes counts rows out out' x p h t = unprinted Done _ out out' x t
 passes_stop one (stop.Usage usage) title bytes counts rows out out' x p h t = absurd h
+passes_stop one (stop.PartMissing part file) title bytes counts rows out out' x p h t = absurd h
+passes_stop one (stop.PartTooLong part file limit) title bytes counts rows out out' x p h t = absurd h
+passes_stop one (stop.PartRefused part refusal) title bytes counts rows out out' x p h t = absurd h
 passes_stop one (stop.Missing file) title bytes counts rows out out' x p h t = absurd h
 passes_stop one (stop.TooLong file limit) title bytes counts rows out out' x p h t = absurd h
 passes_stop one (stop.FileFault file) title bytes counts rows out out' x p h t = absurd h
@@ -112,6 +115,9 @@ breaks_stop : OneOutcome → (s : CommandStop) (bytes : List ℕ) (out out' : Ou
 breaks_stop one (stop.Refused told) bytes out out' x b h t = absurd (checkable_unrefused one no_options.map bytes b.object told b.is b.checkable h)
 breaks_stop one stop.NoMemory bytes out out' x b h t = memory_fails Warnings out out' x t
 breaks_stop one (stop.Usage usage) bytes out out' x b h t = absurd h
+breaks_stop one (stop.PartMissing part file) bytes out out' x b h t = absurd h
+breaks_stop one (stop.PartTooLong part file limit) bytes out out' x b h t = absurd h
+breaks_stop one (stop.PartRefused part refusal) bytes out out' x b h t = absurd h
 breaks_stop one (stop.Missing file) bytes out out' x b h t = absurd h
 breaks_stop one (stop.TooLong file limit) bytes out out' x b h t = absurd h
 breaks_stop one (stop.FileFault file) bytes out out' x b h t = absurd h
@@ -129,6 +135,9 @@ uncheckable_stop : (s : CommandStop) (bytes : List ℕ) (out out' : Output) (x :
 uncheckable_stop (stop.Refused told) bytes out out' x h t = refusal_ends told out out' x t
 uncheckable_stop stop.NoMemory bytes out out' x h t = memory_fails Refused out out' x t
 uncheckable_stop (stop.Usage usage) bytes out out' x h t = absurd h
+uncheckable_stop (stop.PartMissing part file) bytes out out' x h t = absurd h
+uncheckable_stop (stop.PartTooLong part file limit) bytes out out' x h t = absurd h
+uncheckable_stop (stop.PartRefused part refusal) bytes out out' x h t = absurd h
 uncheckable_stop (stop.Missing file) bytes out out' x h t = absurd h
 uncheckable_stop (stop.TooLong file limit) bytes out out' x h t = absurd h
 uncheckable_stop (stop.FileFault file) bytes out out' x h t = absurd h

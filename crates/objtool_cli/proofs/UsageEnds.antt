@@ -7,7 +7,7 @@ use Rattle.command_base.specs.declared.stop.CommandStop.TheVariants as stop
 use Rattle.command_base.specs.Outside.{Outside, Output}
 use Rattle.command_base.specs.Printing.{Concludes, Prints, fails, fault_stays, runs_out, silent, tells, whole}
 use Rattle.command_base.proofs.ConcludeLemmas.{concluded_no_memory}
-use Rattle.objtool_cli.specs.Command.{Ends, IsFaulty, IsUsageAnswer, at_fault, checked, demoed, faulty, shown, unfinished, dumped, unwound}
+use Rattle.objtool_cli.specs.Command.{Ends, IsFaulty, IsUsageAnswer, at_fault, ended, faulty, unfinished}
 use Rattle.cli_words.specs.declared.fault.UsageKind.{UsageKind}
 use Rattle.command_base.specs.declared.usage.Usage as declared
 use Rattle.objtool_cli.specs.Words.{Meaning}
@@ -29,11 +29,7 @@ memory_answered out out' x t = inr (inr (concluded_no_memory out out' x t))
 fault_answered : (meaning : Meaning) (word : ℕ) (kind : UsageKind) (before after : Outside) (out out' : Output) (x : Status) → meaning ≡ Err (word, kind) → Ends meaning before after out out' x → IsUsageAnswer x
 fault_answered meaning word kind before after out out' x p (faulty at why is same t) = concluded_usage _ out out' x t
 fault_answered meaning word kind before after out out' x p (unfinished same t) = memory_answered out out' x t
-fault_answered meaning word kind before after out out' x p (shown command is shows same t) = absurd (no_fault_and_command meaning word kind _ p is)
-fault_answered meaning word kind before after out out' x p (demoed n is same h) = absurd (no_fault_and_command meaning word kind _ p is)
-fault_answered meaning word kind before after out out' x p (dumped file is h kept) = absurd (no_fault_and_command meaning word kind _ p is)
-fault_answered meaning word kind before after out out' x p (unwound file image is h kept) = absurd (no_fault_and_command meaning word kind _ p is)
-fault_answered meaning word kind before after out out' x p (checked i o os ns is h) = absurd (no_fault_and_command meaning word kind _ p is)
+fault_answered meaning word kind before after out out' x p (ended command is h) = absurd (no_fault_and_command meaning word kind command p is)
 
 pub usage_answered : (meaning : Meaning) (before after : Outside) (out out' : Output) (x : Status) → Ends meaning before after out out' x → IsFaulty meaning → IsUsageAnswer x
 usage_answered meaning before after out out' x h (at_fault word kind p) = fault_answered meaning word kind before after out out' x p h

@@ -7,28 +7,25 @@ use Rattle.ot_base.specs.declared.row.PlacedRow.{PlacedRow}
 use Rattle.ot_base.specs.declared.warning.Warning.{Warning}
 use Rattle.elf_objects.specs.declared.fault.Counted.TheVariants.{Sections, Symbols}
 use Rattle.elf_objects.specs.declared.fault.ElfFault.{ElfFault}
-use Rattle.elf_objects.specs.Contents.{section_at}
 use Rattle.elf_objects.specs.Elf.{Elf}
 use Rattle.elf_objects.specs.Object.{FirstFault, IsObject}
 use Rattle.elf_objects.specs.declared.TheConstants.{MAX_SYMBOLS}
 use Rattle.x86_map.specs.declared.map.Map.{Map}
-use Rattle.x86_text.specs.declared.fault.TextFault.{TextFault}
 use Rattle.machine_defs.specs.Allowances.{Allowances}
 use Rattle.machine_defs.specs.Asked.{IsWarned}
 use Rattle.machine_defs.specs.Program.{Program}
 use Rattle.flow_defs.specs.Coded.{Coded, coded_by}
 use Rattle.flow_defs.specs.Program.{program_of}
 use Rattle.point_allowances.specs.Allowances.{allowances_of}
-use Rattle.object_code.specs.declared.fault.LinkFault.TheVariants.{Text}
-use Rattle.object_code.specs.declared.fault_text.LinkFaultText.{LinkFaultText}
 use Rattle.object_check.specs.Order.{IsCheckable, IsCheckFault}
 use Rattle.object_check.specs.Outcome.{AreWarnings, HasRows, IsUnbroken}
 use Rattle.object_check.specs.declared.fault.CheckFault.TheVariants as fault
 use Rattle.orc_output.specs.Tables.{symbols_needed}
+use Rattle.command_base.specs.Code.{IsWorded}
 use Rattle.command_base.specs.declared.refusal.Refusal.{Refusal}
 use Rattle.command_base.specs.declared.refusal.Refusal.TheVariants.{Malformed, Unlinked, Unflowed, HasOrc, TooMany}
 use Rattle.command_base.specs.declared.stop.CommandStop.{CommandStop}
-use Rattle.command_base.specs.declared.stop.CommandStop.TheVariants.{Usage, Missing, TooLong, Refused, FileFault, NoMemory}
+use Rattle.command_base.specs.declared.stop.CommandStop.TheVariants.{Refused, NoMemory}
 use Rattle.objtool_cli.specs.Writing.{IsTable}
 
 -- the program of an object, read by the opcode map that the options ask for, under lists of names; and what the object allows
@@ -68,14 +65,6 @@ pub record BreaksRule (bytes : List ℕ) (lists : NameLists) (options : CheckOpt
   pub a : ℤ
   pub b : ℤ
   pub broken : IsWarned (program_under options lists object) (allowances_under options lists object) options.rules place rule a b
-
--- where a text section isn't code, it is told by its name and its body
-pub record NamesText (o : Elf) (told : LinkFaultText) (sec : ℕ) : Type 0 where
-  pub section : told.section.now ≡ (section_at o sec).name
-  pub body : told.body.now ≡ (section_at o sec).body
-
-abbrev pub IsWorded : Elf → LinkFaultText → Type 0
-IsWorded o told = (sec : ℕ) (why : TextFault) → told.fault ≡ Text sec why → NamesText o told sec
 
 -- the refusal tells why the object isn't checked
 abbrev pub TellsCheckFault : Coded → Refusal → Type 0
@@ -121,7 +110,4 @@ pub data Refuses (bytes : List ℕ) (lists : NameLists) (options : CheckOptions)
 abbrev pub IsRefusal : List ℕ → NameLists → CheckOptions → CommandStop → Type 0
 IsRefusal bytes lists options (Refused refusal) = Refuses bytes lists options refusal
 IsRefusal bytes lists options NoMemory = Unit {0}
-IsRefusal bytes lists options (Usage usage) = ⊥
-IsRefusal bytes lists options (Missing file) = ⊥
-IsRefusal bytes lists options (TooLong file limit) = ⊥
-IsRefusal bytes lists options (FileFault file) = ⊥
+IsRefusal bytes lists options _ = ⊥

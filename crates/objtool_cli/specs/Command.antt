@@ -1,5 +1,5 @@
 -- What the commands do, on whatever their files hold, and how they end.
-use Rattle.std.specs.Prelude.{◌≡◌, ◌⊎◌, ℕ, List, Option, Ok, Err, true}
+use Rattle.std.specs.Prelude.{◌≡◌, ◌⊎◌, ℕ, List, Option, Ok, Err}
 use Rattle.ot_files.specs.Content.{Content, ChangesAtMost, writing}
 use Rattle.ot_files.specs.Output.{appending}
 use Rattle.elf_objects.specs.Elf.{Elf}
@@ -17,16 +17,26 @@ use Rattle.command_base.specs.Unwind.{EndsUnwind}
 use Rattle.objtool_cli.specs.Checked.{Accepts, HasWarnings, IsRefusal}
 use Rattle.objtool_cli.specs.Promises.{InKeepsPromises}
 use Rattle.objtool_cli.specs.Unwinding.{OutUnwinds}
-use Rattle.cli_words.specs.Grammar.{Command, check, demo, dump, unwind}
+use Rattle.x86_map.specs.declared.map.Map.{Map}
+use Rattle.cli_words.specs.Grammar.{Command, cfa, cfi, check, demo, dump, entry, find, help, list, merge, sites, unwind, version}
+use Rattle.cli_matches.specs.Texts.{help_text, version_text}
 use Rattle.cli_words.specs.declared.fault.UsageKind.{UsageKind}
 use Rattle.ot_base.specs.NameLists.{NameLists}
 use Rattle.cli_words.specs.declared.options.CheckOptions.{CheckOptions}
 use Rattle.ot_base.specs.declared.warning.Warning.{Warning}
-use Rattle.objtool_cli.specs.Lists.{HasNames, StopsAtNames}
+use Rattle.command_base.specs.Names.{HasNames, StopsAtNames}
 use Rattle.objtool_cli.specs.Summary.{PrintsWarningsOf, SumsUp, demo_bytes, demo_title}
-use Rattle.objtool_cli.specs.Warnings.{warnings_text}
-use Rattle.objtool_cli.specs.Words.{Meaning, is_told, told_text}
-use Rattle.objtool_cli.specs.Writing.{StopsAtWrite}
+use Rattle.command_base.specs.Warnings.{warnings_text}
+use Rattle.cli_words.specs.declared.options.EntryRules.{EntryRules}
+use Rattle.objtool_cli.specs.Words.{Meaning, entry_options}
+use Rattle.command_base.specs.Writing.{StopsAtWrite}
+use Rattle.site_commands.specs.Sites.{EndsSites, SitesMayChange}
+use Rattle.site_commands.specs.List.{EndsList}
+use Rattle.entry_command.specs.Entry.{EndsEntry, PrintsEntryWarnings}
+use Rattle.frame_commands.specs.Cfi.{CfiMayChange, EndsCfi, TellsWarnings}
+use Rattle.frame_commands.specs.Cfa.{EndsCfa}
+use Rattle.merge_command.specs.Merge.{EndsMerge, MayBeMerged}
+use Rattle.merge_command.specs.Find.{EndsFind}
 
 -- The file of this name may read as these bytes, and these are the lists of names of the names file, or the built-in ones
 -- where none is given.
@@ -93,25 +103,33 @@ pub data EndsCheck (input output : List ℕ) (options : CheckOptions) (names : O
       → EndsCheck input output options names before after out out' s
   stopped : {s : Status} (stop : CommandStop) → Stops input output options names before after stop → Concludes stop out out' s → EndsCheck input output options names before after out out' s
 
--- How the words end that mean this: words at fault are told, and nothing else is done; `--help` and `--version` print their texts; `demo N` sums up the object that it makes, and changes no file.
--- Memory may run out while the words are read.
+-- no file has changed
+abbrev pub Kept : Outside → Outside → Type 0
+Kept before after = after.content ≡ before.content
+
+-- How a command ends. Those that write no file change none; `demo N` sums up the object that it makes; `--help` and `--version` print
+-- their texts.
+abbrev pub EndsAs : Command → Outside → Outside → Output → Output → Status → Type 0
+EndsAs (check input output options names) before after out out' s = EndsCheck input output options names before after out out' s
+EndsAs (dump file) before after out out' s = EndsDump file before after out out' s × Kept before after
+EndsAs (unwind file image) before after out out' s = EndsUnwind file image before after out out' s × Kept before after
+EndsAs (sites input output map names) before after out out' s = EndsSites map input output names before after out out' s
+EndsAs (list file) before after out out' s = EndsList file before after out out' s × Kept before after
+EndsAs (entry input rules map names) before after out out' s = EndsEntry map (entry_options rules) input names before after out out' s × Kept before after
+EndsAs (cfi input output map names) before after out out' s = EndsCfi map input output names before after out out' s
+EndsAs (cfa file) before after out out' s = EndsCfa file before after out out' s × Kept before after
+EndsAs (merge layout output) before after out out' s = EndsMerge layout output before after out out' s
+EndsAs (find table address) before after out out' s = EndsFind table address before after out out' s × Kept before after
+EndsAs (demo n) before after out out' s = (after ≡ before) × SumsUp (demo_title n) (demo_bytes n) out out' s
+EndsAs help before after out out' s = (after ≡ before) × Prints status.Done help_text out out' s
+EndsAs version before after out out' s = (after ≡ before) × Prints status.Done version_text out out' s
+
+-- How the words end that mean this: words at fault are told, and nothing else is done; a command ends as it does. Memory may run out
+-- while the words are read.
 pub data Ends (meaning : Meaning) (before after : Outside) (out out' : Output) : Status → Type 0 where
   faulty : {s : Status} (word : ℕ) (kind : UsageKind) → meaning ≡ Err (word, kind) → after ≡ before → Concludes (Usage (usage_at word kind)) out out' s → Ends meaning before after out out' s
   unfinished : {s : Status} → after ≡ before → Concludes NoMemory out out' s → Ends meaning before after out out' s
-  shown : {s : Status} (command : Command) → meaning ≡ Ok command → is_told command ≡ true → after ≡ before → Prints status.Done (told_text command) out out' s → Ends meaning before after out out' s
-  demoed : {s : Status} (n : ℕ) → meaning ≡ Ok (demo n) → after ≡ before → SumsUp (demo_title n) (demo_bytes n) out out' s → Ends meaning before after out out' s
-  dumped : {s : Status} (file : List ℕ) → meaning ≡ Ok (dump file) → EndsDump file before after out out' s → after.content ≡ before.content → Ends meaning before after out out' s
-  unwound :
-      {s : Status} (file image : List ℕ)
-      → meaning ≡ Ok (unwind file image)
-      → EndsUnwind file image before after out out' s
-      → after.content ≡ before.content
-      → Ends meaning before after out out' s
-  checked :
-      {s : Status} (input output : List ℕ) (options : CheckOptions) (names : Option (List ℕ))
-      → meaning ≡ Ok (check input output options names)
-      → EndsCheck input output options names before after out out' s
-      → Ends meaning before after out out' s
+  ended : {s : Status} (command : Command) → meaning ≡ Ok command → EndsAs command before after out out' s → Ends meaning before after out out' s
 
 -- What stands outside of a command: its files, and its output.
 pub record World : Type 0 where
@@ -129,16 +147,23 @@ world_of content faults written failed = record {
 abbrev pub EndsIn : Meaning → World → World → Status → Type 0
 EndsIn meaning before after s = Ends meaning before.files after.files before.output after.output s
 
--- The command may have changed a file: it is `check`, its input was accepted, and only OUT has changed.
-pub data MayChange (meaning : Meaning) (before after : Option Content) : Type 0 where
-  output_of_check :
-      (input output : List ℕ) (options : CheckOptions) (names : Option (List ℕ)) (table : List ℕ)
-      → meaning ≡ Ok (check input output options names)
-      → MayBeAccepted before input options names table
-      → ChangesAtMost output before after
-      → MayChange meaning before after
+-- A command has come to writing OUT, every step before has passed, and only OUT has changed: of `check` IN was accepted, of `sites`
+-- it gets site lists, of `cfi` call frame information, and of `merge` nothing hinders that the rows are merged. No other command
+-- writes.
+abbrev pub ChangesOut : Command → Option Content → Option Content → Type 0
+ChangesOut (check input output options names) before after = (table : List ℕ) × (MayBeAccepted before input options names table × ChangesAtMost output before after)
+ChangesOut (sites input output map names) before after = SitesMayChange map input output names before after
+ChangesOut (cfi input output map names) before after = CfiMayChange map input output names before after
+ChangesOut (merge layout output) before after = MayBeMerged layout before × ChangesAtMost output before after
+ChangesOut _ before after = ⊥
 
--- The command was `check`, and IN was read as an object that breaks rules, or it was `demo`, and the object that it makes
+-- the words mean a command that may have changed a file so
+pub record MayChange (meaning : Meaning) (before after : Option Content) : Type 0 where
+  pub command : Command
+  pub is : meaning ≡ Ok command
+  pub changes : ChangesOut command before after
+
+-- The command was `check`, `cfi` or `entry`, and IN was read as an object that breaks rules, or it was `demo`, and the object that it makes
 -- breaks some; these are all warnings of it, and exactly their lines were printed.
 pub data PrintsWarnings (meaning : Meaning) (content : Option Content) (before after : Option (List ℕ)) : Type 0 where
   of_check :
@@ -146,6 +171,16 @@ pub data PrintsWarnings (meaning : Meaning) (content : Option Content) (before a
       → meaning ≡ Ok (check input output options names)
       → MayBeWarned content input options names o warnings
       → after ≡ appending before (warnings_text o warnings)
+      → PrintsWarnings meaning content before after
+  of_cfi :
+      (input output : List ℕ) (map : Map) (names : Option (List ℕ))
+      → meaning ≡ Ok (cfi input output map names)
+      → TellsWarnings map input names content before after
+      → PrintsWarnings meaning content before after
+  of_entry :
+      (input : List ℕ) (rules : EntryRules) (map : Map) (names : Option (List ℕ))
+      → meaning ≡ Ok (entry input rules map names)
+      → PrintsEntryWarnings map (entry_options rules) input names content before after
       → PrintsWarnings meaning content before after
   of_demo : (n : ℕ) → meaning ≡ Ok (demo n) → PrintsWarningsOf (demo_bytes n) before after → PrintsWarnings meaning content before after
 

@@ -8,7 +8,7 @@ use Rattle.elf_objects.specs.Elf.{Elf}
 use Rattle.elf_objects.specs.Object.{IsObject}
 use Rattle.flow_defs.specs.Coded.{coded_by}
 use Rattle.object_check.specs.Promises.{KeepsPromises}
-use Rattle.objtool_cli.specs.Lists.{HasNames}
+use Rattle.command_base.specs.Names.{HasNames}
 
 -- The object whose bytes IN holds keeps what the options promise, under the lists of names of the names file, or the built-in
 -- ones where none is given.

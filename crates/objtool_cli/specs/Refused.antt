@@ -1,14 +1,13 @@
 -- Which commands are refused on files that hold this, and why: what the first step finds that fails, in the order of the steps.
 -- Faults of files and of the output, and want of memory, are no refusals.
-use Rattle.std.specs.Prelude.{◌≡◌, ◌≢◌, ◌⊎◌, ℕ, List, Option, Some, Ok, Err}
+use Rattle.std.specs.Prelude.{◌≡◌, ◌≢◌, ◌⊎◌, ℕ, List, Option, Some, Ok}
 use Rattle.ot_base.specs.NameLists.{NameLists}
 use Rattle.ot_base.specs.NamesFile.{IsFirstFault}
 use Rattle.ot_base.specs.declared.lists.ListsFault.TheVariants.{Line}
 use Rattle.ot_base.specs.declared.lists.ListsWhy.{ListsWhy}
 use Rattle.ot_files.specs.Content.{Content, reading}
 use Rattle.ot_files.specs.Output.{appending}
-use Rattle.ot_files.specs.declared.access.FileError.TheVariants as file
-use Rattle.cli_words.specs.Grammar.{check, demo, dump, unwind}
+use Rattle.cli_words.specs.Grammar.{Command, cfa, cfi, check, demo, dump, entry, find, help, list, merge, sites, unwind, version}
 use Rattle.cli_words.specs.declared.options.CheckOptions.{CheckOptions}
 use Rattle.elf_objects.specs.declared.TheConstants.{MAX_FILE_BYTES}
 use Rattle.command_base.specs.declared.reading.TheConstants.{MAX_IMAGE_BYTES}
@@ -17,20 +16,19 @@ use Rattle.command_base.specs.declared.refusal.Refusal.TheVariants.{Lists}
 use Rattle.command_base.specs.declared.status.Status.{Status}
 use Rattle.command_base.specs.declared.status.Status.TheVariants as status
 use Rattle.command_base.specs.declared.stop.CommandStop.{CommandStop}
-use Rattle.command_base.specs.declared.stop.CommandStop.TheVariants.{Missing, TooLong, Refused, NoMemory}
+use Rattle.command_base.specs.declared.stop.CommandStop.TheVariants.{Refused, NoMemory}
 use Rattle.command_base.specs.Dump.{HoldsNoRows}
+use Rattle.command_base.specs.Names.{HasNames}
+use Rattle.command_base.specs.Reading.{IsUnreadable}
 use Rattle.command_base.specs.Stop.{line_of}
 use Rattle.command_base.specs.Unwind.{HasNoWalk}
 use Rattle.objtool_cli.specs.Checked.{IsUncheckable, Refuses}
-use Rattle.objtool_cli.specs.Lists.{HasNames}
+use Rattle.site_commands.specs.Refused.{RefusesList, RefusesSites}
+use Rattle.entry_command.specs.Refused.{RefusesEntry}
+use Rattle.frame_commands.specs.Refused.{RefusesCfa, RefusesCfi}
+use Rattle.merge_command.specs.Refused.{RefusesFind, RefusesMerge}
 use Rattle.objtool_cli.specs.Summary.{demo_bytes, no_options}
 use Rattle.objtool_cli.specs.Words.{Meaning}
-
--- the file of this name isn't there, or is longer than the limit
-abbrev pub IsUnreadable : ℕ → Content → List ℕ → CommandStop → Type 0
-IsUnreadable limit held name (Missing told) = (told.now ≡ name) × (reading held name limit ≡ Err file.Missing)
-IsUnreadable limit held name (TooLong told at) = (told.now ≡ name) × ((at ≡ limit) × (reading held name limit ≡ Err (file.TooLong limit)))
-IsUnreadable limit held name _ = ⊥
 
 -- `check IN OUT`: IN is read; then the names file, where one is given, and its lines; then the bytes of IN are parsed, their code
 -- is read and checked, and the tables are made of what breaks no rule.
@@ -83,17 +81,32 @@ pub data RefusesUnwind (file image : List ℕ) (held : Content) : CommandStop �
       → stop ≢ NoMemory
       → RefusesUnwind file image held stop
 
--- The command that the words mean is refused, and this is why. `--help` and `--version` never are, and `demo N` only where the object
--- that it makes can't be checked.
-pub data IsRefused (meaning : Meaning) (held : Content) : CommandStop → Type 0 where
-  by_check :
-      {stop : CommandStop} (input output : List ℕ) (options : CheckOptions) (names : Option (List ℕ))
-      → meaning ≡ Ok (check input output options names)
-      → RefusesCheck input options names held stop
-      → IsRefused meaning held stop
-  by_dump : {stop : CommandStop} (file : List ℕ) → meaning ≡ Ok (dump file) → RefusesDump file held stop → IsRefused meaning held stop
-  by_unwind : {stop : CommandStop} (file image : List ℕ) → meaning ≡ Ok (unwind file image) → RefusesUnwind file image held stop → IsRefused meaning held stop
-  by_demo : {refusal : Refusal} (n : ℕ) → meaning ≡ Ok (demo n) → IsUncheckable no_options.map (demo_bytes n) refusal → IsRefused meaning held (Refused refusal)
+-- `demo N`: the object that it makes can't be checked
+abbrev pub RefusesDemo : ℕ → CommandStop → Type 0
+RefusesDemo n (Refused refusal) = IsUncheckable no_options.map (demo_bytes n) refusal
+RefusesDemo n _ = ⊥
+
+-- A command is refused on files that hold this, and this is why. `--help` and `--version` never are.
+abbrev pub RefusesAs : Command → Content → CommandStop → Type 0
+RefusesAs (check input output options names) held stop = RefusesCheck input options names held stop
+RefusesAs (dump file) held stop = RefusesDump file held stop
+RefusesAs (unwind file image) held stop = RefusesUnwind file image held stop
+RefusesAs (sites input output map names) held stop = RefusesSites map input names held stop
+RefusesAs (list file) held stop = RefusesList file held stop
+RefusesAs (entry input rules map names) held stop = RefusesEntry map input names held stop
+RefusesAs (cfi input output map names) held stop = RefusesCfi map input names held stop
+RefusesAs (cfa file) held stop = RefusesCfa file held stop
+RefusesAs (merge layout output) held stop = RefusesMerge layout held stop
+RefusesAs (find table address) held stop = RefusesFind table held stop
+RefusesAs (demo n) held stop = RefusesDemo n stop
+RefusesAs help held stop = ⊥
+RefusesAs version held stop = ⊥
+
+-- the command that the words mean is refused, and this is why
+pub record IsRefused (meaning : Meaning) (held : Content) (stop : CommandStop) : Type 0 where
+  pub command : Command
+  pub is : meaning ≡ Ok command
+  pub why : RefusesAs command held stop
 
 -- the command is refused, and exactly the line that says why was printed
 pub record TellsRefusal (meaning : Meaning) (held : Content) (before after : Option (List ℕ)) : Type 0 where

@@ -25,7 +25,7 @@ use Rattle.command_base.specs.Outside.{Output}
 use Rattle.command_base.specs.Printing.{Concludes, Prints}
 use Rattle.command_base.specs.Stop.{line_of}
 use Rattle.objtool_cli.specs.Checked.{HasWarnings, IsUncheckable, IsUncheckableStop, allowances_under, program_under}
-use Rattle.objtool_cli.specs.Warnings.{warnings_text}
+use Rattle.command_base.specs.Warnings.{warnings_text}
 
 -- the options of `check` where none is given
 abbrev pub no_options : CheckOptions

@@ -22,7 +22,7 @@ use Rattle.x86_map.specs.declared.map.Map.{Map}
 use Rattle.flow_defs.specs.Coded.{Coded, coded_by}
 use Rattle.flow_defs.specs.Program.{program_of}
 use Rattle.command_base.specs.TextSections.{texts_of}
-use Rattle.objtool_cli.specs.Lists.{HasNames}
+use Rattle.command_base.specs.Names.{HasNames}
 
 -- The bytes that are written for an object are this object with exactly the section symbols inserted that some rows need, and
 -- then the ORC sections of these rows added, and its ORC sections hold exactly this list of rows. And for every placement of

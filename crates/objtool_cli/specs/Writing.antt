@@ -1,7 +1,6 @@
 -- How an object is written to OUT with the tables of its rows.
 use Rattle.std.specs.Prelude.{◌≡◌, ℕ, ◌<◌, ◌≤◌, List, Option}
 use Rattle.ot_base.specs.declared.row.PlacedRow.{PlacedRow}
-use Rattle.ot_files.specs.Causes.{Rose}
 use Rattle.ot_files.specs.Content.{Content, ChangesAtMost, writing}
 use Rattle.elf_objects.specs.Elf.{Elf}
 use Rattle.elf_objects.specs.declared.TheConstants.{MAX_SYMBOLS}
@@ -9,8 +8,9 @@ use Rattle.elf_objects.specs.declared.fault.Counted.TheVariants.{Symbols}
 use Rattle.orc_output.specs.Tables.{HasTables, symbols_needed}
 use Rattle.command_base.specs.declared.refusal.Refusal.TheVariants.{TooMany}
 use Rattle.command_base.specs.declared.stop.CommandStop.{CommandStop}
-use Rattle.command_base.specs.declared.stop.CommandStop.TheVariants.{Usage, Missing, TooLong, Refused, FileFault, NoMemory}
+use Rattle.command_base.specs.declared.stop.CommandStop.TheVariants.{Refused, NoMemory}
 use Rattle.command_base.specs.Outside.{Outside}
+use Rattle.command_base.specs.Writing.{StopsAtWrite}
 
 -- the tables need few enough symbols, and these bytes are the object with them
 pub record IsTable (o : Elf) (rows : List PlacedRow) (table : List ℕ) : Type 0 where
@@ -22,16 +22,6 @@ abbrev pub IsCrowded : Elf → List PlacedRow → CommandStop → Type 0
 IsCrowded o rows (Refused (TooMany Symbols count)) = (MAX_SYMBOLS < symbols_needed o rows) × (count ≡ symbols_needed o rows)
 IsCrowded o rows NoMemory = Unit {0}
 IsCrowded o rows _ = ⊥
-
--- a command stops so that can't write the file of this name: writing failed, and the count of faults rose; or memory ran
--- out
-abbrev pub StopsAtWrite : List ℕ → Outside → Outside → CommandStop → Type 0
-StopsAtWrite name before after (FileFault told) = (told.now ≡ name) × Rose before.faults after.faults
-StopsAtWrite name before after NoMemory = Unit {0}
-StopsAtWrite name before after (Usage usage) = ⊥
-StopsAtWrite name before after (Missing told) = ⊥
-StopsAtWrite name before after (TooLong told limit) = ⊥
-StopsAtWrite name before after (Refused refusal) = ⊥
 
 -- the object was written to OUT with the tables, and every other name holds what it held
 pub record WritesTable (o : Elf) (rows : List PlacedRow) (output : List ℕ) (before after : Option Content) : Type 0 where

@@ -5,41 +5,19 @@ ghost use Rattle.command_base.specs.Printing.{IsOutputFault};
 ghost use Rattle.flow_defs.specs.Coded.{coded_by};
 ghost use Rattle.x86_map.specs.declared.map.Map.{Map};
 ghost use Rattle.object_check.specs.Order.{IsCheckFault};
-ghost use Rattle.object_code.specs.Linked.{IsLinkFault};
-ghost use Rattle.objtool_cli.specs.Checked.{IsUnchecked, IsWorded};
+ghost use Rattle.objtool_cli.specs.Checked.{IsUnchecked};
 ghost use Rattle.objtool_cli.specs.Command.{EndsCheck, IsRead};
 
-use crate::warnings::print_warnings;
 use crate::words::Check;
 use crate::writing::write_table;
-use command_base::{CommandStop, Refusal, Status, conclude, parse_stop};
-use control_flow::FlowFaultText;
+use command_base::{
+    CommandStop, Refusal, Status, conclude, flow_stop, link_stop, parse_stop, print_warnings,
+};
 use elf_objects::{Counted, MAX_FILE_BYTES, Object};
 use object_check::{CheckFault, ObjectVerdict, check_object};
-use object_code::{LinkFault, LinkFaultText};
 use ot_base::Lists;
 use ot_files::{Files, Sink};
 use std::alloc::Global;
-
-/// Why an object's code isn't read, in words.
-fn link_text<'a>(object: &Object<'a>, fault: LinkFault) -> LinkFaultText<'a>
-    requires { (map : Map) × IsLinkFault (coded_by map object.now) fault }
-    ensures fault { result.fault ≡ fault }
-    ensures worded { IsWorded object.now result }
-{
-    match fault {
-        LinkFault::Text { sec, .. } => LinkFaultText {
-            fault,
-            section: object.name_of_section(sec),
-            body: object.section(sec).body,
-        },
-        _ => LinkFaultText {
-            fault,
-            section: &[],
-            body: &[],
-        },
-    }
-}
 
 /// Why a command stops whose object isn't checked.
 pub(crate) fn check_stop<'a>(object: &Object<'a>, fault: CheckFault) -> CommandStop<'a>
@@ -47,10 +25,8 @@ pub(crate) fn check_stop<'a>(object: &Object<'a>, fault: CheckFault) -> CommandS
     ensures { (map : Map) → IsCheckFault (coded_by map object.now) fault → IsUnchecked (coded_by map object.now) result }
 {
     match fault {
-        CheckFault::Link(fault) => CommandStop::Refused(Refusal::Unlinked(link_text(
-            object, fault,
-        ))),
-        CheckFault::Flow(fault) => CommandStop::Refused(Refusal::Unflowed(FlowFaultText { fault })),
+        CheckFault::Link(fault) => link_stop(object, fault),
+        CheckFault::Flow(fault) => flow_stop(fault),
         CheckFault::HasOrc { sec } => CommandStop::Refused(Refusal::HasOrc { sec }),
         CheckFault::TooManySections { count } => CommandStop::Refused(Refusal::TooMany {
             what: Counted::Sections,

@@ -1,13 +1,11 @@
-//! Runs a command over files and an output that are handed in: the steps of `check` and `demo` in their order, the lines
-//! that are printed, what is written, and the status.
+//! Runs a command over files and an output that are handed in: the steps of `check` and `demo` in their order, the
+//! lines that are printed, what is written, and the status; and the call of each other command.
 #![tactic(auto)]
 
 mod check;
 mod command;
 mod demo;
-mod lists;
 mod summaries;
-mod warnings;
 mod words;
 mod writing;
 

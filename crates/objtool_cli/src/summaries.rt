@@ -12,9 +12,8 @@ ghost use Rattle.objtool_cli.specs.Checked.{BreaksRule, IsUncheckable};
 ghost use Rattle.objtool_cli.specs.Summary.{IsOrFails, Passes, PrintsRefusal, PrintsSummary, PrintsWarningsOf, SumsUp, no_options, summary_line};
 
 use crate::check::check_stop;
-use crate::warnings::print_warnings;
 use cli_words::{CheckOptions, Map};
-use command_base::{Status, conclude, parse_stop, print_line};
+use command_base::{Status, conclude, parse_stop, print_line, print_warnings};
 use elf_objects::Object;
 use object_check::{CodeCounts, ObjectVerdict, check_object};
 use ot_base::{Lists, NoMemory, Options};

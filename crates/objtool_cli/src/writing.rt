@@ -1,15 +1,14 @@
 //! Writing an object with the tables of its rows to OUT.
 
-ghost use Rattle.std.specs.Prelude.{◌≡◌, ◌≤◌, IfErr, IfOk, OnErr, OnOk};
-ghost use Rattle.ot_files.specs.Content.{ChangesAtMost, writing};
+ghost use Rattle.std.specs.Prelude.{◌≤◌, IfErr, IfOk, OnOk};
 ghost use Rattle.orc_output.specs.Tables.{CanHaveTables};
-ghost use Rattle.objtool_cli.specs.Writing.{IsCrowded, IsTable, StopsAtTable, StopsAtWrite, WritesTable};
+ghost use Rattle.objtool_cli.specs.Writing.{IsCrowded, IsTable, StopsAtTable, WritesTable};
 
-use command_base::{CommandStop, Refusal};
+use command_base::{CommandStop, Refusal, write_file};
 use elf_objects::{Counted, Object};
 use orc_output::{TableFault, with_tables};
 use ot_base::PlacedRow;
-use ot_files::{FileError, Files};
+use ot_files::Files;
 use std::alloc::Global;
 
 /// The bytes of an object with the tables of these rows, or why there are none.
@@ -29,29 +28,6 @@ fn table_of<'a>(
             count,
         })),
         Err(TableFault::NoMemory) => Err(CommandStop::NoMemory),
-    }
-}
-
-/// Makes the file of this name hold these bytes, or tells why a command stops that can't.
-fn write_file<'a, F: Files>(
-    file: &'a str,
-    bytes: &[u8],
-    files: &mut F,
-) -> Result<(), CommandStop<'a>>
-    ensures written { OnOk result (F.content files.new ≡ writing (F.content files.old) file.now bytes.now) }
-    ensures stopped { IfErr result (StopsAtWrite file.now
-        (record { content = F.content files.old; faults = F.faults files.old })
-        (record { content = F.content files.new; faults = F.faults files.new })) }
-    ensures others { OnErr result (ChangesAtMost file.now (F.content files.old) (F.content files.new)) }
-    ensures later { F.faults files.old ≤ F.faults files.new }
-{
-    match files.write(file, bytes) {
-        Ok(()) => Ok(()),
-        Err(FileError::NoMemory) => Err(CommandStop::NoMemory),
-        Err(FileError::Failed) => Err(CommandStop::FileFault { file }),
-        // No write answers these.
-        Err(FileError::Missing) => unreachable!(),
-        Err(FileError::TooLong { .. }) => unreachable!(),
     }
 }
 

@@ -1,6 +1,6 @@
 -- The sections that need a section symbol.
 use Rattle.std.proofs.Common.{◌≡◌, ℕ, zero, suc, ◌+◌, ◌<◌, ◌≤◌, Bool, true, false, cond, not, List, [], ◌∷◌, ◌++◌, length, Option, Some, None, refl, sym, ap, subst, ◌∙◌, arith}
-use Rattle.std.specs.Prelude.{◌==◌, ◌&&◌, All, AllPairs, Contains, filter, is_none, slice_get}
+use Rattle.std.specs.Prelude.{◌==◌, ◌&&◌, All, AllPairs, Contains, filter, is_none, slice_get, slice_index_or}
 use Rattle.std.specs.List.{range_with_len}
 use Rattle.std.proofs.lemmas.Bool.{and_from, and_parts, eqb-true, false≢true}
 use Rattle.std.proofs.lemmas.List.{append-nil, map-id}
@@ -12,7 +12,7 @@ use Rattle.std.proofs.lemmas.List.Kept.{AllPairs-filter}
 use Rattle.ot_base.specs.declared.row.PlacedRow.{PlacedRow}
 use Rattle.elf_objects.specs.Contents.{is_text, section_symbol_of}
 use Rattle.elf_objects.specs.Elf.{Elf, SectionEntry}
-use Rattle.orc_output.specs.Needed.{has_row, needed_symbols}
+use Rattle.orc_output.specs.Needed.{has_row, needed_symbols, unnamed}
 use Rattle.orc_output.specs.Tables.{IsNamed, IsRowIn}
 
 -- a section needs one
@@ -22,6 +22,14 @@ is_needed o rows sec = has_row rows sec && is_none (section_symbol_of o sec)
 pub needed-is : (o : Elf) (rows : List PlacedRow) → needed_symbols o rows ≡ filter (is_needed o rows) (range_with_len 0 (length o.sections))
 unfolding needed_symbols
 needed-is o rows = refl
+
+-- a section is marked and has none
+abbrev pub is_unnamed : Elf → List Bool → ℕ → Bool
+is_unnamed o marks sec = slice_index_or marks sec false && is_none (section_symbol_of o sec)
+
+pub unnamed-is : (o : Elf) (marks : List Bool) → unnamed o marks ≡ filter (is_unnamed o marks) (range_with_len 0 (length o.sections))
+unfolding unnamed
+unnamed-is o marks = refl
 
 none_is : (f : Option ℕ) → is_none f ≡ true → f ≡ None
 none_is None h = refl
@@ -44,6 +52,25 @@ pub none_more : (p : ℕ → Bool) (n : ℕ) (xs : List ℕ) → xs ≡ filter p
 none_more p n xs was fails =
     was ∙ sym (append-nil (filter p (range_with_len 0 n)))
     ∙ sym (filter_next p n ∙ ap (λ (b : Bool). filter p (range_with_len 0 n) ++ cond b (n ∷ []) []) fails)
+
+-- tests that agree below a number keep the same of the numbers below it
+pub agree_below : (p q : ℕ → Bool) (n : ℕ) → ((k : ℕ) → k < n → p k ≡ q k) → filter p (range_with_len 0 n) ≡ filter q (range_with_len 0 n)
+agree_below p q zero same = refl
+agree_below p q (suc n) same =
+    let below = agree_below p q n (λ k h. same k (omega arith)) in
+    let next : suc n ≡ n + 1 = omega arith in
+    subst (λ (m : ℕ). filter p (range_with_len 0 m) ≡ filter q (range_with_len 0 m)) (sym next) (filter_next p n
+    ∙ ap (λ (xs : List ℕ). xs ++ cond (p n) (n ∷ []) []) below
+    ∙ ap (λ (b : Bool). filter q (range_with_len 0 n) ++ cond b (n ∷ []) []) (same n (omega arith))
+    ∙ sym (filter_next q n))
+
+-- the sections that are marked where they have rows
+pub unnamed_needed : (o : Elf) (rows : List PlacedRow) (marks : List Bool) → ((sec : ℕ) → sec < length o.sections → slice_index_or marks sec false ≡ has_row rows sec)
+    → unnamed o marks ≡ needed_symbols o rows
+unnamed_needed o rows marks same =
+    unnamed-is o marks
+    ∙ agree_below (is_unnamed o marks) (is_needed o rows) (length o.sections) (λ sec h. ap (λ (b : Bool). b && is_none (section_symbol_of o sec)) (same sec h))
+    ∙ sym (needed-is o rows)
 
 -- a section that is among them
 pub record IsNeeded (o : Elf) (rows : List PlacedRow) (sec : ℕ) : Type 0 where

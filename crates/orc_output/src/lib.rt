@@ -3,10 +3,9 @@
 #![tactic(auto)]
 
 mod fault;
-mod law;
-mod needed;
 mod output;
 mod sections;
+pub mod symbols;
 mod tables;
 
 pub use fault::TableFault;

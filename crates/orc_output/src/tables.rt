@@ -1,19 +1,14 @@
 //! The public call.
 
-ghost use Rattle.std.specs.Prelude.{◌≡◌, ◌<◌, ◌≤◌, ◌^◌, IfOk, IfErr, OnOk, length, vec_len};
-ghost use Rattle.elf_objects.specs.Object.{IsObject, IsWellFormed};
+ghost use Rattle.std.specs.Prelude.{◌≡◌, ◌≤◌, IfOk, IfErr, OnOk};
 ghost use Rattle.elf_objects.specs.declared.TheConstants.{MAX_SYMBOLS as most_symbols};
-ghost use Rattle.elf_write.specs.SymbolObject.{CanInsert, object_with_symbols};
-ghost use Rattle.elf_write.specs.Taken.{AreFree};
 ghost use Rattle.orc_output.specs.Needed.{needed_symbols as needed_by};
 ghost use Rattle.orc_output.specs.Tables.{CanHaveTables, HasTables, IsFit, IsTableFault, symbols_needed};
 
 use crate::fault::TableFault;
-use crate::law::are_bytes;
-use crate::needed::needed_symbols;
+use crate::symbols::{are_bytes, insert_symbols, needed_symbols, read_object};
 use crate::with_orc;
-use elf_objects::{ElfFault, MAX_SYMBOLS, Object};
-use elf_write::{SymFault, with_section_symbols};
+use elf_objects::{MAX_SYMBOLS, Object};
 use ot_base::{NoMemory, PlacedRow};
 use std::alloc::Global;
 
@@ -67,31 +62,4 @@ fn write_tables(
     let file = insert_symbols(alloc, object, secs)?;
     let named = read_object(alloc, &file)?;
     with_orc(alloc, &named, rows)
-}
-
-/// The file of an object in which section symbols stand for these sections, none of which had one.
-fn insert_symbols(alloc: Global, object: &Object<'_>, secs: &[u32]) -> Result<Vec<u8>, NoMemory>
-    requires can { CanInsert object.now secs.now }
-    requires free { AreFree object.now secs.now }
-    ensures object { IfOk result (λ file. IsObject file.items (object_with_symbols object.now secs.now)) }
-    ensures short { IfOk result (λ file. vec_len file < 2 ^ 32) }
-{
-    match with_section_symbols(alloc, object, secs) {
-        Ok(file) => Ok(file),
-        Err(SymFault::NoMemory) => Err(NoMemory),
-        Err(SymFault::HasOne { .. }) => unreachable!(),
-    }
-}
-
-/// Reads the file of an object.
-fn read_object<'a>(alloc: Global, file: &'a [u8]) -> Result<Object<'a>, NoMemory>
-    requires short { length file.now < 2 ^ 32 }
-    requires well_formed { IsWellFormed file.now }
-    ensures { IfOk result (IsObject file.now) }
-{
-    match Object::parse(alloc, file) {
-        Ok(object) => Ok(object),
-        Err(ElfFault::NoMemory) => Err(NoMemory),
-        Err(_) => unreachable!(),
-    }
 }

@@ -1,9 +1,11 @@
 //! What lists of words mean, and the texts of the command line.
 
 use clap::Command as Definition;
-use cli_matches::definition::{check, command_line, demo, dump, unwind};
+use cli_matches::definition::{
+    cfa, cfi, check, command_line, demo, dump, entry, find, list, merge, sites, unwind,
+};
 use cli_matches::{help_text, read_words, version_text};
-use cli_words::{CheckOptions, Command, Map, UsageFault};
+use cli_words::{CheckOptions, Command, EntryRules, Map, UsageFault};
 use std::alloc::{AllocError, Global};
 use std::process::Abort;
 use std::test::Fail;
@@ -17,7 +19,16 @@ fn words(alloc: Global, line: &str) -> Result<Vec<String>, AllocError> {
     Ok(words)
 }
 
-/// One letter for each option that is asked for.
+/// A letter for each that is asked for, and a dash for each that isn't.
+fn letters_of(alloc: Global, asked: &[(bool, &str)]) -> Result<String, AllocError> {
+    let mut text = String::new(alloc);
+    for (is_asked, letter) in asked {
+        text.push_str(if *is_asked { letter } else { "-" })?;
+    }
+    Ok(text)
+}
+
+/// The letters of the options of `check`.
 fn letters(alloc: Global, options: CheckOptions) -> Result<String, AllocError> {
     let CheckOptions { map, rules } = options;
     let asked = [
@@ -28,11 +39,37 @@ fn letters(alloc: Global, options: CheckOptions) -> Result<String, AllocError> {
         (rules.unreachable, "u"),
         (map == Map::Whole, "o"),
     ];
-    let mut text = String::new(alloc);
-    for (is_asked, letter) in asked {
-        text.push_str(if is_asked { letter } else { "-" })?;
-    }
-    Ok(text)
+    letters_of(alloc, &asked)
+}
+
+/// Those of the options of `entry`.
+fn entry_letters(alloc: Global, rules: EntryRules, map: Map) -> Result<String, AllocError> {
+    let asked = [
+        (rules.noinstr, "n"),
+        (rules.sls, "s"),
+        (rules.ibt, "i"),
+        (map == Map::Whole, "o"),
+    ];
+    letters_of(alloc, &asked)
+}
+
+/// The letter of a map.
+fn map_letter(map: Map) -> &'static str {
+    if map == Map::Whole { "o" } else { "-" }
+}
+
+/// A command that writes an object, as a line.
+fn rewriting_line(
+    alloc: Global,
+    command: &str,
+    input: String,
+    output: String,
+    map: Map,
+    names: Option<String>,
+) -> Result<String, AllocError> {
+    let letter = map_letter(map);
+    let names = names.as_ref().map_or("none", |names| names.as_str());
+    format!(in alloc; "{command} {input} {output} {letter} {names}")
 }
 
 /// A command as a line.
@@ -50,6 +87,32 @@ fn line_of(alloc: Global, command: Command) -> Result<String, AllocError> {
         }
         Command::Dump { file } => format!(in alloc; "dump {file}"),
         Command::Unwind { file, image } => format!(in alloc; "unwind {file} {image}"),
+        Command::Sites {
+            input,
+            output,
+            map,
+            names,
+        } => rewriting_line(alloc, "sites", input, output, map, names),
+        Command::List { file } => format!(in alloc; "list {file}"),
+        Command::Entry {
+            input,
+            rules,
+            map,
+            names,
+        } => {
+            let letters = entry_letters(alloc, rules, map)?;
+            let names = names.as_ref().map_or("none", |names| names.as_str());
+            format!(in alloc; "entry {input} {letters} {names}")
+        }
+        Command::Cfi {
+            input,
+            output,
+            map,
+            names,
+        } => rewriting_line(alloc, "cfi", input, output, map, names),
+        Command::Cfa { file } => format!(in alloc; "cfa {file}"),
+        Command::Merge { layout, output } => format!(in alloc; "merge {layout} {output}"),
+        Command::Find { table, address } => format!(in alloc; "find {table} {address}"),
         Command::Demo { n } => format!(in alloc; "demo {n}"),
         Command::Help => String::from_str(alloc, "help"),
         Command::Version => String::from_str(alloc, "version"),
@@ -76,7 +139,7 @@ fn expect_rows(rt: &impl Abort, alloc: Global, rows: &[&str]) -> Result<(), Allo
     Ok(())
 }
 
-const COMMANDS: [&str; 26] = [
+const COMMANDS: [&str; 28] = [
     "check a b = check a b ----u- none",
     "check a a = check a a ----u- none",
     "check a b --fp = check a b f---u- none",
@@ -102,17 +165,48 @@ const COMMANDS: [&str; 26] = [
     "demo 100000 = demo 100000",
     "demo 10 = demo 10",
     "--help = help",
+    "-h = help",
     "--version = version",
+    "-V = version",
 ];
 
-const FIRST_WORDS: [&str; 13] = [
+const LATER_COMMANDS: [&str; 24] = [
+    "sites a b = sites a b - none",
+    "sites a a = sites a a - none",
+    "sites --all-opcodes a b = sites a b o none",
+    "sites a --names=n b = sites a b - n",
+    "sites --names=n a b --all-opcodes = sites a b o n",
+    "list a = list a",
+    "list list = list list",
+    "entry a = entry a ---- none",
+    "entry a --noinstr = entry a n--- none",
+    "entry --sls a --all-opcodes = entry a -s-o none",
+    "entry a --ibt --names=n = entry a --i- n",
+    "entry --ibt --sls --noinstr entry = entry entry nsi- none",
+    "cfi a b = cfi a b - none",
+    "cfi a b --all-opcodes --names=n = cfi a b o n",
+    "cfi --names== a b = cfi a b - =",
+    "cfa a = cfa a",
+    "merge a b = merge a b",
+    "merge a a = merge a a",
+    "find t 0 = find t 0",
+    "find t 1f = find t 31",
+    "find t 0000000000000010 = find t 16",
+    "find t abcdef0123456789 = find t 12379813738877118345",
+    "find t ffffffffffffffff = find t 18446744073709551615",
+    "find 10 10 = find 10 16",
+];
+
+const FIRST_WORDS: [&str; 15] = [
     " = no command at word 0",
     "'' = unknown command at word 0",
     "- = unknown command at word 0",
     "-- check a b = unknown command at word 0",
     "help = unknown command at word 0",
-    "-h = unknown command at word 0",
-    "-V = unknown command at word 0",
+    "-h x = unknown command at word 0",
+    "-V x = unknown command at word 0",
+    "-H = unknown command at word 0",
+    "-hV = unknown command at word 0",
     "--help x = unknown command at word 0",
     "--version --help = unknown command at word 0",
     "--fp check a b = unknown command at word 0",
@@ -167,6 +261,55 @@ const FAULTS: [&str; 43] = [
     "demo 1 --no-unreachable = unknown option at word 2",
 ];
 
+const LATER_FAULTS: [&str; 35] = [
+    "sites a = missing at word 2",
+    "sites a b c = extra at word 3",
+    "sites '' b = empty at word 1",
+    "sites a b --fp = unknown option at word 3",
+    "sites a b --no-unreachable = unknown option at word 3",
+    "sites a b -h = unknown option at word 3",
+    "sites a b --names= = empty at word 3",
+    "sites --names=n --names=m a b = repeated at word 2",
+    "sites --all-opcodes a b --all-opcodes = repeated at word 4",
+    "list = missing at word 1",
+    "list a b = extra at word 2",
+    "list a --all-opcodes = unknown option at word 2",
+    "entry = missing at word 1",
+    "entry a b = extra at word 2",
+    "entry a --fp = unknown option at word 2",
+    "entry a --ibt --ibt = repeated at word 3",
+    "entry '' = empty at word 1",
+    "cfi a = missing at word 2",
+    "cfi a b c = extra at word 3",
+    "cfi a '' = empty at word 2",
+    "cfi --retpoline a b = unknown option at word 1",
+    "cfi a b --names=n --names= = repeated at word 4",
+    "cfa = missing at word 1",
+    "cfa '' = empty at word 1",
+    "cfa a --names=n = unknown option at word 2",
+    "merge a = missing at word 2",
+    "merge a '' = empty at word 2",
+    "merge a b c = extra at word 3",
+    "merge a b --names=n = unknown option at word 3",
+    "find = missing at word 1",
+    "find t = missing at word 2",
+    "find t '' = empty at word 2",
+    "find '' zz = empty at word 1",
+    "find t -1 = unknown option at word 2",
+    "find t 1 2 = extra at word 3",
+];
+
+const ADDRESSES: [&str; 8] = [
+    "find t 0x10 = bad number at word 2",
+    "find t FF = bad number at word 2",
+    "find t fF = bad number at word 2",
+    "find t g = bad number at word 2",
+    "find t +1 = bad number at word 2",
+    "find t 00000000000000010 = bad number at word 2",
+    "find t 1ffffffffffffffff = bad number at word 2",
+    "find t zz 1 = bad number at word 2",
+];
+
 const NUMBERS: [&str; 11] = [
     "demo '' = empty at word 1",
     "demo 007 = bad number at word 1",
@@ -188,6 +331,12 @@ fn commands_are_read(rt: HostRuntime) -> Result<(), Fail> {
 }
 
 #[test]
+fn later_commands_are_read(rt: HostRuntime) -> Result<(), Fail> {
+    expect_rows(&rt, rt.alloc(), &LATER_COMMANDS)?;
+    Ok(())
+}
+
+#[test]
 fn first_words_are_told(rt: HostRuntime) -> Result<(), Fail> {
     expect_rows(&rt, rt.alloc(), &FIRST_WORDS)?;
     Ok(())
@@ -200,24 +349,56 @@ fn first_faults_are_told(rt: HostRuntime) -> Result<(), Fail> {
     Ok(())
 }
 
+#[test]
+fn first_faults_of_later_commands_are_told(rt: HostRuntime) -> Result<(), Fail> {
+    expect_rows(&rt, rt.alloc(), &LATER_FAULTS)?;
+    expect_rows(&rt, rt.alloc(), &ADDRESSES)?;
+    Ok(())
+}
+
 /// What `clap` renders of a command.
 fn help_of(mut command: Definition<'_>) -> Result<String, AllocError> {
     command.render_help()
 }
 
-/// What it renders of `check`. An option whose value stands behind `=` alone is shown so.
-fn check_help(alloc: Global) -> Result<String, AllocError> {
-    help_of(check(alloc)?.mut_arg("names", |names| Ok(names.require_equals(true)))?)
+/// What it renders of a command that has options. One whose value stands behind `=` alone is shown so.
+fn help_with_options(command: Definition<'_>) -> Result<String, AllocError> {
+    help_of(command.mut_arg("names", |names| Ok(names.require_equals(true)))?)
+}
+
+/// What it renders of the program, and then of the commands that make and read ORC tables.
+fn rendered_first(alloc: Global) -> Result<String, AllocError> {
+    let program = help_of(command_line(alloc)?)?;
+    let check = help_with_options(check(alloc)?)?;
+    let dump = help_of(dump(alloc)?)?;
+    let unwind = help_of(unwind(alloc)?)?;
+    format!(in alloc; "{program}\n{check}\n{dump}\n{unwind}")
+}
+
+/// What it renders of those of site lists and entry rules, and of the one that makes call frame information.
+fn rendered_next(alloc: Global) -> Result<String, AllocError> {
+    let sites = help_with_options(sites(alloc)?)?;
+    let list = help_of(list(alloc)?)?;
+    let entry = help_with_options(entry(alloc)?)?;
+    let cfi = help_with_options(cfi(alloc)?)?;
+    format!(in alloc; "{sites}\n{list}\n{entry}\n{cfi}")
+}
+
+/// What it renders of the rest.
+fn rendered_last(alloc: Global) -> Result<String, AllocError> {
+    let cfa = help_of(cfa(alloc)?)?;
+    let merge = help_of(merge(alloc)?)?;
+    let find = help_of(find(alloc)?)?;
+    let demo = help_of(demo(alloc)?)?;
+    format!(in alloc; "{cfa}\n{merge}\n{find}\n{demo}")
 }
 
 /// What it renders of the program, and then of each command.
 fn rendered(alloc: Global) -> Result<String, AllocError> {
-    let program = help_of(command_line(alloc)?)?;
-    let check = check_help(alloc)?;
-    let dump = help_of(dump(alloc)?)?;
-    let unwind = help_of(unwind(alloc)?)?;
-    let demo = help_of(demo(alloc)?)?;
-    format!(in alloc; "{program}\n{check}\n{dump}\n{unwind}\n{demo}")
+    let first = rendered_first(alloc)?;
+    let next = rendered_next(alloc)?;
+    let last = rendered_last(alloc)?;
+    format!(in alloc; "{first}\n{next}\n{last}")
 }
 
 #[test]
@@ -249,13 +430,15 @@ fn is_command(alloc: Global, line: &str) -> Result<bool, AllocError> {
     Ok(read_words(alloc, &words).is_ok())
 }
 
-/// Whether an option stands alone, or with `check`.
+/// Whether an option stands alone, or with `check` or `entry`.
 fn is_taken(alloc: Global, option: &str) -> Result<bool, AllocError> {
-    if is_command(alloc, option)? {
-        return Ok(true);
+    for before in ["", "check a b ", "entry a "] {
+        let line = format!(in alloc; "{before}{option}")?;
+        if is_command(alloc, line.as_str())? {
+            return Ok(true);
+        }
     }
-    let with_check = format!(in alloc; "check a b {option}")?;
-    is_command(alloc, with_check.as_str())
+    Ok(false)
 }
 
 #[test]
@@ -267,6 +450,6 @@ fn help_names_the_options(rt: HostRuntime) -> Result<(), Fail> {
             count = count.saturating_add(1);
         }
     }
-    assert_eq!(rt; count, 9);
+    assert_eq!(rt; count, 18);
     Ok(())
 }

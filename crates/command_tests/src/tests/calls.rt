@@ -18,7 +18,7 @@ fn made(alloc: Global, n: u32) -> Result<Vec<u8>, NoMemory> {
 }
 
 /// The words are read, the object is made, and it is summed up: `demo 3` makes these three calls, and as many requests for memory
-/// at least, which `tools/demo-requests.sh` counts by this test alone.
+/// at least, which `tools/test/refused-memory.sh` counts by this test alone.
 #[test]
 fn demo_3_in_three_calls(rt: HostRuntime) -> Result<(), Fail> {
     let alloc = rt.alloc();

@@ -1,11 +1,13 @@
-use Rattle.std.proofs.Common.{ap, sym, ◌∙◌, option_map, string_bytes}
-use Rattle.cli_matches.proofs.SaysLemmas.{check_same, some_of}
+use Rattle.std.proofs.Common.{Some, ap, ◌∙◌}
+use Rattle.cli_words.specs.Grammar.{check}
+use Rattle.cli_matches.proofs.SaysLemmas.{rewriting_none, rewriting_same}
 use Rattle.cli_matches.proofs.reading.check_of.Goals as goal
 
-pub returns-in-Some-Some : goal.returns-in-Some-Some
-returns-in-Some-Some c input output options names says =
-    check_same _ _ _ _ _ _ _ _
-    (some_of _ _ (ap (option_map string_bytes) (sym c.in-Some-Some.is-0) ∙ c.in_ok-input.ensures ∙ says.input_is))
-    (some_of _ _ (ap (option_map string_bytes) (sym c.in-Some-Some.is-1) ∙ c.in_ok-output.ensures ∙ says.output_is))
-    (c.options_of.ensures input output options names says)
-    (c.in_ok-names.ensures ∙ says.names_are)
+pub returns-in-Some : goal.returns-in-Some
+returns-in-Some c input output options names says =
+    rewriting_same (λ input output map names. check input output (record { map = map; rules = c.rules_of.result }) names) _ _ input output options.map names c.in-Some.is (c.in_ok-input.ensures input output options.map names says.rewriting)
+    ∙ ap (λ rules. Some (check input output (record { map = options.map; rules = rules }) names)) (c.rules_of.ensures input output options names says)
+
+pub returns-in-None : goal.returns-in-None
+returns-in-None c input output options names says =
+    rewriting_none _ input output options.map names (check input output options names) c.in-None.is (c.in_ok-input.ensures input output options.map names says.rewriting)

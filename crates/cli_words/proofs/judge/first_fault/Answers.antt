@@ -1,7 +1,6 @@
-use Rattle.std.proofs.Common.{◌≡◌, ◌+◌, ◌≤◌, Some, None, length, map, sym, ap, ◌∙◌, arith, string_bytes}
+use Rattle.std.proofs.Common.{◌≤◌, Some, None, length, map, sym, ◌∙◌, string_bytes}
 use Rattle.std.proofs.lemmas.List.{length-map}
-use Rattle.cli_words.specs.Grammar.{or_else}
-use Rattle.cli_words.proofs.JudgeLemmas.{fault_from, fault_next, no_fault_left}
+use Rattle.cli_words.proofs.JudgeLemmas.{fault_next, no_fault_left}
 use Rattle.cli_words.proofs.judge.first_fault.Goals as goal
 
 pub returns-in-Some : goal.returns-in-Some

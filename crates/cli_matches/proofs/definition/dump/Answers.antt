@@ -1,4 +1,0 @@
-use Rattle.cli_matches.proofs.definition.dump.Goals as goal
-
-pub returns : goal.returns
-returns c = c.with_place.ensures _ c.command-dump.ensures

@@ -1,0 +1,5 @@
+use Rattle.composition_law.proofs.ReadLaws as law
+use Rattle.composition_law.proofs.list_is_done.Goals as goal
+
+pub returns : goal.returns
+returns c = law.list_law

@@ -1,0 +1,16 @@
+pub mod Texts
+pub mod Groups
+pub mod ReadGroups
+pub mod Spelling
+pub mod ReadInstruction
+pub mod Rules
+pub mod Records
+pub mod Faults
+pub mod Cursor
+pub mod Followed
+pub mod Found
+pub mod RowFrames
+pub mod ShortRules
+pub mod RuleAt
+pub mod Laws
+pub mod WorkedRows

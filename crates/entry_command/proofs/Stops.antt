@@ -1,0 +1,242 @@
+-- What stops say: which statuses they come with, and what they say of what the files hold.
+use Rattle.std.proofs.Common.{◌≡◌, ℕ, ◌<◌, ◌≤◌, ◌-◌, Bool, true, false, cond, nat_lt, List, [], length, refl, sym, ap, ◌∙◌, subst, inl, inr, arith}
+use Rattle.std.specs.Prelude.{◌≢◌, Option, Some, None, Result, Ok, Err}
+use Rattle.ot_base.specs.NameLists.{NameLists}
+use Rattle.ot_base.specs.NamesFile.{IsFirstFault, IsNamesFile, lines}
+use Rattle.ot_base.specs.declared.lists.ListsFault.TheVariants as lists_fault
+use Rattle.ot_base.specs.declared.lists.ListsWhy.{ListsWhy}
+use Rattle.ot_files.specs.Causes.{Rose}
+use Rattle.ot_files.specs.Content.{Content, reading, reading_of}
+use Rattle.ot_files.specs.Output.{appending}
+use Rattle.ot_files.specs.declared.access.FileError.{FileError}
+use Rattle.ot_files.specs.declared.access.FileError.TheVariants as file_error
+use Rattle.elf_objects.specs.declared.TheConstants.{MAX_FILE_BYTES}
+use Rattle.command_base.specs.Dump.{IsAnswered}
+use Rattle.command_base.specs.Names.{HasNames, HoldsNames, IsListsStop, StopsAtNames, names_unread, no_lists, no_names}
+use Rattle.command_base.specs.Outside.{Outside, Output}
+use Rattle.command_base.specs.Printing.{Concludes, Prints, fails, fault_stays, runs_out, silent, tells, whole}
+use Rattle.command_base.specs.Reading.{IsUnreadable, MayRead, StopsAtRead}
+use Rattle.command_base.specs.Stop.{line_of, status_of}
+use Rattle.command_base.specs.declared.refusal.Refusal.TheVariants as refusal
+use Rattle.command_base.specs.declared.status.Status.{Status}
+use Rattle.command_base.specs.declared.status.Status.TheVariants.{Done, Warnings, Refused, Usage, FileFault, SinkFault, NoMemory}
+use Rattle.command_base.specs.declared.stop.CommandStop.{CommandStop}
+use Rattle.command_base.specs.declared.stop.CommandStop.TheVariants as stop
+use Rattle.command_base.proofs.DumpLaws.{no_memory_left, read_fault, same_read, told_read, unread_left}
+use Rattle.entry_command.specs.Refused.{IsRefusedOrFails, TellsRefusal}
+
+-- ---- statuses
+
+file_fault_not_refused : FileFault ≢ Refused
+file_fault_not_refused e = cc
+
+sink_fault_not_refused : SinkFault ≢ Refused
+sink_fault_not_refused e = cc
+
+memory_not_refused : NoMemory ≢ Refused
+memory_not_refused e = cc
+
+pub done_not_refused : Done ≢ Refused
+done_not_refused e = cc
+
+pub not_memory : (s : CommandStop) → status_of s ≡ Refused → s ≢ stop.NoMemory
+not_memory s e is = memory_not_refused (sym (ap status_of is) ∙ e)
+
+-- what is left of a command that neither was done nor warned, and whose words were right
+pub left : (x : Status) → x ≢ Done → x ≢ Warnings → x ≢ Usage → IsRefusedOrFails x
+left Done d w u = absurd (d refl)
+left Warnings d w u = absurd (w refl)
+left Refused d w u = inl refl
+left Usage d w u = absurd (u refl)
+left FileFault d w u = inr (inl refl)
+left SinkFault d w u = inr (inr (inl refl))
+left NoMemory d w u = inr (inr (inr refl))
+
+-- ---- what is printed
+
+pub whole_text : (end : Status) (text : List ℕ) (out out' : Output) (x : Status) → Prints end text out out' x → x ≡ Refused → (end ≡ Refused) × (out'.written ≡ appending out.written text)
+whole_text end text out out' x (whole at all) e = (sym at ∙ e, all)
+whole_text end text out out' FileFault (fault_stays prefix rose at) e = absurd (file_fault_not_refused e)
+whole_text end text out out' SinkFault (fails prefix rose other) e = absurd (sink_fault_not_refused e)
+whole_text end text out out' NoMemory (runs_out prefix) e = absurd (memory_not_refused e)
+
+whole_line : (s : CommandStop) (out out' : Output) (x : Status) → Concludes s out out' x → x ≡ Refused → (status_of s ≡ Refused) × (out'.written ≡ appending out.written (line_of s))
+whole_line s out out' x (tells other t) e = whole_text _ _ out out' x t e
+whole_line s out out' NoMemory (silent none same) e = absurd (memory_not_refused e)
+
+pub of_stop : (R : CommandStop → Type 0) (s : CommandStop) (out out' : Output) (x : Status) → Concludes s out out' x → x ≡ Refused → (status_of s ≡ Refused → R s) → TellsRefusal R out.written out'.written
+of_stop R s out out' x t e is =
+    let told = whole_line s out out' x t e in
+    record { stop = s; is = is told.0; printed = told.1 }
+
+pub printed_usage : (end : Status) (text : List ℕ) (out out' : Output) (x : Status) → Prints end text out out' x → x ≡ Usage → end ≡ Usage
+printed_usage end text out out' x (whole at all) e = sym at ∙ e
+printed_usage end text out out' FileFault (fault_stays prefix rose at) e = cc
+printed_usage end text out out' SinkFault (fails prefix rose other) e = cc
+printed_usage end text out out' NoMemory (runs_out prefix) e = cc
+
+pub done_no_usage : (text : List ℕ) (out out' : Output) (x : Status) → Prints Done text out out' x → x ≢ Usage
+done_no_usage text out out' x t e = let same : Done ≡ Usage = printed_usage Done text out out' x t e in cc
+
+pub concluded_usage : (s : CommandStop) (out out' : Output) (x : Status) → Concludes s out out' x → x ≡ Usage → status_of s ≡ Usage
+concluded_usage s out out' x (tells other t) e = printed_usage _ _ out out' x t e
+concluded_usage s out out' NoMemory (silent none same) e = cc
+
+-- ---- what was read
+
+-- what was read of a name is what it holds
+pub is_read : (limit : ℕ) (name bytes : List ℕ) (held : Content) (content : Option Content) → content ≡ Some held → MayRead limit content name (Ok bytes) → reading held name limit ≡ Ok bytes
+is_read limit name bytes held content c may = sym (told_read limit content held name _ c may)
+
+pub one_text : (limit : ℕ) (held : Content) (name a b : List ℕ) → reading held name limit ≡ Ok a → reading held name limit ≡ Ok b → a ≡ b
+one_text limit held name a b h k = same_read a b (sym h ∙ k)
+
+pub unreadable : (limit : ℕ) (s : CommandStop) (name : List ℕ) (held : Content) (before after : Outside) → before.content ≡ Some held → StopsAtRead limit name before after s → status_of s ≡ Refused → IsUnreadable limit held name s
+unreadable limit (stop.Usage usage) name held before after c h e = absurd h
+unreadable limit (stop.Missing told) name held before after c h e = (h.0, sym (told_read limit before.content held name _ c h.1))
+unreadable limit (stop.TooLong told at) name held before after c h e = (h.0, (h.1.0, sym (told_read limit before.content held name _ c h.1.1)))
+unreadable limit (stop.Refused why) name held before after c h e = absurd h
+unreadable limit (stop.PartMissing part told) name held before after c h e = absurd h
+unreadable limit (stop.PartTooLong part told at) name held before after c h e = absurd h
+unreadable limit (stop.PartRefused part why) name held before after c h e = absurd h
+unreadable limit (stop.FileFault told) name held before after c h e = absurd (file_fault_not_refused e)
+unreadable limit stop.NoMemory name held before after c h e = absurd (memory_not_refused e)
+
+pub readable : (limit : ℕ) (s : CommandStop) (held : Content) (name bytes : List ℕ) → IsUnreadable limit held name s → reading held name limit ≡ Ok bytes → ⊥
+readable limit (stop.Usage usage) held name bytes h is = h
+readable limit (stop.Missing told) held name bytes h is = let u : ◌≡◌ {A = Result (List ℕ) FileError} (Err file_error.Missing) (Ok bytes) = sym h.1 ∙ is in cc
+readable limit (stop.TooLong told at) held name bytes h is = let u : ◌≡◌ {A = Result (List ℕ) FileError} (Err (file_error.TooLong limit)) (Ok bytes) = sym h.1.1 ∙ is in cc
+readable limit (stop.Refused why) held name bytes h is = h
+readable limit (stop.PartMissing part told) held name bytes h is = h
+readable limit (stop.PartTooLong part told at) held name bytes h is = h
+readable limit (stop.PartRefused part why) held name bytes h is = h
+readable limit (stop.FileFault told) held name bytes h is = h
+readable limit stop.NoMemory held name bytes h is = h
+
+pub read_no_usage : (limit : ℕ) (s : CommandStop) (name : List ℕ) (before after : Outside) → StopsAtRead limit name before after s → status_of s ≢ Usage
+read_no_usage limit (stop.Usage usage) name before after h e = absurd h
+read_no_usage limit (stop.Missing told) name before after h e = cc
+read_no_usage limit (stop.TooLong told at) name before after h e = cc
+read_no_usage limit (stop.Refused why) name before after h e = absurd h
+read_no_usage limit (stop.PartMissing part told) name before after h e = absurd h
+read_no_usage limit (stop.PartTooLong part told at) name before after h e = absurd h
+read_no_usage limit (stop.PartRefused part why) name before after h e = absurd h
+read_no_usage limit (stop.FileFault told) name before after h e = cc
+read_no_usage limit stop.NoMemory name before after h e = cc
+
+-- a stop that was met later was met in the whole time before too
+rose_before : (before middle after : ℕ) → before ≤ middle → Rose middle after → Rose before after
+rose_before before middle after later rose = omega arith
+
+abbrev pub outside : Option Content → ℕ → Outside
+outside content faults = record { content = content; faults = faults }
+
+pub read_earlier : (limit : ℕ) (s : CommandStop) (name : List ℕ) (content : Option Content) (before middle : ℕ) (after : Outside) → before ≤ middle → StopsAtRead limit name (outside content middle) after s → StopsAtRead limit name (outside content before) after s
+read_earlier limit (stop.Usage usage) name content before middle after later h = h
+read_earlier limit (stop.Missing told) name content before middle after later h = h
+read_earlier limit (stop.TooLong told at) name content before middle after later h = h
+read_earlier limit (stop.Refused why) name content before middle after later h = h
+read_earlier limit (stop.PartMissing part told) name content before middle after later h = h
+read_earlier limit (stop.PartTooLong part told at) name content before middle after later h = h
+read_earlier limit (stop.PartRefused part why) name content before middle after later h = h
+read_earlier limit (stop.FileFault told) name content before middle after later h = (h.0, rose_before before middle after.faults later h.1)
+read_earlier limit stop.NoMemory name content before middle after later h = h
+
+-- what was read of a name is what it holds
+pub held_is : (limit : ℕ) (held : Option (List ℕ)) (bytes : List ℕ) → Ok bytes ≡ reading_of held limit → held ≡ Some bytes
+held_is limit None bytes is = let u : ◌≡◌ {A = Result (List ℕ) FileError} (Ok bytes) (Err file_error.Missing) = is in cc
+held_is limit (Some read) bytes is = within (nat_lt limit (length read)) is
+  where
+    within : (b : Bool) → ◌≡◌ {A = Result (List ℕ) FileError} (Ok bytes) (cond b (Err (file_error.TooLong limit)) (Ok read)) → ◌≡◌ {A = Option (List ℕ)} (Some read) (Some bytes)
+    within true e = let u : ◌≡◌ {A = Result (List ℕ) FileError} (Ok bytes) (Err (file_error.TooLong limit)) = e in cc
+    within false e = let u : ◌≡◌ {A = Result (List ℕ) FileError} (Ok bytes) (Ok read) = e in cc
+
+-- ---- the names file
+
+pub given_names : (held : Content) (names : Option (List ℕ)) (file : List ℕ) (lists : NameLists) → names ≡ Some file → HasNames (Some held) names lists → HoldsNames (Some held) file lists
+given_names held names file lists is h = subst (λ (given : Option (List ℕ)). HasNames (Some held) given lists) is h
+
+-- a names file that is in order has no faulty line
+pub no_faulty_line : (text : List ℕ) (line : ℕ) (why : ListsWhy) → IsNamesFile text → IsFirstFault text line why → ⊥
+no_faulty_line text line why right h =
+    let inside : line - 1 < length (lines text) = omega (arith, h.counted, h.there) in
+    let same : ◌≡◌ {A = Option ListsWhy} None (Some why) = sym (right (line - 1) [] inside) ∙ h.fault in
+    cc
+
+-- so want of memory alone keeps it from being read
+lists_memory : (s : CommandStop) (text : List ℕ) → IsNamesFile text → IsListsStop text s → s ≡ stop.NoMemory
+lists_memory (stop.Usage usage) text right h = absurd h
+lists_memory (stop.Missing told) text right h = absurd h
+lists_memory (stop.TooLong told at) text right h = absurd h
+lists_memory (stop.Refused (refusal.Malformed fault)) text right h = absurd h
+lists_memory (stop.Refused (refusal.Orc fault)) text right h = absurd h
+lists_memory (stop.Refused (refusal.Lists (lists_fault.Line line why))) text right h = absurd (no_faulty_line text line why right h)
+lists_memory (stop.Refused (refusal.Lists lists_fault.NoMemory)) text right h = absurd h
+lists_memory (stop.Refused (refusal.Image fault)) text right h = absurd h
+lists_memory (stop.Refused (refusal.NoText sec)) text right h = absurd h
+lists_memory (stop.Refused (refusal.Unplaced fault)) text right h = absurd h
+lists_memory (stop.Refused (refusal.Unlinked told)) text right h = absurd h
+lists_memory (stop.Refused (refusal.Unflowed told)) text right h = absurd h
+lists_memory (stop.Refused (refusal.HasOrc sec)) text right h = absurd h
+lists_memory (stop.Refused (refusal.HasSites sec)) text right h = absurd h
+lists_memory (stop.Refused (refusal.Sites fault)) text right h = absurd h
+lists_memory (stop.Refused (refusal.HasFrames sec)) text right h = absurd h
+lists_memory (stop.Refused (refusal.Frames fault)) text right h = absurd h
+lists_memory (stop.Refused (refusal.TooMany what count)) text right h = absurd h
+lists_memory (stop.Refused (refusal.Layout fault)) text right h = absurd h
+lists_memory (stop.Refused (refusal.TooManyFiles count)) text right h = absurd h
+lists_memory (stop.Refused (refusal.Merge fault)) text right h = absurd h
+lists_memory (stop.Refused (refusal.Table fault)) text right h = absurd h
+lists_memory (stop.PartMissing part told) text right h = absurd h
+lists_memory (stop.PartTooLong part told at) text right h = absurd h
+lists_memory (stop.PartRefused part why) text right h = absurd h
+lists_memory (stop.FileFault told) text right h = absurd h
+lists_memory stop.NoMemory text right h = refl
+
+lists_no_fault : (s : CommandStop) (text : List ℕ) → IsListsStop text s → status_of s ≢ FileFault
+lists_no_fault (stop.Usage usage) text h e = absurd h
+lists_no_fault (stop.Missing told) text h e = absurd h
+lists_no_fault (stop.TooLong told at) text h e = absurd h
+lists_no_fault (stop.Refused why) text h e = cc
+lists_no_fault (stop.PartMissing part told) text h e = absurd h
+lists_no_fault (stop.PartTooLong part told at) text h e = absurd h
+lists_no_fault (stop.PartRefused part why) text h e = absurd h
+lists_no_fault (stop.FileFault told) text h e = absurd h
+lists_no_fault stop.NoMemory text h e = cc
+
+lists_no_usage : (s : CommandStop) (text : List ℕ) → IsListsStop text s → status_of s ≢ Usage
+lists_no_usage (stop.Usage usage) text h e = absurd h
+lists_no_usage (stop.Missing told) text h e = absurd h
+lists_no_usage (stop.TooLong told at) text h e = absurd h
+lists_no_usage (stop.Refused why) text h e = cc
+lists_no_usage (stop.PartMissing part told) text h e = absurd h
+lists_no_usage (stop.PartTooLong part told at) text h e = absurd h
+lists_no_usage (stop.PartRefused part why) text h e = absurd h
+lists_no_usage (stop.FileFault told) text h e = absurd h
+lists_no_usage stop.NoMemory text h e = cc
+
+pub names_fault : (s : CommandStop) (names : Option (List ℕ)) (before after : Outside) → StopsAtNames names before after s → status_of s ≡ FileFault → Rose before.faults after.faults
+names_fault s names before after (names_unread file is h) e = read_fault MAX_FILE_BYTES s file before after h e
+names_fault s names before after (no_names file text is may h) e = absurd (lists_no_fault s text h e)
+names_fault stop.NoMemory names before after no_lists e = cc
+
+pub names_no_usage : (s : CommandStop) (names : Option (List ℕ)) (before after : Outside) → StopsAtNames names before after s → status_of s ≢ Usage
+names_no_usage s names before after (names_unread file is h) e = read_no_usage MAX_FILE_BYTES s file before after h e
+names_no_usage s names before after (no_names file text is may h) e = lists_no_usage s text h e
+names_no_usage stop.NoMemory names before after no_lists e = cc
+
+pub names_earlier : (s : CommandStop) (names : Option (List ℕ)) (content : Option Content) (before middle : ℕ) (after : Outside) → before ≤ middle → StopsAtNames names (outside content middle) after s → StopsAtNames names (outside content before) after s
+names_earlier s names content before middle after later (names_unread file is h) = names_unread file is (read_earlier MAX_FILE_BYTES s file content before middle after later h)
+names_earlier s names content before middle after later (no_names file text is may h) = no_names file text is may h
+names_earlier stop.NoMemory names content before middle after later no_lists = no_lists
+
+-- where the names file is in order, only faults and want of memory stop there
+pub names_left : (s : CommandStop) (names : Option (List ℕ)) (lists : NameLists) (held : Content) (before after : Outside) (out out' : Output) (x : Status) → before.content ≡ Some held → HasNames (Some held) names lists → StopsAtNames names before after s → Concludes s out out' x → IsAnswered x
+names_left s names lists held before after out out' x c has (names_unread file is h) t =
+    let given = given_names held names file lists is has in
+    unread_left MAX_FILE_BYTES s file given.text held before after out out' x c (sym given.may) h t
+names_left s names lists held before after out out' x c has (no_names file text is may h) t =
+    let given = given_names held names file lists is has in
+    let same = one_text MAX_FILE_BYTES held file given.text text (sym given.may) (is_read MAX_FILE_BYTES file text held before.content c may) in
+    no_memory_left s out out' x (lists_memory s text (subst IsNamesFile same given.right) h) t
+names_left stop.NoMemory names lists held before after out out' x c has no_lists t = no_memory_left stop.NoMemory out out' x refl t

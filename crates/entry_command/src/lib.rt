@@ -1,0 +1,10 @@
+//! The command `entry`: an object is checked against the rules on entry code.
+#![tactic(auto)]
+
+mod answering;
+mod command;
+mod finding;
+mod words;
+
+pub use command::entry;
+pub use words::EntryAsked;

@@ -1,0 +1,15 @@
+use entry_rules::EntryOptions;
+use x86_map::Map;
+
+/// What `entry` is asked to do.
+#[derive(Clone, Copy, Debug)]
+pub struct EntryAsked<'a> {
+    /// The name of the object.
+    pub input: &'a str,
+    /// Which of the rules it is checked against.
+    pub options: EntryOptions,
+    /// The opcode map by which its code is read.
+    pub map: Map,
+    /// The file of function names, where one is given.
+    pub names: Option<&'a str>,
+}

@@ -1,0 +1,99 @@
+-- Runs stand at points, and so do the calls of their frames.
+use Rattle.std.proofs.Common.{◌≡◌, ℕ, List, [], ◌∷◌, Some, sym, ap, subst}
+use Rattle.machine_defs.specs.declared.flow.EdgeKind.TheVariants.{Fixup, Sibling}
+use Rattle.state_defs.specs.Frame.{Frame, Slot}
+use Rattle.state_defs.specs.Effect.{Core}
+use Rattle.machine_defs.specs.IsProgram.{IsProgram}
+use Rattle.machine_defs.specs.Machine.{At, Bases, Machine, Standing, Wrecked}
+use Rattle.machine_defs.specs.Program.{IsPoint, Program, edge}
+use Rattle.machine_defs.specs.Run.{Run, Start, StartsFrom, at_call_hint, at_end_hint, at_entry, at_regs_hint, outermost, started, stepped}
+use Rattle.machine_defs.specs.Step.{JumpsTo, Step, calls_in, calls_out, call_frame, faults, goes_on, indirect, interrupt_frame, interrupted, irets, op_at, returns, sibling, tail_calls, wrecks}
+use Rattle.unwinding_law.proofs.Shadow.{IsSlotChange, effect_shape, no_frame, top}
+use Rattle.option_law.proofs.Effects.{IsLanded, landed}
+
+-- the calls of frames, and where interrupts came, are points
+abbrev pub HaveCalls : Program → List Frame → Type 0
+HaveCalls p [] = Unit {0}
+HaveCalls p (f ∷ fs) = ((q : ℕ) → f.call ≡ Some q → IsPoint p q) × HaveCalls p fs
+
+pub record StandsAtPoint (p : Program) (s : Standing) : Type 0 where
+  pub point : IsPoint p s.point
+  pub calls : HaveCalls p s.core.shadow
+
+changed_slot : (p : Program) (fs gs : List Frame) → IsSlotChange fs gs → HaveCalls p fs → HaveCalls p gs
+changed_slot p _ _ no_frame h = h
+changed_slot p _ _ (top f fs slot kind) h = h
+
+module _ (p : Program) (bases : Bases) (is : IsProgram p) where
+  -- a hint leaves both
+  pub landed_there : (t u : Standing) → IsLanded t u → IsPoint p t.point → HaveCalls p t.core.shadow → StandsAtPoint p u
+  landed_there t u l point calls = record {
+    point = subst (IsPoint p) (sym l.point) point;
+    calls = changed_slot p t.core.shadow u.core.shadow l.frames calls;
+  }
+
+  from_start : (t s : Standing) → StartsFrom p t s → IsPoint p t.point → HaveCalls p t.core.shadow → StandsAtPoint p s
+  from_start t s from point calls =
+      let there = landed_there t from.hinted (landed p t from.hinted from.lands) point calls in
+      subst (StandsAtPoint p) (sym from.start) (record { point = there.point; calls = there.calls })
+
+  one_frame : (shadow : List Frame) (ra cfa bp : ℕ) (slot : Slot) (core : Core) → shadow ≡ outermost ra cfa bp slot core.ac ∷ [] → HaveCalls p shadow
+  one_frame shadow ra cfa bp slot core e =
+      subst (HaveCalls p) (sym e) (λ q call. absurd (let k : ⊥ = cc in k), tt)
+
+  starts_there : (s : Standing) → Start p bases s → StandsAtPoint p s
+  starts_there s (at_entry t _ f entry listed arrives called at from) =
+      from_start t s from (is.arrivals (p.place entry) t.point arrives) (one_frame t.core.shadow called.ra called.cfa called.bp _ t.core called.shadow)
+  starts_there s (at_call_hint t _ depth fp bp may hint called from) =
+      from_start t s from may.point (one_frame t.core.shadow called.ra called.cfa called.bp _ t.core called.shadow)
+  starts_there s (at_regs_hint t _ full depth may hint came from) =
+      from_start t s from may.point (one_frame t.core.shadow came.ra came.cfa came.bp came.slot t.core came.shadow)
+  starts_there s (at_end_hint t _ kind may hint none from) =
+      from_start t s from may.point (subst (HaveCalls p) (sym none) tt)
+
+  same_calls : (c d : List Frame) → d ≡ c → HaveCalls p c → HaveCalls p d
+  same_calls c d e h = subst (HaveCalls p) (sym e) h
+
+  jumps_there : (q r : ℕ) → IsPoint p q → JumpsTo p q r → IsPoint p r
+  jumps_there q r point (sibling _ along) = is.edges q (edge r Sibling) point along
+  jumps_there q r point (indirect _ entry role listed arrives) = is.arrivals (p.place entry) r arrives
+
+  -- the state after a step, where the one before it stands at a point
+  abbrev pub StandsThere : Machine → Type 0
+  StandsThere Wrecked = Unit {0}
+  StandsThere (At s) = StandsAtPoint p s
+
+  pub step_there : (m n : Machine) → Step p bases m n → StandsThere m → StandsThere n
+  step_there _ _ (goes_on s t u how lands) h =
+      landed_there t u (landed p t u lands) (is.edges s.point (edge t.point how.kind) h.point how.along)
+      (changed_slot p s.core.shadow t.core.shadow (effect_shape s.core t.core (op_at p s) how.effect) h.calls)
+  step_there _ _ (faults s t u how lands) h =
+      landed_there t u (landed p t u lands) (is.edges s.point (edge t.point Fixup) h.point how.along)
+      (same_calls s.core.shadow t.core.shadow (ap (λ (c : Core). c.shadow) how.core) h.calls)
+  step_there _ _ (calls_in s t u how lands) h =
+      landed_there t u (landed p t u lands) (is.arrivals (p.place how.entry) t.point how.arrives)
+      (same_calls (call_frame p bases s ∷ s.core.shadow) t.core.shadow (ap (λ (c : Core). c.shadow) how.core) (λ q e. subst (IsPoint p) (let k : s.point ≡ q = cc in k) h.point, h.calls))
+  step_there _ _ (calls_out s t u how lands) h =
+      landed_there t u (landed p t u lands) (is.followers s.point t.point h.point how.comes_back)
+      (same_calls s.core.shadow t.core.shadow (ap (λ (c : Core). c.shadow) how.core) h.calls)
+  step_there _ _ (returns s t u how lands) h =
+      let frames : HaveCalls p (how.frame ∷ how.below) = subst (HaveCalls p) how.shadow h.calls in
+      landed_there t u (landed p t u lands) (is.followers how.call t.point (frames.0 how.call how.called) how.comes_back)
+      (same_calls how.below t.core.shadow (ap (λ (c : Core). c.shadow) how.core) frames.1)
+  step_there _ _ (tail_calls s t u how lands) h =
+      landed_there t u (landed p t u lands) (jumps_there s.point t.point h.point how.target)
+      (same_calls s.core.shadow t.core.shadow (ap (λ (c : Core). c.shadow) how.core) h.calls)
+  step_there _ _ (wrecks s how) h = tt
+  step_there _ _ (interrupted s t u how lands) h =
+      landed_there t u (landed p t u lands) how.gate.point
+      (same_calls (interrupt_frame p bases s ∷ s.core.shadow) t.core.shadow (ap (λ (c : Core). c.shadow) how.core) (λ q e. subst (IsPoint p) (let k : s.point ≡ q = cc in k) h.point, h.calls))
+  step_there _ _ (irets s t how) h =
+      let frames : HaveCalls p (how.frame ∷ how.below) = subst (HaveCalls p) how.shadow h.calls in
+      record {
+        point = frames.0 t.point how.interrupted;
+        calls = same_calls how.below t.core.shadow (ap (λ (c : Core). c.shadow) how.core) frames.1;
+      }
+
+  pub run_there : (m : Machine) → Run p bases m → StandsThere m
+  run_there _ (started s start inside) = starts_there s start
+  run_there _ (stepped m n run step inside) = step_there m n step (run_there m run)

@@ -1,0 +1,9 @@
+pub mod Facts
+pub mod EntryWarns
+pub mod Taken
+pub mod Listed
+pub mod ObjectFacts
+pub mod Law
+pub mod Table
+pub mod PointWarns
+pub mod Verdict

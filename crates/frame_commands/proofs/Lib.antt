@@ -1,0 +1,12 @@
+mod Stops
+mod Content
+mod Gets
+mod CfiEnds
+pub mod CfiLaws
+pub mod CfaLaws
+mod RuleLines
+mod OneRule
+mod Begun
+mod LastRule
+mod Undoing
+mod Undoes

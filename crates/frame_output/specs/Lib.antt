@@ -1,0 +1,2 @@
+pub mod FrameOutput
+pub mod Framed

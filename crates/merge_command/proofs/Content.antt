@@ -1,0 +1,32 @@
+-- What names hold after one of them is written.
+use Rattle.std.proofs.Common.{◌≡◌, ◌≢◌, ℕ, Bool, true, false, cond, List, Option, None, Some, bytes_eq, sym, ap, subst, ◌∙◌, refl}
+use Rattle.std.proofs.lemmas.Slice.Eq.{bytes_eq-Decides}
+use Rattle.std.proofs.lemmas.Map.Text.{is_eq-slice_cmp}
+use Rattle.std.specs.Ordering.{nat_cmp, eq_by_cmp}
+use Rattle.std.specs.Cmp.Lexicographic.{slice_cmp, nat_list_cmp_total}
+use Rattle.std.specs.FinMap.{get, insert, get-insert}
+use Rattle.ot_files.specs.Content.{Content, ChangesAtMost, writing}
+
+not_same : (a b : List ℕ) → a ≢ b → eq_by_cmp (slice_cmp nat_cmp) a b ≡ false
+not_same a b differs = is_eq-slice_cmp a b ∙ decided (bytes_eq a b) (bytes_eq-Decides a b).0
+  where
+    decided : (r : Bool) → (r ≡ true → a ≡ b) → r ≡ false
+    decided true h = absurd (differs (h refl))
+    decided false h = refl
+
+get-insert_other : (content : Content) (name bytes : List ℕ) (other : List ℕ) → other ≢ name → get (insert content name bytes) other ≡ get content other
+get-insert_other content name bytes other differs =
+    get-insert nat_list_cmp_total content name bytes other ∙ ap (λ b. cond b (Some bytes) (get content other)) (not_same other name differs)
+
+same_as_itself : (a : List ℕ) → eq_by_cmp (slice_cmp nat_cmp) a a ≡ true
+same_as_itself a = is_eq-slice_cmp a a ∙ (bytes_eq-Decides a a).1 refl
+
+-- what the name that was written holds
+pub get-insert_same : (content : Content) (name bytes : List ℕ) → get (insert content name bytes) name ≡ Some bytes
+get-insert_same content name bytes =
+    get-insert nat_list_cmp_total content name bytes name ∙ ap (λ b. cond b (Some bytes) (get content name)) (same_as_itself name)
+
+-- what writes OUT changes at most OUT
+pub written_others : (output file : List ℕ) (before after : Option Content) → after ≡ writing before output file → ChangesAtMost output before after
+written_others output file None after is = subst (λ (c : Option Content). ChangesAtMost output None c) (sym is) tt
+written_others output file (Some held) after is = subst (λ (c : Option Content). ChangesAtMost output (Some held) c) (sym is) (λ other differs. get-insert_other held output file other differs)

@@ -1,0 +1,9 @@
+pub mod Content
+pub mod Stops
+pub mod LayoutLemmas
+pub mod ObjectLemmas
+pub mod SameParts
+pub mod TableLemmas
+pub mod MergeLaws
+pub mod FindLaws
+pub mod FoundLemmas

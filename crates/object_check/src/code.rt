@@ -1,0 +1,86 @@
+//! The code of an object: its control-flow graph, what is allowed at its points, and how much there is.
+
+ghost use Rattle.std.specs.Prelude.{◌≡◌, ◌≤◌, IfErr, IfOk, length};
+ghost use Rattle.flow_defs.specs.Coded.{coded_by};
+ghost use Rattle.flow_defs.specs.Program.{program_of};
+ghost use Rattle.option_rules.specs.AskedRules.{IsEnough, needs_allowances as need_allowances};
+ghost use Rattle.point_allowances.specs.Allowances.{allowances_of};
+ghost use Rattle.elf_objects.specs.declared.TheConstants.{MAX_FILE_BYTES as most_bytes};
+ghost use Rattle.object_check.specs.Code.{IsCodeFault, IsCodeOf};
+ghost use Rattle.object_check.specs.Ready.{IsTableOf};
+
+use crate::counts::{CodeCounts, count_code};
+use crate::fault::CodeFault;
+use control_flow::{flow, object_is_in_order};
+use elf_objects::Object;
+use object_code::{Linked, Map};
+use option_rules::AllowanceTable;
+use ot_base::{Lists, NoMemory, Options};
+use point_allowances::table_of;
+use program_graph::Graph;
+use std::alloc::Global;
+
+/// What is kept of an object's code.
+#[derive(Drop)]
+pub struct ReadCode {
+    /// The control-flow graph.
+    pub(crate) graph: Graph,
+    /// What is allowed at its points and symbols, where the options ask for rules that look at it.
+    pub(crate) table: Option<AllowanceTable>,
+    /// How much code there is.
+    pub(crate) counts: CodeCounts,
+}
+
+/// Whether the options ask for a rule that looks at what is allowed.
+fn needs_allowances(options: Options) -> bool
+    ensures { result ≡ need_allowances options }
+{
+    options.retpoline || options.rethunk || options.uaccess
+}
+
+/// What is allowed at the points and symbols of an object whose code is read, where it is needed.
+fn table_if_needed(
+    alloc: Global,
+    linked: &Linked<'_, '_>,
+    lists: &Lists,
+    options: Options,
+) -> Result<Option<AllowanceTable>, NoMemory>
+    ensures enough { IfOk result (IsEnough options) }
+    ensures allows { IfOk result (IsTableOf (program_of linked.now lists.now) (allowances_of linked.now lists.now)) }
+{
+    if needs_allowances(options) {
+        Ok(Some(table_of(alloc, linked, lists)?))
+    } else {
+        Ok(None)
+    }
+}
+
+/// Reads the code of an object of at most 67,108,864 bytes (64 MiB) by an opcode map and follows its control flow, under lists of
+/// function names. Of what it reads it keeps the graph, the counts, and what the rules that the options ask for look at.
+///
+/// # Errors
+///
+/// The first fault of texts, special sections, functions and alternatives; then the first of the starts of functions, lists
+/// of places, static branches, calls within functions and unchecked functions. [`CodeFault::NoMemory`] may come at any object.
+pub fn read_code(
+    alloc: Global,
+    map: Map,
+    object: &Object<'_>,
+    lists: &Lists,
+    options: Options,
+) -> Result<ReadCode, CodeFault>
+    requires { length object.now.bytes ≤ most_bytes }
+    ensures ok { IfOk result (IsCodeOf (coded_by map object.now) lists.now options) }
+    ensures err { IfErr result (IsCodeFault (coded_by map object.now)) }
+{
+    let linked = Linked::link(alloc, map, object)?;
+    object_is_in_order(&linked);
+    let graph = flow(alloc, &linked, lists)?;
+    let table = table_if_needed(alloc, &linked, lists, options)?;
+    let counts = count_code(&linked);
+    Ok(ReadCode {
+        graph,
+        table,
+        counts,
+    })
+}

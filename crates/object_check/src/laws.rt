@@ -1,0 +1,19 @@
+//! What the rows of an object's program are.
+
+ghost use Rattle.object_check.specs.RowLaws.{RowsAscend, RowsTellFrames};
+
+use object_law::flow_laws::{program_is_laid_out, program_is_one};
+use object_law::object_laws::rows_are_rows_of;
+use stack_state::laws::move_is_consistent;
+
+/// The rows of an object's program strictly ascend by their places. Those of the kept states of a program that breaks no rule tell
+/// call frames: a row of a call's frame counts from rsp or rbp, with the caller's rbp in rbp or saved below the frame's top.
+pub(crate) fn rows_tell_frames()
+    ensures ascend { RowsAscend }
+    ensures frames { RowsTellFrames }
+{
+    program_is_one();
+    program_is_laid_out();
+    rows_are_rows_of();
+    move_is_consistent();
+}

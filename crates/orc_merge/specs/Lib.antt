@@ -1,0 +1,14 @@
+pub mod Parts
+pub mod Ends
+pub mod Overlaps
+pub mod MergeFaults
+pub mod Merged
+pub mod Alike
+pub mod MergedWalk
+pub mod TableBytes
+pub mod TableFaults
+pub mod TableRows
+pub mod LayoutLines
+pub mod LayoutFile
+pub mod LayoutReading
+pub mod FaultTexts

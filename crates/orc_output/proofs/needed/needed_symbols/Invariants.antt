@@ -1,8 +1,0 @@
-use Rattle.std.proofs.Common.{◌≡◌}
-use Rattle.std.specs.Prelude.{filter}
-use Rattle.std.specs.List.{range_with_len}
-use Rattle.orc_output.proofs.NeededSections.{is_needed}
-use Rattle.orc_output.proofs.needed.needed_symbols.Given as goal
-
-abbrev pub invariant-loop-sec : goal.invariant-loop-sec
-invariant-loop-sec l = l.secs.items ≡ filter (is_needed l.object l.rows) (range_with_len 0 l.sec)

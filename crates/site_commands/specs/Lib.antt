@@ -1,0 +1,4 @@
+pub mod Order
+pub mod Sites
+pub mod Refused
+pub mod List

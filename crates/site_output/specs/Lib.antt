@@ -1,0 +1,3 @@
+pub mod SiteOutput
+pub mod Needed
+pub mod Tables

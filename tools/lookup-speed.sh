@@ -1,9 +1,0 @@
-#!/usr/bin/env bash
-# How many rows a million look-ups read in a table of a million rows, and how long they take, beside the same look-ups by
-# halving over all rows; and how long a walk of 100,000 frames takes. The program is tried and not proved, so only the ratios
-# tell something. Run at the top of the repository.
-set -eu
-. "$(dirname "$0")/prepare.sh"
-
-"$root/tools/with-library.sh" "$scratch" lookup_speed "$root/tools/lookup-speed/main.rt.txt"
-(cd "$scratch/crates/lookup_speed" && rt try)

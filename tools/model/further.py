@@ -1,0 +1,90 @@
+"""Compares the built program with the model over what an object can be given besides tables: site lists, call frame information, a merged
+table of several objects; and over changed files of these."""
+
+import random
+from typing import NamedTuple, Optional
+
+from commands import Answer
+from entry import entry
+from frames import cfa, cfi
+from merge import find, merge
+from mutate import mutated
+from program import Program, differences
+from site_lists import listed, sites
+
+# Each command that writes an object, with the one that reads what it adds.
+WRITERS = {"sites": (sites, "list", listed), "cfi": (cfi, "cfa", cfa)}
+FAULTY_LINES = ["files x", "file", "file a.o b.o", "place 1", "place 1 0x10", "place x 0", "place 4294967296 0", "file nowhere", "place 0 0", "place 2 0", ""]
+
+
+class Difference(NamedTuple):
+    """What differs at a command, and the files that were there."""
+
+    what: str
+    files: dict[str, bytes]
+
+
+def told_apart(program: Program, files: dict[str, bytes], words: list[str], answer: Answer, reader: str = "") -> list[Difference]:
+    run = program.run(files, *words, reader=reader)
+    return [Difference(f"{' '.join(words)}: {found}", files) for found in differences(run, answer)]
+
+
+def written_objects(program: Program, data: bytes, whole: bool, names: Optional[bytes], rng: random.Random) -> list[Difference]:
+    """What differs in site lists and call frame information of an object, and in what is read of them once they are changed."""
+    found = []
+    files = {"in.o": data} | ({"names": names} if names is not None else {})
+    options = ["--all-opcodes"] * whole + ["--names=names"] * (names is not None)
+    for command, (write, reader, read) in WRITERS.items():
+        answer = write(data, whole, names)
+        found += told_apart(program, files, [command, "in.o", "out", *options], answer, reader)
+        if answer.written is not None:
+            changed = mutated(answer.written, rng)
+            found += told_apart(program, {"changed": changed}, [reader, "changed"], read(changed))
+    return found
+
+
+def entry_rules(program: Program, data: bytes, whole: bool, names: Optional[bytes], rng: random.Random) -> list[Difference]:
+    """What differs in the entry rules, by lot of their options."""
+    rules = rng.random() < 0.6, rng.random() < 0.6, rng.random() < 0.6
+    options = [f"--{name}" for name, given in zip(("noinstr", "sls", "ibt"), rules) if given] + ["--all-opcodes"] * whole
+    files = {"in.o": data} | ({"names": names} if names is not None else {})
+    return told_apart(program, files, ["entry", "in.o", *options, *["--names=names"] * (names is not None)], entry(data, rules, whole, names))
+
+
+def layout_by_lot(names: list[str], sizes: list[int], rng: random.Random) -> str:
+    """A layout of these files, whose sections number 1 have these sizes: mostly one behind the other, rarely faulty."""
+    at, lines = rng.choice([0, 0x1000, 1 << 63, (1 << 64) - 1 - sum(sizes)]), []
+    for name, size in zip(names, sizes):
+        lines.append(f"file {name}")
+        if rng.random() < 0.98:
+            lines.append(f"place 1 {max(at, 0):x}")
+        at += max(size + rng.choice([0, 0, 0, 1, 100, -1]), 0)
+    if rng.random() < 0.1:
+        lines.insert(rng.randrange(len(lines) + 1), rng.choice(FAULTY_LINES))
+    return "\n".join(lines) + rng.choice(["", "\n"])
+
+
+def changed_table(table: bytes, rng: random.Random) -> bytes:
+    """The file of a merged table with a few bytes changed, or cut."""
+    data = bytearray(table)
+    for _ in range(rng.choice([1, 1, 2])):
+        at = rng.randrange(len(data))
+        data[at] = rng.choice([0, 1, 0xFF, data[at] ^ 1 << rng.randrange(8)])
+    return bytes(data[: rng.randrange(len(data) + 1)] if rng.random() < 0.1 else data)
+
+
+def merged_tables(program: Program, objects: list[tuple[bytes, int]], rng: random.Random) -> list[Difference]:
+    """What differs in a table of these objects with ORC tables, each with the size of its section number 1, and in look-ups."""
+    files = {f"{i}.o": data for i, (data, _) in enumerate(objects)}
+    layout = layout_by_lot(list(files), [size for _, size in objects], rng).encode()
+    answer = merge(layout, files)
+    found = told_apart(program, files | {"layout": layout}, ["merge", "layout", "out"], answer)
+    if answer.written is None:
+        return found
+    table = answer.written
+    addresses = [int.from_bytes(table[at : at + 8], "little") for at in range(16, len(table) - 13, 8)]
+    for there in rng.sample(addresses, min(len(addresses), 2)) + [rng.randrange(1 << 64)]:
+        address = max(there + rng.choice([-1, 0, 1]), 0) % (1 << 64)
+        found += told_apart(program, {"table": table}, ["find", "table", f"{address:x}"], find(table, address))
+    changed = changed_table(table, rng)
+    return found + told_apart(program, {"table": changed}, ["find", "table", "1000"], find(changed, 0x1000))
