@@ -7,4 +7,5 @@ mod finding;
 mod words;
 
 pub use command::entry;
+pub use entry_rules::EntryOptions;
 pub use words::EntryAsked;

@@ -10,3 +10,4 @@ mod Begun
 mod LastRule
 mod Undoing
 mod Undoes
+pub use Rattle.object_check.proofs.OneCount

@@ -10,5 +10,6 @@ mod words;
 mod writing;
 
 pub use adding::cfi;
+pub use object_check::{CheckFault, CodeCounts, ObjectVerdict, check_object};
 pub use telling::cfa;
 pub use words::CfiAsked;

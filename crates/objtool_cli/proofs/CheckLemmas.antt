@@ -11,13 +11,13 @@ use Rattle.elf_objects.specs.Object.{IsObject}
 use Rattle.elf_objects.specs.declared.fault.Counted.TheVariants as counted
 use Rattle.flow_defs.specs.Coded.{coded_by}
 use Rattle.flow_defs.specs.Program.{program_of}
-use Rattle.point_allowances.specs.Allowances.{allowances_of}
-use Rattle.object_check.specs.Counts.{IsCounted}
-use Rattle.object_check.specs.Order.{IsCheckable}
-use Rattle.object_check.specs.Outcome.{AreWarnings, HasRows, IsUnbroken}
-use Rattle.object_check.specs.Promises.{KeepsPromises}
-use Rattle.object_check.specs.Unwinding.{RowsUnwind}
-use Rattle.object_check.specs.declared.counts.CodeCounts.{CodeCounts}
+use Rattle.frame_commands.specs.Outcome.{allowances_of}
+use Rattle.frame_commands.specs.Counts.{IsCounted}
+use Rattle.frame_commands.specs.CheckOrder.{IsCheckable}
+use Rattle.frame_commands.specs.Outcome.{AreWarnings, HasRows, IsUnbroken}
+use Rattle.frame_commands.specs.Promises.{KeepsPromises}
+use Rattle.frame_commands.specs.Unwinding.{RowsUnwind}
+use Rattle.frame_commands.specs.CodeCounts.{CodeCounts}
 use Rattle.orc_bytes.proofs.OneList.{one_list_fits}
 use Rattle.command_base.specs.declared.refusal.Refusal.TheVariants as refusal
 use Rattle.command_base.specs.declared.status.Status.{Status}

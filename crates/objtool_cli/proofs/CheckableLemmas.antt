@@ -31,10 +31,10 @@ use Rattle.flow_defs.specs.declared.fault.FlowFault.TheVariants as flow
 use Rattle.object_code.specs.Linked.{AllCode, IsLinked, IsLinkFault, TellsText}
 use Rattle.object_code.specs.declared.fault.LinkFault.{LinkFault}
 use Rattle.object_code.specs.declared.fault.LinkFault.TheVariants as link
-use Rattle.object_check.specs.Order.{IsCheckable, IsCheckFault, crowded, has_orc, most_sections, no_memory, orc_section, unflowed, unlinked}
-use Rattle.object_check.specs.Outcome.{HasRows}
-use Rattle.object_check.specs.declared.fault.CheckFault.{CheckFault}
-use Rattle.object_check.specs.declared.fault.CheckFault.TheVariants as fault
+use Rattle.frame_commands.specs.CheckOrder.{IsCheckable, IsCheckFault, crowded, has_orc, most_sections, no_memory, orc_section, unflowed, unlinked}
+use Rattle.frame_commands.specs.Outcome.{HasRows}
+use Rattle.frame_commands.specs.CheckFault.{CheckFault}
+use Rattle.frame_commands.specs.CheckFault.TheVariants as fault
 use Rattle.command_base.specs.declared.refusal.Refusal.{Refusal}
 use Rattle.command_base.specs.declared.refusal.Refusal.TheVariants as refusal
 use Rattle.objtool_cli.specs.Checked.{IsUncheckable, TellsCheckFault, malformed, unchecked}

@@ -21,7 +21,7 @@ use Rattle.elf_objects.specs.Elf.{Elf}
 use Rattle.elf_objects.specs.Object.{IsObject}
 use Rattle.x86_map.specs.declared.map.Map.{Map}
 use Rattle.flow_defs.specs.Coded.{coded_by}
-use Rattle.object_check.specs.Promises.{KeepsPromises}
+use Rattle.frame_commands.specs.Promises.{KeepsPromises}
 
 not_same : (a b : List ℕ) → a ≢ b → eq_by_cmp (slice_cmp nat_cmp) a b ≡ false
 not_same a b differs = is_eq-slice_cmp a b ∙ decided (bytes_eq a b) (bytes_eq-Decides a b).0

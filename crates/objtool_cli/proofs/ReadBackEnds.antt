@@ -29,7 +29,7 @@ use Rattle.flow_defs.specs.Coded.{coded_by}
 use Rattle.x86_map.specs.declared.map.Map.{Map}
 use Rattle.x86_decode.specs.Decoding.{OneOutcome}
 use Rattle.command_base.specs.Names.{HasNames}
-use Rattle.site_lists.specs.Listed.{Listed}
+use Rattle.site_commands.specs.Listed.{Listed}
 use Rattle.site_commands.specs.Order.{GetsSites}
 use Rattle.site_commands.specs.List.{HoldsLists}
 use Rattle.site_commands.proofs.ListLaws.{list_left}

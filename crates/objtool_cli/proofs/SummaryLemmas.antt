@@ -8,13 +8,13 @@ use Rattle.elf_objects.specs.Elf.{Elf}
 use Rattle.elf_objects.specs.Object.{IsObject}
 use Rattle.flow_defs.specs.Coded.{coded_by}
 use Rattle.flow_defs.specs.Program.{program_of}
-use Rattle.point_allowances.specs.Allowances.{allowances_of}
+use Rattle.frame_commands.specs.Outcome.{allowances_of}
 use Rattle.x86_decode.specs.Decoding.{OneOutcome}
-use Rattle.object_check.specs.Counts.{IsCounted}
-use Rattle.object_check.specs.Order.{IsCheckable}
-use Rattle.object_check.specs.Outcome.{AreWarnings, HasRows, IsUnbroken}
-use Rattle.object_check.specs.declared.counts.CodeCounts.{CodeCounts}
-use Rattle.object_check.proofs.OneCount.{one_counts}
+use Rattle.frame_commands.specs.Counts.{IsCounted}
+use Rattle.frame_commands.specs.CheckOrder.{IsCheckable}
+use Rattle.frame_commands.specs.Outcome.{AreWarnings, HasRows, IsUnbroken}
+use Rattle.frame_commands.specs.CodeCounts.{CodeCounts}
+use Rattle.frame_commands.proofs.OneCount.{one_counts}
 use Rattle.command_base.specs.declared.refusal.Refusal.{Refusal}
 use Rattle.command_base.specs.declared.status.Status.{Status}
 use Rattle.command_base.specs.declared.status.Status.TheVariants.{Done, Warnings, Refused, FileFault, SinkFault, NoMemory}

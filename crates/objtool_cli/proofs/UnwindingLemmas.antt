@@ -5,7 +5,7 @@ use Rattle.ot_base.specs.declared.row.PlacedRow.{PlacedRow}
 use Rattle.table_defs.specs.Placement.{IsPlacement}
 use Rattle.orc_bytes.specs.Laws.{OneListFits}
 use Rattle.flow_defs.specs.Coded.{Coded}
-use Rattle.object_check.specs.Unwinding.{RowsUnwind}
+use Rattle.frame_commands.specs.Unwinding.{RowsUnwind}
 use Rattle.orc_output.specs.Tables.{HasTables, with_tables_object}
 use Rattle.objtool_cli.specs.Unwinding.{UnwindsBy}
 use Rattle.objtool_cli.proofs.PlacementLemmas.{program_texts}

@@ -26,7 +26,7 @@ use Rattle.cli_words.specs.Grammar.{Command, cfa, cfi, check, demo, dump, entry,
 use Rattle.site_commands.proofs.ListLaws.{list_no_usage}
 use Rattle.site_commands.proofs.SitesLaws.{sites_no_usage}
 use Rattle.frame_commands.proofs.CfaLaws.{cfa_no_usage}
-use Rattle.entry_rules.specs.declared.options.EntryOptions.{EntryOptions}
+use Rattle.entry_command.specs.EntryOptions.{EntryOptions}
 use Rattle.entry_command.specs.Entry as entering
 use Rattle.entry_command.specs.Entry.{EndsEntry, IsUncheckable, StopsEntry}
 use Rattle.frame_commands.specs.Cfi as framing

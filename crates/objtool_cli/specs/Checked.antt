@@ -16,10 +16,10 @@ use Rattle.machine_defs.specs.Asked.{IsWarned}
 use Rattle.machine_defs.specs.Program.{Program}
 use Rattle.flow_defs.specs.Coded.{Coded, coded_by}
 use Rattle.flow_defs.specs.Program.{program_of}
-use Rattle.point_allowances.specs.Allowances.{allowances_of}
-use Rattle.object_check.specs.Order.{IsCheckable, IsCheckFault}
-use Rattle.object_check.specs.Outcome.{AreWarnings, HasRows, IsUnbroken}
-use Rattle.object_check.specs.declared.fault.CheckFault.TheVariants as fault
+use Rattle.frame_commands.specs.Outcome.{allowances_of}
+use Rattle.frame_commands.specs.CheckOrder.{IsCheckable, IsCheckFault}
+use Rattle.frame_commands.specs.Outcome.{AreWarnings, HasRows, IsUnbroken}
+use Rattle.frame_commands.specs.CheckFault.TheVariants as fault
 use Rattle.orc_output.specs.Tables.{symbols_needed}
 use Rattle.command_base.specs.Code.{IsWorded}
 use Rattle.command_base.specs.declared.refusal.Refusal.{Refusal}

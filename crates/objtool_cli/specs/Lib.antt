@@ -6,9 +6,9 @@ pub mod Summary
 pub mod Unwinding
 pub mod Words
 pub mod Writing
-pub use Rattle.site_lists.specs.Sites as CodeSites
-pub use Rattle.site_lists.specs.Sections as SiteSections
-pub use Rattle.site_lists.specs.Listed as ListedSites
+pub use Rattle.site_commands.specs.CodeSites as CodeSites
+pub use Rattle.site_commands.specs.Sections as SiteSections
+pub use Rattle.site_commands.specs.Listed as ListedSites
 pub use Rattle.site_commands.specs.List as SiteText
 pub use Rattle.site_commands.specs.Sites as SiteObjects
 pub use Rattle.frame_commands.specs.Cfa as RuleText

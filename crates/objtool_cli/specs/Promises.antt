@@ -7,7 +7,7 @@ use Rattle.ot_files.specs.Content.{Content}
 use Rattle.elf_objects.specs.Elf.{Elf}
 use Rattle.elf_objects.specs.Object.{IsObject}
 use Rattle.flow_defs.specs.Coded.{coded_by}
-use Rattle.object_check.specs.Promises.{KeepsPromises}
+use Rattle.frame_commands.specs.Promises.{KeepsPromises}
 use Rattle.command_base.specs.Names.{HasNames}
 
 -- The object whose bytes IN holds keeps what the options promise, under the lists of names of the names file, or the built-in

@@ -12,10 +12,10 @@ use Rattle.elf_objects.specs.Object.{IsObject}
 use Rattle.demo_objects.specs.Demo.{demo_spec}
 use Rattle.demo_objects.specs.Made.{made}
 use Rattle.flow_defs.specs.Coded.{coded_by}
-use Rattle.object_check.specs.Counts.{IsCounted}
-use Rattle.object_check.specs.Order.{IsCheckable}
-use Rattle.object_check.specs.Outcome.{HasRows, IsUnbroken}
-use Rattle.object_check.specs.declared.counts.CodeCounts.{CodeCounts}
+use Rattle.frame_commands.specs.Counts.{IsCounted}
+use Rattle.frame_commands.specs.CheckOrder.{IsCheckable}
+use Rattle.frame_commands.specs.Outcome.{HasRows, IsUnbroken}
+use Rattle.frame_commands.specs.CodeCounts.{CodeCounts}
 use Rattle.command_base.specs.declared.refusal.Refusal.{Refusal}
 use Rattle.command_base.specs.declared.status.Status.{Status}
 use Rattle.command_base.specs.declared.status.Status.TheVariants as status

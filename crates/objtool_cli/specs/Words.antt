@@ -3,7 +3,7 @@ use Rattle.std.specs.Prelude.{ℕ, Bool, true, false, List, [], Result}
 use Rattle.cli_words.specs.declared.fault.UsageKind.{UsageKind}
 use Rattle.cli_words.specs.Grammar.{Command, cfi, check, entry, help, merge, sites, version}
 use Rattle.cli_words.specs.declared.options.EntryRules.{EntryRules}
-use Rattle.entry_rules.specs.declared.options.EntryOptions.{EntryOptions}
+use Rattle.entry_command.specs.EntryOptions.{EntryOptions}
 use Rattle.cli_matches.specs.Texts.{help_text, version_text}
 
 -- a command, or the first word at fault and what is wrong with it

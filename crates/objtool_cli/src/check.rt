@@ -4,7 +4,7 @@ ghost use Rattle.std.specs.Prelude.{◌≡◌, ◌<◌, ◌≤◌, Ok, length, o
 ghost use Rattle.command_base.specs.Printing.{IsOutputFault};
 ghost use Rattle.flow_defs.specs.Coded.{coded_by};
 ghost use Rattle.x86_map.specs.declared.map.Map.{Map};
-ghost use Rattle.object_check.specs.Order.{IsCheckFault};
+ghost use Rattle.frame_commands.specs.CheckOrder.{IsCheckFault};
 ghost use Rattle.objtool_cli.specs.Checked.{IsUnchecked};
 ghost use Rattle.objtool_cli.specs.Command.{EndsCheck, IsRead};
 
@@ -14,7 +14,7 @@ use command_base::{
     CommandStop, Refusal, Status, conclude, flow_stop, link_stop, parse_stop, print_warnings,
 };
 use elf_objects::{Counted, MAX_FILE_BYTES, Object};
-use object_check::{CheckFault, ObjectVerdict, check_object};
+use frame_commands::{CheckFault, ObjectVerdict, check_object};
 use ot_base::Lists;
 use ot_files::{Files, Sink};
 use std::alloc::Global;

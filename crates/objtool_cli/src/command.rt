@@ -7,7 +7,7 @@ ghost use Rattle.elf_objects.specs.Elf.{Elf};
 ghost use Rattle.elf_objects.specs.Object.{IsObject};
 ghost use Rattle.flow_defs.specs.Coded.{coded_by};
 ghost use Rattle.x86_map.specs.declared.map.Map.{Map};
-ghost use Rattle.site_lists.specs.Listed.{Listed};
+ghost use Rattle.site_commands.specs.Listed.{Listed};
 ghost use Rattle.site_commands.specs.Order.{GetsSites};
 ghost use Rattle.site_commands.specs.Sites.{OutListsSites};
 ghost use Rattle.site_commands.specs.List.{HoldsLists, IsListed};
@@ -56,8 +56,7 @@ use command_base::{
     unwind,
 };
 use elf_objects::MAX_FILE_BYTES;
-use entry_command::{EntryAsked, entry};
-use entry_rules::EntryOptions;
+use entry_command::{EntryAsked, EntryOptions, entry};
 use frame_commands::{CfiAsked, cfa, cfi};
 use merge_command::{find, merge};
 use ot_files::{Files, Sink};

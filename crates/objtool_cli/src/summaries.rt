@@ -4,7 +4,7 @@ ghost use Rattle.std.specs.Prelude.{◌≡◌, ◌≢◌, ◌<◌, ◌≤◌, �
 ghost use Rattle.elf_objects.specs.declared.TheConstants.{MAX_FILE_BYTES as most_bytes};
 ghost use Rattle.ot_base.specs.NameLists.{built_in};
 ghost use Rattle.ot_files.specs.Causes.{Rose};
-ghost use Rattle.object_check.specs.declared.counts.CodeCounts.{CodeCounts};
+ghost use Rattle.frame_commands.specs.CodeCounts.{CodeCounts};
 ghost use Rattle.command_base.specs.declared.refusal.Refusal.{Refusal};
 ghost use Rattle.command_base.specs.declared.status.Status.TheVariants as status;
 ghost use Rattle.command_base.specs.Printing.{IsOutputFault, Prints};
@@ -15,7 +15,7 @@ use crate::check::check_stop;
 use cli_words::{CheckOptions, Map};
 use command_base::{Status, conclude, parse_stop, print_line, print_warnings};
 use elf_objects::Object;
-use object_check::{CodeCounts, ObjectVerdict, check_object};
+use frame_commands::{CodeCounts, ObjectVerdict, check_object};
 use ot_base::{Lists, NoMemory, Options};
 use ot_files::Sink;
 use std::alloc::Global;

@@ -1,8 +1,8 @@
 use Rattle.std.proofs.Common.{refl, sym, subst}
 use Rattle.flow_defs.specs.Coded.{coded_by}
-use Rattle.object_check.specs.Outcome.{IsOutcome, OnAccepted}
-use Rattle.object_check.specs.Promises.{KeepsPromises}
-use Rattle.object_check.specs.Unwinding.{RowsUnwind}
+use Rattle.frame_commands.specs.Outcome.{IsOutcome, OnAccepted}
+use Rattle.frame_commands.specs.Promises.{KeepsPromises}
+use Rattle.frame_commands.specs.Unwinding.{RowsUnwind}
 use Rattle.objtool_cli.specs.Checked.{IsUncheckableStop}
 use Rattle.objtool_cli.specs.Command.{done, refused, stopped}
 use Rattle.objtool_cli.proofs.CheckLemmas.{done_end, sound, stopped_end, warned_end}

@@ -2,7 +2,7 @@ use Rattle.std.proofs.Common.{◌∙◌, refl, sym, subst}
 use Rattle.command_base.specs.declared.stop.CommandStop.TheVariants as stop
 use Rattle.command_base.specs.Printing.{silent}
 use Rattle.flow_defs.specs.Coded.{coded_by}
-use Rattle.object_check.specs.Outcome.{IsOutcome}
+use Rattle.frame_commands.specs.Outcome.{IsOutcome}
 use Rattle.objtool_cli.specs.Checked.{IsUncheckableStop}
 use Rattle.objtool_cli.specs.Summary.{no_options, passed, stopped}
 use Rattle.objtool_cli.proofs.ParseLemmas.{check_uncheckable, parse_uncheckable}
