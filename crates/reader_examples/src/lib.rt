@@ -4,6 +4,8 @@
 
 pub mod builder;
 #[cfg(test)]
+mod readings;
+#[cfg(test)]
 mod special;
 #[cfg(test)]
 mod symbol_objects;

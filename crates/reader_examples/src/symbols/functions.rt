@@ -1,6 +1,7 @@
 //! Functions, parts and owners.
 
 use super::*;
+use crate::readings::functions_of;
 
 /// Symbol 1 and on.
 const SYMBOLS: [Row<'static>; 15] = [
@@ -71,27 +72,51 @@ const PLACES: [Looked; 17] = [
     (9, 0, None, None, None),
 ];
 
-#[test]
-fn functions_and_owners(rt: HostRuntime) -> Result<(), Fail> {
-    let bytes = object(rt.alloc(), &SYMBOLS, &[])?.expect(&rt, "an object");
-    assert!(rt; bytes.len() < 1 << 32);
-    let parsed = Object::parse(rt.alloc(), &bytes).expect(&rt, "an object");
-    let index = Index::build(rt.alloc(), &parsed).expect(&rt, "functions");
-    let functions = index.functions();
+/// A place, and what is looked up there.
+fn look_up(index: &Index<'_, '_>, sec: u32, off: u64) -> Looked {
+    let place = Place { sec, off };
+    (
+        sec,
+        off,
+        index.function_at(place),
+        index.owner_at(place),
+        index.starts_at(place),
+    )
+}
+
+fn expect_functions(rt: &impl Abort, functions: &[Function]) {
     assert_eq!(rt; functions.len(), 10);
     for (function, row) in functions.iter().zip(&FUNCTIONS) {
         assert_eq!(rt; listed(function), *row);
     }
-    for (sec, off, function, owner, starts) in &PLACES {
-        let place = Place {
-            sec: *sec,
-            off: *off,
-        };
-        assert_eq!(rt; index.function_at(place), *function);
-        assert_eq!(rt; index.owner_at(place), *owner);
-        assert_eq!(rt; index.starts_at(place), *starts);
+}
+
+fn expect_places(rt: &impl Abort, index: &Index<'_, '_>) {
+    for row in &PLACES {
+        assert_eq!(rt; look_up(index, row.0, row.1), *row);
     }
+}
+
+#[test]
+fn functions_and_owners(rt: HostRuntime) -> Result<(), Fail> {
+    let bytes = bytes_of(rt.alloc(), &SYMBOLS, &[]).expect(&rt, "bytes");
+    let object = object_of(rt.alloc(), &bytes).expect(&rt, "an object");
+    let index = index_of(rt.alloc(), &object).expect(&rt, "functions");
+    expect_functions(&rt, functions_of(&index));
+    expect_places(&rt, &index);
     Ok(())
+}
+
+fn expect_parents(rt: &impl Abort, functions: &[Function], parents: &[Option<u32>]) {
+    assert_eq!(rt; functions.len(), parents.len());
+    for (function, parent) in functions.iter().zip(parents) {
+        assert_eq!(rt; function.parent, *parent);
+    }
+}
+
+/// The owner of a place.
+fn owner_of(index: &Index<'_, '_>, sec: u32, off: u64) -> Option<u32> {
+    index.owner_at(Place { sec, off })
 }
 
 /// Functions that are named as a part of a name which they have too: `f` is such, and the lowest symbol `g` is another's.
@@ -109,17 +134,12 @@ const OTHER_PARENTS: [Option<u32>; 4] = [None, None, Some(1), None];
 
 #[test]
 fn a_parent_is_another_function(rt: HostRuntime) -> Result<(), Fail> {
-    let bytes = object(rt.alloc(), &OWN_PARTS, &[])?.expect(&rt, "an object");
-    assert!(rt; bytes.len() < 1 << 32);
-    let parsed = Object::parse(rt.alloc(), &bytes).expect(&rt, "an object");
-    let index = Index::build(rt.alloc(), &parsed).expect(&rt, "functions");
-    let functions = index.functions();
-    assert_eq!(rt; functions.len(), 4);
-    for (function, parent) in functions.iter().zip(&OTHER_PARENTS) {
-        assert_eq!(rt; function.parent, *parent);
-    }
-    assert_eq!(rt; index.owner_at(Place { sec: 1, off: 1 }), Some(0));
-    assert_eq!(rt; index.owner_at(Place { sec: 3, off: 1 }), Some(1));
+    let bytes = bytes_of(rt.alloc(), &OWN_PARTS, &[]).expect(&rt, "bytes");
+    let object = object_of(rt.alloc(), &bytes).expect(&rt, "an object");
+    let index = index_of(rt.alloc(), &object).expect(&rt, "functions");
+    expect_parents(&rt, functions_of(&index), &OTHER_PARENTS);
+    assert_eq!(rt; owner_of(&index, 1, 1), Some(0));
+    assert_eq!(rt; owner_of(&index, 3, 1), Some(1));
     Ok(())
 }
 
@@ -171,15 +191,10 @@ const LONG_PARENTS: [Option<u32>; 5] = [None, None, Some(0), Some(1), None];
 
 #[test]
 fn parts_with_long_names(rt: HostRuntime) -> Result<(), Fail> {
-    let bytes = object(rt.alloc(), &LONG, &[])?.expect(&rt, "an object");
-    assert!(rt; bytes.len() < 1 << 32);
-    let parsed = Object::parse(rt.alloc(), &bytes).expect(&rt, "an object");
-    let index = Index::build(rt.alloc(), &parsed).expect(&rt, "functions");
-    let functions = index.functions();
-    assert_eq!(rt; functions.len(), 5);
-    for (function, parent) in functions.iter().zip(&LONG_PARENTS) {
-        assert_eq!(rt; function.parent, *parent);
-    }
+    let bytes = bytes_of(rt.alloc(), &LONG, &[]).expect(&rt, "bytes");
+    let object = object_of(rt.alloc(), &bytes).expect(&rt, "an object");
+    let index = index_of(rt.alloc(), &object).expect(&rt, "functions");
+    expect_parents(&rt, functions_of(&index), &LONG_PARENTS);
     Ok(())
 }
 
@@ -193,36 +208,38 @@ const LEAVING: [((u64, u64), (u64, u64), Option<u32>); 5] = [
     ((0, 1), (8, 0xFFFF_FFFF_FFFF_FFFF), Some(2)),
 ];
 
+/// A global function of `.text`.
+fn function<'n>(name: &'n [u8], value: u64, size: u64) -> Row<'n> {
+    let home = Home::Section(1);
+    (name, STB_GLOBAL, STT_FUNC, home, value, size)
+}
+
+/// The symbol whose function isn't in its section.
+fn leaving(alloc: Global, rows: &[Row<'_>]) -> Result<Option<u32>, IndexFault> {
+    let bytes = bytes_of(alloc, rows, &[]).ok_or(IndexFault::NoMemory)?;
+    let object = object_of(alloc, &bytes).ok_or(IndexFault::NoMemory)?;
+    match index_of(alloc, &object) {
+        Ok(_) => Ok(None),
+        Err(IndexFault::Func { sym }) => Ok(Some(sym)),
+        Err(IndexFault::NoMemory) => Err(IndexFault::NoMemory),
+    }
+}
+
 #[test]
 fn symbols_that_leave_their_section(rt: HostRuntime) -> Result<(), Fail> {
     for (first, second, fault) in &LEAVING {
         let rows = [
-            (
-                b"a".as_slice(),
-                STB_GLOBAL,
-                STT_FUNC,
-                Home::Section(1),
-                first.0,
-                first.1,
-            ),
-            (
-                b"b".as_slice(),
-                STB_GLOBAL,
-                STT_FUNC,
-                Home::Section(1),
-                second.0,
-                second.1,
-            ),
+            function(b"a", first.0, first.1),
+            function(b"b", second.0, second.1),
         ];
-        let bytes = object(rt.alloc(), &rows, &[])?.expect(&rt, "an object");
-        assert!(rt; bytes.len() < 1 << 32);
-        let parsed = Object::parse(rt.alloc(), &bytes).expect(&rt, "an object");
-        let told = match Index::build(rt.alloc(), &parsed) {
-            Err(IndexFault::Func { sym }) => Some(sym),
-            Err(IndexFault::NoMemory) | Ok(_) => None,
-        };
+        let told = leaving(rt.alloc(), &rows).expect(&rt, "memory");
         assert_eq!(rt; told, *fault);
     }
+    Ok(())
+}
+
+#[test]
+fn a_bad_function_in_words(rt: HostRuntime) -> Result<(), Fail> {
     let text = format!(in rt.alloc(); "{}", IndexFault::Func { sym: 7 })?;
     assert_eq!(rt; text.as_str(), "symbol 7: bad function");
     Ok(())
