@@ -58,20 +58,35 @@ fn relocs(alloc: Global, list: &[Reloc]) -> Result<Vec<RelSpec>, NoMemory> {
     Ok(all)
 }
 
-/// The bytes of an object.
-pub fn object(alloc: Global, example: &Example<'_>) -> Result<Option<Vec<u8>>, NoMemory> {
+/// The sections of an example.
+fn sections(alloc: Global, example: &Example<'_>) -> Result<Vec<NewSection>, NoMemory> {
     let mut sections = Vec::new(alloc);
     let code = SHF_ALLOC | SHF_EXECINSTR;
     sections.push(section(alloc, b".text", code, example.code)?)?;
     let alternatives = example.alternatives;
     sections.push(section(alloc, b".altinstructions", SHF_ALLOC, alternatives)?)?;
+    Ok(sections)
+}
+
+/// The symbols of an example.
+fn symbols(alloc: Global, example: &Example<'_>) -> Result<Vec<SymSpec>, NoMemory> {
     let mut symbols = Vec::new(alloc);
     symbols.push(symbol(alloc, b"", STB_LOCAL, STT_SECTION, 0)?)?;
     symbols.push(symbol(alloc, b"f", STB_GLOBAL, STT_FUNC, example.size)?)?;
-    let spec = Spec {
-        sections,
-        symbols,
+    Ok(symbols)
+}
+
+/// What the builder is to make of an example.
+fn spec_of(alloc: Global, example: &Example<'_>) -> Result<Spec, NoMemory> {
+    Ok(Spec {
+        sections: sections(alloc, example)?,
+        symbols: symbols(alloc, example)?,
         relocs: relocs(alloc, example.relocs)?,
-    };
-    build(alloc, &spec)
+    })
+}
+
+/// The bytes of an object. What they are is told by no contract.
+pub fn bytes_of(alloc: Global, example: &Example<'_>) -> Option<Vec<u8>> {
+    let spec = spec_of(alloc, example).ok()?;
+    build(alloc, &spec).ok()?
 }

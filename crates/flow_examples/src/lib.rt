@@ -5,6 +5,8 @@
 #[cfg(test)]
 mod code_objects;
 #[cfg(test)]
+mod readings;
+#[cfg(test)]
 mod states;
 #[cfg(test)]
 mod tests;

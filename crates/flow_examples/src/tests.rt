@@ -1,10 +1,12 @@
 //! What is told of objects whose code isn't read: the first fault, in the order of the readers.
 
-use crate::code_objects::{Example, object};
+use crate::code_objects::{Example, bytes_of};
+use crate::readings::{code_of, fault_of, object_of, text_of};
 use alternatives::{SiteFault, SiteWhy};
-use elf_objects::{Object, R_X86_64_PC32, Reloc};
-use object_code::{LinkFault, LinkFaultText, Linked, Map};
+use elf_objects::{R_X86_64_PC32, Reloc};
+use object_code::LinkFault;
 use special_sections::{SpecialFault, Why};
+use std::alloc::Global;
 use std::test::Fail;
 use symbols_relocs::IndexFault;
 use x86_decode::DecodeFault;
@@ -138,37 +140,39 @@ const REFUSED: [(Example<'static>, LinkFault, &str); 6] = [
     ),
 ];
 
+/// Why the code of an example isn't read.
+fn fault_of_example(alloc: Global, example: &Example<'_>) -> Option<LinkFault> {
+    let bytes = bytes_of(alloc, example)?;
+    let object = object_of(alloc, &bytes)?;
+    fault_of(alloc, &object)
+}
+
 #[test]
 fn first_fault_is_told(rt: HostRuntime) -> Result<(), Fail> {
     for (example, fault, text) in &REFUSED {
-        let bytes = object(rt.alloc(), example)?.expect(&rt, "an object");
-        assert!(rt; bytes.len() <= 67_108_864);
-        let parsed = Object::parse(rt.alloc(), &bytes).expect(&rt, "an object");
-        let told = match Linked::link(rt.alloc(), Map::Base, &parsed) {
-            Ok(_) => LinkFault::NoMemory,
-            Err(fault) => fault,
-        };
+        let told = fault_of_example(rt.alloc(), example).expect(&rt, "a fault");
         assert_eq!(rt; told, *fault);
-        let words = LinkFaultText {
-            fault: told,
-            section: b".text",
-            body: example.code,
-        };
-        let line = format!(in rt.alloc(); "{words}")?;
+        let line = text_of(rt.alloc(), told, example.code).expect(&rt, "a text");
         assert_eq!(rt; line.as_str(), *text);
     }
     Ok(())
 }
 
+/// How many texts, points, functions and alternatives the code of an example has.
+fn counts_of(alloc: Global, example: &Example<'_>) -> Option<(usize, u32, usize, usize)> {
+    let bytes = bytes_of(alloc, example)?;
+    let object = object_of(alloc, &bytes)?;
+    let linked = code_of(alloc, &object)?;
+    Some((
+        linked.texts().len(),
+        linked.sites().point_count(),
+        linked.index().functions().len(),
+        linked.special().alternatives().len(),
+    ))
+}
+
 #[test]
 fn points_of_a_site(rt: HostRuntime) -> Result<(), Fail> {
-    let bytes = object(rt.alloc(), &READ)?.expect(&rt, "an object");
-    assert!(rt; bytes.len() <= 67_108_864);
-    let parsed = Object::parse(rt.alloc(), &bytes).expect(&rt, "an object");
-    let linked = Linked::link(rt.alloc(), Map::Base, &parsed).expect(&rt, "code");
-    assert_eq!(rt; linked.texts().len(), 1);
-    assert_eq!(rt; linked.sites().point_count(), 7);
-    assert_eq!(rt; linked.index().functions().len(), 1);
-    assert_eq!(rt; linked.special().alternatives().len(), 1);
+    assert_eq!(rt; counts_of(rt.alloc(), &READ), Some((1, 7, 1, 1)));
     Ok(())
 }
