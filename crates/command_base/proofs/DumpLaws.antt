@@ -64,7 +64,7 @@ bytes_left bytes o rows before after x held (stopped s h t) = no_memory_left s b
 pub told_read : (limit : ℕ) (content : Option Content) (held : Content) (name : List ℕ) (r : Result (List ℕ) FileError) → content ≡ Some held → MayRead limit content name r → r ≡ reading held name limit
 told_read limit content held name r is may = subst (λ (c : Option Content). MayRead limit c name r) is may
 
-fault_left : (x : Status) → (x ≡ FileFault) ⊎ (x ≡ NoMemory) → IsAnswered x
+pub fault_left : (x : Status) → (x ≡ FileFault) ⊎ (x ≡ NoMemory) → IsAnswered x
 fault_left x (inl e) = inr (inl e)
 fault_left x (inr e) = inr (inr (inr e))
 

@@ -6,3 +6,5 @@ pub mod UnwindLaws
 pub mod UnwindLemmas
 pub mod NamesLemmas
 mod WarningLemmas
+pub mod Content
+pub mod Stops

@@ -10,7 +10,7 @@ use Rattle.command_base.specs.declared.status.Status.TheVariants as status
 use Rattle.command_base.specs.Outside.{Output}
 use Rattle.command_base.specs.Printing.{FailsToPrint, IsOutputFault, Prints, ended, whole, fault_stays, fails, runs_out}
 
-rose_before : (before middle after : ℕ) → before ≤ middle → Rose middle after → Rose before after
+pub rose_before : (before middle after : ℕ) → before ≤ middle → Rose middle after → Rose before after
 rose_before before middle after later rose = omega arith
 
 failed : (text : List ℕ) (before after : Output) (s : Status) → AppendsPrefix before.written after.written text → Rose before.faults after.faults → Prints s text before after (ended {U = Unit {0}} s (Err Failed))

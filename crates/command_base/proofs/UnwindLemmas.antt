@@ -11,10 +11,9 @@ use Rattle.command_base.specs.declared.status.Status.{Status}
 use Rattle.command_base.specs.declared.status.Status.TheVariants as status
 use Rattle.command_base.specs.Outside.{Output}
 use Rattle.command_base.specs.Printing.{FailsToPrint, Prints, whole}
-use Rattle.command_base.proofs.PrintLemmas.{appended_twice, part_fails}
+use Rattle.command_base.proofs.PrintLemmas.{appended_twice, part_fails, rose_before}
 use Rattle.std.proofs.lemmas.Option.{get_or_from_slice_get}
 use Rattle.ot_base.specs.declared.row.PlacedRow.{PlacedRow}
-use Rattle.ot_files.specs.Causes.{Rose}
 use Rattle.ot_files.specs.Content.{Content}
 use Rattle.table_defs.specs.declared.frame.Regs.{Regs}
 use Rattle.table_defs.specs.declared.frame.Stop.TheVariants as walk_stop
@@ -221,9 +220,6 @@ walk_is image o rows one ranges memory regs frames found s same are kept at all 
     (subst (λ (r : List PlacedRow). Walks r ranges (word_at memory) regs frames s) same (whole_walk one ranges (word_at memory) regs frames s other walks)))))
 
 -- ---- reading two files, one after the other
-
-rose_before : (before middle after : ℕ) → before ≤ middle → Rose middle after → Rose before after
-rose_before before middle after later rose = omega arith
 
 read_earlier : (limit : ℕ) (s : CommandStop) (name : List ℕ) (content : Option Content) (before middle : ℕ) (after : Outside) → before ≤ middle → StopsAtRead limit name (record { content = content; faults = middle }) after s → StopsAtRead limit name (record { content = content; faults = before }) after s
 read_earlier limit (stop.Usage usage) name content before middle after later h = h

@@ -1,16 +1,25 @@
--- Why a command stops whose input's code isn't read, or doesn't fit what the object says of it.
-use Rattle.std.specs.Prelude.{◌≡◌, ◌≢◌, ℕ}
+-- Whose code is in order, and why a command stops whose input's code isn't read, or doesn't fit what the object says of it.
+use Rattle.std.specs.Prelude.{◌≡◌, ◌≢◌, ℕ, []}
 use Rattle.elf_objects.specs.Contents.{section_at}
 use Rattle.elf_objects.specs.Elf.{Elf}
+use Rattle.flow_defs.specs.Coded.{Coded}
+use Rattle.flow_defs.specs.Faults.{flow_faults}
 use Rattle.flow_defs.specs.declared.fault.FlowFault.{FlowFault}
 use Rattle.flow_defs.specs.declared.fault.FlowFault.TheVariants as flow
 use Rattle.x86_text.specs.declared.fault.TextFault.{TextFault}
+use Rattle.object_code.specs.Linked.{IsLinked}
 use Rattle.object_code.specs.declared.fault.LinkFault.{LinkFault}
 use Rattle.object_code.specs.declared.fault.LinkFault.TheVariants as link
 use Rattle.object_code.specs.declared.fault_text.LinkFaultText.{LinkFaultText}
 use Rattle.command_base.specs.declared.refusal.Refusal.TheVariants.{Unlinked, Unflowed}
 use Rattle.command_base.specs.declared.stop.CommandStop.{CommandStop}
 use Rattle.command_base.specs.declared.stop.CommandStop.TheVariants.{Refused, NoMemory}
+
+-- The object's code is read, and what it says of it fits the code: texts, special sections, functions, alternatives, starts of
+-- functions, lists of places, static branches, calls within functions and unchecked functions are in order.
+pub record IsInOrder (o : Coded) : Type 0 where
+  pub linked : IsLinked o
+  pub flow : flow_faults o ≡ []
 
 -- where a text section isn't code, it is told by its name and its body
 pub record NamesText (o : Elf) (told : LinkFaultText) (sec : ℕ) : Type 0 where

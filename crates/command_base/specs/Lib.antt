@@ -6,6 +6,7 @@ pub mod Outside
 pub mod Printing
 pub mod Reading
 pub mod Refusal
+pub mod Refusing
 pub mod Status
 pub mod Stop
 pub mod TextSections

@@ -16,8 +16,9 @@ use Rattle.command_base.specs.Warnings.{warnings_text}
 use Rattle.command_base.specs.declared.status.Status.{Status}
 use Rattle.command_base.specs.declared.status.Status.TheVariants as status
 use Rattle.command_base.specs.declared.stop.CommandStop.{CommandStop}
-use Rattle.entry_command.specs.Entry.{EndsEntry, IsInOrder, IsRead, IsUnbroken, KeepsEntryRules, MayBeChecked, done}
-use Rattle.entry_command.proofs.Stops.{names_earlier, outside}
+use Rattle.command_base.specs.Code.{IsInOrder}
+use Rattle.entry_command.specs.Entry.{EndsEntry, IsRead, IsUnbroken, KeepsEntryRules, MayBeChecked, done}
+use Rattle.command_base.proofs.Stops.{names_earlier, outside}
 
 pub may_check : (map : Map) (content : Option Content) (input : List ℕ) (names : Option (List ℕ)) (read : List ℕ) (o : Elf) (lists : NameLists) → IsRead content input names read lists → IsObject read o → IsInOrder (coded_by map o) → MayBeChecked map content input names o lists
 may_check map content input names read o lists was is order = record { read = read; is_read = was; is = is; in_order = order }

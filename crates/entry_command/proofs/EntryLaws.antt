@@ -30,9 +30,12 @@ use Rattle.command_base.specs.declared.stop.CommandStop.{CommandStop}
 use Rattle.command_base.specs.declared.stop.CommandStop.TheVariants as stop
 use Rattle.command_base.proofs.ConcludeLemmas.{concluded_fault, concluded_no_warnings, concluded_not_done, concluded_sink_fault, printed_done, printed_fault, printed_sink_fault}
 use Rattle.command_base.proofs.DumpLaws.{no_memory_left, not_file_fault, not_sink_fault, not_warnings, one_object, read_fault, unread_left}
-use Rattle.entry_command.specs.Entry.{AreEntryWarnings, BreaksEntryRule, EndsEntry, InKeepsEntryRules, IsInOrder, IsUnbroken, IsUncheckable, KeepsEntryRules, MayBeChecked, PrintsEntryWarnings, StopsEntry, done, malformed, no_memory, refused, stopped, unflowed, unlinked, unread, warned, without_names}
-use Rattle.entry_command.specs.Refused.{IsRefusedOrFails, IsWarnedOrFails, RefusesEntry, TellsRefusal, input_refused, input_unread, list_faulty, list_unread}
-use Rattle.entry_command.proofs.Stops.{concluded_usage, done_not_refused, given_names, held_is, is_read, left, names_fault, names_left, names_no_usage, no_faulty_line, not_memory, of_stop, one_text, read_no_usage, readable, unreadable, whole_text}
+use Rattle.command_base.specs.Code.{IsInOrder}
+use Rattle.entry_command.specs.Entry.{AreEntryWarnings, BreaksEntryRule, EndsEntry, InKeepsEntryRules, IsUnbroken, IsUncheckable, KeepsEntryRules, MayBeChecked, PrintsEntryWarnings, StopsEntry, done, malformed, no_memory, refused, stopped, unflowed, unlinked, unread, warned, without_names}
+use Rattle.command_base.specs.Refusing.{IsRefusedOrFails, IsWarnedOrFails, Tells}
+use Rattle.entry_command.specs.Refused.{RefusesEntry, input_refused, input_unread, list_faulty, list_unread}
+use Rattle.command_base.proofs.Content.{held_is}
+use Rattle.command_base.proofs.Stops.{concluded_usage, done_not_refused, given_names, is_read, left, names_fault, names_left, names_no_usage, no_faulty_line, not_memory, of_stop, one_text, read_no_usage, readable, unreadable, whole_text}
 use Rattle.entry_command.proofs.Uncheckable.{order_excluded}
 
 -- ---- statuses
@@ -213,7 +216,7 @@ entry_refuse s map input names held before after c (without_names read may h) e 
 entry_refuse s map input names held before after c (refused read lists was h) e =
     input_refused read lists (is_read MAX_FILE_BYTES input read held before.content c was.may) (named_in names held before.content lists c was.named) h (not_memory s e)
 
-pub entry_told : (map : Map) (options : EntryOptions) (input : List ℕ) (names : Option (List ℕ)) (held : Content) (before after : Outside) (out out' : Output) (x : Status) → before.content ≡ Some held → EndsEntry map options input names before after out out' x → x ≡ Refused → TellsRefusal (RefusesEntry map input names held) out.written out'.written
+pub entry_told : (map : Map) (options : EntryOptions) (input : List ℕ) (names : Option (List ℕ)) (held : Content) (before after : Outside) (out out' : Output) (x : Status) → before.content ≡ Some held → EndsEntry map options input names before after out out' x → x ≡ Refused → Tells (RefusesEntry map input names held) out.written out'.written
 entry_told map options input names held before after out out' Done c (done o lists may unbroken keeps same) is = absurd (done_not_refused is)
 entry_told map options input names held before after out out' x c (warned o lists warnings may are some t) is = absurd (warnings_not_refused (whole_text Warnings _ out out' x t is).0)
 entry_told map options input names held before after out out' x c (stopped s h t) is =

@@ -31,7 +31,8 @@ use Rattle.command_base.proofs.DumpLaws.{one_object}
 use Rattle.command_base.specs.declared.refusal.Refusal.TheVariants as refusal
 use Rattle.command_base.specs.declared.stop.CommandStop.{CommandStop}
 use Rattle.command_base.specs.declared.stop.CommandStop.TheVariants as stop
-use Rattle.entry_command.specs.Entry.{IsInOrder, IsUncheckable, malformed, no_memory, unflowed, unlinked}
+use Rattle.command_base.specs.Code.{IsInOrder}
+use Rattle.entry_command.specs.Entry.{IsUncheckable, malformed, no_memory, unflowed, unlinked}
 
 -- ---- from the faults of those who read an object
 

@@ -12,7 +12,7 @@ use Rattle.elf_objects.specs.Elf.{Elf}
 use Rattle.elf_objects.specs.Object.{FirstFault, IsObject}
 use Rattle.x86_map.specs.declared.map.Map.{Map}
 use Rattle.flow_defs.specs.Coded.{Coded, coded_by}
-use Rattle.flow_defs.specs.Faults.{IsFirstFlowFault, flow_faults}
+use Rattle.flow_defs.specs.Faults.{IsFirstFlowFault}
 use Rattle.flow_defs.specs.Program.{program_of}
 use Rattle.flow_defs.specs.declared.fault.FlowFault.TheVariants as flow
 use Rattle.object_code.specs.Linked.{IsLinked, IsLinkFault}
@@ -23,7 +23,7 @@ use Rattle.entry_rules.specs.Law.{KeepsRules}
 use Rattle.entry_rules.specs.ObjectFacts.{facts_of}
 use Rattle.entry_rules.specs.Verdict.{AreWarnings}
 use Rattle.entry_rules.specs.declared.options.EntryOptions.{EntryOptions}
-use Rattle.command_base.specs.Code.{IsWorded}
+use Rattle.command_base.specs.Code.{IsInOrder, IsWorded}
 use Rattle.command_base.specs.Names.{HasNames, StopsAtNames}
 use Rattle.command_base.specs.Outside.{Outside, Output}
 use Rattle.command_base.specs.Printing.{Concludes, Prints}
@@ -37,12 +37,6 @@ use Rattle.command_base.specs.declared.stop.CommandStop.{CommandStop}
 use Rattle.command_base.specs.declared.stop.CommandStop.TheVariants.{NoMemory, Refused}
 
 -- ---- what the rules say of an object
-
--- The object's code is read, and what it says of it fits the code: texts, special sections, functions, alternatives, starts of
--- functions, lists of places, static branches, calls within functions and unchecked functions are in order.
-pub record IsInOrder (o : Coded) : Type 0 where
-  pub linked : IsLinked o
-  pub flow : flow_faults o ≡ []
 
 -- these are the warnings of the rules that are asked for, each once, in their order
 abbrev pub AreEntryWarnings : Coded → NameLists → EntryOptions → List Warning → Type 0

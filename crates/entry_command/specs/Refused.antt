@@ -1,20 +1,16 @@
 -- Why `entry` is refused on files that hold this: what the first step finds that fails, in the order of the steps. Faults of files and
 -- of the output, and want of memory, are no refusals.
-use Rattle.std.specs.Prelude.{◌≡◌, ◌≢◌, ◌⊎◌, ℕ, List, Option, Some, Ok}
+use Rattle.std.specs.Prelude.{◌≡◌, ◌≢◌, ℕ, List, Option, Some, Ok}
 use Rattle.ot_base.specs.NameLists.{NameLists}
 use Rattle.ot_base.specs.NamesFile.{IsFirstFault}
 use Rattle.ot_base.specs.declared.lists.ListsFault.TheVariants.{Line}
 use Rattle.ot_base.specs.declared.lists.ListsWhy.{ListsWhy}
 use Rattle.ot_files.specs.Content.{Content, reading}
-use Rattle.ot_files.specs.Output.{appending}
 use Rattle.elf_objects.specs.declared.TheConstants.{MAX_FILE_BYTES}
 use Rattle.x86_map.specs.declared.map.Map.{Map}
 use Rattle.command_base.specs.Names.{HasNames}
 use Rattle.command_base.specs.Reading.{IsUnreadable}
-use Rattle.command_base.specs.Stop.{line_of}
 use Rattle.command_base.specs.declared.refusal.Refusal.TheVariants.{Lists}
-use Rattle.command_base.specs.declared.status.Status.{Status}
-use Rattle.command_base.specs.declared.status.Status.TheVariants as status
 use Rattle.command_base.specs.declared.stop.CommandStop.{CommandStop}
 use Rattle.command_base.specs.declared.stop.CommandStop.TheVariants.{NoMemory, Refused}
 use Rattle.entry_command.specs.Entry.{IsUncheckable}
@@ -42,17 +38,3 @@ pub data RefusesEntry (map : Map) (input : List ℕ) (names : Option (List ℕ))
       → IsUncheckable map read stop
       → stop ≢ NoMemory
       → RefusesEntry map input names held stop
-
--- a step refuses so, and exactly the line that says why was printed
-pub record TellsRefusal (refuses : CommandStop → Type 0) (before after : Option (List ℕ)) : Type 0 where
-  pub stop : CommandStop
-  pub is : refuses stop
-  pub printed : after ≡ appending before (line_of stop)
-
--- what is answered of a command that a step refuses: that, unless a file or the output fails or memory runs out
-abbrev pub IsRefusedOrFails : Status → Type 0
-IsRefusedOrFails s = (s ≡ status.Refused) ⊎ ((s ≡ status.FileFault) ⊎ ((s ≡ status.SinkFault) ⊎ (s ≡ status.NoMemory)))
-
--- and of one whose input breaks rules
-abbrev pub IsWarnedOrFails : Status → Type 0
-IsWarnedOrFails s = (s ≡ status.Warnings) ⊎ ((s ≡ status.FileFault) ⊎ ((s ≡ status.SinkFault) ⊎ (s ≡ status.NoMemory)))

@@ -11,8 +11,10 @@ ghost use Rattle.command_base.specs.Dump.{IsAnswered};
 ghost use Rattle.command_base.specs.Names.{HasNames};
 ghost use Rattle.command_base.specs.Printing.{IsOutputFault};
 ghost use Rattle.command_base.specs.declared.stop.CommandStop.{CommandStop as StopValue};
-ghost use Rattle.entry_command.specs.Entry.{BreaksEntryRule, EndsEntry, InKeepsEntryRules, IsInOrder, IsUnbroken, PrintsEntryWarnings};
-ghost use Rattle.entry_command.specs.Refused.{IsRefusedOrFails, IsWarnedOrFails, RefusesEntry, TellsRefusal};
+ghost use Rattle.command_base.specs.Code.{IsInOrder};
+ghost use Rattle.entry_command.specs.Entry.{BreaksEntryRule, EndsEntry, InKeepsEntryRules, IsUnbroken, PrintsEntryWarnings};
+ghost use Rattle.command_base.specs.Refusing.{IsRefusedOrFails, IsWarnedOrFails, Tells};
+ghost use Rattle.entry_command.specs.Refused.{RefusesEntry};
 
 use crate::answering::answer;
 use crate::words::EntryAsked;
@@ -98,7 +100,7 @@ pub fn entry<F: Files, S: Sink>(
     // Where the files tell their content: it is refused only where a step finds a refusal, the first that fails, and
     // exactly its line was printed. And where one does, it is refused, unless a fault or want of memory is answered.
     ensures refused { (held : Content) → result ≡ Status.Refused → F.content files.old ≡ Some held
-        → TellsRefusal (RefusesEntry asked.entry.map asked.entry.input.now (option_map (λ file. file.now) asked.entry.names) held) (S.written out.old) (S.written out.new) }
+        → Tells (RefusesEntry asked.entry.map asked.entry.input.now (option_map (λ file. file.now) asked.entry.names) held) (S.written out.old) (S.written out.new) }
     ensures refuses { (held : Content) (stop : StopValue) → F.content files.old ≡ Some held
         → RefusesEntry asked.entry.map asked.entry.input.now (option_map (λ file. file.now) asked.entry.names) held stop → IsRefusedOrFails result }
 

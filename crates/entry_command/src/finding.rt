@@ -7,7 +7,8 @@ ghost use Rattle.flow_defs.specs.Coded.{coded_by};
 ghost use Rattle.flow_defs.specs.Program.{program_of};
 ghost use Rattle.object_code.specs.Linked.{IsLinked};
 ghost use Rattle.program_graph.specs.Tells.{Tells};
-ghost use Rattle.entry_command.specs.Entry.{AreEntryWarnings, IsInOrder, IsUncheckable, KeepsEntryRules};
+ghost use Rattle.command_base.specs.Code.{IsInOrder};
+ghost use Rattle.entry_command.specs.Entry.{AreEntryWarnings, IsUncheckable, KeepsEntryRules};
 
 use command_base::{CommandStop, flow_stop, link_stop};
 use control_flow::flow;

@@ -28,9 +28,10 @@ use Rattle.command_base.specs.declared.stop.CommandStop.TheVariants as stop
 use Rattle.command_base.proofs.ConcludeLemmas.{concluded_fault, concluded_no_warnings, concluded_not_done, concluded_sink_fault, printed_fault, printed_sink_fault, printed_warnings}
 use Rattle.command_base.proofs.DumpLaws.{no_memory_left, not_file_fault, not_sink_fault, not_warnings, printed_done, read_fault, same_read, text_left, told_read, unread_left}
 use Rattle.frame_commands.specs.Cfa.{EndsCfa, IsTold, SaysNoRules, SaysRules, TellsBytes, rules_text, malformed, no_rules, no_memory, printed, read, stopped, unread}
-use Rattle.frame_commands.specs.Refused.{IsRefusedOrFails, RefusesCfa, Tells, object_unread, without_rules}
+use Rattle.command_base.specs.Refusing.{IsRefusedOrFails, Tells}
+use Rattle.frame_commands.specs.Refused.{RefusesCfa, object_unread, without_rules}
 use Rattle.frame_commands.proofs.Gets.{one_object}
-use Rattle.frame_commands.proofs.Stops.{concluded_usage, done_no_usage, done_not_refused, is_read, left, not_memory, of_stop, one_text, read_no_usage, readable, unreadable, whole_text}
+use Rattle.command_base.proofs.Stops.{concluded_usage, done_no_usage, done_not_refused, is_read, left, not_memory, of_stop, one_text, read_no_usage, readable, unreadable, whole_text}
 
 -- ---- from the faults of those who read FILE
 

@@ -28,7 +28,7 @@ use Rattle.frame_commands.specs.Cfi.{EndsCfi, GetNoFrames, IsRead, MayGetFrames,
 use Rattle.frame_commands.specs.Order.{GetsFrames, IsCheckable, allowances_under, default_rules, program_under}
 use Rattle.frame_commands.specs.Written.{IsCrowded, TellsRows}
 use Rattle.frame_commands.proofs.Undoes.{rules_undo}
-use Rattle.frame_commands.proofs.Stops.{names_earlier, outside, read_earlier, write_earlier}
+use Rattle.command_base.proofs.Stops.{names_earlier, outside, read_earlier, write_earlier}
 
 -- an object that breaks no rule, and its rows
 abbrev pub IsSound : Map → Elf → NameLists → List PlacedRow → Type 0

@@ -22,13 +22,14 @@ use Rattle.command_base.specs.declared.status.Status.TheVariants.{Done, Warnings
 use Rattle.command_base.specs.declared.stop.CommandStop.{CommandStop}
 use Rattle.command_base.specs.declared.stop.CommandStop.TheVariants as stop
 use Rattle.command_base.proofs.ConcludeLemmas.{concluded_no_warnings, concluded_not_done}
-use Rattle.command_base.proofs.DumpLaws.{no_memory_left, unread_left}
+use Rattle.command_base.proofs.DumpLaws.{fault_left, no_memory_left, unread_left}
 use Rattle.frame_commands.specs.Cfi.{BreaksRule, CfiMayChange, EndsCfi, GetNoFrames, Gets, HasWarnings, IsRead, IsUnchecked, MayGetFrames, StopsCfi, TellsWarnings, done, has_frames, malformed, no_memory, out_of_memory, refused, stopped, too_many_sections, too_many_symbols, unchecked, unflowed, unlinked, unread, unwritten, warned, without_names}
-use Rattle.frame_commands.specs.Refused.{IsRefusedOrFails, IsWarnedOrFails, RefusesCfi, Tells, input_refused, input_unread, list_faulty, list_unread}
+use Rattle.command_base.specs.Refusing.{IsRefusedOrFails, IsWarnedOrFails, Tells}
+use Rattle.frame_commands.specs.Refused.{RefusesCfi, input_refused, input_unread, list_faulty, list_unread}
 use Rattle.frame_commands.specs.Written.{OutTellsFrames}
-use Rattle.frame_commands.proofs.Content.{get-insert_same, held_is, written_others}
+use Rattle.command_base.proofs.Content.{get-insert_same, held_is, written_others}
 use Rattle.frame_commands.proofs.Gets.{breaks_unbroken, broken_excluded, gets_excluded, gets_unwarned, warns_breaks}
-use Rattle.frame_commands.proofs.Stops.{concluded_usage, done_not_refused, done_not_warned, fault_left, given_names, is_read, left, left_warned, names_left, names_no_usage, neither, no_faulty_line, not_memory, of_stop, one_text, read_no_usage, readable, unreadable, warned_no_usage, warned_not_done, warned_not_refused, warned_text, write_no_usage, write_not_refused, write_told}
+use Rattle.command_base.proofs.Stops.{concluded_usage, done_not_refused, done_not_warned, given_names, is_read, left, left_warned, names_left, names_no_usage, neither, no_faulty_line, not_memory, of_stop, one_text, read_no_usage, readable, unreadable, warned_no_usage, warned_not_done, warned_not_refused, warned_text, write_no_usage, write_not_refused, write_told}
 
 -- ---- what it leaves
 

@@ -1,5 +1,3 @@
-mod Stops
-mod Content
 mod Gets
 mod CfiEnds
 pub mod CfiLaws

@@ -10,7 +10,8 @@ ghost use Rattle.command_base.specs.Names.{HasNames};
 ghost use Rattle.command_base.specs.Printing.{IsOutputFault};
 ghost use Rattle.command_base.specs.declared.stop.CommandStop.{CommandStop as StopValue};
 ghost use Rattle.frame_commands.specs.Cfi.{BreaksRule, CfiMayChange, EndsCfi, Gets, IsRead, TellsWarnings};
-ghost use Rattle.frame_commands.specs.Refused.{IsRefusedOrFails, IsWarnedOrFails, RefusesCfi, Tells};
+ghost use Rattle.command_base.specs.Refusing.{IsRefusedOrFails, IsWarnedOrFails, Tells};
+ghost use Rattle.frame_commands.specs.Refused.{RefusesCfi};
 ghost use Rattle.frame_commands.specs.Written.{OutTellsFrames};
 
 use crate::checking::check_object;

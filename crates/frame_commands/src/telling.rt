@@ -12,7 +12,8 @@ ghost use Rattle.command_base.specs.Printing.{FailsToPrint, IsOutputFault, Print
 ghost use Rattle.command_base.specs.declared.status.Status.TheVariants as status;
 ghost use Rattle.command_base.specs.declared.stop.CommandStop.{CommandStop as StopValue};
 ghost use Rattle.frame_commands.specs.Cfa.{EndsCfa, IsTold, SaysRules, TellsBytes, rules_text};
-ghost use Rattle.frame_commands.specs.Refused.{IsRefusedOrFails, RefusesCfa, Tells};
+ghost use Rattle.command_base.specs.Refusing.{IsRefusedOrFails, Tells};
+ghost use Rattle.frame_commands.specs.Refused.{RefusesCfa};
 
 use crate::rule_line::push_line;
 use command_base::{Status, conclude, frames_stop, parse_stop, print_part, read_file};

@@ -21,8 +21,9 @@ use Rattle.command_base.proofs.ConcludeLemmas.{concluded_fault, concluded_no_war
 use Rattle.command_base.proofs.DumpLaws.{no_memory_left, not_file_fault, not_sink_fault, not_warnings, printed_done, read_fault, same_read, text_left, told_read, unread_left}
 use Rattle.merge_command.specs.Alike.{HoldsTable}
 use Rattle.merge_command.specs.Find.{EndsFind, Finds, HoldsNoTable, IsFound, bad, found_line, no_memory, printed, read, stopped, unread}
-use Rattle.merge_command.specs.Refused.{IsRefusedOrFails, RefusesFind, Tells, table_unread, without_table}
-use Rattle.merge_command.proofs.Stops.{concluded_usage, done_no_usage, done_not_refused, is_read, left, not_memory, of_stop, one_text, read_no_usage, readable, unreadable, whole_text}
+use Rattle.command_base.specs.Refusing.{IsRefusedOrFails, Tells}
+use Rattle.merge_command.specs.Refused.{RefusesFind, table_unread, without_table}
+use Rattle.command_base.proofs.Stops.{concluded_usage, done_no_usage, done_not_refused, is_read, left, not_memory, of_stop, one_text, read_no_usage, readable, unreadable, whole_text}
 
 -- ---- from the fault of reading the bytes
 

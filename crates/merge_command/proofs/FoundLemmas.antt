@@ -15,7 +15,7 @@ use Rattle.merge_command.specs.Alike.{HoldsTable}
 use Rattle.merge_command.specs.Find.{found_line}
 use Rattle.merge_command.specs.Laws.{MergedIsFound, MergedIsRead}
 use Rattle.merge_command.specs.Merge.{IsMerged}
-use Rattle.merge_command.proofs.Content.{get-insert_same}
+use Rattle.command_base.proofs.Content.{get-insert_same}
 use Rattle.merge_command.proofs.TableLemmas.{one_table}
 
 held : (layout output : List ℕ) (before after : Content) (merged : IsMerged layout output (Some before) (Some after)) → get after output ≡ Some merged.writes.table

@@ -1,5 +1,3 @@
-pub mod Content
-pub mod Stops
 pub mod LayoutLemmas
 pub mod ObjectLemmas
 pub mod SameParts

@@ -26,13 +26,14 @@ use Rattle.merge_command.specs.Alike.{FindAlike, WalkAlike}
 use Rattle.merge_command.specs.Layouts.{IsLayoutOf, NamesFiles, NamesNoFiles, StopsAtLayout, faulty, no_files, no_memory as names_no_memory, too_many, unread as layout_is_unread}
 use Rattle.merge_command.specs.Merge.{EndsMerge, HasNoTable, IsMerged, IsTableOf, MayBeMerged, StopsBehindLayout, StopsMerge, WritesMerged, at_layout, behind_layout, done, no_memory as table_no_memory, stopped, unmerged as table_unmerged, unwritten, without_part, without_table}
 use Rattle.merge_command.specs.Objects.{ArePartsOf, HasNoPart, IsNoPart, IsPart, IsPartOf, StopsAtParts, at_file, foreign, no_memory as parts_no_memory, no_part, no_rows, unread}
-use Rattle.merge_command.specs.Refused.{IsRefusedOrFails, RefusesFile, RefusesMerge, Tells, file_refused, layout_unread, object_unread, unmerged, without_files, without_part as file_without_part}
+use Rattle.command_base.specs.Refusing.{IsRefusedOrFails, Tells}
+use Rattle.merge_command.specs.Refused.{RefusesFile, RefusesMerge, file_refused, layout_unread, object_unread, unmerged, without_files, without_part as file_without_part}
 use Rattle.merge_command.specs.declared.layouts.TheConstants.{MAX_LAYOUT_BYTES}
-use Rattle.merge_command.proofs.Content.{get-insert_same, written_others}
+use Rattle.command_base.proofs.Content.{get-insert_same, written_others}
 use Rattle.merge_command.proofs.LayoutLemmas.{no_faulty_line}
 use Rattle.merge_command.proofs.ObjectLemmas.{parts_earlier}
 use Rattle.merge_command.proofs.SameParts.{fault_same, files_same, parts_same, table_same}
-use Rattle.merge_command.proofs.Stops.{concluded_usage, done_not_refused, is_read, left, neither, not_memory, of_stop, one_text, outside, read_no_usage, readable, unreadable, write_earlier, write_fault, write_no_usage, write_not_refused, write_told}
+use Rattle.command_base.proofs.Stops.{concluded_usage, done_not_refused, is_read, left, neither, not_memory, of_stop, one_text, outside, read_no_usage, readable, unreadable, write_earlier, write_fault, write_no_usage, write_not_refused, write_told}
 use Rattle.merge_command.proofs.TableLemmas.{find_alike, walk_alike}
 
 -- ---- what was met behind LAYOUT, in the whole time before

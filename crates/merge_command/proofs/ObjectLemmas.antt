@@ -24,7 +24,7 @@ use Rattle.command_base.proofs.UnwindLemmas.{rows_within}
 use Rattle.command_base.specs.Reading.{MayRead, StopsAtRead}
 use Rattle.elf_objects.specs.declared.TheConstants.{MAX_FILE_BYTES}
 use Rattle.std.proofs.lemmas.Bool.{false≢true}
-use Rattle.merge_command.proofs.Stops.{outside, read_earlier}
+use Rattle.command_base.proofs.Stops.{outside, read_earlier}
 use Rattle.merge_command.specs.Layouts.{number_of_places}
 use Rattle.merge_command.specs.Objects.{ArePartsOf, CanBeMerged, HasNoPart, IsMergeable, IsNoPart, IsPartOf, StopsAtParts, at_file, foreign, no_memory, no_part, no_rows, unread}
 

@@ -26,7 +26,7 @@ use Rattle.merge_command.specs.Layouts.{IsLayoutOf}
 use Rattle.merge_command.specs.Merge.{IsTableOf}
 use Rattle.merge_command.specs.Objects.{ArePartsOf, IsPart, IsPartOf}
 use Rattle.merge_command.specs.declared.layouts.TheConstants.{MAX_LAYOUT_BYTES}
-use Rattle.merge_command.proofs.Stops.{is_read, one_text}
+use Rattle.command_base.proofs.Stops.{is_read, one_text}
 
 -- two objects have the same rows and ranges
 abbrev pub Same : Part → Part → Type 0

@@ -1,20 +1,17 @@
 -- Why `merge` and `find` are refused on files that hold this: what the first step finds that fails, in the order of the steps. Faults of
 -- files and of the output, and want of memory, are no refusals.
-use Rattle.std.specs.Prelude.{◌≡◌, ◌≢◌, ◌⊎◌, ℕ, List, ◌∷◌, ◌++◌, length, Option, Some, Ok}
+use Rattle.std.specs.Prelude.{◌≡◌, ◌≢◌, ℕ, List, ◌∷◌, ◌++◌, length, Some, Ok}
 use Rattle.ot_files.specs.Content.{Content, reading}
-use Rattle.ot_files.specs.Output.{appending}
 use Rattle.elf_objects.specs.declared.TheConstants.{MAX_FILE_BYTES}
 use Rattle.orc_merge.specs.LayoutFile.{FileSaid}
 use Rattle.orc_merge.specs.MergeFaults.{merge_fault}
 use Rattle.orc_merge.specs.declared.faults.MergeFault.{MergeFault}
 use Rattle.orc_merge.specs.declared.part.Part.{Part}
 use Rattle.command_base.specs.declared.refusal.Refusal.TheVariants.{Merge}
-use Rattle.command_base.specs.declared.status.Status.{Status}
-use Rattle.command_base.specs.declared.status.Status.TheVariants as status
 use Rattle.command_base.specs.declared.stop.CommandStop.{CommandStop}
 use Rattle.command_base.specs.declared.stop.CommandStop.TheVariants.{NoMemory, Refused}
 use Rattle.command_base.specs.Reading.{IsUnreadable}
-use Rattle.command_base.specs.Stop.{line_of, of_part}
+use Rattle.command_base.specs.Stop.{of_part}
 use Rattle.merge_command.specs.declared.layouts.TheConstants.{MAX_LAYOUT_BYTES}
 use Rattle.merge_command.specs.Find.{HoldsNoTable}
 use Rattle.merge_command.specs.Layouts.{IsLayoutOf, NamesNoFiles}
@@ -64,13 +61,3 @@ pub data RefusesFind (table : List ℕ) (held : Content) : CommandStop → Type 
       → HoldsNoTable bytes stop
       → stop ≢ NoMemory
       → RefusesFind table held stop
-
--- a step refuses so, and exactly the line that says why was printed
-pub record Tells (refuses : CommandStop → Type 0) (before after : Option (List ℕ)) : Type 0 where
-  pub stop : CommandStop
-  pub is : refuses stop
-  pub printed : after ≡ appending before (line_of stop)
-
--- what is answered of a command that a step refuses: that, unless a file or the output fails or memory runs out
-abbrev pub IsRefusedOrFails : Status → Type 0
-IsRefusedOrFails s = (s ≡ status.Refused) ⊎ ((s ≡ status.FileFault) ⊎ ((s ≡ status.SinkFault) ⊎ (s ≡ status.NoMemory)))

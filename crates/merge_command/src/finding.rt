@@ -11,7 +11,8 @@ ghost use Rattle.command_base.specs.Printing.{IsOutputFault, Prints};
 ghost use Rattle.command_base.specs.declared.status.Status.TheVariants as status;
 ghost use Rattle.command_base.specs.declared.stop.CommandStop.{CommandStop as StopValue};
 ghost use Rattle.merge_command.specs.Find.{EndsFind, Finds, IsFound, found_line};
-ghost use Rattle.merge_command.specs.Refused.{IsRefusedOrFails, RefusesFind, Tells};
+ghost use Rattle.command_base.specs.Refusing.{IsRefusedOrFails, Tells};
+ghost use Rattle.merge_command.specs.Refused.{RefusesFind};
 
 use command_base::{Status, conclude, print_line, read_file, table_stop};
 use elf_objects::MAX_FILE_BYTES;

@@ -13,7 +13,8 @@ ghost use Rattle.merge_command.specs.Layouts.{IsLayoutOf, number_of_places};
 ghost use Rattle.merge_command.specs.Objects.{ArePartsOf, CanBeMerged};
 ghost use Rattle.merge_command.specs.Merge.{EndsMerge, HasNoTable, IsMerged, IsTableOf, MayBeMerged, StopsBehindLayout, WritesMerged};
 ghost use Rattle.merge_command.specs.Alike.{FindAlike, WalkAlike};
-ghost use Rattle.merge_command.specs.Refused.{IsRefusedOrFails, RefusesMerge, Tells};
+ghost use Rattle.command_base.specs.Refusing.{IsRefusedOrFails, Tells};
+ghost use Rattle.merge_command.specs.Refused.{RefusesMerge};
 
 use crate::layouts::read_layout;
 use crate::objects::parts_of;

@@ -1,5 +1,5 @@
 -- An input that is accepted is refused by no stop, and one whose program breaks a rule is neither refused nor done.
-use Rattle.std.proofs.Common.{◌≡◌, ℕ, ◌-◌, ◌<◌, ◌≤◌, List, [], ◌∷◌, length, refl, sym, ◌∙◌, subst, arith, inl, inr}
+use Rattle.std.proofs.Common.{◌≡◌, ℕ, ◌<◌, ◌≤◌, List, [], ◌∷◌, refl, sym, ◌∙◌, subst, arith, inl, inr}
 use Rattle.std.specs.Prelude.{◌≢◌, ◌⊎◌, Contains, Some, None, Option, Result, Ok, Err}
 use Rattle.elf_objects.specs.Elf.{Elf}
 use Rattle.elf_objects.specs.Object.{IsObject}
@@ -18,16 +18,15 @@ use Rattle.command_base.specs.Reading.{MayRead, StopsAtRead}
 use Rattle.command_base.proofs.ConcludeLemmas.{concluded_after_fault, concluded_no_memory}
 use Rattle.objtool_cli.specs.Checked.{Accepts, BreaksRule, HasWarnings, IsRefusal, Refuses, crowded, uncheckable}
 use Rattle.objtool_cli.specs.Command.{Ends, EndsCheck, IsRead, Stops, done, refused, stopped, unread, unwritten, warned, without_names}
-use Rattle.command_base.specs.Names.{HasNames, HoldsNames, IsListsStop, StopsAtNames, names_unread, no_lists, no_names}
+use Rattle.command_base.specs.Names.{HasNames, IsListsStop, StopsAtNames, names_unread, no_lists, no_names}
 use Rattle.command_base.specs.Writing.{StopsAtWrite}
 use Rattle.cli_words.specs.Grammar.{check}
 use Rattle.cli_words.specs.declared.options.CheckOptions.{CheckOptions}
 use Rattle.ot_base.specs.declared.row.PlacedRow.{PlacedRow}
 use Rattle.ot_base.specs.declared.warning.Warning.{Warning}
 use Rattle.ot_base.specs.NameLists.{NameLists, lists_with}
-use Rattle.ot_base.specs.NamesFile.{IsFirstFault, IsNamesFile, lines}
+use Rattle.ot_base.specs.NamesFile.{IsNamesFile}
 use Rattle.ot_base.specs.declared.lists.ListsFault.TheVariants as lists_fault
-use Rattle.ot_base.specs.declared.lists.ListsWhy.{ListsWhy}
 use Rattle.command_base.specs.declared.refusal.Refusal.TheVariants as refusal
 use Rattle.objtool_cli.specs.Words.{Meaning}
 use Rattle.x86_decode.specs.Decoding.{OneOutcome}
@@ -38,6 +37,7 @@ use Rattle.object_check.specs.Outcome.{HasRows, IsUnbroken}
 use Rattle.orc_output.specs.Tables.{symbols_needed}
 use Rattle.objtool_cli.proofs.CheckableLemmas.{checkable_unrefused, one_object, one_rows}
 use Rattle.objtool_cli.proofs.SameCommand.{ends_as}
+use Rattle.command_base.proofs.Stops.{given_names, no_faulty_line}
 
 -- ---- what is known of the bytes
 
@@ -156,13 +156,6 @@ stopped_unwritten stop.NoMemory name before after out out' x h t = inr (conclude
 
 -- ---- the names file
 
--- a names file that is in order has no faulty line
-pub no_faulty_line : (text : List ℕ) (line : ℕ) (why : ListsWhy) → IsNamesFile text → IsFirstFault text line why → ⊥
-no_faulty_line text line why right h =
-    let inside : line - 1 < length (lines text) = omega (arith, h.counted, h.there) in
-    let same : ◌≡◌ {A = Option ListsWhy} None (Some why) = sym (right (line - 1) [] inside) ∙ h.fault in
-    cc
-
 stopped_unlisted : (s : CommandStop) (text : List ℕ) (out out' : Output) (x : Status) → IsNamesFile text → IsListsStop text s → Concludes s out out' x → Faults x
 stopped_unlisted (stop.Refused (refusal.Lists (lists_fault.Line line why))) text out out' x right h t = absurd (no_faulty_line text line why right h)
 stopped_unlisted (stop.Refused (refusal.Lists lists_fault.NoMemory)) text out out' x right h t = absurd h
@@ -191,9 +184,6 @@ stopped_unlisted (stop.PartRefused part refusal) text out out' x right h t = abs
 stopped_unlisted (stop.Missing told) text out out' x right h t = absurd h
 stopped_unlisted (stop.TooLong told limit) text out out' x right h t = absurd h
 stopped_unlisted (stop.FileFault told) text out out' x right h t = absurd h
-
-pub given_names : (held : Content) (names : Option (List ℕ)) (file : List ℕ) (lists : NameLists) → names ≡ Some file → HasNames (Some held) names lists → HoldsNames (Some held) file lists
-given_names held names file lists is h = subst (λ (given : Option (List ℕ)). HasNames (Some held) given lists) is h
 
 stopped_by_names : (s : CommandStop) (names : Option (List ℕ)) (lists : NameLists) (held : Content) (before after : Outside) (out out' : Output) (x : Status) → before.content ≡ Some held → HasNames (Some held) names lists → StopsAtNames names before after s → Concludes s out out' x → Faults x
 stopped_by_names s names lists held before after out out' x c has (names_unread file is h) t =

@@ -13,8 +13,10 @@ use Rattle.command_base.specs.Outside.{Outside, Output}
 use Rattle.command_base.specs.Stop.{status_of}
 use Rattle.command_base.proofs.ConcludeLemmas.{concluded_fault, concluded_sink_fault, printed_fault, printed_sink_fault}
 use Rattle.frame_commands.specs.Cfi.{EndsCfi, GetNoFrames, IsUnchecked, StopsCfi, done, has_frames, malformed, no_memory, out_of_memory, refused, stopped, too_many_sections, too_many_symbols, unchecked, unflowed, unlinked, unread, unwritten, warned, without_names}
-use Rattle.objtool_cli.proofs.FileFaults.{names_fault, read_fault, write_fault}
+use Rattle.command_base.proofs.DumpLaws.{read_fault}
+use Rattle.command_base.proofs.Stops.{names_fault, write_fault}
 use Rattle.objtool_cli.proofs.StatusLemmas.{warnings_no_sink_fault}
+use Rattle.elf_objects.specs.declared.TheConstants.{MAX_FILE_BYTES}
 
 unchecked_no_fault : (s : CommandStop) (map : Map) (o : Elf) → IsUnchecked map o s → status_of s ≢ FileFault
 unchecked_no_fault s map o (unlinked why worded) e = cc
@@ -30,7 +32,7 @@ gets_no_fault s map bytes lists (too_many_symbols o rows is can unbroken has man
 gets_no_fault s map bytes lists no_memory e = cc
 
 stop_fault : (s : CommandStop) (map : Map) (input output : List ℕ) (names : Option (List ℕ)) (before after : Outside) → StopsCfi map input output names before after s → status_of s ≡ FileFault → Rose before.faults after.faults
-stop_fault s map input output names before after (unread h kept) e = read_fault s input before after h e
+stop_fault s map input output names before after (unread h kept) e = read_fault MAX_FILE_BYTES s input before after h e
 stop_fault s map input output names before after (without_names read may h kept) e = names_fault s names before after h e
 stop_fault s map input output names before after (refused read lists was h kept) e = absurd (gets_no_fault s map read lists h e)
 stop_fault s map input output names before after (unwritten o rows file may h others) e = write_fault s output before after h e

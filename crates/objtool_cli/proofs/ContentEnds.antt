@@ -1,39 +1,20 @@
 -- What a command leaves of the files.
-use Rattle.std.proofs.Common.{◌≡◌, ℕ, List, refl, sym, ap, subst, inl, inr}
-use Rattle.std.specs.Prelude.{◌≢◌, ◌⊎◌, Some, None, Option, Ok}
-use Rattle.ot_files.specs.Content.{Content, ChangesAtMost, writing}
+use Rattle.std.proofs.Common.{◌≡◌, ℕ, List, refl, ap, inl, inr}
+use Rattle.std.specs.Prelude.{◌≢◌, ◌⊎◌, Option, Ok}
 use Rattle.command_base.specs.declared.status.Status.{Status}
 use Rattle.command_base.specs.declared.status.Status.TheVariants.{Done, FileFault, NoMemory}
 use Rattle.command_base.specs.declared.stop.CommandStop.{CommandStop}
-use Rattle.command_base.specs.declared.stop.CommandStop.TheVariants as stop
 use Rattle.command_base.specs.Outside.{Outside, Output}
 use Rattle.command_base.specs.Printing.{Concludes}
-use Rattle.command_base.proofs.ConcludeLemmas.{concluded_after_fault, concluded_no_memory}
+use Rattle.command_base.proofs.Content.{written_others}
+use Rattle.command_base.proofs.Stops.{neither, write_told}
 use Rattle.objtool_cli.specs.Command.{ChangesOut, Ends, EndsAs, EndsCheck, MayChange, Stops, done, ended, faulty, refused, stopped, unfinished, unread, unwritten, warned, without_names}
-use Rattle.command_base.specs.Writing.{StopsAtWrite}
 use Rattle.cli_words.specs.Grammar.{Command, cfa, cfi, check, demo, dump, entry, find, help, list, merge, sites, unwind, version}
 use Rattle.site_commands.proofs.SitesLaws.{sites_changes, sites_unchanged}
 use Rattle.frame_commands.proofs.CfiLaws.{cfi_changes, cfi_unchanged}
 use Rattle.merge_command.proofs.MergeLaws.{merge_changes, merge_unchanged}
 use Rattle.cli_words.specs.declared.options.CheckOptions.{CheckOptions}
 use Rattle.objtool_cli.specs.Words.{Meaning}
-use Rattle.objtool_cli.proofs.ContentLemmas.{get-insert_other}
-
--- where OUT may have changed, a fault of it or want of memory is told
-neither : (x : Status) → (x ≡ FileFault) ⊎ (x ≡ NoMemory) → x ≢ FileFault → x ≢ NoMemory → ⊥
-neither x (inl e) f m = f e
-neither x (inr e) f m = m e
-
-write_told : (s : CommandStop) (name : List ℕ) (before after : Outside) (out out' : Output) (x : Status) → StopsAtWrite name before after s → Concludes s out out' x → (x ≡ FileFault) ⊎ (x ≡ NoMemory)
-write_told (stop.Usage usage) name before after out out' x h t = absurd h
-write_told (stop.PartMissing part file) name before after out out' x h t = absurd h
-write_told (stop.PartTooLong part file limit) name before after out out' x h t = absurd h
-write_told (stop.PartRefused part refusal) name before after out out' x h t = absurd h
-write_told (stop.Missing file) name before after out out' x h t = absurd h
-write_told (stop.TooLong file limit) name before after out out' x h t = absurd h
-write_told (stop.Refused refusal) name before after out out' x h t = absurd h
-write_told (stop.FileFault file) name before after out out' x h t = concluded_after_fault (stop.FileFault file) out out' x refl t
-write_told stop.NoMemory name before after out out' x h t = inr (concluded_no_memory out out' x t)
 
 stop_keeps : (s : CommandStop) (input output : List ℕ) (options : CheckOptions) (names : Option (List ℕ)) (before after : Outside) (out out' : Output) (x : Status) → Stops input output options names before after s → Concludes s out out' x → x ≢ FileFault → x ≢ NoMemory → after.content ≡ before.content
 stop_keeps s input output options names before after out out' x (unread h kept) t f m = kept
@@ -65,11 +46,6 @@ pub unchanged : (meaning : Meaning) (before after : Outside) (out out' : Output)
 unchanged meaning before after out out' x (faulty word kind is same t) d f m = ap (λ (o : Outside). o.content) same
 unchanged meaning before after out out' x (unfinished same t) d f m = ap (λ (o : Outside). o.content) same
 unchanged meaning before after out out' x (ended command is h) d f m = kept_as command before after out out' x h d f m
-
--- what writes OUT changes at most OUT
-written_others : (output table : List ℕ) (before after : Option Content) → after ≡ writing before output table → ChangesAtMost output before after
-written_others output table None after is = subst (λ (c : Option Content). ChangesAtMost output None c) (sym is) tt
-written_others output table (Some held) after is = subst (λ (c : Option Content). ChangesAtMost output (Some held) c) (sym is) (λ other differs. get-insert_other held output table other differs)
 
 abbrev Left : Meaning → Outside → Outside → Type 0
 Left meaning before after = (after.content ≡ before.content) ⊎ MayChange meaning before.content after.content

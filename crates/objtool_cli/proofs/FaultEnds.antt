@@ -25,9 +25,11 @@ use Rattle.frame_commands.proofs.CfaLaws.{cfa_fault, cfa_sink_fault}
 use Rattle.merge_command.proofs.MergeLaws.{merge_file_fault, merge_sink_fault}
 use Rattle.merge_command.proofs.FindLaws.{find_fault, find_sink_fault}
 use Rattle.objtool_cli.proofs.CfiEnds.{cfi_fault, cfi_sink_fault}
-use Rattle.objtool_cli.proofs.FileFaults.{names_fault, read_fault, write_fault}
+use Rattle.command_base.proofs.DumpLaws.{read_fault}
+use Rattle.command_base.proofs.Stops.{names_fault, write_fault}
 use Rattle.objtool_cli.proofs.SummaryEnds.{sums_no_file_fault, sums_sink_fault}
 use Rattle.objtool_cli.proofs.StatusLemmas.{no_usage_fault, no_memory_fault, done_no_fault, done_no_sink_fault, warnings_no_sink_fault}
+use Rattle.elf_objects.specs.declared.TheConstants.{MAX_FILE_BYTES}
 
 refusal_no_fault : (s : CommandStop) (bytes : List ℕ) (lists : NameLists) (options : CheckOptions) → IsRefusal bytes lists options s → status_of s ≢ FileFault
 refusal_no_fault (stop.Usage usage) bytes lists options h e = absurd h
@@ -41,7 +43,7 @@ refusal_no_fault (stop.FileFault file) bytes lists options h e = absurd h
 refusal_no_fault stop.NoMemory bytes lists options h e = cc
 
 stop_fault : (s : CommandStop) (input output : List ℕ) (options : CheckOptions) (names : Option (List ℕ)) (before after : Outside) → Stops input output options names before after s → status_of s ≡ FileFault → Rose before.faults after.faults
-stop_fault s input output options names before after (unread h kept) e = read_fault s input before after h e
+stop_fault s input output options names before after (unread h kept) e = read_fault MAX_FILE_BYTES s input before after h e
 stop_fault s input output options names before after (without_names read may h kept) e = names_fault s names before after h e
 stop_fault s input output options names before after (refused read lists is_read h kept) e = absurd (refusal_no_fault s read lists options h e)
 stop_fault s input output options names before after (unwritten table accepted h others) e = write_fault s output before after h e

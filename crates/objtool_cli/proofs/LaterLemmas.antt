@@ -3,61 +3,25 @@
 use Rattle.std.proofs.Common.{◌≡◌, ℕ, ◌≤◌, List, subst, arith}
 use Rattle.std.specs.Prelude.{Option}
 use Rattle.elf_objects.specs.declared.TheConstants.{MAX_FILE_BYTES}
-use Rattle.ot_files.specs.Causes.{Rose}
 use Rattle.ot_files.specs.Content.{Content}
 use Rattle.command_base.specs.declared.stop.CommandStop.{CommandStop}
-use Rattle.command_base.specs.declared.stop.CommandStop.TheVariants as stop
 use Rattle.command_base.specs.Outside.{Outside, Output}
-use Rattle.command_base.specs.Reading.{StopsAtRead}
 use Rattle.command_base.specs.declared.status.Status.{Status}
 use Rattle.command_base.specs.declared.status.Status.TheVariants as status
 use Rattle.cli_words.specs.declared.options.CheckOptions.{CheckOptions}
 use Rattle.objtool_cli.specs.Command.{EndsCheck, IsDone, Stops, done, refused, stopped, unread, unwritten, warned, without_names}
-use Rattle.command_base.specs.Names.{StopsAtNames, names_unread, no_lists, no_names}
-use Rattle.command_base.specs.Writing.{StopsAtWrite}
-
-abbrev outside : Option Content → ℕ → Outside
-outside content faults = record { content = content; faults = faults }
-
-rose_before : (before middle after : ℕ) → before ≤ middle → Rose middle after → Rose before after
-rose_before before middle after later rose = omega arith
+use Rattle.command_base.specs.Names.{StopsAtNames}
+use Rattle.command_base.proofs.Stops.{names_earlier, outside, read_earlier, write_earlier}
 
 pub later_still : (a b c : ℕ) → a ≤ b → b ≤ c → a ≤ c
 later_still a b c h k = omega arith
-
-read_earlier : (s : CommandStop) (name : List ℕ) (content : Option Content) (before middle : ℕ) (after : Outside) → before ≤ middle → StopsAtRead MAX_FILE_BYTES name (outside content middle) after s → StopsAtRead MAX_FILE_BYTES name (outside content before) after s
-read_earlier (stop.Usage usage) name content before middle after later h = h
-read_earlier (stop.PartMissing part file) name content before middle after later h = h
-read_earlier (stop.PartTooLong part file limit) name content before middle after later h = h
-read_earlier (stop.PartRefused part refusal) name content before middle after later h = h
-read_earlier (stop.Missing file) name content before middle after later h = h
-read_earlier (stop.TooLong file limit) name content before middle after later h = h
-read_earlier (stop.Refused refusal) name content before middle after later h = h
-read_earlier (stop.FileFault file) name content before middle after later h = (h.0, rose_before before middle after.faults later h.1)
-read_earlier stop.NoMemory name content before middle after later h = h
-
-write_earlier : (s : CommandStop) (name : List ℕ) (content : Option Content) (before middle : ℕ) (after : Outside) → before ≤ middle → StopsAtWrite name (outside content middle) after s → StopsAtWrite name (outside content before) after s
-write_earlier (stop.Usage usage) name content before middle after later h = h
-write_earlier (stop.PartMissing part file) name content before middle after later h = h
-write_earlier (stop.PartTooLong part file limit) name content before middle after later h = h
-write_earlier (stop.PartRefused part refusal) name content before middle after later h = h
-write_earlier (stop.Missing file) name content before middle after later h = h
-write_earlier (stop.TooLong file limit) name content before middle after later h = h
-write_earlier (stop.Refused refusal) name content before middle after later h = h
-write_earlier (stop.FileFault file) name content before middle after later h = (h.0, rose_before before middle after.faults later h.1)
-write_earlier stop.NoMemory name content before middle after later h = h
-
-names_earlier : (s : CommandStop) (names : Option (List ℕ)) (content : Option Content) (before middle : ℕ) (after : Outside) → before ≤ middle → StopsAtNames names (outside content middle) after s → StopsAtNames names (outside content before) after s
-names_earlier s names content before middle after later (names_unread file is h) = names_unread file is (read_earlier s file content before middle after later h)
-names_earlier s names content before middle after later (no_names file text is may h) = no_names file text is may h
-names_earlier s names content before middle after later no_lists = no_lists
 
 -- fewer faults at the beginning
 done_earlier : (input output : List ℕ) (options : CheckOptions) (names : Option (List ℕ)) (content : Option Content) (before middle : ℕ) (after : Outside) → IsDone input output options names (outside content middle) after → IsDone input output options names (outside content before) after
 done_earlier input output options names content before middle after d = record { table = d.table; accepted = d.accepted; written = d.written; unwinds = d.unwinds; keeps = d.keeps }
 
 stops_earlier : (s : CommandStop) (input output : List ℕ) (options : CheckOptions) (names : Option (List ℕ)) (content : Option Content) (before middle : ℕ) (after : Outside) → before ≤ middle → Stops input output options names (outside content middle) after s → Stops input output options names (outside content before) after s
-stops_earlier s input output options names content before middle after later (unread h kept) = unread (read_earlier s input content before middle after later h) kept
+stops_earlier s input output options names content before middle after later (unread h kept) = unread (read_earlier MAX_FILE_BYTES s input content before middle after later h) kept
 stops_earlier s input output options names content before middle after later (without_names read may h kept) = without_names read may (names_earlier s names content before middle after later h) kept
 stops_earlier s input output options names content before middle after later (refused read lists is h kept) = refused read lists is h kept
 stops_earlier s input output options names content before middle after later (unwritten table accepted h others) = unwritten table accepted (write_earlier s output content before middle after later h) others

@@ -9,7 +9,6 @@ pub mod DemoBytes
 pub mod DemoEnds
 pub mod DemoWords
 pub mod FaultEnds
-pub mod FileFaults
 pub mod LaterLemmas
 pub mod ParseLemmas
 pub mod PlacementLemmas

@@ -13,7 +13,8 @@ use Rattle.objtool_cli.specs.Command.{Ends}
 use Rattle.cli_words.specs.Grammar.{cfa, cfi, dump, entry, find, list, merge, sites, unwind}
 use Rattle.objtool_cli.specs.Words.{Meaning, entry_options}
 use Rattle.cli_words.specs.declared.options.EntryRules.{EntryRules}
-use Rattle.entry_command.specs.Entry.{BreaksEntryRule, IsInOrder, IsUnbroken}
+use Rattle.command_base.specs.Code.{IsInOrder}
+use Rattle.entry_command.specs.Entry.{BreaksEntryRule, IsUnbroken}
 use Rattle.entry_command.proofs.EntryLaws.{entry_accepts, entry_warns}
 use Rattle.ot_base.specs.declared.row.PlacedRow.{PlacedRow}
 use Rattle.elf_objects.specs.Elf.{Elf}
@@ -37,7 +38,7 @@ use Rattle.site_commands.proofs.SitesLaws.{sites_left}
 use Rattle.eh_frame.specs.declared.rule.PlacedRule.{PlacedRule}
 use Rattle.frame_commands.specs.Cfa.{SaysRules}
 use Rattle.frame_commands.specs.Cfi.{BreaksRule, Gets}
-use Rattle.frame_commands.specs.Refused.{IsWarnedOrFails}
+use Rattle.command_base.specs.Refusing.{IsWarnedOrFails}
 use Rattle.frame_commands.proofs.CfaLaws.{cfa_left}
 use Rattle.frame_commands.proofs.CfiLaws.{cfi_left, cfi_warns}
 use Rattle.table_defs.specs.Lookup.{AddressedRow}

@@ -1,13 +1,10 @@
 -- A command ends with a refusal exactly where a step refuses it, and prints the line of one that does.
-use Rattle.std.proofs.Common.{◌≡◌, ℕ, List, refl, sym, ap, ◌∙◌, subst, inl, inr}
-use Rattle.std.specs.Prelude.{◌≢◌, Option, Some, Result, Ok, Err}
+use Rattle.std.proofs.Common.{◌≡◌, ℕ, List, sym, subst, inl, inr}
+use Rattle.std.specs.Prelude.{◌≢◌, Option, Some, Ok}
 use Rattle.ot_base.specs.NameLists.{NameLists}
 use Rattle.ot_base.specs.NamesFile.{IsNamesFile}
 use Rattle.ot_base.specs.declared.lists.ListsFault.TheVariants as lists_fault
 use Rattle.ot_files.specs.Content.{Content, reading}
-use Rattle.ot_files.specs.Output.{appending}
-use Rattle.ot_files.specs.declared.access.FileError.{FileError}
-use Rattle.ot_files.specs.declared.access.FileError.TheVariants as file_error
 use Rattle.cli_words.specs.Grammar.{Command, cfa, cfi, check, demo, dump, entry, find, help, list, merge, sites, unwind, version}
 use Rattle.cli_words.specs.declared.options.CheckOptions.{CheckOptions}
 use Rattle.elf_objects.specs.declared.TheConstants.{MAX_FILE_BYTES}
@@ -15,33 +12,32 @@ use Rattle.x86_decode.specs.Decoding.{OneOutcome}
 use Rattle.command_base.specs.declared.reading.TheConstants.{MAX_IMAGE_BYTES}
 use Rattle.command_base.specs.declared.refusal.Refusal.TheVariants as refusal
 use Rattle.command_base.specs.declared.status.Status.{Status}
-use Rattle.command_base.specs.declared.status.Status.TheVariants.{Done, Warnings, Refused, Usage, FileFault, SinkFault, NoMemory}
+use Rattle.command_base.specs.declared.status.Status.TheVariants.{Done, Warnings, Refused, Usage, FileFault, NoMemory}
 use Rattle.command_base.specs.declared.stop.CommandStop.{CommandStop}
 use Rattle.command_base.specs.declared.stop.CommandStop.TheVariants as stop
 use Rattle.command_base.specs.Dump.{Dumps, EndsDump, HoldsRows, IsDumped, printed, read as file_read, stopped as dump_stopped, unread as file_unread}
 use Rattle.command_base.specs.Outside.{Outside, Output}
-use Rattle.command_base.specs.Printing.{Concludes, Prints, fails, fault_stays, runs_out, silent, tells, whole}
-use Rattle.command_base.specs.Reading.{IsUnreadable, MayRead, StopsAtRead}
-use Rattle.command_base.specs.Stop.{line_of, status_of, usage_at}
+use Rattle.command_base.specs.Stop.{status_of, usage_at}
 use Rattle.command_base.specs.Unwind.{EndsUnwind, IsPlaced, IsUnwound, Unwinds, no_file, no_text, read as files_read, stopped as unwind_stopped, walked}
 use Rattle.command_base.proofs.ConcludeLemmas.{concluded_no_memory, concluded_no_warnings, concluded_not_done, printed_done}
-use Rattle.command_base.proofs.DumpLaws.{dump_no_warnings, dumped as file_dumped, no_rows_excluded, same_read, told_read}
+use Rattle.command_base.proofs.DumpLaws.{dump_no_warnings, dumped as file_dumped, no_rows_excluded}
+use Rattle.command_base.proofs.Stops.{done_not_refused, given_names, is_read, left, memory_not_refused, no_faulty_line, not_memory, of_stop, one_text, readable, unreadable, whole_line, whole_text, write_not_refused}
 use Rattle.command_base.proofs.UnwindLaws.{unwind_no_warnings, unwound as files_unwound, walk_excluded}
 use Rattle.objtool_cli.specs.Checked.{IsRefusal, Refuses}
 use Rattle.objtool_cli.specs.Command.{Ends, EndsAs, EndsCheck, Stops, done, ended, faulty, refused, stopped, unfinished, unread, unwritten, warned, without_names}
 use Rattle.command_base.specs.Names.{HasNames, IsListsStop, StopsAtNames, names_unread, no_lists, no_names}
-use Rattle.objtool_cli.specs.Refused.{IsRefused, IsRefusedOrFails, RefusesAs, RefusesCheck, RefusesDemo, RefusesDump, RefusesUnwind, TellsRefusal, image_unread, input_refused, input_unread, list_faulty, list_unread, object_unread, tables_unread, without_rows, without_walk}
+use Rattle.command_base.specs.Refusing.{IsRefusedOrFails, Tells}
+use Rattle.objtool_cli.specs.Refused.{IsRefused, RefusesAs, RefusesCheck, RefusesDemo, RefusesDump, RefusesUnwind, TellsRefusal, image_unread, input_refused, input_unread, list_faulty, list_unread, object_unread, tables_unread, without_rows, without_walk}
 use Rattle.objtool_cli.specs.Summary.{IsOrFails, SumsUp, demo_bytes, demo_title}
 use Rattle.objtool_cli.specs.Words.{Meaning, entry_options}
 use Rattle.entry_command.proofs.EntryLaws.{entry_refused, entry_told}
-use Rattle.command_base.specs.Writing.{StopsAtWrite}
 use Rattle.site_commands.proofs.ListLaws.{list_refused, list_told}
 use Rattle.site_commands.proofs.SitesLaws.{sites_refused, sites_told}
 use Rattle.frame_commands.proofs.CfaLaws.{cfa_refused, cfa_told}
 use Rattle.frame_commands.proofs.CfiLaws.{cfi_refused, cfi_told}
 use Rattle.merge_command.proofs.MergeLaws.{merge_refused, merge_told}
 use Rattle.merge_command.proofs.FindLaws.{find_refused, find_told}
-use Rattle.objtool_cli.proofs.AcceptsLemmas.{IsUnrefused, accepted_unrefused, broken_unrefused, given_names, no_faulty_line, same_names, warns_breaks}
+use Rattle.objtool_cli.proofs.AcceptsLemmas.{IsUnrefused, accepted_unrefused, broken_unrefused, same_names, warns_breaks}
 use Rattle.objtool_cli.proofs.SameCommand.{ends_as}
 use Rattle.objtool_cli.proofs.StatusLemmas.{done_no_warnings, warnings_not_done}
 use Rattle.objtool_cli.proofs.SummaryEnds.{sums_refused}
@@ -50,64 +46,13 @@ use Rattle.objtool_cli.proofs.UsageLemmas.{check_ended, file_dumped as dump_no_u
 
 -- ---- statuses
 
-done_not_refused : Done ≢ Refused
-done_not_refused e = cc
-
 warnings_not_refused : Warnings ≢ Refused
 warnings_not_refused e = cc
 
 usage_not_refused : Usage ≢ Refused
 usage_not_refused e = cc
 
-file_fault_not_refused : FileFault ≢ Refused
-file_fault_not_refused e = cc
-
-sink_fault_not_refused : SinkFault ≢ Refused
-sink_fault_not_refused e = cc
-
-memory_not_refused : NoMemory ≢ Refused
-memory_not_refused e = cc
-
-not_memory : (s : CommandStop) → status_of s ≡ Refused → s ≢ stop.NoMemory
-not_memory s e is = memory_not_refused (sym (ap status_of is) ∙ e)
-
--- ---- what is printed where a command ends with a refusal
-
-whole_text : (end : Status) (text : List ℕ) (out out' : Output) (x : Status) → Prints end text out out' x → x ≡ Refused → (end ≡ Refused) × (out'.written ≡ appending out.written text)
-whole_text end text out out' x (whole at all) e = (sym at ∙ e, all)
-whole_text end text out out' FileFault (fault_stays prefix rose at) e = absurd (file_fault_not_refused e)
-whole_text end text out out' SinkFault (fails prefix rose other) e = absurd (sink_fault_not_refused e)
-whole_text end text out out' NoMemory (runs_out prefix) e = absurd (memory_not_refused e)
-
-whole_line : (s : CommandStop) (out out' : Output) (x : Status) → Concludes s out out' x → x ≡ Refused → (status_of s ≡ Refused) × (out'.written ≡ appending out.written (line_of s))
-whole_line s out out' x (tells other t) e = whole_text _ _ out out' x t e
-whole_line s out out' NoMemory (silent none same) e = absurd (memory_not_refused e)
-
--- a step of a command refuses it so, and exactly the line that says why was printed
-abbrev TellsBy : (CommandStop → Type 0) → Option (List ℕ) → Option (List ℕ) → Type 0
-TellsBy refuses before after = (s : CommandStop) × (refuses s × (after ≡ appending before (line_of s)))
-
-of_stop : (R : CommandStop → Type 0) (s : CommandStop) (out out' : Output) (x : Status) → Concludes s out out' x → x ≡ Refused → (status_of s ≡ Refused → R s) → TellsBy R out.written out'.written
-of_stop R s out out' x t e is =
-    let told = whole_line s out out' x t e in
-    (s, (is told.0, told.1))
-
 -- ---- each step that refuses
-
-unreadable : (limit : ℕ) (s : CommandStop) (name : List ℕ) (held : Content) (before after : Outside) → before.content ≡ Some held → StopsAtRead limit name before after s → status_of s ≡ Refused → IsUnreadable limit held name s
-unreadable limit (stop.Usage usage) name held before after c h e = absurd h
-unreadable limit (stop.PartMissing part file) name held before after c h e = absurd h
-unreadable limit (stop.PartTooLong part file told_limit) name held before after c h e = absurd h
-unreadable limit (stop.PartRefused part refusal) name held before after c h e = absurd h
-unreadable limit (stop.Missing told) name held before after c h e = (h.0, sym (told_read limit before.content held name _ c h.1))
-unreadable limit (stop.TooLong told at) name held before after c h e = (h.0, (h.1.0, sym (told_read limit before.content held name _ c h.1.1)))
-unreadable limit (stop.Refused why) name held before after c h e = absurd h
-unreadable limit (stop.FileFault told) name held before after c h e = absurd (file_fault_not_refused e)
-unreadable limit stop.NoMemory name held before after c h e = absurd (memory_not_refused e)
-
--- what was read of a name is what it holds
-is_read : (limit : ℕ) (name bytes : List ℕ) (held : Content) (content : Option Content) → content ≡ Some held → MayRead limit content name (Ok bytes) → reading held name limit ≡ Ok bytes
-is_read limit name bytes held content c may = sym (told_read limit content held name _ c may)
 
 faulty_line : (s : CommandStop) (input : List ℕ) (options : CheckOptions) (names : Option (List ℕ)) (held : Content) (read file text : List ℕ) → reading held input MAX_FILE_BYTES ≡ Ok read → names ≡ Some file → reading held file MAX_FILE_BYTES ≡ Ok text → IsListsStop text s → status_of s ≡ Refused → RefusesCheck input options names held s
 faulty_line (stop.Refused (refusal.Lists (lists_fault.Line line why))) input options names held read file text is given said h e = list_faulty read file text is given said h
@@ -154,17 +99,6 @@ bytes_refuse (stop.Missing told) input options names held read lists is has h e 
 bytes_refuse (stop.TooLong told limit) input options names held read lists is has h e = absurd h
 bytes_refuse (stop.FileFault told) input options names held read lists is has h e = absurd h
 
-write_not_refused : (s : CommandStop) (name : List ℕ) (before after : Outside) → StopsAtWrite name before after s → status_of s ≢ Refused
-write_not_refused (stop.FileFault told) name before after h e = file_fault_not_refused e
-write_not_refused stop.NoMemory name before after h e = memory_not_refused e
-write_not_refused (stop.Refused why) name before after h e = h
-write_not_refused (stop.Usage usage) name before after h e = h
-write_not_refused (stop.PartMissing part file) name before after h e = h
-write_not_refused (stop.PartTooLong part file limit) name before after h e = h
-write_not_refused (stop.PartRefused part refusal) name before after h e = h
-write_not_refused (stop.Missing told) name before after h e = h
-write_not_refused (stop.TooLong told limit) name before after h e = h
-
 check_refuses : (s : CommandStop) (input output : List ℕ) (options : CheckOptions) (names : Option (List ℕ)) (held : Content) (before after : Outside) → before.content ≡ Some held → Stops input output options names before after s → status_of s ≡ Refused → RefusesCheck input options names held s
 check_refuses s input output options names held before after c (unread h kept) e = input_unread (unreadable MAX_FILE_BYTES s input held before after c h e)
 check_refuses s input output options names held before after c (without_names read may h kept) e = names_refuse s input options names held read before after c (is_read MAX_FILE_BYTES input read held before.content c may) h e
@@ -174,48 +108,48 @@ check_refuses s input output options names held before after c (unwritten table 
 
 -- ---- the line that is printed
 
-check_told : (input output : List ℕ) (options : CheckOptions) (names : Option (List ℕ)) (held : Content) (before after : Outside) (out out' : Output) (x : Status) → before.content ≡ Some held → EndsCheck input output options names before after out out' x → x ≡ Refused → TellsBy (RefusesCheck input options names held) out.written out'.written
+check_told : (input output : List ℕ) (options : CheckOptions) (names : Option (List ℕ)) (held : Content) (before after : Outside) (out out' : Output) (x : Status) → before.content ≡ Some held → EndsCheck input output options names before after out out' x → x ≡ Refused → Tells (RefusesCheck input options names held) out.written out'.written
 check_told input output options names held before after out out' Done c (done is same) e = absurd (done_not_refused e)
 check_told input output options names held before after out out' x c (warned o warnings is kept t) e = absurd (warnings_not_refused (whole_text Warnings _ out out' x t e).0)
 check_told input output options names held before after out out' x c (stopped s h t) e =
     of_stop (RefusesCheck input options names held) s out out' x t e (λ at. check_refuses s input output options names held before after c h at)
 
-rows_refuse : (file bytes : List ℕ) (held : Content) (out out' : Output) (x : Status) → reading held file MAX_FILE_BYTES ≡ Ok bytes → Dumps bytes out out' x → x ≡ Refused → TellsBy (RefusesDump file held) out.written out'.written
+rows_refuse : (file bytes : List ℕ) (held : Content) (out out' : Output) (x : Status) → reading held file MAX_FILE_BYTES ≡ Ok bytes → Dumps bytes out out' x → x ≡ Refused → Tells (RefusesDump file held) out.written out'.written
 rows_refuse file bytes held out out' x is (printed o rows holds t) e = absurd (done_not_refused (whole_text Done _ out out' x t e).0)
 rows_refuse file bytes held out out' x is (dump_stopped s h t) e = of_stop (RefusesDump file held) s out out' x t e (λ at. without_rows bytes is h (not_memory s at))
 
-dump_told : (file : List ℕ) (held : Content) (before after : Outside) (out out' : Output) (x : Status) → before.content ≡ Some held → EndsDump file before after out out' x → x ≡ Refused → TellsBy (RefusesDump file held) out.written out'.written
+dump_told : (file : List ℕ) (held : Content) (before after : Outside) (out out' : Output) (x : Status) → before.content ≡ Some held → EndsDump file before after out out' x → x ≡ Refused → Tells (RefusesDump file held) out.written out'.written
 dump_told file held before after out out' x c (file_unread s h t) e = of_stop (RefusesDump file held) s out out' x t e (λ at. object_unread (unreadable MAX_FILE_BYTES s file held before after c h at))
 dump_told file held before after out out' x c (file_read bytes may h) e = rows_refuse file bytes held out out' x (is_read MAX_FILE_BYTES file bytes held before.content c may) h e
 
-walk_refuses : (file image bytes text : List ℕ) (held : Content) (out out' : Output) (x : Status) → reading held file MAX_FILE_BYTES ≡ Ok bytes → reading held image MAX_IMAGE_BYTES ≡ Ok text → Unwinds bytes text out out' x → x ≡ Refused → TellsBy (RefusesUnwind file image held) out.written out'.written
+walk_refuses : (file image bytes text : List ℕ) (held : Content) (out out' : Output) (x : Status) → reading held file MAX_FILE_BYTES ≡ Ok bytes → reading held image MAX_IMAGE_BYTES ≡ Ok text → Unwinds bytes text out out' x → x ≡ Refused → Tells (RefusesUnwind file image held) out.written out'.written
 walk_refuses file image bytes text held out out' x is said (walked stack o rows frames s placed walks t) e = absurd (done_not_refused (whole_text Done _ out out' x t e).0)
 walk_refuses file image bytes text held out out' x is said (unwind_stopped s h t) e = of_stop (RefusesUnwind file image held) s out out' x t e (λ at. without_walk bytes text is said h (not_memory s at))
 
-unwind_told : (file image : List ℕ) (held : Content) (before after : Outside) (out out' : Output) (x : Status) → before.content ≡ Some held → EndsUnwind file image before after out out' x → x ≡ Refused → TellsBy (RefusesUnwind file image held) out.written out'.written
+unwind_told : (file image : List ℕ) (held : Content) (before after : Outside) (out out' : Output) (x : Status) → before.content ≡ Some held → EndsUnwind file image before after out out' x → x ≡ Refused → Tells (RefusesUnwind file image held) out.written out'.written
 unwind_told file image held before after out out' x c (no_file s h t) e = of_stop (RefusesUnwind file image held) s out out' x t e (λ at. tables_unread (unreadable MAX_FILE_BYTES s file held before after c h at))
 unwind_told file image held before after out out' x c (no_text bytes s may h t) e =
     of_stop (RefusesUnwind file image held) s out out' x t e (λ at. image_unread bytes (is_read MAX_FILE_BYTES file bytes held before.content c may) (unreadable MAX_IMAGE_BYTES s image held before after c h at))
 unwind_told file image held before after out out' x c (files_read bytes text may may_text h) e =
     walk_refuses file image bytes text held out out' x (is_read MAX_FILE_BYTES file bytes held before.content c may) (is_read MAX_IMAGE_BYTES image text held before.content c may_text) h e
 
-demo_told : (n : ℕ) (out out' : Output) (x : Status) → SumsUp (demo_title n) (demo_bytes n) out out' x → x ≡ Refused → TellsBy (RefusesDemo n) out.written out'.written
-demo_told n out out' x h e = let told = sums_refused _ _ out out' x h e in (stop.Refused told.refusal, (told.uncheckable, told.printed))
+demo_told : (n : ℕ) (out out' : Output) (x : Status) → SumsUp (demo_title n) (demo_bytes n) out out' x → x ≡ Refused → Tells (RefusesDemo n) out.written out'.written
+demo_told n out out' x h e = let told = sums_refused _ _ out out' x h e in record { stop = stop.Refused told.refusal; is = told.uncheckable; printed = told.printed }
 
-by : (meaning : Meaning) (c : Command) (held : Content) (before after : Option (List ℕ)) → meaning ≡ Ok c → TellsBy (RefusesAs c held) before after → TellsRefusal meaning held before after
-by meaning c held before after is told = record { stop = told.0; is = record { command = c; is = is; why = told.1.0 }; printed = told.1.1 }
+by : (meaning : Meaning) (c : Command) (held : Content) (before after : Option (List ℕ)) → meaning ≡ Ok c → Tells (RefusesAs c held) before after → TellsRefusal meaning held before after
+by meaning c held before after is told = record { stop = told.stop; is = record { command = c; is = is; why = told.is }; printed = told.printed }
 
-told_as : (c : Command) (held : Content) (before after : Outside) (out out' : Output) (x : Status) → EndsAs c before after out out' x → x ≡ Refused → before.content ≡ Some held → TellsBy (RefusesAs c held) out.written out'.written
+told_as : (c : Command) (held : Content) (before after : Outside) (out out' : Output) (x : Status) → EndsAs c before after out out' x → x ≡ Refused → before.content ≡ Some held → Tells (RefusesAs c held) out.written out'.written
 told_as (check input output options names) held before after out out' x h e c = check_told input output options names held before after out out' x c h e
 told_as (dump file) held before after out out' x h e c = dump_told file held before after out out' x c h.0 e
 told_as (unwind file image) held before after out out' x h e c = unwind_told file image held before after out out' x c h.0 e
-told_as (sites input output map names) held before after out out' x h e c = let told = sites_told map input output names held before after out out' x c h e in (told.stop, (told.is, told.printed))
-told_as (list file) held before after out out' x h e c = let told = list_told file held before after out out' x c h.0 e in (told.stop, (told.is, told.printed))
-told_as (entry input rules map names) held before after out out' x h e c = let told = entry_told map (entry_options rules) input names held before after out out' x c h.0 e in (told.stop, (told.is, told.printed))
-told_as (cfi input output map names) held before after out out' x h e c = let told = cfi_told map input output names held before after out out' x c h e in (told.stop, (told.is, told.printed))
-told_as (cfa file) held before after out out' x h e c = let told = cfa_told file held before after out out' x c h.0 e in (told.stop, (told.is, told.printed))
-told_as (merge layout output) held before after out out' x h e c = let told = merge_told layout output held before after out out' x c h e in (told.stop, (told.is, told.printed))
-told_as (find table address) held before after out out' x h e c = let told = find_told table address held before after out out' x c h.0 e in (told.stop, (told.is, told.printed))
+told_as (sites input output map names) held before after out out' x h e c = sites_told map input output names held before after out out' x c h e
+told_as (list file) held before after out out' x h e c = list_told file held before after out out' x c h.0 e
+told_as (entry input rules map names) held before after out out' x h e c = entry_told map (entry_options rules) input names held before after out out' x c h.0 e
+told_as (cfi input output map names) held before after out out' x h e c = cfi_told map input output names held before after out out' x c h e
+told_as (cfa file) held before after out out' x h e c = cfa_told file held before after out out' x c h.0 e
+told_as (merge layout output) held before after out out' x h e c = merge_told layout output held before after out out' x c h e
+told_as (find table address) held before after out out' x h e c = find_told table address held before after out out' x c h.0 e
 told_as (demo n) held before after out out' x h e c = demo_told n out out' x h.1 e
 told_as help held before after out out' x h e c = absurd (done_not_refused (whole_text Done _ out out' x h.1 e).0)
 told_as version held before after out out' x h e c = absurd (done_not_refused (whole_text Done _ out out' x h.1 e).0)
@@ -226,20 +160,6 @@ refusal_told meaning held before after out out' x (unfinished same t) e c = absu
 refusal_told meaning held before after out out' x (ended command is h) e c = by meaning command held out.written out'.written is (told_as command held before after out out' x h e c)
 
 -- ---- what is refused isn't done, nor warned of
-
-readable : (limit : ℕ) (s : CommandStop) (held : Content) (name bytes : List ℕ) → IsUnreadable limit held name s → reading held name limit ≡ Ok bytes → ⊥
-readable limit (stop.Missing told) held name bytes h is = let u : ◌≡◌ {A = Result (List ℕ) FileError} (Err file_error.Missing) (Ok bytes) = sym h.1 ∙ is in cc
-readable limit (stop.TooLong told at) held name bytes h is = let u : ◌≡◌ {A = Result (List ℕ) FileError} (Err (file_error.TooLong limit)) (Ok bytes) = sym h.1.1 ∙ is in cc
-readable limit (stop.Usage usage) held name bytes h is = h
-readable limit (stop.PartMissing part file) held name bytes h is = h
-readable limit (stop.PartTooLong part file told_limit) held name bytes h is = h
-readable limit (stop.PartRefused part refusal) held name bytes h is = h
-readable limit (stop.Refused why) held name bytes h is = h
-readable limit (stop.FileFault told) held name bytes h is = h
-readable limit stop.NoMemory held name bytes h is = h
-
-one_text : (limit : ℕ) (held : Content) (name a b : List ℕ) → reading held name limit ≡ Ok a → reading held name limit ≡ Ok b → a ≡ b
-one_text limit held name a b h k = same_read a b (sym h ∙ k)
 
 unrefused : (s : CommandStop) (input : List ℕ) (options : CheckOptions) (names : Option (List ℕ)) (held : Content) (read : List ℕ) (lists : NameLists) → reading held input MAX_FILE_BYTES ≡ Ok read → HasNames (Some held) names lists → IsUnrefused read lists options → RefusesCheck input options names held s → ⊥
 unrefused s input options names held read lists is has never (input_unread h) = readable MAX_FILE_BYTES s held input read h is
@@ -279,17 +199,6 @@ unwind_not_done s file image held content before after c (without_walk bytes tex
     let placed = subst (λ (t : List ℕ). IsPlaced bytes t d.stack d.object d.rows) (one_text MAX_IMAGE_BYTES held image d.text text (is_read MAX_IMAGE_BYTES image d.text held content c d.may_text) said)
     (subst (λ (b : List ℕ). IsPlaced b d.text d.stack d.object d.rows) (one_text MAX_FILE_BYTES held file d.bytes bytes (is_read MAX_FILE_BYTES file d.bytes held content c d.may) is) d.placed) in
     other (walk_excluded bytes text d.stack d.object d.rows s placed h)
-
--- ---- what is left
-
-left : (x : Status) → x ≢ Done → x ≢ Warnings → x ≢ Usage → IsRefusedOrFails x
-left Done d w u = absurd (d refl)
-left Warnings d w u = absurd (w refl)
-left Refused d w u = inl refl
-left Usage d w u = absurd (u refl)
-left FileFault d w u = inr (inl refl)
-left SinkFault d w u = inr (inr (inl refl))
-left NoMemory d w u = inr (inr (inr refl))
 
 demo_left : (x : Status) → IsOrFails Refused x → IsRefusedOrFails x
 demo_left x (inl e) = inl e

@@ -15,6 +15,7 @@ use Rattle.command_base.proofs.ConcludeLemmas.{concluded_fault, concluded_no_mem
 use Rattle.objtool_cli.specs.Checked.{IsUncheckable, IsUncheckableStop}
 use Rattle.objtool_cli.specs.Summary.{PrintsRefusal, PrintsSummary, PrintsWarningsOf, SumsUp, no_options, passed, stopped, summary_line, warned}
 use Rattle.command_base.specs.Warnings.{warnings_text}
+use Rattle.command_base.proofs.Stops.{done_not_refused}
 
 -- no fault, nor want of memory
 record IsPlain (x : Status) : Type 0 where
@@ -43,9 +44,6 @@ printed_whole end text out out' x (whole at all) e plain = all
 printed_whole end text out out' FileFault (fault_stays prefix rose at) e plain = absurd (plain.file (sym e))
 printed_whole end text out out' SinkFault (fails prefix rose at) e plain = absurd (plain.sink (sym e))
 printed_whole end text out out' NoMemory (runs_out prefix) e plain = absurd (plain.memory (sym e))
-
-done_not_refused : Done ≢ Refused
-done_not_refused e = cc
 
 warnings_not_refused : Warnings ≢ Refused
 warnings_not_refused e = cc

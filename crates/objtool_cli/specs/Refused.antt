@@ -1,26 +1,23 @@
 -- Which commands are refused on files that hold this, and why: what the first step finds that fails, in the order of the steps.
 -- Faults of files and of the output, and want of memory, are no refusals.
-use Rattle.std.specs.Prelude.{◌≡◌, ◌≢◌, ◌⊎◌, ℕ, List, Option, Some, Ok}
+use Rattle.std.specs.Prelude.{◌≡◌, ◌≢◌, ℕ, List, Option, Some, Ok}
 use Rattle.ot_base.specs.NameLists.{NameLists}
 use Rattle.ot_base.specs.NamesFile.{IsFirstFault}
 use Rattle.ot_base.specs.declared.lists.ListsFault.TheVariants.{Line}
 use Rattle.ot_base.specs.declared.lists.ListsWhy.{ListsWhy}
 use Rattle.ot_files.specs.Content.{Content, reading}
-use Rattle.ot_files.specs.Output.{appending}
 use Rattle.cli_words.specs.Grammar.{Command, cfa, cfi, check, demo, dump, entry, find, help, list, merge, sites, unwind, version}
 use Rattle.cli_words.specs.declared.options.CheckOptions.{CheckOptions}
 use Rattle.elf_objects.specs.declared.TheConstants.{MAX_FILE_BYTES}
 use Rattle.command_base.specs.declared.reading.TheConstants.{MAX_IMAGE_BYTES}
 use Rattle.command_base.specs.declared.refusal.Refusal.{Refusal}
 use Rattle.command_base.specs.declared.refusal.Refusal.TheVariants.{Lists}
-use Rattle.command_base.specs.declared.status.Status.{Status}
-use Rattle.command_base.specs.declared.status.Status.TheVariants as status
 use Rattle.command_base.specs.declared.stop.CommandStop.{CommandStop}
 use Rattle.command_base.specs.declared.stop.CommandStop.TheVariants.{Refused, NoMemory}
 use Rattle.command_base.specs.Dump.{HoldsNoRows}
 use Rattle.command_base.specs.Names.{HasNames}
 use Rattle.command_base.specs.Reading.{IsUnreadable}
-use Rattle.command_base.specs.Stop.{line_of}
+use Rattle.command_base.specs.Refusing.{Tells}
 use Rattle.command_base.specs.Unwind.{HasNoWalk}
 use Rattle.objtool_cli.specs.Checked.{IsUncheckable, Refuses}
 use Rattle.site_commands.specs.Refused.{RefusesList, RefusesSites}
@@ -109,11 +106,5 @@ pub record IsRefused (meaning : Meaning) (held : Content) (stop : CommandStop) :
   pub why : RefusesAs command held stop
 
 -- the command is refused, and exactly the line that says why was printed
-pub record TellsRefusal (meaning : Meaning) (held : Content) (before after : Option (List ℕ)) : Type 0 where
-  pub stop : CommandStop
-  pub is : IsRefused meaning held stop
-  pub printed : after ≡ appending before (line_of stop)
-
--- what is answered of a command that is refused: that, unless a file or the output fails or memory runs out
-abbrev pub IsRefusedOrFails : Status → Type 0
-IsRefusedOrFails s = (s ≡ status.Refused) ⊎ ((s ≡ status.FileFault) ⊎ ((s ≡ status.SinkFault) ⊎ (s ≡ status.NoMemory)))
+abbrev pub TellsRefusal : Meaning → Content → Option (List ℕ) → Option (List ℕ) → Type 0
+TellsRefusal meaning held before after = Tells (IsRefused meaning held) before after

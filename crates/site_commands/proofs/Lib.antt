@@ -1,7 +1,5 @@
-pub mod Content
 pub mod Gets
 pub mod ListLaws
 pub mod Lines
 pub mod SitesEnds
 pub mod SitesLaws
-pub mod Stops

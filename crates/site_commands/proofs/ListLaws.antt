@@ -27,9 +27,10 @@ use Rattle.command_base.specs.declared.stop.CommandStop.TheVariants as stop
 use Rattle.command_base.proofs.ConcludeLemmas.{concluded_fault, concluded_no_warnings, concluded_not_done, concluded_sink_fault, printed_fault, printed_sink_fault, printed_warnings}
 use Rattle.command_base.proofs.DumpLaws.{no_memory_left, not_file_fault, not_sink_fault, not_warnings, printed_done, read_fault, same_read, text_left, told_read, unread_left}
 use Rattle.site_commands.specs.List.{EndsList, HoldsLists, HoldsNoLists, IsListed, ListsBytes, lists_text, malformed, no_lists, no_memory, printed, read, stopped, unread}
-use Rattle.site_commands.specs.Refused.{IsRefusedOrFails, RefusesList, Tells, object_unread, without_lists}
+use Rattle.command_base.specs.Refusing.{IsRefusedOrFails, Tells}
+use Rattle.site_commands.specs.Refused.{RefusesList, object_unread, without_lists}
 use Rattle.site_commands.proofs.Gets.{one_object}
-use Rattle.site_commands.proofs.Stops.{concluded_usage, done_no_usage, done_not_refused, is_read, left, not_memory, of_stop, one_text, read_no_usage, readable, unreadable, whole_text}
+use Rattle.command_base.proofs.Stops.{concluded_usage, done_no_usage, done_not_refused, is_read, left, not_memory, of_stop, one_text, read_no_usage, readable, unreadable, whole_text}
 
 -- ---- from the faults of those who read FILE
 

@@ -20,7 +20,7 @@ use Rattle.command_base.specs.declared.status.Status.TheVariants as status
 use Rattle.command_base.specs.declared.stop.CommandStop.{CommandStop}
 use Rattle.site_commands.specs.Order.{GetsSites}
 use Rattle.site_commands.specs.Sites.{EndsSites, IsRead, ListsSites, MayGetSites, StopsSites, done, refused, stopped, unread, unwritten, without_names}
-use Rattle.site_commands.proofs.Stops.{names_earlier, outside, read_earlier, write_earlier}
+use Rattle.command_base.proofs.Stops.{names_earlier, outside, read_earlier, write_earlier}
 
 -- the bytes with the lists that were made list the sites
 pub lists_sites : OneChoiceFits → (o : Coded) (lists : Listed) (file : List ℕ) → lists ≡ sites_of o → HasSites o.elf lists file → ListsSites o file

@@ -24,13 +24,14 @@ use Rattle.command_base.specs.declared.status.Status.TheVariants.{Done, Warnings
 use Rattle.command_base.specs.declared.stop.CommandStop.{CommandStop}
 use Rattle.command_base.specs.declared.stop.CommandStop.TheVariants as stop
 use Rattle.command_base.proofs.ConcludeLemmas.{concluded_fault, concluded_no_warnings, concluded_not_done, concluded_sink_fault}
-use Rattle.command_base.proofs.DumpLaws.{no_memory_left, read_fault, unread_left}
+use Rattle.command_base.proofs.DumpLaws.{fault_left, no_memory_left, read_fault, unread_left}
 use Rattle.site_commands.specs.Order.{GetsSites}
-use Rattle.site_commands.specs.Refused.{IsRefusedOrFails, RefusesSites, Tells, input_refused, input_unread, list_faulty, list_unread}
+use Rattle.command_base.specs.Refusing.{IsRefusedOrFails, Tells}
+use Rattle.site_commands.specs.Refused.{RefusesSites, input_refused, input_unread, list_faulty, list_unread}
 use Rattle.site_commands.specs.Sites.{EndsSites, GetNoSites, MayGetSites, OutListsSites, SitesMayChange, StopsSites, done, has_sites, malformed, no_memory, refused, stopped, too_many_sections, too_many_symbols, unflowed, unlinked, unread, unwritten, without_names}
-use Rattle.site_commands.proofs.Content.{get-insert_same, held_is, written_others}
+use Rattle.command_base.proofs.Content.{get-insert_same, held_is, written_others}
 use Rattle.site_commands.proofs.Gets.{gets_excluded}
-use Rattle.site_commands.proofs.Stops.{concluded_usage, done_not_refused, fault_left, given_names, is_read, left, names_fault, names_left, names_no_usage, neither, no_faulty_line, not_memory, of_stop, one_text, read_no_usage, readable, unreadable, write_fault, write_no_usage, write_not_refused, write_told}
+use Rattle.command_base.proofs.Stops.{concluded_usage, done_not_refused, given_names, is_read, left, names_fault, names_left, names_no_usage, neither, no_faulty_line, not_memory, of_stop, one_text, read_no_usage, readable, unreadable, write_fault, write_no_usage, write_not_refused, write_told}
 
 -- ---- what it leaves
 

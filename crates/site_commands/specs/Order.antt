@@ -1,18 +1,11 @@
 -- Which objects get site lists.
-use Rattle.std.specs.Prelude.{◌≡◌, ℕ, ◌-◌, ◌≤◌, [], length, None}
+use Rattle.std.specs.Prelude.{◌≡◌, ℕ, ◌-◌, ◌≤◌, length, None}
 use Rattle.elf_objects.specs.declared.TheConstants.{MAX_SECTIONS, MAX_SYMBOLS}
 use Rattle.flow_defs.specs.Coded.{Coded}
-use Rattle.flow_defs.specs.Faults.{flow_faults}
-use Rattle.object_code.specs.Linked.{IsLinked}
+use Rattle.command_base.specs.Code.{IsInOrder}
 use Rattle.site_lists.specs.Sites.{sites_of}
 use Rattle.site_output.specs.SiteOutput.{site_section}
 use Rattle.site_output.specs.Tables as output
-
--- The object's code is read, and what it says of it fits the code: texts, special sections, functions, alternatives,
--- starts of functions, lists of places, static branches, calls within functions and unchecked functions are in order.
-pub record IsInOrder (o : Coded) : Type 0 where
-  pub linked : IsLinked o
-  pub flow : flow_faults o ≡ []
 
 -- so many sections an object may have, so that the six of its site lists still find room
 abbrev pub most_sections : ℕ

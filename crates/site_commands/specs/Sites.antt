@@ -34,7 +34,8 @@ use Rattle.command_base.specs.declared.status.Status.{Status}
 use Rattle.command_base.specs.declared.status.Status.TheVariants as status
 use Rattle.command_base.specs.declared.stop.CommandStop.{CommandStop}
 use Rattle.command_base.specs.declared.stop.CommandStop.TheVariants.{NoMemory, Refused}
-use Rattle.site_commands.specs.Order.{GetsSites, IsInOrder, most_sections, symbols_needed}
+use Rattle.command_base.specs.Code.{IsInOrder}
+use Rattle.site_commands.specs.Order.{GetsSites, most_sections, symbols_needed}
 
 -- ---- what OUT is to hold
 

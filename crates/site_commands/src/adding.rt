@@ -11,7 +11,8 @@ ghost use Rattle.command_base.specs.Names.{HasNames};
 ghost use Rattle.command_base.specs.Printing.{IsOutputFault};
 ghost use Rattle.command_base.specs.declared.stop.CommandStop.{CommandStop as StopValue};
 ghost use Rattle.site_commands.specs.Order.{GetsSites};
-ghost use Rattle.site_commands.specs.Refused.{IsRefusedOrFails, RefusesSites, Tells};
+ghost use Rattle.command_base.specs.Refusing.{IsRefusedOrFails, Tells};
+ghost use Rattle.site_commands.specs.Refused.{RefusesSites};
 ghost use Rattle.site_commands.specs.Sites.{EndsSites, IsRead, OutListsSites, SitesMayChange};
 
 use crate::words::SitesAsked;

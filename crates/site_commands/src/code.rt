@@ -7,7 +7,7 @@ ghost use Rattle.flow_defs.specs.Coded.{coded_by};
 ghost use Rattle.object_code.specs.Linked.{IsLinked};
 ghost use Rattle.site_lists.specs.Listed.{listed};
 ghost use Rattle.site_lists.specs.Sites.{AreFew, AreSitesIn, sites_of as sites_of_code};
-ghost use Rattle.site_commands.specs.Order.{IsInOrder};
+ghost use Rattle.command_base.specs.Code.{IsInOrder};
 ghost use Rattle.site_commands.specs.Sites.{GetNoSites};
 
 use command_base::{CommandStop, flow_stop, link_stop};

@@ -10,7 +10,8 @@ ghost use Rattle.command_base.specs.Printing.{FailsToPrint, IsOutputFault, Print
 ghost use Rattle.command_base.specs.declared.status.Status.TheVariants as status;
 ghost use Rattle.command_base.specs.declared.stop.CommandStop.{CommandStop as StopValue};
 ghost use Rattle.site_commands.specs.List.{EndsList, HoldsLists, IsListed, ListsBytes, list_text, lists_text, site_line};
-ghost use Rattle.site_commands.specs.Refused.{IsRefusedOrFails, RefusesList, Tells};
+ghost use Rattle.command_base.specs.Refusing.{IsRefusedOrFails, Tells};
+ghost use Rattle.site_commands.specs.Refused.{RefusesList};
 
 use crate::site_text::push_line;
 use command_base::{Status, conclude, parse_stop, print_part, read_file, sites_stop};

@@ -5,7 +5,8 @@ ghost use Rattle.elf_objects.specs.Object.{IsObject};
 ghost use Rattle.flow_defs.specs.Coded.{coded_by};
 ghost use Rattle.site_output.specs.SiteOutput.{IsOther, site_section};
 ghost use Rattle.x86_map.specs.declared.map.Map.{Map};
-ghost use Rattle.site_commands.specs.Order.{IsInOrder, most_sections};
+ghost use Rattle.command_base.specs.Code.{IsInOrder};
+ghost use Rattle.site_commands.specs.Order.{most_sections};
 ghost use Rattle.site_commands.specs.Sites.{GetNoSites};
 
 use command_base::{CommandStop, Refusal};

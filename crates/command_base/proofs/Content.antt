@@ -17,7 +17,7 @@ not_same a b differs = is_eq-slice_cmp a b ∙ decided (bytes_eq a b) (bytes_eq-
     decided true h = absurd (differs (h refl))
     decided false h = refl
 
-get-insert_other : (content : Content) (name bytes : List ℕ) (other : List ℕ) → other ≢ name → get (insert content name bytes) other ≡ get content other
+pub get-insert_other : (content : Content) (name bytes : List ℕ) (other : List ℕ) → other ≢ name → get (insert content name bytes) other ≡ get content other
 get-insert_other content name bytes other differs =
     get-insert nat_list_cmp_total content name bytes other ∙ ap (λ b. cond b (Some bytes) (get content other)) (not_same other name differs)
 

@@ -1,12 +1,12 @@
 -- What stops say: which statuses they come with, and what they say of what the files hold.
-use Rattle.std.proofs.Common.{◌≡◌, ℕ, ◌<◌, ◌≤◌, ◌-◌, Bool, true, false, cond, nat_lt, List, [], length, refl, sym, ap, ◌∙◌, subst, inl, inr, arith}
-use Rattle.std.specs.Prelude.{◌≢◌, Option, Some, None, Result, Ok, Err}
+use Rattle.std.proofs.Common.{◌≡◌, ℕ, ◌<◌, ◌≤◌, ◌-◌, List, [], length, refl, sym, ap, ◌∙◌, subst, inl, inr, arith}
+use Rattle.std.specs.Prelude.{◌≢◌, ◌⊎◌, Option, Some, None, Result, Ok, Err}
 use Rattle.ot_base.specs.NameLists.{NameLists}
 use Rattle.ot_base.specs.NamesFile.{IsFirstFault, IsNamesFile, lines}
 use Rattle.ot_base.specs.declared.lists.ListsFault.TheVariants as lists_fault
 use Rattle.ot_base.specs.declared.lists.ListsWhy.{ListsWhy}
 use Rattle.ot_files.specs.Causes.{Rose}
-use Rattle.ot_files.specs.Content.{Content, reading, reading_of}
+use Rattle.ot_files.specs.Content.{Content, reading}
 use Rattle.ot_files.specs.Output.{appending}
 use Rattle.ot_files.specs.declared.access.FileError.{FileError}
 use Rattle.ot_files.specs.declared.access.FileError.TheVariants as file_error
@@ -17,23 +17,26 @@ use Rattle.command_base.specs.Outside.{Outside, Output}
 use Rattle.command_base.specs.Printing.{Concludes, Prints, fails, fault_stays, runs_out, silent, tells, whole}
 use Rattle.command_base.specs.Reading.{IsUnreadable, MayRead, StopsAtRead}
 use Rattle.command_base.specs.Stop.{line_of, status_of}
+use Rattle.command_base.specs.Writing.{StopsAtWrite}
 use Rattle.command_base.specs.declared.refusal.Refusal.TheVariants as refusal
 use Rattle.command_base.specs.declared.status.Status.{Status}
 use Rattle.command_base.specs.declared.status.Status.TheVariants.{Done, Warnings, Refused, Usage, FileFault, SinkFault, NoMemory}
 use Rattle.command_base.specs.declared.stop.CommandStop.{CommandStop}
 use Rattle.command_base.specs.declared.stop.CommandStop.TheVariants as stop
+use Rattle.command_base.proofs.ConcludeLemmas.{concluded_after_fault, concluded_no_memory, printed_done}
+use Rattle.command_base.proofs.PrintLemmas.{rose_before}
 use Rattle.command_base.proofs.DumpLaws.{no_memory_left, read_fault, same_read, told_read, unread_left}
-use Rattle.entry_command.specs.Refused.{IsRefusedOrFails, TellsRefusal}
+use Rattle.command_base.specs.Refusing.{IsRefusedOrFails, IsWarnedOrFails, Tells}
 
 -- ---- statuses
 
-file_fault_not_refused : FileFault ≢ Refused
+pub file_fault_not_refused : FileFault ≢ Refused
 file_fault_not_refused e = cc
 
-sink_fault_not_refused : SinkFault ≢ Refused
+pub sink_fault_not_refused : SinkFault ≢ Refused
 sink_fault_not_refused e = cc
 
-memory_not_refused : NoMemory ≢ Refused
+pub memory_not_refused : NoMemory ≢ Refused
 memory_not_refused e = cc
 
 pub done_not_refused : Done ≢ Refused
@@ -60,16 +63,16 @@ whole_text end text out out' FileFault (fault_stays prefix rose at) e = absurd (
 whole_text end text out out' SinkFault (fails prefix rose other) e = absurd (sink_fault_not_refused e)
 whole_text end text out out' NoMemory (runs_out prefix) e = absurd (memory_not_refused e)
 
-whole_line : (s : CommandStop) (out out' : Output) (x : Status) → Concludes s out out' x → x ≡ Refused → (status_of s ≡ Refused) × (out'.written ≡ appending out.written (line_of s))
+pub whole_line : (s : CommandStop) (out out' : Output) (x : Status) → Concludes s out out' x → x ≡ Refused → (status_of s ≡ Refused) × (out'.written ≡ appending out.written (line_of s))
 whole_line s out out' x (tells other t) e = whole_text _ _ out out' x t e
 whole_line s out out' NoMemory (silent none same) e = absurd (memory_not_refused e)
 
-pub of_stop : (R : CommandStop → Type 0) (s : CommandStop) (out out' : Output) (x : Status) → Concludes s out out' x → x ≡ Refused → (status_of s ≡ Refused → R s) → TellsRefusal R out.written out'.written
+pub of_stop : (R : CommandStop → Type 0) (s : CommandStop) (out out' : Output) (x : Status) → Concludes s out out' x → x ≡ Refused → (status_of s ≡ Refused → R s) → Tells R out.written out'.written
 of_stop R s out out' x t e is =
     let told = whole_line s out out' x t e in
     record { stop = s; is = is told.0; printed = told.1 }
 
-pub printed_usage : (end : Status) (text : List ℕ) (out out' : Output) (x : Status) → Prints end text out out' x → x ≡ Usage → end ≡ Usage
+printed_usage : (end : Status) (text : List ℕ) (out out' : Output) (x : Status) → Prints end text out out' x → x ≡ Usage → end ≡ Usage
 printed_usage end text out out' x (whole at all) e = sym at ∙ e
 printed_usage end text out out' FileFault (fault_stays prefix rose at) e = cc
 printed_usage end text out out' SinkFault (fails prefix rose other) e = cc
@@ -124,10 +127,6 @@ read_no_usage limit (stop.PartRefused part why) name before after h e = absurd h
 read_no_usage limit (stop.FileFault told) name before after h e = cc
 read_no_usage limit stop.NoMemory name before after h e = cc
 
--- a stop that was met later was met in the whole time before too
-rose_before : (before middle after : ℕ) → before ≤ middle → Rose middle after → Rose before after
-rose_before before middle after later rose = omega arith
-
 abbrev pub outside : Option Content → ℕ → Outside
 outside content faults = record { content = content; faults = faults }
 
@@ -142,14 +141,67 @@ read_earlier limit (stop.PartRefused part why) name content before middle after 
 read_earlier limit (stop.FileFault told) name content before middle after later h = (h.0, rose_before before middle after.faults later h.1)
 read_earlier limit stop.NoMemory name content before middle after later h = h
 
--- what was read of a name is what it holds
-pub held_is : (limit : ℕ) (held : Option (List ℕ)) (bytes : List ℕ) → Ok bytes ≡ reading_of held limit → held ≡ Some bytes
-held_is limit None bytes is = let u : ◌≡◌ {A = Result (List ℕ) FileError} (Ok bytes) (Err file_error.Missing) = is in cc
-held_is limit (Some read) bytes is = within (nat_lt limit (length read)) is
-  where
-    within : (b : Bool) → ◌≡◌ {A = Result (List ℕ) FileError} (Ok bytes) (cond b (Err (file_error.TooLong limit)) (Ok read)) → ◌≡◌ {A = Option (List ℕ)} (Some read) (Some bytes)
-    within true e = let u : ◌≡◌ {A = Result (List ℕ) FileError} (Ok bytes) (Err (file_error.TooLong limit)) = e in cc
-    within false e = let u : ◌≡◌ {A = Result (List ℕ) FileError} (Ok bytes) (Ok read) = e in cc
+-- ---- OUT
+
+pub write_earlier : (s : CommandStop) (name : List ℕ) (content : Option Content) (before middle : ℕ) (after : Outside) → before ≤ middle → StopsAtWrite name (outside content middle) after s → StopsAtWrite name (outside content before) after s
+write_earlier (stop.Usage usage) name content before middle after later h = h
+write_earlier (stop.Missing told) name content before middle after later h = h
+write_earlier (stop.TooLong told at) name content before middle after later h = h
+write_earlier (stop.Refused why) name content before middle after later h = h
+write_earlier (stop.PartMissing part told) name content before middle after later h = h
+write_earlier (stop.PartTooLong part told at) name content before middle after later h = h
+write_earlier (stop.PartRefused part why) name content before middle after later h = h
+write_earlier (stop.FileFault told) name content before middle after later h = (h.0, rose_before before middle after.faults later h.1)
+write_earlier stop.NoMemory name content before middle after later h = h
+
+pub write_not_refused : (s : CommandStop) (name : List ℕ) (before after : Outside) → StopsAtWrite name before after s → status_of s ≢ Refused
+write_not_refused (stop.Usage usage) name before after h e = h
+write_not_refused (stop.Missing told) name before after h e = h
+write_not_refused (stop.TooLong told at) name before after h e = h
+write_not_refused (stop.Refused why) name before after h e = h
+write_not_refused (stop.PartMissing part told) name before after h e = h
+write_not_refused (stop.PartTooLong part told at) name before after h e = h
+write_not_refused (stop.PartRefused part why) name before after h e = h
+write_not_refused (stop.FileFault told) name before after h e = file_fault_not_refused e
+write_not_refused stop.NoMemory name before after h e = memory_not_refused e
+
+pub write_no_usage : (s : CommandStop) (name : List ℕ) (before after : Outside) → StopsAtWrite name before after s → status_of s ≢ Usage
+write_no_usage (stop.Usage usage) name before after h e = absurd h
+write_no_usage (stop.Missing told) name before after h e = absurd h
+write_no_usage (stop.TooLong told at) name before after h e = absurd h
+write_no_usage (stop.Refused why) name before after h e = absurd h
+write_no_usage (stop.PartMissing part told) name before after h e = absurd h
+write_no_usage (stop.PartTooLong part told at) name before after h e = absurd h
+write_no_usage (stop.PartRefused part why) name before after h e = absurd h
+write_no_usage (stop.FileFault told) name before after h e = cc
+write_no_usage stop.NoMemory name before after h e = cc
+
+pub write_fault : (s : CommandStop) (name : List ℕ) (before after : Outside) → StopsAtWrite name before after s → status_of s ≡ FileFault → Rose before.faults after.faults
+write_fault (stop.Usage usage) name before after h e = absurd h
+write_fault (stop.Missing told) name before after h e = absurd h
+write_fault (stop.TooLong told at) name before after h e = absurd h
+write_fault (stop.Refused why) name before after h e = absurd h
+write_fault (stop.PartMissing part told) name before after h e = absurd h
+write_fault (stop.PartTooLong part told at) name before after h e = absurd h
+write_fault (stop.PartRefused part why) name before after h e = absurd h
+write_fault (stop.FileFault told) name before after h e = h.1
+write_fault stop.NoMemory name before after h e = cc
+
+-- where OUT may have changed, a fault of it or want of memory is told
+pub write_told : (s : CommandStop) (name : List ℕ) (before after : Outside) (out out' : Output) (x : Status) → StopsAtWrite name before after s → Concludes s out out' x → (x ≡ FileFault) ⊎ (x ≡ NoMemory)
+write_told (stop.Usage usage) name before after out out' x h t = absurd h
+write_told (stop.Missing told) name before after out out' x h t = absurd h
+write_told (stop.TooLong told at) name before after out out' x h t = absurd h
+write_told (stop.Refused why) name before after out out' x h t = absurd h
+write_told (stop.PartMissing part told) name before after out out' x h t = absurd h
+write_told (stop.PartTooLong part told at) name before after out out' x h t = absurd h
+write_told (stop.PartRefused part why) name before after out out' x h t = absurd h
+write_told (stop.FileFault told) name before after out out' x h t = concluded_after_fault (stop.FileFault told) out out' x refl t
+write_told stop.NoMemory name before after out out' x h t = inr (concluded_no_memory out out' x t)
+
+pub neither : (x : Status) → (x ≡ FileFault) ⊎ (x ≡ NoMemory) → x ≢ FileFault → x ≢ NoMemory → ⊥
+neither x (inl e) f m = f e
+neither x (inr e) f m = m e
 
 -- ---- the names file
 
@@ -240,3 +292,33 @@ names_left s names lists held before after out out' x c has (no_names file text 
     let same = one_text MAX_FILE_BYTES held file given.text text (sym given.may) (is_read MAX_FILE_BYTES file text held before.content c may) in
     no_memory_left s out out' x (lists_memory s text (subst IsNamesFile same given.right) h) t
 names_left stop.NoMemory names lists held before after out out' x c has no_lists t = no_memory_left stop.NoMemory out out' x refl t
+
+-- ---- warnings
+
+pub done_not_warned : Done ≢ Warnings
+done_not_warned e = cc
+
+-- what is left of a command that neither was done nor refused, and whose words were right
+pub left_warned : (x : Status) → x ≢ Done → x ≢ Refused → x ≢ Usage → IsWarnedOrFails x
+left_warned Done d r u = absurd (d refl)
+left_warned Warnings d r u = inl refl
+left_warned Refused d r u = absurd (r refl)
+left_warned Usage d r u = absurd (u refl)
+left_warned FileFault d r u = inr (inl refl)
+left_warned SinkFault d r u = inr (inr (inl refl))
+left_warned NoMemory d r u = inr (inr (inr refl))
+
+pub warned_text : (text : List ℕ) (out out' : Output) (x : Status) → Prints Warnings text out out' x → x ≡ Warnings → out'.written ≡ appending out.written text
+warned_text text out out' x (whole at all) e = all
+warned_text text out out' FileFault (fault_stays prefix rose at) e = cc
+warned_text text out out' SinkFault (fails prefix rose other) e = cc
+warned_text text out out' NoMemory (runs_out prefix) e = cc
+
+pub warned_not_refused : (text : List ℕ) (out out' : Output) (x : Status) → Prints Warnings text out out' x → x ≢ Refused
+warned_not_refused text out out' x t e = let same : Warnings ≡ Refused = (whole_text Warnings text out out' x t e).0 in cc
+
+pub warned_not_done : (text : List ℕ) (out out' : Output) (x : Status) → Prints Warnings text out out' x → x ≢ Done
+warned_not_done text out out' x t e = let same : Warnings ≡ Done = printed_done Warnings text out out' x t e in cc
+
+pub warned_no_usage : (text : List ℕ) (out out' : Output) (x : Status) → Prints Warnings text out out' x → x ≢ Usage
+warned_no_usage text out out' x t e = let same : Warnings ≡ Usage = printed_usage Warnings text out out' x t e in cc
