@@ -13,10 +13,10 @@ use Rattle.orc_bytes.specs.Sections.{HoldsOrc}
 use Rattle.orc_bytes.proofs.OneList.{one_list_fits}
 use Rattle.orc_walk.specs.declared.faults.PlaceFault.{PlaceFault}
 use Rattle.orc_walk.specs.Faults.{place_fault}
-use Rattle.stack_image.specs.declared.fault.ImageWhy.{ImageWhy}
-use Rattle.stack_image.specs.declared.fault.ImageFault.TheVariants.{Line}
-use Rattle.stack_image.specs.Lines.{lines}
-use Rattle.stack_image.specs.ImageFile.{IsImage, IsImageFault, IsFirstFault, LacksRegisters, StackImage, fault_at}
+use Rattle.orc_walk.specs.declared.image_fault.ImageWhy.{ImageWhy}
+use Rattle.orc_walk.specs.declared.image_fault.ImageFault.TheVariants.{Line}
+use Rattle.orc_walk.specs.Lines.{lines}
+use Rattle.orc_walk.specs.ImageFile.{IsImage, IsImageFault, IsFirstFault, LacksRegisters, StackImage, fault_at}
 use Rattle.command_base.specs.declared.reading.TheConstants.{MAX_IMAGE_BYTES}
 use Rattle.command_base.specs.declared.status.Status.{Status}
 use Rattle.command_base.specs.declared.status.Status.TheVariants.{Done, Warnings, FileFault, SinkFault, NoMemory}

@@ -28,9 +28,9 @@ use Rattle.orc_walk.specs.declared.faults.PlaceFault.{PlaceFault}
 use Rattle.orc_walk.specs.declared.faults.PlaceFault.TheVariants as place_fault_at
 use Rattle.orc_walk.specs.Memory.{Piece, word_at}
 use Rattle.orc_walk.specs.Walked.{Walked, whole as walked_whole, front}
-use Rattle.stack_image.specs.ImageFile.{IsImage, IsImageFault, StackImage}
-use Rattle.stack_image.specs.declared.fault.ImageFault.{ImageFault}
-use Rattle.stack_image.specs.declared.fault.ImageFault.TheVariants as image_fault
+use Rattle.orc_walk.specs.ImageFile.{IsImage, IsImageFault, StackImage}
+use Rattle.orc_walk.specs.declared.image_fault.ImageFault.{ImageFault}
+use Rattle.orc_walk.specs.declared.image_fault.ImageFault.TheVariants as image_fault
 use Rattle.command_base.specs.declared.refusal.Refusal.TheVariants as refusal
 use Rattle.command_base.specs.declared.stop.CommandStop.{CommandStop}
 use Rattle.command_base.specs.declared.stop.CommandStop.TheVariants as stop

@@ -12,8 +12,8 @@ use Rattle.orc_bytes.specs.declared.fault.OrcFault.{OrcFault}
 use Rattle.orc_bytes.specs.declared.fault.OrcFault.TheVariants as orc
 use Rattle.orc_walk.specs.declared.faults.PlaceFault.{PlaceFault}
 use Rattle.orc_walk.specs.declared.faults.PlaceFault.TheVariants as place
-use Rattle.stack_image.specs.declared.fault.ImageFault.{ImageFault}
-use Rattle.stack_image.specs.declared.fault.ImageFault.TheVariants as image
+use Rattle.orc_walk.specs.declared.image_fault.ImageFault.{ImageFault}
+use Rattle.orc_walk.specs.declared.image_fault.ImageFault.TheVariants as image
 use Rattle.site_lists.specs.declared.fault.SitesFault.{SitesFault}
 use Rattle.site_lists.specs.declared.fault.SitesFault.TheVariants as sites
 use Rattle.eh_frame.specs.declared.fault.EhFault.{EhFault}

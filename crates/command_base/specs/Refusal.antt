@@ -6,7 +6,7 @@ use Rattle.elf_objects.specs.declared.fault.ElfFault.TheVariants as fault
 use Rattle.ot_base.specs.ListsFault as lists
 use Rattle.orc_bytes.specs.FaultText as orc
 use Rattle.orc_walk.specs.FaultText as placed
-use Rattle.stack_image.specs.FaultText as image
+use Rattle.orc_walk.specs.ImageFaultText as image
 use Rattle.object_code.specs.FaultText as code
 use Rattle.eh_frame.specs.Texts as frames
 use Rattle.site_lists.specs.FaultText as sites

@@ -13,9 +13,9 @@ use Rattle.elf_objects.specs.Contents.{is_text, section_at}
 use Rattle.orc_walk.specs.declared.faults.PlaceFault.{PlaceFault}
 use Rattle.orc_walk.specs.Faults.{place_fault}
 use Rattle.orc_walk.specs.Memory.{word_at}
-use Rattle.stack_image.specs.declared.fault.ImageWhy.{ImageWhy}
-use Rattle.stack_image.specs.declared.fault.ImageFault.TheVariants.{Line}
-use Rattle.stack_image.specs.ImageFile.{StackImage, IsImage, IsImageFault}
+use Rattle.orc_walk.specs.declared.image_fault.ImageWhy.{ImageWhy}
+use Rattle.orc_walk.specs.declared.image_fault.ImageFault.TheVariants.{Line}
+use Rattle.orc_walk.specs.ImageFile.{StackImage, IsImage, IsImageFault}
 use Rattle.command_base.specs.declared.refusal.Refusal.TheVariants.{Image, NoText, Unplaced}
 use Rattle.command_base.specs.declared.reading.TheConstants.{MAX_IMAGE_BYTES}
 use Rattle.command_base.specs.declared.status.Status.{Status}

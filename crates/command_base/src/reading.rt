@@ -11,7 +11,7 @@ use orc_walk::PlaceFault;
 use ot_base::ListsFault;
 use ot_files::{FileError, Files};
 use site_lists::SitesFault;
-use stack_image::ImageFault;
+use orc_walk::ImageFault;
 use std::alloc::Global;
 
 /// How many bytes an image file may have.

@@ -7,7 +7,7 @@ use orc_merge::{LayoutFault, MergeFault, TableFault};
 use orc_walk::PlaceFault;
 use ot_base::ListsFault;
 use site_lists::SitesFault;
-use stack_image::ImageFault;
+use orc_walk::ImageFault;
 use std::fmt;
 
 /// Why an input is refused.

@@ -5,7 +5,7 @@ ghost use Rattle.ot_base.specs.declared.row.PlacedRow.{PlacedRow};
 ghost use Rattle.ot_files.specs.Content.{Content, reading};
 ghost use Rattle.ot_files.specs.Output.{appending};
 ghost use Rattle.elf_objects.specs.Elf.{Elf};
-ghost use Rattle.stack_image.specs.ImageFile.{StackImage};
+ghost use Rattle.orc_walk.specs.ImageFile.{StackImage};
 ghost use Rattle.command_base.specs.Dump.{IsAnswered};
 ghost use Rattle.command_base.specs.declared.status.Status.TheVariants as status;
 ghost use Rattle.command_base.specs.Printing.{FailsToPrint, IsOutputFault, Prints};
@@ -21,7 +21,7 @@ use elf_objects::{MAX_FILE_BYTES, Object};
 use orc_bytes::decode;
 use orc_walk::{Range, Table, walk};
 use ot_files::{Files, Sink};
-use stack_image::Image;
+use orc_walk::Image;
 use std::alloc::Global;
 use table_defs::{Frame, Stop as WalkStop};
 

@@ -16,8 +16,8 @@ use Rattle.elf_objects.specs.declared.TheConstants.{MAX_FILE_BYTES}
 use Rattle.elf_objects.specs.Elf.{Elf}
 use Rattle.orc_output.specs.Tables.{with_tables_object}
 use Rattle.orc_walk.specs.Memory.{word_at}
-use Rattle.stack_image.specs.ImageFile.{IsImage}
-use Rattle.stack_image.specs.Laws.{MemoryIsSaid}
+use Rattle.orc_walk.specs.ImageFile.{IsImage}
+use Rattle.orc_walk.specs.ImageLaws.{MemoryIsSaid}
 use Rattle.command_base.specs.declared.reading.TheConstants.{MAX_IMAGE_BYTES}
 use Rattle.command_base.specs.declared.status.Status.{Status}
 use Rattle.command_base.specs.declared.status.Status.TheVariants as status

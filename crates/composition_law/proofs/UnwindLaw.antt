@@ -20,9 +20,9 @@ use Rattle.flow_defs.specs.Coded.{Coded}
 use Rattle.flow_defs.specs.Program.{program_of}
 use Rattle.ot_base.specs.NameLists.{NameLists}
 use Rattle.orc_walk.specs.Memory.{Piece, byte_at, bytes_at, word_at}
-use Rattle.stack_image.specs.ImageFile.{StackImage, IsImage, sayings}
-use Rattle.stack_image.specs.Lines.{lines}
-use Rattle.stack_image.specs.Laws.{MemoryIsSaid}
+use Rattle.orc_walk.specs.ImageFile.{StackImage, IsImage, sayings}
+use Rattle.orc_walk.specs.Lines.{lines}
+use Rattle.orc_walk.specs.ImageLaws.{MemoryIsSaid}
 use Rattle.command_base.specs.declared.status.Status.TheVariants as status
 use Rattle.command_base.specs.declared.stop.CommandStop.{CommandStop}
 use Rattle.command_base.specs.Printing.{Concludes, Prints}

@@ -13,7 +13,7 @@ use Rattle.table_defs.specs.Placement.{IsPlacement}
 use Rattle.table_defs.specs.Placed.{BeginAt}
 use Rattle.table_defs.specs.Walks.{StopsAs, registers_of, walk_frame}
 use Rattle.orc_walk.specs.Memory.{word_at}
-use Rattle.stack_image.specs.ImageFile.{StackImage, IsImage}
+use Rattle.orc_walk.specs.ImageFile.{StackImage, IsImage}
 use Rattle.elf_objects.specs.declared.TheConstants.{MAX_FILE_BYTES}
 use Rattle.elf_objects.specs.Elf.{Elf}
 use Rattle.elf_objects.specs.Object.{IsObject}

@@ -4,7 +4,7 @@
 
 ghost use Rattle.composition_law.specs.Laws.{CfaIsDone, DumpIsDone, DumpTellsTheRows, FindIsDone, ListIsDone, RowsAreReadBack, StatesAreUnwound, UnwindIsDone, UnwindTellsTheFrames};
 
-use stack_image::memory_is_said;
+use orc_walk::memory_is_said;
 use table_defs::walk_is_determined;
 
 /// Rows that are encoded and added to an object are the rows that its ORC sections then hold, and the only

@@ -17,3 +17,10 @@ pub mod SpellSteps
 pub mod EntryFound
 pub mod FrameBound
 pub mod FrameSame
+pub mod Slots
+pub mod Room
+pub mod Addable
+pub mod Held
+pub mod Insertable
+pub mod Written
+pub mod NoFrames

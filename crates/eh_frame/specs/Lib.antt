@@ -14,3 +14,5 @@ pub mod ShortRules
 pub mod RuleAt
 pub mod Laws
 pub mod WorkedRows
+pub mod FrameOutput
+pub mod Framed

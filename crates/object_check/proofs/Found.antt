@@ -12,13 +12,13 @@ use Rattle.table_defs.specs.Order.{ComesBefore}
 use Rattle.table_defs.specs.Walks.{WalksToFrames}
 use Rattle.program_graph.specs.declared.parts.GraphParts.{GraphParts}
 use Rattle.unwinding_law.proofs.Lists.{all_of}
-use Rattle.option_rules.specs.declared.table.AllowanceTable.{AllowanceTable}
+use Rattle.program_check.specs.declared.allowance_table.AllowanceTable.{AllowanceTable}
 use Rattle.flow_defs.specs.Program.{program_of}
 use Rattle.object_law.specs.EntryLaws.{ProgramHasFunctions}
 use Rattle.option_law.specs.Access.{AccessLaw}
 use Rattle.option_law.specs.Branches.{BranchLaw}
 use Rattle.option_law.specs.Frames.{FrameLaw}
-use Rattle.point_allowances.specs.Allowances.{allowances_of}
+use Rattle.object_check.specs.Allowances.{allowances_of}
 use Rattle.object_law.specs.Flows.{ObjectIsInOrder, ProgramIsLaidOut, ProgramIsOne}
 use Rattle.object_law.specs.ObjectLaws.{ObjectUnwinds, PointsAscend}
 use Rattle.object_law.specs.Rows.{IsPlacedRow, RowsAreFew, RowsArePlaced}

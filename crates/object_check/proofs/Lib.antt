@@ -6,3 +6,5 @@ pub mod RowForms
 pub mod RowOrder
 mod Found
 pub mod OneCount
+pub mod Allowed
+pub mod SmapSites

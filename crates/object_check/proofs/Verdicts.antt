@@ -13,8 +13,8 @@ use Rattle.machine_defs.specs.Rows.{rows_of}
 use Rattle.program_graph.specs.declared.parts.GraphParts.{GraphParts}
 use Rattle.kept_states.specs.LevelStates.{at}
 use Rattle.program_check.specs.Checkable.{IsPrepared}
-use Rattle.option_rules.specs.declared.table.AllowanceTable.{AllowanceTable}
-use Rattle.option_rules.specs.Verdict.{IsAskable, IsFoundBroken, IsFoundClean}
+use Rattle.program_check.specs.declared.allowance_table.AllowanceTable.{AllowanceTable}
+use Rattle.program_check.specs.OptionVerdict.{IsAskable, IsFoundBroken, IsFoundClean}
 use Rattle.object_check.specs.Outcome.{AreWarnings, HasRows, IsUnbroken}
 use Rattle.object_check.specs.Ready.{IsReady, IsTableOf}
 

@@ -13,8 +13,8 @@ use Rattle.flow_defs.specs.Faults.{IsFirstFlowFault}
 use Rattle.object_code.specs.declared.fault.LinkFault.{LinkFault}
 use Rattle.object_code.specs.declared.fault.LinkFault.TheVariants as link
 use Rattle.object_code.specs.Linked.{IsLinked, IsLinkFault}
-use Rattle.option_rules.specs.AskedRules.{IsEnough}
-use Rattle.point_allowances.specs.Allowances.{allowances_of}
+use Rattle.program_check.specs.AskedRules.{IsEnough}
+use Rattle.object_check.specs.Allowances.{allowances_of}
 use Rattle.table_defs.specs.Order.{ComesBefore}
 use Rattle.eh_frame.specs.RowFrames.{IsFrameRow}
 use Rattle.orc_output.specs.Tables.{IsRowIn}

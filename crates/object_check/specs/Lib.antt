@@ -7,3 +7,6 @@ pub mod Unwinding
 pub mod Promises
 pub mod Code
 pub mod RowLaws
+pub mod Allowances
+pub mod Flags
+pub mod SmapSites

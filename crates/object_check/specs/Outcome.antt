@@ -13,7 +13,7 @@ use Rattle.machine_defs.specs.Allowances.{Allowances}
 use Rattle.machine_defs.specs.Asked.{IsClean, IsWarned}
 use Rattle.machine_defs.specs.Rows.{rows_of}
 use Rattle.flow_defs.specs.Program.{program_of}
-pub use Rattle.point_allowances.specs.Allowances.{allowances_of}
+pub use Rattle.object_check.specs.Allowances.{allowances_of}
 use Rattle.stack_rules.specs.Before.{ComesBefore}
 use Rattle.object_check.specs.Counts.{IsCounted}
 use Rattle.object_check.specs.Order.{IsCheckable}

@@ -9,7 +9,7 @@ use Rattle.option_law.specs.Access.{AccessRun, IsAccessKept}
 use Rattle.option_law.specs.Branches.{BranchesSafely}
 use Rattle.option_law.specs.Frames.{CallsWithFrame}
 use Rattle.flow_defs.specs.Program.{program_of}
-use Rattle.point_allowances.specs.Allowances.{allowances_of}
+use Rattle.object_check.specs.Allowances.{allowances_of}
 
 -- For every placement of the text sections and every state of every run of the stack machine on the object's program: with `fp`
 -- each call is made with a frame pointer set up; with `retpoline` and `rethunk` no indirect branch and no return is come to

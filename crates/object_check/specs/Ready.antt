@@ -7,8 +7,8 @@ use Rattle.machine_defs.specs.Program.{Program}
 use Rattle.machine_defs.specs.IsProgram.{IsLaidOut, IsProgram}
 use Rattle.table_defs.specs.Order.{PlainPointsAscend}
 use Rattle.machine_defs.specs.Allowances.{Allowances, EntersFunctions}
-use Rattle.option_rules.specs.declared.table.AllowanceTable.{AllowanceTable}
-use Rattle.option_rules.specs.Allows.{Allows}
+use Rattle.program_check.specs.declared.allowance_table.AllowanceTable.{AllowanceTable}
+use Rattle.program_check.specs.Allows.{Allows}
 use Rattle.program_graph.specs.declared.parts.GraphParts.{GraphParts}
 use Rattle.program_graph.specs.Tells.{Tells}
 use Rattle.flow_defs.specs.Program.{program_of}

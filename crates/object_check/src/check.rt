@@ -6,7 +6,7 @@ ghost use Rattle.elf_objects.specs.declared.TheConstants.{MAX_FILE_BYTES as most
 ghost use Rattle.flow_defs.specs.Coded.{Coded, coded_by};
 ghost use Rattle.machine_defs.specs.Program.{Program};
 ghost use Rattle.machine_defs.specs.Allowances.{Allowances};
-ghost use Rattle.option_rules.specs.AskedRules.{IsEnough};
+ghost use Rattle.program_check.specs.AskedRules.{IsEnough};
 ghost use Rattle.object_check.specs.Code.{CanHaveRows, IsCodeOf, IsFound};
 ghost use Rattle.object_check.specs.Order.{IsCheckFault};
 ghost use Rattle.object_check.specs.Outcome.{IsOutcome, OnAccepted};
@@ -29,7 +29,7 @@ use object_law::flow_laws::{program_is_laid_out, program_is_one};
 use object_law::object_laws::{object_unwinds, plain_points_ascend, rows_are_rows_of};
 use object_law::symbol_laws::rows_are_named;
 use option_law::laws::{access_is_kept, branches_are_safe, calls_have_frames};
-use option_rules::{AllowanceTable, OptionVerdict, check};
+use program_check::{AllowanceTable, OptionVerdict, check};
 use ot_base::{Lists, NoMemory, Options};
 use program_graph::Graph;
 use std::alloc::Global;

@@ -3,8 +3,8 @@
 ghost use Rattle.std.specs.Prelude.{◌≡◌, ◌≤◌, IfErr, IfOk, length};
 ghost use Rattle.flow_defs.specs.Coded.{coded_by};
 ghost use Rattle.flow_defs.specs.Program.{program_of};
-ghost use Rattle.option_rules.specs.AskedRules.{IsEnough, needs_allowances as need_allowances};
-ghost use Rattle.point_allowances.specs.Allowances.{allowances_of};
+ghost use Rattle.program_check.specs.AskedRules.{IsEnough, needs_allowances as need_allowances};
+ghost use Rattle.object_check.specs.Allowances.{allowances_of};
 ghost use Rattle.elf_objects.specs.declared.TheConstants.{MAX_FILE_BYTES as most_bytes};
 ghost use Rattle.object_check.specs.Code.{IsCodeFault, IsCodeOf};
 ghost use Rattle.object_check.specs.Ready.{IsTableOf};
@@ -14,9 +14,9 @@ use crate::fault::CodeFault;
 use control_flow::{flow, object_is_in_order};
 use elf_objects::Object;
 use object_code::{Linked, Map};
-use option_rules::AllowanceTable;
+use program_check::AllowanceTable;
 use ot_base::{Lists, NoMemory, Options};
-use point_allowances::table_of;
+use crate::table_of;
 use program_graph::Graph;
 use std::alloc::Global;
 

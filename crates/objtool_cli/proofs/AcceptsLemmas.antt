@@ -32,7 +32,7 @@ use Rattle.objtool_cli.specs.Words.{Meaning}
 use Rattle.x86_decode.specs.Decoding.{OneOutcome}
 use Rattle.flow_defs.specs.Coded.{coded_by}
 use Rattle.flow_defs.specs.Program.{program_of}
-use Rattle.point_allowances.specs.Allowances.{allowances_of}
+use Rattle.object_check.specs.Allowances.{allowances_of}
 use Rattle.object_check.specs.Outcome.{HasRows, IsUnbroken}
 use Rattle.orc_output.specs.Tables.{symbols_needed}
 use Rattle.objtool_cli.proofs.CheckableLemmas.{checkable_unrefused, one_object, one_rows}

@@ -11,7 +11,7 @@ use Rattle.elf_objects.specs.Object.{IsObject}
 use Rattle.elf_objects.specs.declared.fault.Counted.TheVariants as counted
 use Rattle.flow_defs.specs.Coded.{coded_by}
 use Rattle.flow_defs.specs.Program.{program_of}
-use Rattle.point_allowances.specs.Allowances.{allowances_of}
+use Rattle.object_check.specs.Allowances.{allowances_of}
 use Rattle.object_check.specs.Counts.{IsCounted}
 use Rattle.object_check.specs.Order.{IsCheckable}
 use Rattle.object_check.specs.Outcome.{AreWarnings, HasRows, IsUnbroken}

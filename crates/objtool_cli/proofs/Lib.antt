@@ -22,7 +22,7 @@ pub mod TextEnds
 pub mod UnwindingLemmas
 pub mod UsageEnds
 pub mod UsageLemmas
-pub use Rattle.site_commands.proofs.ListLaws
-pub use Rattle.frame_commands.proofs.CfaLaws
-pub use Rattle.merge_command.proofs.FindLaws
-pub use Rattle.merge_command.proofs.TableLemmas
+pub use Rattle.object_commands.proofs.ListLaws
+pub use Rattle.object_commands.proofs.CfaLaws
+pub use Rattle.object_commands.proofs.FindLaws
+pub use Rattle.object_commands.proofs.TableLemmas

@@ -14,12 +14,12 @@ use Rattle.cli_words.specs.Grammar.{cfa, cfi, dump, entry, find, list, merge, si
 use Rattle.objtool_cli.specs.Words.{Meaning, entry_options}
 use Rattle.cli_words.specs.declared.options.EntryRules.{EntryRules}
 use Rattle.command_base.specs.Code.{IsInOrder}
-use Rattle.entry_command.specs.Entry.{BreaksEntryRule, IsUnbroken}
-use Rattle.entry_command.proofs.EntryLaws.{entry_accepts, entry_warns}
+use Rattle.object_commands.specs.Entry.{BreaksEntryRule, IsUnbroken}
+use Rattle.object_commands.proofs.EntryLaws.{entry_accepts, entry_warns}
 use Rattle.ot_base.specs.declared.row.PlacedRow.{PlacedRow}
 use Rattle.elf_objects.specs.Elf.{Elf}
 use Rattle.command_base.specs.Dump.{HoldsRows, IsAnswered, IsDumped}
-use Rattle.stack_image.specs.ImageFile.{StackImage}
+use Rattle.orc_walk.specs.ImageFile.{StackImage}
 use Rattle.command_base.specs.declared.reading.TheConstants.{MAX_IMAGE_BYTES}
 use Rattle.command_base.specs.Unwind.{IsPlaced, IsUnwound}
 use Rattle.command_base.proofs.UnwindLaws.{unwind_left, unwound as files_unwound}
@@ -31,26 +31,26 @@ use Rattle.x86_map.specs.declared.map.Map.{Map}
 use Rattle.x86_decode.specs.Decoding.{OneOutcome}
 use Rattle.command_base.specs.Names.{HasNames}
 use Rattle.site_lists.specs.Listed.{Listed}
-use Rattle.site_commands.specs.Order.{GetsSites}
-use Rattle.site_commands.specs.List.{HoldsLists}
-use Rattle.site_commands.proofs.ListLaws.{list_left}
-use Rattle.site_commands.proofs.SitesLaws.{sites_left}
+use Rattle.object_commands.specs.SitesOrder.{GetsSites}
+use Rattle.object_commands.specs.List.{HoldsLists}
+use Rattle.object_commands.proofs.ListLaws.{list_left}
+use Rattle.object_commands.proofs.SitesLaws.{sites_left}
 use Rattle.eh_frame.specs.declared.rule.PlacedRule.{PlacedRule}
-use Rattle.frame_commands.specs.Cfa.{SaysRules}
-use Rattle.frame_commands.specs.Cfi.{BreaksRule, Gets}
+use Rattle.object_commands.specs.Cfa.{SaysRules}
+use Rattle.object_commands.specs.Cfi.{BreaksRule, Gets}
 use Rattle.command_base.specs.Refusing.{IsWarnedOrFails}
-use Rattle.frame_commands.proofs.CfaLaws.{cfa_left}
-use Rattle.frame_commands.proofs.CfiLaws.{cfi_left, cfi_warns}
+use Rattle.object_commands.proofs.CfaLaws.{cfa_left}
+use Rattle.object_commands.proofs.CfiLaws.{cfi_left, cfi_warns}
 use Rattle.table_defs.specs.Lookup.{AddressedRow}
 use Rattle.orc_merge.specs.LayoutFile.{FileSaid}
 use Rattle.orc_merge.specs.MergeFaults.{merge_fault}
 use Rattle.orc_merge.specs.Merged.{IsMergedTable}
 use Rattle.orc_merge.specs.TableBytes.{table_bytes}
 use Rattle.orc_merge.specs.declared.part.Part.{Part}
-use Rattle.merge_command.specs.Layouts.{IsLayoutOf}
-use Rattle.merge_command.specs.Objects.{ArePartsOf}
-use Rattle.merge_command.proofs.FindLaws.{find_left}
-use Rattle.merge_command.proofs.MergeLaws.{merge_left}
+use Rattle.object_commands.specs.Layouts.{IsLayoutOf}
+use Rattle.object_commands.specs.MergedObjects.{ArePartsOf}
+use Rattle.object_commands.proofs.FindLaws.{find_left}
+use Rattle.object_commands.proofs.MergeLaws.{merge_left}
 use Rattle.objtool_cli.proofs.SameCommand.{done_as, ends_as}
 
 pub rows_dumped : (meaning : Meaning) (before after : Outside) (out out' : Output) (x : Status) (file : List ℕ) → Ends meaning before after out out' x → x ≡ Done → meaning ≡ Ok (dump file) → IsDumped file before.content out.written out'.written

@@ -8,7 +8,7 @@ use Rattle.elf_objects.specs.Elf.{Elf}
 use Rattle.elf_objects.specs.Object.{IsObject}
 use Rattle.flow_defs.specs.Coded.{coded_by}
 use Rattle.flow_defs.specs.Program.{program_of}
-use Rattle.point_allowances.specs.Allowances.{allowances_of}
+use Rattle.object_check.specs.Allowances.{allowances_of}
 use Rattle.x86_decode.specs.Decoding.{OneOutcome}
 use Rattle.object_check.specs.Counts.{IsCounted}
 use Rattle.object_check.specs.Order.{IsCheckable}

@@ -23,19 +23,19 @@ use Rattle.command_base.specs.Writing.{StopsAtWrite}
 use Rattle.cli_words.specs.declared.options.CheckOptions.{CheckOptions}
 use Rattle.objtool_cli.specs.Words.{Meaning, entry_options}
 use Rattle.cli_words.specs.Grammar.{Command, cfa, cfi, check, demo, dump, entry, find, help, list, merge, sites, unwind, version}
-use Rattle.site_commands.proofs.ListLaws.{list_no_usage}
-use Rattle.site_commands.proofs.SitesLaws.{sites_no_usage}
-use Rattle.frame_commands.proofs.CfaLaws.{cfa_no_usage}
+use Rattle.object_commands.proofs.ListLaws.{list_no_usage}
+use Rattle.object_commands.proofs.SitesLaws.{sites_no_usage}
+use Rattle.object_commands.proofs.CfaLaws.{cfa_no_usage}
 use Rattle.entry_rules.specs.declared.options.EntryOptions.{EntryOptions}
-use Rattle.entry_command.specs.Entry as entering
-use Rattle.entry_command.specs.Entry.{EndsEntry, IsUncheckable, StopsEntry}
-use Rattle.frame_commands.specs.Cfi as framing
-use Rattle.frame_commands.specs.Cfi.{EndsCfi, GetNoFrames, IsUnchecked, StopsCfi}
+use Rattle.object_commands.specs.Entry as entering
+use Rattle.object_commands.specs.Entry.{EndsEntry, IsUncheckable, StopsEntry}
+use Rattle.object_commands.specs.Cfi as framing
+use Rattle.object_commands.specs.Cfi.{EndsCfi, GetNoFrames, IsUnchecked, StopsCfi}
 use Rattle.elf_objects.specs.Elf.{Elf}
 use Rattle.ot_base.specs.NameLists.{NameLists}
 use Rattle.x86_map.specs.declared.map.Map.{Map}
-use Rattle.merge_command.proofs.MergeLaws.{merge_no_usage}
-use Rattle.merge_command.proofs.FindLaws.{find_no_usage}
+use Rattle.object_commands.proofs.MergeLaws.{merge_no_usage}
+use Rattle.object_commands.proofs.FindLaws.{find_no_usage}
 
 not_usage : (end : Status) (text : List ℕ) (before after : Output) (x : Status) → Prints end text before after x → end ≢ status.Usage → x ≢ status.Usage
 not_usage end text before after x (whole at all) other e = other (sym at ∙ e)

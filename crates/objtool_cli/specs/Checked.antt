@@ -16,7 +16,7 @@ use Rattle.machine_defs.specs.Asked.{IsWarned}
 use Rattle.machine_defs.specs.Program.{Program}
 use Rattle.flow_defs.specs.Coded.{Coded, coded_by}
 use Rattle.flow_defs.specs.Program.{program_of}
-use Rattle.point_allowances.specs.Allowances.{allowances_of}
+use Rattle.object_check.specs.Allowances.{allowances_of}
 use Rattle.object_check.specs.Order.{IsCheckable, IsCheckFault}
 use Rattle.object_check.specs.Outcome.{AreWarnings, HasRows, IsUnbroken}
 use Rattle.object_check.specs.declared.fault.CheckFault.TheVariants as fault

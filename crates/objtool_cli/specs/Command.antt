@@ -30,13 +30,13 @@ use Rattle.command_base.specs.Warnings.{warnings_text}
 use Rattle.cli_words.specs.declared.options.EntryRules.{EntryRules}
 use Rattle.objtool_cli.specs.Words.{Meaning, entry_options}
 use Rattle.command_base.specs.Writing.{StopsAtWrite}
-use Rattle.site_commands.specs.Sites.{EndsSites, SitesMayChange}
-use Rattle.site_commands.specs.List.{EndsList}
-use Rattle.entry_command.specs.Entry.{EndsEntry, PrintsEntryWarnings}
-use Rattle.frame_commands.specs.Cfi.{CfiMayChange, EndsCfi, TellsWarnings}
-use Rattle.frame_commands.specs.Cfa.{EndsCfa}
-use Rattle.merge_command.specs.Merge.{EndsMerge, MayBeMerged}
-use Rattle.merge_command.specs.Find.{EndsFind}
+use Rattle.object_commands.specs.Sites.{EndsSites, SitesMayChange}
+use Rattle.object_commands.specs.List.{EndsList}
+use Rattle.object_commands.specs.Entry.{EndsEntry, PrintsEntryWarnings}
+use Rattle.object_commands.specs.Cfi.{CfiMayChange, EndsCfi, TellsWarnings}
+use Rattle.object_commands.specs.Cfa.{EndsCfa}
+use Rattle.object_commands.specs.Merge.{EndsMerge, MayBeMerged}
+use Rattle.object_commands.specs.Find.{EndsFind}
 
 -- The file of this name may read as these bytes, and these are the lists of names of the names file, or the built-in ones
 -- where none is given.

@@ -20,10 +20,10 @@ use Rattle.command_base.specs.Reading.{IsUnreadable}
 use Rattle.command_base.specs.Refusing.{Tells}
 use Rattle.command_base.specs.Unwind.{HasNoWalk}
 use Rattle.objtool_cli.specs.Checked.{IsUncheckable, Refuses}
-use Rattle.site_commands.specs.Refused.{RefusesList, RefusesSites}
-use Rattle.entry_command.specs.Refused.{RefusesEntry}
-use Rattle.frame_commands.specs.Refused.{RefusesCfa, RefusesCfi}
-use Rattle.merge_command.specs.Refused.{RefusesFind, RefusesMerge}
+use Rattle.object_commands.specs.SitesRefused.{RefusesList, RefusesSites}
+use Rattle.object_commands.specs.EntryRefused.{RefusesEntry}
+use Rattle.object_commands.specs.FramesRefused.{RefusesCfa, RefusesCfi}
+use Rattle.object_commands.specs.MergeRefused.{RefusesFind, RefusesMerge}
 use Rattle.objtool_cli.specs.Summary.{demo_bytes, no_options}
 use Rattle.objtool_cli.specs.Words.{Meaning}
 

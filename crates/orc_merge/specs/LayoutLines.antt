@@ -3,9 +3,9 @@ use Rattle.std.specs.Prelude.{ℕ, ◌==◌, ◌&&◌, List, length, Option, Som
 use Rattle.std.specs.Option.{ok_or}
 use Rattle.std.specs.Str.{bytes_eq}
 use Rattle.ot_base.specs.NamesFile.{says_nothing, is_name}
-use Rattle.stack_image.specs.Lines.{words, word}
-use Rattle.stack_image.specs.Numbers.{hexadecimal, decimal}
-use Rattle.stack_image.specs.Statements.{◌>>=◌}
+use Rattle.orc_walk.specs.Lines.{words, word}
+use Rattle.orc_walk.specs.Numbers.{hexadecimal, decimal}
+use Rattle.orc_walk.specs.Statements.{◌>>=◌}
 use Rattle.orc_merge.specs.declared.faults.LayoutWhy.{LayoutWhy}
 use Rattle.orc_merge.specs.declared.faults.LayoutWhy.TheVariants.{Word, Number}
 

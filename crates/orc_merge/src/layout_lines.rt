@@ -3,7 +3,7 @@
 ghost use Rattle.std.specs.Prelude.{◌≡◌, ◌<◌, ◌==◌, IfOk, None, Some, length, map, option_map, string_bytes, if◌then◌else◌};
 ghost use Rattle.std.specs.List.{list_all};
 ghost use Rattle.ot_base.specs.NamesFile.{is_name, is_name_byte, lines, says_nothing};
-ghost use Rattle.stack_image.specs.Lines.{words};
+ghost use Rattle.orc_walk.specs.Lines.{words};
 ghost use Rattle.orc_merge.specs.LayoutLines.{file_said, place_said, said, words_said};
 ghost use Rattle.orc_merge.specs.LayoutReading.{IsReadAs, said_by};
 

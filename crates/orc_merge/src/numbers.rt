@@ -4,7 +4,7 @@ ghost use Rattle.std.specs.Prelude.{◌≡◌, ◌<◌, ◌≤◌, All, length};
 ghost use Rattle.std.specs.Char.{digit_value};
 ghost use Rattle.std.specs.List.{list_all};
 ghost use Rattle.std.specs.Str.Parse.{digits_value};
-ghost use Rattle.stack_image.specs.Numbers.{decimal, hexadecimal, is_decimal_digit, is_hexadecimal_digit, is_numeral};
+ghost use Rattle.orc_walk.specs.Numbers.{decimal, hexadecimal, is_decimal_digit, is_hexadecimal_digit, is_numeral};
 
 /// Whether the byte is a decimal digit.
 fn is_decimal_digit(byte: u8) -> bool
@@ -71,7 +71,7 @@ fn is_decimal(word: &[u8]) -> bool
 }
 
 /// The number that a word of 1 to 16 lower-case hexadecimal digits writes.
-#[tactic(auto, unfolding(stack_image::specs::Numbers::hexadecimal))]
+#[tactic(auto, unfolding(orc_walk::specs::Numbers::hexadecimal))]
 pub(crate) fn hexadecimal(word: &[u8]) -> Option<u64>
     ensures { result ≡ hexadecimal word.now }
 {
@@ -83,7 +83,7 @@ pub(crate) fn hexadecimal(word: &[u8]) -> Option<u64>
 }
 
 /// The number below 2^32 that a word of 1 to 10 decimal digits writes.
-#[tactic(auto, unfolding(stack_image::specs::Numbers::decimal))]
+#[tactic(auto, unfolding(orc_walk::specs::Numbers::decimal))]
 pub(crate) fn decimal(word: &[u8]) -> Option<u32>
     ensures { result ≡ decimal word.now }
 {

@@ -9,3 +9,9 @@ pub mod Values
 pub mod Placing
 pub mod Pieces
 pub mod WalkSteps
+pub mod LineLemmas
+pub mod NumberLemmas
+pub mod PieceLemmas
+pub mod SayingLemmas
+pub mod ImageLemmas
+pub mod ByteLemmas

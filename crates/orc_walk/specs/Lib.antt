@@ -8,3 +8,10 @@ pub mod Layout
 pub mod FaultText
 pub mod Memory
 pub mod Walked
+pub mod Lines
+pub mod Numbers
+pub mod Statements
+pub mod ImageFile
+pub mod Reading
+pub mod ImageFaultText
+pub mod ImageLaws

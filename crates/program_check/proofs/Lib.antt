@@ -13,3 +13,9 @@ pub mod Joined
 pub mod Empty
 pub mod Sums
 pub mod SomeAccepted
+pub mod WaySets
+pub mod Finding
+pub mod Following
+pub mod AllWarnings
+pub mod Tracked
+pub mod OptionSums

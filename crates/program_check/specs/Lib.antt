@@ -5,3 +5,12 @@ pub mod Ends
 pub mod Checkable
 pub mod Asked
 pub mod Verdict
+pub mod Branches
+pub mod Ways
+pub mod Tracks
+pub mod Search
+pub mod Exits
+pub mod PointWarns
+pub mod Allows
+pub mod AskedRules
+pub mod OptionVerdict

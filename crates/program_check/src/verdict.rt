@@ -33,7 +33,7 @@ pub enum StackVerdict {
 /// # Errors
 ///
 /// [`NoMemory`] may come at any program.
-pub fn check(
+pub fn check_stack(
     alloc: Global,
     graph: Graph,
     kept: Kept,

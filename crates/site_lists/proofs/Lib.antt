@@ -5,3 +5,12 @@ pub mod Excluded
 pub mod Held
 pub mod Coded
 pub mod Nameable
+pub mod OutputNameable
+pub mod NeededSections
+pub mod OutputSlots
+pub mod FileRoom
+pub mod Addable
+pub mod OutputHeld
+pub mod Insertable
+pub mod Written
+pub mod NoSites

@@ -5,3 +5,6 @@ pub mod Parts
 pub mod FaultText
 pub mod Sites
 pub mod Laws
+pub mod SiteOutput
+pub mod Needed
+pub mod Tables

@@ -4,17 +4,26 @@
 
 mod bodies;
 mod code_sites;
+mod existing;
 mod fault;
 mod fault_text;
 mod laws;
 mod lists;
+mod needed;
+mod output;
 mod reading;
 mod relocs;
+mod sections;
+mod tables;
 
 pub use bodies::{SiteSection, SiteSections, encode};
 pub use code_sites::sites;
+pub use existing::first_site_section;
 pub use fault::SitesFault;
 pub use laws::{bodies_are_held, lists_are_determined};
 pub use lists::SiteLists;
 pub use orc_bytes::SlotWhy;
+pub use orc_output::TableFault;
+pub use output::with_lists;
 pub use reading::decode;
+pub use tables::with_sites;

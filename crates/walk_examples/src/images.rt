@@ -1,6 +1,6 @@
 //! Images of worked examples, and texts that are none.
 
-use stack_image::{Image, ImageFault, ImageWhy, Regs};
+use orc_walk::{Image, ImageFault, ImageWhy, Regs};
 use std::process::Abort;
 use std::test::Fail;
 

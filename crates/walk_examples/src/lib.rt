@@ -1,4 +1,4 @@
-//! Tests of `orc_bytes`, `orc_walk` and `stack_image`: tables, their bytes, stacks and walks.
+//! Tests of `orc_bytes`, `orc_walk` and `orc_walk`: tables, their bytes, stacks and walks.
 #![tactic(auto)]
 
 #[cfg(test)]

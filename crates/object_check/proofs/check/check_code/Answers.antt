@@ -1,6 +1,6 @@
 use Rattle.std.proofs.lemmas.Result.{IfOk-weaker}
 use Rattle.flow_defs.specs.Program.{program_of}
-use Rattle.point_allowances.specs.Allowances.{allowances_of}
+use Rattle.object_check.specs.Allowances.{allowances_of}
 use Rattle.object_check.specs.Code.{CanHaveRows, IsFound}
 use Rattle.object_check.specs.Outcome.{OnAccepted}
 use Rattle.object_check.specs.Promises.{KeepsPromises}

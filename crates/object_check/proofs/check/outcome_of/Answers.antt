@@ -1,7 +1,7 @@
 use Rattle.std.proofs.Common.{option_copied, refl, subst}
 use Rattle.machine_defs.specs.Program.{Program}
 use Rattle.machine_defs.specs.Allowances.{Allowances}
-use Rattle.option_rules.specs.Verdict.{IsVerdict}
+use Rattle.program_check.specs.OptionVerdict.{IsVerdict}
 use Rattle.object_check.proofs.Verdicts.{accepted, can_ask, can_check, refused}
 use Rattle.object_check.proofs.check.outcome_of.Goals as goal
 

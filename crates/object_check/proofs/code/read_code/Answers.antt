@@ -4,7 +4,7 @@ use Rattle.flow_defs.specs.Coded.{Coded, coded_by}
 use Rattle.program_graph.specs.Tells.{Tells}
 use Rattle.flow_defs.specs.Faults.{IsFirstFlowFault, flow_faults}
 use Rattle.flow_defs.specs.Program.{program_of}
-use Rattle.point_allowances.specs.Allowances.{allowances_of}
+use Rattle.object_check.specs.Allowances.{allowances_of}
 use Rattle.object_law.specs.Flows.{ObjectIsInOrder}
 use Rattle.object_check.specs.Code.{no_memory}
 use Rattle.object_check.specs.Counts.{IsCounted}

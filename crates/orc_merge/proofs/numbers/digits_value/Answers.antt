@@ -2,7 +2,7 @@ use Rattle.std.proofs.Common.{◌+◌, ◌*◌, ◌^◌, ◌<◌, get_or, take, 
 use Rattle.std.specs.Str.Parse.{digits_value}
 use Rattle.std.specs.Char.{digit_value}
 use Rattle.std.proofs.lemmas.Int.Digits.{digits_value_more}
-use Rattle.stack_image.proofs.NumberLemmas.{below_more, product_fits, sum_fits}
+use Rattle.orc_walk.proofs.NumberLemmas.{below_more, product_fits, sum_fits}
 use Rattle.orc_merge.proofs.numbers.digits_value.Goals as goal
 
 pub overflow_mul-value : goal.overflow_mul-value

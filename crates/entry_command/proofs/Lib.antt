@@ -1,4 +1,0 @@
-pub mod Empty
-pub mod Uncheckable
-pub mod EntryEnds
-pub mod EntryLaws

@@ -1,2 +1,0 @@
-pub mod FrameOutput
-pub mod Framed

@@ -1,0 +1,41 @@
+//! The table of what is allowed at an object's points and symbols.
+
+ghost use Rattle.std.specs.Prelude.{length, IfOk};
+ghost use Rattle.program_check.specs.Allows.{Allows};
+ghost use Rattle.flow_defs.specs.Code.{points_of_object};
+ghost use Rattle.flow_defs.specs.Program.{program_of};
+ghost use Rattle.object_check.specs.Allowances.{allowances_of};
+
+use crate::branches::list_safe_branches;
+use crate::names::list_safe_names;
+use crate::smap::list_lacking_smap;
+use object_code::Linked;
+use object_points::PointPlaces;
+use program_check::AllowanceTable;
+use ot_base::{Lists, NoMemory};
+use std::alloc::Global;
+
+/// What an object whose code is read, and lists of names, allow at the points of its program and at its symbols.
+///
+/// The table takes 2 bytes a point and 1 a symbol. The place of each point is looked up among those that are listed as safe,
+/// where it runs among the alternatives sites, and the name of each symbol in the lists.
+///
+/// # Errors
+///
+/// [`NoMemory`] may come at any object.
+pub fn table_of(
+    alloc: Global,
+    linked: &Linked<'_, '_>,
+    lists: &Lists,
+) -> Result<AllowanceTable, NoMemory>
+    ensures points { IfOk result (λ table. Allows (allowances_of linked.now lists.now) table (length (points_of_object linked.now))) }
+    ensures program { IfOk result (λ table. Allows (allowances_of linked.now lists.now) table (program_of linked.now lists.now).count) }
+{
+    let places = PointPlaces::build(alloc, linked)?;
+    Ok(AllowanceTable {
+        safe_branches: list_safe_branches(alloc, &places)?,
+        lacking_smap: list_lacking_smap(alloc, &places)?,
+        safe_names: list_safe_names(alloc, linked.object(), lists)?,
+        empty_is_safe: lists.access_safe(&[]),
+    })
+}

@@ -1,0 +1,40 @@
+//! The commands that add to an object what a table or a list tells of its code, or read it back: `sites` and `list`, `cfi` and `cfa`, `merge`
+//! and `find`; and `entry`, which checks the code against the rules on entry code.
+#![tactic(auto)]
+
+mod entry_answering;
+mod entry_checking;
+mod entry_finding;
+mod entry_words;
+mod finding;
+mod frames_adding;
+mod frames_checking;
+mod frames_room;
+mod frames_telling;
+mod frames_words;
+mod frames_writing;
+mod layouts;
+mod merge_laws;
+mod merged_objects;
+mod merging;
+mod rule_line;
+mod sites_adding;
+mod sites_code;
+mod sites_listing;
+mod sites_room;
+mod sites_text;
+mod sites_words;
+mod sites_writing;
+
+pub use entry_checking::entry;
+pub use entry_words::EntryAsked;
+pub use finding::find;
+pub use frames_adding::cfi;
+pub use frames_telling::cfa;
+pub use frames_words::CfiAsked;
+pub use layouts::{MAX_LAYOUT_BYTES, MOST_FILES};
+pub use merge_laws::merged_rows_are_found;
+pub use merging::merge;
+pub use sites_adding::sites;
+pub use sites_listing::list;
+pub use sites_words::SitesAsked;

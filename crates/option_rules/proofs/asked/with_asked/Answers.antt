@@ -1,8 +1,0 @@
--- Putting them in order leaves the warnings that there are.
-use Rattle.option_rules.specs.AskedRules.{AskedWarns}
-use Rattle.option_rules.proofs.Sums.{gains_sorted}
-use Rattle.option_rules.proofs.asked.with_asked.Goals as goal
-
-pub returns-clause-gains : goal.returns-clause-gains
-returns-clause-gains c p allowed t =
-    gains_sorted c.args.warnings.items c.push_asked.new.warnings.items c.sort_warnings.new.warnings.items (AskedWarns p allowed c.args.options) (c.in_ok-push_asked.ensures p allowed t) c.sort_warnings.ensures.members

@@ -1,9 +1,0 @@
-pub mod Branches
-pub mod Ways
-pub mod Tracks
-pub mod Search
-pub mod Exits
-pub mod PointWarns
-pub mod Allows
-pub mod AskedRules
-pub mod Verdict

@@ -1,3 +1,0 @@
-pub mod Allowances
-pub mod Flags
-pub mod SmapSites

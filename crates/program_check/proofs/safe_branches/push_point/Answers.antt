@@ -1,0 +1,11 @@
+-- One rule after the other.
+use Rattle.std.proofs.Common.{ap}
+use Rattle.std.proofs.lemmas.Result.{on_ok_weaker}
+use Rattle.ot_base.specs.Warnings.{bare_warning}
+use Rattle.stack_rules.proofs.GainsLemmas.{gains_both, gains_for}
+use Rattle.program_check.proofs.safe_branches.push_point.Goals as goal
+
+pub returns : goal.returns
+returns c = on_ok_weaker c.push_if-2.result (λ h p allowed t a.
+    gains_both _ _ _ _ _ (gains_for _ _ _ _ _ _ (ap (λ place. bare_warning place 31) (c.place-place.ensures p t)) (c.is_unsafe_branch-is_branch.ensures p allowed t a) c.in_ok-push_if.ensures)
+    (gains_for _ _ _ _ _ _ (ap (λ place. bare_warning place 32) (c.place-place.ensures p t)) (c.is_unsafe_return-is_return.ensures p allowed t a) h)) c.push_if-2.ensures

@@ -1,4 +1,0 @@
-pub mod Order
-pub mod Sites
-pub mod Refused
-pub mod List

@@ -1,9 +1,0 @@
-pub mod Nameable
-pub mod NeededSections
-pub mod Slots
-pub mod FileRoom
-pub mod Addable
-pub mod Held
-pub mod Insertable
-pub mod Written
-pub mod NoSites

@@ -1,3 +1,0 @@
-pub mod SiteOutput
-pub mod Needed
-pub mod Tables

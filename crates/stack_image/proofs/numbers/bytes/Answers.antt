@@ -1,6 +1,0 @@
-use Rattle.std.proofs.Common.{sym}
-use Rattle.stack_image.proofs.NumberLemmas.{written_bytes}
-use Rattle.stack_image.proofs.numbers.bytes.Goals as goal
-
-pub returns-then-are_hexadecimal_digits-clause-not_empty : goal.returns-then-are_hexadecimal_digits-clause-not_empty
-returns-then-are_hexadecimal_digits-clause-not_empty c = written_bytes c.args.word.now c.decoded.result (sym c.if-not-is_empty.ensures) c.decoded.ensures

@@ -1,5 +1,0 @@
-use Rattle.stack_image.proofs.SayingLemmas.{adds_nothing}
-use Rattle.stack_image.proofs.reading.Reading.add.Goals as goal
-
-pub returns-in-Nothing-clause-adds : goal.returns-in-Nothing-clause-adds
-returns-in-Nothing-clause-adds c = λ earlier is. adds_nothing earlier c.args.self.now c.args.statement is c.in-Nothing.is

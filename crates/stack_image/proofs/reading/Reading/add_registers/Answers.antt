@@ -1,8 +1,0 @@
-use Rattle.std.proofs.Common.{sym, ◌∙◌}
-use Rattle.stack_image.proofs.SayingLemmas.{registers_fit, holds_registers}
-use Rattle.stack_image.proofs.reading.Reading.add_registers.Goals as goal
-
-pub returns-clause-adds : goal.returns-clause-adds
-returns-clause-adds c = λ earlier is.
-    let none = sym c.is_some.ensures ∙ c.if-is_some.false in
-    (registers_fit earlier c.args.self.now c.args.regs is none, holds_registers earlier c.args.self.now c.args.regs is none)
