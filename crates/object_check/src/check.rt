@@ -29,8 +29,8 @@ use object_law::flow_laws::{program_is_laid_out, program_is_one};
 use object_law::object_laws::{object_unwinds, plain_points_ascend, rows_are_rows_of};
 use object_law::symbol_laws::rows_are_named;
 use option_law::laws::{access_is_kept, branches_are_safe, calls_have_frames};
-use program_check::{AllowanceTable, OptionVerdict, check};
 use ot_base::{Lists, NoMemory, Options};
+use program_check::{AllowanceTable, OptionVerdict, check};
 use program_graph::Graph;
 use std::alloc::Global;
 

@@ -1,22 +1,28 @@
 //! The code of an object: its control-flow graph, what is allowed at its points, and how much there is.
 
 ghost use Rattle.std.specs.Prelude.{◌≡◌, ◌≤◌, IfErr, IfOk, length};
-ghost use Rattle.flow_defs.specs.Coded.{coded_by};
+ghost use Rattle.ot_base.specs.NameLists.{NameLists};
+ghost use Rattle.ot_base.specs.declared.options.Options.{Options as OptionsValue};
+ghost use Rattle.flow_defs.specs.Coded.{Coded, coded_by};
 ghost use Rattle.flow_defs.specs.Program.{program_of};
 ghost use Rattle.program_check.specs.AskedRules.{IsEnough, needs_allowances as need_allowances};
 ghost use Rattle.object_check.specs.Allowances.{allowances_of};
 ghost use Rattle.elf_objects.specs.declared.TheConstants.{MAX_FILE_BYTES as most_bytes};
+ghost use Rattle.machine_defs.specs.Kept.{AreKeptStates};
+ghost use Rattle.kept_states.specs.LevelStates.{at};
 ghost use Rattle.object_check.specs.Code.{IsCodeFault, IsCodeOf};
 ghost use Rattle.object_check.specs.Ready.{IsTableOf};
 
 use crate::counts::{CodeCounts, count_code};
 use crate::fault::CodeFault;
+use crate::table_of;
 use control_flow::{flow, object_is_in_order};
 use elf_objects::Object;
+use kept_states::{Kept, Scratch, spread};
 use object_code::{Linked, Map};
-use program_check::AllowanceTable;
+use object_law::flow_laws::{program_is_laid_out, program_is_one};
 use ot_base::{Lists, NoMemory, Options};
-use crate::table_of;
+use program_check::AllowanceTable;
 use program_graph::Graph;
 use std::alloc::Global;
 
@@ -29,6 +35,15 @@ pub struct ReadCode {
     pub(crate) table: Option<AllowanceTable>,
     /// How much code there is.
     pub(crate) counts: CodeCounts,
+}
+
+impl ReadCode {
+    /// The control-flow graph of the object's program.
+    pub fn graph(&self) -> &Graph
+        ensures { result.now.parts ≡ self.now.graph.parts }
+    {
+        &self.graph
+    }
 }
 
 /// Whether the options ask for a rule that looks at what is allowed.
@@ -83,4 +98,19 @@ pub fn read_code(
         table,
         counts,
     })
+}
+
+/// The states that a checker keeps for the points of an object's program.
+///
+/// # Errors
+///
+/// [`NoMemory`] may come at any object.
+pub fn states_of(alloc: Global, code: &ReadCode) -> Result<Kept, NoMemory>
+    ensures points { IfOk result (λ kept. length kept ≡ length code.now.graph.parts.points.items) }
+    ensures kept { (o : Coded) (lists : NameLists) (options : OptionsValue) → IsCodeOf o lists options code.now → IfOk result (λ kept. AreKeptStates (program_of o lists) (at kept)) }
+{
+    program_is_one();
+    program_is_laid_out();
+    let scratch = Scratch::reserve(alloc, code.graph.points())?;
+    Ok(spread(&code.graph, scratch))
 }

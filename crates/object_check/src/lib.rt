@@ -16,7 +16,7 @@ mod smap;
 mod table;
 
 pub use check::{check_code, check_object};
-pub use code::{ReadCode, read_code};
+pub use code::{ReadCode, read_code, states_of};
 pub use counts::CodeCounts;
 pub use fault::{CheckFault, CodeFault};
 pub use object_code::Map;

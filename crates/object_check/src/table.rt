@@ -11,8 +11,8 @@ use crate::names::list_safe_names;
 use crate::smap::list_lacking_smap;
 use object_code::Linked;
 use object_points::PointPlaces;
-use program_check::AllowanceTable;
 use ot_base::{Lists, NoMemory};
+use program_check::AllowanceTable;
 use std::alloc::Global;
 
 /// What an object whose code is read, and lists of names, allow at the points of its program and at its symbols.

@@ -9,8 +9,8 @@ ghost use Rattle.object_commands.specs.Cfi.{IsUnchecked};
 ghost use Rattle.object_commands.specs.FramesOrder.{most_sections};
 
 use command_base::{CommandStop, Refusal};
-use elf_objects::{Counted, MAX_SECTIONS, Object};
 use eh_frame::first_frame_section;
+use elf_objects::{Counted, MAX_SECTIONS, Object};
 
 /// Checks that an object whose code is in order has no frame section yet, and room for two, or tells why a command stops whose object
 /// hasn't.

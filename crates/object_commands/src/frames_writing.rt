@@ -7,9 +7,8 @@ ghost use Rattle.orc_output.specs.Tables.{symbols_needed};
 ghost use Rattle.object_commands.specs.Written.{IsCrowded, TellsRows};
 
 use command_base::{CommandStop, Refusal};
-use eh_frame::rows_are_read_back;
+use eh_frame::{TableFault, rows_are_read_back, with_frames};
 use elf_objects::{Counted, Object};
-use eh_frame::{TableFault, with_frames};
 use ot_base::PlacedRow;
 use std::alloc::Global;
 

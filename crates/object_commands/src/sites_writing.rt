@@ -12,8 +12,7 @@ use crate::sites_room::check_room;
 use command_base::{CommandStop, Refusal};
 use elf_objects::{Counted, Object};
 use orc_output::TableFault;
-use site_lists::lists_are_determined;
-use site_lists::with_sites;
+use site_lists::{lists_are_determined, with_sites};
 use std::alloc::Global;
 use x86_map::Map;
 

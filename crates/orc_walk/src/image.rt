@@ -3,10 +3,10 @@
 ghost use Rattle.std.specs.Prelude.{◌≡◌, IfOk, IfErr};
 ghost use Rattle.orc_walk.specs.ImageFile.{IsImage, IsImageFault};
 
+use crate::Memory;
 use crate::image_fault::ImageFault;
 use crate::lines::lines_of;
 use crate::reading::Reading;
-use crate::Memory;
 use std::alloc::Global;
 use std::marker::Model;
 use table_defs::Regs;

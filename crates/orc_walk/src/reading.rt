@@ -5,11 +5,11 @@ ghost use Rattle.orc_walk.specs.ImageFile.{sayings};
 ghost use Rattle.orc_walk.specs.Statements.{Said, memory, place, registers};
 ghost use Rattle.orc_walk.specs.Reading.{Adds, Finishes, HasBytes, Holds, IsSound, ReadsLine, said_by};
 
-use crate::image_fault::{ImageFault, ImageWhy, LineFault};
+use crate::Memory;
 use crate::image::Image;
+use crate::image_fault::{ImageFault, ImageWhy, LineFault};
 use crate::ranges::{add_piece, piece_fault};
 use crate::statements::{Statement, read_line};
-use crate::Memory;
 use std::alloc::Global;
 use std::collections::{BTreeMap, BTreeSet};
 use table_defs::Regs;

@@ -8,10 +8,10 @@ ghost use Rattle.program_check.specs.OptionVerdict.{IsAskable, IsUnbroken, IsVer
 
 use crate::AllowanceTable;
 use crate::asked::with_asked;
-use kept_states::Kept;
-use ot_base::{NoMemory, Options, Warning};
 use crate::checked::Checked;
 use crate::verdict::{StackVerdict, check_stack};
+use kept_states::Kept;
+use ot_base::{NoMemory, Options, Warning};
 use program_graph::Graph;
 use std::alloc::Global;
 

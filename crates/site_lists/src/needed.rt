@@ -4,10 +4,10 @@ ghost use Rattle.std.specs.Prelude.{◌≡◌, ◌<◌, ◌||◌, All, Bool, IfO
 ghost use Rattle.site_lists.specs.Listed.{listed};
 ghost use Rattle.site_lists.specs.Needed.{has_place, is_listed, needed_symbols as needed_by};
 
+use crate::SiteLists;
 use elf_objects::Object;
 use orc_output::symbols::unnamed_sections;
 use ot_base::{NoMemory, Place};
-use crate::SiteLists;
 use std::alloc::Global;
 
 /// Marks each section in which a list has a place.

@@ -8,10 +8,10 @@ ghost use Rattle.site_lists.specs.Sections.{HoldsSites};
 ghost use Rattle.site_lists.specs.SiteOutput.{CanHaveLists, site_sections, with_lists_object};
 
 use crate::sections::{list_section, rela_section};
+use crate::{SiteLists, SiteSections, encode};
 use elf_objects::Object;
 use elf_write::append;
 use ot_base::NoMemory;
-use crate::{SiteLists, SiteSections, encode};
 use std::alloc::Global;
 
 /// The file of an object with these site lists behind its own sections: `.retpoline_sites`, `.return_sites` and `.call_sites`,

@@ -7,12 +7,11 @@ ghost use Rattle.site_lists.specs.Needed.{needed_symbols as needed_by};
 ghost use Rattle.site_lists.specs.Tables.{CanHaveSites, HasSites, IsFit, IsSiteFault, symbols_needed};
 
 use crate::needed::needed_symbols;
-use crate::with_lists;
+use crate::{SiteLists, with_lists};
 use elf_objects::{MAX_SYMBOLS, Object};
 use orc_output::TableFault;
 use orc_output::symbols::{are_bytes, insert_symbols, read_object};
 use ot_base::NoMemory;
-use crate::SiteLists;
 use std::alloc::Global;
 
 /// The file of an object with these site lists behind its own sections.
