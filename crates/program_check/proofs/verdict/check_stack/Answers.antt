@@ -2,7 +2,7 @@
 use Rattle.std.specs.Prelude.{refl}
 use Rattle.program_check.proofs.Empty.{is_empty, is_longer}
 use Rattle.program_check.proofs.Sums.{nothing_accepts, none_is_broken}
-use Rattle.program_check.proofs.verdict.check.Goals as goal
+use Rattle.program_check.proofs.verdict.check_stack.Goals as goal
 
 pub new-requires-clause-accepted : goal.new-requires-clause-accepted
 new-requires-clause-accepted c =
