@@ -1,5 +1,5 @@
 //! What options ask for. By these rules no run's stack goes wrong; runs that break what `--fp` promises of calls are
-//! in `option_examples`.
+//! in `checker_tests`.
 
 use crate::case::{Broken, End};
 use crate::expect::expect_broken;

@@ -1,0 +1,15 @@
+//! What is read of functions and branches.
+
+use crate::readers::symbol_objects::{Row, object};
+use elf_objects::{
+    Home, Object, Reloc, STB_GLOBAL, STB_LOCAL, STB_WEAK, STT_FUNC, STT_NOTYPE, STT_OBJECT,
+    STT_SECTION,
+};
+use operation_defs::{Insn, Op};
+use ot_base::{NoMemory, Place};
+use std::alloc::Global;
+use std::test::Fail;
+use symbols_relocs::{Function, Index, IndexFault, Target};
+
+mod functions;
+mod targets;

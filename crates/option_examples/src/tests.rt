@@ -1,9 +1,0 @@
-mod branches;
-mod calls;
-mod case;
-mod expect;
-mod frames;
-mod free_calls;
-mod harmless;
-mod leaving;
-mod turning;

@@ -1,7 +1,0 @@
-use Rattle.std.proofs.Common.{ℕ, ◌<◌, get_or}
-use Rattle.ot_base.specs.declared.row.PlacedRow.{PlacedRow}
-use Rattle.orc_walk.specs.Table.{IsWithin}
-use Rattle.walk_examples.proofs.made.place.Given as goal
-
-abbrev pub invariant-loop-placed : goal.invariant-loop-placed
-invariant-loop-placed g l = (k : ℕ) → k < l.placed-index → (d : PlacedRow) → IsWithin l.ranges (get_or l.rows k d)
