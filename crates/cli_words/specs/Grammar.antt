@@ -15,7 +15,7 @@ use Rattle.cli_words.specs.declared.fault.UsageFault.TheVariants as fault
 use Rattle.cli_words.specs.declared.command.Command as declared
 use Rattle.cli_words.specs.declared.command.Command.TheVariants as variant
 use Rattle.cli_words.specs.Numbers.{address_of, number_of}
-use Rattle.cli_words.specs.Words.{Word, command_named, gives, is_option, is_option_of, is_same_option, names_file, names_in, places_of}
+use Rattle.cli_words.specs.Words.{Word, command_named, function_name, gives, is_option, is_option_of, is_same_option, names_file, names_in, places_of}
 
 -- a command, with the names of its files
 pub data Command : Type 0 where
@@ -29,6 +29,7 @@ pub data Command : Type 0 where
   cfa : (file : Word) → Command
   merge : (layout output : Word) → Command
   find : (table : Word) (address : ℕ) → Command
+  show : (input : Word) (function : Option Word) (map : Map) (names : Option Word) → Command
   demo : (n : ℕ) → Command
   help : Command
   version : Command
@@ -45,6 +46,7 @@ command_in (variant.Cfi input output map names) = cfi (string_bytes input) (stri
 command_in (variant.Cfa file) = cfa (string_bytes file)
 command_in (variant.Merge layout output) = merge (string_bytes layout) (string_bytes output)
 command_in (variant.Find table address) = find (string_bytes table) address
+command_in (variant.Show input function map names) = show (string_bytes input) (option_map string_bytes function) map (option_map string_bytes names)
 command_in (variant.Demo n) = demo n
 command_in variant.Help = help
 command_in variant.Version = version
@@ -55,7 +57,7 @@ abbrev pub option_fault : CommandWord → List Word → Word → Option UsageKin
 option_fault command before word =
     if not (is_option_of command word) then Some UnknownOption
     else if list_any (is_same_option word) before then Some Repeated
-    else if bytes_eq word (codes "--names=") then Some Empty
+    else if bytes_eq word (codes "--names=") || bytes_eq word (codes "--function=") then Some Empty
     else None
 
 -- `demo` asks for a number, and `find` for an address behind the name of a table; places are counted from 0
@@ -101,7 +103,7 @@ map_in words = if gives (codes "--all-opcodes") words then Whole else Base
 
 -- what the options of `check` ask for
 abbrev pub options_in : List Word → CheckOptions
-options_in words = record { map = map_in words; rules = rules_in words }
+options_in words = record { map = map_in words; rules = rules_in words; backtrace = gives (codes "--backtrace") words }
 
 -- the entry rules that the options of `entry` ask for
 abbrev pub entry_rules_in : List Word → EntryRules
@@ -123,6 +125,7 @@ asked the.Cfi (input ∷ output ∷ []) words = Some (cfi input output (map_in w
 asked the.Cfa (file ∷ []) words = Some (cfa file)
 asked the.Merge (layout ∷ output ∷ []) words = Some (merge layout output)
 asked the.Find (table ∷ address ∷ []) words = option_map (find table) (address_of address)
+asked the.Show (input ∷ []) words = Some (show input (function_name words) (map_in words) (names_file words))
 asked the.Demo (n ∷ []) words = option_map demo (number_of n)
 asked command names words = None
 

@@ -38,7 +38,7 @@ fn option_fault(command: CommandWord, before: &[String], word: &str) -> Option<U
         Some(UsageKind::UnknownOption)
     } else if is_given(before, word) {
         Some(UsageKind::Repeated)
-    } else if word == "--names=" {
+    } else if word == "--names=" || word == "--function=" {
         Some(UsageKind::Empty)
     } else {
         None
