@@ -2,7 +2,7 @@
 
 ghost use Rattle.std.specs.Prelude.{◌≡◌, IfOk, codes, true};
 ghost use Rattle.clap.specs.Words.{App, app_of, with_rule, with_subcommand};
-ghost use Rattle.cli_matches.specs.Definition.{Makes, check_app, command_app, demo_app, entry_app, file_app, find_app, line_app, merge_app, names_rule, place_rule, program_app, rewriting_app, switch_rule, text_rule, unwind_app, with_common_options};
+ghost use Rattle.cli_matches.specs.Definition.{Makes, check_app, command_app, demo_app, entry_app, file_app, find_app, line_app, merge_app, place_rule, program_app, rewriting_app, show_app, switch_rule, text_rule, unwind_app, value_rule, with_common_options};
 
 use clap::{Arg, ArgAction, Command};
 use std::alloc::{AllocError, Global};
@@ -33,6 +33,8 @@ const CFA: &str = "Print the call frame information of an object";
 const MERGE: &str = "Merge the rows of several objects' ORC tables into one table";
 
 const FIND: &str = "Print the row of a merged table that holds at an address";
+
+const SHOW: &str = "Print the program of an object as the checker sees it";
 
 const DEMO: &str = "Make an object of N functions, check it, and print what it has";
 
@@ -88,16 +90,22 @@ fn with_text<'a>(
     }
 }
 
-/// With the option that has a value.
-fn with_names<'a>(alloc: Global, command: Making<'a>) -> Making<'a>
-    ensures { (app : App) → Makes command.entry app → Makes result (with_rule app names_rule) }
+/// With one more option that has a value, which is given by its long name alone.
+fn with_value<'a>(
+    alloc: Global,
+    command: Making<'a>,
+    name: &'a str,
+    value: &'a str,
+    help: &'a str,
+) -> Making<'a>
+    ensures { (app : App) → Makes command.entry app → Makes result (with_rule app (value_rule name.entry.now)) }
 {
     match command {
         Ok(command) => command.arg(
-            Arg::new(alloc, "names")
-                .long("names")
-                .value_name("FILE")
-                .help("Add the function names of FILE to the lists that are built in"),
+            Arg::new(alloc, name)
+                .long(name)
+                .value_name(value)
+                .help(help),
         ),
         Err(fault) => Err(fault),
     }
@@ -113,7 +121,13 @@ fn with_common_options<'a>(alloc: Global, command: Making<'a>) -> Making<'a>
         "all-opcodes",
         "Read vector, virtualization and newer system instructions too",
     );
-    with_names(alloc, command)
+    with_value(
+        alloc,
+        command,
+        "names",
+        "FILE",
+        "Add the function names of FILE to the lists that are built in",
+    )
 }
 
 /// A command, whose words are `program`, those of the program and of the command, and its own.
@@ -212,6 +226,12 @@ pub fn check<'a>(alloc: Global) -> Result<Command<'a>, AllocError>
         check,
         "no-unreachable",
         "Don't check that each instruction is reached",
+    );
+    let check = with_switch(
+        alloc,
+        check,
+        "backtrace",
+        "Print where each warning is and how control came there",
     );
     with_common_options(alloc, check)
 }
@@ -314,6 +334,27 @@ pub fn find<'a>(alloc: Global) -> Result<Command<'a>, AllocError>
     with_place(alloc, find, "ADDR", "The address, in hexadecimal digits")
 }
 
+/// The command `show`, with its word and options.
+pub fn show<'a>(alloc: Global) -> Result<Command<'a>, AllocError>
+    ensures { IfOk result (λ command. app_of command ≡ show_app) }
+{
+    let show = command(alloc, "show", "objtool show", SHOW);
+    let show = with_place(
+        alloc,
+        show,
+        "IN",
+        "The object, an ELF64 relocatable file for x86-64",
+    );
+    let show = with_value(
+        alloc,
+        show,
+        "function",
+        "NAME",
+        "Print the code of this function alone",
+    );
+    with_common_options(alloc, show)
+}
+
 /// The command `demo`, with its word.
 pub fn demo<'a>(alloc: Global) -> Result<Command<'a>, AllocError>
     ensures { IfOk result (λ command. app_of command ≡ demo_app) }
@@ -364,6 +405,7 @@ pub fn command_line<'a>(alloc: Global) -> Result<Command<'a>, AllocError>
     let line = with_command(line, cfa(alloc));
     let line = with_command(line, merge(alloc));
     let line = with_command(line, find(alloc));
+    let line = with_command(line, show(alloc));
     let line = with_command(line, demo(alloc));
     let line = with_text(alloc, line, "help", 'h', ArgAction::Help, "Print help");
     with_text(

@@ -21,6 +21,7 @@ Commands:
   cfa     Print the call frame information of an object
   merge   Merge the rows of several objects' ORC tables into one table
   find    Print the row of a merged table that holds at an address
+  show    Print the program of an object as the checker sees it
   demo    Make an object of N functions, check it, and print what it has
 
 Options:
@@ -41,6 +42,7 @@ Options:
       --rethunk         Check that no return instruction is left outside listed places
       --uaccess         Check that user access is off outside of listed functions
       --no-unreachable  Don't check that each instruction is reached
+      --backtrace       Print where each warning is and how control came there
       --all-opcodes     Read vector, virtualization and newer system instructions too
       --names=<FILE>    Add the function names of FILE to the lists that are built in
 
@@ -126,6 +128,18 @@ Usage: objtool find <TABLE> <ADDR>
 Arguments:
   <TABLE>  The merged table
   <ADDR>   The address, in hexadecimal digits
+
+Print the program of an object as the checker sees it
+
+Usage: objtool show [OPTIONS] <IN>
+
+Arguments:
+  <IN>  The object, an ELF64 relocatable file for x86-64
+
+Options:
+      --function=<NAME>  Print the code of this function alone
+      --all-opcodes      Read vector, virtualization and newer system instructions too
+      --names=<FILE>     Add the function names of FILE to the lists that are built in
 
 Make an object of N functions, check it, and print what it has
 
