@@ -21,16 +21,16 @@ use Rattle.cli_words.specs.declared.fault.UsageFault.{UsageFault}
 use Rattle.cli_words.specs.declared.command.Command as declared
 use Rattle.cli_words.specs.declared.word.CommandWord.{CommandWord}
 use Rattle.cli_words.specs.declared.word.CommandWord.TheVariants as the
-use Rattle.cli_words.specs.Grammar.{Command, asked, command_in, command_meaning, demo, find, first_fault, first_meaning, help, line_meaning, lone_meaning, meaning, name_fault, option_fault, or_missing, unless, version, word_fault}
+use Rattle.cli_words.specs.Grammar.{Command, asked, command_in, command_meaning, demo, explain, find, first_fault, first_meaning, help, line_meaning, lone_meaning, meaning, name_fault, option_fault, or_missing, unless, version, word_fault}
 use Rattle.cli_words.specs.Numbers.{address_of, number_of}
 use Rattle.cli_words.specs.Words.{Word, command_named, gives, is_option, is_option_of, is_same_option, names_in, places_of, value_given}
-use Rattle.cli_matches.specs.Definition.{check_app, demo_app, entry_app, file_app, find_app, line_app, merge_app, rewriting_app, show_app, unwind_app}
+use Rattle.cli_matches.specs.Definition.{check_app, demo_app, entry_app, explain_app, file_app, find_app, line_app, merge_app, rewriting_app, show_app, unwind_app}
 use Rattle.cli_matches.specs.Matches.{Says, SaysPair, SaysSwitch, request_of}
-use Rattle.cli_matches.proofs.Built.{Enters, cfa_enters, cfi_enters, check_enters, demo_enters, dump_enters, entry_enters, find_enters, leaf_of, line_finds, line_is_simple, line_takes, list_enters, merge_enters, show_enters, sites_enters, unwind_enters}
+use Rattle.cli_matches.proofs.Built.{Enters, cfa_enters, cfi_enters, check_enters, demo_enters, dump_enters, entry_enters, explain_enters, find_enters, leaf_of, line_finds, line_is_simple, line_takes, list_enters, merge_enters, show_enters, sites_enters, unwind_enters}
 use Rattle.cli_matches.proofs.OptionFacts.{AllAre, HasOptions, dashed, start_of}
 use Rattle.cli_matches.proofs.OptionReads.{SaysFiles, each_said, each_value_said, files_said, line_passes, map_said, rewriting_said}
 use Rattle.cli_matches.proofs.OptionWalk.{is_own, no_fault, or_case, places}
-use Rattle.cli_matches.proofs.PlainReads.{AsksOne, AsksTwo, demo_asks, file_asks, find_asks, merge_asks, one_found, one_level, two_found, two_level, unwind_asks}
+use Rattle.cli_matches.proofs.PlainReads.{AsksMaybe, AsksOne, AsksTwo, demo_asks, explain_alone, explain_asks, file_asks, find_asks, merge_asks, one_found, one_level, two_found, two_level, unwind_asks}
 use Rattle.cli_matches.proofs.Rewritings.{check_facts, check_switches, common_facts, common_switches, entry_facts, entry_switches, names_alone, show_facts, show_known, show_switches, show_values}
 
 -- clap takes the words, and its matches say the command
@@ -261,6 +261,31 @@ demo_one (number ∷ []) meant e = go (number_of number) refl e
 demo_one [] meant e = cc
 demo_one (number ∷ (more ∷ words)) meant e = cc
 
+-- `explain` asks for one word, or none
+abbrev X : Shape
+X = leaf_of explain_app
+
+explain_read : (words : List Word) (meant : Command) → line_meaning the.Explain words ≡ Ok meant → Reads (codes "explain" ∷ words) meant
+explain_read words meant e =
+    let own = own_words the.Explain (λ w. refl) words meant e in
+    go words own.0 own.1
+  where
+    go : (words : List Word) → asked the.Explain words words ≡ Some meant → list_all (λ w. not (is_option w)) words ≡ true → Reads (codes "explain" ∷ words) meant
+    unfolding asked
+    go [] is all = record {
+      takes = line_takes (codes "explain") X explain_enters [] explain_alone.passes_alone;
+      says = subst (λ found. Says found meant) (sym (line_finds (codes "explain") X explain_enters []))
+          (subst (Says (Some (codes "explain", rows_after X.rules [] []))) (some_is (explain None) meant is) (refl, explain_alone.reads_none));
+    }
+    go (topic ∷ []) is all =
+        let is_name = (not_true (is_option topic) _ all).0 in
+        record {
+          takes = line_takes (codes "explain") X explain_enters (topic ∷ []) (one_level X (codes "TOPIC") explain_asks topic is_name);
+          says = subst (λ found. Says found meant) (sym (line_finds (codes "explain") X explain_enters (topic ∷ [])))
+              (subst (Says (Some (codes "explain", rows_after X.rules [] (topic ∷ [])))) (some_is (explain (Some topic)) meant is) (refl, one_found X (codes "TOPIC") explain_asks topic is_name));
+        }
+    go (topic ∷ (more ∷ rest)) is all = cc
+
 -- two words
 record IsTwo (name first second : Text) (words : List Word) (meant : Command) : Type 0 where
   word : Word
@@ -336,7 +361,8 @@ module _ (word : Word) (words : List Word) (meant : Command) where
       (named_or (codes "merge") the.Merge _ (two_read the.Merge (codes "merge") (codes "LAYOUT") (codes "OUT") (leaf_of merge_app) merge_enters merge_asks (λ w. refl) merge_two words meant)
       (named_or (codes "find") the.Find _ (two_read the.Find (codes "find") (codes "TABLE") (codes "ADDR") (leaf_of find_app) find_enters find_asks (λ w. refl) find_two words meant)
       (named_or (codes "show") the.Show _ (files_read the.Show (codes "show") (leaf_of show_app) false show_values show_switches show_enters show_facts show_known refl show_files words meant)
-      (named_or (codes "demo") the.Demo None (one_read the.Demo (codes "demo") (codes "N") (leaf_of demo_app) demo_enters demo_asks (λ w. refl) demo_one words meant) none_read)))))))))))
+      (named_or (codes "explain") the.Explain _ (explain_read words meant)
+      (named_or (codes "demo") the.Demo None (one_read the.Demo (codes "demo") (codes "N") (leaf_of demo_app) demo_enters demo_asks (λ w. refl) demo_one words meant) none_read))))))))))))
 
 help_answers : fault_of line_app (codes "--help" ∷ []) ≡ DisplayHelp ∷ []
 unfolding clap_on_literals

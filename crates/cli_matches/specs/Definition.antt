@@ -13,6 +13,10 @@ Makes made app = IfOk made (λ command. app_of command ≡ app)
 abbrev pub place_rule : Text → Rule
 place_rule name = record (new_rule name) { required = true }
 
+-- one that may be left out
+abbrev pub optional_rule : Text → Rule
+optional_rule name = new_rule name
+
 -- an option that has no value
 abbrev pub flag_rule : Text → ArgAction → Rule
 flag_rule name action = record (new_rule name) { long = Some name; action = Some action }
@@ -82,6 +86,9 @@ show_app =
     let app = with_rule app (value_rule (codes "function")) in
     with_common_options app
 
+abbrev pub explain_app : App
+explain_app = with_rule (command_app (codes "explain")) (optional_rule (codes "TOPIC"))
+
 abbrev pub demo_app : App
 demo_app = with_rule (command_app (codes "demo")) (place_rule (codes "N"))
 
@@ -120,5 +127,6 @@ line_app =
     let app = with_subcommand app merge_app.top in
     let app = with_subcommand app find_app.top in
     let app = with_subcommand app show_app.top in
+    let app = with_subcommand app explain_app.top in
     let app = with_subcommand app demo_app.top in
     with_rule (with_rule app help_rule) version_rule

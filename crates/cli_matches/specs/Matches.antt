@@ -10,7 +10,7 @@ use Rattle.x86_map.specs.declared.map.Map.{Map}
 use Rattle.x86_map.specs.declared.map.Map.TheVariants.{Base, Whole}
 use Rattle.cli_words.specs.Words.{Word}
 use Rattle.cli_words.specs.Numbers.{address_of, number_of}
-use Rattle.cli_words.specs.Grammar.{Command, cfa, cfi, check, demo, dump, entry, find, help, list, merge, show, sites, unwind, version}
+use Rattle.cli_words.specs.Grammar.{Command, cfa, cfi, check, demo, dump, entry, explain, find, help, list, merge, show, sites, unwind, version}
 
 -- the value of an option that has none of its own
 abbrev pub switch_text : Bool → Text
@@ -75,6 +75,7 @@ name_of (cfa file) = Some (codes "cfa")
 name_of (merge layout output) = Some (codes "merge")
 name_of (find table address) = Some (codes "find")
 name_of (show input function map names) = Some (codes "show")
+name_of (explain topic) = Some (codes "explain")
 name_of (demo n) = Some (codes "demo")
 name_of help = None
 name_of version = None
@@ -92,6 +93,7 @@ SaysArguments rows (cfa file) = first_of (codes "FILE") rows ≡ Some file
 SaysArguments rows (merge layout output) = SaysPair rows (codes "LAYOUT") (codes "OUT") layout output
 SaysArguments rows (find table address) = (text : Word) × SaysPair rows (codes "TABLE") (codes "ADDR") table text × (address_of text ≡ Some address)
 SaysArguments rows (show input function map names) = SaysShow rows input function map names
+SaysArguments rows (explain topic) = first_of (codes "TOPIC") rows ≡ topic
 SaysArguments rows (demo n) = (text : Word) × (first_of (codes "N") rows ≡ Some text) × (number_of text ≡ Some n)
 SaysArguments rows _ = ⊥
 

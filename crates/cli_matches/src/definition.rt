@@ -2,7 +2,7 @@
 
 ghost use Rattle.std.specs.Prelude.{◌≡◌, IfOk, codes, true};
 ghost use Rattle.clap.specs.Words.{App, app_of, with_rule, with_subcommand};
-ghost use Rattle.cli_matches.specs.Definition.{Makes, check_app, command_app, demo_app, entry_app, file_app, find_app, line_app, merge_app, place_rule, program_app, rewriting_app, show_app, switch_rule, text_rule, unwind_app, value_rule, with_common_options};
+ghost use Rattle.cli_matches.specs.Definition.{Makes, check_app, command_app, demo_app, entry_app, explain_app, file_app, find_app, line_app, merge_app, optional_rule, place_rule, program_app, rewriting_app, show_app, switch_rule, text_rule, unwind_app, value_rule, with_common_options};
 
 use clap::{Arg, ArgAction, Command};
 use std::alloc::{AllocError, Global};
@@ -36,6 +36,8 @@ const FIND: &str = "Print the row of a merged table that holds at an address";
 
 const SHOW: &str = "Print the program of an object as the checker sees it";
 
+const EXPLAIN: &str = "Print what a rule or a refusal means";
+
 const DEMO: &str = "Make an object of N functions, check it, and print what it has";
 
 /// A command in the making, unless memory ran out. Each step hands that on, so that none is left by `?`
@@ -48,6 +50,16 @@ fn with_place<'a>(alloc: Global, command: Making<'a>, name: &'a str, help: &'a s
 {
     match command {
         Ok(command) => command.arg(Arg::new(alloc, name).required(true).help(help)),
+        Err(fault) => Err(fault),
+    }
+}
+
+/// With one more word that may be left out.
+fn with_optional<'a>(alloc: Global, command: Making<'a>, name: &'a str, help: &'a str) -> Making<'a>
+    ensures { (app : App) → Makes command.entry app → Makes result (with_rule app (optional_rule name.entry.now)) }
+{
+    match command {
+        Ok(command) => command.arg(Arg::new(alloc, name).help(help)),
         Err(fault) => Err(fault),
     }
 }
@@ -355,6 +367,19 @@ pub fn show<'a>(alloc: Global) -> Result<Command<'a>, AllocError>
     with_common_options(alloc, show)
 }
 
+/// The command `explain`, with its word.
+pub fn explain<'a>(alloc: Global) -> Result<Command<'a>, AllocError>
+    ensures { IfOk result (λ command. app_of command ≡ explain_app) }
+{
+    let explain = command(alloc, "explain", "objtool explain", EXPLAIN);
+    with_optional(
+        alloc,
+        explain,
+        "TOPIC",
+        "A rule's number, or the kind of a refusal; where none is given, all are listed",
+    )
+}
+
 /// The command `demo`, with its word.
 pub fn demo<'a>(alloc: Global) -> Result<Command<'a>, AllocError>
     ensures { IfOk result (λ command. app_of command ≡ demo_app) }
@@ -406,6 +431,7 @@ pub fn command_line<'a>(alloc: Global) -> Result<Command<'a>, AllocError>
     let line = with_command(line, merge(alloc));
     let line = with_command(line, find(alloc));
     let line = with_command(line, show(alloc));
+    let line = with_command(line, explain(alloc));
     let line = with_command(line, demo(alloc));
     let line = with_text(alloc, line, "help", 'h', ArgAction::Help, "Print help");
     with_text(

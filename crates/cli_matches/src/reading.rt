@@ -5,7 +5,7 @@ ghost use Rattle.clap.specs.Words.{first_of, subcommand_rows_of};
 ghost use Rattle.cli_words.specs.declared.options.CheckOptions.{CheckOptions};
 ghost use Rattle.cli_words.specs.declared.options.EntryRules.{EntryRules};
 ghost use Rattle.x86_map.specs.declared.map.Map.{Map as MapKind};
-ghost use Rattle.cli_words.specs.Grammar.{Command as Meant, cfa, cfi, check, command_in, demo, dump, entry, find, IsFaultOf, list, meaning, merge, show, sites, unwind};
+ghost use Rattle.cli_words.specs.Grammar.{Command as Meant, cfa, cfi, check, command_in, demo, dump, entry, explain, find, IsFaultOf, list, meaning, merge, show, sites, unwind};
 ghost use Rattle.cli_words.specs.Numbers.{address_of, number_of};
 ghost use Rattle.cli_words.specs.Words.{Word};
 ghost use Rattle.cli_matches.specs.Matches.{Says, SaysCheck, SaysEntry, SaysPair, SaysRewriting, SaysShow, SaysSwitch, is_asked, request_of, rows_in};
@@ -306,6 +306,15 @@ fn find_of(alloc: Global, found: &ArgMatches<'_>) -> Result<Option<Command>, All
     }
 }
 
+/// The command of `explain`.
+fn explain_of(alloc: Global, found: &ArgMatches<'_>) -> Result<Option<Command>, AllocError>
+    ensures { IfOk result (λ read. (topic : Option Word) → first_of (codes "TOPIC") (rows_in found.now) ≡ topic
+        → option_map command_in read ≡ Some (explain topic)) }
+{
+    let topic = text_of(alloc, found, "TOPIC")?;
+    Ok(Some(Command::Explain { topic }))
+}
+
 /// The number of `demo`.
 fn number_in(found: &ArgMatches<'_>) -> Option<u32>
     ensures { result ≡ option_and_then number_of (first_of (codes "N") (rows_in found.now)) }
@@ -347,6 +356,7 @@ fn named_command(
         "merge" => merge_of(alloc, found),
         "find" => find_of(alloc, found),
         "show" => show_of(alloc, found),
+        "explain" => explain_of(alloc, found),
         "demo" => Ok(demo_of(found)),
         _ => Ok(None),
     }

@@ -21,16 +21,18 @@ command_named word =
     else if bytes_eq word (codes "merge") then Some the.Merge
     else if bytes_eq word (codes "find") then Some the.Find
     else if bytes_eq word (codes "show") then Some the.Show
+    else if bytes_eq word (codes "explain") then Some the.Explain
     else if bytes_eq word (codes "demo") then Some the.Demo
     else None
 
--- how many names or numbers stand behind a command
+-- how many names or numbers stand behind a command; `explain` does with none, too
 abbrev pub places_of : CommandWord → ℕ
 places_of the.Dump = 1
 places_of the.List = 1
 places_of the.Entry = 1
 places_of the.Cfa = 1
 places_of the.Show = 1
+places_of the.Explain = 1
 places_of the.Demo = 1
 places_of _ = 2
 

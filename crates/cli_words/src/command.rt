@@ -74,6 +74,11 @@ pub enum Command {
         /// The file of function names, where one is given.
         names: Option<String>,
     },
+    /// `explain` and maybe a topic: print what it means, or all topics.
+    Explain {
+        /// The topic, where one is given.
+        topic: Option<String>,
+    },
     /// `demo N`: check an object of `n` functions that is made up, from 0 to 100,000.
     Demo {
         n: u32,

@@ -28,6 +28,8 @@ pub enum CommandWord {
     Find,
     /// `show`.
     Show,
+    /// `explain`.
+    Explain,
     /// `demo`.
     Demo,
 }
@@ -48,19 +50,21 @@ pub(crate) fn command_named(word: &str) -> Option<CommandWord>
         "merge" => Some(CommandWord::Merge),
         "find" => Some(CommandWord::Find),
         "show" => Some(CommandWord::Show),
+        "explain" => Some(CommandWord::Explain),
         "demo" => Some(CommandWord::Demo),
         _ => None,
     }
 }
 
 impl CommandWord {
-    /// How many names or numbers stand behind it.
+    /// How many names or numbers stand behind it; `explain` does with none, too.
     pub(crate) fn places(self) -> usize
         ensures { result ≡ places_of self }
     {
         match self {
             CommandWord::Dump | CommandWord::List | CommandWord::Entry => 1,
-            CommandWord::Cfa | CommandWord::Show | CommandWord::Demo => 1,
+            CommandWord::Cfa | CommandWord::Show => 1,
+            CommandWord::Explain | CommandWord::Demo => 1,
             _ => 2,
         }
     }
