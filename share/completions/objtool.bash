@@ -3,24 +3,27 @@ _objtool() {
     local current=${COMP_WORDS[COMP_CWORD]} options='' prefix='' files word i
     COMPREPLY=()
     if ((COMP_CWORD == 1)); then
-        word='check dump unwind sites list entry cfi cfa merge find demo --help --version -h -V'
+        word='check dump unwind sites list entry cfi cfa merge find show explain demo --help --version -h -V'
         mapfile -t COMPREPLY < <(compgen -W "$word" -- "$current")
         return
     fi
     # the options of a command, and how many names of files it has
     case ${COMP_WORDS[1]} in
-    check) files=2 options='--fp --retpoline --rethunk --uaccess --no-unreachable --all-opcodes --names= ' ;;
+    check) files=2 options='--fp --retpoline --rethunk --uaccess --no-unreachable --backtrace --all-opcodes --names= ' ;;
     sites | cfi) files=2 options='--all-opcodes --names= ' ;;
     entry) files=1 options='--noinstr --sls --ibt --all-opcodes --names= ' ;;
+    show) files=1 options='--function= --all-opcodes --names= ' ;;
     unwind | merge) files=2 ;;
     dump | list | cfa | find) files=1 ;;
     *) return ;;
     esac
-    # What stands already is left out. Where `=` breaks words, --names=FILE is three words, the last of which is one name more.
+    # What stands already is left out. Where `=` breaks words, --names=FILE is three words, the last of which is one name more,
+    # and so is --function=NAME.
     for ((i = 2; i < COMP_CWORD; i++)); do
         word=${COMP_WORDS[i]}
         case $word in
         --names*) options=${options/--names= /} ;;
+        --function*) options=${options/--function= /} ;;
         -*) options=${options/"$word "/} ;;
         =) ((files += 1)) ;;
         *) ((files -= 1)) ;;
@@ -31,14 +34,21 @@ _objtool() {
         [[ $options == *--names=* ]] || return
         prefix=--names= current=${current#--names=}
         ;;
-    =) current='' ;;
+    --function=*) return ;;
+    =)
+        [[ ${COMP_WORDS[COMP_CWORD - 1]} != --function ]] || return
+        current=''
+        ;;
     -*)
         mapfile -t COMPREPLY < <(compgen -W "$options" -- "$current")
-        # the name of the file stands right behind --names=
-        [[ ${COMPREPLY[*]} != --names= ]] || compopt -o nospace
+        # the name of the file stands right behind --names=, that of the function behind --function=
+        [[ ${COMPREPLY[*]} != *= ]] || compopt -o nospace
         return
         ;;
-    *) ((files > 0)) || return ;;
+    *)
+        ((files > 0)) || return
+        [[ ${COMP_WORDS[COMP_CWORD - 2]} != --function || ${COMP_WORDS[COMP_CWORD - 1]} != = ]] || return
+        ;;
     esac
     compopt -o filenames
     mapfile -t COMPREPLY < <(compgen -P "$prefix" -f -- "$current")

@@ -15,7 +15,7 @@ words_of_help() {
         $1 == "Options:" { part = "options"; next }
         $1 == "Usage:" && $3 != "<COMMAND>" {
             command = $3; part = ""
-            for (i = 4; i <= NF; i++) if ($i ~ /^</) { gsub(/[<>]/, "", $i); print command, $i }
+            for (i = 4; i <= NF; i++) if ($i ~ /^[<[]/ && $i != "[OPTIONS]") { gsub(/[][<>]/, "", $i); print command, $i }
         }
         NF == 0 { part = "" }
         part == "commands" { print "command", $1 }
@@ -139,7 +139,7 @@ words_of_zsh | grep -vE '^(command|alone) | -' | sort >"$scratch/zsh"
 same "$scratch/places" "$scratch/zsh" "places of zsh"
 # which commands have names of files: all whose places aren't a number alone
 sed -n 's/^file //p' <<<"$(words_of_fish)" | sort >"$scratch/fish"
-awk '$2 != "N" && $2 != "ADDR" { print $1 }' "$scratch/places" | sort -u >"$scratch/with.files"
+awk '$2 != "N" && $2 != "ADDR" && $2 != "TOPIC" { print $1 }' "$scratch/places" | sort -u >"$scratch/with.files"
 same "$scratch/with.files" "$scratch/fish" "files of fish"
 
 # bash: files as many as there are places of files, and of --names, however words are broken
@@ -151,7 +151,7 @@ expect() {
 }
 both=$'a b.o\nc.o'
 for command in $commands; do
-    places=$(awk -v c="$command" '$1 == c && $2 != "N" && $2 != "ADDR"' "$scratch/places" | wc -l)
+    places=$(awk -v c="$command" '$1 == c && $2 != "N" && $2 != "ADDR" && $2 != "TOPIC"' "$scratch/places" | wc -l)
     given=()
     for ((i = 0; i < places; i++)); do
         expect "$both" "$command" "${given[@]}" ''
@@ -170,5 +170,12 @@ expect --names=c.o check --names=c
 expect '' check a b --names = c ''
 expect '' check --names = c --names
 expect '' dump --names=c
+expect --function= show a --fu
+expect '' show a --function=b --fu
+expect '' show --function = b --fu
+expect "$both" show --function ''
+expect '' show --function =
+expect '' show --function = ''
+expect "$both" show --function = b ''
 [ "$failed" -eq 0 ]
 echo "completions: bash, zsh and fish offer the words that --help names"

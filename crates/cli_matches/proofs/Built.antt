@@ -6,7 +6,7 @@ use Rattle.clap.specs.Takes.{default_passes, entered_passes, is_valid, level_pas
 use Rattle.clap.specs.Walk.{Names, Text, Walk, finished, nothing_held, rows_after, walk, walk_from, walked}
 use Rattle.clap.specs.Words.{built, is_simple}
 use Rattle.clap.proofs.OnLiterals.{clap_on_literals}
-use Rattle.cli_matches.specs.Definition.{check_app, demo_app, entry_app, file_app, find_app, line_app, merge_app, rewriting_app, unwind_app}
+use Rattle.cli_matches.specs.Definition.{check_app, demo_app, entry_app, explain_app, file_app, find_app, line_app, merge_app, rewriting_app, show_app, unwind_app}
 
 abbrev pub top : Shape
 top = (built line_app).top
@@ -83,6 +83,14 @@ merge_enters = record { met = refl; passes = refl; finds = λ words. refl; level
 pub find_enters : Enters (codes "find") (leaf_of find_app)
 unfolding clap_on_literals
 find_enters = record { met = refl; passes = refl; finds = λ words. refl; levels = λ words. refl }
+
+pub show_enters : Enters (codes "show") (leaf_of show_app)
+unfolding clap_on_literals
+show_enters = record { met = refl; passes = refl; finds = λ words. refl; levels = λ words. refl }
+
+pub explain_enters : Enters (codes "explain") (leaf_of explain_app)
+unfolding clap_on_literals
+explain_enters = record { met = refl; passes = refl; finds = λ words. refl; levels = λ words. refl }
 
 pub demo_enters : Enters (codes "demo") (leaf_of demo_app)
 unfolding clap_on_literals

@@ -21,17 +21,17 @@ use Rattle.cli_words.specs.declared.fault.UsageFault.{UsageFault}
 use Rattle.cli_words.specs.declared.command.Command as declared
 use Rattle.cli_words.specs.declared.word.CommandWord.{CommandWord}
 use Rattle.cli_words.specs.declared.word.CommandWord.TheVariants as the
-use Rattle.cli_words.specs.Grammar.{Command, asked, command_in, command_meaning, demo, find, first_fault, first_meaning, help, line_meaning, lone_meaning, meaning, name_fault, option_fault, or_missing, unless, version, word_fault}
+use Rattle.cli_words.specs.Grammar.{Command, asked, command_in, command_meaning, demo, explain, find, first_fault, first_meaning, help, line_meaning, lone_meaning, meaning, name_fault, option_fault, or_missing, unless, version, word_fault}
 use Rattle.cli_words.specs.Numbers.{address_of, number_of}
-use Rattle.cli_words.specs.Words.{Word, command_named, gives, is_option, is_option_of, is_same_option, names_in, places_of}
-use Rattle.cli_matches.specs.Definition.{check_app, demo_app, entry_app, file_app, find_app, line_app, merge_app, rewriting_app, unwind_app}
+use Rattle.cli_words.specs.Words.{Word, command_named, gives, is_option, is_option_of, is_same_option, names_in, places_of, value_given}
+use Rattle.cli_matches.specs.Definition.{check_app, demo_app, entry_app, explain_app, file_app, find_app, line_app, merge_app, rewriting_app, show_app, unwind_app}
 use Rattle.cli_matches.specs.Matches.{Says, SaysPair, SaysSwitch, request_of}
-use Rattle.cli_matches.proofs.Built.{Enters, cfa_enters, cfi_enters, check_enters, demo_enters, dump_enters, entry_enters, find_enters, leaf_of, line_finds, line_is_simple, line_takes, list_enters, merge_enters, sites_enters, unwind_enters}
-use Rattle.cli_matches.proofs.OptionFacts.{AllAre, HasOptions, dashed}
-use Rattle.cli_matches.proofs.OptionReads.{SaysFiles, each_said, files_said, line_passes, map_said, rewriting_said}
+use Rattle.cli_matches.proofs.Built.{Enters, cfa_enters, cfi_enters, check_enters, demo_enters, dump_enters, entry_enters, explain_enters, find_enters, leaf_of, line_finds, line_is_simple, line_takes, list_enters, merge_enters, show_enters, sites_enters, unwind_enters}
+use Rattle.cli_matches.proofs.OptionFacts.{AllAre, HasOptions, dashed, start_of}
+use Rattle.cli_matches.proofs.OptionReads.{SaysFiles, each_said, each_value_said, files_said, line_passes, map_said, rewriting_said}
 use Rattle.cli_matches.proofs.OptionWalk.{is_own, no_fault, or_case, places}
-use Rattle.cli_matches.proofs.PlainReads.{AsksOne, AsksTwo, demo_asks, file_asks, find_asks, merge_asks, one_found, one_level, two_found, two_level, unwind_asks}
-use Rattle.cli_matches.proofs.Rewritings.{check_facts, check_switches, common_facts, common_switches, entry_facts, entry_switches}
+use Rattle.cli_matches.proofs.PlainReads.{AsksMaybe, AsksOne, AsksTwo, demo_asks, explain_alone, explain_asks, file_asks, find_asks, merge_asks, one_found, one_level, two_found, two_level, unwind_asks}
+use Rattle.cli_matches.proofs.Rewritings.{check_facts, check_switches, common_facts, common_switches, entry_facts, entry_switches, names_alone, show_facts, show_known, show_switches, show_values}
 
 -- clap takes the words, and its matches say the command
 pub record Reads (words : List Word) (command : Command) : Type 0 where
@@ -75,39 +75,42 @@ line_ok command words meant e =
 
 -- ---- commands that ask for IN and maybe OUT, and have options
 
--- what such a command asks for is said by matches that say its options, and IN, OUT and FILE
-record AsksFiles (name : Text) (writes : Bool) (switches : List Text) (ws words : List Word) (meant : Command) : Type 0 where
+-- what such a command asks for is said by matches that say its options, and IN and OUT
+record AsksFiles (name : Text) (writes : Bool) (values switches : List Text) (ws words : List Word) (meant : Command) : Type 0 where
   has_input : is_some (slice_get ws 0) ≡ true
   has_output : cond writes (is_some (slice_get ws 1)) true ≡ true
-  says : (rows : List Row) → AllAre (λ option. SaysSwitch rows option (gives (dashed option) words)) switches → SaysFiles rows ws words → Says (Some (name, rows)) meant
+  says : (rows : List Row) → AllAre (λ option. SaysSwitch rows option (gives (dashed option) words)) switches → AllAre (λ option. first_of option rows ≡ value_given (start_of option) words) values → SaysFiles rows ws
+      → Says (Some (name, rows)) meant
 
-module _ (command : CommandWord) (name : Text) (s : Shape) (writes : Bool) (switches : List Text) (enters : Enters name s) (facts : HasOptions s writes switches)
-    (known : (word : Word) → is_option_of command word ≡ true → is_own switches word ≡ true) (count : places_of command ≡ places writes)
-    (asks : (ws words : List Word) (meant : Command) → asked command ws words ≡ Some meant → AsksFiles name writes switches ws words meant) where
+module _ (command : CommandWord) (name : Text) (s : Shape) (writes : Bool) (values switches : List Text) (enters : Enters name s) (facts : HasOptions s writes values switches)
+    (known : (word : Word) → is_option_of command word ≡ true → is_own values switches word ≡ true) (count : places_of command ≡ places writes)
+    (asks : (ws words : List Word) (meant : Command) → asked command ws words ≡ Some meant → AsksFiles name writes values switches ws words meant) where
   files_read : (words : List Word) (meant : Command) → line_meaning command words ≡ Ok meant → Reads (name ∷ words) meant
   files_read words meant e =
       let parts = line_ok command words meant e in
       let files = asks (names_in words) words meant parts.1 in
       record {
-        takes = line_takes name s enters words (line_passes s writes switches facts command known count words parts.0 files.has_input files.has_output);
+        takes = line_takes name s enters words (line_passes s writes values switches facts command known count words parts.0 files.has_input files.has_output);
         says = subst (λ found. Says found meant) (sym (line_finds name s enters words))
-            (files.says (rows_after s.rules [] words) (each_said s writes switches facts command known count words parts.0) (files_said s writes switches facts command known count words parts.0));
+            (files.says (rows_after s.rules [] words) (each_said s writes values switches facts command known count words parts.0) (each_value_said s writes values switches facts command known count words parts.0)
+            (files_said s writes values switches facts command known count words parts.0));
       }
 
-check_files : (ws words : List Word) (meant : Command) → asked the.Check ws words ≡ Some meant → AsksFiles (codes "check") true check_switches ws words meant
+check_files : (ws words : List Word) (meant : Command) → asked the.Check ws words ≡ Some meant → AsksFiles (codes "check") true names_alone check_switches ws words meant
 unfolding asked
 check_files (input ∷ (output ∷ [])) words meant e = record {
   has_input = refl;
   has_output = refl;
-  says = λ rows each files. subst (Says (Some (codes "check", rows))) (some_is _ meant e) (
+  says = λ rows each values files. subst (Says (Some (codes "check", rows))) (some_is _ meant e) (
     refl,
     record {
-      rewriting = rewriting_said rows input output words files each.rest.rest.rest.rest.rest.first;
+      rewriting = rewriting_said rows input output words files values.first each.rest.rest.rest.rest.rest.rest.first;
       fp = each.first;
       retpoline = each.rest.first;
       rethunk = each.rest.rest.first;
       uaccess = each.rest.rest.rest.first;
       unreachable = subst (SaysSwitch rows (codes "no-unreachable")) (not_not (gives (codes "--no-unreachable") words)) each.rest.rest.rest.rest.first;
+      backtrace = each.rest.rest.rest.rest.rest.first;
     },
   );
 }
@@ -119,23 +122,23 @@ check_files [] words meant e = cc
 check_files (input ∷ []) words meant e = cc
 check_files (input ∷ (output ∷ (more ∷ ws))) words meant e = cc
 
-sites_files : (ws words : List Word) (meant : Command) → asked the.Sites ws words ≡ Some meant → AsksFiles (codes "sites") true common_switches ws words meant
+sites_files : (ws words : List Word) (meant : Command) → asked the.Sites ws words ≡ Some meant → AsksFiles (codes "sites") true names_alone common_switches ws words meant
 unfolding asked
 sites_files (input ∷ (output ∷ [])) words meant e = record {
   has_input = refl;
   has_output = refl;
-  says = λ rows each files. subst (Says (Some (codes "sites", rows))) (some_is _ meant e) (refl, rewriting_said rows input output words files each.first);
+  says = λ rows each values files. subst (Says (Some (codes "sites", rows))) (some_is _ meant e) (refl, rewriting_said rows input output words files values.first each.first);
 }
 sites_files [] words meant e = cc
 sites_files (input ∷ []) words meant e = cc
 sites_files (input ∷ (output ∷ (more ∷ ws))) words meant e = cc
 
-entry_files : (ws words : List Word) (meant : Command) → asked the.Entry ws words ≡ Some meant → AsksFiles (codes "entry") false entry_switches ws words meant
+entry_files : (ws words : List Word) (meant : Command) → asked the.Entry ws words ≡ Some meant → AsksFiles (codes "entry") false names_alone entry_switches ws words meant
 unfolding asked
 entry_files (input ∷ []) words meant e = record {
   has_input = refl;
   has_output = refl;
-  says = λ rows each files. subst (Says (Some (codes "entry", rows))) (some_is _ meant e) (
+  says = λ rows each values files. subst (Says (Some (codes "entry", rows))) (some_is _ meant e) (
     refl,
     record {
       input_is = files.input;
@@ -143,19 +146,37 @@ entry_files (input ∷ []) words meant e = record {
       sls = each.rest.first;
       ibt = each.rest.rest.first;
       all_opcodes = map_said rows words each.rest.rest.rest.first;
-      names_are = files.names;
+      names_are = values.first;
     },
   );
 }
 entry_files [] words meant e = cc
 entry_files (input ∷ (more ∷ ws)) words meant e = cc
 
-cfi_files : (ws words : List Word) (meant : Command) → asked the.Cfi ws words ≡ Some meant → AsksFiles (codes "cfi") true common_switches ws words meant
+show_files : (ws words : List Word) (meant : Command) → asked the.Show ws words ≡ Some meant → AsksFiles (codes "show") false show_values show_switches ws words meant
+unfolding asked
+show_files (input ∷ []) words meant e = record {
+  has_input = refl;
+  has_output = refl;
+  says = λ rows each values files. subst (Says (Some (codes "show", rows))) (some_is _ meant e) (
+    refl,
+    record {
+      input_is = files.input;
+      function_is = values.first;
+      all_opcodes = map_said rows words each.first;
+      names_are = values.rest.first;
+    },
+  );
+}
+show_files [] words meant e = cc
+show_files (input ∷ (more ∷ ws)) words meant e = cc
+
+cfi_files : (ws words : List Word) (meant : Command) → asked the.Cfi ws words ≡ Some meant → AsksFiles (codes "cfi") true names_alone common_switches ws words meant
 unfolding asked
 cfi_files (input ∷ (output ∷ [])) words meant e = record {
   has_input = refl;
   has_output = refl;
-  says = λ rows each files. subst (Says (Some (codes "cfi", rows))) (some_is _ meant e) (refl, rewriting_said rows input output words files each.first);
+  says = λ rows each values files. subst (Says (Some (codes "cfi", rows))) (some_is _ meant e) (refl, rewriting_said rows input output words files values.first each.first);
 }
 cfi_files [] words meant e = cc
 cfi_files (input ∷ []) words meant e = cc
@@ -176,8 +197,8 @@ all_names command none (word ∷ words) seen right =
   where
     go : (b : Bool) → cond b (option_fault command seen word) (name_fault command seen word) ≡ None → b ≡ false
     go true e =
-        let no : cond (not false) (Some UnknownOption) (cond (list_any (is_same_option word) seen) (Some Repeated) (cond (bytes_eq word (codes "--names=")) (Some Empty) None)) ≡ None =
-        sym (ap (λ b. cond (not b) (Some UnknownOption) (cond (list_any (is_same_option word) seen) (Some Repeated) (cond (bytes_eq word (codes "--names=")) (Some Empty) None))) (none word)) ∙ e in
+        let no : cond (not false) (Some UnknownOption) (cond (list_any (is_same_option word) seen) (Some Repeated) (cond (bytes_eq word (codes "--names=") || bytes_eq word (codes "--function=")) (Some Empty) None)) ≡ None =
+        sym (ap (λ b. cond (not b) (Some UnknownOption) (cond (list_any (is_same_option word) seen) (Some Repeated) (cond (bytes_eq word (codes "--names=") || bytes_eq word (codes "--function=")) (Some Empty) None))) (none word)) ∙ e in
         cc
     go false e = refl
 
@@ -239,6 +260,31 @@ demo_one (number ∷ []) meant e = go (number_of number) refl e
     go None is e = cc
 demo_one [] meant e = cc
 demo_one (number ∷ (more ∷ words)) meant e = cc
+
+-- `explain` asks for one word, or none
+abbrev X : Shape
+X = leaf_of explain_app
+
+explain_read : (words : List Word) (meant : Command) → line_meaning the.Explain words ≡ Ok meant → Reads (codes "explain" ∷ words) meant
+explain_read words meant e =
+    let own = own_words the.Explain (λ w. refl) words meant e in
+    go words own.0 own.1
+  where
+    go : (words : List Word) → asked the.Explain words words ≡ Some meant → list_all (λ w. not (is_option w)) words ≡ true → Reads (codes "explain" ∷ words) meant
+    unfolding asked
+    go [] is all = record {
+      takes = line_takes (codes "explain") X explain_enters [] explain_alone.passes_alone;
+      says = subst (λ found. Says found meant) (sym (line_finds (codes "explain") X explain_enters []))
+          (subst (Says (Some (codes "explain", rows_after X.rules [] []))) (some_is (explain None) meant is) (refl, explain_alone.reads_none));
+    }
+    go (topic ∷ []) is all =
+        let is_name = (not_true (is_option topic) _ all).0 in
+        record {
+          takes = line_takes (codes "explain") X explain_enters (topic ∷ []) (one_level X (codes "TOPIC") explain_asks topic is_name);
+          says = subst (λ found. Says found meant) (sym (line_finds (codes "explain") X explain_enters (topic ∷ [])))
+              (subst (Says (Some (codes "explain", rows_after X.rules [] (topic ∷ [])))) (some_is (explain (Some topic)) meant is) (refl, one_found X (codes "TOPIC") explain_asks topic is_name));
+        }
+    go (topic ∷ (more ∷ rest)) is all = cc
 
 -- two words
 record IsTwo (name first second : Text) (words : List Word) (meant : Command) : Type 0 where
@@ -304,17 +350,19 @@ module _ (word : Word) (words : List Word) (meant : Command) where
 
   command_read : command_meaning (command_named word) words ≡ Ok meant → Reads (word ∷ words) meant
   command_read =
-      named_or (codes "check") the.Check _ (files_read the.Check (codes "check") (leaf_of check_app) true check_switches check_enters check_facts (λ w is. is) refl check_files words meant)
+      named_or (codes "check") the.Check _ (files_read the.Check (codes "check") (leaf_of check_app) true names_alone check_switches check_enters check_facts (λ w is. is) refl check_files words meant)
       (named_or (codes "dump") the.Dump _ (one_read the.Dump (codes "dump") (codes "FILE") (leaf_of (file_app (codes "dump"))) dump_enters (file_asks (codes "dump")) (λ w. refl) dump_one words meant)
       (named_or (codes "unwind") the.Unwind _ (two_read the.Unwind (codes "unwind") (codes "FILE") (codes "IMAGE") (leaf_of unwind_app) unwind_enters unwind_asks (λ w. refl) unwind_two words meant)
-      (named_or (codes "sites") the.Sites _ (files_read the.Sites (codes "sites") (leaf_of (rewriting_app (codes "sites"))) true common_switches sites_enters (common_facts (codes "sites")) (λ w is. is) refl sites_files words meant)
+      (named_or (codes "sites") the.Sites _ (files_read the.Sites (codes "sites") (leaf_of (rewriting_app (codes "sites"))) true names_alone common_switches sites_enters (common_facts (codes "sites")) (λ w is. is) refl sites_files words meant)
       (named_or (codes "list") the.List _ (one_read the.List (codes "list") (codes "FILE") (leaf_of (file_app (codes "list"))) list_enters (file_asks (codes "list")) (λ w. refl) list_one words meant)
-      (named_or (codes "entry") the.Entry _ (files_read the.Entry (codes "entry") (leaf_of entry_app) false entry_switches entry_enters entry_facts (λ w is. is) refl entry_files words meant)
-      (named_or (codes "cfi") the.Cfi _ (files_read the.Cfi (codes "cfi") (leaf_of (rewriting_app (codes "cfi"))) true common_switches cfi_enters (common_facts (codes "cfi")) (λ w is. is) refl cfi_files words meant)
+      (named_or (codes "entry") the.Entry _ (files_read the.Entry (codes "entry") (leaf_of entry_app) false names_alone entry_switches entry_enters entry_facts (λ w is. is) refl entry_files words meant)
+      (named_or (codes "cfi") the.Cfi _ (files_read the.Cfi (codes "cfi") (leaf_of (rewriting_app (codes "cfi"))) true names_alone common_switches cfi_enters (common_facts (codes "cfi")) (λ w is. is) refl cfi_files words meant)
       (named_or (codes "cfa") the.Cfa _ (one_read the.Cfa (codes "cfa") (codes "FILE") (leaf_of (file_app (codes "cfa"))) cfa_enters (file_asks (codes "cfa")) (λ w. refl) cfa_one words meant)
       (named_or (codes "merge") the.Merge _ (two_read the.Merge (codes "merge") (codes "LAYOUT") (codes "OUT") (leaf_of merge_app) merge_enters merge_asks (λ w. refl) merge_two words meant)
       (named_or (codes "find") the.Find _ (two_read the.Find (codes "find") (codes "TABLE") (codes "ADDR") (leaf_of find_app) find_enters find_asks (λ w. refl) find_two words meant)
-      (named_or (codes "demo") the.Demo None (one_read the.Demo (codes "demo") (codes "N") (leaf_of demo_app) demo_enters demo_asks (λ w. refl) demo_one words meant) none_read))))))))))
+      (named_or (codes "show") the.Show _ (files_read the.Show (codes "show") (leaf_of show_app) false show_values show_switches show_enters show_facts show_known refl show_files words meant)
+      (named_or (codes "explain") the.Explain _ (explain_read words meant)
+      (named_or (codes "demo") the.Demo None (one_read the.Demo (codes "demo") (codes "N") (leaf_of demo_app) demo_enters demo_asks (λ w. refl) demo_one words meant) none_read))))))))))))
 
 help_answers : fault_of line_app (codes "--help" ∷ []) ≡ DisplayHelp ∷ []
 unfolding clap_on_literals

@@ -1,11 +1,11 @@
--- What clap does at each word of a command that asks for IN and maybe OUT, and has options without a value and `--names=FILE`.
-use Rattle.std.proofs.Common.{◌≡◌, ℕ, ◌+◌, Bool, true, false, cond, not, ◌&&◌, ◌||◌, List, [], ◌∷◌, ◌++◌, Option, Some, None, option_and_then, refl, ap, ◌∙◌, bytes_eq, codes}
+-- What clap does at each word of a command that asks for IN and maybe OUT, and has options, some with a value.
+use Rattle.std.proofs.Common.{◌≡◌, ◌⊎◌, ℕ, ◌+◌, Bool, true, false, cond, not, ◌&&◌, ◌||◌, List, [], ◌∷◌, ◌++◌, Option, Some, None, option_and_then, is_some, refl, ap, subst, ◌∙◌, inl, inr, bytes_eq, codes}
 use Rattle.std.specs.Option.{unwrap_or}
 use Rattle.std.proofs.lemmas.Slice.Eq.{bytes_eq-Decides}
 use Rattle.clap.specs.Simple.{Shape, new_rule}
 use Rattle.clap.specs.Takes.{is_given, level_passes, settle_passes, turn_passes, walk_passes}
 use Rattle.clap.specs.Walk.{Held, Row, Rule, Text, arg_by_id, finished, has_row, nothing_held, pushed, reacted, row_text, settled, used, walk, walked}
-use Rattle.cli_words.specs.Words.{Word, is_names_option, is_option}
+use Rattle.cli_words.specs.Words.{Word, is_option, is_same_option, value_after}
 use Rattle.cli_matches.specs.Matches.{switch_text}
 use Rattle.cli_matches.proofs.Leaves.{at_idle}
 use Rattle.cli_matches.proofs.Rows.{look, set_row, with_defaults}
@@ -28,6 +28,16 @@ pub all_of_both : (P Q R : Text → Type 0) → ((name : Text) → P name → Q 
 all_of_both P Q R f [] all both = tt
 all_of_both P Q R f (name ∷ names) all both = record { first = f name all.first both.first; rest = all_of_both P Q R f names all.rest both.rest }
 
+-- the text is one of these
+abbrev pub IsIn : Text → List Text → Type 0
+IsIn name [] = ⊥
+IsIn name (other ∷ names) = (other ≡ name) ⊎ IsIn name names
+
+pub all_at : (P : Text → Type 0) (name : Text) (names : List Text) → IsIn name names → AllAre P names → P name
+all_at P name [] among all = absurd among
+all_at P name (other ∷ names) (inl is) all = subst P is all.first
+all_at P name (other ∷ names) (inr among) all = all_at P name names among all.rest
+
 -- ---- rows
 
 abbrev pub rule_named : Shape → Text → Rule
@@ -45,28 +55,39 @@ switched s name given = cond given (Some (switch_row s name)) None
 abbrev pub dashed : Text → Word
 dashed name = 45 ∷ (45 ∷ name)
 
+-- how a word begins that gives an option a value, and the whole word
+abbrev pub start_of : Text → Word
+start_of name = dashed name ++ codes "="
+
+abbrev pub valued : Text → Word → Word
+valued name value = start_of name ++ value
+
 -- the rows that were held, with those of what was pending
 abbrev pub rows_held : Shape → Held → List Row
 rows_held s h = (settled s.rules h).rows
 
 -- ---- the facts
 
--- an option that has no value
-pub record HasSwitch (s : Shape) (name : Text) : Type 0 where
+-- an option that has no value, and another that has one, aren't taken for each other
+pub record Apart (s : Shape) (name other : Text) : Type 0 where
+  pub gives_no_value : is_some (value_after (start_of other) (dashed name)) ≡ false
+  pub no_row : look other (switch_row s name ∷ []) ≡ None
+  pub not_row : (value : Word) → look name (text_row s other value ∷ []) ≡ None
+  pub not_word : (value : Word) → bytes_eq (valued other value) (dashed name) ≡ false
+
+-- an option that has no value, beside these that have one
+pub record HasSwitch (s : Shape) (values : List Text) (name : Text) : Type 0 where
   pub walks : (h : Held) (position : ℕ) → walked s.rules [] (at_idle h position) (dashed name) ≡ at_idle (reacted s.rules (rule_named s name) [] h) position
   pub passes : (h : Held) (position : ℕ) → turn_passes s [] (at_idle h position) (dashed name) ≡ ((settle_passes s.rules false h && ((not (has_row name (rows_held s h)) || false) && true)) && true)
   pub is_used : (rows : List Row) → has_row name rows ≡ false → used (rule_named s name) [] rows ≡ rows ++ switch_row s name ∷ []
   pub settles : (h : Held) → settle_passes s.rules false (reacted s.rules (rule_named s name) [] h) ≡ true
   pub rows_are : (h : Held) → rows_held s (reacted s.rules (rule_named s name) [] h) ≡ used (rule_named s name) [] (rows_held s h)
   pub id : (rule_named s name).id ≡ name
-  pub gives_no_file : is_names_option (dashed name) ≡ false
   pub no_input : look (codes "IN") (switch_row s name ∷ []) ≡ None
   pub no_output : look (codes "OUT") (switch_row s name ∷ []) ≡ None
-  pub no_names : look (codes "names") (switch_row s name ∷ []) ≡ None
   pub not_input : (word : Word) → look name (text_row s (codes "IN") word ∷ []) ≡ None
   pub not_output : (word : Word) → look name (text_row s (codes "OUT") word ∷ []) ≡ None
-  pub not_names : (file : Word) → look name (text_row s (codes "names") file ∷ []) ≡ None
-  pub not_file : (file : Word) → bytes_eq (codes "--names=" ++ file) (dashed name) ≡ false
+  pub apart : AllAre (Apart s name) values
   pub says : (given : Bool) → option_and_then row_text (with_defaults name s.rules (switched s name given)) ≡ Some (switch_text given)
 
 -- a name that the command asks for, which stands at a position
@@ -76,26 +97,34 @@ pub record HasPlace (s : Shape) (name : Text) (position : ℕ) : Type 0 where
   pub settles : (h : Held) (word : Word) → has_row name (rows_held s h) ≡ false → settle_passes s.rules false (pushed name word (settled s.rules h)) ≡ true
   pub rows_are : (h : Held) (word : Word) → has_row name (rows_held s h) ≡ false → rows_held s (pushed name word (settled s.rules h)) ≡ rows_held s h ++ text_row s name word ∷ []
 
--- the option `--names=FILE`
-pub record HasNames (s : Shape) : Type 0 where
-  pub walks : (h : Held) (file : Word) (position : ℕ) → walked s.rules [] (at_idle h position) (codes "--names=" ++ file) ≡ at_idle (reacted s.rules (rule_named s (codes "names")) (file ∷ []) h) position
-  pub passes : (h : Held) (file : Word) (position : ℕ) → turn_passes s [] (at_idle h position) (codes "--names=" ++ file) ≡ ((settle_passes s.rules false h && ((not (has_row (codes "names") (rows_held s h)) || false) && true)) && true)
-  pub settles : (h : Held) (file : Word) → settle_passes s.rules false (reacted s.rules (rule_named s (codes "names")) (file ∷ []) h) ≡ true
-  pub rows_are : (h : Held) (file : Word) → has_row (codes "names") (rows_held s h) ≡ false
-      → rows_held s (reacted s.rules (rule_named s (codes "names")) (file ∷ []) h) ≡ rows_held s h ++ text_row s (codes "names") file ∷ []
-  pub default : with_defaults (codes "names") s.rules None ≡ None
+-- an option that has a value, one of these
+pub record HasValue (s : Shape) (values : List Text) (name : Text) : Type 0 where
+  pub among : IsIn name values
+  pub walks : (h : Held) (value : Word) (position : ℕ) → walked s.rules [] (at_idle h position) (valued name value) ≡ at_idle (reacted s.rules (rule_named s name) (value ∷ []) h) position
+  pub passes : (h : Held) (value : Word) (position : ℕ) → turn_passes s [] (at_idle h position) (valued name value) ≡ ((settle_passes s.rules false h && ((not (has_row name (rows_held s h)) || false) && true)) && true)
+  pub settles : (h : Held) (value : Word) → settle_passes s.rules false (reacted s.rules (rule_named s name) (value ∷ []) h) ≡ true
+  pub rows_are : (h : Held) (value : Word) → has_row name (rows_held s h) ≡ false
+      → rows_held s (reacted s.rules (rule_named s name) (value ∷ []) h) ≡ rows_held s h ++ text_row s name value ∷ []
+  pub default : with_defaults name s.rules None ≡ None
+  pub id : (rule_named s name).id ≡ name
+  pub gives : (value : Word) → value_after (start_of name) (valued name value) ≡ Some value
+  pub same : (value word : Word) → is_some (value_after (start_of name) word) ≡ true → is_same_option (valued name value) word ≡ true
+  pub no_input : (value : Word) → look (codes "IN") (text_row s name value ∷ []) ≡ None
+  pub no_output : (value : Word) → look (codes "OUT") (text_row s name value ∷ []) ≡ None
+  pub not_input : (word : Word) → look name (text_row s (codes "IN") word ∷ []) ≡ None
+  pub not_output : (word : Word) → look name (text_row s (codes "OUT") word ∷ []) ≡ None
+  pub others : AllAre (λ other. bytes_eq name other ≡ false → (value : Word) → is_some (value_after (start_of other) (valued name value)) ≡ false) values
 
 -- a command with these options, which asks for IN, and for OUT if it writes
-pub record HasOptions (s : Shape) (writes : Bool) (switches : List Text) : Type 0 where
+pub record HasOptions (s : Shape) (writes : Bool) (values switches : List Text) : Type 0 where
   pub input : HasPlace s (codes "IN") 1
   pub output : writes ≡ true → HasPlace s (codes "OUT") 2
-  pub names : HasNames s
   pub input_id : (rule_named s (codes "IN")).id ≡ codes "IN"
   pub output_id : (rule_named s (codes "OUT")).id ≡ codes "OUT"
   pub input_default : with_defaults (codes "IN") s.rules None ≡ None
   pub output_default : with_defaults (codes "OUT") s.rules None ≡ None
-  pub names_id : (rule_named s (codes "names")).id ≡ codes "names"
-  pub each : AllAre (HasSwitch s) switches
+  pub each : AllAre (HasSwitch s values) switches
+  pub each_value : AllAre (HasValue s values) values
   pub level : (words : List Word) → let end = (walk s.rules [] nothing_held words).held in
       level_passes s [] nothing_held words false
       ≡ (walk_passes s [] (at_idle nothing_held 1) words && (settle_passes s.rules false end && (is_given (codes "IN") (finished s.rules end) && cond writes (is_given (codes "OUT") (finished s.rules end) && true) true)))

@@ -1,12 +1,12 @@
 -- What clap reads behind a command without options.
-use Rattle.std.proofs.Common.{◌≡◌, true, false, ◌&&◌, List, [], ◌∷◌, Some, refl, ap, ap₂, ◌∙◌, codes}
+use Rattle.std.proofs.Common.{◌≡◌, true, false, ◌&&◌, List, [], ◌∷◌, Some, None, refl, ap, ap₂, ◌∙◌, codes}
 use Rattle.std.specs.List.{list_all}
 use Rattle.clap.specs.Simple.{Shape}
 use Rattle.clap.specs.Takes.{default_passes, is_valid, level_passes, settle_passes, step_passes, turn_passes, walk_passes}
 use Rattle.clap.specs.Walk.{Held, Row, Text, Walk, arg_by_index, finished, first_of, nothing_held, rows_after, to_positional, value, walk, walked}
 use Rattle.clap.proofs.OnLiterals.{clap_on_literals}
 use Rattle.cli_words.specs.Words.{Word, is_option}
-use Rattle.cli_matches.specs.Definition.{demo_app, file_app, find_app, merge_app, unwind_app}
+use Rattle.cli_matches.specs.Definition.{demo_app, explain_app, file_app, find_app, merge_app, unwind_app}
 use Rattle.cli_matches.specs.Matches.{SaysPair}
 use Rattle.cli_matches.proofs.Built.{leaf_of}
 use Rattle.cli_matches.proofs.Leaves.{at_idle, name_passes, name_walked}
@@ -35,6 +35,19 @@ file_asks name = record { goes = λ word. refl; passes = refl; ends = λ word. r
 pub demo_asks : AsksOne (leaf_of demo_app) (codes "N")
 unfolding clap_on_literals
 demo_asks = record { goes = λ word. refl; passes = refl; ends = λ word. refl; reads = λ word. refl }
+
+pub explain_asks : AsksOne (leaf_of explain_app) (codes "TOPIC")
+unfolding clap_on_literals
+explain_asks = record { goes = λ word. refl; passes = refl; ends = λ word. refl; reads = λ word. refl }
+
+-- or none, where it may be left out
+pub record AsksMaybe (s : Shape) (place : Text) : Type 0 where
+  pub passes_alone : level_passes s [] nothing_held [] false ≡ true
+  pub reads_none : first_of place (rows_after s.rules [] []) ≡ None
+
+pub explain_alone : AsksMaybe (leaf_of explain_app) (codes "TOPIC")
+unfolding clap_on_literals walk_passes
+explain_alone = record { passes_alone = refl; reads_none = refl }
 
 module _ (s : Shape) (place : Text) (asks : AsksOne s place) (word : Word) (e : is_option word ≡ false) where
   one_walk : walk s.rules [] nothing_held (word ∷ []) ≡ at_idle (holds place word []) 2

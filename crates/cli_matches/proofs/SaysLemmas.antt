@@ -7,11 +7,11 @@ use Rattle.cli_words.specs.declared.options.CheckOptions.{CheckOptions}
 use Rattle.cli_words.specs.declared.options.EntryRules.{EntryRules}
 use Rattle.cli_words.specs.declared.word.CommandWord.{CommandWord}
 use Rattle.cli_words.specs.declared.word.CommandWord.TheVariants as the
-use Rattle.cli_words.specs.Grammar.{Command, cfa, cfi, check, demo, dump, entry, find, help, list, merge, sites, unwind, version}
+use Rattle.cli_words.specs.Grammar.{Command, cfa, cfi, check, demo, dump, entry, explain, find, help, list, merge, show, sites, unwind, version}
 use Rattle.cli_words.specs.Numbers.{address_of, number_of}
 use Rattle.cli_words.specs.Words.{Word, command_named}
 use Rattle.cli_matches.specs.declared.reading.Rewriting.{Rewriting}
-use Rattle.cli_matches.specs.Matches.{Says, SaysArguments, SaysCheck, SaysEntry, SaysPair, SaysRewriting, name_of}
+use Rattle.cli_matches.specs.Matches.{Says, SaysArguments, SaysCheck, SaysEntry, SaysPair, SaysRewriting, SaysShow, name_of}
 
 pub some_of : {X : Type 0} (x y : X) → Some x ≡ Some y → x ≡ y
 some_of x y e = ap (λ o. unwrap_or o x) e
@@ -42,6 +42,8 @@ word_of (cfi input output map names) = Some the.Cfi
 word_of (cfa file) = Some the.Cfa
 word_of (merge layout output) = Some the.Merge
 word_of (find table address) = Some the.Find
+word_of (show input function map names) = Some the.Show
+word_of (explain topic) = Some the.Explain
 word_of (demo n) = Some the.Demo
 word_of help = None
 word_of version = None
@@ -57,6 +59,8 @@ named (cfi input output map names) = refl
 named (cfa file) = refl
 named (merge layout output) = refl
 named (find table address) = refl
+named (show input function map names) = refl
+named (explain topic) = refl
 named (demo n) = refl
 named help = refl
 named version = refl
@@ -76,6 +80,8 @@ IsReadAs the.Cfi rows read = (i o : Word) (map : Map) (names : Option Word) → 
 IsReadAs the.Cfa rows read = (file : Word) → first_of (codes "FILE") rows ≡ Some file → read ≡ Some (cfa file)
 IsReadAs the.Merge rows read = (layout output : Word) → SaysPair rows (codes "LAYOUT") (codes "OUT") layout output → read ≡ Some (merge layout output)
 IsReadAs the.Find rows read = (table text : Word) (address : ℕ) → SaysPair rows (codes "TABLE") (codes "ADDR") table text → address_of text ≡ Some address → read ≡ Some (find table address)
+IsReadAs the.Show rows read = (input : Word) (function : Option Word) (map : Map) (names : Option Word) → SaysShow rows input function map names → read ≡ Some (show input function map names)
+IsReadAs the.Explain rows read = (topic : Option Word) → first_of (codes "TOPIC") rows ≡ topic → read ≡ Some (explain topic)
 IsReadAs the.Demo rows read = read ≡ option_map demo (option_and_then number_of (first_of (codes "N") rows))
 
 module _ (name : Text) (rows : List Row) (read : Option Command) where
@@ -93,6 +99,8 @@ module _ (name : Text) (rows : List Row) (read : Option Command) where
   by_word word (cfa file) is known says = as_word the.Cfa word is known file says
   by_word word (merge layout output) is known says = as_word the.Merge word is known layout output says
   by_word word (find table address) is known says = as_word the.Find word is known table says.0 address says.1 says.2
+  by_word word (show input function map names) is known says = as_word the.Show word is known input function map names says
+  by_word word (explain topic) is known says = as_word the.Explain word is known topic says
   by_word word (demo n) is known says =
       as_word the.Demo word is known ∙ ap (λ o. option_map demo (option_and_then number_of o)) says.1 ∙ ap (option_map demo) says.2
   by_word word help is known says = absurd says
@@ -112,6 +120,8 @@ module _ (name : Text) (rows : List Row) (read : Option Command) where
   no_word (cfa file) is says = cc
   no_word (merge layout output) is says = cc
   no_word (find table address) is says = cc
+  no_word (show input function map names) is says = cc
+  no_word (explain topic) is says = cc
   no_word (demo n) is says = cc
   no_word help is says = says
   no_word version is says = says

@@ -13,6 +13,10 @@ Makes made app = IfOk made (λ command. app_of command ≡ app)
 abbrev pub place_rule : Text → Rule
 place_rule name = record (new_rule name) { required = true }
 
+-- one that may be left out
+abbrev pub optional_rule : Text → Rule
+optional_rule name = new_rule name
+
 -- an option that has no value
 abbrev pub flag_rule : Text → ArgAction → Rule
 flag_rule name action = record (new_rule name) { long = Some name; action = Some action }
@@ -24,13 +28,13 @@ switch_rule name = flag_rule name SetTrue
 abbrev pub text_rule : Text → ℕ → ArgAction → Rule
 text_rule name letter action = record (flag_rule name action) { short = Some letter }
 
--- the option `--names=FILE`
-abbrev pub names_rule : Rule
-names_rule = record (new_rule (codes "names")) { long = Some (codes "names"); value_names = 1 }
+-- an option that has a value, as `--names=FILE`
+abbrev pub value_rule : Text → Rule
+value_rule name = record (new_rule name) { long = Some name; value_names = 1 }
 
--- with the options that `check`, `sites`, `entry` and `cfi` have
+-- with the options that `check`, `sites`, `entry`, `cfi` and `show` have
 abbrev pub with_common_options : App → App
-with_common_options app = with_rule (with_rule app (switch_rule (codes "all-opcodes"))) names_rule
+with_common_options app = with_rule (with_rule app (switch_rule (codes "all-opcodes"))) (value_rule (codes "names"))
 
 -- a command without arguments
 abbrev pub command_app : Text → App
@@ -56,6 +60,7 @@ check_app =
     let app = with_rule app (switch_rule (codes "rethunk")) in
     let app = with_rule app (switch_rule (codes "uaccess")) in
     let app = with_rule app (switch_rule (codes "no-unreachable")) in
+    let app = with_rule app (switch_rule (codes "backtrace")) in
     with_common_options app
 
 abbrev pub entry_app : App
@@ -74,6 +79,15 @@ merge_app = pair_app (codes "merge") (codes "LAYOUT") (codes "OUT")
 
 abbrev pub find_app : App
 find_app = pair_app (codes "find") (codes "TABLE") (codes "ADDR")
+
+abbrev pub show_app : App
+show_app =
+    let app = with_rule (command_app (codes "show")) (place_rule (codes "IN")) in
+    let app = with_rule app (value_rule (codes "function")) in
+    with_common_options app
+
+abbrev pub explain_app : App
+explain_app = with_rule (command_app (codes "explain")) (optional_rule (codes "TOPIC"))
 
 abbrev pub demo_app : App
 demo_app = with_rule (command_app (codes "demo")) (place_rule (codes "N"))
@@ -112,5 +126,7 @@ line_app =
     let app = with_subcommand app (file_app (codes "cfa")).top in
     let app = with_subcommand app merge_app.top in
     let app = with_subcommand app find_app.top in
+    let app = with_subcommand app show_app.top in
+    let app = with_subcommand app explain_app.top in
     let app = with_subcommand app demo_app.top in
     with_rule (with_rule app help_rule) version_rule

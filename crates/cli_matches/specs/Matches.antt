@@ -10,7 +10,7 @@ use Rattle.x86_map.specs.declared.map.Map.{Map}
 use Rattle.x86_map.specs.declared.map.Map.TheVariants.{Base, Whole}
 use Rattle.cli_words.specs.Words.{Word}
 use Rattle.cli_words.specs.Numbers.{address_of, number_of}
-use Rattle.cli_words.specs.Grammar.{Command, cfa, cfi, check, demo, dump, entry, find, help, list, merge, sites, unwind, version}
+use Rattle.cli_words.specs.Grammar.{Command, cfa, cfi, check, demo, dump, entry, explain, find, help, list, merge, show, sites, unwind, version}
 
 -- the value of an option that has none of its own
 abbrev pub switch_text : Bool → Text
@@ -40,6 +40,7 @@ pub record SaysCheck (rows : List Row) (input output : Word) (options : CheckOpt
   pub rethunk : SaysSwitch rows (codes "rethunk") options.rules.rethunk
   pub uaccess : SaysSwitch rows (codes "uaccess") options.rules.uaccess
   pub unreachable : SaysSwitch rows (codes "no-unreachable") (not options.rules.unreachable)
+  pub backtrace : SaysSwitch rows (codes "backtrace") options.backtrace
 
 -- the matches of `entry` say this
 pub record SaysEntry (rows : List Row) (input : Word) (rules : EntryRules) (map : Map) (names : Option Word) : Type 0 where
@@ -47,6 +48,13 @@ pub record SaysEntry (rows : List Row) (input : Word) (rules : EntryRules) (map 
   pub noinstr : SaysSwitch rows (codes "noinstr") rules.noinstr
   pub sls : SaysSwitch rows (codes "sls") rules.sls
   pub ibt : SaysSwitch rows (codes "ibt") rules.ibt
+  pub all_opcodes : SaysSwitch rows (codes "all-opcodes") (is_asked map)
+  pub names_are : first_of (codes "names") rows ≡ names
+
+-- the matches of `show` say this
+pub record SaysShow (rows : List Row) (input : Word) (function : Option Word) (map : Map) (names : Option Word) : Type 0 where
+  pub input_is : first_of (codes "IN") rows ≡ Some input
+  pub function_is : first_of (codes "function") rows ≡ function
   pub all_opcodes : SaysSwitch rows (codes "all-opcodes") (is_asked map)
   pub names_are : first_of (codes "names") rows ≡ names
 
@@ -66,6 +74,8 @@ name_of (cfi input output map names) = Some (codes "cfi")
 name_of (cfa file) = Some (codes "cfa")
 name_of (merge layout output) = Some (codes "merge")
 name_of (find table address) = Some (codes "find")
+name_of (show input function map names) = Some (codes "show")
+name_of (explain topic) = Some (codes "explain")
 name_of (demo n) = Some (codes "demo")
 name_of help = None
 name_of version = None
@@ -82,6 +92,8 @@ SaysArguments rows (cfi input output map names) = SaysRewriting rows input outpu
 SaysArguments rows (cfa file) = first_of (codes "FILE") rows ≡ Some file
 SaysArguments rows (merge layout output) = SaysPair rows (codes "LAYOUT") (codes "OUT") layout output
 SaysArguments rows (find table address) = (text : Word) × SaysPair rows (codes "TABLE") (codes "ADDR") table text × (address_of text ≡ Some address)
+SaysArguments rows (show input function map names) = SaysShow rows input function map names
+SaysArguments rows (explain topic) = first_of (codes "TOPIC") rows ≡ topic
 SaysArguments rows (demo n) = (text : Word) × (first_of (codes "N") rows ≡ Some text) × (number_of text ≡ Some n)
 SaysArguments rows _ = ⊥
 

@@ -2,7 +2,7 @@
 
 ghost use Rattle.std.specs.Prelude.{◌≡◌, IfOk, codes, true};
 ghost use Rattle.clap.specs.Words.{App, app_of, with_rule, with_subcommand};
-ghost use Rattle.cli_matches.specs.Definition.{Makes, check_app, command_app, demo_app, entry_app, file_app, find_app, line_app, merge_app, names_rule, place_rule, program_app, rewriting_app, switch_rule, text_rule, unwind_app, with_common_options};
+ghost use Rattle.cli_matches.specs.Definition.{Makes, check_app, command_app, demo_app, entry_app, explain_app, file_app, find_app, line_app, merge_app, optional_rule, place_rule, program_app, rewriting_app, show_app, switch_rule, text_rule, unwind_app, value_rule, with_common_options};
 
 use clap::{Arg, ArgAction, Command};
 use std::alloc::{AllocError, Global};
@@ -34,6 +34,10 @@ const MERGE: &str = "Merge the rows of several objects' ORC tables into one tabl
 
 const FIND: &str = "Print the row of a merged table that holds at an address";
 
+const SHOW: &str = "Print the program of an object as the checker sees it";
+
+const EXPLAIN: &str = "Print what a rule or a refusal means";
+
 const DEMO: &str = "Make an object of N functions, check it, and print what it has";
 
 /// A command in the making, unless memory ran out. Each step hands that on, so that none is left by `?`
@@ -46,6 +50,16 @@ fn with_place<'a>(alloc: Global, command: Making<'a>, name: &'a str, help: &'a s
 {
     match command {
         Ok(command) => command.arg(Arg::new(alloc, name).required(true).help(help)),
+        Err(fault) => Err(fault),
+    }
+}
+
+/// With one more word that may be left out.
+fn with_optional<'a>(alloc: Global, command: Making<'a>, name: &'a str, help: &'a str) -> Making<'a>
+    ensures { (app : App) → Makes command.entry app → Makes result (with_rule app (optional_rule name.entry.now)) }
+{
+    match command {
+        Ok(command) => command.arg(Arg::new(alloc, name).help(help)),
         Err(fault) => Err(fault),
     }
 }
@@ -88,16 +102,22 @@ fn with_text<'a>(
     }
 }
 
-/// With the option that has a value.
-fn with_names<'a>(alloc: Global, command: Making<'a>) -> Making<'a>
-    ensures { (app : App) → Makes command.entry app → Makes result (with_rule app names_rule) }
+/// With one more option that has a value, which is given by its long name alone.
+fn with_value<'a>(
+    alloc: Global,
+    command: Making<'a>,
+    name: &'a str,
+    value: &'a str,
+    help: &'a str,
+) -> Making<'a>
+    ensures { (app : App) → Makes command.entry app → Makes result (with_rule app (value_rule name.entry.now)) }
 {
     match command {
         Ok(command) => command.arg(
-            Arg::new(alloc, "names")
-                .long("names")
-                .value_name("FILE")
-                .help("Add the function names of FILE to the lists that are built in"),
+            Arg::new(alloc, name)
+                .long(name)
+                .value_name(value)
+                .help(help),
         ),
         Err(fault) => Err(fault),
     }
@@ -113,7 +133,13 @@ fn with_common_options<'a>(alloc: Global, command: Making<'a>) -> Making<'a>
         "all-opcodes",
         "Read vector, virtualization and newer system instructions too",
     );
-    with_names(alloc, command)
+    with_value(
+        alloc,
+        command,
+        "names",
+        "FILE",
+        "Add the function names of FILE to the lists that are built in",
+    )
 }
 
 /// A command, whose words are `program`, those of the program and of the command, and its own.
@@ -212,6 +238,12 @@ pub fn check<'a>(alloc: Global) -> Result<Command<'a>, AllocError>
         check,
         "no-unreachable",
         "Don't check that each instruction is reached",
+    );
+    let check = with_switch(
+        alloc,
+        check,
+        "backtrace",
+        "Print where each warning is and how control came there",
     );
     with_common_options(alloc, check)
 }
@@ -314,6 +346,40 @@ pub fn find<'a>(alloc: Global) -> Result<Command<'a>, AllocError>
     with_place(alloc, find, "ADDR", "The address, in hexadecimal digits")
 }
 
+/// The command `show`, with its word and options.
+pub fn show<'a>(alloc: Global) -> Result<Command<'a>, AllocError>
+    ensures { IfOk result (λ command. app_of command ≡ show_app) }
+{
+    let show = command(alloc, "show", "objtool show", SHOW);
+    let show = with_place(
+        alloc,
+        show,
+        "IN",
+        "The object, an ELF64 relocatable file for x86-64",
+    );
+    let show = with_value(
+        alloc,
+        show,
+        "function",
+        "NAME",
+        "Print the code of this function alone",
+    );
+    with_common_options(alloc, show)
+}
+
+/// The command `explain`, with its word.
+pub fn explain<'a>(alloc: Global) -> Result<Command<'a>, AllocError>
+    ensures { IfOk result (λ command. app_of command ≡ explain_app) }
+{
+    let explain = command(alloc, "explain", "objtool explain", EXPLAIN);
+    with_optional(
+        alloc,
+        explain,
+        "TOPIC",
+        "A rule's number, or the kind of a refusal; where none is given, all are listed",
+    )
+}
+
 /// The command `demo`, with its word.
 pub fn demo<'a>(alloc: Global) -> Result<Command<'a>, AllocError>
     ensures { IfOk result (λ command. app_of command ≡ demo_app) }
@@ -364,6 +430,8 @@ pub fn command_line<'a>(alloc: Global) -> Result<Command<'a>, AllocError>
     let line = with_command(line, cfa(alloc));
     let line = with_command(line, merge(alloc));
     let line = with_command(line, find(alloc));
+    let line = with_command(line, show(alloc));
+    let line = with_command(line, explain(alloc));
     let line = with_command(line, demo(alloc));
     let line = with_text(alloc, line, "help", 'h', ArgAction::Help, "Print help");
     with_text(

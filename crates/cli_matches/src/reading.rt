@@ -5,10 +5,10 @@ ghost use Rattle.clap.specs.Words.{first_of, subcommand_rows_of};
 ghost use Rattle.cli_words.specs.declared.options.CheckOptions.{CheckOptions};
 ghost use Rattle.cli_words.specs.declared.options.EntryRules.{EntryRules};
 ghost use Rattle.x86_map.specs.declared.map.Map.{Map as MapKind};
-ghost use Rattle.cli_words.specs.Grammar.{Command as Meant, cfa, cfi, check, command_in, demo, dump, entry, find, IsFaultOf, list, meaning, merge, sites, unwind};
+ghost use Rattle.cli_words.specs.Grammar.{Command as Meant, cfa, cfi, check, command_in, demo, dump, entry, explain, find, IsFaultOf, list, meaning, merge, show, sites, unwind};
 ghost use Rattle.cli_words.specs.Numbers.{address_of, number_of};
 ghost use Rattle.cli_words.specs.Words.{Word};
-ghost use Rattle.cli_matches.specs.Matches.{Says, SaysCheck, SaysEntry, SaysPair, SaysRewriting, SaysSwitch, is_asked, request_of, rows_in};
+ghost use Rattle.cli_matches.specs.Matches.{Says, SaysCheck, SaysEntry, SaysPair, SaysRewriting, SaysShow, SaysSwitch, is_asked, request_of, rows_in};
 
 use crate::definition::command_line;
 use clap::ArgMatches;
@@ -111,6 +111,7 @@ fn check_of(alloc: Global, found: &ArgMatches<'_>) -> Result<Option<Command>, Al
             options: CheckOptions {
                 map,
                 rules: rules_of(found),
+                backtrace: is_given(found, "backtrace"),
             },
             names,
         })),
@@ -190,6 +191,26 @@ fn entry_of(alloc: Global, found: &ArgMatches<'_>) -> Result<Option<Command>, Al
         Some(input) => Ok(Some(Command::Entry {
             input,
             rules: entry_rules_of(found),
+            map: map_of(found),
+            names,
+        })),
+        None => Ok(None),
+    }
+}
+
+/// The command of `show`.
+fn show_of(alloc: Global, found: &ArgMatches<'_>) -> Result<Option<Command>, AllocError>
+    ensures { IfOk result (λ read. (input : Word) (function : Option Word) (map : MapKind) (names : Option Word)
+        → SaysShow (rows_in found.now) input function map names
+        → option_map command_in read ≡ Some (show input function map names)) }
+{
+    let input = text_of(alloc, found, "IN")?;
+    let function = text_of(alloc, found, "function")?;
+    let names = text_of(alloc, found, "names")?;
+    match input {
+        Some(input) => Ok(Some(Command::Show {
+            input,
+            function,
             map: map_of(found),
             names,
         })),
@@ -285,6 +306,15 @@ fn find_of(alloc: Global, found: &ArgMatches<'_>) -> Result<Option<Command>, All
     }
 }
 
+/// The command of `explain`.
+fn explain_of(alloc: Global, found: &ArgMatches<'_>) -> Result<Option<Command>, AllocError>
+    ensures { IfOk result (λ read. (topic : Option Word) → first_of (codes "TOPIC") (rows_in found.now) ≡ topic
+        → option_map command_in read ≡ Some (explain topic)) }
+{
+    let topic = text_of(alloc, found, "TOPIC")?;
+    Ok(Some(Command::Explain { topic }))
+}
+
 /// The number of `demo`.
 fn number_in(found: &ArgMatches<'_>) -> Option<u32>
     ensures { result ≡ option_and_then number_of (first_of (codes "N") (rows_in found.now)) }
@@ -325,6 +355,8 @@ fn named_command(
         "cfa" => cfa_of(alloc, found),
         "merge" => merge_of(alloc, found),
         "find" => find_of(alloc, found),
+        "show" => show_of(alloc, found),
+        "explain" => explain_of(alloc, found),
         "demo" => Ok(demo_of(found)),
         _ => Ok(None),
     }

@@ -11,17 +11,19 @@ Checks how compiled kernel code uses the stack, and makes and reads ORC unwind t
 Usage: objtool <COMMAND>
 
 Commands:
-  check   Check an object, and write it with its ORC tables added
-  dump    Print the rows of an object's ORC tables
-  unwind  Print the frames of a stack, by an object's ORC tables
-  sites   Write an object with lists of its returns, calls through thunks and calls
-  list    Print the site lists of an object
-  entry   Check code against the entry rules
-  cfi     Check an object and write it with call frame information
-  cfa     Print the call frame information of an object
-  merge   Merge the rows of several objects' ORC tables into one table
-  find    Print the row of a merged table that holds at an address
-  demo    Make an object of N functions, check it, and print what it has
+  check    Check an object, and write it with its ORC tables added
+  dump     Print the rows of an object's ORC tables
+  unwind   Print the frames of a stack, by an object's ORC tables
+  sites    Write an object with lists of its returns, calls through thunks and calls
+  list     Print the site lists of an object
+  entry    Check code against the entry rules
+  cfi      Check an object and write it with call frame information
+  cfa      Print the call frame information of an object
+  merge    Merge the rows of several objects' ORC tables into one table
+  find     Print the row of a merged table that holds at an address
+  show     Print the program of an object as the checker sees it
+  explain  Print what a rule or a refusal means
+  demo     Make an object of N functions, check it, and print what it has
 
 Options:
   -h, --help     Print help
@@ -41,6 +43,7 @@ Options:
       --rethunk         Check that no return instruction is left outside listed places
       --uaccess         Check that user access is off outside of listed functions
       --no-unreachable  Don't check that each instruction is reached
+      --backtrace       Print where each warning is and how control came there
       --all-opcodes     Read vector, virtualization and newer system instructions too
       --names=<FILE>    Add the function names of FILE to the lists that are built in
 
@@ -126,6 +129,25 @@ Usage: objtool find <TABLE> <ADDR>
 Arguments:
   <TABLE>  The merged table
   <ADDR>   The address, in hexadecimal digits
+
+Print the program of an object as the checker sees it
+
+Usage: objtool show [OPTIONS] <IN>
+
+Arguments:
+  <IN>  The object, an ELF64 relocatable file for x86-64
+
+Options:
+      --function=<NAME>  Print the code of this function alone
+      --all-opcodes      Read vector, virtualization and newer system instructions too
+      --names=<FILE>     Add the function names of FILE to the lists that are built in
+
+Print what a rule or a refusal means
+
+Usage: objtool explain [TOPIC]
+
+Arguments:
+  [TOPIC]  A rule's number, or the kind of a refusal; where none is given, all are listed
 
 Make an object of N functions, check it, and print what it has
 

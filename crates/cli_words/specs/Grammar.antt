@@ -9,13 +9,14 @@ use Rattle.cli_words.specs.declared.options.EntryRules.{EntryRules}
 use Rattle.cli_words.specs.declared.word.CommandWord.{CommandWord}
 use Rattle.cli_words.specs.declared.word.CommandWord.TheVariants as the
 use Rattle.cli_words.specs.declared.fault.UsageKind.{UsageKind}
-use Rattle.cli_words.specs.declared.fault.UsageKind.TheVariants.{NoCommand, UnknownCommand, UnknownOption, Repeated, Empty, BadNumber, Extra, Missing}
+use Rattle.cli_words.specs.declared.fault.UsageKind.TheVariants.{NoCommand, UnknownCommand, UnknownOption, Repeated, Empty, BadNumber, UnknownTopic, Extra, Missing}
 use Rattle.cli_words.specs.declared.fault.UsageFault.{UsageFault}
 use Rattle.cli_words.specs.declared.fault.UsageFault.TheVariants as fault
 use Rattle.cli_words.specs.declared.command.Command as declared
 use Rattle.cli_words.specs.declared.command.Command.TheVariants as variant
+use Rattle.explanations.specs.Topics.{is_topic}
 use Rattle.cli_words.specs.Numbers.{address_of, number_of}
-use Rattle.cli_words.specs.Words.{Word, command_named, gives, is_option, is_option_of, is_same_option, names_file, names_in, places_of}
+use Rattle.cli_words.specs.Words.{Word, command_named, function_name, gives, is_option, is_option_of, is_same_option, names_file, names_in, places_of}
 
 -- a command, with the names of its files
 pub data Command : Type 0 where
@@ -29,6 +30,8 @@ pub data Command : Type 0 where
   cfa : (file : Word) → Command
   merge : (layout output : Word) → Command
   find : (table : Word) (address : ℕ) → Command
+  show : (input : Word) (function : Option Word) (map : Map) (names : Option Word) → Command
+  explain : (topic : Option Word) → Command
   demo : (n : ℕ) → Command
   help : Command
   version : Command
@@ -45,6 +48,8 @@ command_in (variant.Cfi input output map names) = cfi (string_bytes input) (stri
 command_in (variant.Cfa file) = cfa (string_bytes file)
 command_in (variant.Merge layout output) = merge (string_bytes layout) (string_bytes output)
 command_in (variant.Find table address) = find (string_bytes table) address
+command_in (variant.Show input function map names) = show (string_bytes input) (option_map string_bytes function) map (option_map string_bytes names)
+command_in (variant.Explain topic) = explain (option_map string_bytes topic)
 command_in (variant.Demo n) = demo n
 command_in variant.Help = help
 command_in variant.Version = version
@@ -55,7 +60,7 @@ abbrev pub option_fault : CommandWord → List Word → Word → Option UsageKin
 option_fault command before word =
     if not (is_option_of command word) then Some UnknownOption
     else if list_any (is_same_option word) before then Some Repeated
-    else if bytes_eq word (codes "--names=") then Some Empty
+    else if bytes_eq word (codes "--names=") || bytes_eq word (codes "--function=") then Some Empty
     else None
 
 -- `demo` asks for a number, and `find` for an address behind the name of a table; places are counted from 0
@@ -64,12 +69,19 @@ is_bad_number the.Demo place word = not (is_some (number_of word))
 is_bad_number the.Find place word = place == 1 && not (is_some (address_of word))
 is_bad_number _ place word = false
 
--- The same of a name or a number: the command has all that it asks for, it is empty, it is no number or no address.
+-- `explain` asks for a topic
+abbrev pub is_unknown_topic : CommandWord → Word → Bool
+is_unknown_topic the.Explain word = not (is_topic word)
+is_unknown_topic _ word = false
+
+-- The same of a name or a number: the command has all that it asks for, it is empty, it is no number or no address, it is no
+-- topic.
 abbrev pub name_fault : CommandWord → List Word → Word → Option UsageKind
 name_fault command before word =
     if nat_le (places_of command) (length (names_in before)) then Some Extra
     else if length word == 0 then Some Empty
     else if is_bad_number command (length (names_in before)) word then Some BadNumber
+    else if is_unknown_topic command word then Some UnknownTopic
     else None
 
 unfoldable pub word_fault : CommandWord → List Word → Word → Option UsageKind
@@ -101,7 +113,7 @@ map_in words = if gives (codes "--all-opcodes") words then Whole else Base
 
 -- what the options of `check` ask for
 abbrev pub options_in : List Word → CheckOptions
-options_in words = record { map = map_in words; rules = rules_in words }
+options_in words = record { map = map_in words; rules = rules_in words; backtrace = gives (codes "--backtrace") words }
 
 -- the entry rules that the options of `entry` ask for
 abbrev pub entry_rules_in : List Word → EntryRules
@@ -123,6 +135,9 @@ asked the.Cfi (input ∷ output ∷ []) words = Some (cfi input output (map_in w
 asked the.Cfa (file ∷ []) words = Some (cfa file)
 asked the.Merge (layout ∷ output ∷ []) words = Some (merge layout output)
 asked the.Find (table ∷ address ∷ []) words = option_map (find table) (address_of address)
+asked the.Show (input ∷ []) words = Some (show input (function_name words) (map_in words) (names_file words))
+asked the.Explain [] words = Some (explain None)
+asked the.Explain (topic ∷ []) words = Some (explain (Some topic))
 asked the.Demo (n ∷ []) words = option_map demo (number_of n)
 asked command names words = None
 

@@ -65,6 +65,20 @@ pub enum Command {
         table: String,
         address: u64,
     },
+    /// `show IN` and its options: print the program of the object `input` as the checker sees it.
+    Show {
+        input: String,
+        /// The function whose code alone is printed, where one is given.
+        function: Option<String>,
+        map: Map,
+        /// The file of function names, where one is given.
+        names: Option<String>,
+    },
+    /// `explain` and maybe a topic: print what it means, or all topics.
+    Explain {
+        /// The topic, where one is given.
+        topic: Option<String>,
+    },
     /// `demo N`: check an object of `n` functions that is made up, from 0 to 100,000.
     Demo {
         n: u32,

@@ -19,6 +19,8 @@ pub enum UsageKind {
     /// A number isn't one from 0 to 100,000 in decimal digits, without zeros in front, or an address isn't
     /// 1 to 16 lower-case hexadecimal digits.
     BadNumber,
+    /// A name is no topic that can be explained.
+    UnknownTopic,
     /// The command takes no more names or numbers.
     Extra,
     /// A name or a number is missing.
@@ -49,6 +51,7 @@ impl fmt::Display for UsageKind {
             UsageKind::Repeated => write!(f, "repeated"),
             UsageKind::Empty => write!(f, "empty"),
             UsageKind::BadNumber => write!(f, "bad number"),
+            UsageKind::UnknownTopic => write!(f, "unknown topic"),
             UsageKind::Extra => write!(f, "extra"),
             UsageKind::Missing => write!(f, "missing"),
         }

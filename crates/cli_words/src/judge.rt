@@ -2,12 +2,13 @@
 
 ghost use Rattle.std.specs.Prelude.{◌≡◌, [], map, length, string_bytes};
 ghost use Rattle.std.specs.List.{list_any};
-ghost use Rattle.cli_words.specs.Grammar.{first_fault, is_bad_number, name_fault, option_fault, word_fault};
+ghost use Rattle.cli_words.specs.Grammar.{first_fault, is_bad_number, is_unknown_topic, name_fault, option_fault, word_fault};
 ghost use Rattle.cli_words.specs.Words.{is_same_option, names_in};
 
 use crate::fault::UsageKind;
 use crate::number::{address_of, number_of};
 use crate::word::{CommandWord, is_option, is_same_option};
+use explanations::is_topic;
 
 /// Whether an option stands among these words.
 fn is_given(before: &[String], option: &str) -> bool
@@ -38,7 +39,7 @@ fn option_fault(command: CommandWord, before: &[String], word: &str) -> Option<U
         Some(UsageKind::UnknownOption)
     } else if is_given(before, word) {
         Some(UsageKind::Repeated)
-    } else if word == "--names=" {
+    } else if word == "--names=" || word == "--function=" {
         Some(UsageKind::Empty)
     } else {
         None
@@ -57,6 +58,16 @@ fn is_bad_number(command: CommandWord, place: usize, word: &str) -> bool
     }
 }
 
+/// Whether the command asks for a topic, and the word isn't one.
+fn is_unknown_topic(command: CommandWord, word: &str) -> bool
+    ensures { result ≡ is_unknown_topic command word.now }
+{
+    match command {
+        CommandWord::Explain => !is_topic(word),
+        _ => false,
+    }
+}
+
 /// What is wrong with a name or a number behind a command and these words.
 fn name_fault(command: CommandWord, before: &[String], word: &str) -> Option<UsageKind>
     ensures { result ≡ name_fault command (map string_bytes before.now) word.now }
@@ -68,6 +79,8 @@ fn name_fault(command: CommandWord, before: &[String], word: &str) -> Option<Usa
         Some(UsageKind::Empty)
     } else if is_bad_number(command, place, word) {
         Some(UsageKind::BadNumber)
+    } else if is_unknown_topic(command, word) {
+        Some(UsageKind::UnknownTopic)
     } else {
         None
     }

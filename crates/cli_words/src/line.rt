@@ -30,6 +30,8 @@ fn is_complete(command: CommandWord, names: &[&str]) -> bool
         (CommandWord::Check | CommandWord::Sites | CommandWord::Cfi, [_, _]) => true,
         (CommandWord::Dump | CommandWord::List | CommandWord::Entry | CommandWord::Cfa, [_]) =>
             true,
+        (CommandWord::Show, [_]) => true,
+        (CommandWord::Explain, [] | [_]) => true,
         (CommandWord::Unwind | CommandWord::Merge, [_, _]) => true,
         (CommandWord::Find, [_, address]) => address_of(address).is_some(),
         (CommandWord::Demo, [n]) => number_of(n).is_some(),
@@ -68,9 +70,9 @@ fn is_lone(word: &str, words: &[String]) -> bool
 /// the first of them that is at fault, and what is wrong with it.
 ///
 /// The first word is a command word. Of the others those that begin with `-` are options, which `check`,
-/// `sites`, `entry` and `cfi` alone have, and the rest are names or numbers; they may be mixed. The words
+/// `sites`, `entry`, `cfi` and `show` alone have, and the rest are names or numbers; they may be mixed. The words
 /// are judged from left to right. At one word `UnknownCommand`, `UnknownOption`, `Repeated`, `Extra`,
-/// `Empty` and `BadNumber` are tested in this order; that a word is missing is found last.
+/// `Empty`, `BadNumber` and `UnknownTopic` are tested in this order; that a word is missing is found last.
 #[tactic(auto, unfolding(crate::specs::Grammar::meaning))]
 pub fn judge_words(alloc: Global, words: &[String]) -> Result<(), UsageFault>
     ensures ok { OnOk result (is_ok (meaning (map string_bytes words.now)) ≡ true) }

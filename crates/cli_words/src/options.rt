@@ -8,6 +8,8 @@ pub struct CheckOptions {
     pub map: Map,
     /// The rules that are looked at besides those that always are.
     pub rules: Options,
+    /// Behind each warning it is printed where it is and how control came there.
+    pub backtrace: bool,
 }
 
 /// Which entry rules the options of `entry` ask for.

@@ -1,7 +1,7 @@
 //! The words of a command line, one by one.
 
 ghost use Rattle.std.specs.Prelude.{◌≡◌, option_map};
-ghost use Rattle.cli_words.specs.Words.{command_named, is_check_option, is_common_option, is_entry_option, is_names_option, is_option, is_option_of, is_same_option, file_after, places_of};
+ghost use Rattle.cli_words.specs.Words.{command_named, file_after, function_after, is_check_option, is_common_option, is_entry_option, is_function_option, is_names_option, is_option, is_option_of, is_same_option, is_show_option, places_of};
 
 /// The word of a command.
 #[derive(Clone, Copy, Debug, PartialEq, Eq)]
@@ -26,6 +26,10 @@ pub enum CommandWord {
     Merge,
     /// `find`.
     Find,
+    /// `show`.
+    Show,
+    /// `explain`.
+    Explain,
     /// `demo`.
     Demo,
 }
@@ -45,19 +49,22 @@ pub(crate) fn command_named(word: &str) -> Option<CommandWord>
         "cfa" => Some(CommandWord::Cfa),
         "merge" => Some(CommandWord::Merge),
         "find" => Some(CommandWord::Find),
+        "show" => Some(CommandWord::Show),
+        "explain" => Some(CommandWord::Explain),
         "demo" => Some(CommandWord::Demo),
         _ => None,
     }
 }
 
 impl CommandWord {
-    /// How many names or numbers stand behind it.
+    /// How many names or numbers stand behind it; `explain` does with none, too.
     pub(crate) fn places(self) -> usize
         ensures { result ≡ places_of self }
     {
         match self {
             CommandWord::Dump | CommandWord::List | CommandWord::Entry => 1,
-            CommandWord::Cfa | CommandWord::Demo => 1,
+            CommandWord::Cfa | CommandWord::Show => 1,
+            CommandWord::Explain | CommandWord::Demo => 1,
             _ => 2,
         }
     }
@@ -70,6 +77,7 @@ impl CommandWord {
             CommandWord::Check => is_check_option(word),
             CommandWord::Sites | CommandWord::Cfi => is_common_option(word),
             CommandWord::Entry => is_entry_option(word),
+            CommandWord::Show => is_show_option(word),
             _ => false,
         }
     }
@@ -99,7 +107,21 @@ pub(crate) fn is_names_option(word: &str) -> bool
     file_after(word).is_some()
 }
 
-/// Whether a word is an option that each of `check`, `sites`, `entry` and `cfi` has.
+/// The name of a function, where a word gives one.
+fn function_after(word: &str) -> Option<&str>
+    ensures { option_map (λ function. function.now) result ≡ function_after word.now }
+{
+    word.strip_prefix("--function=")
+}
+
+/// Whether a word gives the name of a function.
+fn is_function_option(word: &str) -> bool
+    ensures { result ≡ is_function_option word.now }
+{
+    function_after(word).is_some()
+}
+
+/// Whether a word is an option that each of `check`, `sites`, `entry`, `cfi` and `show` has.
 fn is_common_option(word: &str) -> bool
     ensures { result ≡ is_common_option word.now }
 {
@@ -111,7 +133,8 @@ fn is_check_option(word: &str) -> bool
     ensures { result ≡ is_check_option word.now }
 {
     match word {
-        "--fp" | "--retpoline" | "--rethunk" | "--uaccess" | "--no-unreachable" => true,
+        "--fp" | "--retpoline" | "--rethunk" | "--uaccess" => true,
+        "--no-unreachable" | "--backtrace" => true,
         _ => is_common_option(word),
     }
 }
@@ -126,9 +149,18 @@ fn is_entry_option(word: &str) -> bool
     }
 }
 
+/// Whether a word is an option of `show`.
+fn is_show_option(word: &str) -> bool
+    ensures { result ≡ is_show_option word.now }
+{
+    is_function_option(word) || is_common_option(word)
+}
+
 /// Whether two words give the same option.
 pub(crate) fn is_same_option(one: &str, other: &str) -> bool
     ensures { result ≡ is_same_option one.now other.now }
 {
-    one == other || is_names_option(one) && is_names_option(other)
+    one == other
+        || is_names_option(one) && is_names_option(other)
+        || is_function_option(one) && is_function_option(other)
 }

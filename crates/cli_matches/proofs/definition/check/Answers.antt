@@ -8,4 +8,5 @@ returns c =
     let rethunk = c.with_switch-check-3.ensures _ retpoline in
     let uaccess = c.with_switch-check-4.ensures _ rethunk in
     let unreachable = c.with_switch-check-5.ensures _ uaccess in
-    c.with_common_options.ensures _ unreachable
+    let backtrace = c.with_switch-check-6.ensures _ unreachable in
+    c.with_common_options.ensures _ backtrace

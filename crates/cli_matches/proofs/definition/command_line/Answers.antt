@@ -13,6 +13,8 @@ returns c =
     let cfa = c.with_command-line-8.ensures _ _ refl cfi c.cfa.ensures in
     let merge = c.with_command-line-9.ensures _ _ refl cfa c.merge.ensures in
     let find = c.with_command-line-10.ensures _ _ refl merge c.find.ensures in
-    let demo = c.with_command-line-11.ensures _ _ refl find c.demo.ensures in
+    let show = c.with_command-line-11.ensures _ _ refl find c.show.ensures in
+    let explain = c.with_command-line-12.ensures _ _ refl show c.explain.ensures in
+    let demo = c.with_command-line-13.ensures _ _ refl explain c.demo.ensures in
     let help = c.with_text-line.ensures _ demo in
     c.with_text.ensures _ help

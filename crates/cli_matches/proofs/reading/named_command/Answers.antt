@@ -42,6 +42,14 @@ pub returns-in-merge : goal.returns-in-merge
 returns-in-merge c =
     IfOk-weaker c.merge_of.result _ _ (λ read known. said_behind (codes "merge") the.Merge c.args.name.now (rows_in c.args.found.now) (option_map command_in read) (search rules) refl known) c.merge_of.ensures
 
+pub returns-in-show : goal.returns-in-show
+returns-in-show c =
+    IfOk-weaker c.show_of.result _ _ (λ read known. said_behind (codes "show") the.Show c.args.name.now (rows_in c.args.found.now) (option_map command_in read) (search rules) refl known) c.show_of.ensures
+
+pub returns-in-explain : goal.returns-in-explain
+returns-in-explain c =
+    IfOk-weaker c.explain_of.result _ _ (λ read known. said_behind (codes "explain") the.Explain c.args.name.now (rows_in c.args.found.now) (option_map command_in read) (search rules) refl known) c.explain_of.ensures
+
 pub returns-in-find : goal.returns-in-find
 returns-in-find c =
     IfOk-weaker c.find_of.result _ _ (λ read known. said_behind (codes "find") the.Find c.args.name.now (rows_in c.args.found.now) (option_map command_in read) (search rules) refl known) c.find_of.ensures

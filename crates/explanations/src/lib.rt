@@ -1,0 +1,19 @@
+//! What each rule, and each kind of refusal, means: the texts of `explain`.
+#![tactic(auto)]
+
+mod listing;
+mod lookup;
+mod refusals_a_to_e;
+mod refusals_capital;
+mod refusals_f_to_m;
+mod refusals_n;
+mod refusals_o_to_z;
+mod row;
+mod rules_10_to_19;
+mod rules_1_to_9;
+mod rules_21_to_44;
+mod rules_45_to_54;
+mod volumes;
+
+pub use listing::topics;
+pub use lookup::{explanation, is_topic};
