@@ -1,16 +1,16 @@
 -- The listing of a program: a heading for each run of points of one function, and a line for each point.
-use Rattle.std.specs.Prelude.{◌≡◌, ℕ, zero, suc, ◌==◌, Bool, true, false, not, List, [], ◌++◌, All, Option, Some, None, bytes_eq, codes, if◌then◌else◌}
+use Rattle.std.specs.Prelude.{◌≡◌, ℕ, zero, suc, ◌==◌, Bool, true, false, not, List, [], ◌++◌, Option, Some, None, bytes_eq, codes, if◌then◌else◌}
 use Rattle.std.specs.List.{flat_map}
 use Rattle.std.specs.Fmt.{decimal}
 use Rattle.ot_base.specs.declared.place.Place.{Place}
 use Rattle.elf_objects.specs.Elf.{Elf}
 use Rattle.elf_objects.specs.Contents.{symbol_at}
 use Rattle.state_defs.specs.declared.state.State.{State}
-use Rattle.machine_defs.specs.Program.{Program, below}
+use Rattle.machine_defs.specs.Program.{Program, IsPoint, below}
 use Rattle.machine_defs.specs.Kept.{edges_of}
 use Rattle.code_listing.specs.States.{kept_words}
 use Rattle.code_listing.specs.Operations.{operation_words}
-use Rattle.code_listing.specs.Points.{edges_text, hint_text, marks_text, place_words, symbol_words, target_text, told_if, variant_words}
+use Rattle.code_listing.specs.Points.{edges_text, hint_text, marks_text, place_words, symbol_words, target_text, variant_words}
 
 -- ---- headings
 
@@ -57,6 +57,11 @@ insn_text o p q =
     ++ codes " length " ++ decimal (p.insn q).len
     ++ codes ": " ++ operation_words (p.insn q).op
 
+-- the end of a line: whether execution never passes the point
+abbrev pub end_words : Bool → List ℕ
+end_words true = codes "; dead end\n"
+end_words false = codes "\n"
+
 -- the line of a point: its instruction and where that goes, the state that is kept before it, its other edges, and what else is to be said
 unfoldable pub line_text : Elf → Program → (ℕ → Option State) → ℕ → List ℕ
 line_text o p states q =
@@ -66,8 +71,7 @@ line_text o p states q =
     ++ edges_text o p (edges_of p q)
     ++ marks_text (p.marks q)
     ++ hint_text o p (p.hint q) (p.save_of q)
-    ++ told_if (p.dead_end q) (codes "dead end")
-    ++ codes "\n"
+    ++ end_words (p.dead_end q)
 
 -- ---- the whole
 
@@ -87,4 +91,4 @@ listing_text o p states name = flat_map (part_text o p states name) (below p.cou
 
 -- no point is of a function of this name
 abbrev pub HasNoFunction : Elf → Program → List ℕ → Type 0
-HasNoFunction o p name = All (λ q. is_listed o (Some name) (p.function q) ≡ false) (below p.count)
+HasNoFunction o p name = (q : ℕ) → IsPoint p q → is_listed o (Some name) (p.function q) ≡ false

@@ -2,13 +2,13 @@
 //! each point, with its operation, where that goes, and the stack state that is kept before it.
 #![tactic(auto)]
 
-
-
-
+mod flow;
+mod headings;
+mod lines;
 mod operations;
 mod points;
 mod states;
 
-
+pub use lines::{is_listed, push_part};
 pub use points::push_point;
 pub use states::push_state;

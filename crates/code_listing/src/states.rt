@@ -1,8 +1,10 @@
 //! The words of stack states.
 
-ghost use Rattle.std.specs.Prelude.{◌≡◌, ◌++◌, OnErr, OnOk, Some};
+ghost use Rattle.std.specs.Prelude.{◌≡◌, ◌++◌, [], OnErr, OnOk, Some, codes, if◌then◌else◌};
 ghost use Rattle.ot_base.specs.PlaceText.{with_sign};
-ghost use Rattle.code_listing.specs.States.{depth_words, kept_words, state_words};
+ghost use Rattle.ot_base.specs.RowText.{kind_name, register_name};
+ghost use Rattle.state_defs.specs.Row.{bp_offset_of, bp_reg_of, end_number, row_of, sp_offset_of, sp_reg_of};
+ghost use Rattle.code_listing.specs.States.{besides_row, kept_words, state_words};
 
 use ot_base::NoMemory;
 use state_defs::{BpHome, Depth, EndKind, State};
@@ -14,6 +16,12 @@ struct Base {
     register: &'static str,
     offset: i128,
 }
+
+/// From nothing.
+const NOWHERE: Base = Base {
+    register: "undef",
+    offset: 0,
+};
 
 impl fmt::Display for Base {
     ghost output = { λ b. Some (b.register.now ++ with_sign b.offset) };
@@ -29,27 +37,36 @@ impl fmt::Display for Base {
     }
 }
 
-/// How far rsp is below the frame's top, where that is counted from rbp.
+/// The words of a row, with its offsets as whole numbers.
 #[derive(Clone, Copy)]
-struct DepthWords {
-    depth: Depth,
-    fp: Option<i64>,
+struct WideRow {
+    kind: &'static str,
+    top: Base,
+    home: Base,
+    signal: bool,
 }
 
-impl fmt::Display for DepthWords {
-    ghost output = { λ d. Some (depth_words d.depth d.fp) };
+impl fmt::Display for WideRow {
+    ghost output = { λ r. Some (r.kind.now ++ codes " cfa " ++ (r.top.register.now ++ with_sign r.top.offset) ++ codes " bp " ++ (r.home.register.now ++ with_sign r.home.offset) ++ (if r.signal then codes " signal" else [])) };
 
     fn fmt<W: fmt::Write>(&self, f: &mut fmt::Formatter<W>) -> fmt::Result {
-        match (self.depth, self.fp) {
-            (Depth::Known(_), None) => Ok(()),
-            (Depth::Known(depth), Some(_)) => write!(f, " depth {depth}"),
-            (Depth::AtLeast(depth), _) => write!(f, " depth at least {depth}"),
-        }
+        let WideRow {
+            kind,
+            top,
+            home,
+            ..
+        } = *self;
+        let signal = if self.signal { " signal" } else { "" };
+        write!(f, "{kind} cfa {top} bp {home}{signal}")
     }
 }
 
 /// What the top of a call frame is counted from.
-fn top_of(depth: Depth, fp: Option<i64>) -> Base {
+#[tactic(auto, unfolding(ot_base::specs::RowText::register_name))]
+fn top_of(depth: Depth, fp: Option<i64>) -> Base
+    ensures register { result.register.now ≡ register_name (sp_reg_of fp) }
+    ensures offset { result.offset ≡ sp_offset_of depth fp }
+{
     match (fp, depth) {
         (Some(offset), _) => Base {
             register: "bp",
@@ -63,16 +80,86 @@ fn top_of(depth: Depth, fp: Option<i64>) -> Base {
 }
 
 /// Where the caller's rbp is.
-fn home_of(bp: BpHome) -> Base {
+#[tactic(auto, unfolding(ot_base::specs::RowText::register_name))]
+fn home_of(bp: BpHome) -> Base
+    ensures register { result.register.now ≡ register_name (bp_reg_of bp) }
+    ensures offset { result.offset ≡ bp_offset_of bp }
+{
     match bp {
-        BpHome::Same => Base {
-            register: "undef",
-            offset: 0,
-        },
+        BpHome::Same => NOWHERE,
         BpHome::Saved(below) => Base {
             register: "prev",
             offset: -i128::from(below),
         },
+    }
+}
+
+/// The word of a stack that a hint ended.
+#[tactic(auto, unfolding(ot_base::specs::RowText::kind_name))]
+fn end_word(kind: EndKind) -> &'static str
+    ensures { result.now ≡ kind_name (end_number kind) }
+{
+    match kind {
+        EndKind::Undefined => "undefined",
+        EndKind::EndOfStack => "end",
+    }
+}
+
+/// The words of a state's row.
+#[tactic(auto, unfolding(ot_base::specs::RowText::kind_name, ot_base::specs::RowText::register_name))]
+fn row_of(state: State) -> WideRow
+    ensures kind { result.kind.now ≡ kind_name (row_of state).kind }
+    ensures top { result.top.register.now ≡ register_name (row_of state).sp_reg }
+    ensures offset { result.top.offset ≡ (row_of state).sp_offset }
+    ensures home { result.home.register.now ≡ register_name (row_of state).bp_reg }
+    ensures home_offset { result.home.offset ≡ (row_of state).bp_offset }
+    ensures signal { result.signal ≡ (row_of state).signal }
+{
+    match state {
+        State::Live { depth, fp, bp } => WideRow {
+            kind: "call",
+            top: top_of(depth, fp),
+            home: home_of(bp),
+            signal: false,
+        },
+        State::Ended(kind) => WideRow {
+            kind: end_word(kind),
+            top: NOWHERE,
+            home: NOWHERE,
+            signal: false,
+        },
+        State::Regs { full, depth } => WideRow {
+            kind: if full { "regs" } else { "partial" },
+            top: Base {
+                register: "sp",
+                offset: i128::from(depth),
+            },
+            home: NOWHERE,
+            signal: true,
+        },
+    }
+}
+
+/// How far rsp is below the frame's top, where a state's row doesn't tell it.
+#[derive(Clone, Copy)]
+struct BesidesRow(State);
+
+impl fmt::Display for BesidesRow {
+    ghost output = { λ b. Some (besides_row b.0) };
+
+    fn fmt<W: fmt::Write>(&self, f: &mut fmt::Formatter<W>) -> fmt::Result {
+        match self.0 {
+            State::Live {
+                depth: Depth::Known(depth),
+                fp: Some(_),
+                ..
+            } => write!(f, " depth {depth}"),
+            State::Live {
+                depth: Depth::AtLeast(depth),
+                ..
+            } => write!(f, " depth at least {depth}"),
+            _ => Ok(()),
+        }
     }
 }
 
@@ -83,26 +170,10 @@ pub(crate) struct StateWords(pub(crate) State);
 impl fmt::Display for StateWords {
     ghost output = { λ s. Some (state_words s.0) };
 
-    #[tactic(auto, unfolding(crate::specs::States::state_words, ot_base::specs::RowText::row_words, ot_base::specs::RowText::kind_name, ot_base::specs::RowText::register_name))]
     fn fmt<W: fmt::Write>(&self, f: &mut fmt::Formatter<W>) -> fmt::Result {
-        match self.0 {
-            State::Live { depth, fp, bp } => {
-                let top = top_of(depth, fp);
-                let home = home_of(bp);
-                let more = DepthWords { depth, fp };
-                write!(f, "call cfa {top} bp {home}{more}")
-            }
-            State::Ended(EndKind::Undefined) => write!(f, "undefined cfa undef+0 bp undef+0"),
-            State::Ended(EndKind::EndOfStack) => write!(f, "end cfa undef+0 bp undef+0"),
-            State::Regs { full, depth } => {
-                let kind = if full { "regs" } else { "partial" };
-                let top = Base {
-                    register: "sp",
-                    offset: i128::from(depth),
-                };
-                write!(f, "{kind} cfa {top} bp undef+0 signal")
-            }
-        }
+        let row = row_of(self.0);
+        let besides = BesidesRow(self.0);
+        write!(f, "{row}{besides}")
     }
 }
 
