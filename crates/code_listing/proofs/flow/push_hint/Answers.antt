@@ -1,0 +1,9 @@
+use Rattle.std.proofs.Common.{◌≡◌, sym, ◌∙◌, rules}
+use Rattle.code_listing.specs.Points.{hint_text}
+use Rattle.code_listing.proofs.flow.push_hint.Goals as goal
+
+pub returns-in-Some-Restore : goal.returns-in-Some-Restore
+unfolding hint_text
+returns-in-Some-Restore c = record {
+  ok = λ p tells. rw (sym (c.hint.ensures p tells), c.in-Some-Restore.is, c.in-Some-Restore.field-0-is, sym (c.save_of.ensures p tells)) (c.push_restore.ensures.ok p tells);
+}

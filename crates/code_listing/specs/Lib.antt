@@ -1,0 +1,4 @@
+pub mod States
+pub mod Operations
+pub mod Points
+pub mod Listing
