@@ -83,7 +83,7 @@ module _ (p : Program) where
   same_state : (n m q : ℕ) (s t : State) → state_at p n q ≡ Some s → state_at p m q ≡ Some t → s ≡ t
   same_state n m q s t e f = kept_is_one p q s t (n, e) (m, f)
 
-  stays_some : (n q : ℕ) → IsSome (state_at p n q) → IsSome (state_at p (suc n) q)
+  pub stays_some : (n q : ℕ) → IsSome (state_at p n q) → IsSome (state_at p (suc n) q)
   stays_some n q some = let r = state_of_some (state_at p n q) some in is_some_of _ r.0 (kept_next p n q r.0 r.1)
 
   -- a point that is kept before a level is kept at it, and what it gives is kept there too
@@ -130,28 +130,31 @@ module _ (p : Program) where
 
     -- where none is in front, all that is kept is kept at the level
     module _ (level : ℕ) (ways : List (List WayStep)) (is_level : IsLevel p level ways []) (fresh : AreFresh p level []) where
-      closed : (m q : ℕ) (s : State) → IsPoint p q → state_at p m q ≡ Some s → IsSome (state_at p level q)
-      closed zero q s pq e = is_some_of _ s (subst (λ (n : ℕ). state_at p n q ≡ Some s) (add-zero level) (kept_stays p 0 level q s e))
-      closed (suc m) q s pq e = go (some_state (state_at p m q))
+      closed_more : (m q : ℕ) (s : State) → IsPoint p q → state_at p (suc m) q ≡ Some s → ((a : ℕ) (w : State) → IsPoint p a → state_at p m a ≡ Some w → IsSome (state_at p level a)) → IsSome (state_at p level q)
+      closed_more m q s pq e so_far = go (some_state (state_at p m q))
         where
           before : (a : ℕ) → IsPoint p a → IsSome (state_at p level a) → IsSome (state_before p level a)
           before a pa some = elim (fresh a pa some) [ inl c ↦ nowhere a c | inr k ↦ k ]
 
           for : Cause m q s → IsSome (state_at p level q)
-          for (inl (a, w, pa, k, f, b)) = before_given level q s (is_checked (suc m) q s e) m a w (before a pa (closed m a w pa k)) k (λ n h. inl (a, w, pa, h, f, b))
-          for (inr (a, h, v, k)) = (let pa : IsPoint p a = is.is_program.saves q a pq v in before_given level q s (is_checked (suc m) q s e) m a s (before a pa (closed m a s pa k)) k (λ n x. inr (a, h, v, x)))
+          for (inl (a, w, pa, k, f, b)) = before_given level q s (is_checked (suc m) q s e) m a w (before a pa (so_far a w pa k)) k (λ n h. inl (a, w, pa, h, f, b))
+          for (inr (a, h, v, k)) = (let pa : IsPoint p a = is.is_program.saves q a pq v in before_given level q s (is_checked (suc m) q s e) m a s (before a pa (so_far a s pa k)) k (λ n x. inr (a, h, v, x)))
 
           go : (state_at p m q ≡ None) ⊎ ((t : State) × (state_at p m q ≡ Some t)) → IsSome (state_at p level q)
           go (inl none) = for (cause_of m q s none e)
-          go (inr (t, k)) = closed m q t pq k
+          go (inr (t, k)) = so_far q t pq k
+
+      closed : (m q : ℕ) (s : State) → IsPoint p q → state_at p m q ≡ Some s → IsSome (state_at p level q)
+      closed zero q s pq e = is_some_of _ s (subst (λ (n : ℕ). state_at p n q ≡ Some s) (add-zero level) (kept_stays p 0 level q s e))
+      closed (suc m) q s pq e = closed_more m q s pq e (λ a w pa k. closed m a w pa k)
 
       -- and has a way
       pub all_ways : AreWays p ways
       all_ways = record {
         kept = λ q s pq k. (is_level.told q pq (is_level.marked q pq (closed k.0 q s pq k.1))).1;
-        others = λ q pq not_kept. none (turns_at ways q) refl (λ m. not_none (state_at p level q) (not_kept level) (is_level.told q pq m).0);
+        others = λ q pq not_kept. none q (turns_at ways q) refl (λ m. not_none (state_at p level q) (not_kept level) (is_level.told q pq m).0);
       }
         where
-          none : {q : ℕ} (w : List WayStep) → turns_at ways q ≡ w → (IsMarked ways q → ⊥) → turns_at ways q ≡ []
-          none [] e h = e
-          none (s ∷ w) e h = absurd (h (λ k. let z : ⊥ = cc in z))
+          none : (q : ℕ) (w : List WayStep) → turns_at ways q ≡ w → (IsMarked ways q → ⊥) → turns_at ways q ≡ []
+          none q [] e h = e
+          none q (s ∷ w) e h = absurd (h (λ k. let z : ⊥ = cc in z))

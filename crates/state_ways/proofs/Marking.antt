@@ -1,6 +1,6 @@
 -- A way to one point more is noted.
-use Rattle.std.proofs.Common.{◌≡◌, ◌≢◌, ℕ, zero, suc, ◌+◌, ◌<◌, List, [], ◌∷◌, ◌++◌, ◌⊎◌, inl, inr, Option, Some, None, IsSome, All, Contains, filter, length, set, refl, ap, sym, ◌∙◌, subst, arith, length-append, length-set, get_or-set_same, get_or-set_other}
-use Rattle.std.specs.Prelude.{sum_by, true}
+use Rattle.std.proofs.Common.{◌≡◌, ◌≢◌, ℕ, zero, suc, ◌+◌, ◌<◌, List, [], ◌∷◌, ◌++◌, ◌⊎◌, inl, inr, Option, Some, None, IsSome, All, Contains, filter, length, get_or, set, refl, ap, sym, ◌∙◌, subst, arith, length-append, length-set, get_or-set_same, get_or-set_other}
+use Rattle.std.specs.Prelude.{sum_by, true, false}
 use Rattle.std.proofs.lemmas.List.Elements.{All-push, Contains-append_left, Contains-append_cases, Contains-push, filter-append}
 use Rattle.std.proofs.lemmas.List.Sums.{sum_by-set}
 use Rattle.machine_defs.specs.declared.flow.Edge.{Edge}
@@ -35,6 +35,14 @@ pub more_some : (w more : List WayStep) → w ≢ [] → w ++ more ≢ []
 more_some [] more ne e = ne refl
 more_some (s ∷ w) more ne e = (let k : ⊥ = cc in k)
 
+-- where it isn't so that a way is noted, none is
+pub none_at : (ways : List (List WayStep)) (q : ℕ) → (IsMarked ways q → ⊥) → turns_at ways q ≡ []
+none_at ways q isnt = go (turns_at ways q) refl
+  where
+    go : (w : List WayStep) → turns_at ways q ≡ w → turns_at ways q ≡ []
+    go [] e = e
+    go (s ∷ w) e = absurd (isnt (λ k. let z : ⊥ = cc in z))
+
 module _ (ways : List (List WayStep)) (q : ℕ) (x : List WayStep) (inside : q < length ways) (fresh : turns_at ways q ≡ []) (some : x ≢ []) where
   pub at_new : turns_at (set ways q x) q ≡ x
   at_new = get_or-set_same ways q x [] inside
@@ -63,8 +71,8 @@ module _ (ways : List (List WayStep)) (q : ℕ) (x : List WayStep) (inside : q <
 
   pub more_shown : (next : List ℕ) → AreShown ways next → AreShown (set ways q x) (next ++ q ∷ [])
   more_shown next shown = record {
-    within = All-push (λ a. a < length (set ways q x)) next q (λ k d l. subst (λ (n : ℕ). _ < n) (sym (length-set ways q x)) (shown.within k d l)) (subst (λ (n : ℕ). q < n) (sym (length-set ways q x)) inside);
-    marked = All-push (IsMarked (set ways q x)) next q (λ k d l. stay_marked _ (shown.marked k d l)) new_marked;
+    within = All-push (λ a. a < length (set ways q x)) next q (λ k d l. subst (λ (n : ℕ). get_or next k d < n) (sym (length-set ways q x)) (shown.within k d l)) (subst (λ (n : ℕ). q < n) (sym (length-set ways q x)) inside);
+    marked = All-push (IsMarked (set ways q x)) next q (λ k d l. stay_marked (get_or next k d) (shown.marked k d l)) new_marked;
   }
 
   module _ (p : Program) where
@@ -125,8 +133,8 @@ module _ (parts : GraphParts) (states : ℕ → Option State) where
     after_some = more_some (turns_at ways from) (turns (step q kind ∷ [])) marked
 
     -- a way leads on from a point in front, if the step is one of ways
-    on_by : ((p : Program) (level : ℕ) → IsTold p parts states → IsBetween p level ways front next → (w : List WayStep) → Way p level from w → IsSome (state_at p level from) → state_at p level q ≡ None → IsPoint p q × Way p (suc level) q (w ++ step q kind ∷ []) × IsSome (state_at p (suc level) q)) → GoesOn parts states front ways next (set ways q after) (next ++ q ∷ [])
-    on_by leads = record {
+    on_by : q < length parts.points.items → ((p : Program) (level : ℕ) → IsTold p parts states → IsPoint p q → (w : List WayStep) → Way p level from w → IsPoint p from → IsSome (state_at p level from) → state_at p level q ≡ None → Way p (suc level) q (w ++ step q kind ∷ []) × IsSome (state_at p (suc level) q)) → GoesOn parts states front ways next (set ways q after) (next ++ q ∷ [])
+    on_by is_point leads = record {
       points = length-set ways q after;
       stays = stay_marked ways q after inside fresh after_some;
       count =
@@ -134,14 +142,53 @@ module _ (parts : GraphParts) (states : ℕ → Option State) where
           let l : length (next ++ q ∷ []) ≡ length next + 1 = length-append next (q ∷ []) in
           omega (arith, k, l));
       shown = more_shown ways q after inside fresh after_some next;
-      between = λ p level told b. on p level told b;
+      between = on;
     }
       where
         on : (p : Program) (level : ℕ) → IsTold p parts states → IsBetween p level ways front next → IsBetween p level (set ways q after) front (next ++ q ∷ [])
         on p level told b =
             let f : IsInFront p ways level from = b.each from in_front in
-            let r = leads p level told b f.way.steps f.way.way f.state (none_of (state_at p level q) (λ s. (b.marked q (point told) s) fresh)) in
-            one_more ways q after inside fresh after_some p level (f.way.steps ++ step q kind ∷ []) r.1 (ap (λ (w : List WayStep). w ++ turns (step q kind ∷ [])) f.way.turns ∙ sym (filter-append (λ s. is_turn s.kind) f.way.steps (step q kind ∷ []))) r.0 r.2 front next b
-          where
-            point : IsTold p parts states → IsPoint p q
-            point t = ?
+            let pq : IsPoint p q = subst (λ (n : ℕ). q < n) (sym told.tells.count) is_point in
+            let r = leads p level told pq f.way.steps f.way.way f.point f.state (none_of (state_at p level q) (λ s. (b.marked q pq s) fresh)) in
+            one_more ways q after inside fresh after_some p level (f.way.steps ++ step q kind ∷ []) r.0 (ap (λ (w : List WayStep). w ++ turns (step q kind ∷ [])) f.way.turns ∙ sym (filter-append (λ s. is_turn s.kind) f.way.steps (step q kind ∷ []))) pq r.1 front next b
+
+    -- along an edge that brings it the state that it keeps
+    pub on_along : (k : EdgeKind) → q < length parts.points.items → ((p : Program) → Tells p parts → Contains (edges_of p from) (record { to = q; kind = k })) → ((p : Program) → Tells p parts → BringsKept p states from (record { to = q; kind = k })) → along k ≡ Some kind → GoesOn parts states front ways next (set ways q after) (next ++ q ∷ [])
+    on_along k is_point own brings is_kind = on_by is_point leads
+      where
+        leads : (p : Program) (level : ℕ) → IsTold p parts states → IsPoint p q → (w : List WayStep) → Way p level from w → IsPoint p from → IsSome (state_at p level from) → state_at p level q ≡ None → Way p (suc level) q (w ++ step q kind ∷ []) × IsSome (state_at p (suc level) q)
+        leads p level told pq w way pf some none =
+            let b : BringsKept p states from (record { to = q; kind = k }) = brings p told.tells in
+            let c : Contains (edges_of p from) (record { to = q; kind = k }) = own p told.tells in
+            let s = state_of_some (state_at p level from) some in
+            let same : s.0 ≡ b.state = kept_is_one p from s.0 b.state (level, s.1) ((told.kept from b.state).0 b.from) in
+            let at_from : state_at p level from ≡ Some b.state = s.1 ∙ ap Some same in
+            let checked : p.unchecked q ≡ false = kept_checked p q b.brought ((told.kept q b.brought).0 b.to) in
+            let kept : IsSome (state_at p (suc level) q) = kept_by_edge p level from q b.state b.brought pf at_from checked b.free (brings_along p from b.state (record { to = q; kind = k }) b.brought c b.along) in
+            let t = state_of_some (state_at p (suc level) q) kept in
+            let is : t.0 ≡ b.brought = kept_is_one p q t.0 b.brought (suc level, t.1) ((told.kept q b.brought).0 b.to) in
+            (goes_on level from q k kind b.state b.brought w way at_from c is_kind b.free none (t.1 ∙ ap Some is) b.along, kept)
+
+    -- from a SAVE to a RESTORE that means it
+    pub on_restored : kind ≡ Restore → q < length parts.points.items → ((p : Program) → Tells p parts → Means p from q) → IsSome (states q) → GoesOn parts states front ways next (set ways q after) (next ++ q ∷ [])
+    on_restored is_kind is_point means has = on_by is_point leads
+      where
+        leads : (p : Program) (level : ℕ) → IsTold p parts states → IsPoint p q → (w : List WayStep) → Way p level from w → IsPoint p from → IsSome (state_at p level from) → state_at p level q ≡ None → Way p (suc level) q (w ++ step q kind ∷ []) × IsSome (state_at p (suc level) q)
+        leads p level told pq w way pf some none =
+            let m : Means p from q = means p told.tells in
+            let s = state_of_some (state_at p level from) some in
+            let r = state_of_some (states q) has in
+            let checked : p.unchecked q ≡ false = kept_checked p q r.0 ((told.kept q r.0).0 r.1) in
+            let kept : IsSome (state_at p (suc level) q) = kept_by_save p level from q s.0 s.1 checked m.hint m.save in
+            let t = state_of_some (state_at p (suc level) q) kept in
+            (subst (λ (h : WayKind). Way p (suc level) q (w ++ step q h ∷ [])) (sym is_kind) (restored level from q t.0 w way m.hint m.save none t.1), kept)
+
+-- the search for the ways of a level begins
+pub begins_between : (p : Program) (level : ℕ) (ways : List (List WayStep)) (front : List ℕ) → IsLevel p level ways front → IsBetween p level ways front []
+begins_between p level ways front is = record {
+  marked = is.marked;
+  told = λ q pq m. (let k = is.told q pq m in (stays_some p level q k.0, k.1));
+  each = is.each;
+  listed = λ q pq m. inl (is.told q pq m).0;
+  new = λ q c. nowhere q c;
+}

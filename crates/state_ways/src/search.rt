@@ -1,6 +1,6 @@
 //! The search for ways, level by level as states spread.
 
-ghost use Rattle.std.specs.Prelude.{◌≡◌, ◌<◌, ◌↔◌, ◌++◌, ◌∷◌, ℕ, [], List, All, Contains, IfOk, IfSome, IsSome, IsTrue, MatchOption, None, OnOk, length, replicate, slice_set, true};
+ghost use Rattle.std.specs.Prelude.{◌≡◌, ◌<◌, ◌↔◌, ◌++◌, ◌∷◌, ℕ, [], List, All, Contains, IfOk, IfSome, IsSome, IsTrue, MatchOption, None, OnOk, Some, length, option_to_list, replicate, slice_set, true};
 ghost use Rattle.machine_defs.specs.declared.flow.Edge.{Edge as EdgeValue};
 ghost use Rattle.machine_defs.specs.Program.{Program};
 ghost use Rattle.machine_defs.specs.IsProgram.{IsProgram};
@@ -46,17 +46,50 @@ fn is_free(hint: Option<HintState>) -> bool
     }
 }
 
-/// Whether an operation in a state brings this one along an edge of this kind.
-fn brings(state: State, op: Op, kind: EdgeKind, other: State) -> bool
-    ensures { IsTrue result ↔ Contains (brought_along_edge state op kind) other }
+/// What a state is brought along an edge as: to a fixup the state before the instruction, else the one after it; to another
+/// function none.
+fn brought_along(state: State, op: Op, kind: EdgeKind) -> Option<State>
+    ensures { option_to_list result ≡ brought_along_edge state op kind }
 {
     match kind {
-        EdgeKind::Next | EdgeKind::Taken | EdgeKind::Table => match step(state, op) {
-            Ok(after) => after == other,
-            Err(_) => false,
-        },
-        EdgeKind::Fixup => state == other,
-        EdgeKind::Sibling => false,
+        EdgeKind::Next | EdgeKind::Taken | EdgeKind::Table => step(state, op).ok(),
+        EdgeKind::Fixup => Some(state),
+        EdgeKind::Sibling => None,
+    }
+}
+
+/// Whether two states are the same.
+fn is_same(one: State, other: State) -> bool
+    ensures { IsTrue result ↔ (one ≡ other) }
+{
+    match (one, other) {
+        (
+            State::Live { depth, fp, bp },
+            State::Live {
+                depth: other_depth,
+                fp: other_fp,
+                bp: other_bp,
+            },
+        ) => depth == other_depth && fp == other_fp && bp == other_bp,
+        (State::Ended(kind), State::Ended(other_kind)) => kind == other_kind,
+        (
+            State::Regs { full, depth },
+            State::Regs {
+                full: other_full,
+                depth: other_depth,
+            },
+        ) => full == other_full && depth == other_depth,
+        (State::Live { .. } | State::Ended(_) | State::Regs { .. }, _) => false,
+    }
+}
+
+/// Whether a state is brought, and is this one.
+fn is_brought(brought: Option<State>, state: State) -> bool
+    ensures { IsTrue result ↔ (brought ≡ Some state) }
+{
+    match brought {
+        Some(other) => is_same(other, state),
+        None => false,
     }
 }
 
@@ -73,7 +106,8 @@ fn brings_kept(graph: &Graph, kept: &Kept, from: u32, edge: Edge) -> bool
     let Some(other) = kept.state(edge.to) else {
         return false;
     };
-    is_free(graph.hint(edge.to)) && brings(state, graph.insn(from).op, edge.kind, other)
+    let brought = brought_along(state, graph.insn(from).op, edge.kind);
+    is_free(graph.hint(edge.to)) && is_brought(brought, other)
 }
 
 /// Notes a way to a point of the next level, on from another point.
@@ -110,7 +144,10 @@ fn lead(
     ensures led { OnOk result ((p : Program) → Tells p graph.now.parts → BringsKept p (at kept.now) from edge → IsMarked search.new.ways edge.to) }
     ensures spent { search.new.spent ≡ search.old.spent }
 {
-    if search.ways.is_shown(edge.to) || !brings_kept(graph, kept, from, edge) {
+    if search.ways.is_shown(edge.to) {
+        return Ok(());
+    }
+    if !brings_kept(graph, kept, from, edge) {
         return Ok(());
     }
     match way_kind(edge.kind) {
@@ -143,6 +180,15 @@ fn lead_each(
     Ok(())
 }
 
+/// Whether a way to a point is noted, or it isn't kept.
+fn is_spent(kept: &Kept, ways: &Ways, point: u32) -> bool
+    requires point { point < length kept.now }
+    requires ways { point < length ways.now }
+    ensures { IsTrue result → IsSome (at kept.now point) → IsMarked ways.now point }
+{
+    !kept.is_kept(point) || ways.is_shown(point)
+}
+
 /// Whether ways are noted to all points that are kept at the ends of some edges.
 fn are_spent(kept: &Kept, ways: &Ways, edges: &[Edge]) -> bool
     requires points { All (λ e. e.to < length kept.now) edges.now }
@@ -150,7 +196,7 @@ fn are_spent(kept: &Kept, ways: &Ways, edges: &[Edge]) -> bool
     ensures { IsTrue result → (e : EdgeValue) → Contains edges.now e → IsSome (at kept.now e.to) → IsMarked ways.now e.to }
 {
     for edge in edges {
-        if kept.is_kept(edge.to) && !ways.is_shown(edge.to) {
+        if !is_spent(kept, ways, edge.to) {
             return false;
         }
     }
@@ -229,11 +275,14 @@ fn lead_to_restore(
     requires from { from < length kept.now }
     requires restore { restore < length kept.now }
     requires shown { IsMarked search.old.ways from }
-    ensures on { OnOk result ((parts : GraphPartsValue) (front : List ℕ) → ((p : Program) → Tells p parts → Means p from restore) → Contains front from → GoesOn parts (at kept.now) front search.old.ways search.old.next.items search.new.ways search.new.next.items) }
+    ensures on { OnOk result ((parts : GraphPartsValue) (front : List ℕ) → restore < length parts.points.items → ((p : Program) → Tells p parts → Means p from restore) → Contains front from → GoesOn parts (at kept.now) front search.old.ways search.old.next.items search.new.ways search.new.next.items) }
     ensures led { OnOk result (IsSome (at kept.now restore) → IsMarked search.new.ways restore) }
     ensures spent { search.new.spent ≡ search.old.spent }
 {
-    if search.ways.is_shown(restore) || !kept.is_kept(restore) {
+    if search.ways.is_shown(restore) {
+        return Ok(());
+    }
+    if !kept.is_kept(restore) {
         return Ok(());
     }
     note(search, restore, from, WayKind::Restore)
