@@ -1,5 +1,5 @@
 -- What edges bring, and how ways begin.
-use Rattle.std.proofs.Common.{◌≡◌, ◌↔◌, ℕ, ◌+◌, ◌<◌, ◌≤◌, get_or, length, arith, Bool, true, false, List, [], ◌∷◌, Option, Some, None, IsSome, Contains, inl, inr, if◌then◌else◌, refl, ap, sym, ◌∙◌, subst}
+use Rattle.std.proofs.Common.{◌≡◌, ◌↔◌, ℕ, ◌+◌, ◌<◌, ◌≤◌, get_or, set, get_or-set_other, length, arith, Bool, true, false, List, [], ◌∷◌, Option, Some, None, IsSome, Contains, inl, inr, if◌then◌else◌, refl, ap, sym, ◌∙◌, subst}
 use Rattle.std.specs.Prelude.{option_to_list, OnOk, Result, Ok, Err}
 use Rattle.std.proofs.lemmas.Bool.{cases_lt}
 use Rattle.std.proofs.lemmas.List.{get_or_default}
@@ -10,10 +10,12 @@ use Rattle.state_defs.specs.declared.state.HintState.{HintState}
 use Rattle.state_defs.specs.declared.state.HintState.TheVariants.{Set, Save, Restore}
 use Rattle.state_defs.specs.State.{initial}
 use Rattle.machine_defs.specs.Program.{Program, IsPoint}
-use Rattle.machine_defs.specs.Kept.{brought_along, first_state, is_at_entry, is_free, state_at}
+use Rattle.machine_defs.specs.Kept.{brought_along, edges_of, first_state, is_at_entry, is_free, state_at}
 use Rattle.unwinding_law.proofs.Lists.{here, cases, nowhere}
 use Rattle.state_ways.specs.declared.steps.WayKind.TheVariants.{Entry, Hint}
-use Rattle.state_ways.specs.Marks.{BringsKept}
+use Rattle.state_ways.specs.declared.steps.WayStep.{WayStep}
+use Rattle.state_ways.specs.Marks.{AreSpent, BringsKept, HasLed, IsMarked}
+use Rattle.state_ways.proofs.Marking.{same_or_not}
 use Rattle.state_ways.specs.Ways.{Way, entered, hinted, step}
 
 in_option : (o : Option State) (t : State) → (o ≡ Some t) ↔ Contains (option_to_list o) t
@@ -62,3 +64,25 @@ both_ok (Err e) p q f = p
 
 pub in_at : {X : Type 0} (xs : List X) (i : ℕ) (d : X) → i < length xs → Contains xs (get_or xs i d)
 in_at xs i d h = (i, h, get_or_default xs i (get_or xs i d) d h)
+
+pub map_ok : {X E P R : Type 0} (r : Result X E) → OnOk r P → (P → R) → OnOk r R
+map_ok (Ok x) p f = f p
+map_ok (Err e) p f = p
+
+-- what is read of a list of tests
+pub read_test : (tests : List Bool) (q : ℕ) (x : Bool) → q < length tests → x ≡ get_or tests q x → get_or tests q false ≡ x
+read_test tests q x h e = get_or_default tests q false x h ∙ sym e
+
+module _ (p : Program) (states : ℕ → Option State) where
+  -- the search goes on from spent points that stay so
+  pub spent_stays : (ways after : List (List WayStep)) (spent : List Bool) → ((q : ℕ) → IsMarked ways q → IsMarked after q) → AreSpent p states ways spent → AreSpent p states after spent
+  spent_stays ways after spent stays are = λ a e is c some. stays e.to (are a e is c some)
+
+  pub spent_more : (ways : List (List WayStep)) (spent : List Bool) (owner : ℕ) → AreSpent p states ways spent → ((e : Edge) → Contains (edges_of p owner) e → IsSome (states e.to) → IsMarked ways e.to) → AreSpent p states ways (set spent owner true)
+  spent_more ways spent owner are own = λ a e is c some. elim (same_or_not owner a) [
+    | inl same ↦ own e (subst (λ (x : ℕ). Contains (edges_of p x) e) same c) some
+    | inr ne ↦ are a e (sym (get_or-set_other spent owner a true false ne) ∙ is) c some
+  ]
+
+  pub led_stays : (ways after : List (List WayStep)) (a : ℕ) → ((q : ℕ) → IsMarked ways q → IsMarked after q) → HasLed p states ways a → HasLed p states after a
+  led_stays ways after a stays led = record { edges = λ e c b. stays e.to (led.edges e c b); restores = λ r m some. stays r (led.restores r m some) }

@@ -2,3 +2,4 @@ pub mod Chains
 pub mod Levels
 pub mod Marking
 pub mod Edges
+pub mod Begins

@@ -1,6 +1,6 @@
 //! The search for ways, level by level as states spread.
 
-ghost use Rattle.std.specs.Prelude.{◌≡◌, ◌<◌, ◌↔◌, ◌++◌, ◌∷◌, ℕ, [], List, All, Contains, IfOk, IfSome, IsSome, IsTrue, MatchOption, None, OnOk, Some, length, option_to_list, replicate, slice_set, true};
+ghost use Rattle.std.specs.Prelude.{◌≡◌, ◌≢◌, ◌+◌, ◌<◌, ◌↔◌, ◌++◌, ◌∷◌, ℕ, [], List, All, Contains, IfOk, IfSome, IsSome, IsTrue, MatchOption, None, OnOk, Some, length, option_to_list, replicate, slice_set, false, true};
 ghost use Rattle.machine_defs.specs.declared.flow.Edge.{Edge as EdgeValue};
 ghost use Rattle.machine_defs.specs.Program.{Program};
 ghost use Rattle.machine_defs.specs.IsProgram.{IsProgram};
@@ -370,6 +370,25 @@ fn first_kind(graph: &Graph, n: u32) -> Option<WayKind>
     }
 }
 
+/// Notes that a way begins at a point, and lists it, if it is of level 0.
+fn begin_at(graph: &Graph, search: &mut Search, n: u32) -> Result<(), NoMemory>
+    requires ways { length search.old.ways ≡ length graph.now.parts.points.items }
+    requires point { n < length graph.now.parts.points.items }
+    requires fresh { turns_at search.old.ways n ≡ [] }
+    ensures points { OnOk result (length search.new.ways ≡ length search.old.ways) }
+    ensures others { OnOk result ((q : ℕ) → q ≢ n → turns_at search.new.ways q ≡ turns_at search.old.ways q) }
+    ensures shown { OnOk result (AreShown search.old.ways search.old.next.items → AreShown search.new.ways search.new.next.items) }
+    ensures begun { OnOk result ((p : Program) → Tells p graph.now.parts → IsBegun p n search.old.ways search.old.next.items → IsBegun p (n + 1) search.new.ways search.new.next.items) }
+    ensures spent { search.new.spent ≡ search.old.spent }
+{
+    let Some(kind) = first_kind(graph, n) else {
+        return Ok(());
+    };
+    search.ways.begin(n, kind)?;
+    search.next.push(n)?;
+    Ok(())
+}
+
 /// Notes that ways begin at the points of level 0, and lists these.
 fn begin(graph: &Graph, search: &mut Search) -> Result<(), NoMemory>
     requires ways { search.old.ways ≡ replicate (length graph.now.parts.points.items) [] }
@@ -380,12 +399,16 @@ fn begin(graph: &Graph, search: &mut Search) -> Result<(), NoMemory>
     ensures spent { search.new.spent ≡ search.old.spent }
 {
     for n in 0..graph.points() {
-        if let Some(kind) = first_kind(graph, n) {
-            search.ways.begin(n, kind)?;
-            search.next.push(n)?;
-        }
+        begin_at(graph, search, n)?;
     }
     Ok(())
+}
+
+/// A list in which no point is spent.
+fn none_spent(alloc: Global, points: u32) -> Result<Vec<bool>, NoMemory>
+    ensures { IfOk result (λ spent. spent.items ≡ replicate points false) }
+{
+    Ok(vec![in alloc; false; points as usize]?)
 }
 
 /// Finds for each point that is kept a way by which its state spread to it, for a program's graph and the states that are
@@ -400,7 +423,7 @@ pub fn find_ways(alloc: Global, graph: &Graph, kept: &Kept) -> Result<Ways, NoMe
 {
     let mut search = Search {
         ways: Ways::none(alloc, graph.points())?,
-        spent: vec![in alloc; false; graph.points() as usize]?,
+        spent: none_spent(alloc, graph.points())?,
         next: Vec::new(alloc),
     };
     begin(graph, &mut search)?;

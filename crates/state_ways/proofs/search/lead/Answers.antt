@@ -34,3 +34,6 @@ returns-in-Some-clause-led c =
     let inside : q < length ways = omega (arith, c.requires.to, c.requires.ways) in
     let x : List WayStep = turns_at ways c.args.from ++ turns (step q c.in-Some.kind ∷ []) in
     both_ok c.note.result c.note.ensures.ways c.note.ensures.next (λ are items p t b. subst (λ (w : List (List WayStep)). IsMarked w q) (sym are) (new_marked ways q x inside fresh (more_some (turns_at ways c.args.from) (turns (step q c.in-Some.kind ∷ [])) c.requires.shown)))
+
+pub returns-then-not-brings_kept-clause-led : goal.returns-then-not-brings_kept-clause-led
+returns-then-not-brings_kept-clause-led c = λ p t b. absurd (let k = (c.brings_kept.ensures p t).1 b in let h = c.if-not-brings_kept.true in grind arith)
