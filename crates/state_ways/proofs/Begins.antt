@@ -9,7 +9,7 @@ use Rattle.unwinding_law.proofs.Lists.{cases, nowhere}
 use Rattle.kept_states.proofs.LevelSteps.{not_none}
 use Rattle.state_ways.specs.declared.steps.WayKind.{WayKind}
 use Rattle.state_ways.specs.declared.steps.WayStep.{WayStep}
-use Rattle.state_ways.specs.Marks.{AreFresh, AreSpent, IsBegun, IsInFront, IsLevel, IsMarked}
+use Rattle.state_ways.specs.Marks.{AreFresh, AreShown, AreSpent, IsBegun, IsInFront, IsLevel, IsMarked}
 use Rattle.state_ways.specs.Ways.{HasWay, Way, is_turn, step, turns, turns_at}
 use Rattle.state_ways.proofs.Marking.{at_new, front_stays, new_marked, other_than, same_or_not, stay_marked, was_marked}
 
@@ -76,3 +76,10 @@ none_spent p states ways n = λ a e is c some. absurd (go a is (within a n))
     go : (a : ℕ) → get_or (replicate n false) a false ≡ true → (a < n) ⊎ (n ≤ a) → ⊥
     go a is (inl l) = (let k : get_or (replicate n false) a false ≡ false = get_or-replicate n a false false l in cc)
     go a is (inr l) = (let k : get_or (replicate n false) a false ≡ false = get_or_past (replicate n false) a false (let m : length (replicate n false) ≡ n = length-replicate n false in omega (arith, m, l)) in cc)
+
+pub none_shown : (ways : List (List WayStep)) → AreShown ways []
+none_shown ways = record { within = λ k d l. absurd (omega (arith, l)); marked = λ k d l. absurd (omega (arith, l)) }
+
+pub nil_of : (xs : List ℕ) → length xs ≡ 0 → xs ≡ []
+nil_of [] e = refl
+nil_of (x ∷ xs) e = absurd (omega (arith, e))

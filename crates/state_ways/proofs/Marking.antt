@@ -79,7 +79,7 @@ module _ (ways : List (List WayStep)) (q : ℕ) (x : List WayStep) (inside : q <
     pub way_stays : (level r : ℕ) → r ≢ q → HasWay p ways level r → HasWay p (set ways q x) level r
     way_stays level r ne h = record { steps = h.steps; way = h.way; turns = at_old r ne ∙ h.turns }
 
-    front_stays : (level r : ℕ) → r ≢ q → IsInFront p ways level r → IsInFront p (set ways q x) level r
+    pub front_stays : (level r : ℕ) → r ≢ q → IsInFront p ways level r → IsInFront p (set ways q x) level r
     front_stays level r ne h = record { point = h.point; state = h.state; way = way_stays level r ne h.way }
 
     module _ (level : ℕ) (steps : List WayStep) (way : Way p (suc level) q steps) (are : x ≡ turns steps) (point : IsPoint p q) (kept : IsSome (state_at p (suc level) q)) where

@@ -411,6 +411,26 @@ fn none_spent(alloc: Global, points: u32) -> Result<Vec<bool>, NoMemory>
     Ok(vec![in alloc; false; points as usize]?)
 }
 
+/// Notes the ways to the points of the next level, on from all points that are listed, and lists those in place of these.
+fn go_on(
+    alloc: Global,
+    graph: &Graph,
+    kept: &Kept,
+    search: &mut Search,
+) -> Result<(), NoMemory>
+    requires points { length kept.now ≡ length graph.now.parts.points.items }
+    requires ways { length search.old.ways ≡ length graph.now.parts.points.items }
+    requires spent { length search.old.spent.items ≡ length graph.now.parts.points.items }
+    requires shown { AreShown search.old.ways search.old.next.items }
+    ensures on { OnOk result (GoesOn graph.now.parts (at kept.now) search.old.next.items search.old.ways [] search.new.ways search.new.next.items) }
+    ensures led { OnOk result ((p : Program) (a : ℕ) → Tells p graph.now.parts → AreSpent p (at kept.now) search.old.ways search.old.spent.items → Contains search.old.next.items a → HasLed p (at kept.now) search.new.ways a) }
+    ensures spent { OnOk result ((p : Program) → Tells p graph.now.parts → AreSpent p (at kept.now) search.old.ways search.old.spent.items → AreSpent p (at kept.now) search.new.ways search.new.spent.items) }
+    ensures len { length search.new.spent.items ≡ length search.old.spent.items }
+{
+    let front = std::mem::replace(&mut search.next, Vec::new(alloc));
+    lead_all(graph, kept, search, &front)
+}
+
 /// Finds for each point that is kept a way by which its state spread to it, for a program's graph and the states that are
 /// kept. It refuses nothing, and where memory is wanting it says so.
 ///
@@ -428,8 +448,7 @@ pub fn find_ways(alloc: Global, graph: &Graph, kept: &Kept) -> Result<Ways, NoMe
     };
     begin(graph, &mut search)?;
     while !search.next.is_empty() {
-        let front = std::mem::replace(&mut search.next, Vec::new(alloc));
-        lead_all(graph, kept, &mut search, &front)?;
+        go_on(alloc, graph, kept, &mut search)?;
     }
     Ok(search.ways)
 }
