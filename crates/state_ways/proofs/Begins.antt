@@ -1,5 +1,5 @@
 -- How the search for ways begins.
-use Rattle.std.proofs.Common.{◌≡◌, ◌≢◌, ℕ, ◌+◌, ◌<◌, ◌≤◌, Bool, true, false, List, [], ◌∷◌, ◌++◌, ◌⊎◌, inl, inr, Option, Some, None, IsSome, Contains, replicate, get_or, length, set, refl, ap, sym, ◌∙◌, subst, arith}
+use Rattle.std.proofs.Common.{◌≡◌, ◌≢◌, ℕ, ◌+◌, ◌<◌, ◌≤◌, true, false, List, [], ◌∷◌, ◌++◌, ◌⊎◌, inl, inr, Option, None, IsSome, Contains, replicate, get_or, length, set, refl, sym, ◌∙◌, subst, arith}
 use Rattle.std.proofs.lemmas.List.{get_or-replicate, get_or_past, length-replicate}
 use Rattle.std.proofs.lemmas.List.Elements.{Contains-append_left, Contains-append_cases, Contains-push}
 use Rattle.state_defs.specs.declared.state.State.{State}
@@ -10,8 +10,8 @@ use Rattle.kept_states.proofs.LevelSteps.{not_none}
 use Rattle.state_ways.specs.declared.steps.WayKind.{WayKind}
 use Rattle.state_ways.specs.declared.steps.WayStep.{WayStep}
 use Rattle.state_ways.specs.Marks.{AreFresh, AreShown, AreSpent, IsBegun, IsInFront, IsLevel, IsMarked}
-use Rattle.state_ways.specs.Ways.{HasWay, Way, is_turn, step, turns, turns_at}
-use Rattle.state_ways.proofs.Marking.{at_new, front_stays, new_marked, other_than, same_or_not, stay_marked, was_marked}
+use Rattle.state_ways.specs.Ways.{Way, is_turn, step, turns, turns_at}
+use Rattle.state_ways.proofs.Marking.{at_new, front_stays, new_marked, same_or_not, stay_marked, was_marked}
 
 own_turn : (q : ℕ) (kind : WayKind) → is_turn kind ≡ true → turns (step q kind ∷ []) ≡ step q kind ∷ []
 own_turn q kind e = rw e refl

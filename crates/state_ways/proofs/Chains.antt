@@ -1,5 +1,5 @@
 -- Turns that name the one before, and the turns up to each of them.
-use Rattle.std.proofs.Common.{◌≡◌, ◌≢◌, ℕ, zero, suc, ◌+◌, ◌<◌, ◌≤◌, ◌^◌, ◌⊎◌, inl, inr, List, [], ◌∷◌, ◌++◌, Option, Some, None, All, fold, length, map, replicate, reverse, take, get_or, set, slice_get, refl, ap, sym, ◌∙◌, subst, arith, length-append, length-set, get_or-set_same, get_or-set_other}
+use Rattle.std.proofs.Common.{◌≡◌, ◌≢◌, ℕ, zero, suc, ◌+◌, ◌<◌, ◌≤◌, ◌^◌, ◌⊎◌, inl, inr, List, [], ◌∷◌, ◌++◌, Option, Some, None, fold, length, map, replicate, reverse, take, get_or, set, slice_get, refl, ap, sym, ◌∙◌, subst, arith, length-append, length-set, get_or-set_same, get_or-set_other}
 use Rattle.std.specs.Prelude.{sum_by}
 use Rattle.std.proofs.lemmas.List.{get_or-map, length-map, get_or_past, map-set, ext_get_or, get_or_default, get_or-replicate, length-replicate, append_assoc, reverse-append, take_all, take-append-le}
 use Rattle.std.proofs.Math.ListN.{get_or-append}

@@ -1,5 +1,5 @@
 -- What edges bring, and how ways begin.
-use Rattle.std.proofs.Common.{◌≡◌, ◌↔◌, ℕ, ◌+◌, ◌<◌, ◌≤◌, get_or, set, get_or-set_other, length, arith, Bool, true, false, List, [], ◌∷◌, Option, Some, None, IsSome, Contains, inl, inr, if◌then◌else◌, refl, ap, sym, ◌∙◌, subst}
+use Rattle.std.proofs.Common.{◌≡◌, ◌↔◌, ℕ, ◌+◌, ◌<◌, ◌≤◌, get_or, set, get_or-set_other, length, arith, Bool, true, false, List, [], ◌∷◌, Option, Some, None, IsSome, Contains, inl, inr, refl, ap, sym, ◌∙◌, subst}
 use Rattle.std.specs.Prelude.{option_to_list, OnOk, Result, Ok, Err}
 use Rattle.std.proofs.lemmas.Bool.{cases_lt}
 use Rattle.std.proofs.lemmas.List.{get_or_default}
@@ -9,7 +9,7 @@ use Rattle.state_defs.specs.declared.state.State.{State}
 use Rattle.state_defs.specs.declared.state.HintState.{HintState}
 use Rattle.state_defs.specs.declared.state.HintState.TheVariants.{Set, Save, Restore}
 use Rattle.state_defs.specs.State.{initial}
-use Rattle.machine_defs.specs.Program.{Program, IsPoint}
+use Rattle.machine_defs.specs.Program.{Program}
 use Rattle.machine_defs.specs.Kept.{brought_along, edges_of, first_state, is_at_entry, is_free, state_at}
 use Rattle.unwinding_law.proofs.Lists.{here, cases, nowhere}
 use Rattle.state_ways.specs.declared.steps.WayKind.TheVariants.{Entry, Hint}

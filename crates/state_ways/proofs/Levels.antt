@@ -1,18 +1,16 @@
 -- What is kept at one level more, and why.
-use Rattle.std.proofs.Common.{◌≡◌, ◌≢◌, ℕ, zero, suc, ◌+◌, ◌<◌, Bool, true, false, List, [], ◌∷◌, ◌⊎◌, inl, inr, Option, Some, None, IsSome, Contains, if◌then◌else◌, option_and_then, refl, ap, sym, ◌∙◌, subst, add-zero, arith}
-use Rattle.machine_defs.specs.declared.flow.Edge.{Edge}
+use Rattle.std.proofs.Common.{◌≡◌, ℕ, zero, suc, true, false, List, [], ◌∷◌, ◌⊎◌, inl, inr, Option, Some, None, IsSome, Contains, if◌then◌else◌, option_and_then, refl, ap, sym, ◌∙◌, subst, add-zero}
 use Rattle.state_defs.specs.declared.state.State.{State}
 use Rattle.state_defs.specs.declared.state.HintState.{HintState}
 use Rattle.state_defs.specs.declared.state.HintState.TheVariants.{Set, Save, Restore}
 use Rattle.state_defs.specs.Order.{least}
 use Rattle.machine_defs.specs.Program.{Program, IsPoint, below}
-use Rattle.machine_defs.specs.Kept.{Brings, NotKept, Kept, brought, brought_from, is_free, kept_or, later_state, state_at}
+use Rattle.machine_defs.specs.Kept.{Brings, brought, brought_from, is_free, kept_or, later_state, state_at}
 use Rattle.machine_defs.proofs.KeptLemmas.{kept_next, kept_stays, kept_is_one}
 use Rattle.unwinding_law.proofs.Lists.{nowhere, in_flat_map, from_flat_map, in_below, from_below}
 use Rattle.unwinding_law.proofs.KeptStates.{brings_edge, kept_checked, least_member, least_some, unless_unchecked}
 use Rattle.kept_states.proofs.LevelSteps.{is_some_of, not_none, some_state, state_of_some}
 use Rattle.program_graph.specs.declared.parts.GraphParts.{GraphParts}
-use Rattle.program_graph.specs.Tells.{Means}
 use Rattle.state_ways.specs.declared.steps.WayStep.{WayStep}
 use Rattle.state_ways.specs.Marks.{AreFresh, BringsKept, HasLed, IsBetween, IsLevel, IsMarked, IsTold, state_before}
 use Rattle.state_ways.specs.Ways.{AreWays, turns_at}

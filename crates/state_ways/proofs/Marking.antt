@@ -1,25 +1,24 @@
 -- A way to one point more is noted.
-use Rattle.std.proofs.Common.{◌≡◌, ◌≢◌, ℕ, zero, suc, ◌+◌, ◌<◌, List, [], ◌∷◌, ◌++◌, ◌⊎◌, inl, inr, Option, Some, None, IsSome, All, Contains, filter, length, get_or, set, refl, ap, sym, ◌∙◌, subst, arith, length-append, length-set, get_or-set_same, get_or-set_other}
-use Rattle.std.specs.Prelude.{sum_by, true, false}
+use Rattle.std.proofs.Common.{◌≡◌, ◌≢◌, ℕ, suc, ◌+◌, ◌<◌, List, [], ◌∷◌, ◌++◌, ◌⊎◌, inl, inr, Option, Some, None, IsSome, Contains, length, get_or, set, refl, ap, sym, ◌∙◌, subst, arith, length-append, length-set, get_or-set_same, get_or-set_other}
+use Rattle.std.specs.Prelude.{sum_by, false}
 use Rattle.std.proofs.lemmas.List.Elements.{All-push, Contains-append_left, Contains-append_cases, Contains-push, filter-append}
 use Rattle.std.proofs.lemmas.List.Sums.{sum_by-set}
-use Rattle.machine_defs.specs.declared.flow.Edge.{Edge}
 use Rattle.machine_defs.specs.declared.flow.EdgeKind.{EdgeKind}
 use Rattle.state_defs.specs.declared.state.State.{State}
 use Rattle.machine_defs.specs.Program.{Program, IsPoint}
-use Rattle.machine_defs.specs.Kept.{brought_along, edges_of, is_free, state_at}
+use Rattle.machine_defs.specs.Kept.{edges_of, state_at}
 use Rattle.machine_defs.proofs.KeptLemmas.{kept_is_one}
 use Rattle.unwinding_law.proofs.Lists.{cases, nowhere}
 use Rattle.unwinding_law.proofs.KeptStates.{brings_along, kept_checked}
-use Rattle.kept_states.proofs.LevelSteps.{is_some_of, not_none, none_of, some_state, state_of_some}
+use Rattle.kept_states.proofs.LevelSteps.{none_of, state_of_some}
 use Rattle.program_graph.specs.declared.parts.GraphParts.{GraphParts}
 use Rattle.program_graph.specs.Tells.{Means, Tells}
 use Rattle.state_ways.specs.declared.steps.WayKind.{WayKind}
 use Rattle.state_ways.specs.declared.steps.WayKind.TheVariants.{Restore}
 use Rattle.state_ways.specs.declared.steps.WayStep.{WayStep}
-use Rattle.state_ways.specs.Marks.{AreShown, AreSpent, BringsKept, GoesOn, IsBegun, IsBetween, IsInFront, IsLevel, IsMarked, IsTold, is_open}
+use Rattle.state_ways.specs.Marks.{AreShown, BringsKept, GoesOn, IsBetween, IsInFront, IsLevel, IsMarked, IsTold, is_open}
 use Rattle.state_ways.specs.Ways.{HasWay, Way, along, goes_on, restored, is_turn, step, turns, turns_at}
-use Rattle.state_ways.proofs.Levels.{kept_by_edge, kept_by_save, kept_too, stays_some}
+use Rattle.state_ways.proofs.Levels.{kept_by_edge, kept_by_save, stays_some}
 
 pub same_or_not : (q r : ℕ) → (r ≡ q) ⊎ (r ≢ q)
 same_or_not q r = grind arith

@@ -238,12 +238,7 @@ fn lead_by_table(
 }
 
 /// Notes the ways that lead on along the edges of a point in front.
-fn lead_along(
-    graph: &Graph,
-    kept: &Kept,
-    search: &mut Search,
-    from: u32,
-) -> Result<(), NoMemory>
+fn lead_along(graph: &Graph, kept: &Kept, search: &mut Search, from: u32) -> Result<(), NoMemory>
     requires points { length kept.now ≡ length graph.now.parts.points.items }
     requires ways { length search.old.ways ≡ length graph.now.parts.points.items }
     requires spent { length search.old.spent.items ≡ length graph.now.parts.points.items }
@@ -326,12 +321,7 @@ fn lead_on(graph: &Graph, kept: &Kept, search: &mut Search, from: u32) -> Result
 }
 
 /// Notes the ways that lead on from all points in front: those to the points of the next level.
-fn lead_all(
-    graph: &Graph,
-    kept: &Kept,
-    search: &mut Search,
-    front: &[u32],
-) -> Result<(), NoMemory>
+fn lead_all(graph: &Graph, kept: &Kept, search: &mut Search, front: &[u32]) -> Result<(), NoMemory>
     requires points { length kept.now ≡ length graph.now.parts.points.items }
     requires ways { length search.old.ways ≡ length graph.now.parts.points.items }
     requires spent { length search.old.spent.items ≡ length graph.now.parts.points.items }
@@ -412,12 +402,7 @@ fn none_spent(alloc: Global, points: u32) -> Result<Vec<bool>, NoMemory>
 }
 
 /// Notes the ways to the points of the next level, on from all points that are listed, and lists those in place of these.
-fn go_on(
-    alloc: Global,
-    graph: &Graph,
-    kept: &Kept,
-    search: &mut Search,
-) -> Result<(), NoMemory>
+fn go_on(alloc: Global, graph: &Graph, kept: &Kept, search: &mut Search) -> Result<(), NoMemory>
     requires points { length kept.now ≡ length graph.now.parts.points.items }
     requires ways { length search.old.ways ≡ length graph.now.parts.points.items }
     requires spent { length search.old.spent.items ≡ length graph.now.parts.points.items }

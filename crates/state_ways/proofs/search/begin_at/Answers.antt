@@ -1,10 +1,10 @@
 -- One point more.
-use Rattle.std.proofs.Common.{◌≡◌, ℕ, ◌<◌, ◌+◌, ◌++◌, ◌∷◌, [], List, ap, sym, ◌∙◌, subst, set, length, length-set, arith}
+use Rattle.std.proofs.Common.{ℕ, ◌<◌, ◌+◌, ◌∷◌, [], List, ap, sym, ◌∙◌, subst, set, length, length-set, arith}
 use Rattle.machine_defs.specs.Program.{IsPoint}
 use Rattle.state_ways.specs.declared.steps.WayStep.{WayStep}
 use Rattle.state_ways.specs.Marks.{AreShown, IsBegun}
 use Rattle.state_ways.specs.Ways.{step, turns_at}
-use Rattle.state_ways.proofs.Begins.{begun_less, begun_more, some_step}
+use Rattle.state_ways.proofs.Begins.{begun_more, some_step}
 use Rattle.state_ways.proofs.Marking.{at_old, more_shown}
 use Rattle.state_ways.proofs.search.begin_at.Goals as goal
 

@@ -1,5 +1,5 @@
 -- The state that is brought is the one that is kept, or isn't.
-use Rattle.std.proofs.Common.{◌≡◌, true, sym, ap, ◌∙◌, subst, Option, Some, arith, IsTrue}
+use Rattle.std.proofs.Common.{◌≡◌, true, sym, ap, ◌∙◌, subst, Option, arith}
 use Rattle.operation_defs.specs.declared.insn.Insn.{Insn}
 use Rattle.state_defs.specs.declared.state.HintState.{HintState}
 use Rattle.machine_defs.specs.Kept.{is_free}

@@ -1,9 +1,8 @@
 -- One level after another.
-use Rattle.std.proofs.Common.{◌≡◌, ℕ, suc, ◌<◌, ◌+◌, List, [], ◌∷◌, false, length, replicate, ap, sym, ◌∙◌, subst, arith}
-use Rattle.std.specs.Prelude.{sum_by}
+use Rattle.std.proofs.Common.{◌≡◌, ℕ, suc, List, [], false, length, ap, sym, ◌∙◌, subst, arith}
 use Rattle.std.proofs.lemmas.List.{length-replicate}
 use Rattle.kept_states.specs.LevelStates.{at}
-use Rattle.state_ways.specs.Marks.{AreFresh, AreShown, AreSpent, IsBegun, IsLevel, IsTold, is_open}
+use Rattle.state_ways.specs.Marks.{AreFresh, AreSpent, IsBegun, IsLevel, IsTold}
 use Rattle.state_ways.proofs.Begins.{level_zero, nil_of, none_shown, none_spent}
 use Rattle.state_ways.proofs.Levels.{all_ways, next_level}
 use Rattle.state_ways.proofs.Marking.{begins_between}

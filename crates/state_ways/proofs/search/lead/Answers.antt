@@ -1,5 +1,5 @@
 -- A way leads on along the edge, or no more than is noted.
-use Rattle.std.proofs.Common.{◌≡◌, ℕ, ◌<◌, ◌++◌, ◌∷◌, [], List, Option, Some, true, Contains, sym, ◌∙◌, subst, set, length, arith}
+use Rattle.std.proofs.Common.{◌≡◌, ℕ, ◌<◌, ◌++◌, ◌∷◌, [], List, sym, ◌∙◌, subst, set, length, arith}
 use Rattle.machine_defs.specs.Program.{Program}
 use Rattle.program_graph.specs.Tells.{Tells}
 use Rattle.kept_states.specs.LevelStates.{at}
@@ -22,9 +22,9 @@ returns-in-Some-clause-on c =
     let inside : q < length ways = omega (arith, c.requires.to, c.requires.ways) in
     let brings : (p : Program) → Tells p c.args.graph.now.parts → BringsKept p (at c.args.kept.now) c.args.from c.args.edge = λ p t. (c.brings_kept.ensures p t).0 (let h = c.if-not-brings_kept.false in grind arith) in
     both_ok c.note.result c.note.ensures.ways c.note.ensures.next (λ are items front in_front.
-        subst (λ (w : List (List WayStep)). GoesOn c.args.graph.now.parts (at c.args.kept.now) front ways next w c.note.new.search.next.items) (sym are)
-        (subst (λ (n : List ℕ). GoesOn c.args.graph.now.parts (at c.args.kept.now) front ways next (set ways q (turns_at ways c.args.from ++ turns (step q c.in-Some.kind ∷ []))) n) (sym items)
-        (on_along c.args.graph.now.parts (at c.args.kept.now) front ways next c.args.from q c.in-Some.kind in_front c.requires.shown inside fresh c.args.edge.kind c.requires.to c.requires.own brings (sym c.way_kind.ensures ∙ c.in-Some.is))))
+    subst (λ (w : List (List WayStep)). GoesOn c.args.graph.now.parts (at c.args.kept.now) front ways next w c.note.new.search.next.items) (sym are)
+    (subst (λ (n : List ℕ). GoesOn c.args.graph.now.parts (at c.args.kept.now) front ways next (set ways q (turns_at ways c.args.from ++ turns (step q c.in-Some.kind ∷ []))) n) (sym items)
+    (on_along c.args.graph.now.parts (at c.args.kept.now) front ways next c.args.from q c.in-Some.kind in_front c.requires.shown inside fresh c.args.edge.kind c.requires.to c.requires.own brings (sym c.way_kind.ensures ∙ c.in-Some.is))))
 
 pub returns-in-Some-clause-led : goal.returns-in-Some-clause-led
 returns-in-Some-clause-led c =

@@ -1,5 +1,5 @@
 -- One point after another.
-use Rattle.std.proofs.Common.{◌≡◌, ℕ, List, Contains, get_or, ◌∙◌}
+use Rattle.std.proofs.Common.{ℕ, List, Contains, get_or, ◌∙◌}
 use Rattle.machine_defs.specs.Program.{Program}
 use Rattle.program_graph.specs.Tells.{Tells}
 use Rattle.kept_states.specs.LevelStates.{at}

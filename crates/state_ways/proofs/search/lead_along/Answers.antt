@@ -1,5 +1,5 @@
 -- Few edges lead each; many by the point that has them.
-use Rattle.std.proofs.Common.{◌≡◌, ℕ, List, [], ◌∷◌, Contains, sym, subst}
+use Rattle.std.proofs.Common.{List, [], ◌∷◌, Contains, sym, subst}
 use Rattle.machine_defs.specs.declared.flow.Edge.{Edge}
 use Rattle.unwinding_law.proofs.Lists.{here}
 use Rattle.kept_states.specs.LevelStates.{at}

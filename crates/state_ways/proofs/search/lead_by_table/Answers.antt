@@ -1,11 +1,10 @@
 -- The edges lead, or all of their ends have ways.
-use Rattle.std.proofs.Common.{◌≡◌, ◌<◌, ℕ, List, [], ◌∷◌, Bool, true, false, Contains, IsSome, get_or, length, sym, ap, ◌∙◌, subst, arith}
+use Rattle.std.proofs.Common.{◌<◌, ℕ, List, [], ◌∷◌, Contains, get_or, length, sym, ◌∙◌, subst, arith}
 use Rattle.machine_defs.specs.declared.flow.Edge.{Edge}
-use Rattle.machine_defs.specs.Program.{Program}
 use Rattle.unwinding_law.proofs.Lists.{here}
 use Rattle.kept_states.specs.LevelStates.{at}
 use Rattle.kept_states.proofs.LevelSteps.{is_some_of}
-use Rattle.state_ways.specs.Marks.{AreSpent, IsMarked}
+use Rattle.state_ways.specs.Marks.{AreSpent}
 use Rattle.state_ways.proofs.Edges.{read_test, spent_more, spent_stays}
 use Rattle.state_ways.proofs.search.lead_by_table.Goals as goal
 

@@ -1,5 +1,5 @@
 -- First along edges, then to RESTOREs.
-use Rattle.std.proofs.Common.{◌≡◌, ℕ, [], ◌∷◌, sym, ◌∙◌, subst}
+use Rattle.std.proofs.Common.{[], ◌∷◌, sym, ◌∙◌, subst}
 use Rattle.unwinding_law.proofs.Lists.{here}
 use Rattle.kept_states.specs.LevelStates.{at}
 use Rattle.state_ways.specs.Marks.{AreSpent}

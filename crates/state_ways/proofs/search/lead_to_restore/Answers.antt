@@ -1,13 +1,12 @@
 -- A way leads on to the RESTORE, or no more than is noted.
-use Rattle.std.proofs.Common.{◌≡◌, ℕ, ◌<◌, ◌++◌, ◌∷◌, [], List, IsSome, sym, refl, ◌∙◌, subst, set, length, arith}
-use Rattle.program_graph.specs.declared.parts.GraphParts.{GraphParts}
+use Rattle.std.proofs.Common.{◌≡◌, ℕ, ◌<◌, ◌++◌, ◌∷◌, [], List, IsSome, sym, refl, subst, set, length, arith}
 use Rattle.kept_states.specs.LevelStates.{at}
 use Rattle.state_ways.specs.declared.steps.WayKind.TheVariants.{Restore}
 use Rattle.state_ways.specs.declared.steps.WayStep.{WayStep}
 use Rattle.state_ways.specs.Marks.{GoesOn, IsMarked}
 use Rattle.state_ways.specs.Ways.{step, turns, turns_at}
 use Rattle.state_ways.proofs.Edges.{both_ok}
-use Rattle.state_ways.proofs.Marking.{more_some, new_marked, none_at, none_more, on_restored}
+use Rattle.state_ways.proofs.Marking.{more_some, new_marked, none_at, on_restored}
 use Rattle.state_ways.proofs.search.lead_to_restore.Goals as goal
 
 pub note-requires-clause-fresh : goal.note-requires-clause-fresh
@@ -22,9 +21,9 @@ returns-clause-on c =
     let inside : q < length ways = omega (arith, c.requires.restore, c.requires.points) in
     let kept : IsSome (at c.args.kept.now q) = c.is_kept.ensures.0 (let h = c.if-not-is_kept.false in grind arith) in
     both_ok c.note.result c.note.ensures.ways c.note.ensures.next (λ are items parts front point means in_front.
-        subst (λ (w : List (List WayStep)). GoesOn parts (at c.args.kept.now) front ways next w c.note.new.search.next.items) (sym are)
-        (subst (λ (n : List ℕ). GoesOn parts (at c.args.kept.now) front ways next (set ways q (turns_at ways c.args.from ++ turns (step q Restore ∷ []))) n) (sym items)
-        (on_restored parts (at c.args.kept.now) front ways next c.args.from q Restore in_front c.requires.shown inside fresh refl point means kept)))
+    subst (λ (w : List (List WayStep)). GoesOn parts (at c.args.kept.now) front ways next w c.note.new.search.next.items) (sym are)
+    (subst (λ (n : List ℕ). GoesOn parts (at c.args.kept.now) front ways next (set ways q (turns_at ways c.args.from ++ turns (step q Restore ∷ []))) n) (sym items)
+    (on_restored parts (at c.args.kept.now) front ways next c.args.from q Restore in_front c.requires.shown inside fresh refl point means kept)))
 
 pub returns-clause-led : goal.returns-clause-led
 returns-clause-led c =

@@ -1,5 +1,5 @@
 -- One RESTORE after another.
-use Rattle.std.proofs.Common.{◌≡◌, ◌<◌, ◌+◌, ℕ, List, [], ◌∷◌, Contains, IsSome, get_or, length, refl, sym, ◌∙◌, subst, arith}
+use Rattle.std.proofs.Common.{◌<◌, ℕ, List, [], ◌∷◌, IsSome, get_or, length, refl, sym, ◌∙◌, arith}
 use Rattle.machine_defs.specs.Program.{Program}
 use Rattle.unwinding_law.proofs.Lists.{here}
 use Rattle.program_graph.specs.Tells.{Means, Tells}

@@ -1,5 +1,5 @@
 -- One turn more is pushed.
-use Rattle.std.proofs.Common.{◌≡◌, ℕ, ◌<◌, ◌++◌, ◌∷◌, [], List, Option, None, Some, ap, get_or, length, reverse, subst, take, ◌∙◌}
+use Rattle.std.proofs.Common.{◌≡◌, ℕ, ◌<◌, ◌++◌, ◌∷◌, [], List, Option, None, ap, get_or, length, reverse, subst, take, ◌∙◌}
 use Rattle.state_ways.specs.declared.steps.WayKind.TheVariants.{Entry}
 use Rattle.state_ways.specs.declared.steps.WayStep.{WayStep}
 use Rattle.state_ways.specs.declared.ways.Turn.{Turn}

@@ -1,8 +1,8 @@
 -- There is one turn more, with none before it.
-use Rattle.std.proofs.Common.{◌≡◌, ◌≢◌, ℕ, ◌+◌, ◌<◌, List, [], ◌∷◌, ◌++◌, Some, None, length, map, get_or, set, refl, ap, sym, ◌∙◌, subst, arith}
+use Rattle.std.proofs.Common.{◌≡◌, ℕ, ◌<◌, List, [], ◌∷◌, ◌++◌, None, length, map, get_or, set, ap, sym, ◌∙◌, subst, arith}
 use Rattle.state_ways.specs.declared.steps.WayStep.{WayStep}
 use Rattle.state_ways.specs.declared.ways.Turn.{Turn}
-use Rattle.state_ways.specs.Turns.{chain_at, chains_of, nowhere, up_to}
+use Rattle.state_ways.specs.Turns.{chain_at, chains_of, nowhere}
 use Rattle.state_ways.specs.Ways.{step, turns_at}
 use Rattle.state_ways.proofs.Chains.{point_inside, turns_more, vacant_at, view_more}
 use Rattle.state_ways.proofs.ways.Ways.begin.Goals as goal

@@ -1,9 +1,9 @@
 -- The point names the turn that the other one names.
-use Rattle.std.proofs.Common.{◌≡◌, ◌≢◌, ℕ, ◌+◌, ◌<◌, List, [], ◌∷◌, ◌++◌, Some, None, length, map, get_or, set, refl, ap, sym, ◌∙◌, subst, arith}
+use Rattle.std.proofs.Common.{◌≡◌, ℕ, ◌<◌, List, [], length, map, get_or, set, ap, sym, ◌∙◌, subst}
 use Rattle.state_ways.specs.declared.steps.WayStep.{WayStep}
 use Rattle.state_ways.specs.declared.ways.Turn.{Turn}
-use Rattle.state_ways.specs.Turns.{chain_at, chains_of, nowhere, up_to}
-use Rattle.state_ways.specs.Ways.{step, turns_at}
+use Rattle.state_ways.specs.Turns.{chain_at, chains_of, nowhere}
+use Rattle.state_ways.specs.Ways.{turns_at}
 use Rattle.state_ways.proofs.Chains.{point_inside, read_last, turns_passed, vacant_at, view_passed}
 use Rattle.state_ways.proofs.ways.Ways.pass.Goals as goal
 
