@@ -1,0 +1,5 @@
+pub mod Chains
+pub mod Levels
+pub mod Marking
+pub mod Edges
+pub mod Begins
