@@ -14,7 +14,7 @@ use Rattle.command_base.specs.Warnings.{warnings_text}
 use Rattle.ot_files.specs.Output.{appending}
 use Rattle.objtool_cli.specs.Promises.{InKeepsPromises}
 use Rattle.objtool_cli.specs.Unwinding.{OutUnwinds}
-use Rattle.cli_words.specs.Grammar.{Command, cfa, cfi, check, demo, dump, entry, find, help, list, merge, sites, unwind, version}
+use Rattle.cli_words.specs.Grammar.{Command, cfa, cfi, check, demo, dump, entry, explain, find, help, list, merge, show, sites, unwind, version}
 use Rattle.cli_words.specs.declared.options.CheckOptions.{CheckOptions}
 use Rattle.objtool_cli.specs.Words.{Meaning, entry_options, is_silent}
 use Rattle.object_commands.proofs.EntryLaws.{entry_silent, entry_warned}
@@ -27,6 +27,7 @@ use Rattle.object_commands.proofs.CfaLaws.{cfa_no_warnings}
 use Rattle.object_commands.proofs.CfiLaws.{cfi_silent, cfi_warned}
 use Rattle.object_commands.proofs.MergeLaws.{merge_no_warnings, merged_silently}
 use Rattle.object_commands.proofs.FindLaws.{find_no_warnings}
+use Rattle.object_commands.proofs.ShowLaws.{show_no_warnings}
 use Rattle.objtool_cli.proofs.SameCommand.{done_as, not_both}
 use Rattle.objtool_cli.proofs.StatusLemmas.{warnings_not_done, done_no_warnings}
 
@@ -46,6 +47,8 @@ silent_as (unwind file image) before after out out' x h writes e = absurd (not_b
 silent_as (list file) before after out out' x h writes e = absurd (not_both false writes refl)
 silent_as (cfa file) before after out out' x h writes e = absurd (not_both false writes refl)
 silent_as (find table address) before after out out' x h writes e = absurd (not_both false writes refl)
+silent_as (show input function map names) before after out out' x h writes e = absurd (not_both false writes refl)
+silent_as (explain topic) before after out out' x h writes e = absurd (not_both false writes refl)
 silent_as (demo n) before after out out' x h writes e = absurd (not_both false writes refl)
 silent_as help before after out out' x h writes e = absurd (not_both false writes refl)
 silent_as version before after out out' x h writes e = absurd (not_both false writes refl)
@@ -76,6 +79,8 @@ warned_as (cfi input output map names) meaning before after out out' x is h e = 
 warned_as (cfa file) meaning before after out out' x is h e = absurd (cfa_no_warnings file before after out out' x h.0 e)
 warned_as (merge layout output) meaning before after out out' x is h e = absurd (merge_no_warnings layout output before after out out' x h e)
 warned_as (find table address) meaning before after out out' x is h e = absurd (find_no_warnings table address before after out out' x h.0 e)
+warned_as (show input function map names) meaning before after out out' x is h e = absurd (show_no_warnings map input names function before after out out' x h.0 e)
+warned_as (explain topic) meaning before after out out' x is h e = absurd (done_no_warnings (printed_warnings Done _ out out' x h.1 e))
 warned_as (demo n) meaning before after out out' x is h e = of_demo n is (sums_warned _ _ out out' x h.1 e)
 warned_as help meaning before after out out' x is h e = absurd (done_no_warnings (printed_warnings Done _ out out' x h.1 e))
 warned_as version meaning before after out out' x is h e = absurd (done_no_warnings (printed_warnings Done _ out out' x h.1 e))

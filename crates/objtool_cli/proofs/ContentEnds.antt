@@ -9,7 +9,7 @@ use Rattle.command_base.specs.Printing.{Concludes}
 use Rattle.command_base.proofs.Content.{written_others}
 use Rattle.command_base.proofs.Stops.{neither, write_told}
 use Rattle.objtool_cli.specs.Command.{ChangesOut, Ends, EndsAs, EndsCheck, MayChange, Stops, done, ended, faulty, refused, stopped, unfinished, unread, unwritten, warned, without_names}
-use Rattle.cli_words.specs.Grammar.{Command, cfa, cfi, check, demo, dump, entry, find, help, list, merge, sites, unwind, version}
+use Rattle.cli_words.specs.Grammar.{Command, cfa, cfi, check, demo, dump, entry, explain, find, help, list, merge, show, sites, unwind, version}
 use Rattle.object_commands.proofs.SitesLaws.{sites_changes, sites_unchanged}
 use Rattle.object_commands.proofs.CfiLaws.{cfi_changes, cfi_unchanged}
 use Rattle.object_commands.proofs.MergeLaws.{merge_changes, merge_unchanged}
@@ -38,6 +38,8 @@ kept_as (cfi input output map names) before after out out' x h d f m = cfi_uncha
 kept_as (cfa file) before after out out' x h d f m = h.1
 kept_as (merge layout output) before after out out' x h d f m = merge_unchanged layout output before after out out' x h d f m
 kept_as (find table address) before after out out' x h d f m = h.1
+kept_as (show input function map names) before after out out' x h d f m = h.1
+kept_as (explain topic) before after out out' x h d f m = ap (λ (o : Outside). o.content) h.0
 kept_as (demo n) before after out out' x h d f m = ap (λ (o : Outside). o.content) h.0
 kept_as help before after out out' x h d f m = ap (λ (o : Outside). o.content) h.0
 kept_as version before after out out' x h d f m = ap (λ (o : Outside). o.content) h.0
@@ -80,6 +82,8 @@ changes_as (cfi input output map names) before after out out' x h = cfi_changes 
 changes_as (cfa file) before after out out' x h = inl h.1
 changes_as (merge layout output) before after out out' x h = merge_changes layout output before after out out' x h
 changes_as (find table address) before after out out' x h = inl h.1
+changes_as (show input function map names) before after out out' x h = inl h.1
+changes_as (explain topic) before after out out' x h = inl (ap (λ (o : Outside). o.content) h.0)
 changes_as (demo n) before after out out' x h = inl (ap (λ (o : Outside). o.content) h.0)
 changes_as help before after out out' x h = inl (ap (λ (o : Outside). o.content) h.0)
 changes_as version before after out out' x h = inl (ap (λ (o : Outside). o.content) h.0)

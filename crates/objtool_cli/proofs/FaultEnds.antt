@@ -14,7 +14,7 @@ use Rattle.objtool_cli.specs.Checked.{IsRefusal}
 use Rattle.objtool_cli.specs.Command.{Ends, EndsAs, EndsCheck, Stops, done, ended, faulty, refused, stopped, unfinished, unread, unwritten, warned, without_names}
 use Rattle.ot_base.specs.NameLists.{NameLists}
 use Rattle.cli_words.specs.declared.options.CheckOptions.{CheckOptions}
-use Rattle.cli_words.specs.Grammar.{Command, cfa, cfi, check, demo, dump, entry, find, help, list, merge, sites, unwind, version}
+use Rattle.cli_words.specs.Grammar.{Command, cfa, cfi, check, demo, dump, entry, explain, find, help, list, merge, show, sites, unwind, version}
 use Rattle.objtool_cli.specs.Words.{Meaning, entry_options}
 use Rattle.object_commands.proofs.EntryLaws.{entry_fault, entry_sink_fault}
 use Rattle.command_base.proofs.UnwindLaws.{unwind_fault, unwind_sink_fault}
@@ -24,6 +24,7 @@ use Rattle.object_commands.proofs.SitesLaws.{sites_fault, sites_sink_fault}
 use Rattle.object_commands.proofs.CfaLaws.{cfa_fault, cfa_sink_fault}
 use Rattle.object_commands.proofs.MergeLaws.{merge_file_fault, merge_sink_fault}
 use Rattle.object_commands.proofs.FindLaws.{find_fault, find_sink_fault}
+use Rattle.object_commands.proofs.ShowLaws.{show_fault, show_sink_fault}
 use Rattle.objtool_cli.proofs.CfiEnds.{cfi_fault, cfi_sink_fault}
 use Rattle.command_base.proofs.DumpLaws.{read_fault}
 use Rattle.command_base.proofs.Stops.{names_fault, write_fault}
@@ -64,6 +65,8 @@ fault_as (cfi input output map names) before after out out' x h e = cfi_fault ma
 fault_as (cfa file) before after out out' x h e = cfa_fault file before after out out' x h.0 e
 fault_as (merge layout output) before after out out' x h e = merge_file_fault layout output before after out out' x h e
 fault_as (find table address) before after out out' x h e = find_fault table address before after out out' x h.0 e
+fault_as (show input function map names) before after out out' x h e = show_fault map input names function before after out out' x h.0 e
+fault_as (explain topic) before after out out' x h e = absurd (done_no_fault (printed_fault Done _ out out' x h.1 e))
 fault_as (demo n) before after out out' x h e = absurd (sums_no_file_fault _ _ out out' x h.1 e)
 fault_as help before after out out' x h e = absurd (done_no_fault (printed_fault Done _ out out' x h.1 e))
 fault_as version before after out out' x h e = absurd (done_no_fault (printed_fault Done _ out out' x h.1 e))
@@ -89,6 +92,8 @@ sink_fault_as (cfi input output map names) before after out out' x h e = cfi_sin
 sink_fault_as (cfa file) before after out out' x h e = cfa_sink_fault file before after out out' x h.0 e
 sink_fault_as (merge layout output) before after out out' x h e = merge_sink_fault layout output before after out out' x h e
 sink_fault_as (find table address) before after out out' x h e = find_sink_fault table address before after out out' x h.0 e
+sink_fault_as (show input function map names) before after out out' x h e = show_sink_fault map input names function before after out out' x h.0 e
+sink_fault_as (explain topic) before after out out' x h e = printed_sink_fault Done _ out out' x h.1 done_no_sink_fault e
 sink_fault_as (demo n) before after out out' x h e = sums_sink_fault _ _ out out' x h.1 e
 sink_fault_as help before after out out' x h e = printed_sink_fault Done _ out out' x h.1 done_no_sink_fault e
 sink_fault_as version before after out out' x h e = printed_sink_fault Done _ out out' x h.1 done_no_sink_fault e

@@ -10,7 +10,7 @@ use Rattle.command_base.specs.Printing.{Concludes}
 use Rattle.command_base.proofs.ConcludeLemmas.{concluded_no_memory}
 use Rattle.elf_objects.specs.declared.TheConstants.{MAX_FILE_BYTES}
 use Rattle.objtool_cli.specs.Command.{Ends}
-use Rattle.cli_words.specs.Grammar.{cfa, cfi, dump, entry, find, list, merge, sites, unwind}
+use Rattle.cli_words.specs.Grammar.{cfa, cfi, dump, entry, find, list, merge, show, sites, unwind}
 use Rattle.objtool_cli.specs.Words.{Meaning, entry_options}
 use Rattle.cli_words.specs.declared.options.EntryRules.{EntryRules}
 use Rattle.command_base.specs.Code.{IsInOrder}
@@ -50,6 +50,9 @@ use Rattle.orc_merge.specs.declared.part.Part.{Part}
 use Rattle.object_commands.specs.Layouts.{IsLayoutOf}
 use Rattle.object_commands.specs.MergedObjects.{ArePartsOf}
 use Rattle.object_commands.proofs.FindLaws.{find_left}
+use Rattle.object_commands.proofs.ShowLaws.{show_accepts}
+use Rattle.object_commands.specs.Show.{HasCode}
+use Rattle.flow_defs.specs.Program.{program_of}
 use Rattle.object_commands.proofs.MergeLaws.{merge_left}
 use Rattle.objtool_cli.proofs.SameCommand.{done_as, ends_as}
 
@@ -129,4 +132,10 @@ pub entry_broken : OneOutcome → (meaning : Meaning) (before after : Outside) (
 entry_broken one meaning before after out out' x input rules map names read o lists held ends n c is named of order breaks = elim (ends_as (entry input rules map names) meaning before after out out' x ends n) [
   | inl h ↦ entry_warns one map (entry_options rules) input names read o lists held before after out out' x c is named of order breaks h.0
   | inr none ↦ inr (inr (inr (concluded_no_memory out out' x none.1)))
+]
+
+pub show_answered : OneOutcome → (meaning : Meaning) (before after : Outside) (out out' : Output) (x : Status) (input : List ℕ) (function : Option (List ℕ)) (map : Map) (names : Option (List ℕ)) (read : List ℕ) (o : Elf) (lists : NameLists) (held : Content) → Ends meaning before after out out' x → meaning ≡ Ok (show input function map names) → before.content ≡ Some held → reading held input MAX_FILE_BYTES ≡ Ok read → HasNames (Some held) names lists → IsObject read o → IsInOrder (coded_by map o) → HasCode o (program_of (coded_by map o) lists) function → IsAnswered x
+show_answered one meaning before after out out' x input function map names read o lists held ends n c is named of order code = elim (ends_as (show input function map names) meaning before after out out' x ends n) [
+  | inl h ↦ show_accepts one map input names function read o lists held before after out out' x c is named of order code h.0
+  | inr none ↦ no_memory_left out out' x none.1
 ]

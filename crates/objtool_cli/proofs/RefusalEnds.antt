@@ -5,7 +5,7 @@ use Rattle.ot_base.specs.NameLists.{NameLists}
 use Rattle.ot_base.specs.NamesFile.{IsNamesFile}
 use Rattle.ot_base.specs.declared.lists.ListsFault.TheVariants as lists_fault
 use Rattle.ot_files.specs.Content.{Content, reading}
-use Rattle.cli_words.specs.Grammar.{Command, cfa, cfi, check, demo, dump, entry, find, help, list, merge, sites, unwind, version}
+use Rattle.cli_words.specs.Grammar.{Command, cfa, cfi, check, demo, dump, entry, explain, find, help, list, merge, show, sites, unwind, version}
 use Rattle.cli_words.specs.declared.options.CheckOptions.{CheckOptions}
 use Rattle.elf_objects.specs.declared.TheConstants.{MAX_FILE_BYTES}
 use Rattle.x86_decode.specs.Decoding.{OneOutcome}
@@ -37,6 +37,7 @@ use Rattle.object_commands.proofs.CfaLaws.{cfa_refused, cfa_told}
 use Rattle.object_commands.proofs.CfiLaws.{cfi_refused, cfi_told}
 use Rattle.object_commands.proofs.MergeLaws.{merge_refused, merge_told}
 use Rattle.object_commands.proofs.FindLaws.{find_refused, find_told}
+use Rattle.object_commands.proofs.ShowLaws.{show_refused, show_told}
 use Rattle.objtool_cli.proofs.AcceptsLemmas.{IsUnrefused, accepted_unrefused, broken_unrefused, same_names, warns_breaks}
 use Rattle.objtool_cli.proofs.SameCommand.{ends_as}
 use Rattle.objtool_cli.proofs.StatusLemmas.{done_no_warnings, warnings_not_done}
@@ -150,6 +151,8 @@ told_as (cfi input output map names) held before after out out' x h e c = cfi_to
 told_as (cfa file) held before after out out' x h e c = cfa_told file held before after out out' x c h.0 e
 told_as (merge layout output) held before after out out' x h e c = merge_told layout output held before after out out' x c h e
 told_as (find table address) held before after out out' x h e c = find_told table address held before after out out' x c h.0 e
+told_as (show input function map names) held before after out out' x h e c = show_told map input names function held before after out out' x c h.0 e
+told_as (explain topic) held before after out out' x h e c = absurd (done_not_refused (whole_text Done _ out out' x h.1 e).0)
 told_as (demo n) held before after out out' x h e c = demo_told n out out' x h.1 e
 told_as help held before after out out' x h e c = absurd (done_not_refused (whole_text Done _ out out' x h.1 e).0)
 told_as version held before after out out' x h e c = absurd (done_not_refused (whole_text Done _ out out' x h.1 e).0)
@@ -248,6 +251,8 @@ refused_as one (cfi input output map names) held before after out out' x s h c w
 refused_as one (cfa file) held before after out out' x s h c why = cfa_refused file held before after out out' x s h.0 c why
 refused_as one (merge layout output) held before after out out' x s h c why = merge_refused layout output held before after out out' x s h c why
 refused_as one (find table address) held before after out out' x s h c why = find_refused table address held before after out out' x s h.0 c why
+refused_as one (show input function map names) held before after out out' x s h c why = show_refused one map input names function held before after out out' x s h.0 c why
+refused_as one (explain topic) held before after out out' x s h c why = absurd why
 refused_as one (demo n) held before after out out' x s h c why = demo_refused one s n out out' x why h.1
 refused_as one help held before after out out' x s h c why = absurd why
 refused_as one version held before after out out' x s h c why = absurd why

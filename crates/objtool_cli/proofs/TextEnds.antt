@@ -1,4 +1,4 @@
--- What follows from how `--help` and `--version` end.
+-- What follows from how `explain`, `--help` and `--version` end.
 use Rattle.std.proofs.Common.{◌≡◌, ℕ, List, refl, subst, inl, inr}
 use Rattle.std.specs.Prelude.{Ok, true, false}
 use Rattle.command_base.specs.declared.status.Status.{Status}
@@ -8,7 +8,7 @@ use Rattle.command_base.specs.declared.stop.CommandStop.TheVariants as stop
 use Rattle.command_base.specs.Outside.{Outside, Output}
 use Rattle.command_base.specs.Printing.{Concludes, Prints, silent, tells}
 use Rattle.objtool_cli.specs.Command.{Ends, EndsAs}
-use Rattle.cli_words.specs.Grammar.{Command, cfa, cfi, check, demo, dump, entry, find, help, list, merge, sites, unwind, version}
+use Rattle.cli_words.specs.Grammar.{Command, cfa, cfi, check, demo, dump, entry, explain, find, help, list, merge, show, sites, unwind, version}
 use Rattle.command_base.proofs.PrintLemmas.{nothing_printed}
 use Rattle.objtool_cli.specs.Words.{Meaning, is_told, told_text}
 use Rattle.objtool_cli.proofs.SameCommand.{ends_as, not_both}
@@ -30,6 +30,8 @@ text_of (cfi i o m ns) before after out out' x h told = absurd (not_both false t
 text_of (cfa file) before after out out' x h told = absurd (not_both false told refl)
 text_of (merge layout output) before after out out' x h told = absurd (not_both false told refl)
 text_of (find table address) before after out out' x h told = absurd (not_both false told refl)
+text_of (show input function map names) before after out out' x h told = absurd (not_both false told refl)
+text_of (explain topic) before after out out' x h told = h.1
 text_of (demo n) before after out out' x h told = absurd (not_both false told refl)
 
 -- words that ask for a text of the program end with it

@@ -22,7 +22,7 @@ use Rattle.objtool_cli.specs.Summary.{SumsUp, no_options}
 use Rattle.command_base.specs.Writing.{StopsAtWrite}
 use Rattle.cli_words.specs.declared.options.CheckOptions.{CheckOptions}
 use Rattle.objtool_cli.specs.Words.{Meaning, entry_options}
-use Rattle.cli_words.specs.Grammar.{Command, cfa, cfi, check, demo, dump, entry, find, help, list, merge, sites, unwind, version}
+use Rattle.cli_words.specs.Grammar.{Command, cfa, cfi, check, demo, dump, entry, explain, find, help, list, merge, show, sites, unwind, version}
 use Rattle.object_commands.proofs.ListLaws.{list_no_usage}
 use Rattle.object_commands.proofs.SitesLaws.{sites_no_usage}
 use Rattle.object_commands.proofs.CfaLaws.{cfa_no_usage}
@@ -36,6 +36,7 @@ use Rattle.ot_base.specs.NameLists.{NameLists}
 use Rattle.x86_map.specs.declared.map.Map.{Map}
 use Rattle.object_commands.proofs.MergeLaws.{merge_no_usage}
 use Rattle.object_commands.proofs.FindLaws.{find_no_usage}
+use Rattle.object_commands.proofs.ShowLaws.{show_no_usage}
 
 not_usage : (end : Status) (text : List ℕ) (before after : Output) (x : Status) → Prints end text before after x → end ≢ status.Usage → x ≢ status.Usage
 not_usage end text before after x (whole at all) other e = other (sym at ∙ e)
@@ -177,6 +178,8 @@ used_as (cfi input output map names) before after out out' x h e = cfi_no_usage 
 used_as (cfa file) before after out out' x h e = cfa_no_usage file before after out out' x h.0 e
 used_as (merge layout output) before after out out' x h e = merge_no_usage layout output before after out out' x h e
 used_as (find table address) before after out out' x h e = find_no_usage table address before after out out' x h.0 e
+used_as (show input function map names) before after out out' x h e = show_no_usage map input names function before after out out' x h.0 e
+used_as (explain topic) before after out out' x h e = not_usage _ _ out out' x h.1 done_not_usage e
 used_as (demo n) before after out out' x h e = sums_no_usage _ _ out out' x h.1 e
 used_as help before after out out' x h e = not_usage _ _ out out' x h.1 done_not_usage e
 used_as version before after out out' x h e = not_usage _ _ out out' x h.1 done_not_usage e

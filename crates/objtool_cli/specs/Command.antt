@@ -18,7 +18,7 @@ use Rattle.objtool_cli.specs.Checked.{Accepts, HasWarnings, IsRefusal}
 use Rattle.objtool_cli.specs.Promises.{InKeepsPromises}
 use Rattle.objtool_cli.specs.Unwinding.{OutUnwinds}
 use Rattle.x86_map.specs.declared.map.Map.{Map}
-use Rattle.cli_words.specs.Grammar.{Command, cfa, cfi, check, demo, dump, entry, find, help, list, merge, sites, unwind, version}
+use Rattle.cli_words.specs.Grammar.{Command, cfa, cfi, check, demo, dump, entry, explain, find, help, list, merge, show, sites, unwind, version}
 use Rattle.cli_matches.specs.Texts.{help_text, version_text}
 use Rattle.cli_words.specs.declared.fault.UsageKind.{UsageKind}
 use Rattle.ot_base.specs.NameLists.{NameLists}
@@ -28,7 +28,7 @@ use Rattle.command_base.specs.Names.{HasNames, StopsAtNames}
 use Rattle.objtool_cli.specs.Summary.{PrintsWarningsOf, SumsUp, demo_bytes, demo_title}
 use Rattle.command_base.specs.Warnings.{warnings_text}
 use Rattle.cli_words.specs.declared.options.EntryRules.{EntryRules}
-use Rattle.objtool_cli.specs.Words.{Meaning, entry_options}
+use Rattle.objtool_cli.specs.Words.{Meaning, entry_options, explained}
 use Rattle.command_base.specs.Writing.{StopsAtWrite}
 use Rattle.object_commands.specs.Sites.{EndsSites, SitesMayChange}
 use Rattle.object_commands.specs.List.{EndsList}
@@ -37,6 +37,7 @@ use Rattle.object_commands.specs.Cfi.{CfiMayChange, EndsCfi, TellsWarnings}
 use Rattle.object_commands.specs.Cfa.{EndsCfa}
 use Rattle.object_commands.specs.Merge.{EndsMerge, MayBeMerged}
 use Rattle.object_commands.specs.Find.{EndsFind}
+use Rattle.object_commands.specs.Show.{EndsShow}
 
 -- The file of this name may read as these bytes, and these are the lists of names of the names file, or the built-in ones
 -- where none is given.
@@ -107,8 +108,8 @@ pub data EndsCheck (input output : List ℕ) (options : CheckOptions) (names : O
 abbrev pub Kept : Outside → Outside → Type 0
 Kept before after = after.content ≡ before.content
 
--- How a command ends. Those that write no file change none; `demo N` sums up the object that it makes; `--help` and `--version` print
--- their texts.
+-- How a command ends. Those that write no file change none; `demo N` sums up the object that it makes; `explain`, `--help` and
+-- `--version` print their texts.
 abbrev pub EndsAs : Command → Outside → Outside → Output → Output → Status → Type 0
 EndsAs (check input output options names) before after out out' s = EndsCheck input output options names before after out out' s
 EndsAs (dump file) before after out out' s = EndsDump file before after out out' s × Kept before after
@@ -120,6 +121,8 @@ EndsAs (cfi input output map names) before after out out' s = EndsCfi map input 
 EndsAs (cfa file) before after out out' s = EndsCfa file before after out out' s × Kept before after
 EndsAs (merge layout output) before after out out' s = EndsMerge layout output before after out out' s
 EndsAs (find table address) before after out out' s = EndsFind table address before after out out' s × Kept before after
+EndsAs (show input function map names) before after out out' s = EndsShow map input names function before after out out' s × Kept before after
+EndsAs (explain topic) before after out out' s = (after ≡ before) × Prints status.Done (explained topic) out out' s
 EndsAs (demo n) before after out out' s = (after ≡ before) × SumsUp (demo_title n) (demo_bytes n) out out' s
 EndsAs help before after out out' s = (after ≡ before) × Prints status.Done help_text out out' s
 EndsAs version before after out out' s = (after ≡ before) × Prints status.Done version_text out out' s

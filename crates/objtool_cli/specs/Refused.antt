@@ -6,7 +6,7 @@ use Rattle.ot_base.specs.NamesFile.{IsFirstFault}
 use Rattle.ot_base.specs.declared.lists.ListsFault.TheVariants.{Line}
 use Rattle.ot_base.specs.declared.lists.ListsWhy.{ListsWhy}
 use Rattle.ot_files.specs.Content.{Content, reading}
-use Rattle.cli_words.specs.Grammar.{Command, cfa, cfi, check, demo, dump, entry, find, help, list, merge, sites, unwind, version}
+use Rattle.cli_words.specs.Grammar.{Command, cfa, cfi, check, demo, dump, entry, explain, find, help, list, merge, show, sites, unwind, version}
 use Rattle.cli_words.specs.declared.options.CheckOptions.{CheckOptions}
 use Rattle.elf_objects.specs.declared.TheConstants.{MAX_FILE_BYTES}
 use Rattle.command_base.specs.declared.reading.TheConstants.{MAX_IMAGE_BYTES}
@@ -24,6 +24,7 @@ use Rattle.object_commands.specs.SitesRefused.{RefusesList, RefusesSites}
 use Rattle.object_commands.specs.EntryRefused.{RefusesEntry}
 use Rattle.object_commands.specs.FramesRefused.{RefusesCfa, RefusesCfi}
 use Rattle.object_commands.specs.MergeRefused.{RefusesFind, RefusesMerge}
+use Rattle.object_commands.specs.ShowRefused.{RefusesShow}
 use Rattle.objtool_cli.specs.Summary.{demo_bytes, no_options}
 use Rattle.objtool_cli.specs.Words.{Meaning}
 
@@ -83,7 +84,7 @@ abbrev pub RefusesDemo : ℕ → CommandStop → Type 0
 RefusesDemo n (Refused refusal) = IsUncheckable no_options.map (demo_bytes n) refusal
 RefusesDemo n _ = ⊥
 
--- A command is refused on files that hold this, and this is why. `--help` and `--version` never are.
+-- A command is refused on files that hold this, and this is why. `explain`, `--help` and `--version` never are.
 abbrev pub RefusesAs : Command → Content → CommandStop → Type 0
 RefusesAs (check input output options names) held stop = RefusesCheck input options names held stop
 RefusesAs (dump file) held stop = RefusesDump file held stop
@@ -95,6 +96,8 @@ RefusesAs (cfi input output map names) held stop = RefusesCfi map input names he
 RefusesAs (cfa file) held stop = RefusesCfa file held stop
 RefusesAs (merge layout output) held stop = RefusesMerge layout held stop
 RefusesAs (find table address) held stop = RefusesFind table held stop
+RefusesAs (show input function map names) held stop = RefusesShow map input names function held stop
+RefusesAs (explain topic) held stop = ⊥
 RefusesAs (demo n) held stop = RefusesDemo n stop
 RefusesAs help held stop = ⊥
 RefusesAs version held stop = ⊥

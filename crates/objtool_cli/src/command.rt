@@ -27,6 +27,8 @@ ghost use Rattle.orc_merge.specs.TableBytes.{table_bytes};
 ghost use Rattle.orc_merge.specs.declared.part.Part.{Part as PartValue};
 ghost use Rattle.object_commands.specs.Alike.{FindAlike, WalkAlike};
 ghost use Rattle.object_commands.specs.Find.{IsFound};
+ghost use Rattle.object_commands.specs.Show.{HasCode, PrintsListing};
+ghost use Rattle.flow_defs.specs.Program.{program_of};
 ghost use Rattle.object_commands.specs.Layouts.{IsLayoutOf};
 ghost use Rattle.object_commands.specs.Merge.{IsMerged};
 ghost use Rattle.object_commands.specs.MergedObjects.{ArePartsOf};
@@ -35,11 +37,11 @@ ghost use Rattle.command_base.specs.Dump.{HoldsRows, IsAnswered, IsDumped};
 ghost use Rattle.command_base.specs.Unwind.{IsPlaced, IsUnwound};
 ghost use Rattle.objtool_cli.specs.Checked.{Accepts, BreaksRule};
 ghost use Rattle.command_base.specs.Printing.{IsOutputFault, Prints};
-ghost use Rattle.cli_words.specs.Grammar.{Command as Meant, cfa, cfi, check, command_in, demo, dump, entry, find, list, meaning, merge, sites, unwind};
+ghost use Rattle.cli_words.specs.Grammar.{Command as Meant, cfa, cfi, check, command_in, demo, dump, entry, find, list, meaning, merge, show, sites, unwind};
 ghost use Rattle.ot_base.specs.NameLists.{NameLists};
 ghost use Rattle.cli_words.specs.declared.options.CheckOptions.{CheckOptions};
 ghost use Rattle.command_base.specs.Names.{HasNames};
-ghost use Rattle.objtool_cli.specs.Words.{entry_options, is_silent, is_told, told_text};
+ghost use Rattle.objtool_cli.specs.Words.{entry_options, explained, is_silent, is_told, told_text};
 ghost use Rattle.objtool_cli.specs.Summary.{SumsUp, demo_bytes, demo_title};
 ghost use Rattle.objtool_cli.specs.Promises.{InKeepsPromises};
 ghost use Rattle.command_base.specs.Refusing.{IsRefusedOrFails};
@@ -58,12 +60,12 @@ use command_base::{
     unwind,
 };
 use elf_objects::MAX_FILE_BYTES;
-use object_commands::{EntryAsked, entry};
 use entry_rules::EntryOptions;
-use object_commands::{CfiAsked, cfa, cfi};
-use object_commands::{find, merge};
+use explanations::{explanation, topics};
+use object_commands::{
+    CfiAsked, EntryAsked, ShowAsked, SitesAsked, cfa, cfi, entry, find, list, merge, show, sites,
+};
 use ot_files::{Files, Sink};
-use object_commands::{SitesAsked, list, sites};
 use std::alloc::Global;
 use x86_decode::one_outcome;
 
@@ -95,7 +97,7 @@ fn read_and_check<F: Files, S: Sink>(
 }
 
 /// Prints a text of the program, and gives the status that the command ends with.
-fn show<S: Sink>(text: &str, out: &mut S) -> Status
+fn print_text<S: Sink>(text: &str, out: &mut S) -> Status
     ensures printed { Prints Status.Done text.now
         (record { written = S.written out.old; faults = S.faults out.old })
         (record { written = S.written out.new; faults = S.faults out.new }) result }
@@ -112,6 +114,16 @@ fn text_of(name: &Option<String>) -> Option<&str>
     match name {
         Some(name) => Some(name.as_str()),
         None => None,
+    }
+}
+
+/// What `explain` prints of a topic, or of none.
+fn explained(topic: Option<&str>) -> &'static str
+    ensures { result.now ≡ explained (option_map (λ text. text.now) topic) }
+{
+    match topic {
+        Some(topic) => explanation(topic).unwrap_or(""),
+        None => topics(),
     }
 }
 
@@ -209,9 +221,24 @@ fn run_command<F: Files, S: Sink>(
             out,
         ),
         Command::Find { table, address } => find(alloc, table.as_str(), *address, files, out),
+        Command::Show {
+            input,
+            function,
+            map,
+            names,
+        } => {
+            let asked = ShowAsked {
+                input: input.as_str(),
+                function: text_of(function),
+                map: *map,
+                names: text_of(names),
+            };
+            show(alloc, asked, files, out)
+        }
+        Command::Explain { topic } => print_text(explained(text_of(topic)), out),
         Command::Demo { n } => demo(alloc, *n, out),
-        Command::Help => show(help_text(), out),
-        Command::Version => show(version_text(), out),
+        Command::Help => print_text(help_text(), out),
+        Command::Version => print_text(version_text(), out),
     }
 }
 
@@ -340,7 +367,7 @@ pub fn run<F: Files, S: Sink>(alloc: Global, words: &[String], files: &mut F, ou
         (record { written = S.written out.old; faults = S.faults out.old })
         (record { written = S.written out.new; faults = S.faults out.new }) result }
 
-    // `--help` and `--version` print exactly their texts, with the status of what is done, unless a line can't be
+    // `explain`, `--help` and `--version` print exactly their texts, with the status of what is done, unless a line can't be
     // written or memory runs out.
     ensures shows { (command : Meant) → meaning (map string_bytes words.now) ≡ Ok command → is_told command ≡ true
         → Prints Status.Done (told_text command)
@@ -455,6 +482,17 @@ pub fn run<F: Files, S: Sink>(alloc: Global, words: &[String], files: &mut F, ou
         → F.content files.old ≡ Some held → reading held input MAX_FILE_BYTES ≡ Ok read → HasNames (Some held) names lists
         → IsObject read object → IsInOrder (coded_by opcodes object)
         → BreaksEntryRule (coded_by opcodes object) lists (entry_options rules) → IsWarnedOrFails result }
+
+    // Where `show` is done, IN is read as an object whose code is in order, with code of the functions that are asked
+    // for, and exactly the listing of its program under its kept states was printed; and such an IN isn't refused.
+    ensures shown { (input : List ℕ) (function : Option (List ℕ)) (opcodes : Map) (names : Option (List ℕ)) → result ≡ Status.Done
+        → meaning (map string_bytes words.now) ≡ Ok (show input function opcodes names)
+        → PrintsListing opcodes input names function (F.content files.old) (S.written out.old) (S.written out.new) }
+    ensures show_accepts { (input : List ℕ) (function : Option (List ℕ)) (opcodes : Map) (names : Option (List ℕ)) (read : List ℕ) (object : Elf) (lists : NameLists) (held : Content)
+        → meaning (map string_bytes words.now) ≡ Ok (show input function opcodes names)
+        → F.content files.old ≡ Some held → reading held input MAX_FILE_BYTES ≡ Ok read → HasNames (Some held) names lists
+        → IsObject read object → IsInOrder (coded_by opcodes object)
+        → HasCode object (program_of (coded_by opcodes object) lists) function → IsAnswered result }
 
     // Nothing is told where a command is done that writes a file, nor where `entry` is.
     ensures silent { (command : Meant) → meaning (map string_bytes words.now) ≡ Ok command → is_silent command ≡ true

@@ -2,9 +2,9 @@ use Rattle.objtool_cli.proofs.CheckEnds.{out_unwinds, promises_kept, tells_nothi
 use Rattle.objtool_cli.proofs.ContentEnds.{changes, unchanged}
 use Rattle.objtool_cli.proofs.DemoEnds.{demo_sums_up}
 use Rattle.objtool_cli.proofs.FaultEnds.{file_fault, sink_fault}
-use Rattle.objtool_cli.proofs.ReadBackEnds.{cfa_answered, cfi_answered, cfi_broken, dump_answered, entry_answered, entry_broken, find_answered, list_answered, merge_answered, rows_dumped, sites_answered, unwind_answered, walk_printed}
+use Rattle.objtool_cli.proofs.ReadBackEnds.{cfa_answered, cfi_answered, cfi_broken, dump_answered, entry_answered, entry_broken, find_answered, list_answered, merge_answered, rows_dumped, show_answered, sites_answered, unwind_answered, walk_printed}
 use Rattle.objtool_cli.proofs.SameCommand.{done_as}
-use Rattle.cli_words.specs.Grammar.{cfa, cfi, entry, find, list, merge, sites}
+use Rattle.cli_words.specs.Grammar.{cfa, cfi, entry, find, list, merge, show, sites}
 use Rattle.objtool_cli.specs.Words.{entry_options}
 use Rattle.object_commands.proofs.EntryLaws.{entry_keeps}
 use Rattle.object_commands.proofs.ListLaws.{listed_file}
@@ -12,6 +12,7 @@ use Rattle.object_commands.proofs.SitesLaws.{sites_listed}
 use Rattle.object_commands.proofs.CfaLaws.{file_told}
 use Rattle.object_commands.proofs.CfiLaws.{frames_told}
 use Rattle.object_commands.proofs.FindLaws.{found_row}
+use Rattle.object_commands.proofs.ShowLaws.{show_printed}
 use Rattle.object_commands.proofs.MergeLaws.{finds_alike, merged, walks_alike}
 use Rattle.objtool_cli.proofs.RefusalEnds.{refusal_answered, refusal_told}
 use Rattle.objtool_cli.proofs.TextEnds.{text_shown}
@@ -124,6 +125,12 @@ returns-clause-told g c file e n = file_told file _ _ _ _ _ (done_as (cfa file) 
 
 pub returns-clause-cfa_accepts : goal.returns-clause-cfa_accepts
 returns-clause-cfa_accepts g c file bytes object rules held n told is says = cfa_answered _ _ _ _ _ _ file bytes object rules held c.dispatch.ensures.ends n told is says
+
+pub returns-clause-shown : goal.returns-clause-shown
+returns-clause-shown g c input function map names e n = show_printed map input names function _ _ _ _ _ (done_as (show input function map names) _ _ _ _ _ _ c.dispatch.ensures.ends e n).0 e
+
+pub returns-clause-show_accepts : goal.returns-clause-show_accepts
+returns-clause-show_accepts g c input function map names read object lists held n told is named of order code = show_answered c.one_outcome.ensures _ _ _ _ _ _ input function map names read object lists held c.dispatch.ensures.ends n told is named of order code
 
 pub returns-clause-keeps : goal.returns-clause-keeps
 returns-clause-keeps g c input rules map names e n = entry_keeps map (entry_options rules) input names _ _ _ _ _ (done_as (entry input rules map names) _ _ _ _ _ _ c.dispatch.ensures.ends e n).0 e

@@ -1,6 +1,6 @@
 use Rattle.std.proofs.Common.{◌≡◌, ℕ, List, Option, refl, sym, ap, ◌∙◌, subst}
 use Rattle.x86_map.specs.declared.map.Map.{Map}
-use Rattle.cli_words.specs.Grammar.{cfa, cfi, command_in, dump, entry, find, help, list, merge, sites, unwind, version}
+use Rattle.cli_words.specs.Grammar.{cfa, cfi, command_in, dump, entry, explain, find, help, list, merge, show, sites, unwind, version}
 use Rattle.cli_words.specs.declared.options.EntryRules.{EntryRules}
 use Rattle.entry_rules.specs.declared.options.EntryOptions.{EntryOptions}
 use Rattle.object_commands.specs.Entry.{EndsEntry}
@@ -55,6 +55,15 @@ returns-in-Cfa-clause-ends g c = ends_of _ _ _ _ _ _ _ (ap cfa c.as_str-in-Cfa.e
 pub returns-in-Merge-clause-ends : goal.returns-in-Merge-clause-ends
 returns-in-Merge-clause-ends g c = ends_of _ _ _ _ _ _ _ (merge_is _ _ _ _ c.as_str-in-Merge.ensures.value c.as_str-in-Merge-2.ensures.value ∙ ap command_in (sym c.in-Merge.is)) c.merge.ensures.ends
 
+show_is : (i j : List ℕ) (map : Map) (function some names others : Option (List ℕ)) → i ≡ j → function ≡ some → names ≡ others → show i function map names ≡ show j some map others
+show_is i j map function some names others a b c = cc
+
+pub returns-in-Show-clause-ends : goal.returns-in-Show-clause-ends
+returns-in-Show-clause-ends g c = ends_of _ _ _ _ _ _ _ (show_is _ _ _ _ _ _ _ c.as_str-in-Show.ensures.value c.text_of-in-Show.ensures c.text_of-in-Show-2.ensures ∙ ap command_in (sym c.in-Show.is)) (c.show.ensures.ends, c.show.ensures.unchanged)
+
+pub returns-in-Explain-clause-ends : goal.returns-in-Explain-clause-ends
+returns-in-Explain-clause-ends g c = ends_of _ _ _ _ _ _ _ (ap explain c.text_of-in-Explain.ensures ∙ ap command_in (sym c.in-Explain.is)) (refl, text_is _ _ _ _ _ c.explained.ensures c.print_text.ensures.printed)
+
 find_is : (table other : List ℕ) (address : ℕ) → table ≡ other → find table address ≡ find other address
 find_is table other address same = cc
 
@@ -68,7 +77,7 @@ pub demo-requires : goal.demo-requires
 demo-requires g c = c.requires _ (ap command_in c.in-Demo.is)
 
 pub returns-in-Help-clause-ends : goal.returns-in-Help-clause-ends
-returns-in-Help-clause-ends g c = ends_of help _ _ _ _ _ _ (ap command_in (sym c.in-Help.is)) (refl, text_is _ _ _ _ _ c.help_text.ensures c.show.ensures.printed)
+returns-in-Help-clause-ends g c = ends_of help _ _ _ _ _ _ (ap command_in (sym c.in-Help.is)) (refl, text_is _ _ _ _ _ c.help_text.ensures c.print_text-in-Help.ensures.printed)
 
 pub returns-in-Version-clause-ends : goal.returns-in-Version-clause-ends
-returns-in-Version-clause-ends g c = ends_of version _ _ _ _ _ _ (ap command_in (sym c.in-Version.is)) (refl, text_is _ _ _ _ _ c.version_text.ensures c.show-in-Version.ensures.printed)
+returns-in-Version-clause-ends g c = ends_of version _ _ _ _ _ _ (ap command_in (sym c.in-Version.is)) (refl, text_is _ _ _ _ _ c.version_text.ensures c.print_text-in-Version.ensures.printed)
