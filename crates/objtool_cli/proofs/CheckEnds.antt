@@ -10,7 +10,6 @@ use Rattle.command_base.specs.Printing.{Prints, fails, fault_stays, runs_out, wh
 use Rattle.command_base.specs.Stop.{usage_at}
 use Rattle.command_base.proofs.ConcludeLemmas.{concluded_no_warnings, concluded_not_done, printed_done, printed_warnings}
 use Rattle.objtool_cli.specs.Command.{Ends, EndsAs, EndsCheck, PrintsWarnings, done, ended, faulty, of_cfi, of_check, of_demo, of_entry, stopped, unfinished, warned}
-use Rattle.command_base.specs.Warnings.{warnings_text}
 use Rattle.ot_files.specs.Output.{appending}
 use Rattle.objtool_cli.specs.Promises.{InKeepsPromises}
 use Rattle.objtool_cli.specs.Unwinding.{OutUnwinds}
@@ -65,7 +64,7 @@ whole_text text out out' NoMemory (runs_out prefix) e = cc
 check_warned : (meaning : Meaning) (input output : List ℕ) (options : CheckOptions) (names : Option (List ℕ)) (before after : Outside) (out out' : Output) (x : Status) → meaning ≡ Ok (check input output options names) → EndsCheck input output options names before after out out' x → x ≡ Warnings → PrintsWarnings meaning before.content out.written out'.written
 check_warned meaning input output options names before after out out' Done asked (done is same) e = absurd (done_no_warnings e)
 check_warned meaning input output options names before after out out' x asked (warned o warnings is kept t) e =
-    of_check input output options names o warnings asked is (whole_text (warnings_text o warnings) out out' x t e)
+    of_check input output options names o warnings asked is (whole_text _ out out' x t e)
 check_warned meaning input output options names before after out out' x asked (stopped s h t) e = absurd (concluded_no_warnings s out out' x t e)
 
 warned_as : (c : Command) (meaning : Meaning) (before after : Outside) (out out' : Output) (x : Status) → meaning ≡ Ok c → EndsAs c before after out out' x → x ≡ Warnings → PrintsWarnings meaning before.content out.written out'.written

@@ -25,13 +25,13 @@ use Rattle.command_base.specs.declared.status.Status.TheVariants as status
 use Rattle.command_base.specs.declared.stop.CommandStop.{CommandStop}
 use Rattle.command_base.specs.declared.stop.CommandStop.TheVariants as stop
 use Rattle.command_base.specs.Outside.{Outside, Output}
-use Rattle.command_base.specs.Printing.{Prints}
 use Rattle.objtool_cli.specs.Checked.{Accepts, IsRefusal, crowded}
-use Rattle.objtool_cli.specs.Command.{EndsCheck, IsDone, IsRead, Stops, refused, unwritten, warned}
-use Rattle.command_base.specs.Warnings.{warnings_text}
+use Rattle.objtool_cli.specs.Command.{EndsCheck, IsDone, IsRead, Stops, refused, stopped, unwritten, warned}
+use Rattle.objtool_cli.specs.Telling.{TellsWarnings, printed, unread}
 use Rattle.objtool_cli.specs.Writing.{IsCrowded, IsTable, StopsAtTable, WritesTable, crowded as too_many, cut_off}
 use Rattle.command_base.specs.Writing.{StopsAtWrite}
 use Rattle.objtool_cli.proofs.ContentLemmas.{is_done}
+use Rattle.objtool_cli.proofs.ParseLemmas.{check_uncheckable, uncheckable_refusal}
 use Rattle.objtool_cli.proofs.UnwindingLemmas.{unwinds_by}
 
 -- ---- OUT
@@ -46,10 +46,13 @@ table_cut_off (Err s) o rows output table before after is h others = cut_off tab
 
 -- ---- what the check comes to
 
-pub warned_end : (input output : List ℕ) (options : CheckOptions) (names : Option (List ℕ)) (read : List ℕ) (lists : NameLists) (before after : Outside) (out out' : Output) (x : Status) (o : Elf) (warnings told : List Warning) → IsRead before.content input names read lists → IsObject read o → IsCheckable (coded_by options.map o) × AreWarnings (program_of (coded_by options.map o) lists) (allowances_of (coded_by options.map o) lists) options.rules warnings → after.content ≡ before.content → told ≡ warnings → Prints status.Warnings (warnings_text o told) out out' x → EndsCheck input output options names before after out out' x
+pub warned_end : (input output : List ℕ) (options : CheckOptions) (names : Option (List ℕ)) (read : List ℕ) (lists : NameLists) (before after : Outside) (out out' : Output) (x : Status) (o : Elf) (warnings told : List Warning) → IsRead before.content input names read lists → IsObject read o → IsCheckable (coded_by options.map o) × AreWarnings (program_of (coded_by options.map o) lists) (allowances_of (coded_by options.map o) lists) options.rules warnings → after.content ≡ before.content → told ≡ warnings → TellsWarnings input options lists o told out out' x → EndsCheck input output options names before after out out' x
 warned_end input output options names read lists before after out out' x o warnings told is_read is found kept same t =
-    warned o warnings (record { read = read; lists = lists; is_read = is_read; warns = record { is = is; checkable = found.0; are = found.1 } }) kept
-    (subst (λ (ws : List Warning). Prints status.Warnings (warnings_text o ws) out out' x) same t)
+    ends x (subst (λ (ws : List Warning). TellsWarnings input options lists o ws out out' x) same t)
+  where
+    ends : (x : Status) → TellsWarnings input options lists o warnings out out' x → EndsCheck input output options names before after out out' x
+    ends x (printed text is_text prints) = warned o warnings (record { read = read; lists = lists; is_read = is_read; warns = record { is = is; checkable = found.0; are = found.1 }; told = is_text }) kept prints
+    ends x (unread s why concludes) = stopped s (refused read lists is_read (uncheckable_refusal read lists options s (check_uncheckable options.map read o s is why)) kept) concludes
 
 -- an object that breaks no rule, and its rows
 abbrev pub IsSound : Elf → NameLists → CheckOptions → List PlacedRow → Type 0

@@ -1,4 +1,5 @@
 pub mod AcceptsLemmas
+pub mod BacktraceLemmas
 pub mod CfiEnds
 pub mod CheckEnds
 pub mod CheckLemmas

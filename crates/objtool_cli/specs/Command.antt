@@ -16,6 +16,7 @@ use Rattle.command_base.specs.Dump.{EndsDump}
 use Rattle.command_base.specs.Unwind.{EndsUnwind}
 use Rattle.objtool_cli.specs.Checked.{Accepts, HasWarnings, IsRefusal}
 use Rattle.objtool_cli.specs.Promises.{InKeepsPromises}
+use Rattle.objtool_cli.specs.Telling.{IsText}
 use Rattle.objtool_cli.specs.Unwinding.{OutUnwinds}
 use Rattle.x86_map.specs.declared.map.Map.{Map}
 use Rattle.cli_words.specs.Grammar.{Command, cfa, cfi, check, demo, dump, entry, explain, find, help, list, merge, show, sites, unwind, version}
@@ -26,7 +27,6 @@ use Rattle.cli_words.specs.declared.options.CheckOptions.{CheckOptions}
 use Rattle.ot_base.specs.declared.warning.Warning.{Warning}
 use Rattle.command_base.specs.Names.{HasNames, StopsAtNames}
 use Rattle.objtool_cli.specs.Summary.{PrintsWarningsOf, SumsUp, demo_bytes, demo_title}
-use Rattle.command_base.specs.Warnings.{warnings_text}
 use Rattle.cli_words.specs.declared.options.EntryRules.{EntryRules}
 use Rattle.objtool_cli.specs.Words.{Meaning, entry_options, explained}
 use Rattle.command_base.specs.Writing.{StopsAtWrite}
@@ -52,12 +52,13 @@ pub record MayBeAccepted (content : Option Content) (input : List ℕ) (options 
   pub is_read : IsRead content input names read lists
   pub accepts : Accepts read lists options table
 
--- the file may read as the bytes of this object, which breaks rules: these are all warnings
-pub record MayBeWarned (content : Option Content) (input : List ℕ) (options : CheckOptions) (names : Option (List ℕ)) (o : Elf) (warnings : List Warning) : Type 0 where
+-- the file may read as the bytes of this object, which breaks rules: these are all warnings, and this is the text of them
+pub record MayBeWarned (content : Option Content) (input : List ℕ) (options : CheckOptions) (names : Option (List ℕ)) (o : Elf) (warnings : List Warning) (text : List ℕ) : Type 0 where
   pub read : List ℕ
   pub lists : NameLists
   pub is_read : IsRead content input names read lists
   pub warns : HasWarnings read lists options o warnings
+  pub told : IsText input options lists o warnings text
 
 -- `check` is done: IN was accepted, OUT holds its bytes with the tables, which unwind it, and every other name what it
 -- held; and IN keeps what the options promise.
@@ -92,15 +93,15 @@ pub data Stops (input output : List ℕ) (options : CheckOptions) (names : Optio
       → ChangesAtMost output before.content after.content
       → Stops input output options names before after stop
 
--- How `check` ends: it is done, and has printed nothing; or IN breaks rules, and it prints the lines of all warnings and changes
+-- How `check` ends: it is done, and has printed nothing; or IN breaks rules, and it prints the text of all warnings and changes
 -- no file; or it stops, and tells why.
 pub data EndsCheck (input output : List ℕ) (options : CheckOptions) (names : Option (List ℕ)) (before after : Outside) (out out' : Output) : Status → Type 0 where
   done : IsDone input output options names before after → out' ≡ out → EndsCheck input output options names before after out out' status.Done
   warned :
-      {s : Status} (o : Elf) (warnings : List Warning)
-      → MayBeWarned before.content input options names o warnings
+      {s : Status} {text : List ℕ} (o : Elf) (warnings : List Warning)
+      → MayBeWarned before.content input options names o warnings text
       → after.content ≡ before.content
-      → Prints status.Warnings (warnings_text o warnings) out out' s
+      → Prints status.Warnings text out out' s
       → EndsCheck input output options names before after out out' s
   stopped : {s : Status} (stop : CommandStop) → Stops input output options names before after stop → Concludes stop out out' s → EndsCheck input output options names before after out out' s
 
@@ -167,13 +168,13 @@ pub record MayChange (meaning : Meaning) (before after : Option Content) : Type 
   pub changes : ChangesOut command before after
 
 -- The command was `check`, `cfi` or `entry`, and IN was read as an object that breaks rules, or it was `demo`, and the object that it makes
--- breaks some; these are all warnings of it, and exactly their lines were printed.
+-- breaks some; these are all warnings of it, and exactly the text of them was printed.
 pub data PrintsWarnings (meaning : Meaning) (content : Option Content) (before after : Option (List ℕ)) : Type 0 where
   of_check :
-      (input output : List ℕ) (options : CheckOptions) (names : Option (List ℕ)) (o : Elf) (warnings : List Warning)
+      {text : List ℕ} (input output : List ℕ) (options : CheckOptions) (names : Option (List ℕ)) (o : Elf) (warnings : List Warning)
       → meaning ≡ Ok (check input output options names)
-      → MayBeWarned content input options names o warnings
-      → after ≡ appending before (warnings_text o warnings)
+      → MayBeWarned content input options names o warnings text
+      → after ≡ appending before text
       → PrintsWarnings meaning content before after
   of_cfi :
       (input output : List ℕ) (map : Map) (names : Option (List ℕ))

@@ -1,4 +1,5 @@
 pub mod Checked
+pub mod Telling
 pub mod Command
 pub mod Promises
 pub mod Refused

@@ -8,10 +8,11 @@ ghost use Rattle.object_check.specs.Order.{IsCheckFault};
 ghost use Rattle.objtool_cli.specs.Checked.{IsUnchecked};
 ghost use Rattle.objtool_cli.specs.Command.{EndsCheck, IsRead};
 
+use crate::telling::tell_warnings;
 use crate::words::Check;
 use crate::writing::write_table;
 use command_base::{
-    CommandStop, Refusal, Status, conclude, flow_stop, link_stop, parse_stop, print_warnings,
+    CommandStop, Refusal, Status, conclude, flow_stop, link_stop, parse_stop,
 };
 use elf_objects::{Counted, MAX_FILE_BYTES, Object};
 use object_check::{CheckFault, ObjectVerdict, check_object};
@@ -37,7 +38,8 @@ pub(crate) fn check_stop<'a>(object: &Object<'a>, fault: CheckFault) -> CommandS
 }
 
 /// Checks the bytes that were read of the input under lists of names. Writes them with their tables to the
-/// output file; or prints the warnings, where they break rules; or tells why they are refused.
+/// output file; or prints the warnings, where they break rules, each with its backtrace where that is asked for; or tells why they
+/// are refused.
 pub fn check<F: Files, S: Sink>(
     alloc: Global,
     asked: Check<'_>,
@@ -69,8 +71,8 @@ pub fn check<F: Files, S: Sink>(
         asked.options.rules,
     ) {
         Ok(ObjectVerdict::Accepted { rows, .. }) => rows,
-        Ok(ObjectVerdict::Broken(warnings)) => return print_warnings(
-            alloc, &object, &warnings, out,
+        Ok(ObjectVerdict::Broken(warnings)) => return tell_warnings(
+            alloc, asked, &object, lists, &warnings, out,
         ),
         Err(fault) => return conclude(alloc, check_stop(&object, fault), out),
     };

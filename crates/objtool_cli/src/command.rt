@@ -272,7 +272,7 @@ fn dispatch<F: Files, S: Sink>(
 ///
 /// `check IN OUT` with its options reads the object IN and the names file, and writes IN to OUT with its ORC tables
 /// added, and with the section symbols that these need; where IN breaks rules of stack validation it prints the line of
-/// each warning and writes nothing. `dump FILE` prints the rows of the ORC tables of the object FILE, one line each.
+/// each warning, and behind it its backtrace where that is asked for, and writes nothing. `dump FILE` prints the rows of the ORC tables of the object FILE, one line each.
 /// `unwind FILE IMAGE` prints the frames of the walk that the image IMAGE begins over the rows of FILE, one line each,
 /// and why it stopped.
 ///
@@ -324,7 +324,8 @@ pub fn run<F: Files, S: Sink>(alloc: Global, words: &[String], files: &mut F, ou
 
     // Where warnings are answered, the words ask for `check`, `cfi` or `entry`, IN is read as an object whose program,
     // under the names that the names file gives, breaks exactly the rules that the warnings tell, and exactly the lines
-    // of these were printed; or they ask for `demo`, and the same holds of the object that it makes.
+    // of these were printed, of `check` with a backtrace behind each where that is asked for; or they ask for `demo`, and
+    // the same holds of the object that it makes.
     ensures warned { result ≡ Status.Warnings
         → PrintsWarnings (meaning (map string_bytes words.now)) (F.content files.old) (S.written out.old) (S.written out.new) }
 

@@ -6,6 +6,7 @@ mod check;
 mod command;
 mod demo;
 mod summaries;
+mod telling;
 mod words;
 mod writing;
 

@@ -32,6 +32,7 @@ const NO_OPTIONS: CheckOptions = CheckOptions {
         uaccess: false,
         unreachable: true,
     },
+    backtrace: false,
 };
 
 /// The numbers that a summary tells.

@@ -1,6 +1,6 @@
 use Rattle.std.proofs.Common.{refl, sym, subst}
 use Rattle.flow_defs.specs.Coded.{coded_by}
-use Rattle.object_check.specs.Outcome.{IsOutcome, OnAccepted}
+use Rattle.object_check.specs.Outcome.{AreWarnings, IsOutcome, OnAccepted}
 use Rattle.object_check.specs.Promises.{KeepsPromises}
 use Rattle.object_check.specs.Unwinding.{RowsUnwind}
 use Rattle.objtool_cli.specs.Checked.{IsUncheckableStop}
@@ -18,7 +18,7 @@ returns-in-Err-clause-ends g c =
 pub returns-in-Ok-Broken-clause-ends : goal.returns-in-Ok-Broken-clause-ends
 returns-in-Ok-Broken-clause-ends g c =
     warned_end _ _ _ _ c.args.bytes.now c.args.lists.now _ _ _ _ _ c.in-Ok.object c.in-Ok-Broken.warnings.items c.deref.result.now c.requires.read c.in-Ok.ensures.ok
-    (subst (IsOutcome (coded_by c.args.asked.options.map c.in-Ok.object) c.args.lists.now c.args.asked.options.rules) c.in-Ok-Broken.field-0-is c.in-Ok-Broken.ensures.ok) refl c.deref.ensures.value c.print_warnings.ensures.printed
+    (subst (IsOutcome (coded_by c.args.asked.options.map c.in-Ok.object) c.args.lists.now c.args.asked.options.rules) c.in-Ok-Broken.field-0-is c.in-Ok-Broken.ensures.ok) refl c.deref.ensures.value c.tell_warnings.ensures.told
 
 pub returns-in-Err-check_object-clause-ends : goal.returns-in-Err-check_object-clause-ends
 returns-in-Err-check_object-clause-ends g c =
@@ -44,3 +44,11 @@ returns-clause-ends g c =
 
 pub check_stop-requires : goal.check_stop-requires
 check_stop-requires g c = (c.args.asked.options.map, c.in-Err-check_object.ensures.err)
+
+pub tell_warnings-requires-clause-checkable : goal.tell_warnings-requires-clause-checkable
+tell_warnings-requires-clause-checkable c = (subst (IsOutcome (coded_by c.args.asked.options.map c.in-Ok.object) c.args.lists.now c.args.asked.options.rules) c.in-Ok-Broken.field-0-is c.in-Ok-Broken.ensures.ok).0
+
+pub tell_warnings-requires-clause-warned : goal.tell_warnings-requires-clause-warned
+tell_warnings-requires-clause-warned c =
+    subst (AreWarnings _ _ c.args.asked.options.rules) (sym c.deref.ensures.value)
+    (subst (IsOutcome (coded_by c.args.asked.options.map c.in-Ok.object) c.args.lists.now c.args.asked.options.rules) c.in-Ok-Broken.field-0-is c.in-Ok-Broken.ensures.ok).1

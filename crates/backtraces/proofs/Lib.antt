@@ -1,0 +1,9 @@
+mod PlaceOrder
+mod SpotLemmas
+mod HolderLemmas
+mod PartLemmas
+mod CaseLemmas
+mod Telling
+mod NumberLemmas
+mod CaseLists
+mod BacktraceParts
