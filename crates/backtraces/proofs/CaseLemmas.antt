@@ -1,4 +1,5 @@
 -- What is found of warnings is what their backtraces tell.
+use Rattle.std.specs.Option.{option_or}
 use Rattle.std.proofs.Common.{◌≡◌, ℕ, ◌<◌, ◌≤◌, suc, Bool, true, false, ◌&&◌, List, [], ◌∷◌, ◌++◌, length, map, get_or, Option, Some, None, inl, inr, arith, refl, sym, ap, ◌∙◌, subst, append_assoc}
 use Rattle.std.specs.Prelude.{All, Contains, IfSome, MatchOption, is_some, option_and_then, ◌↔◌}
 use Rattle.std.specs.List.{flat_map}
@@ -106,7 +107,7 @@ module _ (p : Program) (kept : List (Option State)) (ways : List (List WayStep))
 
   is_told : (o : Elf) (c : Case) → IsCase p (at kept) c → IsBacktrace o p (at kept) c.warning (told_by o p (at kept) ways c)
   is_told o c is = record {
-    holder = ap (λ (n : Option ℕ). holder_of o (address_by p c.warning.place n)) is.first;
+    holder = ap (λ (n : Option ℕ). holder_of o (address_by p c.warning.place (option_or n c.first))) is.kept ∙ ap (λ (n : Option ℕ). holder_of o (address_by p c.warning.place (option_or (first_kept p (at kept) c.warning.place) n))) is.first;
     state = ap (λ (n : Option ℕ). option_and_then (at kept) n) is.kept;
     way = subst (λ (n : Option ℕ). MatchOption (first_kept p (at kept) c.warning.place) (turns_to ways n ≡ []) (λ q. AreTurnsTo p q (turns_to ways n))) (sym is.kept) (way_told c.warning.place (first_kept p (at kept) c.warning.place) refl);
     other = other_told c.warning c.clash is.clash;

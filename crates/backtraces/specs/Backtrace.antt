@@ -1,6 +1,7 @@
 -- How the checker came to a warning: the function that holds its place, the state that is kept there, and the ways that
 -- brought it.
 use Rattle.std.specs.Prelude.{◌≡◌, ◌≢◌, ℕ, ◌-◌, ◌&&◌, Bool, List, [], ◌∷◌, ◌++◌, Option, Some, None, MatchOption, is_some, option_map, option_and_then}
+use Rattle.std.specs.Option.{option_or}
 use Rattle.ot_base.specs.declared.place.Place.{Place}
 use Rattle.ot_base.specs.declared.warning.Warning.{Warning}
 use Rattle.ot_base.specs.declared.rules.TheConstants.{STATE_MISMATCH}
@@ -35,9 +36,9 @@ abbrev pub address_by : Program → Place → Option ℕ → Place
 address_by p place (Some q) = p.address q
 address_by p place None = place
 
--- where what stands at a place runs: its first point
-abbrev pub runs_at : Program → Place → Place
-runs_at p place = address_by p place (first_point p place)
+-- where what stands at a place runs: the first point there that keeps a state, or else the first one
+abbrev pub runs_at : Program → (ℕ → Option State) → Place → Place
+runs_at p states place = address_by p place (option_or (first_kept p states place) (first_point p place))
 
 -- a place in the function that holds it: the function, by its lowest symbol, and the bytes from its start
 abbrev pub holder_of : Elf → Place → Option Holder
@@ -68,10 +69,11 @@ pub record Told : Type 0 where
   pub way : List WayStep
   pub other : List WayStep
 
--- This is told of a warning of an object's program: the function that holds the place where the first point at the warning's place
--- runs; of the first point there that keeps a state, this state and the turns of one way to it; and of rule 4 another way.
+-- This is told of a warning of an object's program: the function that holds the place where the first point at the warning's place that
+-- keeps a state runs, or else the first one; of the first point there that keeps a state, this state and the turns of one way to it; and
+-- of rule 4 another way.
 pub record IsBacktrace (o : Elf) (p : Program) (states : ℕ → Option State) (w : Warning) (told : Told) : Type 0 where
-  pub holder : told.holder ≡ holder_of o (runs_at p w.place)
+  pub holder : told.holder ≡ holder_of o (runs_at p states w.place)
   pub state : told.state ≡ option_and_then states (first_kept p states w.place)
   pub way : MatchOption (first_kept p states w.place) (told.way ≡ []) (λ q. AreTurnsTo p q told.way)
   pub other : IsOtherWay p w told.other

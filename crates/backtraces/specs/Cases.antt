@@ -1,6 +1,7 @@
 -- What is found of each warning before its backtrace is told.
 use Rattle.std.specs.Prelude.{◌≡◌, ◌≢◌, ℕ, List, [], ◌∷◌, ◌++◌, Option, Some, None, Contains, option_and_then, slice_index_or}
 use Rattle.std.specs.List.{flat_map}
+use Rattle.std.specs.Option.{option_or}
 use Rattle.ot_base.specs.declared.rules.TheConstants.{STATE_MISMATCH}
 use Rattle.ot_base.specs.declared.warning.Warning.{Warning}
 use Rattle.elf_objects.specs.Elf.{Elf}
@@ -57,7 +58,7 @@ turns_along ways None = []
 -- what is told of it, by these ways
 abbrev pub told_by : Elf → Program → (ℕ → Option State) → List (List WayStep) → Case → Told
 told_by o p states ways c = record {
-  holder = holder_of o (address_by p c.warning.place c.first);
+  holder = holder_of o (address_by p c.warning.place (option_or c.kept c.first));
   state = option_and_then states c.kept;
   way = turns_to ways c.kept;
   other = turns_along ways c.clash;

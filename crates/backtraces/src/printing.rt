@@ -187,7 +187,7 @@ fn push_backtrace(
     ensures { (p : Program) → Tells p sources.now.graph.now.parts → OnOk result (into.new.items ≡ into.old.items
         ++ backtrace_text sources.now.object.now sources.now.input.now p case.now.warning.rule (told_by sources.now.object.now p (at sources.now.kept.now) sources.now.ways case.now)) }
 {
-    let address = address_of(sources.graph, case.warning.place, case.first);
+    let address = address_of(sources.graph, case.warning.place, case.kept.or(case.first));
     let holder = holder_of(&sources.index, address);
     push_holder(sources.object, sources.input, holder, into)?;
     push_kept(state_of(sources.kept, case.kept), into)?;
