@@ -7,7 +7,8 @@ use Rattle.explanations.specs.Topics.{is_rule, is_told, is_topic}
 use Rattle.explanations.specs.Volumes.{entries}
 use Rattle.explanations.specs.declared.refusal.TheConstants.{MARKS}
 
--- words that stand in the lines of a kind of refusal, and its topic
+-- Words that stand in the lines of a kind of refusal, and its topic. A name of a file or of a section is printed without blanks, and
+-- such words have one: so they stand in what the line says itself.
 pub record Mark : Type 0 where
   pub words : List ℕ
   pub topic : List ℕ

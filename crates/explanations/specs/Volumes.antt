@@ -31,7 +31,7 @@ rules_21_to_44 = map stated rules_21_to_44_constants.ROWS
 unfoldable pub rules_45_to_54 : List Entry
 rules_45_to_54 = map stated rules_45_to_54_constants.ROWS
 
--- the refusals of entries, from `Compressed` to `Size`,
+-- the refusals of entries from `Compressed` to `Size`
 unfoldable pub refusals_of_entries : List Entry
 refusals_of_entries = map stated refusals_of_entries_constants.ROWS
 

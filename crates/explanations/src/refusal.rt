@@ -8,8 +8,8 @@ ghost use Rattle.explanations.specs.Topics.{is_topic};
 /// Words that stand in the lines of a kind of refusal, and its topic.
 type Mark = (&'static str, &'static str);
 
-/// No name of a file, a section or a symbol is printed with a blank in it, and each of these words has one. So they stand in the
-/// line itself. Words that a line of another kind has too stand behind those of that kind.
+/// The words by which kinds of refusals are known. A name of a file or of a section is printed without blanks, and each of these has
+/// one, so they stand in what the line says itself. Words that lines of another kind have too stand behind those of that kind.
 const MARKS: [Mark; 52] = [
     (" is missing", "missing"),
     (" is longer than ", "longer"),
@@ -65,7 +65,7 @@ const MARKS: [Mark; 52] = [
     (": wraps", "wraps"),
 ];
 
-/// The words by which kinds of refusals are known.
+/// These words, as a slice.
 #[tactic(auto, unfolding(crate::specs::Refusals::marks))]
 fn marks() -> &'static [Mark]
     ensures { map mark_of result.now ≡ marks }

@@ -1,4 +1,4 @@
-//! What the refusals of entries, from `Compressed` to `Size`, mean.
+//! What the refusals of entries from `Compressed` to `Size` mean.
 
 ghost use Rattle.std.specs.Prelude.{◌≡◌, map};
 ghost use Rattle.explanations.specs.Entry.{entry_of};
