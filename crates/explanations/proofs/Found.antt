@@ -1,5 +1,5 @@
 -- What is found in a table.
-use Rattle.std.proofs.Common.{◌≡◌, refl, ℕ, List, [], ◌∷◌, map, option_map, Bool, true, false, cond, Some, None, Bor, Option, ap, ◌∙◌, sym, ◌++◌, ◌+◌, ◌<◌, suc, length, drop, get_or, add-one}
+use Rattle.std.proofs.Common.{◌≡◌, refl, ℕ, List, [], ◌∷◌, map, option_map, true, false, cond, Some, None, Bor, Option, ap, ◌∙◌, sym, ◌++◌, ◌+◌, ◌<◌, length, drop, get_or, add-one}
 use Rattle.std.proofs.Math.Seq.{drop-cons}
 use Rattle.std.specs.List.{find}
 use Rattle.std.specs.Option.{option_or}

@@ -1,5 +1,5 @@
 -- The words of a refusal in a line.
-use Rattle.std.proofs.Common.{◌≡◌, ◌∙◌, refl, sym, ap, ℕ, ◌==◌, ◌||◌, ◌+◌, ◌<◌, suc, Bool, true, false, cond, List, [], ◌∷◌, length, drop, get_or, add-one, map, Option, Some, None, option_map, Bor}
+use Rattle.std.proofs.Common.{◌≡◌, ◌∙◌, refl, sym, ap, ℕ, ◌==◌, ◌||◌, ◌+◌, ◌<◌, suc, true, false, cond, List, [], ◌∷◌, length, drop, add-one, map, Option, Some, None, option_map, Bor}
 use Rattle.std.proofs.Math.Seq.{drop-cons}
 use Rattle.std.specs.List.{find, starts_with}
 use Rattle.explanations.specs.Refusals.{has_words, mark_of, topic_in}

@@ -1,9 +1,8 @@
 -- Which kind of refusal a line tells.
-use Rattle.std.specs.Prelude.{ℕ, ◌==◌, ◌||◌, Bool, true, false, List, [], ◌∷◌, ◌++◌, map, find, codes, IsTrue, Option, Some, None, option_map, if◌then◌else◌}
+use Rattle.std.specs.Prelude.{ℕ, ◌==◌, ◌||◌, Bool, false, List, [], ◌∷◌, ◌++◌, map, find, codes, IsTrue, Option, None, option_map, if◌then◌else◌}
 use Rattle.std.specs.List.{list_all, starts_with}
 use Rattle.std.specs.Borrow.{Bor}
-use Rattle.explanations.specs.Entry.{Entry}
-use Rattle.explanations.specs.Topics.{is_rule, is_told, is_topic}
+use Rattle.explanations.specs.Topics.{is_rule, is_told}
 use Rattle.explanations.specs.Volumes.{entries}
 use Rattle.explanations.specs.declared.refusal.TheConstants.{MARKS}
 

@@ -1,4 +1,4 @@
-use Rattle.std.proofs.Common.{◌≡◌, ◌==◌, ◌∙◌, sym, ap, ◌||◌, ◌+◌, drop}
+use Rattle.std.proofs.Common.{◌==◌, ◌∙◌, sym, ap, ◌||◌, ◌+◌, drop}
 use Rattle.std.specs.List.{starts_with}
 use Rattle.std.proofs.lemmas.List.{take_rest}
 use Rattle.explanations.specs.Refusals.{has_words}

@@ -1,4 +1,4 @@
-use Rattle.std.proofs.Common.{◌≡◌, ◌∙◌, ap}
+use Rattle.std.proofs.Common.{◌∙◌, ap}
 use Rattle.explanations.specs.Refusals.{topic_in}
 use Rattle.explanations.proofs.KindLaws.{kinds-are-told, topic-is-one}
 use Rattle.explanations.proofs.refusal.topic_of_refusal.Goals as goal
