@@ -1,3 +1,4 @@
 pub mod Entry
+pub mod Refusals
 pub mod Topics
 pub mod Volumes

@@ -5,14 +5,14 @@ use Rattle.explanations.specs.declared.rules_1_to_9.TheConstants as rules_1_to_9
 use Rattle.explanations.specs.declared.rules_10_to_19.TheConstants as rules_10_to_19_constants
 use Rattle.explanations.specs.declared.rules_21_to_44.TheConstants as rules_21_to_44_constants
 use Rattle.explanations.specs.declared.rules_45_to_54.TheConstants as rules_45_to_54_constants
-use Rattle.explanations.specs.declared.refusals_capital.TheConstants as refusals_capital_constants
-use Rattle.explanations.specs.declared.refusals_a_to_e.TheConstants as refusals_a_to_e_constants
+use Rattle.explanations.specs.declared.refusals_of_entries.TheConstants as refusals_of_entries_constants
+use Rattle.explanations.specs.declared.refusals_bad.TheConstants as refusals_bad_constants
 use Rattle.explanations.specs.declared.refusals_f_to_m.TheConstants as refusals_f_to_m_constants
 use Rattle.explanations.specs.declared.refusals_n.TheConstants as refusals_n_constants
 use Rattle.explanations.specs.declared.refusals_o_to_z.TheConstants as refusals_o_to_z_constants
 
 -- what a row of the constants says: its topic, its title and its text
-abbrev pub stated : record {now : List ℕ} × record {now : List ℕ} × record {now : List ℕ} → Entry
+abbrev pub stated : record { now : List ℕ } × record { now : List ℕ } × record { now : List ℕ } → Entry
 stated row = record { topic = row.0.now; title = row.1.now; text = row.2.now }
 
 -- the rules 1 to 9
@@ -31,13 +31,13 @@ rules_21_to_44 = map stated rules_21_to_44_constants.ROWS
 unfoldable pub rules_45_to_54 : List Entry
 rules_45_to_54 = map stated rules_45_to_54_constants.ROWS
 
--- the refusals that are told by one word with a capital, from `Compressed` to `Size`
-unfoldable pub refusals_capital : List Entry
-refusals_capital = map stated refusals_capital_constants.ROWS
+-- the refusals of entries from `Compressed` to `Size`
+unfoldable pub refusals_of_entries : List Entry
+refusals_of_entries = map stated refusals_of_entries_constants.ROWS
 
 -- the refusals from `bad-bits` to `bad-table`
-unfoldable pub refusals_a_to_e : List Entry
-refusals_a_to_e = map stated refusals_a_to_e_constants.ROWS
+unfoldable pub refusals_bad : List Entry
+refusals_bad = map stated refusals_bad_constants.ROWS
 
 -- the refusals from `frame-relocation` to `missing`
 unfoldable pub refusals_f_to_m : List Entry
@@ -53,4 +53,4 @@ refusals_o_to_z = map stated refusals_o_to_z_constants.ROWS
 
 -- those on all topics: the rules by their numbers, then the kinds of refusals by their names
 unfoldable pub entries : List Entry
-entries = rules_1_to_9 ++ (rules_10_to_19 ++ (rules_21_to_44 ++ (rules_45_to_54 ++ (refusals_capital ++ (refusals_a_to_e ++ (refusals_f_to_m ++ (refusals_n ++ (refusals_o_to_z ++ []))))))))
+entries = rules_1_to_9 ++ (rules_10_to_19 ++ (rules_21_to_44 ++ (rules_45_to_54 ++ (refusals_of_entries ++ (refusals_bad ++ (refusals_f_to_m ++ (refusals_n ++ (refusals_o_to_z ++ []))))))))

@@ -3,11 +3,12 @@
 
 mod listing;
 mod lookup;
-mod refusals_a_to_e;
-mod refusals_capital;
+mod refusal;
+mod refusals_bad;
 mod refusals_f_to_m;
 mod refusals_n;
 mod refusals_o_to_z;
+mod refusals_of_entries;
 mod row;
 mod rules_10_to_19;
 mod rules_1_to_9;
@@ -17,3 +18,4 @@ mod volumes;
 
 pub use listing::topics;
 pub use lookup::{explanation, is_topic};
+pub use refusal::topic_of_refusal;

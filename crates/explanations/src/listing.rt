@@ -1,7 +1,7 @@
 //! The list of topics.
 
 ghost use Rattle.std.specs.Prelude.{◌≡◌};
-ghost use Rattle.explanations.specs.Topics.{topics_text};
+ghost use Rattle.explanations.specs.Topics.{AreAscending, AreTitled, AreTold, topics_text};
 
 const TOPICS: &str = "\
 objtool explain TOPIC tells what the rule or the refusal TOPIC means.
@@ -91,10 +91,14 @@ too-many  too many sections: N
 wraps  section N: wraps
 ";
 
-/// The text that lists the topics: a heading, and a line for each topic with its title.
+/// The text that lists the topics: a heading, and a line for each topic with its title. Each topic is explained by a text
+/// of its own, which begins with the title.
 #[tactic(auto, unfolding(crate::specs::Topics::topics_text))]
 pub fn topics() -> &'static str
-    ensures { result.now ≡ topics_text }
+    ensures text { result.now ≡ topics_text }
+    ensures told { AreTold }
+    ensures titled { AreTitled }
+    ensures ascending { AreAscending }
 {
     TOPICS
 }

@@ -1,4 +1,4 @@
-//! The text on a topic.
+//! The text on a topic. A topic is the number of a rule in decimal, or a word for a kind of refusal.
 
 ghost use Rattle.std.specs.Prelude.{◌≡◌, is_some, map, option_map};
 ghost use Rattle.std.specs.List.{find};
@@ -38,14 +38,15 @@ fn text_in(tables: &[&'static [Row]], topic: &str) -> Option<&'static str>
     None
 }
 
-/// The text on a topic.
+/// The text on a topic: a title as the rule or the refusal is printed, what is asked, why, what mostly breaks it, and what to do. It
+/// has lines of at most 78 columns, each with its line feed. A word that is no topic has none.
 pub fn explanation(topic: &str) -> Option<&'static str>
     ensures { option_map (λ text. text.now) result ≡ explanation_of topic.now }
 {
     text_in(&all_rows(), topic)
 }
 
-/// Whether a word is a topic.
+/// Whether a word is a topic, which has a text.
 pub fn is_topic(word: &str) -> bool
     ensures { result ≡ is_topic word.now }
 {

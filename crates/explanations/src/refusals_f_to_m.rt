@@ -18,8 +18,8 @@ there: R_X86_64_PC32 on the section symbol of an FDE's section, with addend 0,
 at the FDE's address, and none anywhere else.
 
 `cfa` reads the call frame information that this tool writes, and no other;
-compilers take another symbol or addend for each function. Linking does so
-too: read the object that `cfi` wrote.
+compilers take another addend for each function, and so does linking
+(`ld -r`): read the object that `cfi` wrote.
 ",
     ),
     (
@@ -33,8 +33,8 @@ adds none: two would contradict each other.
 
 Compilers write it unless they are told not to: build with
 -fno-asynchronous-unwind-tables, as the kernel does. In assembly leave the
-directives .cfi_* out. Or take the section out of the object: `objcopy -R
-.eh_frame -R .rela.eh_frame`.
+directives .cfi_* out. Or take the section out of the object:
+`objcopy -R .eh_frame -R .rela.eh_frame`.
 ",
     ),
     (

@@ -71,8 +71,8 @@ list's name. The lists are
 
 A label stands within an instruction, or data in front of it is read as code,
 so that the boundaries are others than was meant: `objdump -dr` shows them.
-Annotations stand right in front of their instruction, unreachable() and
-ANNOTATE_REACHABLE right behind.
+Annotations belong right in front of their instruction, but unreachable() and
+what undoes it (the lists 4 and 5) right behind.
 ",
     ),
     (
@@ -102,8 +102,8 @@ the function is not to be checked.
 
 STACK_FRAME_NON_STANDARD(f) takes a function's name, and f has to be a symbol
 of type FUNC with a size: in assembly by SYM_FUNC_START and SYM_FUNC_END. A
-label of SYM_CODE_START is no function, and code of none is checked from its
-hints on alone.
+label of SYM_CODE_START is no function; such code is checked from its hints on
+alone.
 ",
     ),
     (
@@ -130,8 +130,9 @@ refused: not an x86-64 relocatable file at byte N
 The file isn't an object that the assembler or `ld -r` writes: ELF, 64 bits,
 little-endian, type REL, machine x86-64. N is the offset of the first field of
 the file header that is wrong; 16 is the type (a program or a library), 18 the
-machine, and 0 to 6 that it is no such ELF file at all. With `file needs N
-bytes, has M` it ends before a header or the table of section headers does.
+machine, and 0 to 6 that it is no such ELF file at all. With
+`file needs N bytes, has M` it ends before a header or the table of section
+headers does.
 
 Give the object itself, no archive (.a), no LLVM bitcode (an object of an LTO
 build), no program and no kernel image. A file that is too short is cut, or

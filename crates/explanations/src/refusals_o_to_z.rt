@@ -36,8 +36,8 @@ The object has a section `.orc_unwind`, `.orc_unwind_ip` or
 contradict the first.
 
 Give the object as the compiler wrote it, not one that went through `check` or
-a kernel's objtool, or take the sections out: `objcopy -R .orc_unwind -R
-.orc_unwind_ip -R .rela.orc_unwind_ip`.
+a kernel's objtool, or take the sections out:
+`objcopy -R .orc_unwind -R .orc_unwind_ip -R .rela.orc_unwind_ip`.
 ",
     ),
     (
@@ -47,7 +47,7 @@ a kernel's objtool, or take the sections out: `objcopy -R .orc_unwind -R
 refused: section N: outside the file
 
 The bytes of section N leave the file, or begin within the file header; or
-they are relocations and share a byte with other relocations.
+they are relocations and share a byte with another section.
 
 The file is cut, which is the usual case, or its section headers are damaged.
 Make the object anew; compare its size with what `readelf -SW` says.
@@ -63,9 +63,9 @@ Two sections of one object share an address where the image or the layout lays
 them; with `file K section N: overlaps file J section M` two sections of two
 files. A return address there would belong to both.
 
-Look at the BASEs: a section takes as many bytes from its BASE on as `readelf
--SW` has as its size, in hexadecimal. All text sections count for which a
-place is given, also those without rows.
+Look at the BASEs: a section takes as many bytes from its BASE on as
+`readelf -SW` has as its size, in hexadecimal. All text sections count for
+which a place is given, also those without rows.
 ",
     ),
     (
@@ -91,9 +91,9 @@ The object has a section `.retpoline_sites`, `.return_sites` or `.call_sites`,
 or its relocations, already, so `sites` adds none: a kernel would patch by
 both.
 
-Give the object as the compiler wrote it, or take the sections out by `objcopy
--R NAME`, with NAME the section and `.rela` and the section each. `list`
-prints what is there.
+Give the object as the compiler wrote it, or take the sections out by
+`objcopy -R NAME -R .relaNAME`, NAME being each of them. `list` prints what is
+there.
 ",
     ),
     (
@@ -125,7 +125,7 @@ and a symbol for each section that needs one); 1,024 files in a layout and
 4,000,000 rows in a merged table. N is how many there are, or would be.
 
 Check the objects before `ld -r` makes one of them, and merge fewer at a time.
--ffunction-sections makes a section of each function.
+Building without -ffunction-sections makes fewer sections.
 ",
     ),
     (

@@ -47,11 +47,11 @@ beyond the words that a walk still reads there.
         "\
 rule 12: alternatives disagree at offset A
 
-At a site of .altinstructions several pieces of code may stand, and which one
-is decided at boot; the table is one for all of them. A bytes behind the start
-of the site, which is the place that is told, two of them have different rows,
-or a call ends there whose row isn't the one in force. With one of the pieces
-a walk through the site would go wrong.
+At a site of `.altinstructions` several pieces of code may stand, and which
+one is decided at boot; the table is one for all of them. A bytes behind the
+start of the site, which is the place that is told, two of them have different
+rows, or a call ends there whose row isn't the one in force. With one of the
+pieces a walk through the site would go wrong.
 
 In assembly ALTERNATIVE() has a push or pop in one variant and not, or at
 another offset, in the other. Move what changes the stack out of the site, or
@@ -68,8 +68,8 @@ rule 13: jump into an alternative site
 A branch leads into code that may be replaced at boot, and not to its start.
 After the replacement it would come to the middle of an instruction.
 
-In assembly a label stands inside ALTERNATIVE() or between the labels that
-.altinstructions gives. Move the label in front of the site or behind it, or
+In assembly a label stands inside ALTERNATIVE(), or between the labels that
+`.altinstructions` names. Move the label in front of the site or behind it, or
 make the site smaller. The site's original code may jump within itself, and a
 replacement within itself.
 ",
@@ -80,19 +80,19 @@ replacement within itself.
         "\
 rule 14: unreachable instruction
 
-No path leads to this instruction: the first of some of a function, or of code
-of no function, that are reached in no way. Then there is no row for it. It is
-looked for where nothing of rules 1 to 13 and 15 to 19 is broken, and is not
-asked for with --no-unreachable.
+No path leads to this instruction, the first of several of a function, or of
+none, that aren't reached. So its row says nothing of the stack, and something
+that should lead there doesn't. This is looked for where nothing of rules 1 to
+13 and 15 to 19 is broken, and not with --no-unreachable.
 
 In C it is code behind a call of a function that never returns, as this object
 or a list has it: take out a name that is listed wrongly, or give the callee
 __noreturn. Or a jump's table isn't known, whose places then have no path to
 them: tables are looked for in .rodata and .data.rel.ro sections alone. In
-assembly it is code to which an address leads that something keeps: say at its
-start what the stack is there, by UNWIND_HINT_FUNC, UNWIND_HINT_REGS or
-UNWIND_HINT_UNDEFINED, or make it a function (SYM_FUNC_START). Remove what
-nothing uses. nop, int3 and ud2 as padding aren't told.
+assembly it is code whose address is kept somewhere: say at its start what the
+stack is, by UNWIND_HINT_FUNC, UNWIND_HINT_REGS or UNWIND_HINT_UNDEFINED, or
+make it a function (SYM_FUNC_START). Remove what nothing uses. nop, int3 and
+ud2 as padding aren't told.
 ",
     ),
     (
@@ -113,9 +113,9 @@ stands at the five words of an iret, UNWIND_HINT_END_OF_STACK or
 UNWIND_HINT_UNDEFINED where no caller is left. Code of no function
 (SYM_CODE_START) may return or jump outside whatever the stack is, as long as
 it drops no bytes and goes to no function of this object. An iret inside a
-function, by which it serializes the processor, goes on behind itself where
-that is the function's own code; a system call does where a hint stands there
-besides (UNWIND_HINT_FUNC, UNWIND_HINT_RESTORE).
+function, by which it serializes the processor, is read as going on behind
+itself where that is the function's own code; so is a system call where a hint
+stands there besides (UNWIND_HINT_FUNC, UNWIND_HINT_RESTORE).
 ",
     ),
     (
@@ -164,8 +164,7 @@ what the stack is from there on.
 Put UNWIND_HINT_SAVE in front of the code that changes the stack unseen, in
 the same function and at a place that control comes to, or say the state
 itself: UNWIND_HINT_FUNC or UNWIND_HINT_REGS in place of UNWIND_HINT_RESTORE.
-Of several the nearest SAVE counts, also where it lies in code of another
-variant.
+Of several the nearest one counts.
 ",
     ),
     (

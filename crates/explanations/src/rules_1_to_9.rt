@@ -137,10 +137,11 @@ any other write nobody knows where the return address lies.
 In assembly this is a stack switch (`mov %rsp,%r11` and back, a load of rsp
 from memory, `pop %rsp`, `enter`). Put a hint right behind the write that says
 what the stack is then (UNWIND_HINT_REGS, UNWIND_HINT_FUNC, or
-UNWIND_HINT_RESTORE over one UNWIND_HINT_SAVE): in front of a hint that sets
-or restores the state the write is allowed. Or set up a frame first (`push
-%rbp`, `mov %rsp,%rbp`), or name the function by STACK_FRAME_NON_STANDARD. It
-is a limit of this tool where a second register keeps rsp all the while.
+UNWIND_HINT_RESTORE behind an UNWIND_HINT_SAVE): in front of a hint that sets
+or restores the state the write is allowed. Or set up a frame first
+(`push %rbp`, `mov %rsp,%rbp`), or name the function by
+STACK_FRAME_NON_STANDARD. It is a limit of this tool where a second register
+keeps rsp all the while.
 ",
     ),
     (

@@ -53,9 +53,9 @@ isn't listed as safe. A kernel that patches its returns (Retbleed, SRSO) would
 miss it.
 
 In C build with -mfunction-return=thunk-extern. In assembly write RET in place
-of ret, which becomes a jump to __x86_return_thunk. Where a bare return is
-meant, as in the thunk itself, put ANNOTATE_UNRET_SAFE right in front of it:
-it makes an entry of `.discard.retpoline_safe`, which is what is looked at.
+of ret: it becomes a jump to __x86_return_thunk. Where a bare return is meant,
+as in the thunk itself, put ANNOTATE_UNRET_SAFE right in front of it: it makes
+an entry of `.discard.retpoline_safe`, which is what is looked at.
 ",
     ),
     (
@@ -66,8 +66,8 @@ rule 41: call to NAME with user access on
 
 With --uaccess. Between STAC and CLAC, where the kernel may touch user memory,
 a function is called or jumped to that isn't listed as safe there; of an
-indirect call NAME is `indirect target`. What it calls in its turn could leave
-user access on over a schedule, or be tricked into touching user memory.
+indirect call NAME is `indirect target`. It could sleep with user access on,
+or be made to touch user memory that it wasn't meant to.
 
 In C a region of user_access_begin() has a call: of a function that was not
 inlined (make it __always_inline), of instrumentation (KASAN, KCOV, UBSAN), or
@@ -117,8 +117,8 @@ already. The first CLAC then turns it off for both, and what is still to be
 done between the two would fault.
 
 Regions of user access don't nest: in C one begins within another, mostly
-through a macro or an inlined function (unsafe_get_user() in place of
-get_user() belongs into a region). A function that is listed as safe is
+through a macro or an inlined function (within a region it has to be
+unsafe_get_user(), not get_user()). A function that is listed as safe is
 entered with user access on, and may not turn it on. Another way that comes
 here without a CLAC shows it too.
 ",

@@ -85,10 +85,10 @@ With --sls. Behind a return no INT3 stands, in its own section and variant. A
 processor may run ahead past a return (straight-line speculation), into
 whatever bytes follow; INT3 stops it.
 
-In C build with -mharden-sls=all (gcc 12, clang 15, or later). In assembly
-write RET in place of ret (asm/linkage.h), which puts the int3 behind it where
-the kernel is built so. A return in a replacement of an alternatives site
-needs its INT3 within the replacement.
+In C build with -mharden-sls=all. In assembly write RET in place of ret
+(asm/linkage.h), which puts the int3 behind it where the kernel is built so. A
+return in a replacement of an alternatives site needs its INT3 within the
+replacement.
 ",
     ),
     (
@@ -101,10 +101,10 @@ With --sls. Behind an indirect jump no INT3 stands, in its own section and
 variant. A processor may run ahead past the jump (straight-line speculation),
 into whatever bytes follow; INT3 stops it.
 
-In C build with -mharden-sls=all (gcc 12, clang 15, or later), which writes it
-behind jumps through a register, memory or a table. In assembly write the int3
-right behind `jmp *%rax`, or take JMP_NOSPEC. Calls need none: control comes
-back behind them.
+In C build with -mharden-sls=all, which writes it behind jumps through a
+register, memory or a table. In assembly write the int3 right behind
+`jmp *%rax`, or take JMP_NOSPEC. Calls need none: control comes back behind
+them.
 ",
     ),
     (

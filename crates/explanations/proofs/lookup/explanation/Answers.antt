@@ -1,4 +1,4 @@
-use Rattle.std.proofs.Common.{◌≡◌, ◌∙◌, sym, ap}
+use Rattle.std.proofs.Common.{◌∙◌, ap}
 use Rattle.explanations.specs.Entry.{text_on}
 use Rattle.explanations.proofs.lookup.explanation.Goals as goal
 

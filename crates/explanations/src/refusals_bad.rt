@@ -2,7 +2,7 @@
 
 ghost use Rattle.std.specs.Prelude.{◌≡◌, map};
 ghost use Rattle.explanations.specs.Entry.{entry_of};
-ghost use Rattle.explanations.specs.Volumes.{refusals_a_to_e};
+ghost use Rattle.explanations.specs.Volumes.{refusals_bad};
 
 use crate::row::Row;
 
@@ -79,8 +79,8 @@ The name of section N doesn't begin within the table of section names; with
 `symbol N: bad name`, that of symbol N doesn't within the string table of the
 symbols.
 
-The file is damaged or cut in the middle. Make the object anew; `readelf -SsW`
-complains at the same place.
+The file is damaged, or a tool has cut a string table. Make the object anew;
+`readelf -SsW` shows what there is.
 ",
     ),
     (
@@ -182,9 +182,9 @@ damaged: look at it by `readelf -SW`, and make the object anew.
 ];
 
 /// The rows of this volume.
-#[tactic(auto, unfolding(crate::specs::Volumes::refusals_a_to_e))]
+#[tactic(auto, unfolding(crate::specs::Volumes::refusals_bad))]
 pub(crate) fn rows() -> &'static [Row]
-    ensures { map entry_of result.now ≡ refusals_a_to_e }
+    ensures { map entry_of result.now ≡ refusals_bad }
 {
     &ROWS
 }

@@ -1,8 +1,8 @@
-//! What the refusals that are told by one word with a capital, from `Compressed` to `Size` mean.
+//! What the refusals of entries from `Compressed` to `Size` mean.
 
 ghost use Rattle.std.specs.Prelude.{◌≡◌, map};
 ghost use Rattle.explanations.specs.Entry.{entry_of};
-ghost use Rattle.explanations.specs.Volumes.{refusals_capital};
+ghost use Rattle.explanations.specs.Volumes.{refusals_of_entries};
 
 use crate::row::Row;
 
@@ -96,7 +96,7 @@ than the code that it is to replace, or one of the two leaves its section.
 Such a replacement would overwrite what follows the site.
 
 ALTERNATIVE() pads the original by nops to the longest replacement. Where the
-entries are written by hand, reckon the lengths from labels, and look that the
+entries are written by hand, reckon the lengths from labels, and see that the
 labels behind the original and the replacement stand in the same sections as
 those before them. An original of length 0 is passed by.
 ",
@@ -200,9 +200,9 @@ kernel's headers, and this tool for objects of a kernel with these layouts.
 ];
 
 /// The rows of this volume.
-#[tactic(auto, unfolding(crate::specs::Volumes::refusals_capital))]
+#[tactic(auto, unfolding(crate::specs::Volumes::refusals_of_entries))]
 pub(crate) fn rows() -> &'static [Row]
-    ensures { map entry_of result.now ≡ refusals_capital }
+    ensures { map entry_of result.now ≡ refusals_of_entries }
 {
     &ROWS
 }
