@@ -17,7 +17,7 @@ from names import Names
 from rows import row_of
 from sites import Point
 from special import RESTORE, SAVE
-from states import Ended, State, hint_state, kept_states
+from states import Live, State, hint_state, kept_states
 from texts import Refused, escaped, place_text, row_words
 
 # The operations by their words, and those of them behind which their number stands.
@@ -33,10 +33,13 @@ NUMBERED = "AddSp", "AndSp", "LeaSpBp", "LeaBpSp", "LeaBpRoom", "StoreBp", "Load
 
 
 def state_words(state: Optional[State]) -> str:
-    """A kept state by its row."""
+    """A kept state: its row, and the depth where that isn't told by the row."""
     if state is None:
         return "not reached"
-    return "ended" if isinstance(state, Ended) else row_words(row_of(state))
+    depth = ""
+    if isinstance(state, Live) and (state.at_least or state.fp is not None):
+        depth = f" depth{' at least' if state.at_least else ''} {state.depth}"
+    return row_words(row_of(state)) + depth
 
 
 class Listing:
@@ -46,16 +49,14 @@ class Listing:
         self.flow, self.kept, self.saves = flow, kept, flow.saves()
 
     def lines(self, name: Optional[bytes] = None) -> list[str]:
-        """The headings and the points in their order, or those of functions with this name."""
+        """The headings and the points in their order, or of these what is of functions with this name."""
         lines: list[str] = []
         before = None
-        for point in self.flow.points:
+        for number, point in enumerate(self.flow.points):
             function = self.function(point)
-            if name is not None and (function is None or self.flow.functions.name(function) != name):
-                continue
-            if not lines or function != before:
-                lines.append(self.heading(point))
-            lines.append(self.line(point))
+            if name is None or function is not None and self.flow.functions.name(function) == name:
+                lines += [self.heading(point)] if number == 0 or function != before else []
+                lines.append(self.line(point))
             before = function
         return lines
 
@@ -98,10 +99,13 @@ class Listing:
     def target(self, point: Point) -> str:
         """Where a call or a way out of the function leads."""
         role = self.flow.role[point]
-        names = [escaped(self.flow.object.symbols[role.sym].name)] if role.sym is not None else []
-        names += [self.place(role.entry)] if role.entry is not None else []
-        words = {"CallAny": "anywhere", "JumpAny": "anywhere", "Return": "to the caller"}.get(role.kind, " or ".join(names))
-        return f" {words}" if words else ""
+        if role.kind in ("CallAny", "JumpAny"):
+            return " to anywhere"
+        if role.kind == "Return":
+            return " to the caller"
+        targets = [f"out to {escaped(self.flow.object.symbols[role.sym].name)}"] if role.sym is not None else []
+        targets += [f"to {self.place(role.entry)}"] if role.entry is not None else []
+        return f" {' or '.join(targets)}" if targets else ""
 
     def marks(self, point: Point) -> list[str]:
         flow = self.flow
