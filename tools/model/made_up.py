@@ -2,8 +2,8 @@
 
 Object after object, the program checks it with the options of its turn, in a folder of its own. Its status, its lines and what it
 writes are compared with the model's answer, and where the object is accepted, its rows with those that `dump` prints. Each fourth
-object is also given site lists and call frame information, checked against the entry rules and listed; where it breaks rules, its
-backtraces are judged; and the last accepted ones are given a merged table (further.py). The program must leave all other files alone.
+object, and each that was written down by hand, is also given site lists and call frame information, checked against the entry rules and
+listed; where it breaks rules, its backtraces are judged; and the last accepted ones are given a merged table (further.py). The program must leave all other files alone.
 Before the made-up objects come the worked ones and those of single features. Objects with different answers are kept in the folder
 KEPT. The objects of FOLDER, as those of a kernel's build, are changed by lot too; where they are large, of the changed ones only the
 form of the answer is asked. The objects are shared out to as many processes as JOBS says, one a processor where it isn't given: which
@@ -34,7 +34,7 @@ from worked import WORKED
 
 OPTIONS = ("fp", "no-unreachable", "retpoline", "rethunk", "uaccess", "all-opcodes")
 LARGE = 20_000
-# How many accepted objects are merged at most, and each how manieth object is given what further.py compares.
+# How many accepted objects are merged at most, and each how manieth object by lot is given what further.py compares.
 MERGED, FURTHER = 3, 4
 NAMES_FILES = [
     b"noreturn stop_here\nuaccess safe_one\n",
@@ -66,14 +66,15 @@ class Case(NamedTuple):
     names: Optional[bytes]
     # Whether the model answers it too.
     compared: bool = True
+    by_hand: bool = False
 
 
 def worked_cases():
     """The worked objects with their options, and the objects of single features with no option and with all."""
     for what, data, given, _ in WORKED:
-        yield Case(what, data, [f"--{name}" for name in given if name != "names"], given.get("names"))
+        yield Case(what, data, [f"--{name}" for name in given if name != "names"], given.get("names"), by_hand=True)
     for what, sketch in FEATURES.items():
-        yield Case(what, sketch.object(), [], None)
+        yield Case(what, sketch.object(), [], None, by_hand=True)
         yield Case(what, sketch.object(), [f"--{name}" for name in OPTIONS], None)
 
 
@@ -144,7 +145,8 @@ class Comparison:
         if answer is not None and answer.written is not None:
             sizes = [section.size for section in elf.parse(case.data).sections[1:2]]
             self.accepted = [*self.accepted[1 - MERGED :], (answer.written, sum(sizes))]
-        further = self.further(case, answer) if answer is not None and self.number % FURTHER == 0 else []
+        is_further = case.by_hand or self.number % FURTHER == 0
+        further = self.further(case, answer) if answer is not None and is_further else []
         for difference in further:
             self.keep_files(difference, case.what)
         return not found and not further
