@@ -115,6 +115,10 @@ class Ways:
         start = self.flow.functions.list[function].start
         return f"{escaped(self.flow.functions.name(function))}+{place.off - start.off:#x}"
 
+    def first_lines(self, name: str, warning: Warning) -> list[str]:
+        """Where a warning of the input with this name is, and the state that is kept there."""
+        return [f"in {escaped(name.encode())}: {self.inside(warning)}", f"state: {state_words(self.kept.get(self.at(warning)))}"]
+
     # A backtrace that is made
 
     def way(self, point: Point) -> list[tuple[Point, str]]:
@@ -138,7 +142,7 @@ class Ways:
     def lines(self, name: str, warning: Warning) -> list[str]:
         """A backtrace of a warning of the input with this name."""
         point = self.at(warning)
-        lines = [f"in {name}: {self.inside(warning)}", f"state: {state_words(self.kept.get(point))}"]
+        lines = self.first_lines(name, warning)
         if point is not None:
             lines.append(f"way: {self.text_of(self.way(point))}")
         if warning.rule == MISMATCH:
@@ -151,7 +155,7 @@ class Ways:
     def faults(self, name: str, warning: Warning, lines: list[str]) -> Iterator[str]:
         """What is wrong with these lines as the backtrace of a warning."""
         point = self.at(warning)
-        wanted = [f"in {name}: {self.inside(warning)}", f"state: {state_words(self.kept.get(point))}"]
+        wanted = self.first_lines(name, warning)
         wanted += ["way: "] * (point is not None) + ["other way: "] * (warning.rule == MISMATCH) + [f"see: objtool explain {warning.rule}"]
         if len(lines) != len(wanted):
             yield f"{len(lines)} lines, not {len(wanted)}"
