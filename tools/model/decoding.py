@@ -11,8 +11,8 @@ import subprocess
 import sys
 import tempfile
 
-from graph import op_text
 from opcodes import Fault, decode
+from rust_text import op_text
 
 PREFIXES = (0x66, 0x67, 0xF2, 0xF3, 0xF0, 0x2E, 0x36, 0x3E, 0x26, 0x64, 0x65)
 ESCAPES = (b"", b"\x0f", b"\x0f\x38", b"\x0f\x3a")

@@ -92,7 +92,8 @@ class Flow:
         self.insn: dict[Point, Insn] = {point: self._insn_of(point) for point in self.points}
         self.dead_ends: set[Point] = {point for point in self.points if self._is_dead_end(point)}
 
-        self.edges: dict[Point, set[Edge]] = {point: set() for point in self.points}
+        # Those to the next instruction come last, but otherwise they stand as docs/FORMATS.md lists them.
+        self.edges: dict[Point, list[Edge]] = {point: [] for point in self.points}
         self.role: dict[Point, Role] = {}
         # What rules 1, 3, 13, 16 and 19 ask of a kept point.
         self.bad: set[Point] = set()
@@ -219,12 +220,16 @@ class Flow:
     # Edges
 
     def _follow(self, point: Point) -> Role:
-        """Adds the edges of a point but for Next, and the marks of its targets; tells its role."""
+        """Adds the edges of a point but for Next, and the marks of its targets; tells its role.
+
+        First comes where its branch goes, then its static branches, its exception entries, and the entries of its jump table.
+        """
         role = self._role(point)
         for place in self._own(point, self.static_targets) or []:
             self._go(point, place, TAKEN)
         for place in self._own(point, self.fixups) or []:
             self._go(point, place, FIXUP)
+        self.edges[point].sort(key=lambda edge: edge.kind == TABLE)
         return role
 
     def _role(self, point: Point) -> Role:
@@ -248,7 +253,7 @@ class Flow:
     def _add(self, point: Point, heads: list[Point], kind: str) -> None:
         """Points of unchecked functions have no edges."""
         if not self.is_unchecked(self.owner[point]):
-            self.edges[point].update(Edge(head, kind) for head in heads)
+            self.edges[point].extend(Edge(head, kind) for head in heads)
 
     def _enters_site(self, point: Point, place: Place) -> bool:
         """Whether the place lies inside a site past its start, and the point isn't original code of the same site."""

@@ -1,15 +1,18 @@
 """Compares the built program with the model over what an object can be given besides tables: site lists, call frame information, a merged
-table of several objects; and over changed files of these."""
+table of several objects; over changed files of these; and over what is told of an object besides its warnings: listings and backtraces."""
 
 import random
 from typing import NamedTuple, Optional
 
-from commands import Answer
+from backtrace import backtrace_faults
+from check import options_of
+from commands import WARNINGS, Answer
 from entry import entry
 from frames import cfa, cfi
 from merge import find, merge
 from mutate import mutated
 from program import Program, differences
+from show import function_names, show
 from site_lists import listed, sites
 
 # Each command that writes an object, with the one that reads what it adds.
@@ -49,6 +52,25 @@ def entry_rules(program: Program, data: bytes, whole: bool, names: Optional[byte
     options = [f"--{name}" for name, given in zip(("noinstr", "sls", "ibt"), rules) if given] + ["--all-opcodes"] * whole
     files = {"in.o": data} | ({"names": names} if names is not None else {})
     return told_apart(program, files, ["entry", "in.o", *options, *["--names=names"] * (names is not None)], entry(data, rules, whole, names))
+
+
+def listings(program: Program, data: bytes, whole: bool, names: Optional[bytes], rng: random.Random) -> list[Difference]:
+    """What differs in the listing of an object, or in that of one of its functions, or of one that it may not have."""
+    function = rng.choice([None, rng.choice([b"f", b"g", *function_names(data)])])
+    options = ["--all-opcodes"] * whole + ["--names=names"] * (names is not None)
+    options += [f"--function={function.decode()}"] if function is not None else []
+    files = {"in.o": data} | ({"names": names} if names is not None else {})
+    return told_apart(program, files, ["show", "in.o", *options], show(data, function, whole, names))
+
+
+def backtraces(program: Program, data: bytes, options: list[str], names: Optional[bytes], answer: Answer) -> list[Difference]:
+    """What is wrong with the backtraces of an object of which a check with these options has this answer."""
+    if answer.status != WARNINGS:
+        return []
+    run = program.check(data, [*options, "--backtrace"], names)
+    files = {"in.o": data} | ({"names": names} if names is not None else {}) | {"printed": "\n".join(run.lines).encode()}
+    faults = backtrace_faults(run, "in.o", data, options_of(options), names, answer)
+    return [Difference(f"check --backtrace {' '.join(options)}: {fault}", files) for fault in faults[:1]]
 
 
 def layout_by_lot(names: list[str], sizes: list[int], rng: random.Random) -> str:

@@ -2,12 +2,12 @@
 
 Object after object, the program checks it with the options of its turn, in a folder of its own. Its status, its lines and what it
 writes are compared with the model's answer, and where the object is accepted, its rows with those that `dump` prints. Each fourth
-object is also given site lists and call frame information and checked against the entry rules, and the last accepted ones are given
-a merged table (further.py). The
-program must leave all other files alone. Before the made-up objects come the worked ones and those of single features. Objects
-with different answers are kept in the folder KEPT. The objects of FOLDER, as those of a kernel's build, are changed by lot too;
-where they are large, of the changed ones only the form of the answer is asked. The objects are shared out to as many processes as
-JOBS says, one a processor where it isn't given: which objects are made doesn't depend on it.
+object, and each that was written down by hand, is also given site lists and call frame information, checked against the entry rules and
+listed; where it breaks rules, its backtraces are judged; and the last accepted ones are given a merged table (further.py). The program must leave all other files alone.
+Before the made-up objects come the worked ones and those of single features. Objects with different answers are kept in the folder
+KEPT. The objects of FOLDER, as those of a kernel's build, are changed by lot too; where they are large, of the changed ones only the
+form of the answer is asked. The objects are shared out to as many processes as JOBS says, one a processor where it isn't given: which
+objects are made doesn't depend on it.
 """
 
 import hashlib
@@ -25,7 +25,7 @@ from commands import Answer
 from containers import container_by_lot
 from entries import entries_by_lot
 from features import FEATURES
-from further import Difference, entry_rules, merged_tables, written_objects
+from further import Difference, backtraces, entry_rules, listings, merged_tables, written_objects
 from generate import made_object
 from mutate import mutated
 from program import Program, Run, differences, is_well_formed
@@ -34,7 +34,7 @@ from worked import WORKED
 
 OPTIONS = ("fp", "no-unreachable", "retpoline", "rethunk", "uaccess", "all-opcodes")
 LARGE = 20_000
-# How many accepted objects are merged at most, and each how manieth object is given what further.py compares.
+# How many accepted objects are merged at most, and each how manieth object by lot is given what further.py compares.
 MERGED, FURTHER = 3, 4
 NAMES_FILES = [
     b"noreturn stop_here\nuaccess safe_one\n",
@@ -66,14 +66,15 @@ class Case(NamedTuple):
     names: Optional[bytes]
     # Whether the model answers it too.
     compared: bool = True
+    by_hand: bool = False
 
 
 def worked_cases():
     """The worked objects with their options, and the objects of single features with no option and with all."""
     for what, data, given, _ in WORKED:
-        yield Case(what, data, [f"--{name}" for name in given if name != "names"], given.get("names"))
+        yield Case(what, data, [f"--{name}" for name in given if name != "names"], given.get("names"), by_hand=True)
     for what, sketch in FEATURES.items():
-        yield Case(what, sketch.object(), [], None)
+        yield Case(what, sketch.object(), [], None, by_hand=True)
         yield Case(what, sketch.object(), [f"--{name}" for name in OPTIONS], None)
 
 
@@ -144,16 +145,18 @@ class Comparison:
         if answer is not None and answer.written is not None:
             sizes = [section.size for section in elf.parse(case.data).sections[1:2]]
             self.accepted = [*self.accepted[1 - MERGED :], (answer.written, sum(sizes))]
-        further = self.further(case) if case.compared and self.number % FURTHER == 0 else []
+        is_further = case.by_hand or self.number % FURTHER == 0
+        further = self.further(case, answer) if answer is not None and is_further else []
         for difference in further:
             self.keep_files(difference, case.what)
         return not found and not further
 
-    def further(self, case: Case) -> list[Difference]:
-        """What is different in what else an object can be given."""
+    def further(self, case: Case, answer: Answer) -> list[Difference]:
+        """What is different in what else an object can be given, and what else is told of it."""
         rng = random.Random(hashlib.sha256(case.data).digest())
         how = self.program, case.data, "--all-opcodes" in case.options, case.names, rng
-        found = written_objects(*how) + entry_rules(*how)
+        found = written_objects(*how) + entry_rules(*how) + listings(*how)
+        found += backtraces(self.program, case.data, case.options, case.names, answer)
         return found + merged_tables(self.program, self.accepted, rng)
 
     def keep_files(self, difference: Difference, what: str) -> None:

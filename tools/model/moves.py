@@ -7,8 +7,8 @@ import subprocess
 import sys
 import tempfile
 
-from graph import state_text
 from opcodes import decode
+from rust_text import state_text
 from states import Broken, Live, Regs, move
 
 DEPTHS = (-32, -24, 0, 8, 16, 24, 32, 40, 48, 56, 64, 1_073_741_816, 1_073_741_824)

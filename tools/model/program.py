@@ -10,11 +10,13 @@ import tempfile
 from typing import NamedTuple, Optional
 
 from check import read_file
-from commands import Answer
+from commands import REFUSED, Answer
 from texts import WARNINGS
 
 SECONDS = 120
 TEXTS = (re.sub(r"\\\{.\w*\\\}", ".*", re.escape(text)) for text in WARNINGS.values())
+# What may stand on the standard error: where a file is refused, which topic explains it.
+POINTER = re.compile(rb"(objtool: see objtool explain [a-z0-9-]+\n)?")
 LINE = re.compile(r"refused: .+|\S*\+0x[0-9a-f]+: rule \d+: (?:" + "|".join(TEXTS) + ")")
 
 
@@ -38,7 +40,7 @@ class Program:
     def __init__(self, path: str):
         self.path = os.path.abspath(path)
         self.folder = tempfile.TemporaryDirectory()
-        self.output = tempfile.NamedTemporaryFile()
+        self.output, self.errors = tempfile.NamedTemporaryFile(), tempfile.NamedTemporaryFile()
         self.shell = self.started()
 
     def started(self) -> subprocess.Popen:
@@ -48,14 +50,21 @@ class Program:
 
     def call(self, *words: str) -> tuple[int, list[str]]:
         """Its status and lines."""
-        self.shell.stdin.write(f"{shlex.join([self.path, *words])} >{self.output.name} 2>&1; echo $?\n".encode())
+        self.shell.stdin.write(f"{shlex.join([self.path, *words])} >{self.output.name} 2>{self.errors.name}; echo $?\n".encode())
         if not select.select([self.shell.stdout], [], [], SECONDS)[0]:
             os.killpg(self.shell.pid, signal.SIGKILL)
             self.shell.wait()
             self.shell = self.started()
             raise NoAnswer
         status = int(self.shell.stdout.readline())
-        return status, read_file(self.output.name).decode("ascii", "replace").splitlines()
+        lines = read_file(self.output.name).decode("ascii", "replace").splitlines()
+        return status, lines + self.complaints(status)
+
+    def complaints(self, status: int) -> list[str]:
+        """What stands on the standard error and doesn't belong there."""
+        errors = read_file(self.errors.name)
+        is_right = POINTER.fullmatch(errors) if status == REFUSED else not errors
+        return [] if is_right else [f"standard error: {line}" for line in errors.decode("ascii", "replace").splitlines()]
 
     def run(self, files: dict[str, bytes], *words: str, reader: str = "") -> Run:
         """Its answer to these words where these files and no other are there, with the lines that the command `reader` prints of

@@ -199,8 +199,8 @@ def set_state(flow, point) -> Optional[State]:
     return hint_state(hint) if hint is not None else None
 
 
-def brought(flow, point, state: State):
-    """What a point with this state brings along its edges: each head, with the state in which control comes there.
+def brought_along(flow, point, state: State):
+    """What a point with this state brings along its edges: each edge, with the state in which control comes to its head.
 
     An exception leaves the state as it was before the instruction. A Sibling edge leaves the function and brings nothing.
     """
@@ -208,15 +208,26 @@ def brought(flow, point, state: State):
         after = move(state, flow.insn[point])
     except Broken:
         after = None
-    for edge in sorted(flow.edges[point]):
+    for edge in flow.edges[point]:
         if edge.kind == "Fixup":
-            yield edge.to, state
+            yield edge, state
         elif edge.kind != "Sibling" and after is not None:
-            yield edge.to, after
+            yield edge, after
+
+
+def brought(flow, point, state: State):
+    """The same by the heads of the edges."""
+    for edge, there in brought_along(flow, point, state):
+        yield edge.to, there
 
 
 def kept_states(flow) -> dict:
-    """The state that is kept for each point that is reached, level by level.
+    """The state that is kept for each point that is reached."""
+    return {point: state for level in kept_levels(flow) for point, state in level.items()}
+
+
+def kept_levels(flow) -> list[dict]:
+    """The points that are kept, each with its state, by the level on which it is kept first.
 
     Level 0 are the entries and the hinted points whose hint sets a state. A later level are the points that the level before comes
     to and that have no state yet, each with the least state that comes to it; and the RESTOREs of that level's SAVEs, with the same
@@ -230,8 +241,10 @@ def kept_states(flow) -> dict:
         level.update((point, INITIAL) for point in flow.sites.arrive(entry) if not flow.is_restore(point))
     level.update((point, set_state(flow, point)) for point in flow.points if set_state(flow, point) is not None)
     level = {point: state for point, state in level.items() if not flow.is_unchecked(flow.owner[point])}
-    kept: dict = {}
+    kept: set = set()
+    levels = []
     while level:
+        levels.append(level)
         kept.update(level)
         following: dict = {}
         for point, state in level.items():
@@ -242,4 +255,4 @@ def kept_states(flow) -> dict:
             for restore in restored.get(point, []):
                 following[restore] = state
         level = following
-    return kept
+    return levels

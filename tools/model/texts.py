@@ -18,12 +18,17 @@ REGISTERS = ["undef", "prev", "dx", "di", "bp", "sp", "r10", "r13", "(bp)", "(sp
 KINDS = ["undefined", "end", "call", "regs", "partial"]
 
 
-def row_text(object, place, row) -> str:
-    """A row of the unwind table, as `dump` prints it."""
+def row_words(row) -> str:
+    """What a row of the unwind table says."""
     cfa = f"{REGISTERS[row.sp_reg]}{row.sp_offset:+d}"
     bp = f"{REGISTERS[row.bp_reg]}{row.bp_offset:+d}"
     signal = " signal" if row.signal else ""
-    return f"{place_text(object, place)}: {KINDS[row.kind]} cfa {cfa} bp {bp}{signal}"
+    return f"{KINDS[row.kind]} cfa {cfa} bp {bp}{signal}"
+
+
+def row_text(object, place, row) -> str:
+    """A row of the unwind table, as `dump` prints it."""
+    return f"{place_text(object, place)}: {row_words(row)}"
 
 
 WARNINGS = {

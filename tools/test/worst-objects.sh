@@ -5,8 +5,8 @@
 #   worst-objects.sh [NAME..]    all of them, or those of these names
 # SCALE=N makes all an Nth as large, and the limits an Nth as well; ALLOWED=N allows so many seconds in the place of 10. STACK=KIB runs the
 # program with so small a stack, MEMORY=MIB with so much memory at most (5,000), SECONDS_MOST=N with so much time at most (60);
-# KEEP=FOLDER keeps the objects. COMMAND=sites or cfi runs that command in the place of `check`, without options of `check` alone; it may
-# also accept what `check` does not.
+# KEEP=FOLDER keeps the objects. COMMAND=sites, cfi or show runs that command in the place of `check`, without options of `check` alone; it
+# may also accept what `check` does not. COMMAND="check --backtrace" runs that.
 #
 # `.ci/run` runs one of them alone, with SCALE=4 and MEMORY=196: `shared-table`, in which 250 jumps share a table of 250,000 entries, in
 # all 62 million edges. These edges alone would take 500 MB: they have to stand once.
@@ -55,8 +55,10 @@ for line in subprocess.run([sys.executable, make], capture_output=True, text=Tru
     if other:
         if not command.startswith("check "):
             continue
-        command = " ".join([other, *(word for word in command.split()[1:] if not word.startswith("--") or word.startswith(SHARED))])
-        statuses += "0"
+        first, *more = other.split()
+        named = [word for word in command.split()[1:] if first == "check" or not word.startswith("--") or word.startswith(SHARED)]
+        command = " ".join([first, *(word for word in named if first != "show" or word != "OUT"), *more])
+        statuses += "0" if first != "check" else ""
     object = f"{name}.o"
     tried += 1
     if not os.path.exists(object):

@@ -1,0 +1,7 @@
+	.text
+	.globl	f
+	.type	f, @function
+f:	ret
+	push	%rbx
+	ret
+	.size	f, . - f

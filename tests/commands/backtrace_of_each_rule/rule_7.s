@@ -1,0 +1,7 @@
+	.text
+	.globl	f
+	.type	f, @function
+f:	push	%rsp
+	pop	%rsp
+	ret
+	.size	f, . - f

@@ -1,0 +1,6 @@
+	.text
+	.globl	f
+	.type	f, @function
+f:	mov	$1, %ebp
+	ret
+	.size	f, . - f

@@ -1,0 +1,6 @@
+	.text
+	.globl	f
+	.type	f, @function
+f:	pop	%rbx
+	ret
+	.size	f, . - f

@@ -1,0 +1,6 @@
+	.text
+	.globl	f
+	.type	f, @function
+f:	call	g
+	ret
+	.size	f, . - f
