@@ -4,7 +4,7 @@ ghost use Rattle.std.specs.Prelude.{◌≡◌, ◌++◌, [], OnErr, OnOk, Some, 
 ghost use Rattle.ot_base.specs.PlaceText.{with_sign};
 ghost use Rattle.ot_base.specs.RowText.{kind_name, register_name};
 ghost use Rattle.state_defs.specs.Row.{bp_offset_of, bp_reg_of, end_number, row_of, sp_offset_of, sp_reg_of};
-ghost use Rattle.code_listing.specs.States.{besides_row, kept_words, state_words};
+ghost use Rattle.code_listing.specs.States.{besides_row, frame_words, kept_words, state_words};
 
 use ot_base::NoMemory;
 use state_defs::{BpHome, Depth, EndKind, State};
@@ -163,6 +163,20 @@ impl fmt::Display for BesidesRow {
     }
 }
 
+/// The words of a state in a frame.
+#[derive(Clone, Copy)]
+struct FrameWords(State);
+
+impl fmt::Display for FrameWords {
+    ghost output = { λ s. Some (frame_words s.0) };
+
+    fn fmt<W: fmt::Write>(&self, f: &mut fmt::Formatter<W>) -> fmt::Result {
+        let row = row_of(self.0);
+        let besides = BesidesRow(self.0);
+        write!(f, "{row}{besides}")
+    }
+}
+
 /// The words of a state.
 #[derive(Clone, Copy)]
 pub(crate) struct StateWords(pub(crate) State);
@@ -170,10 +184,12 @@ pub(crate) struct StateWords(pub(crate) State);
 impl fmt::Display for StateWords {
     ghost output = { λ s. Some (state_words s.0) };
 
+    #[tactic(auto, unfolding(crate::specs::States::state_words))]
     fn fmt<W: fmt::Write>(&self, f: &mut fmt::Formatter<W>) -> fmt::Result {
-        let row = row_of(self.0);
-        let besides = BesidesRow(self.0);
-        write!(f, "{row}{besides}")
+        match self.0 {
+            State::Ended(kind) => write!(f, "ended: {}", end_word(kind)),
+            State::Live { .. } | State::Regs { .. } => write!(f, "{}", FrameWords(self.0)),
+        }
     }
 }
 
@@ -193,7 +209,7 @@ impl fmt::Display for KeptWords {
 }
 
 /// Appends the words of the state that is kept at a point: its row as `dump` prints it, and the depth of rsp where the frame's top is
-/// counted from rbp; or `not reached` where none is kept.
+/// counted from rbp; `ended: ` and the row's kind where the stack has ended; or `not reached` where none is kept.
 ///
 /// # Errors
 ///

@@ -1,10 +1,9 @@
 use Rattle.std.proofs.Common.{sym, rules}
 use Rattle.ot_base.specs.RowText.{row_words}
-use Rattle.code_listing.specs.States.{state_words}
-use Rattle.code_listing.proofs.states.StateWordsDisplay.fmt.Goals as goal
+use Rattle.code_listing.proofs.states.FrameWordsDisplay.fmt.Goals as goal
 
 pub returns-clause-writes : goal.returns-clause-writes
-unfolding state_words row_words
+unfolding row_words
 returns-clause-writes g c =
     let e = c.row_of-row.ensures in
     rw (sym e.kind, sym e.top, sym e.offset, sym e.home, sym e.home_offset, sym e.signal) (search rules)
