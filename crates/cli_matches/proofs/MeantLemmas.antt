@@ -30,7 +30,7 @@ use Rattle.cli_matches.proofs.Built.{Enters, cfa_enters, cfi_enters, check_enter
 use Rattle.cli_matches.proofs.OptionFacts.{AllAre, HasOptions, dashed, start_of}
 use Rattle.cli_matches.proofs.OptionReads.{SaysFiles, each_said, each_value_said, files_said, line_passes, map_said, rewriting_said}
 use Rattle.cli_matches.proofs.OptionWalk.{is_own, no_fault, or_case, places}
-use Rattle.cli_matches.proofs.PlainReads.{AsksMaybe, AsksOne, AsksTwo, demo_asks, explain_alone, explain_asks, file_asks, find_asks, merge_asks, one_found, one_level, two_found, two_level, unwind_asks}
+use Rattle.cli_matches.proofs.PlainReads.{AsksOne, AsksTwo, demo_asks, explain_alone, explain_asks, file_asks, find_asks, merge_asks, one_found, one_level, two_found, two_level, unwind_asks}
 use Rattle.cli_matches.proofs.Rewritings.{check_facts, check_switches, common_facts, common_switches, entry_facts, entry_switches, names_alone, show_facts, show_known, show_switches, show_values}
 
 -- clap takes the words, and its matches say the command
