@@ -30,7 +30,7 @@ use Rattle.cli_matches.proofs.Built.{Enters, cfa_enters, cfi_enters, check_enter
 use Rattle.cli_matches.proofs.OptionFacts.{AllAre, HasOptions, dashed, start_of}
 use Rattle.cli_matches.proofs.OptionReads.{SaysFiles, each_said, each_value_said, files_said, line_passes, map_said, rewriting_said}
 use Rattle.cli_matches.proofs.OptionWalk.{is_own, no_fault, or_case, places}
-use Rattle.cli_matches.proofs.PlainReads.{AsksMaybe, AsksOne, AsksTwo, demo_asks, explain_alone, explain_asks, file_asks, find_asks, merge_asks, one_found, one_level, two_found, two_level, unwind_asks}
+use Rattle.cli_matches.proofs.PlainReads.{AsksOne, AsksTwo, demo_asks, explain_alone, explain_asks, file_asks, find_asks, merge_asks, one_found, one_level, two_found, two_level, unwind_asks}
 use Rattle.cli_matches.proofs.Rewritings.{check_facts, check_switches, common_facts, common_switches, entry_facts, entry_switches, names_alone, show_facts, show_known, show_switches, show_values}
 
 -- clap takes the words, and its matches say the command
@@ -265,26 +265,26 @@ demo_one (number ∷ (more ∷ words)) meant e = cc
 abbrev X : Shape
 X = leaf_of explain_app
 
+explain_words : (words : List Word) (meant : Command) → asked the.Explain words words ≡ Some meant → list_all (λ w. not (is_option w)) words ≡ true → Reads (codes "explain" ∷ words) meant
+unfolding asked
+explain_words [] meant is all = record {
+  takes = line_takes (codes "explain") X explain_enters [] explain_alone.passes_alone;
+  says = subst (λ found. Says found meant) (sym (line_finds (codes "explain") X explain_enters []))
+      (subst (Says (Some (codes "explain", rows_after X.rules [] []))) (some_is (explain None) meant is) (refl, explain_alone.reads_none));
+}
+explain_words (topic ∷ []) meant is all =
+    let is_name = (not_true (is_option topic) _ all).0 in
+    record {
+      takes = line_takes (codes "explain") X explain_enters (topic ∷ []) (one_level X (codes "TOPIC") explain_asks topic is_name);
+      says = subst (λ found. Says found meant) (sym (line_finds (codes "explain") X explain_enters (topic ∷ [])))
+          (subst (Says (Some (codes "explain", rows_after X.rules [] (topic ∷ [])))) (some_is (explain (Some topic)) meant is) (refl, one_found X (codes "TOPIC") explain_asks topic is_name));
+    }
+explain_words (topic ∷ (more ∷ rest)) meant is all = cc
+
 explain_read : (words : List Word) (meant : Command) → line_meaning the.Explain words ≡ Ok meant → Reads (codes "explain" ∷ words) meant
 explain_read words meant e =
     let own = own_words the.Explain (λ w. refl) words meant e in
-    go words own.0 own.1
-  where
-    go : (words : List Word) → asked the.Explain words words ≡ Some meant → list_all (λ w. not (is_option w)) words ≡ true → Reads (codes "explain" ∷ words) meant
-    unfolding asked
-    go [] is all = record {
-      takes = line_takes (codes "explain") X explain_enters [] explain_alone.passes_alone;
-      says = subst (λ found. Says found meant) (sym (line_finds (codes "explain") X explain_enters []))
-          (subst (Says (Some (codes "explain", rows_after X.rules [] []))) (some_is (explain None) meant is) (refl, explain_alone.reads_none));
-    }
-    go (topic ∷ []) is all =
-        let is_name = (not_true (is_option topic) _ all).0 in
-        record {
-          takes = line_takes (codes "explain") X explain_enters (topic ∷ []) (one_level X (codes "TOPIC") explain_asks topic is_name);
-          says = subst (λ found. Says found meant) (sym (line_finds (codes "explain") X explain_enters (topic ∷ [])))
-              (subst (Says (Some (codes "explain", rows_after X.rules [] (topic ∷ [])))) (some_is (explain (Some topic)) meant is) (refl, one_found X (codes "TOPIC") explain_asks topic is_name));
-        }
-    go (topic ∷ (more ∷ rest)) is all = cc
+    explain_words words meant own.0 own.1
 
 -- two words
 record IsTwo (name first second : Text) (words : List Word) (meant : Command) : Type 0 where
