@@ -239,6 +239,7 @@ lists_memory (stop.Refused (refusal.Layout fault)) text right h = absurd h
 lists_memory (stop.Refused (refusal.TooManyFiles count)) text right h = absurd h
 lists_memory (stop.Refused (refusal.Merge fault)) text right h = absurd h
 lists_memory (stop.Refused (refusal.Table fault)) text right h = absurd h
+lists_memory (stop.Refused (refusal.NoFunction function)) text right h = absurd h
 lists_memory (stop.PartMissing part told) text right h = absurd h
 lists_memory (stop.PartTooLong part told at) text right h = absurd h
 lists_memory (stop.PartRefused part why) text right h = absurd h

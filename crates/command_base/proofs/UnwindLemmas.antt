@@ -179,6 +179,7 @@ foreign_walk bytes text image o rows (stop.Refused (refusal.Layout why)) is held
 foreign_walk bytes text image o rows (stop.Refused (refusal.TooManyFiles count)) is held h = absurd h
 foreign_walk bytes text image o rows (stop.Refused (refusal.Merge why)) is held h = absurd h
 foreign_walk bytes text image o rows (stop.Refused (refusal.Table why)) is held h = absurd h
+foreign_walk bytes text image o rows (stop.Refused (refusal.NoFunction function)) is held h = absurd h
 foreign_walk bytes text image o rows (stop.Refused (refusal.TooMany what count)) is held h = absurd h
 foreign_walk bytes text image o rows (stop.Usage usage) is held h = absurd h
 foreign_walk bytes text image o rows (stop.PartMissing part file) is held h = absurd h

@@ -4,6 +4,7 @@ use Rattle.std.specs.Fmt.{decimal}
 use Rattle.elf_objects.specs.FaultText as elf
 use Rattle.elf_objects.specs.declared.fault.ElfFault.TheVariants as fault
 use Rattle.ot_base.specs.ListsFault as lists
+use Rattle.ot_base.specs.PlaceText.{escaped}
 use Rattle.orc_bytes.specs.FaultText as orc
 use Rattle.orc_walk.specs.FaultText as placed
 use Rattle.orc_walk.specs.ImageFaultText as image
@@ -13,7 +14,7 @@ use Rattle.site_lists.specs.FaultText as sites
 use Rattle.orc_merge.specs.FaultTexts.{layout_text, merge_text, table_text}
 use Rattle.command_base.specs.FlowText as flow
 use Rattle.command_base.specs.declared.refusal.Refusal.{Refusal}
-use Rattle.command_base.specs.declared.refusal.Refusal.TheVariants.{Malformed, Orc, Lists, Image, NoText, Unplaced, Unlinked, Unflowed, HasOrc, HasSites, Sites, HasFrames, Frames, TooMany, Layout, TooManyFiles, Merge, Table}
+use Rattle.command_base.specs.declared.refusal.Refusal.TheVariants.{Malformed, Orc, Lists, Image, NoText, Unplaced, Unlinked, Unflowed, HasOrc, HasSites, Sites, HasFrames, Frames, TooMany, Layout, TooManyFiles, Merge, Table, NoFunction}
 
 abbrev pub refusal_text : Refusal → List ℕ
 refusal_text (Malformed fault) = elf.fault_text fault
@@ -34,3 +35,4 @@ refusal_text (Layout fault) = layout_text fault
 refusal_text (TooManyFiles count) = codes "too many files: " ++ decimal count
 refusal_text (Merge fault) = merge_text fault
 refusal_text (Table fault) = table_text fault
+refusal_text (NoFunction name) = codes "no function " ++ escaped name.now

@@ -5,7 +5,7 @@ use object_code::LinkFaultText;
 use orc_bytes::OrcFault;
 use orc_merge::{LayoutFault, MergeFault, TableFault};
 use orc_walk::PlaceFault;
-use ot_base::ListsFault;
+use ot_base::{Escaped, ListsFault};
 use site_lists::SitesFault;
 use orc_walk::ImageFault;
 use std::fmt;
@@ -49,6 +49,8 @@ pub enum Refusal<'a> {
     Merge(MergeFault),
     /// The bytes of a merged table aren't one.
     Table(TableFault),
+    /// No code of the object is of a function of this name.
+    NoFunction { name: &'a str },
 }
 
 impl fmt::Display for Refusal<'_> {
@@ -79,6 +81,10 @@ impl fmt::Display for Refusal<'_> {
             Refusal::TooManyFiles { count } => write!(f, "too many files: {count}"),
             Refusal::Merge(fault) => write!(f, "{fault}"),
             Refusal::Table(fault) => write!(f, "{fault}"),
+            Refusal::NoFunction { name } => {
+                let name = Escaped(name.as_bytes());
+                write!(f, "no function {name}")
+            }
         }
     }
 }

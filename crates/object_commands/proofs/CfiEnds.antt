@@ -71,6 +71,7 @@ crowd map read lists o rows (stop.Refused (refusal.Layout fault)) is sound h = a
 crowd map read lists o rows (stop.Refused (refusal.TooManyFiles count)) is sound h = absurd h
 crowd map read lists o rows (stop.Refused (refusal.Merge fault)) is sound h = absurd h
 crowd map read lists o rows (stop.Refused (refusal.Table fault)) is sound h = absurd h
+crowd map read lists o rows (stop.Refused (refusal.NoFunction function)) is sound h = absurd h
 crowd map read lists o rows (stop.Usage usage) is sound h = absurd h
 crowd map read lists o rows (stop.Missing told) is sound h = absurd h
 crowd map read lists o rows (stop.TooLong told at) is sound h = absurd h

@@ -81,7 +81,7 @@ module _ (names : Option (List ℕ)) (held : Content) where
       by_name None same a b = a ∙ sym b
       by_name (Some file) same a b = a.are ∙ ap lists_with (one_text MAX_FILE_BYTES held file a.text b.text (sym a.may) (sym b.may)) ∙ sym b.are
 
-  named_in : (content : Option Content) (lists : NameLists) → content ≡ Some held → HasNames content names lists → HasNames (Some held) names lists
+  pub named_in : (content : Option Content) (lists : NameLists) → content ≡ Some held → HasNames content names lists → HasNames (Some held) names lists
   named_in content lists c h = subst (λ (k : Option Content). HasNames k names lists) c h
 
 -- ---- what it promises
@@ -126,12 +126,12 @@ entry_warned map options input names before after out out' x (stopped s h t) is 
 -- ---- where IN is in order
 
 -- the object and the lists of names are those that were read
-same_object : (map : Map) (input : List ℕ) (names : Option (List ℕ)) (read : List ℕ) (o p : Elf) (others : NameLists) (held : Content) (content : Option Content) → content ≡ Some held → reading held input MAX_FILE_BYTES ≡ Ok read → IsObject read o → MayBeChecked map content input names p others → p ≡ o
+pub same_object : (map : Map) (input : List ℕ) (names : Option (List ℕ)) (read : List ℕ) (o p : Elf) (others : NameLists) (held : Content) (content : Option Content) → content ≡ Some held → reading held input MAX_FILE_BYTES ≡ Ok read → IsObject read o → MayBeChecked map content input names p others → p ≡ o
 same_object map input names read o p others held content c is of may =
     let same : may.read ≡ read = one_text MAX_FILE_BYTES held input may.read read (is_read MAX_FILE_BYTES input may.read held content c may.is_read.may) is in
     one_object read p o (subst (λ (b : List ℕ). IsObject b p) same may.is) of
 
-same_lists : (map : Map) (input : List ℕ) (names : Option (List ℕ)) (p : Elf) (lists others : NameLists) (held : Content) (content : Option Content) → content ≡ Some held → HasNames (Some held) names lists → MayBeChecked map content input names p others → others ≡ lists
+pub same_lists : (map : Map) (input : List ℕ) (names : Option (List ℕ)) (p : Elf) (lists others : NameLists) (held : Content) (content : Option Content) → content ≡ Some held → HasNames (Some held) names lists → MayBeChecked map content input names p others → others ≡ lists
 same_lists map input names p lists others held content c has may = one_lists names held others lists (named_in names held content others c may.is_read.named) has
 
 -- where there are no warnings no rule is broken
@@ -145,7 +145,7 @@ none_warned : (o : Coded) (lists : NameLists) (options : EntryOptions) (warnings
 none_warned o lists options [] are unbroken = refl
 none_warned o lists options (w ∷ warnings) are unbroken = absurd (unbroken w.place w.rule w.a w.b ((are.all w).0 (here w warnings)))
 
-stop_left : OneOutcome → (s : CommandStop) (map : Map) (input : List ℕ) (names : Option (List ℕ)) (read : List ℕ) (o : Elf) (lists : NameLists) (held : Content) (before after : Outside) (out out' : Output) (x : Status) → before.content ≡ Some held → reading held input MAX_FILE_BYTES ≡ Ok read → HasNames (Some held) names lists → IsObject read o → IsInOrder (coded_by map o) → StopsEntry map input names before after s → Concludes s out out' x → IsAnswered x
+pub stop_left : OneOutcome → (s : CommandStop) (map : Map) (input : List ℕ) (names : Option (List ℕ)) (read : List ℕ) (o : Elf) (lists : NameLists) (held : Content) (before after : Outside) (out out' : Output) (x : Status) → before.content ≡ Some held → reading held input MAX_FILE_BYTES ≡ Ok read → HasNames (Some held) names lists → IsObject read o → IsInOrder (coded_by map o) → StopsEntry map input names before after s → Concludes s out out' x → IsAnswered x
 stop_left one s map input names read o lists held before after out out' x c is has of order (unread h) t = unread_left MAX_FILE_BYTES s input read held before after out out' x c is h t
 stop_left one s map input names read o lists held before after out out' x c is has of order (without_names other may h) t = names_left s names lists held before after out out' x c has h t
 stop_left one s map input names read o lists held before after out out' x c is has of order (refused other others was h) t =
@@ -196,6 +196,7 @@ faulty_line (stop.Refused (refusal.Layout fault)) map input names held read file
 faulty_line (stop.Refused (refusal.TooManyFiles count)) map input names held read file text is given said h e = absurd h
 faulty_line (stop.Refused (refusal.Merge fault)) map input names held read file text is given said h e = absurd h
 faulty_line (stop.Refused (refusal.Table fault)) map input names held read file text is given said h e = absurd h
+faulty_line (stop.Refused (refusal.NoFunction function)) map input names held read file text is given said h e = absurd h
 faulty_line (stop.Usage usage) map input names held read file text is given said h e = absurd h
 faulty_line (stop.Missing told) map input names held read file text is given said h e = absurd h
 faulty_line (stop.TooLong told at) map input names held read file text is given said h e = absurd h
@@ -210,7 +211,7 @@ names_refuse s map input names held read before after c is (names_unread file gi
 names_refuse s map input names held read before after c is (no_names file text given may h) e = faulty_line s map input names held read file text is given (is_read MAX_FILE_BYTES file text held before.content c may) h e
 names_refuse stop.NoMemory map input names held read before after c is no_lists e = absurd (not_memory stop.NoMemory e refl)
 
-entry_refuse : (s : CommandStop) (map : Map) (input : List ℕ) (names : Option (List ℕ)) (held : Content) (before after : Outside) → before.content ≡ Some held → StopsEntry map input names before after s → status_of s ≡ Refused → RefusesEntry map input names held s
+pub entry_refuse : (s : CommandStop) (map : Map) (input : List ℕ) (names : Option (List ℕ)) (held : Content) (before after : Outside) → before.content ≡ Some held → StopsEntry map input names before after s → status_of s ≡ Refused → RefusesEntry map input names held s
 entry_refuse s map input names held before after c (unread h) e = input_unread (unreadable MAX_FILE_BYTES s input held before after c h e)
 entry_refuse s map input names held before after c (without_names read may h) e = names_refuse s map input names held read before after c (is_read MAX_FILE_BYTES input read held before.content c may) h e
 entry_refuse s map input names held before after c (refused read lists was h) e =
@@ -234,7 +235,7 @@ unrefused one s map input names held read o lists is has of order (list_faulty o
 unrefused one s map input names held read o lists is has of order (input_refused other others was had h some) =
     some (order_excluded one s map read o of order (subst (λ (b : List ℕ). IsUncheckable map b s) (one_text MAX_FILE_BYTES held input other read was is) h))
 
-unrefused_in : OneOutcome → (s : CommandStop) (map : Map) (input : List ℕ) (names : Option (List ℕ)) (held : Content) (o : Elf) (lists : NameLists) (content : Option Content) → content ≡ Some held → MayBeChecked map content input names o lists → RefusesEntry map input names held s → ⊥
+pub unrefused_in : OneOutcome → (s : CommandStop) (map : Map) (input : List ℕ) (names : Option (List ℕ)) (held : Content) (o : Elf) (lists : NameLists) (content : Option Content) → content ≡ Some held → MayBeChecked map content input names o lists → RefusesEntry map input names held s → ⊥
 unrefused_in one s map input names held o lists content c may why =
     unrefused one s map input names held may.read o lists (is_read MAX_FILE_BYTES input may.read held content c may.is_read.may) (named_in names held content lists c may.is_read.named) may.is may.in_order why
 
@@ -244,7 +245,7 @@ unchecked_no_usage s map bytes (unlinked o is some why worded) e = cc
 unchecked_no_usage s map bytes (unflowed o is some linked why) e = cc
 unchecked_no_usage s map bytes no_memory e = cc
 
-stop_no_usage : (s : CommandStop) (map : Map) (input : List ℕ) (names : Option (List ℕ)) (before after : Outside) → StopsEntry map input names before after s → status_of s ≢ Usage
+pub stop_no_usage : (s : CommandStop) (map : Map) (input : List ℕ) (names : Option (List ℕ)) (before after : Outside) → StopsEntry map input names before after s → status_of s ≢ Usage
 stop_no_usage s map input names before after (unread h) e = read_no_usage MAX_FILE_BYTES s input before after h e
 stop_no_usage s map input names before after (without_names read may h) e = names_no_usage s names before after h e
 stop_no_usage s map input names before after (refused read lists was h) e = unchecked_no_usage s map read h e
@@ -263,7 +264,7 @@ unchecked_no_fault s map bytes (unlinked o is some why worded) e = cc
 unchecked_no_fault s map bytes (unflowed o is some linked why) e = cc
 unchecked_no_fault s map bytes no_memory e = cc
 
-stop_fault : (s : CommandStop) (map : Map) (input : List ℕ) (names : Option (List ℕ)) (before after : Outside) → StopsEntry map input names before after s → status_of s ≡ FileFault → Rose before.faults after.faults
+pub stop_fault : (s : CommandStop) (map : Map) (input : List ℕ) (names : Option (List ℕ)) (before after : Outside) → StopsEntry map input names before after s → status_of s ≡ FileFault → Rose before.faults after.faults
 stop_fault s map input names before after (unread h) e = read_fault MAX_FILE_BYTES s input before after h e
 stop_fault s map input names before after (without_names read may h) e = names_fault s names before after h e
 stop_fault s map input names before after (refused read lists was h) e = absurd (unchecked_no_fault s map read h e)

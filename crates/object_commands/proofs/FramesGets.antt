@@ -99,6 +99,7 @@ no_link (stop.Refused (refusal.Layout fault)) map o f is h = absurd h
 no_link (stop.Refused (refusal.TooManyFiles count)) map o f is h = absurd h
 no_link (stop.Refused (refusal.Merge fault)) map o f is h = absurd h
 no_link (stop.Refused (refusal.Table fault)) map o f is h = absurd h
+no_link (stop.Refused (refusal.NoFunction function)) map o f is h = absurd h
 no_link (stop.PartMissing part told) map o f is h = absurd h
 no_link (stop.PartTooLong part told at) map o f is h = absurd h
 no_link (stop.PartRefused part why) map o f is h = absurd h

@@ -17,6 +17,9 @@ pub mod Empty
 pub mod EntryUncheckable
 pub mod EntryEnds
 pub mod EntryLaws
+mod ShowCode
+pub mod ShowLaws
+mod ShowLines
 pub mod LayoutLemmas
 pub mod ObjectLemmas
 pub mod SameParts

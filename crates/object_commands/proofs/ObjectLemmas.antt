@@ -50,6 +50,7 @@ foreign_part bytes o rows places (stop.Refused (refusal.Layout fault)) held h = 
 foreign_part bytes o rows places (stop.Refused (refusal.TooManyFiles count)) held h = absurd h
 foreign_part bytes o rows places (stop.Refused (refusal.Merge fault)) held h = absurd h
 foreign_part bytes o rows places (stop.Refused (refusal.Table fault)) held h = absurd h
+foreign_part bytes o rows places (stop.Refused (refusal.NoFunction function)) held h = absurd h
 foreign_part bytes o rows places (stop.Usage usage) held h = absurd h
 foreign_part bytes o rows places (stop.Missing file) held h = absurd h
 foreign_part bytes o rows places (stop.TooLong file limit) held h = absurd h

@@ -75,6 +75,7 @@ no_link (stop.Refused (refusal.Layout fault)) map bytes o met is says h = absurd
 no_link (stop.Refused (refusal.TooManyFiles count)) map bytes o met is says h = absurd h
 no_link (stop.Refused (refusal.Merge fault)) map bytes o met is says h = absurd h
 no_link (stop.Refused (refusal.Table fault)) map bytes o met is says h = absurd h
+no_link (stop.Refused (refusal.NoFunction function)) map bytes o met is says h = absurd h
 no_link (stop.PartMissing part told) map bytes o met is says h = absurd h
 no_link (stop.PartTooLong part told at) map bytes o met is says h = absurd h
 no_link (stop.PartRefused part why) map bytes o met is says h = absurd h

@@ -115,6 +115,7 @@ faulty_line (stop.Refused (refusal.Layout fault)) map input names held read file
 faulty_line (stop.Refused (refusal.TooManyFiles count)) map input names held read file text is given said h e = absurd h
 faulty_line (stop.Refused (refusal.Merge fault)) map input names held read file text is given said h e = absurd h
 faulty_line (stop.Refused (refusal.Table fault)) map input names held read file text is given said h e = absurd h
+faulty_line (stop.Refused (refusal.NoFunction function)) map input names held read file text is given said h e = absurd h
 faulty_line (stop.Usage usage) map input names held read file text is given said h e = absurd h
 faulty_line (stop.Missing told) map input names held read file text is given said h e = absurd h
 faulty_line (stop.TooLong told at) map input names held read file text is given said h e = absurd h

@@ -11,6 +11,8 @@ pub mod Cfa
 pub mod FramesRefused
 pub mod Entry
 pub mod EntryRefused
+pub mod Show
+pub mod ShowRefused
 pub mod Layouts
 pub mod MergedObjects
 pub mod Alike

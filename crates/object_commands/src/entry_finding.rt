@@ -21,7 +21,7 @@ use std::alloc::Global;
 use x86_map::Map;
 
 /// Reads the code of an object by an opcode map, or tells why a command stops that can't.
-fn link<'o, 'a>(
+pub(crate) fn link<'o, 'a>(
     alloc: Global,
     map: Map,
     object: &'o Object<'a>,
@@ -38,7 +38,7 @@ fn link<'o, 'a>(
 }
 
 /// The control-flow graph of an object whose code is read, or why a command stops that can't make it.
-fn graph_of<'a>(
+pub(crate) fn graph_of<'a>(
     alloc: Global,
     linked: &Linked<'_, '_>,
     lists: &Lists,

@@ -1,5 +1,6 @@
 //! The commands that add to an object what a table or a list tells of its code, or read it back: `sites` and `list`, `cfi` and `cfa`, `merge`
-//! and `find`; and `entry`, which checks the code against the rules on entry code.
+//! and `find`; `entry`, which checks the code against the rules on entry code, and `show`, which prints the
+//! program as the checker sees it.
 #![tactic(auto)]
 
 mod entry_answering;
@@ -18,6 +19,11 @@ mod merge_laws;
 mod merged_objects;
 mod merging;
 mod rule_line;
+mod show_answering;
+mod show_code;
+mod show_printing;
+mod show_telling;
+mod show_words;
 mod sites_adding;
 mod sites_code;
 mod sites_listing;
@@ -35,6 +41,8 @@ pub use frames_words::CfiAsked;
 pub use layouts::{MAX_LAYOUT_BYTES, MOST_FILES};
 pub use merge_laws::merged_rows_are_found;
 pub use merging::merge;
+pub use show_telling::show;
+pub use show_words::ShowAsked;
 pub use sites_adding::sites;
 pub use sites_listing::list;
 pub use sites_words::SitesAsked;

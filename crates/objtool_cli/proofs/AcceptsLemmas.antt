@@ -175,6 +175,7 @@ stopped_unlisted (stop.Refused (refusal.Layout why)) text out out' x right h t =
 stopped_unlisted (stop.Refused (refusal.TooManyFiles count)) text out out' x right h t = absurd h
 stopped_unlisted (stop.Refused (refusal.Merge why)) text out out' x right h t = absurd h
 stopped_unlisted (stop.Refused (refusal.Table why)) text out out' x right h t = absurd h
+stopped_unlisted (stop.Refused (refusal.NoFunction function)) text out out' x right h t = absurd h
 stopped_unlisted (stop.Refused (refusal.TooMany what count)) text out out' x right h t = absurd h
 stopped_unlisted stop.NoMemory text out out' x right h t = inr (concluded_no_memory out out' x t)
 stopped_unlisted (stop.Usage usage) text out out' x right h t = absurd h

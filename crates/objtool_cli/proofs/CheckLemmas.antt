@@ -101,6 +101,7 @@ crowd_refusal o read lists options rows (stop.Refused (refusal.Layout why)) is s
 crowd_refusal o read lists options rows (stop.Refused (refusal.TooManyFiles count)) is sound h = absurd h
 crowd_refusal o read lists options rows (stop.Refused (refusal.Merge why)) is sound h = absurd h
 crowd_refusal o read lists options rows (stop.Refused (refusal.Table why)) is sound h = absurd h
+crowd_refusal o read lists options rows (stop.Refused (refusal.NoFunction function)) is sound h = absurd h
 crowd_refusal o read lists options rows stop.NoMemory is sound h = tt
 crowd_refusal o read lists options rows (stop.Usage usage) is sound h = absurd h
 crowd_refusal o read lists options rows (stop.PartMissing part file) is sound h = absurd h

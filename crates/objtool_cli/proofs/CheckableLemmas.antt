@@ -98,6 +98,7 @@ not_told one o (refusal.Layout why) can h = h
 not_told one o (refusal.TooManyFiles count) can h = h
 not_told one o (refusal.Merge why) can h = h
 not_told one o (refusal.Table why) can h = h
+not_told one o (refusal.NoFunction function) can h = h
 not_told one o (refusal.TooMany counted.Sections count) can h = not_faulty one o _ (λ e. cc) can h
 not_told one o (refusal.TooMany counted.Symbols count) can h = h
 not_told one o (refusal.TooMany counted.TextBytes count) can h = h

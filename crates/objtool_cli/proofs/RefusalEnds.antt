@@ -74,6 +74,7 @@ faulty_line (stop.Refused (refusal.Layout why)) input options names held read fi
 faulty_line (stop.Refused (refusal.TooManyFiles count)) input options names held read file text is given said h e = absurd h
 faulty_line (stop.Refused (refusal.Merge why)) input options names held read file text is given said h e = absurd h
 faulty_line (stop.Refused (refusal.Table why)) input options names held read file text is given said h e = absurd h
+faulty_line (stop.Refused (refusal.NoFunction function)) input options names held read file text is given said h e = absurd h
 faulty_line (stop.Refused (refusal.TooMany what count)) input options names held read file text is given said h e = absurd h
 faulty_line stop.NoMemory input options names held read file text is given said h e = absurd (memory_not_refused e)
 faulty_line (stop.Usage usage) input options names held read file text is given said h e = absurd h
