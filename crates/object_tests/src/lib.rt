@@ -7,4 +7,6 @@ mod code;
 #[cfg(test)]
 mod readers;
 #[cfg(test)]
+mod readings;
+#[cfg(test)]
 mod sites;

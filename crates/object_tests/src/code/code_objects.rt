@@ -1,9 +1,8 @@
 //! Small objects in memory.
 
-use demo_objects::{RelSpec, Spec, SymSpec, build};
+use demo_objects::{RelSpec, Spec, SymSpec, build, section};
 use elf_objects::{
-    Home, Reloc, SHF_ALLOC, SHF_EXECINSTR, SHT_PROGBITS, STB_GLOBAL, STB_LOCAL, STT_FUNC,
-    STT_SECTION,
+    Home, Reloc, SHF_ALLOC, SHF_EXECINSTR, STB_GLOBAL, STB_LOCAL, STT_FUNC, STT_SECTION,
 };
 use elf_write::NewSection;
 use ot_base::NoMemory;
@@ -20,20 +19,6 @@ pub struct Example<'a> {
     pub alternatives: &'a [u8],
     /// Its relocations. Symbol 1 stands for `.text`.
     pub relocs: &'a [Reloc],
-}
-
-/// A section with a body.
-fn section(alloc: Global, name: &[u8], flags: u64, body: &[u8]) -> Result<NewSection, NoMemory> {
-    Ok(NewSection {
-        name: Vec::from_slice(alloc, name)?,
-        kind: SHT_PROGBITS,
-        flags,
-        link: 0,
-        info: 0,
-        align: 1,
-        entsize: 0,
-        body: Vec::from_slice(alloc, body)?,
-    })
 }
 
 /// A symbol at the start of section 1.

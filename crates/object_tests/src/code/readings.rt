@@ -1,16 +1,8 @@
-//! Objects and their code, read. What is read is told by no contract, so that tests are proved without those of the readers.
+//! The code of objects, read. What is read is told by no contract, so that tests are proved without those of the readers.
 
 use elf_objects::{MAX_FILE_BYTES, Object};
 use object_code::{LinkFault, LinkFaultText, Linked, Map};
 use std::alloc::Global;
-
-/// The object that some bytes are.
-pub fn object_of<'a>(alloc: Global, bytes: &'a [u8]) -> Option<Object<'a>> {
-    if bytes.len() as u64 > MAX_FILE_BYTES {
-        return None;
-    }
-    Object::parse(alloc, bytes).ok()
-}
 
 /// The code of an object, or why it isn't read.
 pub fn link<'o, 'a>(alloc: Global, object: &'o Object<'a>) -> Result<Linked<'o, 'a>, LinkFault> {
@@ -27,10 +19,7 @@ pub fn code_of<'o, 'a>(alloc: Global, object: &'o Object<'a>) -> Option<Linked<'
 
 /// Why the code of an object isn't read; where it is, nothing.
 pub fn fault_of(alloc: Global, object: &Object<'_>) -> Option<LinkFault> {
-    match link(alloc, object) {
-        Ok(_) => None,
-        Err(fault) => Some(fault),
-    }
+    link(alloc, object).err()
 }
 
 /// The text of a fault of `.text` with this body.

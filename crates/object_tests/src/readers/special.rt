@@ -1,7 +1,8 @@
 //! What is read of special sections.
 
 use crate::readers::builder::{CODE, DATA, Piece, object};
-use elf_objects::{Object, Reloc};
+use crate::readings::{object_of, special_of};
+use elf_objects::Reloc;
 use ot_base::Place;
 use special_sections::{Special, SpecialFault};
 use std::alloc::Global;
@@ -53,16 +54,25 @@ fn text(off: u64) -> Place {
     Place { sec: 1, off }
 }
 
-/// What the special sections of an object say whose sections from 3 on are these.
-fn read(
-    rt: &impl Abort,
-    alloc: Global,
-    pieces: &[Piece<'_>],
-) -> Result<Result<Special, SpecialFault>, Fail> {
-    let mut all = vec![in alloc; TEXT, DATA_PIECE]?;
-    all.extend_from_slice(pieces)?;
-    let bytes = object(alloc, &all)?.ok_or("the pieces make an object")?;
-    assert!(rt; bytes.len() < 1 << 32);
-    let parsed = Object::parse(alloc, &bytes).expect(rt, "an object");
-    Ok(Special::read(alloc, &parsed))
+/// The bytes of the object whose sections from 3 on are these.
+fn bytes_of(alloc: Global, pieces: &[Piece<'_>]) -> Option<Vec<u8>> {
+    let mut all = vec![in alloc; TEXT, DATA_PIECE].ok()?;
+    all.extend_from_slice(pieces).ok()?;
+    object(alloc, &all).ok()?
+}
+
+/// What the special sections of that object say, or why they aren't read. Where the pieces make no object, it is as if there were
+/// no memory.
+fn read(alloc: Global, pieces: &[Piece<'_>]) -> Result<Special, SpecialFault> {
+    let bytes = bytes_of(alloc, pieces).ok_or(SpecialFault::NoMemory)?;
+    let object = object_of(alloc, &bytes).ok_or(SpecialFault::NoMemory)?;
+    special_of(alloc, &object)
+}
+
+/// Why the special sections of that object aren't read; where they are, nothing.
+fn fault_of(alloc: Global, pieces: &[Piece<'_>]) -> Option<SpecialFault> {
+    match read(alloc, pieces) {
+        Ok(_) => None,
+        Err(fault) => Some(fault),
+    }
 }

@@ -4,14 +4,13 @@ ghost use Rattle.std.specs.Prelude.{◌≡◌, ◌+◌, ◌≤◌, [], IfOk, len
 ghost use Rattle.alternatives.specs.Gathered.{plain_insns};
 ghost use Rattle.alternatives.specs.Texts.{text_bytes, AscendBySection};
 
-use crate::sites::example::{Entry, file_of};
+use crate::readings::{object_of, special_of};
+use crate::sites::example::{Entry, bytes_of};
 use alternatives::{AlternativesSite, Point, SectionText, SiteFault, SiteWhy, Sites};
-use elf_objects::Object;
 use operation_defs::{Insn, Op};
 use ot_base::Place;
 use special_sections::Special;
 use std::alloc::Global;
-use std::process::Abort;
 use std::test::Fail;
 use x86_text::{InsnList, Map, Text, TextFault};
 
@@ -47,31 +46,42 @@ fn two_texts<'a>(
     Ok(texts)
 }
 
-/// The special sections of an object.
-fn special_of(rt: &impl Abort, alloc: Global, file: &[u8]) -> Special {
-    assert!(rt; file.len() < 1 << 32);
-    let object = Object::parse(alloc, file).expect(rt, "an object");
-    Special::read(alloc, &object).expect(rt, "entries")
+/// The sites that the entries of an object make of its code and replacements, or the fault.
+fn build(
+    alloc: Global,
+    special: &Special,
+    code: &[u8],
+    replacements: &[u8],
+) -> Result<Sites, SiteFault>
+    requires short { length code.now + length replacements.now ≤ 16777216 }
+    requires few { length special.now.alternatives ≤ 8388608 }
+{
+    let mut insns = InsnList::new(alloc)?;
+    let Ok(texts) = two_texts(alloc, code, replacements, &mut insns) else {
+        return Err(SiteFault::NoMemory);
+    };
+    Sites::build(alloc, special, texts.as_slice(), insns)
 }
 
-/// The sites of an object of some code, replacements and entries, or the fault.
-fn sites_of(
-    rt: &impl Abort,
+/// The sites that these entries make of some code and replacements, or the fault. What they are is told by no contract.
+fn read(
     alloc: Global,
     code: &[u8],
     replacements: &[u8],
     entries: &[Entry],
-) -> Result<Result<Sites, SiteFault>, Fail>
-    requires { length code.now + length replacements.now ≤ 16777216 }
-{
-    let file = file_of(alloc, code, replacements, entries)?.ok_or(
-        "the code and its entries make an object",
-    )?;
-    let special = special_of(rt, alloc, &file);
-    assert!(rt; special.alternatives().len() <= 8388608);
-    let mut insns = InsnList::new(alloc)?;
-    let texts = two_texts(alloc, code, replacements, &mut insns)?;
-    Ok(Sites::build(alloc, &special, texts.as_slice(), insns))
+) -> Option<Result<Sites, SiteFault>> {
+    let bytes = bytes_of(alloc, code, replacements, entries)?;
+    let object = object_of(alloc, &bytes)?;
+    let special = special_of(alloc, &object).ok()?;
+    if code.len() > 100 || replacements.len() > 100 || special.alternatives().len() > 100 {
+        return None;
+    }
+    Some(build(alloc, &special, code, replacements))
+}
+
+/// The sites, where there is no fault.
+fn sites_of(alloc: Global, code: &[u8], replacements: &[u8], entries: &[Entry]) -> Option<Sites> {
+    read(alloc, code, replacements, entries)?.ok()
 }
 
 /// A point with what is known of it.

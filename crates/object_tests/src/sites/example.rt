@@ -2,7 +2,7 @@
 
 use crate::readers::builder::{CODE, DATA, Piece, object};
 use elf_objects::Reloc;
-use ot_base::{NoMemory, Place};
+use ot_base::Place;
 use std::alloc::{AllocError, Global};
 
 /// An entry of an example. Its original is in section 1, the code.
@@ -51,15 +51,15 @@ fn entry_relocs(alloc: Global, entries: &[Entry]) -> Result<Vec<Reloc>, AllocErr
     Ok(out)
 }
 
-/// The object of some code, replacements and entries, if they make one.
-pub fn file_of<'a>(
+/// The bytes of the object of some code, replacements and entries. What they are is told by no contract.
+pub fn bytes_of<'a>(
     alloc: Global,
     code: &'a [u8],
     replacements: &'a [u8],
     entries: &[Entry],
-) -> Result<Option<Vec<u8>>, NoMemory> {
-    let bytes = entry_bytes(alloc, entries)?;
-    let relocs = entry_relocs(alloc, entries)?;
+) -> Option<Vec<u8>> {
+    let bytes = entry_bytes(alloc, entries).ok()?;
+    let relocs = entry_relocs(alloc, entries).ok()?;
     let pieces = [
         Piece {
             name: b".text",
@@ -80,5 +80,5 @@ pub fn file_of<'a>(
             relocs: &relocs,
         },
     ];
-    object(alloc, &pieces)
+    object(alloc, &pieces).ok()?
 }

@@ -1,19 +1,18 @@
-//! Small objects in memory.
+//! Small objects in memory, and the tables of their jumps.
 
 ghost use Rattle.std.specs.Prelude.{◌≡◌, ◌+◌, ◌≤◌, [], IfOk, length};
 ghost use Rattle.alternatives.specs.Gathered.{plain_insns};
 ghost use Rattle.alternatives.specs.Texts.{text_bytes, AscendBySection};
 
-use alternatives::Sites;
-use demo_objects::{RelSpec, Spec, SymSpec, build};
-use elf_objects::{Home, Reloc, SHF_ALLOC, SHF_EXECINSTR, SHT_PROGBITS};
+use crate::readings::{index_of, object_of, special_of};
+use alternatives::{SiteFault, Sites};
+use demo_objects::{RelSpec, Spec, SymSpec, build, section};
+use elf_objects::{Home, Object, Reloc, SHF_ALLOC, SHF_EXECINSTR};
 use elf_write::NewSection;
 use jump_tables::{JumpTables, SectionText};
 use ot_base::NoMemory;
 use special_sections::Special;
 use std::alloc::Global;
-use std::process::Abort;
-use std::test::Fail;
 use symbols_relocs::Index;
 use x86_text::{InsnList, Map, Text, TextFault};
 
@@ -23,32 +22,29 @@ pub type Row<'n> = (&'n [u8], u8, u8, u32, u64, u64);
 /// A relocation: the section and the offset of its field, its type, symbol and addend.
 pub type Field = (u32, u64, u32, u32, i64);
 
-/// A section with its flags and its bytes.
-fn section(alloc: Global, name: &[u8], flags: u64, body: &[u8]) -> Result<NewSection, NoMemory> {
-    Ok(NewSection {
-        name: Vec::from_slice(alloc, name)?,
-        kind: SHT_PROGBITS,
-        flags,
-        link: 0,
-        info: 0,
-        align: 1,
-        entsize: 0,
-        body: Vec::from_slice(alloc, body)?,
-    })
+/// An object, but for what its cases differ in.
+#[derive(Clone, Copy, Drop)]
+pub struct Base<'b> {
+    /// The body of section 1, `.text`.
+    pub code: &'b [u8],
+    /// The body of section 3, of replacements.
+    pub replacements: &'b [u8],
+    /// The symbols.
+    pub rows: &'b [Row<'b>],
 }
 
 /// The code in section 1, 64 bytes of data of a name in section 2, and replacements in section 3.
-fn sections(
-    alloc: Global,
-    code: &[u8],
-    data: &[u8],
-    replacements: &[u8],
-) -> Result<Vec<NewSection>, NoMemory> {
+fn sections(alloc: Global, base: &Base<'_>, data: &[u8]) -> Result<Vec<NewSection>, NoMemory> {
     let mut list = Vec::new(alloc);
-    list.push(section(alloc, b".text", SHF_ALLOC | SHF_EXECINSTR, code)?)?;
-    list.push(section(alloc, data, SHF_ALLOC, &[0; 64])?)?;
-    let flags = SHF_ALLOC | SHF_EXECINSTR;
-    list.push(section(alloc, b".altinstr_replacement", flags, replacements)?)?;
+    let code = SHF_ALLOC | SHF_EXECINSTR;
+    let pieces: [(&[u8], u64, &[u8]); 3] = [
+        (b".text", code, base.code),
+        (data, SHF_ALLOC, &[0; 64]),
+        (b".altinstr_replacement", code, base.replacements),
+    ];
+    for (name, flags, body) in pieces {
+        list.push(section(alloc, name, flags, body)?)?;
+    }
     Ok(list)
 }
 
@@ -83,21 +79,24 @@ fn relocs(alloc: Global, fields: &[Field]) -> Result<Vec<RelSpec>, NoMemory> {
     Ok(list)
 }
 
-/// An object with code in section 1, data of a name in section 2, and replacements in section 3.
-pub fn object(
+/// What the builder is to make.
+fn spec_of(
     alloc: Global,
-    code: &[u8],
+    base: &Base<'_>,
     data: &[u8],
-    replacements: &[u8],
-    rows: &[Row<'_>],
     fields: &[Field],
-) -> Result<Option<Vec<u8>>, NoMemory> {
-    let spec = Spec {
-        sections: sections(alloc, code, data, replacements)?,
-        symbols: symbols(alloc, rows)?,
+) -> Result<Spec, NoMemory> {
+    Ok(Spec {
+        sections: sections(alloc, base, data)?,
+        symbols: symbols(alloc, base.rows)?,
         relocs: relocs(alloc, fields)?,
-    };
-    build(alloc, &spec)
+    })
+}
+
+/// The bytes of an object with data of a name in section 2. What they are is told by no contract.
+fn bytes_of(alloc: Global, base: &Base<'_>, data: &[u8], fields: &[Field]) -> Option<Vec<u8>> {
+    let spec = spec_of(alloc, base, data, fields).ok()?;
+    build(alloc, &spec).ok()?
 }
 
 /// The texts of sections 1 and 3, whose instructions are added to an empty list.
@@ -121,20 +120,50 @@ fn texts<'a>(
     Ok(texts)
 }
 
-/// The tables of the jumps in sections 1 and 3 of an object.
-pub fn tables(
-    rt: &impl Abort,
+/// The tables of the jumps in sections 1 and 3.
+fn tables(
     alloc: Global,
     index: &Index<'_, '_>,
+    special: &Special,
     code: &[u8],
     replacements: &[u8],
-) -> Result<JumpTables, Fail>
-    requires { length code.now + length replacements.now ≤ 16777216 }
+) -> Result<JumpTables, SiteFault>
+    requires short { length code.now + length replacements.now ≤ 16777216 }
+    requires few { length special.now.alternatives ≤ 8388608 }
 {
     let mut insns = InsnList::new(alloc)?;
-    let texts = texts(alloc, code, replacements, &mut insns)?;
-    let special = Special::read(alloc, index.object()).expect(rt, "entries");
-    assert!(rt; special.alternatives().len() <= 8388608);
-    let sites = Sites::build(alloc, &special, texts.as_slice(), insns).expect(rt, "sites");
+    let Ok(texts) = texts(alloc, code, replacements, &mut insns) else {
+        return Err(SiteFault::NoMemory);
+    };
+    let sites = Sites::build(alloc, special, texts.as_slice(), insns)?;
     Ok(JumpTables::build(alloc, index, texts.as_slice(), &sites)?)
+}
+
+/// The tables of the jumps of an object that is read.
+fn tables_in(alloc: Global, index: &Index<'_, '_>, base: &Base<'_>) -> Option<JumpTables> {
+    let special = special_of(alloc, index.object()).ok()?;
+    if base.code.len() > 100
+        || base.replacements.len() > 100
+        || special.alternatives().len() > 100
+    {
+        return None;
+    }
+    tables(alloc, index, &special, base.code, base.replacements).ok()
+}
+
+fn tables_of_object(alloc: Global, object: &Object<'_>, base: &Base<'_>) -> Option<JumpTables> {
+    let index = index_of(alloc, object).ok()?;
+    tables_in(alloc, &index, base)
+}
+
+/// The tables of the jumps of an object with data of a name in section 2. What they are is told by no contract.
+pub fn tables_of(
+    alloc: Global,
+    base: &Base<'_>,
+    data: &[u8],
+    fields: &[Field],
+) -> Option<JumpTables> {
+    let bytes = bytes_of(alloc, base, data, fields)?;
+    let object = object_of(alloc, &bytes)?;
+    tables_of_object(alloc, &object, base)
 }

@@ -3,8 +3,8 @@
 use super::*;
 use special_sections::{AltEntry, BranchEntry, FixEntry, HintEntry};
 
-#[test]
-fn each_kind(rt: HostRuntime) -> Result<(), Fail> {
+/// Entries of each kind.
+fn read_each_kind(alloc: Global) -> Result<Special, SpecialFault> {
     // In each field the first relocation that puts a place there counts.
     let places = [
         Reloc {
@@ -48,7 +48,10 @@ fn each_kind(rt: HostRuntime) -> Result<(), Fail> {
         piece(b".discard.retpoline_safe", &[0; 4], &one),
         piece(b".discard.intra_function_calls", &[0; 8], &last),
     ];
-    let special = read(&rt, rt.alloc(), &pieces)?.expect(&rt, "entries");
+    read(alloc, &pieces)
+}
+
+fn has_alternative(special: &Special) -> bool {
     let alternative = AltEntry {
         original: text(2),
         replacement: text(8),
@@ -57,17 +60,26 @@ fn each_kind(rt: HostRuntime) -> Result<(), Fail> {
         original_len: 4,
         replacement_len: 3,
     };
-    assert_eq!(rt; special.alternatives(), [alternative].as_slice());
+    special.alternatives() == [alternative].as_slice()
+}
+
+fn has_branch(special: &Special) -> bool {
     let branch = BranchEntry {
         code: text(2),
         target: text(8),
     };
-    assert_eq!(rt; special.branches(), [branch].as_slice());
+    special.branches() == [branch].as_slice()
+}
+
+fn has_fix(special: &Special) -> bool {
     let fix = FixEntry {
         insn: text(2),
         fixup: text(8),
     };
-    assert_eq!(rt; special.fixes(), [fix].as_slice());
+    special.fixes() == [fix].as_slice()
+}
+
+fn has_hint(special: &Special) -> bool {
     let hint = HintEntry {
         place: text(5),
         sp_offset: -32752,
@@ -75,14 +87,28 @@ fn each_kind(rt: HostRuntime) -> Result<(), Fail> {
         kind: 6,
         signal: true,
     };
-    assert_eq!(rt; special.hints(), [hint].as_slice());
-    assert_eq!(rt;
-        special.after_reachable(),
-        [text(16), text(1), text(5)].as_slice()
-    );
-    assert_eq!(rt; special.after_unreachable(), [text(16), text(1)].as_slice());
-    assert_eq!(rt; special.unchecked(), [text(0)].as_slice());
-    assert_eq!(rt; special.safe_branches(), [text(5)].as_slice());
-    assert_eq!(rt; special.intra_calls(), [text(15), text(1)].as_slice());
+    special.hints() == [hint].as_slice()
+}
+
+fn has_places_behind(special: &Special) -> bool {
+    special.after_reachable() == [text(16), text(1), text(5)].as_slice()
+        && special.after_unreachable() == [text(16), text(1)].as_slice()
+}
+
+fn has_places_before(special: &Special) -> bool {
+    special.unchecked() == [text(0)].as_slice()
+        && special.safe_branches() == [text(5)].as_slice()
+        && special.intra_calls() == [text(15), text(1)].as_slice()
+}
+
+#[test]
+fn each_kind(rt: HostRuntime) -> Result<(), Fail> {
+    let special = read_each_kind(rt.alloc()).expect(&rt, "entries");
+    assert!(rt; has_alternative(&special));
+    assert!(rt; has_branch(&special));
+    assert!(rt; has_fix(&special));
+    assert!(rt; has_hint(&special));
+    assert!(rt; has_places_behind(&special));
+    assert!(rt; has_places_before(&special));
     Ok(())
 }

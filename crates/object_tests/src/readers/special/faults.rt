@@ -3,15 +3,14 @@
 use super::*;
 use special_sections::Why;
 
-/// The fault of the section 3 of this name, with this body and these relocations.
-fn fault_in(
-    rt: &impl Abort,
-    alloc: Global,
-    name: &[u8],
-    body: &[u8],
-    relocs: &[Reloc],
-) -> Result<Option<SpecialFault>, Fail> {
-    Ok(read(rt, alloc, &[piece(name, body, relocs)])?.err())
+/// A section 3 by its name, its body and its relocations, and its fault.
+type Row<'r> = (&'r [u8], &'r [u8], &'r [Reloc], Option<SpecialFault>);
+
+fn expect_faults(rt: &impl Abort, alloc: Global, rows: &[Row<'_>]) {
+    for (name, body, relocs, fault) in rows {
+        let told = fault_of(alloc, &[piece(*name, *body, *relocs)]);
+        assert!(rt; told == *fault);
+    }
 }
 
 fn told(entry: u32, why: Why) -> Option<SpecialFault> {
@@ -24,6 +23,7 @@ fn told_first(sec: u32, why: Why) -> Option<SpecialFault> {
 
 #[test]
 fn sections_and_places(rt: HostRuntime) -> Result<(), Fail> {
+    let table = b"__ex_table";
     let good = [to_text(0, 4), to_text(4, 5)];
     let short = [to_text(0, 4), to_text(4, 5), to_text(12, 0)];
     let plt = [
@@ -56,113 +56,126 @@ fn sections_and_places(rt: HostRuntime) -> Result<(), Fail> {
     ];
     let end = [to_text(0, 4), to_text(4, 16)];
     let below = [to_text(0, -1), to_text(4, 5)];
-    let table: [(&[u8], &[Reloc], Option<SpecialFault>); 9] = [
-        (&[0; 12], &good, None),
-        (&[0; 10], &good, told(0, Why::Size)),
-        (&[0; 24], &short, told(1, Why::NoReloc)),
-        (&[0; 12], &plt, told(0, Why::NoReloc)),
-        (&[0; 12], &data, told(0, Why::NotText)),
-        (&[0; 12], &undefined, told(0, Why::NotText)),
-        (&[0; 12], &absolute, told(0, Why::NotText)),
-        (&[0; 12], &end, told(0, Why::NotText)),
-        (&[0; 12], &below, told(0, Why::NotText)),
+    let rows: [Row<'_>; 9] = [
+        (table, &[0; 12], &good, None),
+        (table, &[0; 10], &good, told(0, Why::Size)),
+        (table, &[0; 24], &short, told(1, Why::NoReloc)),
+        (table, &[0; 12], &plt, told(0, Why::NoReloc)),
+        (table, &[0; 12], &data, told(0, Why::NotText)),
+        (table, &[0; 12], &undefined, told(0, Why::NotText)),
+        (table, &[0; 12], &absolute, told(0, Why::NotText)),
+        (table, &[0; 12], &end, told(0, Why::NotText)),
+        (table, &[0; 12], &below, told(0, Why::NotText)),
     ];
-    for (body, relocs, fault) in table {
-        assert_eq!(rt;
-            fault_in(&rt, rt.alloc(), b"__ex_table", body, relocs)?,
-            fault
-        );
-    }
+    expect_faults(&rt, rt.alloc(), &rows);
     Ok(())
 }
 
 #[test]
 fn lengths_of_alternatives(rt: HostRuntime) -> Result<(), Fail> {
+    let altinstructions = b".altinstructions";
     let good = [to_text(0, 14), to_text(4, 8)];
     let end = [to_text(0, 14), to_text(4, 16)];
-    let table: [(&[u8], &[Reloc], Option<SpecialFault>); 5] = [
-        (b"\0\0\0\0\0\0\0\0\x05\0\0\0\x02\x02", &good, None),
-        (b"\0\0\0\0\0\0\0\0\x05\0\0\0\x02\0", &end, None),
+    let rows: [Row<'_>; 5] = [
         (
+            altinstructions,
+            b"\0\0\0\0\0\0\0\0\x05\0\0\0\x02\x02",
+            &good,
+            None,
+        ),
+        (
+            altinstructions,
+            b"\0\0\0\0\0\0\0\0\x05\0\0\0\x02\0",
+            &end,
+            None,
+        ),
+        (
+            altinstructions,
             b"\0\0\0\0\0\0\0\0\x05\0\0\0\x02\x01",
             &end,
             told(0, Why::NotText),
         ),
         (
+            altinstructions,
             b"\0\0\0\0\0\0\0\0\x05\0\0\0\x02\x03",
             &good,
             told(0, Why::Length),
         ),
         (
+            altinstructions,
             b"\0\0\0\0\0\0\0\0\x05\0\0\0\x03\x02",
             &good,
             told(0, Why::Length),
         ),
     ];
-    for (body, relocs, fault) in table {
-        assert_eq!(rt;
-            fault_in(&rt, rt.alloc(), b".altinstructions", body, relocs)?,
-            fault
-        );
-    }
+    expect_faults(&rt, rt.alloc(), &rows);
     Ok(())
 }
 
 #[test]
 fn hints(rt: HostRuntime) -> Result<(), Fail> {
+    let hint_name = b".discard.unwind_hints";
     let at = [to_text(0, 3)];
     let twice = [to_text(0, 3), to_text(12, 3)];
-    let table: [(&[u8], &[Reloc], Option<SpecialFault>); 11] = [
-        (b"\0\0\0\0\x08\0\x05\x02\0\0\0\0", &at, None),
-        (b"\0\0\0\0\0\0\x05\x03\x01\0\0\0", &at, None),
-        (b"\0\0\0\0\0\0\0\x08\0\0\0\0", &at, told(0, Why::HintType)),
+    let rows: [Row<'_>; 11] = [
+        (hint_name, b"\0\0\0\0\x08\0\x05\x02\0\0\0\0", &at, None),
+        (hint_name, b"\0\0\0\0\0\0\x05\x03\x01\0\0\0", &at, None),
         (
+            hint_name,
+            b"\0\0\0\0\0\0\0\x08\0\0\0\0",
+            &at,
+            told(0, Why::HintType),
+        ),
+        (
+            hint_name,
             b"\0\0\0\0\x07\0\x04\x02\0\0\0\0",
             &at,
             told(0, Why::HintBase),
         ),
         (
+            hint_name,
             b"\0\0\0\0\0\0\x04\x04\x01\0\0\0",
             &at,
             told(0, Why::HintBase),
         ),
         (
+            hint_name,
             b"\0\0\0\0\x07\0\x05\x02\x01\0\0\0",
             &at,
             told(0, Why::HintOffset),
         ),
         (
+            hint_name,
             b"\0\0\0\0\xFF\xFF\x05\x03\x01\0\0\0",
             &at,
             told(0, Why::HintOffset),
         ),
         (
+            hint_name,
             b"\0\0\0\0\0\0\x05\x03\0\0\0\0",
             &at,
             told(0, Why::HintSignal),
         ),
         (
+            hint_name,
             b"\0\0\0\0\0\0\x05\x04\x02\0\0\0",
             &at,
             told(0, Why::HintSignal),
         ),
         (
+            hint_name,
             b"\0\0\0\0\0\0\0\x05\x01\0\0\0",
             &at,
             told(0, Why::HintSignal),
         ),
         (
+            hint_name,
             b"\0\0\0\0\0\0\0\x06\0\0\0\0\0\0\0\0\0\0\0\x07\0\0\0\0",
             &twice,
             None,
         ),
     ];
-    for (body, relocs, fault) in table {
-        assert_eq!(rt;
-            fault_in(&rt, rt.alloc(), b".discard.unwind_hints", body, relocs)?,
-            fault
-        );
-    }
+    expect_faults(&rt, rt.alloc(), &rows);
     Ok(())
 }
 
@@ -181,21 +194,29 @@ fn lists_of_places(rt: HostRuntime) -> Result<(), Fail> {
     let at = [to_text(0, 4)];
     let unchecked = b".discard.func_stack_frame_non_standard";
     let intra_calls = b".discard.intra_function_calls";
-    let table: [(&[u8], &[Reloc], Option<SpecialFault>); 10] = [
-        (b".discard.reachable", &end, None),
-        (b".discard.reachable", &past, told(1, Why::NotText)),
-        (b".discard.unreachable", &end, None),
-        (b".discard.retpoline_safe", &end, told(0, Why::NotText)),
-        (b".discard.retpoline_safe", &plt, told(0, Why::NoReloc)),
-        (intra_calls, &at, None),
-        (intra_calls, &end, told(0, Why::NotText)),
-        (intra_calls, &plt, told(0, Why::NoReloc)),
-        (unchecked, &data, None),
-        (unchecked, &plt, told(0, Why::NoReloc)),
+    let rows: [Row<'_>; 10] = [
+        (b".discard.reachable", &[0; 4], &end, None),
+        (b".discard.reachable", &[0; 4], &past, told(1, Why::NotText)),
+        (b".discard.unreachable", &[0; 4], &end, None),
+        (
+            b".discard.retpoline_safe",
+            &[0; 4],
+            &end,
+            told(0, Why::NotText),
+        ),
+        (
+            b".discard.retpoline_safe",
+            &[0; 4],
+            &plt,
+            told(0, Why::NoReloc),
+        ),
+        (intra_calls, &[0; 4], &at, None),
+        (intra_calls, &[0; 4], &end, told(0, Why::NotText)),
+        (intra_calls, &[0; 4], &plt, told(0, Why::NoReloc)),
+        (unchecked, &[0; 4], &data, None),
+        (unchecked, &[0; 4], &plt, told(0, Why::NoReloc)),
     ];
-    for (name, relocs, fault) in table {
-        assert_eq!(rt; fault_in(&rt, rt.alloc(), name, &[0; 4], relocs)?, fault);
-    }
+    expect_faults(&rt, rt.alloc(), &rows);
     Ok(())
 }
 
@@ -207,34 +228,34 @@ fn a_compressed_section(rt: HostRuntime) -> Result<(), Fail> {
         body: &[0; 11],
         relocs: &[],
     };
-    let fault = read(&rt, rt.alloc(), &[compressed])?.err();
-    assert_eq!(rt; fault, told_first(3, Why::Compressed));
+    let fault = fault_of(rt.alloc(), &[compressed]);
+    assert!(rt; fault == told_first(3, Why::Compressed));
     Ok(())
 }
 
 /// The fault of a section 3 of twelve good bytes, and a section 4 of this name and eleven bytes.
-fn fault_behind(rt: &impl Abort, alloc: Global, name: &[u8]) -> Result<Option<SpecialFault>, Fail> {
+fn fault_behind(alloc: Global, name: &[u8]) -> Option<SpecialFault> {
     let relocs = [to_text(0, 4), to_text(4, 5)];
     let good = piece(b"__ex_table", &[0; 12], &relocs);
     let bad = piece(name, &[0; 11], &[]);
-    Ok(read(rt, alloc, &[good, bad])?.err())
+    fault_of(alloc, &[good, bad])
 }
 
 /// The fault of a section 3 of eleven bytes, and a section 4 of this name and sixteen bytes without relocations.
-fn fault_before(rt: &impl Abort, alloc: Global, name: &[u8]) -> Result<Option<SpecialFault>, Fail> {
+fn fault_before(alloc: Global, name: &[u8]) -> Option<SpecialFault> {
     let bad = piece(b"__ex_table", &[0; 11], &[]);
     let other = piece(name, &[0; 16], &[]);
-    Ok(read(rt, alloc, &[bad, other])?.err())
+    fault_of(alloc, &[bad, other])
 }
 
 #[test]
 fn the_first_in_order(rt: HostRuntime) -> Result<(), Fail> {
-    let second = fault_behind(&rt, rt.alloc(), b"__ex_table")?;
-    assert_eq!(rt; second, told_first(4, Why::Size));
-    let earlier_kind = fault_before(&rt, rt.alloc(), b"__jump_table")?;
-    assert_eq!(rt; earlier_kind, told_first(4, Why::NoReloc));
-    let later_kind = fault_before(&rt, rt.alloc(), b".discard.unwind_hints")?;
-    assert_eq!(rt; later_kind, told_first(3, Why::Size));
+    let second = fault_behind(rt.alloc(), b"__ex_table");
+    assert!(rt; second == told_first(4, Why::Size));
+    let earlier_kind = fault_before(rt.alloc(), b"__jump_table");
+    assert!(rt; earlier_kind == told_first(4, Why::NoReloc));
+    let later_kind = fault_before(rt.alloc(), b".discard.unwind_hints");
+    assert!(rt; later_kind == told_first(3, Why::Size));
     Ok(())
 }
 
@@ -243,31 +264,46 @@ fn calls_behind_safe_branches(rt: HostRuntime) -> Result<(), Fail> {
     let end = [to_text(0, 16)];
     let calls = piece(b".discard.intra_function_calls", &[0; 4], &end);
     let branches = piece(b".discard.retpoline_safe", &[0; 4], &end);
-    let fault = read(&rt, rt.alloc(), &[calls, branches])?.err();
-    assert_eq!(rt; fault, told_first(4, Why::NotText));
+    let fault = fault_of(rt.alloc(), &[calls, branches]);
+    assert!(rt; fault == told_first(4, Why::NotText));
     Ok(())
 }
 
-// The second original is as long as the first one, and a replacement may not be longer than its own as it is written.
-#[test]
-fn nested_alternatives(rt: HostRuntime) -> Result<(), Fail> {
+/// Two alternatives at one place of `.text`, with this body.
+fn read_nested(alloc: Global, body: &[u8]) -> Result<Special, SpecialFault> {
     let places = [
         to_text(0, 4),
         to_text(4, 10),
         to_text(14, 4),
         to_text(18, 12),
     ];
-    let name = b".altinstructions";
+    read(alloc, &[piece(b".altinstructions", body, &places)])
+}
+
+/// Whether there are so many alternatives with originals of these lengths.
+fn have_original_lens(special: &Special, lens: &[u8]) -> bool {
+    special.alternatives().len() == lens.len()
+        && special
+            .alternatives()
+            .iter()
+            .zip(lens)
+            .all(|(alternative, len)| alternative.original_len == *len)
+}
+
+// The second original is as long as the first one.
+#[test]
+fn nested_alternatives(rt: HostRuntime) -> Result<(), Fail> {
     let body = b"\0\0\0\0\0\0\0\0\0\0\0\0\x05\x02\0\0\0\0\0\0\0\0\0\0\0\0\x03\x01";
-    let special = read(&rt, rt.alloc(), &[piece(name, body, &places)])?.expect(&rt, "entries");
-    let lens = [5u8, 5];
-    assert!(rt; special.alternatives().len() == lens.len());
-    for (i, len) in lens.iter().enumerate() {
-        let alternative = special.alternatives().get(i);
-        assert_eq!(rt; alternative.map(|a| a.original_len), Some(*len));
-    }
+    let special = read_nested(rt.alloc(), body).expect(&rt, "entries");
+    assert!(rt; have_original_lens(&special, &[5, 5]));
+    Ok(())
+}
+
+// A replacement may not be longer than its own original as it is written.
+#[test]
+fn long_nested_alternatives(rt: HostRuntime) -> Result<(), Fail> {
     let long = b"\0\0\0\0\0\0\0\0\0\0\0\0\x05\x02\0\0\0\0\0\0\0\0\0\0\0\0\x03\x04";
-    let fault = fault_in(&rt, rt.alloc(), name, long, &places)?;
-    assert_eq!(rt; fault, told(1, Why::Length));
+    let fault = read_nested(rt.alloc(), long).err();
+    assert!(rt; fault == told(1, Why::Length));
     Ok(())
 }

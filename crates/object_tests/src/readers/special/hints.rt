@@ -1,6 +1,7 @@
 //! What the hints at places do.
 
 use super::*;
+use crate::readings::hints_of;
 use special_sections::Hints;
 use state_defs::{BpHome, Depth, EndKind, HintState, State};
 
@@ -21,8 +22,19 @@ fn ended(kind: EndKind) -> Option<HintState> {
     Some(HintState::Set(State::Ended(kind)))
 }
 
-#[test]
-fn each_type(rt: HostRuntime) -> Result<(), Fail> {
+/// The hints of an object, by their places.
+fn hints_in(alloc: Global, pieces: &[Piece<'_>]) -> Option<Hints> {
+    let special = read(alloc, pieces).ok()?;
+    hints_of(alloc, &special)
+}
+
+/// What the hint at a place does.
+fn state_at(hints: &Hints, sec: u32, off: u64) -> Option<HintState> {
+    hints.hint_at(Place { sec, off })
+}
+
+/// Hints of each type at each second byte of `.text`.
+fn hints_of_each_type(alloc: Global) -> Option<Hints> {
     let body = b"\0\0\0\0\0\0\0\0\0\0\0\0\
         \0\0\0\0\0\0\0\x01\0\0\0\0\
         \0\0\0\0\x10\0\x05\x02\0\0\0\0\
@@ -42,9 +54,22 @@ fn each_type(rt: HostRuntime) -> Result<(), Fail> {
         to_text(84, 0),
     ];
     let hints = piece(b".discard.unwind_hints", body, &relocs);
-    let special = read(&rt, rt.alloc(), &[hints])?.expect(&rt, "hints");
-    let hints = Hints::build(rt.alloc(), &special).expect(&rt, "memory");
-    let table = [
+    hints_in(alloc, &[hints])
+}
+
+/// These hints stand at each second byte of `.text`, and none between.
+fn expect_states(rt: &impl Abort, hints: &Hints, states: &[Option<HintState>]) {
+    for (i, state) in states.iter().enumerate() {
+        let off = (i as u64).wrapping_mul(2);
+        assert!(rt; state_at(hints, 1, off) == *state);
+        assert!(rt; state_at(hints, 1, off.wrapping_add(1)) == None);
+    }
+}
+
+#[test]
+fn each_type(rt: HostRuntime) -> Result<(), Fail> {
+    let hints = hints_of_each_type(rt.alloc()).expect(&rt, "hints");
+    let states = [
         Some(HintState::Restore),
         ended(EndKind::EndOfStack),
         regs(true, 8),
@@ -54,26 +79,28 @@ fn each_type(rt: HostRuntime) -> Result<(), Fail> {
         frame(16),
         ended(EndKind::Undefined),
     ];
-    for (i, state) in table.iter().enumerate() {
-        let off = (i as u64).wrapping_mul(2);
-        assert_eq!(rt; hints.hint_at(text(off)), *state);
-        assert_eq!(rt; hints.hint_at(text(off.wrapping_add(1))), None);
-    }
-    assert_eq!(rt; hints.hint_at(Place { sec: 2, off: 2 }), None);
+    expect_states(&rt, &hints, &states);
+    assert!(rt; state_at(&hints, 2, 2) == None);
     Ok(())
 }
 
-/// What the hint at `.text` 0 does, where sections of hints stand with these bodies of one hint each, or more.
-fn hint_in(rt: &impl Abort, alloc: Global, bodies: &[&[u8]]) -> Result<Option<HintState>, Fail> {
+/// One section of hints for each of these bodies, of one hint each or more, of which the first two are at `.text` 0.
+fn hints_with(alloc: Global, bodies: &[&[u8]]) -> Option<Hints> {
     let relocs = [to_text(0, 0), to_text(12, 0)];
     let mut pieces = Vec::new(alloc);
     for body in bodies {
         let (here, _) = relocs.split_at((body.len() / 12).min(2));
-        pieces.push(piece(b".discard.unwind_hints", *body, here))?;
+        pieces
+            .push(piece(b".discard.unwind_hints", *body, here))
+            .ok()?;
     }
-    let special = read(rt, alloc, &pieces)?.expect(rt, "hints");
-    let hints = Hints::build(alloc, &special).expect(rt, "memory");
-    Ok(hints.hint_at(text(0)))
+    hints_in(alloc, &pieces)
+}
+
+/// What the hint at `.text` 0 does, where sections of hints stand with these bodies of one hint each, or more.
+fn hint_in(alloc: Global, bodies: &[&[u8]]) -> Option<HintState> {
+    let hints = hints_with(alloc, bodies)?;
+    state_at(&hints, 1, 0)
 }
 
 // Of several hints at one place the last counts: FUNC and then CALL 16, and the other way round.
@@ -82,9 +109,9 @@ fn several_at_one_place(rt: HostRuntime) -> Result<(), Fail> {
     let both: &[u8] = b"\0\0\0\0\0\0\0\x05\0\0\0\0\0\0\0\0\x10\0\x05\x02\0\0\0\0";
     let call: &[u8] = b"\0\0\0\0\x10\0\x05\x02\0\0\0\0";
     let func: &[u8] = b"\0\0\0\0\0\0\0\x05\0\0\0\0";
-    assert_eq!(rt; hint_in(&rt, rt.alloc(), &[both])?, frame(16));
-    assert_eq!(rt; hint_in(&rt, rt.alloc(), &[func, call])?, frame(16));
-    assert_eq!(rt; hint_in(&rt, rt.alloc(), &[call, func])?, frame(8));
-    assert_eq!(rt; hint_in(&rt, rt.alloc(), &[call, both, func])?, frame(8));
+    assert!(rt; hint_in(rt.alloc(), &[both]) == frame(16));
+    assert!(rt; hint_in(rt.alloc(), &[func, call]) == frame(16));
+    assert!(rt; hint_in(rt.alloc(), &[call, func]) == frame(8));
+    assert!(rt; hint_in(rt.alloc(), &[call, both, func]) == frame(8));
     Ok(())
 }

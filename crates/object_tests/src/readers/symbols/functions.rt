@@ -1,6 +1,8 @@
 //! Functions, parts and owners.
 
 use super::*;
+use crate::readings::functions_of;
+use elf_objects::Object;
 
 /// Symbol 1 and on.
 const SYMBOLS: [Row<'static>; 15] = [
@@ -71,27 +73,92 @@ const PLACES: [Looked; 17] = [
     (9, 0, None, None, None),
 ];
 
+/// A place, and what is looked up there.
+fn look_up(index: &Index<'_, '_>, sec: u32, off: u64) -> Looked {
+    let place = Place { sec, off };
+    (
+        sec,
+        off,
+        index.function_at(place),
+        index.owner_at(place),
+        index.starts_at(place),
+    )
+}
+
+fn are_listed(functions: &[Function]) -> bool {
+    functions.len() == 10
+        && functions
+            .iter()
+            .zip(&FUNCTIONS)
+            .all(|(function, row)| listed(function) == *row)
+}
+
+fn are_looked_up(index: &Index<'_, '_>) -> bool {
+    PLACES
+        .iter()
+        .all(|row| look_up(index, row.0, row.1) == *row)
+}
+
+/// Whether functions and places of an object are those of the tables.
+fn are_told_of(alloc: Global, object: &Object<'_>) -> Option<bool> {
+    let index = index_of(alloc, object).ok()?;
+    Some(are_listed(functions_of(&index)) && are_looked_up(&index))
+}
+
+fn are_told(alloc: Global) -> Option<bool> {
+    let bytes = bytes_of(alloc, &SYMBOLS, &[])?;
+    let object = object_of(alloc, &bytes)?;
+    are_told_of(alloc, &object)
+}
+
 #[test]
-fn functions_and_owners(rt: HostRuntime) -> Result<(), Fail> {
-    let bytes = object(rt.alloc(), &SYMBOLS, &[])?.expect(&rt, "an object");
-    assert!(rt; bytes.len() < 1 << 32);
-    let parsed = Object::parse(rt.alloc(), &bytes).expect(&rt, "an object");
-    let index = Index::build(rt.alloc(), &parsed).expect(&rt, "functions");
-    let functions = index.functions();
-    assert_eq!(rt; functions.len(), 10);
-    for (function, row) in functions.iter().zip(&FUNCTIONS) {
-        assert_eq!(rt; listed(function), *row);
-    }
-    for (sec, off, function, owner, starts) in &PLACES {
-        let place = Place {
-            sec: *sec,
-            off: *off,
-        };
-        assert_eq!(rt; index.function_at(place), *function);
-        assert_eq!(rt; index.owner_at(place), *owner);
-        assert_eq!(rt; index.starts_at(place), *starts);
-    }
-    Ok(())
+fn functions_and_owners(rt: HostRuntime) {
+    assert!(rt; are_told(rt.alloc()) == Some(true));
+}
+
+fn are_parents(functions: &[Function], parents: &[Option<u32>]) -> bool {
+    functions.len() == parents.len()
+        && functions
+            .iter()
+            .zip(parents)
+            .all(|(function, parent)| function.parent == *parent)
+}
+
+/// The owner of a place.
+fn owner_of(index: &Index<'_, '_>, sec: u32, off: u64) -> Option<u32> {
+    index.owner_at(Place { sec, off })
+}
+
+/// A section, an offset in it, and the owner there.
+type Owned = (u32, u64, Option<u32>);
+
+fn are_owned(index: &Index<'_, '_>, owned: &[Owned]) -> bool {
+    owned
+        .iter()
+        .all(|(sec, off, owner)| owner_of(index, *sec, *off) == *owner)
+}
+
+/// Whether the functions of an object have these parents, and places these owners.
+fn have_parents_in(
+    alloc: Global,
+    object: &Object<'_>,
+    parents: &[Option<u32>],
+    owned: &[Owned],
+) -> Option<bool> {
+    let index = index_of(alloc, object).ok()?;
+    Some(are_owned(&index, owned) && are_parents(functions_of(&index), parents))
+}
+
+/// The same of an object with these symbols.
+fn have_parents(
+    alloc: Global,
+    rows: &[Row<'_>],
+    parents: &[Option<u32>],
+    owned: &[Owned],
+) -> Option<bool> {
+    let bytes = bytes_of(alloc, rows, &[])?;
+    let object = object_of(alloc, &bytes)?;
+    have_parents_in(alloc, &object, parents, owned)
 }
 
 /// Functions that are named as a part of a name which they have too: `f` is such, and the lowest symbol `g` is another's.
@@ -107,20 +174,12 @@ const OWN_PARTS: [Row<'static>; 7] = [
 
 const OTHER_PARENTS: [Option<u32>; 4] = [None, None, Some(1), None];
 
+const OWNED: [Owned; 2] = [(1, 1, Some(0)), (3, 1, Some(1))];
+
 #[test]
-fn a_parent_is_another_function(rt: HostRuntime) -> Result<(), Fail> {
-    let bytes = object(rt.alloc(), &OWN_PARTS, &[])?.expect(&rt, "an object");
-    assert!(rt; bytes.len() < 1 << 32);
-    let parsed = Object::parse(rt.alloc(), &bytes).expect(&rt, "an object");
-    let index = Index::build(rt.alloc(), &parsed).expect(&rt, "functions");
-    let functions = index.functions();
-    assert_eq!(rt; functions.len(), 4);
-    for (function, parent) in functions.iter().zip(&OTHER_PARENTS) {
-        assert_eq!(rt; function.parent, *parent);
-    }
-    assert_eq!(rt; index.owner_at(Place { sec: 1, off: 1 }), Some(0));
-    assert_eq!(rt; index.owner_at(Place { sec: 3, off: 1 }), Some(1));
-    Ok(())
+fn a_parent_is_another_function(rt: HostRuntime) {
+    let found = have_parents(rt.alloc(), &OWN_PARTS, &OTHER_PARENTS, &OWNED);
+    assert!(rt; found == Some(true));
 }
 
 /// Names longer than 64 bytes, and endings with more than 64 digits.
@@ -170,17 +229,8 @@ const LONG: [Row<'static>; 5] = [
 const LONG_PARENTS: [Option<u32>; 5] = [None, None, Some(0), Some(1), None];
 
 #[test]
-fn parts_with_long_names(rt: HostRuntime) -> Result<(), Fail> {
-    let bytes = object(rt.alloc(), &LONG, &[])?.expect(&rt, "an object");
-    assert!(rt; bytes.len() < 1 << 32);
-    let parsed = Object::parse(rt.alloc(), &bytes).expect(&rt, "an object");
-    let index = Index::build(rt.alloc(), &parsed).expect(&rt, "functions");
-    let functions = index.functions();
-    assert_eq!(rt; functions.len(), 5);
-    for (function, parent) in functions.iter().zip(&LONG_PARENTS) {
-        assert_eq!(rt; function.parent, *parent);
-    }
-    Ok(())
+fn parts_with_long_names(rt: HostRuntime) {
+    assert!(rt; have_parents(rt.alloc(), &LONG, &LONG_PARENTS, &[]) == Some(true));
 }
 
 /// The value and the size of two symbols of type STT_FUNC in 32 bytes of code, and the number of the first
@@ -193,37 +243,29 @@ const LEAVING: [((u64, u64), (u64, u64), Option<u32>); 5] = [
     ((0, 1), (8, 0xFFFF_FFFF_FFFF_FFFF), Some(2)),
 ];
 
+/// A global function of `.text`.
+fn function<'n>(name: &'n [u8], value: u64, size: u64) -> Row<'n> {
+    let home = Home::Section(1);
+    (name, STB_GLOBAL, STT_FUNC, home, value, size)
+}
+
+/// Why the functions of an object with these symbols aren't read; where they are, nothing.
+fn fault_of(alloc: Global, rows: &[Row<'_>]) -> Option<Option<IndexFault>> {
+    let bytes = bytes_of(alloc, rows, &[])?;
+    let object = object_of(alloc, &bytes)?;
+    Some(index_of(alloc, &object).err())
+}
+
+/// The same of two functions of `.text`, with their offsets and sizes.
+fn fault_of_two(alloc: Global, a: (u64, u64), b: (u64, u64)) -> Option<Option<IndexFault>> {
+    let rows = [function(b"a", a.0, a.1), function(b"b", b.0, b.1)];
+    fault_of(alloc, &rows)
+}
+
 #[test]
-fn symbols_that_leave_their_section(rt: HostRuntime) -> Result<(), Fail> {
-    for (first, second, fault) in &LEAVING {
-        let rows = [
-            (
-                b"a".as_slice(),
-                STB_GLOBAL,
-                STT_FUNC,
-                Home::Section(1),
-                first.0,
-                first.1,
-            ),
-            (
-                b"b".as_slice(),
-                STB_GLOBAL,
-                STT_FUNC,
-                Home::Section(1),
-                second.0,
-                second.1,
-            ),
-        ];
-        let bytes = object(rt.alloc(), &rows, &[])?.expect(&rt, "an object");
-        assert!(rt; bytes.len() < 1 << 32);
-        let parsed = Object::parse(rt.alloc(), &bytes).expect(&rt, "an object");
-        let told = match Index::build(rt.alloc(), &parsed) {
-            Err(IndexFault::Func { sym }) => Some(sym),
-            Err(IndexFault::NoMemory) | Ok(_) => None,
-        };
-        assert_eq!(rt; told, *fault);
+fn symbols_that_leave_their_section(rt: HostRuntime) {
+    for (first, second, sym) in &LEAVING {
+        let fault = sym.map(|sym| IndexFault::Func { sym });
+        assert!(rt; fault_of_two(rt.alloc(), *first, *second) == Some(fault));
     }
-    let text = format!(in rt.alloc(); "{}", IndexFault::Func { sym: 7 })?;
-    assert_eq!(rt; text.as_str(), "symbol 7: bad function");
-    Ok(())
 }

@@ -1,6 +1,8 @@
 //! The targets of branches.
 
 use super::*;
+use crate::readings::target_of;
+use elf_objects::Object;
 
 /// Symbol 1 and on.
 const SYMBOLS: [Row<'static>; 8] = [
@@ -127,48 +129,78 @@ const RELATIVE: [(u8, Op, Target); 9] = [
     (1, Op::Ret, Target::Bad),
 ];
 
-fn insn(len: u8, op: Op) -> Insn {
-    Insn { len, op }
+/// The instructions whose displacement is the field of a relocation, and how many bytes behind the first of them each begins.
+const WIDE: [(u8, Op, u64); 3] = [
+    (6, Op::Jcc { rel: 0, wide: true }, 0),
+    (5, Op::Call { rel: 0 }, 1),
+    (5, Op::Jmp { rel: 0, wide: true }, 1),
+];
+
+/// A jump without a field of a relocation.
+const SHORT: Op = Op::Jmp {
+    rel: 0,
+    wide: false,
+};
+
+/// The target of an instruction of `.text`.
+fn target_in_text(index: &Index<'_, '_>, off: u64, len: u8, op: Op) -> Option<Target> {
+    target_of(index, Place { sec: 1, off }, Insn { len, op })
+}
+
+/// What instructions have as targets of which the first begins here.
+fn expect_target(rt: &impl Abort, index: &Index<'_, '_>, off: u64, target: Target) {
+    for (len, op, behind) in &WIDE {
+        let told = target_in_text(index, off.wrapping_add(*behind), *len, *op);
+        assert!(rt; told == Some(target));
+    }
+    let told = target_in_text(index, off.wrapping_add(1), 2, SHORT);
+    assert!(rt; told == Some(Target::Bad));
+}
+
+fn expect_relocated(rt: &impl Abort, index: &Index<'_, '_>) {
+    for (i, (_, _, _, target)) in TARGETS.iter().enumerate() {
+        expect_target(rt, index, i as u64, *target);
+    }
+}
+
+fn expect_relative(rt: &impl Abort, index: &Index<'_, '_>) {
+    for (len, op, target) in &RELATIVE {
+        assert!(rt; target_in_text(index, 24, *len, *op) == Some(*target));
+    }
+}
+
+/// The relocation whose field begins at `.text` 2.
+fn reloc_of(index: &Index<'_, '_>) -> Option<Reloc> {
+    index.reloc_at(Place { sec: 1, off: 2 })
+}
+
+/// The place that the field at offset 2 of a section holds.
+fn held_in(index: &Index<'_, '_>, sec: u32) -> Option<Place> {
+    index.place_held_at(Place { sec, off: 2 })
+}
+
+fn expect_index(rt: &impl Abort, index: &Index<'_, '_>, relocs: &[Reloc]) {
+    expect_relocated(rt, index);
+    expect_relative(rt, index);
+    assert!(rt; reloc_of(index) == relocs.first().copied());
+    assert!(rt; held_in(index, 1) == Some(Place { sec: 1, off: 0 }));
+    assert!(rt; held_in(index, 9) == None);
+}
+
+fn expect_object(rt: &impl Abort, alloc: Global, object: &Object<'_>, relocs: &[Reloc]) {
+    let index = index_of(alloc, object).expect(rt, "functions");
+    expect_index(rt, &index, relocs);
+}
+
+fn expect_bytes(rt: &impl Abort, alloc: Global, bytes: &[u8], relocs: &[Reloc]) {
+    let object = object_of(alloc, bytes).expect(rt, "an object");
+    expect_object(rt, alloc, &object, relocs);
 }
 
 #[test]
 fn targets(rt: HostRuntime) -> Result<(), Fail> {
     let relocs = relocs(rt.alloc())?;
-    let bytes = object(rt.alloc(), &SYMBOLS, &relocs)?.expect(&rt, "an object");
-    assert!(rt; bytes.len() < 1 << 32);
-    let parsed = Object::parse(rt.alloc(), &bytes).expect(&rt, "an object");
-    let index = Index::build(rt.alloc(), &parsed).expect(&rt, "functions");
-    let mut off: u64 = 0;
-    for (_, _, _, target) in &TARGETS {
-        assert!(rt; off < 32);
-        let first = Place { sec: 1, off };
-        let second = Place {
-            sec: 1,
-            off: off + 1,
-        };
-        let jcc = insn(6, Op::Jcc { rel: 0, wide: true });
-        assert_eq!(rt; index.branch_target(first, jcc), *target);
-        let call = insn(5, Op::Call { rel: 0 });
-        assert_eq!(rt; index.branch_target(second, call), *target);
-        let jmp = insn(5, Op::Jmp { rel: 0, wide: true });
-        assert_eq!(rt; index.branch_target(second, jmp), *target);
-        let short = insn(
-            2,
-            Op::Jmp {
-                rel: 0,
-                wide: false,
-            },
-        );
-        assert_eq!(rt; index.branch_target(second, short), Target::Bad);
-        off += 1;
-    }
-    for (len, op, target) in &RELATIVE {
-        let place = Place { sec: 1, off: 24 };
-        assert_eq!(rt; index.branch_target(place, insn(*len, *op)), *target);
-    }
-    let field = Place { sec: 1, off: 2 };
-    assert_eq!(rt; index.reloc_at(field), relocs.first().copied());
-    assert_eq!(rt; index.place_held_at(field), Some(Place { sec: 1, off: 0 }));
-    assert_eq!(rt; index.place_held_at(Place { sec: 9, off: 2 }), None);
+    let bytes = bytes_of(rt.alloc(), &SYMBOLS, &relocs).expect(&rt, "bytes");
+    expect_bytes(&rt, rt.alloc(), &bytes, &relocs);
     Ok(())
 }

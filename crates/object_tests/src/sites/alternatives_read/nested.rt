@@ -70,14 +70,11 @@ const ROWS: [Row; 8] = [
 
 #[test]
 fn points_of_nested_alternatives(rt: HostRuntime) -> Result<(), Fail> {
-    let sites = sites_of(&rt, rt.alloc(), &BODY, &NOPS, &[WHOLE, PART])?.expect(&rt, "sites");
-    assert_eq!(rt; sites.sites().len(), 1);
+    let sites = sites_of(rt.alloc(), &BODY, &NOPS, &[WHOLE, PART]).expect(&rt, "sites");
+    assert!(rt; sites.sites().len() == 1);
     assert!(rt; are_told(&sites, &ROWS));
-    let places = [0u64, 4, 5];
-    let inside = [true, true, false];
-    for (off, is) in places.iter().zip(inside.iter()) {
-        let place = Place { sec: 1, off: *off };
-        assert_eq!(rt; sites.is_in_site(place), *is);
+    for (off, is) in [(0, true), (4, true), (5, false)] {
+        assert!(rt; sites.is_in_site(Place { sec: 1, off }) == is);
     }
     Ok(())
 }

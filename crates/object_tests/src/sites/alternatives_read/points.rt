@@ -2,17 +2,7 @@
 //! shared bytes.
 
 use super::*;
-
-/// A place of section 2.
-fn replacement(off: u64) -> Place {
-    Place { sec: 2, off }
-}
-
-/// A point there.
-fn at(off: u64, variant: u32) -> Point {
-    let place = replacement(off);
-    Point { place, variant }
-}
+use std::process::Abort;
 
 /// The last two instructions, by nothing, at the end of the replacements.
 const LAST: Entry = Entry {
@@ -170,58 +160,68 @@ const BEHIND: [Option<u32>; 14] = [
 ];
 
 /// The sites of these entries.
-fn built(rt: &impl Abort, alloc: Global) -> Result<Sites, Fail> {
-    Ok(sites_of(rt, alloc, &CODE, &REPLACEMENTS, &ENTRIES)?.expect(rt, "sites"))
+fn built(alloc: Global) -> Option<Sites> {
+    sites_of(alloc, &CODE, &REPLACEMENTS, &ENTRIES)
 }
 
-#[test]
-fn sites_of_entries(rt: HostRuntime) -> Result<(), Fail> {
-    let sites = built(&rt, rt.alloc())?;
+/// Places, and the site there.
+const SITES_AT: [(u32, u64, Option<u32>); 3] = [(1, 3, None), (1, 7, Some(1)), (2, 0, None)];
+
+/// Offsets in section 1, and the entries whose originals begin there.
+const ENTRIES_AT: [(u64, &[u32]); 3] = [(4, &[1, 3]), (5, &[]), (1, &[])];
+
+/// Points in section 2, and their numbers.
+const NUMBERS: [(u64, u32, Option<u32>); 3] = [(4, 4, Some(12)), (4, 2, None), (0, 1, None)];
+
+/// Places, and the numbers of their points.
+const NUMBERS_AT: [(u32, u64, (u32, u32)); 3] = [(2, 1, (8, 11)), (2, 2, (11, 11)), (1, 9, (4, 6))];
+
+/// The number of the first point of each entry.
+const FIRSTS: [Option<u32>; 5] = [Some(13), Some(7), None, Some(10), Some(5)];
+
+fn expect_sites(rt: &impl Abort, sites: &Sites) {
     assert!(rt; sites.sites() == SITES.as_slice());
     assert!(rt; sites.entry_numbers() == [4u32, 1, 3, 0].as_slice());
-    assert_eq!(rt; sites.site_number_at(Place { sec: 1, off: 3 }), None);
-    assert_eq!(rt; sites.site_number_at(Place { sec: 1, off: 7 }), Some(1));
-    assert_eq!(rt; sites.site_number_at(replacement(0)), None);
-    Ok(())
+    for (sec, off, site) in SITES_AT {
+        assert!(rt; sites.site_number_at(Place { sec, off }) == site);
+    }
+    for (off, entries) in ENTRIES_AT {
+        assert!(rt; sites.entries_at(Place { sec: 1, off }) == entries);
+    }
+}
+
+fn expect_numbers(rt: &impl Abort, sites: &Sites) {
+    for (off, variant, number) in NUMBERS {
+        let place = Place { sec: 2, off };
+        assert!(rt; sites.number_of(Point { place, variant }) == number);
+    }
+    for (sec, off, numbers) in NUMBERS_AT {
+        assert!(rt; sites.numbers_at(Place { sec, off }) == numbers);
+    }
+}
+
+/// The number of the first point of an entry; of none, nothing.
+fn first_of(sites: &Sites, entry: u32) -> Option<u32> {
+    if entry < sites.entry_count() {
+        sites.number_of_first(entry)
+    } else {
+        None
+    }
+}
+
+fn expect_firsts(rt: &impl Abort, sites: &Sites) {
+    assert!(rt; sites.entry_count() == 5);
+    for (n, first) in FIRSTS.iter().enumerate() {
+        assert!(rt; first_of(sites, n as u32) == *first);
+    }
 }
 
 #[test]
-fn entries_of_places(rt: HostRuntime) -> Result<(), Fail> {
-    let sites = built(&rt, rt.alloc())?;
-    assert!(rt; sites.entries_at(Place { sec: 1, off: 4 }) == [1u32, 3].as_slice());
-    assert!(rt; sites.entries_at(Place { sec: 1, off: 5 }).is_empty());
-    assert!(rt; sites.entries_at(Place { sec: 1, off: 1 }).is_empty());
-    Ok(())
-}
-
-#[test]
-fn points_of_entries(rt: HostRuntime) -> Result<(), Fail> {
-    let sites = built(&rt, rt.alloc())?;
+fn sites_and_points_of_entries(rt: HostRuntime) {
+    let sites = built(rt.alloc()).expect(&rt, "sites");
+    expect_sites(&rt, &sites);
+    expect_numbers(&rt, &sites);
+    expect_firsts(&rt, &sites);
     assert!(rt; are_told(&sites, &ROWS));
     assert!(rt; are_behind(&sites, &BEHIND));
-    Ok(())
-}
-
-#[test]
-fn numbers_of_points(rt: HostRuntime) -> Result<(), Fail> {
-    let sites = built(&rt, rt.alloc())?;
-    assert_eq!(rt; sites.number_of(at(4, 4)), Some(12));
-    assert_eq!(rt; sites.number_of(at(4, 2)), None);
-    assert_eq!(rt; sites.number_of(at(0, 1)), None);
-    assert_eq!(rt; sites.numbers_at(replacement(1)), (8, 11));
-    assert_eq!(rt; sites.numbers_at(replacement(2)), (11, 11));
-    assert_eq!(rt; sites.numbers_at(Place { sec: 1, off: 9 }), (4, 6));
-    Ok(())
-}
-
-#[test]
-fn first_points_of_entries(rt: HostRuntime) -> Result<(), Fail> {
-    let sites = built(&rt, rt.alloc())?;
-    assert!(rt; sites.entry_count() == 5);
-    assert_eq!(rt; sites.number_of_first(0), Some(13));
-    assert_eq!(rt; sites.number_of_first(1), Some(7));
-    assert_eq!(rt; sites.number_of_first(2), None);
-    assert_eq!(rt; sites.number_of_first(3), Some(10));
-    assert_eq!(rt; sites.number_of_first(4), Some(5));
-    Ok(())
 }

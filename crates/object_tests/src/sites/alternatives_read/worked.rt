@@ -105,7 +105,7 @@ const ROWS: [Row; 16] = [
 
 #[test]
 fn points_of_one_site(rt: HostRuntime) -> Result<(), Fail> {
-    let sites = sites_of(&rt, rt.alloc(), &BODY, &NOPS, &[WHOLE])?.expect(&rt, "sites");
+    let sites = sites_of(rt.alloc(), &BODY, &NOPS, &[WHOLE]).expect(&rt, "sites");
     assert!(rt; are_told(&sites, &ROWS));
     Ok(())
 }

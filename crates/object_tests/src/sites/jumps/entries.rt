@@ -99,11 +99,8 @@ const RECOGNISED: [Case<'static>; 10] = [
 ];
 
 #[test]
-fn which_tables_are_recognised(rt: HostRuntime) -> Result<(), Fail> {
-    for case in &RECOGNISED {
-        expect_tables(&rt, rt.alloc(), &BASE, case)?;
-    }
-    Ok(())
+fn which_tables_are_recognised(rt: HostRuntime) {
+    expect_each(&rt, rt.alloc(), &BASE, &RECOGNISED);
 }
 
 /// Where a table ends.
@@ -166,11 +163,8 @@ const ENDS: [Case<'static>; 8] = [
 ];
 
 #[test]
-fn where_a_table_ends(rt: HostRuntime) -> Result<(), Fail> {
-    for case in &ENDS {
-        expect_tables(&rt, rt.alloc(), &BASE, case)?;
-    }
-    Ok(())
+fn where_a_table_ends(rt: HostRuntime) {
+    expect_each(&rt, rt.alloc(), &BASE, &ENDS);
 }
 
 /// Tables whose entries belong to several functions.
@@ -206,11 +200,8 @@ const OWNERS: [Case<'static>; 3] = [
 ];
 
 #[test]
-fn whose_the_entries_are(rt: HostRuntime) -> Result<(), Fail> {
-    for case in &OWNERS {
-        expect_tables(&rt, rt.alloc(), &BASE, case)?;
-    }
-    Ok(())
+fn whose_the_entries_are(rt: HostRuntime) {
+    expect_each(&rt, rt.alloc(), &BASE, &OWNERS);
 }
 
 /// Several tables, and tables of several jumps.
@@ -276,9 +267,6 @@ const SEVERAL: [Case<'static>; 4] = [
 ];
 
 #[test]
-fn several_jumps_and_tables(rt: HostRuntime) -> Result<(), Fail> {
-    for case in &SEVERAL {
-        expect_tables(&rt, rt.alloc(), &BASE, case)?;
-    }
-    Ok(())
+fn several_jumps_and_tables(rt: HostRuntime) {
+    expect_each(&rt, rt.alloc(), &BASE, &SEVERAL);
 }

@@ -26,24 +26,25 @@ const PARTED: [Row<'static>; 4] = [
     (b"g", STB_GLOBAL, STT_FUNC, 1, 9, 1),
 ];
 
+const WHOLE_BASE: Base<'static> = Base {
+    code: &CODE,
+    replacements: &[],
+    rows: &WHOLE,
+};
+
+const PARTED_BASE: Base<'static> = Base {
+    rows: &PARTED,
+    ..WHOLE_BASE
+};
+
 #[test]
-fn three_entries_of_one_function(rt: HostRuntime) -> Result<(), Fail> {
-    let base = Base {
-        code: &CODE,
-        replacements: &[],
-        rows: &WHOLE,
-    };
+fn three_entries_of_one_function(rt: HostRuntime) {
     let case: Case<'_> = (b".rodata", &FIELDS, &[(1, 0, Some(3), &[7, 8, 9])]);
-    expect_tables(&rt, rt.alloc(), &base, &case)
+    expect_tables(&rt, rt.alloc(), &WHOLE_BASE, &case);
 }
 
 #[test]
-fn the_third_is_another_function(rt: HostRuntime) -> Result<(), Fail> {
-    let base = Base {
-        code: &CODE,
-        replacements: &[],
-        rows: &PARTED,
-    };
+fn the_third_is_another_function(rt: HostRuntime) {
     let case: Case<'_> = (b".rodata", &FIELDS, &[(1, 0, Some(3), &[7, 8])]);
-    expect_tables(&rt, rt.alloc(), &base, &case)
+    expect_tables(&rt, rt.alloc(), &PARTED_BASE, &case);
 }
