@@ -156,8 +156,11 @@ fn none_noted(alloc: Global, warnings: usize) -> Result<Vec<Option<Clash>>, NoMe
     Ok(vec![in alloc; None; warnings]?)
 }
 
-/// Finds for the warnings of a program, in ascending order, the edges at which rule 4 is broken for them: for each one of rule 4
-/// the first such edge by points, and for others none. It refuses nothing, and where memory is wanting it says so.
+/// Finds for the warnings of a program, in ascending order, edges at which rule 4 is broken for them: for each one of rule 4 one
+/// such edge, and for others none. It refuses nothing, and where memory is wanting it says so.
+///
+/// Each edge of each point is looked at once, those that points share once for each of them; a warning is looked up, in a number
+/// of steps that grows with the logarithm of how many there are, only where an edge brings another state than the kept one.
 pub fn find_clashes(
     alloc: Global,
     graph: &Graph,

@@ -1,4 +1,5 @@
 //! Tells how control came to each point that is kept: the turns of a way by which its state spread to it over a program's graph.
+//! It also finds the edges at which rule 4 is broken, for the warnings of it.
 #![tactic(auto)]
 
 mod clashes;

@@ -25,8 +25,8 @@ struct Turn {
 /// control didn't just go on from one instruction to the next. Contracts see it as the list of these by point, with no turns
 /// where a point isn't kept.
 ///
-/// A point takes 4 bytes, and a turn 20 more. Turns are shared by all the points to which control just goes on from them, and
-/// by all turns behind them.
+/// A point takes 4 bytes. Turns are shared by all the points to which control just goes on from them, and by all turns behind
+/// them.
 #[derive(Drop)]
 pub struct Ways {
     /// By point, the number of the last turn on the way to it.
@@ -81,7 +81,7 @@ impl Ways {
         })
     }
 
-    /// Whether a way to a point is noted.
+    /// Whether a way to a point is noted, which is so where it is kept.
     pub fn is_shown(&self, point: u32) -> bool
         requires { point < length self.now }
         ensures { IsTrue result ↔ (turns_at self.now point ≢ []) }
