@@ -106,9 +106,9 @@ class Ways:
         return [point for point in self.flow.points if point.place == warning.place]
 
     def inside(self, warning: Warning) -> str:
-        """The function that holds the place where the first point at the warning's place runs."""
-        points = self.points_at(warning)
-        place = self.flow.address[points[0]] if points else warning.place
+        """The function that holds the place where the point of the warning runs; where none is kept, the first point there."""
+        point = self.at(warning) or next(iter(self.points_at(warning)), None)
+        place = self.flow.address[point] if point is not None else warning.place
         function = self.flow.functions.at(place)
         if function is None:
             return "no function"

@@ -17,8 +17,8 @@ from names import Names
 from rows import row_of
 from sites import Point
 from special import RESTORE, SAVE
-from states import Live, State, hint_state, kept_states
-from texts import Refused, escaped, place_text, row_words
+from states import Ended, Live, State, hint_state, kept_states
+from texts import KINDS, Refused, escaped, place_text, row_words
 
 # The operations by their words, and those of them behind which their number stands.
 OPERATIONS = {
@@ -33,9 +33,11 @@ NUMBERED = "AddSp", "AndSp", "LeaSpBp", "LeaBpSp", "LeaBpRoom", "StoreBp", "Load
 
 
 def state_words(state: Optional[State]) -> str:
-    """A kept state: its row, and the depth where that isn't told by the row."""
+    """A kept state: its row, and the depth where that isn't told by the row; of an ended stack the kind of its row alone."""
     if state is None:
         return "not reached"
+    if isinstance(state, Ended):
+        return f"ended: {KINDS[state.kind]}"
     depth = ""
     if isinstance(state, Live) and (state.at_least or state.fp is not None):
         depth = f" depth{' at least' if state.at_least else ''} {state.depth}"
