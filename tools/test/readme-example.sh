@@ -1,6 +1,6 @@
 #!/usr/bin/env bash
-# README's example, as the system's assembler makes an object of it, which `ld -r` gives a section symbol: what `check` and `dump` print
-# is what README says, also without the second `pop`; and `readelf` finds the sections that were added, with these rows. The names file
+# README's example, as the system's assembler makes an object of it, which `ld -r` gives a section symbol: what `check --backtrace` and
+# `dump` print is what README says, without the second `pop` and with it; and `readelf` finds the sections that were added, with these rows. The names file
 # that is shipped changes nothing of it.
 set -eu
 . "$(dirname "$0")/../lib/prepare.sh"
@@ -10,7 +10,7 @@ failed() { echo "readme example: FAILED, $*"; exit 1; }
 cd "$scratch"
 
 # block N: the Nth block of code in README's section of the example.
-block() { sed -n '/^## An example$/,/^## /p' "$root/README.md" | awk -v wanted="$1" '/^```/ { fences++; next } fences == 2 * wanted - 1'; }
+block() { sed -n '/^## A warning, and what to do next$/,/^## /p' "$root/README.md" | awk -v wanted="$1" '/^```/ { fences++; next } fences == 2 * wanted - 1'; }
 # object NAME: what the assembler and the linker make of the code on the standard input.
 object() {
     { printf '\t.text\n\t.globl leaf\n\t.type leaf, @function\n' && cat && printf '\t.size leaf, .-leaf\n'; } | as -o assembled.o -
@@ -18,11 +18,12 @@ object() {
 }
 block 1 | object leaf.o
 printed=$("$program" check leaf.o checked.o) && [ -z "$printed" ] || failed "check prints $printed"
-[ "$("$program" dump checked.o)" = "$(block 2)" ] || failed "dump prints other rows than README has"
-block 1 | awk '!/pop/ || ++pops != 2' | object unpopped.o
+[ "$("$program" dump checked.o)" = "$(block 3)" ] || failed "dump prints other rows than README has"
+mkdir unpopped
+block 1 | awk '!/pop/ || ++pops != 2' | object unpopped/leaf.o
 status=0
-printed=$("$program" check unpopped.o out.o) || status=$?
-[ "$status" = 1 ] && [ ! -e out.o ] && [ "$printed" = "$(block 3)" ] || failed "without the second pop the status is $status, and check prints $printed"
+printed=$(cd unpopped && "$program" check leaf.o checked.o --backtrace) || status=$?
+[ "$status" = 1 ] && [ ! -e unpopped/checked.o ] && [ "$printed" = "$(block 2)" ] || failed "without the second pop the status is $status, and check prints $printed"
 echo "readme example: check and dump print what README says"
 
 # The rows of the checked object, each by its offset in hexadecimal and its six bytes.
