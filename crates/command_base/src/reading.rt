@@ -7,11 +7,10 @@ use eh_frame::EhFault;
 use elf_objects::ElfFault;
 use orc_bytes::OrcFault;
 use orc_merge::{LayoutFault, MergeFault, TableFault};
-use orc_walk::PlaceFault;
+use orc_walk::{ImageFault, PlaceFault};
 use ot_base::ListsFault;
 use ot_files::{FileError, Files};
 use site_lists::SitesFault;
-use orc_walk::ImageFault;
 use std::alloc::Global;
 
 /// How many bytes an image file may have.

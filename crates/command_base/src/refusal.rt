@@ -4,10 +4,9 @@ use elf_objects::{Counted, ElfFault};
 use object_code::LinkFaultText;
 use orc_bytes::OrcFault;
 use orc_merge::{LayoutFault, MergeFault, TableFault};
-use orc_walk::PlaceFault;
+use orc_walk::{ImageFault, PlaceFault};
 use ot_base::{Escaped, ListsFault};
 use site_lists::SitesFault;
-use orc_walk::ImageFault;
 use std::fmt;
 
 /// Why an input is refused.

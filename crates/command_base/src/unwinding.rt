@@ -19,9 +19,8 @@ use crate::{
 };
 use elf_objects::{MAX_FILE_BYTES, Object};
 use orc_bytes::decode;
-use orc_walk::{Range, Table, walk};
+use orc_walk::{Image, Range, Table, walk};
 use ot_files::{Files, Sink};
-use orc_walk::Image;
 use std::alloc::Global;
 use table_defs::{Frame, Stop as WalkStop};
 

@@ -119,16 +119,14 @@ unrefused one s map input names function held content o lists c may code (refuse
 unrefused one s map input names function held content o lists c may code (refused.without_function read p others name is has of order given none says) =
     lacks_here map o p lists others function name (sym (same_object map input names read p o lists held content c is of may)) (sym (same_lists map input names o others lists held content c has may)) given code none
 
-show_stop_usage : (s : CommandStop) (map : Map) (input : List ℕ) (names function : Option (List ℕ)) (before after : Outside) → StopsShow map input names function before after s → status_of s ≢ Usage
-show_stop_usage s map input names function before after (unchecked h) e = stop_no_usage s map input names before after h e
-show_stop_usage s map input names function before after (no_function o lists name may given none says) e = no_usage name s says e
+show_stop_no_usage : (s : CommandStop) (map : Map) (input : List ℕ) (names function : Option (List ℕ)) (before after : Outside) → StopsShow map input names function before after s → status_of s ≢ Usage
+show_stop_no_usage s map input names function before after (unchecked h) e = stop_no_usage s map input names before after h e
+show_stop_no_usage s map input names function before after (no_function o lists name may given none says) e = no_usage name s says e
 
--- words that mean `show` aren't at fault
 pub show_no_usage : (map : Map) (input : List ℕ) (names function : Option (List ℕ)) (before after : Outside) (out out' : Output) (x : Status) → EndsShow map input names function before after out out' x → x ≢ Usage
 show_no_usage map input names function before after out out' x (shown o lists states may t) e = done_no_usage _ out out' x t e
-show_no_usage map input names function before after out out' x (stopped s h t) e = show_stop_usage s map input names function before after h (concluded_usage s out out' x t e)
+show_no_usage map input names function before after out out' x (stopped s h t) e = show_stop_no_usage s map input names function before after h (concluded_usage s out out' x t e)
 
--- and no rule is tested
 pub show_no_warnings : (map : Map) (input : List ℕ) (names function : Option (List ℕ)) (before after : Outside) (out out' : Output) (x : Status) → EndsShow map input names function before after out out' x → x ≢ Warnings
 show_no_warnings map input names function before after out out' x (shown o lists states may t) e = not_warnings (printed_warnings Done _ out out' x t e)
 show_no_warnings map input names function before after out out' x (stopped s h t) e = concluded_no_warnings s out out' x t e
@@ -136,7 +134,7 @@ show_no_warnings map input names function before after out out' x (stopped s h t
 pub show_refused : OneOutcome → (map : Map) (input : List ℕ) (names function : Option (List ℕ)) (held : Content) (before after : Outside) (out out' : Output) (x : Status) (s : CommandStop) → EndsShow map input names function before after out out' x → before.content ≡ Some held → RefusesShow map input names function held s → IsRefusedOrFails x
 show_refused one map input names function held before after out out' x s (shown o lists states may t) c why = absurd (unrefused one s map input names function held before.content o lists c may.may may.code why)
 show_refused one map input names function held before after out out' x s (stopped told h t) c why =
-    left x (concluded_not_done told out out' x t) (concluded_no_warnings told out out' x t) (λ e. show_stop_usage told map input names function before after h (concluded_usage told out out' x t e))
+    left x (concluded_not_done told out out' x t) (concluded_no_warnings told out out' x t) (λ e. show_stop_no_usage told map input names function before after h (concluded_usage told out out' x t e))
 
 -- ---- faults
 

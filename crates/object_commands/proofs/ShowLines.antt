@@ -32,12 +32,12 @@ lower_or_last n c less = elim (cases_lt n c) [ inl lower ↦ inl lower | inr upp
 around : (f : ℕ → List ℕ) (n count : ℕ) → n < count → (rest : List ℕ) × (texts_below f count ≡ texts_below f n ++ f n ++ rest)
 around f n zero less = absurd (omega arith)
 around f n (suc c) less = elim (lower_or_last n c less) [
-      inl lower ↦
+  | inl lower ↦
       let before = around f n c lower in
       (before.0 ++ f c, one_more f c ∙ ap (λ (text : List ℕ). text ++ f c) before.1 ∙ append_assoc (texts_below f n ++ f n) before.0 (f c))
-    | inr same ↦
+  | inr same ↦
       ([], one_more f c ∙ subst (λ (k : ℕ). texts_below f k ++ f k ≡ texts_below f n ++ f n) same refl ∙ sym (append-nil (texts_below f n ++ f n)))
-    ]
+]
 
 pub point_fails : (f : ℕ → List ℕ) (n count : ℕ) (before middle after : Output) (s : Status) → n < count → middle.written ≡ appending before.written (flat_map f (below n)) → before.faults ≤ middle.faults → FailsToPrint (f n) middle after s → Prints status.Done (flat_map f (below count)) before after s
 point_fails f n count before middle after s less so later h =

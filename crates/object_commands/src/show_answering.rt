@@ -41,7 +41,11 @@ pub(crate) fn show_bytes<S: Sink>(
         Err(stop) => return conclude(alloc, stop, out),
     };
     match missing_function(&object, &code.graph, asked.function) {
-        Some(name) => conclude(alloc, CommandStop::Refused(Refusal::NoFunction { name }), out),
+        Some(name) => conclude(
+            alloc,
+            CommandStop::Refused(Refusal::NoFunction { name }),
+            out,
+        ),
         None => print_listing(alloc, &object, &code.graph, &code.kept, asked.function, out),
     }
 }

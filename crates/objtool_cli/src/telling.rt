@@ -62,7 +62,13 @@ fn tell_backtraces<S: Sink>(
     };
     match states_of(alloc, &code) {
         Ok(kept) => print_backtraces(
-            alloc, object, asked.input, code.graph(), &kept, warnings, out,
+            alloc,
+            object,
+            asked.input,
+            code.graph(),
+            &kept,
+            warnings,
+            out,
         ),
         Err(NoMemory) => Status::NoMemory,
     }

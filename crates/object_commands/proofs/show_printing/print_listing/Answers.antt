@@ -6,7 +6,7 @@ use Rattle.object_commands.proofs.show_printing.print_listing.Goals as goal
 
 pub returns-in-Err-clause-printed : goal.returns-in-Err-clause-printed
 returns-in-Err-clause-printed g c p tells =
-    point_fails _ c.loop-n.n p.count _ _ _ _ (omega (arith, c.points.ensures.count p tells)) (c.loop-n.invariant.so_far p tells) (no_lower _ _ c.loop-n.invariant.unfailed) (c.in-Err.ensures.err p tells)
+    point_fails _ c.loop-n.n p.count _ _ _ _ (omega (arith, c.points-n-end.ensures.count p tells)) (c.loop-n.invariant.so_far p tells) (no_lower _ _ c.loop-n.invariant.unfailed) (c.in-Err.ensures.err p tells)
 
 pub returns-in-Err-clause-output_failed : goal.returns-in-Err-clause-output_failed
 returns-in-Err-clause-output_failed g c risen = part_failed _ _ _ _ c.loop-n.invariant.unfailed c.in-Err.ensures.output_failed risen
@@ -18,4 +18,4 @@ loop-n-preserved g c = record {
 }
 
 pub returns-clause-printed : goal.returns-clause-printed
-returns-clause-printed g c p tells = all_printed _ c.loop-n.n p.count _ _ (omega (arith, c.points.ensures.count p tells)) (c.loop-n.invariant.so_far p tells)
+returns-clause-printed g c p tells = all_printed _ c.loop-n.n p.count _ _ (omega (arith, c.points-n-end.ensures.count p tells)) (c.loop-n.invariant.so_far p tells)
