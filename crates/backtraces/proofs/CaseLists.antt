@@ -1,5 +1,5 @@
 -- What is found of warnings, put together.
-use Rattle.std.proofs.Common.{◌≡◌, ℕ, suc, ◌+◌, ◌<◌, List, [], ◌∷◌, ◌++◌, length, map, get_or, Option, Some, None, inl, inr, arith, refl, sym, ap, ◌∙◌, subst, length-append}
+use Rattle.std.proofs.Common.{◌≡◌, ℕ, suc, ◌+◌, ◌<◌, List, [], ◌∷◌, ◌++◌, length, map, get_or, Option, Some, None, inl, inr, arith, refl, sym, ap, ◌∙◌, subst, length-append, pos}
 use Rattle.std.specs.Prelude.{All, slice_get, ◌≢◌}
 use Rattle.std.proofs.lemmas.Bool.{cases_lt}
 use Rattle.std.proofs.lemmas.List.{get_or-map, get_or_append_left, get_or_default, length-map}
@@ -19,15 +19,8 @@ use Rattle.state_ways.specs.declared.clashes.Clash.{Clash}
 use Rattle.state_ways.specs.Clashes.{AreClashes, IsClash}
 use Rattle.backtraces.specs.declared.spots.Spot.{Spot}
 use Rattle.backtraces.specs.Backtrace.{first_kept, first_point}
-use Rattle.backtraces.specs.Cases.{IsCase, IsCaseClash, IsWarnedOf, found, none}
+use Rattle.backtraces.specs.Cases.{IsCase, IsCaseClash, IsMade, IsWarnedOf, found, none}
 use Rattle.backtraces.specs.Spots.{AreFirst, IsSpot}
-
--- a case of its parts
-pub record IsMade (w : Warning) (spot : Spot) (noted : Option Clash) (c : Case) : Type 0 where
-  pub warning : c.warning ≡ w
-  pub first : c.first ≡ spot.first
-  pub kept : c.kept ≡ spot.kept
-  pub clash : c.clash ≡ noted
 
 abbrev pub AreMade : List Warning → List Spot → List (Option Clash) → List Case → Type 0
 AreMade warnings firsts clashes cases = (i : ℕ) (w : Warning) (s : Spot) (c : Case) → i < length cases → IsMade (get_or warnings i w) (get_or firsts i s) (get_or clashes i None) (get_or cases i c)
@@ -64,7 +57,7 @@ same_warnings warnings firsts clashes cases w s c len made =
 
 -- what is noted for a warning
 case_clash : (p : Program) (warnings : List Warning) (clashes : List (Option Clash)) (i : ℕ) (w : Warning) → i < length warnings → length clashes ≡ length warnings → AreClashes p warnings clashes
-    → ((get_or warnings i w).rule ≡ STATE_MISMATCH → Warns p (get_or warnings i w).place STATE_MISMATCH (get_or warnings i w).a (get_or warnings i w).b)
+    → ((get_or warnings i w).rule ≡ STATE_MISMATCH → Warns p (get_or warnings i w).place (get_or warnings i w).rule (get_or warnings i w).a (get_or warnings i w).b)
     → IsCaseClash p (get_or warnings i w) (get_or clashes i None)
 case_clash p warnings clashes i w inside len are warns = go (get_or clashes i None) refl
   where
@@ -79,7 +72,7 @@ case_clash p warnings clashes i w inside len are warns = go (get_or clashes i No
 
     missing : get_or clashes i None ≡ None → v.rule ≡ STATE_MISMATCH → ⊥
     missing e rule =
-        let found = are.all v (Contains-get_or warnings i w inside) rule (subst (λ (r : ℕ). Warns p v.place r v.a v.b) (sym rule) (warns rule)) i at in
+        let found = are.all v (Contains-get_or warnings i w inside) rule (warns rule) i at in
         let same : ◌≡◌ {A = Option (Option Clash)} (Some (get_or clashes i None)) (Some (Some found.0)) = sym there ∙ found.1 in
         cc
 
@@ -103,5 +96,15 @@ are_cases p parts kept warnings firsts clashes cases len spots notes made first 
     let at_first = first i w s (omega (arith, within, spots)) in
     is_case p (at kept) (get_or warnings i w) (get_or firsts i s) (get_or clashes i None) (get_or cases i c) (made i w s c inside) at_first.0 at_first.1 (case_clash p warnings clashes i w within notes are (mismatch i w within))
   where
-    mismatch : (i : ℕ) (w : Warning) → i < length warnings → (get_or warnings i w).rule ≡ STATE_MISMATCH → Warns p (get_or warnings i w).place STATE_MISMATCH (get_or warnings i w).a (get_or warnings i w).b
+    mismatch : (i : ℕ) (w : Warning) → i < length warnings → (get_or warnings i w).rule ≡ STATE_MISMATCH → Warns p (get_or warnings i w).place (get_or warnings i w).rule (get_or warnings i w).a (get_or warnings i w).b
     mismatch i w within rule = warned.mismatches (get_or warnings i w) (Contains-get_or warnings i w within) rule
+
+-- in place of what isn't there
+pub no_warning : Warning
+no_warning = record { place = record { sec = 0; off = 0 }; rule = 0; a = pos 0; b = pos 0 }
+
+pub no_spot : Spot
+no_spot = record { place = record { sec = 0; off = 0 }; first = None; kept = None }
+
+pub no_case : Case
+no_case = record { warning = no_warning; first = None; kept = None; clash = None }
