@@ -1,3 +1,4 @@
+pub mod Clashes
 pub mod Marks
 pub mod Turns
 pub mod Ways

@@ -37,7 +37,7 @@ struct Search {
 }
 
 /// Whether states come in along edges at a point with this hint.
-fn is_free(hint: Option<HintState>) -> bool
+pub(crate) fn is_free(hint: Option<HintState>) -> bool
     ensures { result ≡ is_free_hint hint }
 {
     match hint {
@@ -48,7 +48,7 @@ fn is_free(hint: Option<HintState>) -> bool
 
 /// What a state is brought along an edge as: to a fixup the state before the instruction, else the one after it; to another
 /// function none.
-fn brought_along(state: State, op: Op, kind: EdgeKind) -> Option<State>
+pub(crate) fn brought_along(state: State, op: Op, kind: EdgeKind) -> Option<State>
     ensures { option_to_list result ≡ brought_along_edge state op kind }
 {
     match kind {
@@ -59,7 +59,7 @@ fn brought_along(state: State, op: Op, kind: EdgeKind) -> Option<State>
 }
 
 /// Whether two states are the same.
-fn is_same(one: State, other: State) -> bool
+pub(crate) fn is_same(one: State, other: State) -> bool
     ensures { IsTrue result ↔ (one ≡ other) }
 {
     match (one, other) {
