@@ -1,6 +1,6 @@
 -- What is found of warnings, put together.
-use Rattle.std.proofs.Common.{◌≡◌, ℕ, suc, ◌+◌, ◌<◌, List, [], ◌∷◌, ◌++◌, length, map, get_or, Option, Some, None, inl, inr, arith, refl, sym, ap, ◌∙◌, subst, length-append, pos}
-use Rattle.std.specs.Prelude.{All, slice_get, ◌≢◌}
+use Rattle.std.proofs.Common.{◌≡◌, ℕ, suc, ◌+◌, ◌<◌, ◌≤◌, List, [], ◌∷◌, ◌++◌, length, map, get_or, Option, Some, None, inl, inr, arith, refl, sym, ap, ◌∙◌, subst, length-append, pos}
+use Rattle.std.specs.Prelude.{All, slice_get, ◌≢◌, ℤ}
 use Rattle.std.proofs.lemmas.Bool.{cases_lt}
 use Rattle.std.proofs.lemmas.List.{get_or-map, get_or_append_left, get_or_default, length-map}
 use Rattle.std.proofs.lemmas.List.Elements.{Contains-get_or}
@@ -8,15 +8,18 @@ use Rattle.std.proofs.lemmas.Option.{slice_get-get_or}
 use Rattle.std.proofs.Math.Seq.{get_or-append_seam}
 use Rattle.ot_base.specs.declared.place.Place.{Place}
 use Rattle.ot_base.specs.declared.warning.Warning.{Warning}
+use Rattle.ot_base.specs.Warnings.{numbered_warning}
 use Rattle.ot_base.specs.declared.rules.TheConstants.{STATE_MISMATCH}
 use Rattle.state_defs.specs.declared.state.State.{State}
 use Rattle.machine_defs.specs.Program.{Program}
 use Rattle.machine_defs.specs.Broken.{Warns}
+use Rattle.machine_defs.specs.Broken as broken
+use Rattle.table_law.proofs.Refusals.{refusal}
 use Rattle.kept_states.specs.LevelStates.{at}
 use Rattle.program_graph.specs.declared.parts.GraphParts.{GraphParts}
 use Rattle.backtraces.specs.declared.cases.Case.{Case}
 use Rattle.state_ways.specs.declared.clashes.Clash.{Clash}
-use Rattle.state_ways.specs.Clashes.{AreClashes, IsClash}
+use Rattle.state_ways.specs.Clashes.{AreClashes, IsClash, IsNoted}
 use Rattle.backtraces.specs.declared.spots.Spot.{Spot}
 use Rattle.backtraces.specs.Backtrace.{first_kept, first_point}
 use Rattle.backtraces.specs.Cases.{IsCase, IsCaseClash, IsMade, IsWarnedOf, found, none}
@@ -55,6 +58,15 @@ same_warnings warnings firsts clashes cases w s c len made =
     same_lists (map (λ (x : Case). x.warning) cases) warnings w (size ∙ len)
     (λ i inside. let within : i < length cases = omega (arith, inside, size) in get_or-map (λ (x : Case). x.warning) cases i c w within ∙ (made i w s c within).warning)
 
+-- where rule 4 warns, a clash is noted
+noted_where : (p : Program) (warnings : List Warning) (clashes : List (Option Clash)) → AreClashes p warnings clashes → (place : Place) (rule : ℕ) (a b : ℤ) → Warns p place rule a b → rule ≡ STATE_MISMATCH → IsNoted warnings clashes (numbered_warning place rule a b)
+noted_where p warnings clashes are place rule a b (broken.mismatch q r s t u from brings to free other) e = are.all q r s t u from brings to free other
+noted_where p warnings clashes are place rule a b (broken.refused q n s k why before) e = let h : 7 ≤ 4 = subst (λ (x : ℕ). 7 ≤ x) e (refusal s (p.insn q).op n why) in absurd (omega arith)
+noted_where p warnings clashes are place rule a b _ e = absurd (omega arith)
+
+same_parts : (w : Warning) → w ≡ numbered_warning w.place w.rule w.a w.b
+same_parts w = refl
+
 -- what is noted for a warning
 case_clash : (p : Program) (warnings : List Warning) (clashes : List (Option Clash)) (i : ℕ) (w : Warning) → i < length warnings → length clashes ≡ length warnings → AreClashes p warnings clashes
     → ((get_or warnings i w).rule ≡ STATE_MISMATCH → Warns p (get_or warnings i w).place (get_or warnings i w).rule (get_or warnings i w).a (get_or warnings i w).b)
@@ -72,7 +84,7 @@ case_clash p warnings clashes i w inside len are warns = go (get_or clashes i No
 
     missing : get_or clashes i None ≡ None → v.rule ≡ STATE_MISMATCH → ⊥
     missing e rule =
-        let found = are.all v (Contains-get_or warnings i w inside) rule (warns rule) i at in
+        let found = noted_where p warnings clashes are v.place v.rule v.a v.b (warns rule) rule i (at ∙ ap Some (same_parts v)) in
         let same : ◌≡◌ {A = Option (Option Clash)} (Some (get_or clashes i None)) (Some (Some found.0)) = sym there ∙ found.1 in
         cc
 

@@ -33,6 +33,6 @@ returns-clause-printed g c p w = silent refl
 
 pub returns-in-Ok-find_cases-clause-printed : goal.returns-in-Ok-find_cases-clause-printed
 returns-in-Ok-find_cases-clause-printed g c p w =
-    cases_told p c.args.graph.now.parts c.args.kept.now _ c.args.warnings.now c.requires.points c.in-Ok-find_ways.ensures.points w c.args.object.now c.args.input.now c.in-Ok-find_cases.cases.items _ _ c.print_cases.result
+    cases_told p c.args.graph.now.parts c.args.kept.now _ c.args.warnings.now c.requires.points c.in-Ok-find_ways.ensures.points w c.args.object.now c.args.input.now c.in-Ok-find_cases.cases.items (record { written = g.S.Sink.written c.args.out.now; faults = g.S.Sink.faults c.args.out.now }) (record { written = g.S.Sink.written c.print_cases.new.out; faults = g.S.Sink.faults c.print_cases.new.out }) c.print_cases.result
     (c.in-Ok-find_ways.ensures.ways p w.tells w.is_program w.kept) c.in-Ok-find_cases.ensures.warnings (c.in-Ok-find_cases.ensures.cases p w)
-    (subst (λ cases. Prints status.Warnings (cases_text c.args.object.now c.args.input.now p (at c.args.kept.now) c.in-Ok-find_ways.ways cases) _ _ c.print_cases.result) c.deref.ensures.value (c.print_cases.ensures.printed p w.tells))
+    (subst (λ cases. Prints status.Warnings (cases_text c.args.object.now c.args.input.now p (at c.args.kept.now) c.in-Ok-find_ways.ways cases) (record { written = g.S.Sink.written c.args.out.now; faults = g.S.Sink.faults c.args.out.now }) (record { written = g.S.Sink.written c.print_cases.new.out; faults = g.S.Sink.faults c.print_cases.new.out }) c.print_cases.result) c.deref.ensures.value (c.print_cases.ensures.printed p w.tells))
