@@ -42,7 +42,7 @@ met p states n is_kept spot new here keeps same was first kept =
     record {
       first = least_below-step (stands_at p spot.place) n spot.first new.first true was.first stand first ∙ ap (λ (x : Place). least_below (stands_at p x) (n + 1)) (sym same);
       kept = least_below-step (λ q. stands_at p spot.place q && is_some (states q)) n spot.kept new.kept is_kept was.kept (keeps ∙ and_true (stands_at p spot.place n) (is_some (states n)) stand) kept
-      ∙ ap (λ (x : Place). least_below (λ q. stands_at p x q && is_some (states q)) (n + 1)) (sym same);
+          ∙ ap (λ (x : Place). least_below (λ q. stands_at p x q && is_some (states q)) (n + 1)) (sym same);
     }
 
 -- none stands there

@@ -121,11 +121,7 @@ fn push_along(edge: Edge, steps: &mut Vec<WayStep>) -> Result<(), NoMemory>
 }
 
 /// Puts into a list the turns of a way to where an edge begins, and the edge, if there is one.
-fn turns_along(
-    ways: &Ways,
-    clash: Option<Clash>,
-    steps: &mut Vec<WayStep>,
-) -> Result<(), NoMemory>
+fn turns_along(ways: &Ways, clash: Option<Clash>, steps: &mut Vec<WayStep>) -> Result<(), NoMemory>
     requires { IfSome clash (λ clash. clash.from < length ways.now) }
     ensures { OnOk result (steps.new.items ≡ turns_along_clash ways.now clash) }
 {

@@ -11,9 +11,7 @@ ghost use Rattle.objtool_cli.specs.Command.{EndsCheck, IsRead};
 use crate::telling::tell_warnings;
 use crate::words::Check;
 use crate::writing::write_table;
-use command_base::{
-    CommandStop, Refusal, Status, conclude, flow_stop, link_stop, parse_stop,
-};
+use command_base::{CommandStop, Refusal, Status, conclude, flow_stop, link_stop, parse_stop};
 use elf_objects::{Counted, MAX_FILE_BYTES, Object};
 use object_check::{CheckFault, ObjectVerdict, check_object};
 use ot_base::Lists;

@@ -11,7 +11,7 @@ loop-warning-preserved c = record {
   apart = c.in_ok-number.ensures.apart;
   new = λ p states. c.in_ok-number.ensures.new p states (c.loop-warning.invariant.new p states);
   numbers = numbers_more c.args.warnings.now c.loop-warning.spots.items c.push_place.new.spots.items c.loop-warning.numbers.items c.push.new.self.items c.in_ok-number.number c.loop-warning.warning-index _
-  c.loop-warning.invariant.numbers c.loop-warning.invariant.len c.loop-warning-test.true c.in_ok-number.ensures.more c.in_ok-number.ensures.stays c.in_ok-number.ensures.last c.in_ok-number.ensures.place c.in_ok-push.ensures.items;
+      c.loop-warning.invariant.numbers c.loop-warning.invariant.len c.loop-warning-test.true c.in_ok-number.ensures.more c.in_ok-number.ensures.stays c.in_ok-number.ensures.last c.in_ok-number.ensures.place c.in_ok-push.ensures.items;
   len = grind (arith, c.in_ok-push.ensures.len, c.loop-warning.invariant.len);
   some = λ h. omega arith;
   last = λ w d some. last_stays c.args.warnings.now c.push_place.new.spots.items c.in_ok-number.number c.loop-warning.warning-index _ w d c.loop-warning-test.true c.in_ok-number.ensures.last c.in_ok-number.ensures.place;
