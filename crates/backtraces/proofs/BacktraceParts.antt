@@ -1,7 +1,6 @@
 -- A backtrace line by line.
 use Rattle.std.proofs.Common.{◌≡◌, ℕ, List, ◌++◌, ap, ◌∙◌, append_assoc}
-use Rattle.std.specs.Prelude.{Result, Ok, Err, OnOk, Option, Some, None, IfSome, codes}
-use Rattle.std.specs.Option.{option_or}
+use Rattle.std.specs.Prelude.{Result, Ok, Err, OnOk, codes}
 use Rattle.elf_objects.specs.Elf.{Elf}
 use Rattle.machine_defs.specs.Program.{Program}
 use Rattle.backtraces.specs.Backtrace.{Told}
@@ -26,8 +25,3 @@ backtrace_is o input p rule told old a b c d e is_a is_b is_c is_d is_e =
 pub on_ok : {T E : Type 0} (r : Result T E) (P Q : Type 0) → (P → Q) → OnOk r P → OnOk r Q
 on_ok (Ok x) P Q f h = f h
 on_ok (Err e) P Q f h = tt
-
--- what holds of each of two numbers, where they are there, holds of the first that is
-pub first_has : (one other : Option ℕ) (P : ℕ → Type 0) → IfSome one P → IfSome other P → IfSome (option_or one other) P
-first_has (Some n) other P h k = h
-first_has None other P h k = k

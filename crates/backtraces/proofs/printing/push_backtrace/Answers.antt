@@ -1,10 +1,9 @@
-use Rattle.std.proofs.Common.{◌≡◌, ℕ, ◌<◌, ◌++◌, List, length, sym, ap, subst, ◌∙◌}
-use Rattle.std.specs.Prelude.{IfSome}
+use Rattle.std.proofs.Common.{◌≡◌, ℕ, ◌++◌, List, sym, ap, subst, ◌∙◌}
 use Rattle.kept_states.specs.LevelStates.{at}
 use Rattle.backtraces.specs.Backtrace.{address_by, holder_of}
 use Rattle.backtraces.specs.Cases.{told_by}
 use Rattle.backtraces.specs.Text.{backtrace_text, holder_line, state_line}
-use Rattle.backtraces.proofs.BacktraceParts.{backtrace_is, first_has, on_ok}
+use Rattle.backtraces.proofs.BacktraceParts.{backtrace_is, on_ok}
 use Rattle.backtraces.proofs.printing.push_backtrace.Goals as goal
 
 pub returns : goal.returns
@@ -18,6 +17,3 @@ returns c p tells =
     (c.in_ok-push_kept.ensures ∙ ap (λ s. c.push_holder.new.into.items ++ state_line s) c.state_of.ensures)
     (c.in_ok-push_way.ensures p tells) (c.in_ok-push_other_way.ensures p tells))
     c.push_see.ensures
-
-pub address_of-requires : goal.address_of-requires
-address_of-requires c = subst (λ n. IfSome n (λ k. k < length c.args.sources.now.graph.now.parts.points.items)) (sym c.or.ensures) (first_has c.args.case.now.kept c.args.case.now.first _ c.requires.case.kept c.requires.case.first)
