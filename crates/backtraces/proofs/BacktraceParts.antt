@@ -6,14 +6,15 @@ use Rattle.machine_defs.specs.Program.{Program}
 use Rattle.backtraces.specs.Backtrace.{Told}
 use Rattle.backtraces.specs.Text.{backtrace_text, holder_line, see_line, state_line, steps_line}
 
-five : (old first second third fourth fifth a b c d e : List ℕ) → a ≡ old ++ first → b ≡ a ++ second → c ≡ b ++ third → d ≡ c ++ fourth → e ≡ d ++ fifth → e ≡ old ++ first ++ second ++ third ++ fourth ++ fifth
+behind : (old one two : List ℕ) (text : List ℕ) → text ≡ old ++ one → text ++ two ≡ old ++ (one ++ two)
+behind old one two text is = ap (λ xs. xs ++ two) is ∙ append_assoc old one two
+
+five : (old first second third fourth fifth a b c d e : List ℕ) → a ≡ old ++ first → b ≡ a ++ second → c ≡ b ++ third → d ≡ c ++ fourth → e ≡ d ++ fifth → e ≡ old ++ ((((first ++ second) ++ third) ++ fourth) ++ fifth)
 five old first second third fourth fifth a b c d e is_a is_b is_c is_d is_e =
-    is_e
-    ∙ ap (λ xs. xs ++ fifth) (is_d ∙ ap (λ xs. xs ++ fourth) (is_c ∙ ap (λ xs. xs ++ third) (is_b ∙ ap (λ xs. xs ++ second) is_a)))
-    ∙ append_assoc (((old ++ first) ++ second) ++ third) fourth fifth
-    ∙ append_assoc ((old ++ first) ++ second) third (fourth ++ fifth)
-    ∙ append_assoc (old ++ first) second (third ++ fourth ++ fifth)
-    ∙ append_assoc old first (second ++ third ++ fourth ++ fifth)
+    let two : b ≡ old ++ (first ++ second) = is_b ∙ behind old first second a is_a in
+    let three : c ≡ old ++ ((first ++ second) ++ third) = is_c ∙ behind old (first ++ second) third b two in
+    let four : d ≡ old ++ (((first ++ second) ++ third) ++ fourth) = is_d ∙ behind old ((first ++ second) ++ third) fourth c three in
+    is_e ∙ behind old (((first ++ second) ++ third) ++ fourth) fifth d four
 
 pub backtrace_is : (o : Elf) (input : List ℕ) (p : Program) (rule : ℕ) (told : Told) (old a b c d e : List ℕ) → a ≡ old ++ holder_line o input told.holder → b ≡ a ++ state_line told.state → c ≡ b ++ steps_line o p (codes "way") told.way → d ≡ c ++ steps_line o p (codes "other way") told.other → e ≡ d ++ see_line rule
     → e ≡ old ++ backtrace_text o input p rule told

@@ -44,14 +44,14 @@ kind_along Next s t op h = (kinds.Next, refl)
 kind_along Taken s t op h = (kinds.Taken, refl)
 kind_along Fixup s t op h = (kinds.Fixup, refl)
 kind_along Table s t op h = (kinds.Table, refl)
-kind_along Sibling s t op h = absurd (omega (arith, h.1.0))
+kind_along Sibling s t op h = absurd (omega (arith, h.1))
 
 module _ (p : Program) (kept : List (Option State)) (ways : List (List WayStep)) (same : length kept ≡ p.count) (paths : length ways ≡ p.count) (are_kept : AreKeptStates p (at kept)) (are_ways : AreWays p ways) where
   -- a point that keeps a state is one
   is_point : (q : ℕ) (s : State) → at kept q ≡ Some s → q < p.count
   is_point q s e = elim (cases_lt q (length kept)) [
     | inl inside ↦ omega (arith, inside, same)
-    | inr outside ↦ let none : at kept q ≡ None = get_or-eq_default kept None outside in cc
+    | inr outside ↦ let empty : at kept q ≡ None = get_or-eq_default kept None outside in cc
   ]
 
   kept_is_point : (q : ℕ) (s : State) → Kept p q s → q < p.count
@@ -64,7 +64,7 @@ module _ (p : Program) (kept : List (Option State)) (ways : List (List WayStep))
   way_within level q w (restored n a r s v before h save new to) = All-push (λ (s : WayStep). s.point < p.count) v _ (way_within n a v before) (kept_is_point r s (suc n, to))
 
   not_kept : (q : ℕ) → at kept q ≡ None → NotKept p q
-  not_kept q none level = go (state_at p level q) refl
+  not_kept q empty level = go (state_at p level q) refl
     where
       go : (o : Option State) → state_at p level q ≡ o → o ≡ None
       go None e = refl

@@ -1,6 +1,6 @@
 -- What is found of warnings, put together.
-use Rattle.std.proofs.Common.{◌≡◌, ℕ, suc, ◌+◌, ◌<◌, List, [], ◌∷◌, ◌++◌, length, map, get_or, Option, Some, None, inl, inr, arith, refl, sym, ap, ◌∙◌, subst, length-append}
-use Rattle.std.specs.Prelude.{All, slice_get, ◌≢◌}
+use Rattle.std.proofs.Common.{◌≡◌, ℕ, suc, ◌+◌, ◌<◌, ◌≤◌, List, [], ◌∷◌, ◌++◌, length, map, get_or, Option, Some, None, inl, inr, arith, refl, sym, ap, ◌∙◌, subst, length-append, pos}
+use Rattle.std.specs.Prelude.{All, slice_get, ◌≢◌, ℤ}
 use Rattle.std.proofs.lemmas.Bool.{cases_lt}
 use Rattle.std.proofs.lemmas.List.{get_or-map, get_or_append_left, get_or_default, length-map}
 use Rattle.std.proofs.lemmas.List.Elements.{Contains-get_or}
@@ -8,26 +8,22 @@ use Rattle.std.proofs.lemmas.Option.{slice_get-get_or}
 use Rattle.std.proofs.Math.Seq.{get_or-append_seam}
 use Rattle.ot_base.specs.declared.place.Place.{Place}
 use Rattle.ot_base.specs.declared.warning.Warning.{Warning}
+use Rattle.ot_base.specs.Warnings.{numbered_warning}
 use Rattle.ot_base.specs.declared.rules.TheConstants.{STATE_MISMATCH}
 use Rattle.state_defs.specs.declared.state.State.{State}
 use Rattle.machine_defs.specs.Program.{Program}
 use Rattle.machine_defs.specs.Broken.{Warns}
+use Rattle.machine_defs.specs.Broken as broken
+use Rattle.table_law.proofs.Refusals.{refusal}
 use Rattle.kept_states.specs.LevelStates.{at}
 use Rattle.program_graph.specs.declared.parts.GraphParts.{GraphParts}
 use Rattle.backtraces.specs.declared.cases.Case.{Case}
 use Rattle.state_ways.specs.declared.clashes.Clash.{Clash}
-use Rattle.state_ways.specs.Clashes.{AreClashes, IsClash}
+use Rattle.state_ways.specs.Clashes.{AreClashes, IsClash, IsNoted}
 use Rattle.backtraces.specs.declared.spots.Spot.{Spot}
 use Rattle.backtraces.specs.Backtrace.{first_kept, first_point}
-use Rattle.backtraces.specs.Cases.{IsCase, IsCaseClash, IsWarnedOf, found, none}
+use Rattle.backtraces.specs.Cases.{IsCase, IsCaseClash, IsMade, IsWarnedOf, found, none}
 use Rattle.backtraces.specs.Spots.{AreFirst, IsSpot}
-
--- a case of its parts
-pub record IsMade (w : Warning) (spot : Spot) (noted : Option Clash) (c : Case) : Type 0 where
-  pub warning : c.warning ≡ w
-  pub first : c.first ≡ spot.first
-  pub kept : c.kept ≡ spot.kept
-  pub clash : c.clash ≡ noted
 
 abbrev pub AreMade : List Warning → List Spot → List (Option Clash) → List Case → Type 0
 AreMade warnings firsts clashes cases = (i : ℕ) (w : Warning) (s : Spot) (c : Case) → i < length cases → IsMade (get_or warnings i w) (get_or firsts i s) (get_or clashes i None) (get_or cases i c)
@@ -62,9 +58,18 @@ same_warnings warnings firsts clashes cases w s c len made =
     same_lists (map (λ (x : Case). x.warning) cases) warnings w (size ∙ len)
     (λ i inside. let within : i < length cases = omega (arith, inside, size) in get_or-map (λ (x : Case). x.warning) cases i c w within ∙ (made i w s c within).warning)
 
+-- where rule 4 warns, a clash is noted
+noted_where : (p : Program) (warnings : List Warning) (clashes : List (Option Clash)) → AreClashes p warnings clashes → (place : Place) (rule : ℕ) (a b : ℤ) → Warns p place rule a b → rule ≡ STATE_MISMATCH → IsNoted warnings clashes (numbered_warning place rule a b)
+noted_where p warnings clashes are place rule a b (broken.mismatch q r s t u from brings to free other) e = are.all q r s t u from brings to free other
+noted_where p warnings clashes are place rule a b (broken.refused q n s k why before) e = let h : 7 ≤ 4 = subst (λ (x : ℕ). 7 ≤ x) e (refusal s (p.insn q).op n why) in absurd (omega arith)
+noted_where p warnings clashes are place rule a b _ e = absurd (omega arith)
+
+same_parts : (w : Warning) → w ≡ numbered_warning w.place w.rule w.a w.b
+same_parts w = refl
+
 -- what is noted for a warning
 case_clash : (p : Program) (warnings : List Warning) (clashes : List (Option Clash)) (i : ℕ) (w : Warning) → i < length warnings → length clashes ≡ length warnings → AreClashes p warnings clashes
-    → ((get_or warnings i w).rule ≡ STATE_MISMATCH → Warns p (get_or warnings i w).place STATE_MISMATCH (get_or warnings i w).a (get_or warnings i w).b)
+    → ((get_or warnings i w).rule ≡ STATE_MISMATCH → Warns p (get_or warnings i w).place (get_or warnings i w).rule (get_or warnings i w).a (get_or warnings i w).b)
     → IsCaseClash p (get_or warnings i w) (get_or clashes i None)
 case_clash p warnings clashes i w inside len are warns = go (get_or clashes i None) refl
   where
@@ -79,7 +84,7 @@ case_clash p warnings clashes i w inside len are warns = go (get_or clashes i No
 
     missing : get_or clashes i None ≡ None → v.rule ≡ STATE_MISMATCH → ⊥
     missing e rule =
-        let found = are.all v (Contains-get_or warnings i w inside) rule (subst (λ (r : ℕ). Warns p v.place r v.a v.b) (sym rule) (warns rule)) i at in
+        let found = noted_where p warnings clashes are v.place v.rule v.a v.b (warns rule) rule i (at ∙ ap Some (same_parts v)) in
         let same : ◌≡◌ {A = Option (Option Clash)} (Some (get_or clashes i None)) (Some (Some found.0)) = sym there ∙ found.1 in
         cc
 
@@ -103,5 +108,15 @@ are_cases p parts kept warnings firsts clashes cases len spots notes made first 
     let at_first = first i w s (omega (arith, within, spots)) in
     is_case p (at kept) (get_or warnings i w) (get_or firsts i s) (get_or clashes i None) (get_or cases i c) (made i w s c inside) at_first.0 at_first.1 (case_clash p warnings clashes i w within notes are (mismatch i w within))
   where
-    mismatch : (i : ℕ) (w : Warning) → i < length warnings → (get_or warnings i w).rule ≡ STATE_MISMATCH → Warns p (get_or warnings i w).place STATE_MISMATCH (get_or warnings i w).a (get_or warnings i w).b
+    mismatch : (i : ℕ) (w : Warning) → i < length warnings → (get_or warnings i w).rule ≡ STATE_MISMATCH → Warns p (get_or warnings i w).place (get_or warnings i w).rule (get_or warnings i w).a (get_or warnings i w).b
     mismatch i w within rule = warned.mismatches (get_or warnings i w) (Contains-get_or warnings i w within) rule
+
+-- in place of what isn't there
+pub no_warning : Warning
+no_warning = record { place = record { sec = 0; off = 0 }; rule = 0; a = pos 0; b = pos 0 }
+
+pub no_spot : Spot
+no_spot = record { place = record { sec = 0; off = 0 }; first = None; kept = None }
+
+pub no_case : Case
+no_case = record { warning = no_warning; first = None; kept = None; clash = None }

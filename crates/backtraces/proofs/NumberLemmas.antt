@@ -1,6 +1,6 @@
 -- The numbers of the places of warnings.
 use Rattle.std.proofs.Common.{◌≡◌, ℕ, ◌+◌, ◌-◌, ◌<◌, ◌≤◌, false, List, [], ◌∷◌, ◌++◌, length, get_or, inl, inr, arith, refl, sym, ap, ◌∙◌, subst, length-append}
-use Rattle.std.specs.Prelude.{AllPairs, Option}
+use Rattle.std.specs.Prelude.{AllPairs, Option, Result, Ok, Err, IfOk}
 use Rattle.std.proofs.lemmas.Bool.{cases_lt}
 use Rattle.std.proofs.lemmas.List.{get_or_append_left, get_or_default}
 use Rattle.std.proofs.Math.Seq.{get_or-append_seam}
@@ -77,3 +77,7 @@ are_first p states warnings old spots picked numbers have len places are size ea
 
 pub numbers_within : (warnings : List Warning) (spots : List Spot) (numbers : List ℕ) (w : Warning) (d : Spot) → HaveNumbers warnings spots numbers → (i : ℕ) → i < length numbers → get_or numbers i 0 < length spots
 numbers_within warnings spots numbers w d have i inside = (have i w d inside).0
+
+pub if_ok_both : {T E : Type 0} (r : Result T E) (P Q R : T → Type 0) → ((x : T) → P x → Q x → R x) → IfOk r P → IfOk r Q → IfOk r R
+if_ok_both (Ok x) P Q R f h k = f x h k
+if_ok_both (Err e) P Q R f h k = tt

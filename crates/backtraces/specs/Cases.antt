@@ -7,7 +7,7 @@ use Rattle.ot_base.specs.declared.warning.Warning.{Warning}
 use Rattle.elf_objects.specs.Elf.{Elf}
 use Rattle.state_defs.specs.declared.state.State.{State}
 use Rattle.machine_defs.specs.Program.{Program}
-use Rattle.machine_defs.specs.IsProgram.{IsProgram}
+use Rattle.machine_defs.specs.IsProgram.{HintsStandAtPoints, IsProgram}
 use Rattle.machine_defs.specs.Kept.{AreKeptStates}
 use Rattle.machine_defs.specs.Broken.{Warns}
 use Rattle.program_graph.specs.declared.parts.GraphParts.{GraphParts}
@@ -19,6 +19,7 @@ use Rattle.state_ways.specs.Clashes.{IsClash}
 use Rattle.state_ways.specs.Ways.{along, step, turns_at}
 use Rattle.command_base.specs.Warnings.{line_of}
 use Rattle.backtraces.specs.declared.cases.Case.{Case}
+use Rattle.backtraces.specs.declared.spots.Spot.{Spot}
 use Rattle.backtraces.specs.Backtrace.{Told, address_by, first_kept, first_point, holder_of}
 use Rattle.backtraces.specs.Text.{backtrace_text}
 
@@ -26,6 +27,7 @@ use Rattle.backtraces.specs.Text.{backtrace_text}
 pub record IsWarnedOf (p : Program) (parts : GraphParts) (states : ℕ → Option State) (warnings : List Warning) : Type 0 where
   pub tells : Tells p parts
   pub is_program : IsProgram p
+  pub hints : HintsStandAtPoints p
   pub kept : AreKeptStates p states
   pub mismatches : (w : Warning) → Contains warnings w → w.rule ≡ STATE_MISMATCH → Warns p w.place w.rule w.a w.b
 
@@ -39,6 +41,13 @@ pub record IsCase (p : Program) (states : ℕ → Option State) (c : Case) : Typ
   pub first : c.first ≡ first_point p c.warning.place
   pub kept : c.kept ≡ first_kept p states c.warning.place
   pub clash : IsCaseClash p c.warning c.clash
+
+-- a warning, the first points at its place, and what is noted of it are put together
+pub record IsMade (w : Warning) (spot : Spot) (noted : Option Clash) (c : Case) : Type 0 where
+  pub warning : c.warning ≡ w
+  pub first : c.first ≡ spot.first
+  pub kept : c.kept ≡ spot.kept
+  pub clash : c.clash ≡ noted
 
 -- the turns to a point, if there is one
 abbrev pub turns_to : List (List WayStep) → Option ℕ → List WayStep

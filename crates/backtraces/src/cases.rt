@@ -1,13 +1,15 @@
 //! What is found of each warning before its backtrace is told.
 
-ghost use Rattle.std.specs.Prelude.{◌≡◌, ◌<◌, All, AllPairs, IfOk, IfSome, length, map};
+ghost use Rattle.std.specs.Prelude.{◌≡◌, ◌<◌, All, AllPairs, IfOk, None, length, map, slice_index_or};
+ghost use Rattle.ot_base.specs.declared.warning.Warning.{Warning as WarningValue};
 ghost use Rattle.machine_defs.specs.Program.{Program};
 ghost use Rattle.program_graph.specs.Tells.{Tells};
 ghost use Rattle.kept_states.specs.LevelStates.{at};
 ghost use Rattle.stack_rules.specs.Before.{ComesBefore};
-ghost use Rattle.backtraces.specs.Cases.{IsCase, IsWarnedOf};
+ghost use Rattle.backtraces.specs.declared.spots.Spot.{Spot as SpotValue};
+ghost use Rattle.backtraces.specs.Cases.{IsCase, IsMade, IsWarnedOf};
 
-use crate::spots::first_points;
+use crate::spots::{Spot, first_points};
 use kept_states::Kept;
 use ot_base::{NoMemory, Warning};
 use program_graph::Graph;
@@ -27,6 +29,22 @@ pub(crate) struct Case {
     pub(crate) clash: Option<Clash>,
 }
 
+/// What is found of the warning with this number.
+fn case_of(warnings: &[Warning], firsts: &[Spot], clashes: &[Option<Clash>], i: usize) -> Case
+    requires warning { i < length warnings.now }
+    requires first { i < length firsts.now }
+    requires clash { i < length clashes.now }
+    ensures { (w : WarningValue) (s : SpotValue) → IsMade (slice_index_or warnings.now i w) (slice_index_or firsts.now i s) (slice_index_or clashes.now i None) result }
+{
+    let first = firsts[i];
+    Case {
+        warning: warnings[i],
+        first: first.first,
+        kept: first.kept,
+        clash: clashes[i],
+    }
+}
+
 /// What is found of each of some warnings.
 pub(crate) fn find_cases(
     alloc: Global,
@@ -43,12 +61,7 @@ pub(crate) fn find_cases(
     let clashes = find_clashes(alloc, graph, kept, warnings)?;
     let mut cases = Vec::with_capacity(alloc, warnings.len())?;
     for i in 0..warnings.len() {
-        cases.push(Case {
-            warning: warnings[i],
-            first: firsts[i].first,
-            kept: firsts[i].kept,
-            clash: clashes[i],
-        })?;
+        cases.push(case_of(warnings, &firsts, &clashes, i))?;
     }
     Ok(cases)
 }

@@ -21,7 +21,7 @@ use Rattle.program_graph.specs.Tells.{Tells}
 use Rattle.kept_states.specs.LevelStates.{at}
 use Rattle.flow_defs.specs.Coded.{Coded, coded_by}
 use Rattle.flow_defs.specs.Program.{program_of}
-use Rattle.object_law.specs.Flows.{ProgramIsOne}
+use Rattle.object_law.specs.Flows.{ProgramIsLaidOut, ProgramIsOne}
 use Rattle.object_check.specs.Code.{IsCodeFault, IsCodeOf, no_memory, unflowed, unlinked}
 use Rattle.object_check.specs.Order.{IsCheckFault}
 use Rattle.object_check.specs.Order as order
@@ -46,8 +46,8 @@ code_unread o fault no_memory = order.no_memory
 
 -- ---- what is warned of by rule 4 is a mismatch of states
 module _ (p : Program) (allowed : Allowances) (options : Options) where
-  of_broken : (place : Place) (rule : ℕ) (a b : ℤ) → IsBroken p options place rule a b → rule ≡ STATE_MISMATCH → Warns p place STATE_MISMATCH a b
-  of_broken place rule a b (always at number x y w) e = subst (λ (r : ℕ). Warns p place r a b) e w
+  of_broken : (place : Place) (rule : ℕ) (a b : ℤ) → IsBroken p options place rule a b → rule ≡ STATE_MISMATCH → Warns p place rule a b
+  of_broken place rule a b (always at number x y w) e = w
   of_broken place rule a b (unreachable q asked accepted first) e = absurd (omega (arith, e))
   of_broken place rule a b (without_frame q s asked kept call fentry broken) e = absurd (omega (arith, e))
 
@@ -60,18 +60,19 @@ module _ (p : Program) (allowed : Allowances) (options : Options) where
   of_access_rule place rule a b (safe_turns_off q access reached is) e = omega (arith, e)
   of_access_rule place rule a b (popf q access home reached is) e = omega (arith, e)
 
-  is_mismatch : (place : Place) (rule : ℕ) (a b : ℤ) → IsWarned p allowed options place rule a b → rule ≡ STATE_MISMATCH → Warns p place STATE_MISMATCH a b
+  is_mismatch : (place : Place) (rule : ℕ) (a b : ℤ) → IsWarned p allowed options place rule a b → rule ≡ STATE_MISMATCH → Warns p place rule a b
   is_mismatch place rule a b (of_stack at number x y broken) e = of_broken place rule a b broken e
   is_mismatch place rule a b (indirect_branch q asked point is listed) e = absurd (omega (arith, e))
   is_mismatch place rule a b (naked_return q asked point is listed) e = absurd (omega (arith, e))
   is_mismatch place rule a b (of_access at number x y asked warns) e = absurd (of_access_rule place rule a b warns e)
 
 -- ---- what is printed of an object whose code is read again
-pub warned_of : ProgramIsOne → (o : Coded) (lists : NameLists) (options : Options) (allowed : Allowances) (code : ReadCode) (parts : GraphParts) (kept : List (Option State)) (warnings : List Warning) → parts ≡ code.graph.parts → IsCodeOf o lists options code → AreKeptStates (program_of o lists) (at kept) → AreWarnings (program_of o lists) allowed options warnings
+pub warned_of : ProgramIsOne → ProgramIsLaidOut → (o : Coded) (lists : NameLists) (options : Options) (allowed : Allowances) (code : ReadCode) (parts : GraphParts) (kept : List (Option State)) (warnings : List Warning) → parts ≡ code.graph.parts → IsCodeOf o lists options code → AreKeptStates (program_of o lists) (at kept) → AreWarnings (program_of o lists) allowed options warnings
     → IsWarnedOf (program_of o lists) parts (at kept) warnings
-warned_of one o lists options allowed code parts kept warnings same is are warned = record {
+warned_of one laid o lists options allowed code parts kept warnings same is are warned = record {
   tells = subst (λ (ps : GraphParts). Tells (program_of o lists) ps) (sym same) is.graph.tells;
   is_program = one o lists is.graph.object.bytes is.graph.object.special;
+  hints = (laid o lists is.graph.object).hint_points;
   kept = are;
   mismatches = λ w known rule. is_mismatch (program_of o lists) allowed options w.place w.rule w.a w.b ((warned.all w).0 known) rule;
 }

@@ -16,7 +16,7 @@ use cli_words::CheckOptions;
 use command_base::{Status, conclude, print_warnings};
 use elf_objects::{MAX_FILE_BYTES, Object};
 use object_check::{CheckFault, ReadCode, read_code, states_of};
-use object_law::flow_laws::program_is_one;
+use object_law::flow_laws::{program_is_laid_out, program_is_one};
 use ot_base::{Lists, NoMemory, Warning};
 use ot_files::Sink;
 use std::alloc::Global;
@@ -56,6 +56,7 @@ fn tell_backtraces<S: Sink>(
     ensures output_failed { S.faults out.old < S.faults out.new → IsOutputFault result }
 {
     program_is_one();
+    program_is_laid_out();
     let code = match read_again(alloc, asked.options, object, lists) {
         Ok(code) => code,
         Err(fault) => return conclude(alloc, check_stop(object, fault), out),

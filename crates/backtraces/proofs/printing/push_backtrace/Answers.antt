@@ -1,6 +1,6 @@
 use Rattle.std.proofs.Common.{◌≡◌, ℕ, ◌++◌, List, sym, ap, subst, ◌∙◌}
 use Rattle.kept_states.specs.LevelStates.{at}
-use Rattle.backtraces.specs.Backtrace.{holder_of}
+use Rattle.backtraces.specs.Backtrace.{address_by, holder_of}
 use Rattle.backtraces.specs.Cases.{told_by}
 use Rattle.backtraces.specs.Text.{backtrace_text, holder_line, state_line}
 use Rattle.backtraces.proofs.BacktraceParts.{backtrace_is, on_ok}
@@ -9,7 +9,7 @@ use Rattle.backtraces.proofs.printing.push_backtrace.Goals as goal
 pub returns : goal.returns
 returns c p tells =
     let o = c.args.sources.now.object.now in
-    let holder = c.holder_of-holder.ensures ∙ ap (λ e. holder_of e c.address_of-address.result) c.requires.index ∙ ap (holder_of o) (c.address_of-address.ensures p tells) in
+    let holder = c.holder_of-holder.ensures ∙ ap (λ e. holder_of e c.address_of-address.result) c.requires.index ∙ ap (holder_of o) (c.address_of-address.ensures p tells ∙ ap (address_by p c.args.case.now.warning.place) c.or.ensures) in
     on_ok c.push_see.result _ _
     (backtrace_is o c.args.sources.now.input.now p c.args.case.now.warning.rule (told_by o p (at c.args.sources.now.kept.now) c.args.sources.now.ways c.args.case.now)
     c.args.into.now.items c.push_holder.new.into.items c.push_kept.new.into.items c.push_way.new.into.items c.push_other_way.new.into.items c.push_see.new.into.items

@@ -27,7 +27,7 @@ pub print_backtraces-requires-clause-warned : goal.print_backtraces-requires-cla
 print_backtraces-requires-clause-warned g c =
     let o = coded_by c.args.asked.options.map c.args.object.now in (
       program_of o c.args.lists.now,
-      warned_of c.program_is_one.ensures o c.args.lists.now c.args.asked.options.rules _ _ _ _ _ c.graph.ensures c.in-Ok.ensures.ok (c.in-Ok-states_of.ensures.kept o c.args.lists.now c.args.asked.options.rules c.in-Ok.ensures.ok) c.requires.warned,
+      warned_of c.program_is_one.ensures c.program_is_laid_out.ensures o c.args.lists.now c.args.asked.options.rules _ _ _ _ _ c.graph.ensures c.in-Ok.ensures.ok (c.in-Ok-states_of.ensures.kept o c.args.lists.now c.args.asked.options.rules c.in-Ok.ensures.ok) c.requires.warned,
     )
 
 pub returns-in-Ok-states_of-clause-told : goal.returns-in-Ok-states_of-clause-told
@@ -36,7 +36,7 @@ returns-in-Ok-states_of-clause-told g c =
     let kept = c.in-Ok-states_of.ensures.kept o c.args.lists.now c.args.asked.options.rules c.in-Ok.ensures.ok in
     backtraced c.args.asked.input.now c.args.asked.options c.args.lists.now c.args.object.now c.args.warnings.now _ _ _ _ c.requires.backtrace kept
     (c.print_backtraces.ensures.printed (program_of o c.args.lists.now)
-    (warned_of c.program_is_one.ensures o c.args.lists.now c.args.asked.options.rules _ _ _ _ _ c.graph.ensures c.in-Ok.ensures.ok kept c.requires.warned))
+    (warned_of c.program_is_one.ensures c.program_is_laid_out.ensures o c.args.lists.now c.args.asked.options.rules _ _ _ _ _ c.graph.ensures c.in-Ok.ensures.ok kept c.requires.warned))
 
 pub returns-clause-told : goal.returns-clause-told
 returns-clause-told g c = unread stop.NoMemory tt (silent refl refl)
