@@ -2,12 +2,12 @@
 
 Object after object, the program checks it with the options of its turn, in a folder of its own. Its status, its lines and what it
 writes are compared with the model's answer, and where the object is accepted, its rows with those that `dump` prints. Each fourth
-object, and each that was written down by hand, is also given site lists and call frame information, checked against the entry rules and
-listed; where it breaks rules, its backtraces are judged; and the last accepted ones are given a merged table (further.py). The program must leave all other files alone.
-Before the made-up objects come the worked ones and those of single features. Objects with different answers are kept in the folder
-KEPT. The objects of FOLDER, as those of a kernel's build, are changed by lot too; where they are large, of the changed ones only the
-form of the answer is asked. The objects are shared out to as many processes as JOBS says, one a processor where it isn't given: which
-objects are made doesn't depend on it.
+object, and each that was written down by hand, is also given site lists and call frame information, checked against the entry rules
+and listed; where it breaks rules, its backtraces are judged; and the last accepted ones are given a merged table (further.py). The
+program must leave all other files alone. Before the made-up objects come the worked ones and those of single features. Objects with
+different answers are kept in the folder KEPT. The objects of FOLDER, as those of a kernel's build, are changed by lot too; where they
+are large, of the changed ones only the form of the answer is asked. The objects are shared out to as many processes as JOBS says, one
+a processor where it isn't given: which objects are made doesn't depend on it.
 """
 
 import hashlib

@@ -122,7 +122,8 @@ def main(objtool: str, *paths: str) -> int:
         print(difference)
     total = count.pop("branches", 0)
     left = len(paths) - compared
-    print(f"branches: {total} direct calls and branches of {compared} objects, {len(differences)} different; {left} objects are refused or have sections of one name")
+    print(f"branches: {total} direct calls and branches of {compared} objects, {len(differences)} different")
+    print(f"  {left} objects are refused or have two sections of one name")
     print("  " + ", ".join(f"{kind} {number}" for kind, number in sorted(count.items())))
     return 1 if differences or total == 0 else 0
 
