@@ -68,16 +68,51 @@ fn name_of(name: &Option<String>) -> &str {
     name.as_ref().map_or("none", |name| name.as_str())
 }
 
-/// Words as a line.
-fn joined(alloc: Global, words: &[&str]) -> Result<String, AllocError> {
-    let mut line = String::new(alloc);
-    for word in words {
-        if !line.is_empty() {
-            line.push_str(" ")?;
-        }
-        line.push_str(word)?;
-    }
-    Ok(line)
+/// A command with one word behind it, as a line.
+fn one_line(alloc: Global, command: &str, word: &str) -> Result<String, AllocError> {
+    format!(in alloc; "{command} {word}")
+}
+
+/// A command with two words behind it, as a line.
+fn two_line(alloc: Global, command: &str, first: &str, second: &str) -> Result<String, AllocError> {
+    format!(in alloc; "{command} {first} {second}")
+}
+
+/// `check` as a line.
+fn check_line(
+    alloc: Global,
+    input: &str,
+    output: &str,
+    options: CheckOptions,
+    names: &str,
+) -> Result<String, AllocError> {
+    let letters = letters(alloc, options)?;
+    format!(in alloc; "check {input} {output} {letters} {names}")
+}
+
+/// Another command that has two words and a map, as a line.
+fn mapped_line(
+    alloc: Global,
+    command: &str,
+    input: &str,
+    output: &str,
+    map: Map,
+    names: &str,
+) -> Result<String, AllocError> {
+    let letter = map_letter(map);
+    format!(in alloc; "{command} {input} {output} {letter} {names}")
+}
+
+/// `entry` as a line.
+fn entry_line(
+    alloc: Global,
+    input: &str,
+    rules: EntryRules,
+    map: Map,
+    names: &str,
+) -> Result<String, AllocError> {
+    let letters = entry_letters(alloc, rules, map)?;
+    format!(in alloc; "entry {input} {letters} {names}")
 }
 
 /// A command as a line.
@@ -88,69 +123,48 @@ fn line_of(alloc: Global, command: &Command) -> Result<String, AllocError> {
             output,
             options,
             names,
-        } => {
-            let letters = letters(alloc, *options)?;
-            let (input, output, names) = (input.as_str(), output.as_str(), name_of(names));
-            joined(alloc, &["check", input, output, letters.as_str(), names])
-        }
+        } => check_line(alloc, input, output, *options, name_of(names)),
         Command::Sites {
             input,
             output,
             map,
             names,
-        } => {
-            let (input, output, names) = (input.as_str(), output.as_str(), name_of(names));
-            joined(alloc, &["sites", input, output, map_letter(*map), names])
-        }
+        } => mapped_line(alloc, "sites", input, output, *map, name_of(names)),
         Command::Cfi {
             input,
             output,
             map,
             names,
-        } => {
-            let (input, output, names) = (input.as_str(), output.as_str(), name_of(names));
-            joined(alloc, &["cfi", input, output, map_letter(*map), names])
-        }
+        } => mapped_line(alloc, "cfi", input, output, *map, name_of(names)),
         Command::Entry {
             input,
             rules,
             map,
             names,
-        } => {
-            let letters = entry_letters(alloc, *rules, *map)?;
-            joined(
-                alloc,
-                &["entry", input.as_str(), letters.as_str(), name_of(names)],
-            )
-        }
-        Command::Dump { file } => joined(alloc, &["dump", file.as_str()]),
-        Command::Unwind { file, image } => joined(
-            alloc,
-            &["unwind", file.as_str(), image.as_str()],
-        ),
-        Command::List { file } => joined(alloc, &["list", file.as_str()]),
-        Command::Cfa { file } => joined(alloc, &["cfa", file.as_str()]),
-        Command::Merge { layout, output } => joined(
-            alloc,
-            &["merge", layout.as_str(), output.as_str()],
-        ),
+        } => entry_line(alloc, input, *rules, *map, name_of(names)),
+        Command::Dump { file } => one_line(alloc, "dump", file),
+        Command::Unwind { file, image } => two_line(alloc, "unwind", file, image),
+        Command::List { file } => one_line(alloc, "list", file),
+        Command::Cfa { file } => one_line(alloc, "cfa", file),
+        Command::Merge { layout, output } => two_line(alloc, "merge", layout, output),
         Command::Find { table, address } => format!(in alloc; "find {table} {address}"),
         Command::Show {
             input,
             function,
             map,
             names,
-        } => {
-            let (function, names) = (name_of(function), name_of(names));
-            joined(
-                alloc,
-                &["show", input.as_str(), function, map_letter(*map), names],
-            )
-        }
-        Command::Explain { topic } => joined(alloc, &["explain", name_of(topic)]),
+        } => mapped_line(
+            alloc,
+            "show",
+            input,
+            name_of(function),
+            *map,
+            name_of(names),
+        ),
+        Command::Explain { topic } => one_line(alloc, "explain", name_of(topic)),
         Command::Demo { n } => format!(in alloc; "demo {n}"),
-        Command::Help => joined(alloc, &["help"]),
-        Command::Version => joined(alloc, &["version"]),
+        Command::Help => String::from_str(alloc, "help"),
+        Command::Version => String::from_str(alloc, "version"),
     }
 }
 
@@ -333,10 +347,7 @@ fn is_taken(alloc: Global, option: &str) -> bool {
 
 /// Whether the words of a line, and then of another, are a command.
 fn is_command(alloc: Global, line: &str, rest: &str) -> bool {
-    let Ok(line) = joined(alloc, &[line, rest]) else {
-        return false;
-    };
-    meaning(alloc, line.as_str()).is_some()
+    one_line(alloc, line, rest).is_ok_and(|line| meaning(alloc, line.as_str()).is_some())
 }
 
 #[test]
