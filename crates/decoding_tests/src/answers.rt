@@ -5,5 +5,5 @@ use x86_decode::{DecodeFault, Map, decode};
 #[test]
 fn no_byte_is_no_instruction(rt: HostRuntime) {
     let told = decode(Map::Base, b"");
-    assert_eq!(rt; told, Err(DecodeFault::Cut { have: 0 }));
+    assert!(rt; told == Err(DecodeFault::Cut { have: 0 }));
 }

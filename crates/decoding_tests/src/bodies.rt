@@ -36,7 +36,7 @@ fn boundaries_of_a_body(rt: HostRuntime) -> Result<(), Fail> {
         &CODE,
         &mut InsnList::new(rt.alloc())?,
     )?;
-    assert_eq!(rt; text.count(), 15);
+    assert!(rt; text.count() == 15);
     for off in 0u64..32 {
         expect_boundaries(&rt, &text, off);
     }
@@ -57,15 +57,15 @@ fn expect_instruction(rt: &impl Abort, text: &Text<'_>, i: usize, begins: u64, i
 fn instructions_of_a_body(rt: HostRuntime) -> Result<(), Fail> {
     let mut insns = InsnList::new(rt.alloc())?;
     let text = Text::read(rt.alloc(), Map::Base, &CODE, &mut insns)?;
-    assert_eq!(rt; insns.len(), OFFSETS.len());
+    assert!(rt; insns.len() == OFFSETS.len());
     let mut end = 0;
     for i in 0..insns.len() {
         let off = OFFSETS.get(i).copied();
-        assert_eq!(rt; off, Some(end));
+        assert!(rt; off == Some(end));
         end = expect_instruction(&rt, &text, i, end, insns.get(i));
     }
-    assert_eq!(rt; end, 29);
-    assert_eq!(rt; text.size(), 29);
+    assert!(rt; end == 29);
+    assert!(rt; text.size() == 29);
     Ok(())
 }
 
@@ -127,12 +127,12 @@ fn jumps_by_a_table(rt: HostRuntime) -> Result<(), Fail> {
         &body,
         &mut InsnList::new(rt.alloc())?,
     )?;
-    assert_eq!(rt; text.count(), 5);
+    assert!(rt; text.count() == 5);
     let jumps = text.table_jumps();
     let offsets = [1u64, 8, 12];
     assert!(rt; jumps.len() == offsets.len());
     for (i, off) in offsets.iter().enumerate() {
-        assert_eq!(rt; jumps.get(i).map(|placed| placed.off), Some(*off));
+        assert!(rt; jumps.get(i).map(|placed| placed.off) == Some(*off));
     }
     let table = Some(3);
     let op = Op::JmpInd { table };

@@ -51,7 +51,7 @@ fn expect(rt: &impl Abort, list: &InsnList, n: u16, insn: Insn) {
 #[test]
 fn instructions_of_a_list(rt: HostRuntime) -> Result<(), Fail> {
     let list = list_of(rt.alloc(), MANY)?;
-    assert_eq!(rt; list.len(), usize::from(MANY));
+    assert!(rt; list.len() == usize::from(MANY));
     for n in 0..MANY {
         expect(&rt, &list, n, insn_of(n));
     }

@@ -8,4 +8,5 @@ mod leaf;
 mod making;
 mod plain;
 mod reading;
+pub mod readings;
 mod tables;

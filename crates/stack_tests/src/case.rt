@@ -226,12 +226,15 @@ pub enum End {
     IsNotRun,
 }
 
-/// A program that breaks rules: its warnings, by their offsets in section 1, rules and numbers, and a run.
+/// A warning by its offset in section 1, its rule and its numbers.
+pub type Warned = (u64, u8, i64, i64);
+
+/// A program that breaks rules: its warnings, and a run.
 #[derive(Clone, Copy)]
 pub struct Broken {
     pub name: &'static str,
     pub table: Table,
     pub options: Options,
-    pub warnings: &'static [(u64, u8, i64, i64)],
+    pub warnings: &'static [Warned],
     pub run: End,
 }

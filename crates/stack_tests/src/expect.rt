@@ -1,17 +1,19 @@
 //! What is expected of a program: its states, its warnings, and how it runs.
 
-use crate::case::{Accepted, Broken, End, From, How, LO, NO_OPTIONS, RBP, Run, Wrong};
+use crate::case::{
+    Accepted, Broken, End, From, How, LO, NO_OPTIONS, RBP, Run, Stack, Warned, Wrong,
+};
 use machine_defs::{Edge, EdgeKind};
 use machine_model::{
     Anything, Choice, Core, InterruptWords, Machine, Standing, next_state, started,
 };
-use ot_base::{Place, PlacedRow, Warning};
+use ot_base::{Options, Place, PlacedRow, Warning};
 use program_model::{Program, Region, kept_states, rows, walk, warnings};
 use stack_examples::builder::program;
+use stack_examples::lines::Table;
 use state_defs::{EndKind, State};
 use std::alloc::{AllocError, Global};
 use std::process::Abort;
-use std::test::Fail;
 use table_defs::{Frame as WalkedFrame, Range, Regs, Stop};
 
 /// Where section 1 begins.
@@ -87,10 +89,12 @@ fn checked(alloc: Global, program: Program) -> Result<Example, AllocError> {
         base: BASE,
         size,
     }];
+    let states = kept_states(alloc, &program)?;
+    let rows = rows(alloc, &program)?;
     Ok(Example {
-        states: kept_states(alloc, &program)?,
-        rows: rows(alloc, &program)?,
         program,
+        states,
+        rows,
         placement,
     })
 }
@@ -185,185 +189,155 @@ impl Example {
         let is_told = ended == stop && walked.as_slice() == frames.as_slice();
         Ok((!is_told).then_some(Wrong::Walk(s.point, ended)))
     }
-}
 
-/// The warnings are these, each as often as may be.
-fn expect_warnings(
-    rt: &impl Abort,
-    name: &str,
-    found: &[Warning],
-    expected: &[(u64, u8, i64, i64)],
-) {
-    let is_one = |warning: &Warning, other: &(u64, u8, i64, i64)| {
-        let (off, rule, a, b) = *other;
-        let place = Place { sec: 1, off };
-        *warning == Warning { place, rule, a, b }
-    };
-    for warning in found {
-        assert!(rt;
-            expected.iter().any(|other| is_one(warning, other)),
-            "{name}: {warning:?}"
-        );
+    /// Whether the warnings with these options are these.
+    fn is_warned(&self, alloc: Global, options: &Options, expected: &[Warned]) -> Option<bool> {
+        let found = warnings(alloc, &self.program, options).ok()?;
+        Some(are_these(&found, expected))
     }
-    for other in expected {
-        assert!(rt;
-            found.iter().any(|warning| is_one(warning, other)),
-            "{name}: {other:?}"
-        );
-    }
-}
 
-/// The machine stands at a point with this rsp; its frames are these and end so, and the walk gives them.
-fn expect_stands(
-    rt: &impl Abort,
-    alloc: Global,
-    name: &str,
-    example: &Example,
-    machine: &Machine,
-    (point, rsp): (u32, u64),
-    (frames, stop): (&[WalkedFrame], Stop),
-) -> Result<(), Fail> {
-    assert_eq!(rt;
-        example.wrong_of(alloc, machine)?,
-        None,
-        "{name} at {point}"
-    );
-    if let Machine::At(s) = machine {
-        assert_eq!(rt; (s.point, s.core.rsp), (point, rsp), "{name} at {point}");
-        let (found, found_stop) = frames_of(alloc, s)?;
-        assert!(rt; found.as_slice() == frames, "{name} at {point}: {found:?}");
-        assert!(rt; found_stop == stop, "{name} at {point}: {found_stop:?}");
+    /// Whether the machine stands at a point with this rsp, its frames are these and end so, and the walk gives them.
+    fn is_at(
+        &self,
+        alloc: Global,
+        machine: &Machine,
+        at: (u32, u64),
+        frames: (&[WalkedFrame], Stop),
+    ) -> Option<bool> {
+        if self.wrong_of(alloc, machine).ok()?.is_some() {
+            return Some(false);
+        }
+        match machine {
+            Machine::At(s) => stands_at(alloc, s, at, frames),
+            _ => Some(false),
+        }
     }
-    Ok(())
-}
 
-/// A run starts, and each of its steps is possible and leads where it says; what is refused isn't possible.
-fn expect_run(
-    rt: &impl Abort,
-    alloc: Global,
-    name: &str,
-    example: &Example,
-    run: &Run,
-) -> Result<(), Fail> {
-    let Some(mut machine) = example.start(alloc, &run.from)? else {
-        assert!(rt; false, "{name}: no start");
-        return Ok(());
-    };
-    let at = (run.from.point, run.from.rsp);
-    expect_stands(
-        rt,
-        alloc,
-        name,
-        example,
-        &machine,
-        at,
-        (run.from.stack.frames, run.from.stack.stop),
-    )?;
-    for (how, to, rsp, frames) in run.steps {
-        let Some(after) = example.step(alloc, &machine, *how, *to)? else {
-            assert!(rt; false, "{name}: no step to {to}");
-            return Ok(());
-        };
-        machine = after;
-        expect_stands(
-            rt,
+    /// Whether none of these steps is possible.
+    fn refuses(&self, alloc: Global, machine: &Machine, refused: &[(How, u32)]) -> Option<bool> {
+        for (how, to) in refused {
+            if self.step(alloc, machine, *how, *to).ok()?.is_some() {
+                return Some(false);
+            }
+        }
+        Some(true)
+    }
+
+    /// Whether a run starts, and each of its steps is possible and leads where it says, and what is refused isn't possible.
+    fn runs(&self, alloc: Global, run: &Run) -> Option<bool> {
+        let Stack { frames, stop, .. } = run.from.stack;
+        let mut machine = self.start(alloc, &run.from).ok()??;
+        if !self.is_at(
             alloc,
-            name,
-            example,
             &machine,
-            (*to, *rsp),
-            (frames, run.from.stack.stop),
-        )?;
+            (run.from.point, run.from.rsp),
+            (frames, stop),
+        )? {
+            return Some(false);
+        }
+        for (how, to, rsp, frames) in run.steps {
+            machine = self.step(alloc, &machine, *how, *to).ok()??;
+            if !self.is_at(alloc, &machine, (*to, *rsp), (frames, stop))? {
+                return Some(false);
+            }
+        }
+        self.refuses(alloc, &machine, run.refused)
     }
-    for (how, to) in run.refused {
-        let after = example.step(alloc, &machine, *how, *to)?;
-        assert!(rt; after.is_none(), "{name}: a step to {to}");
+
+    /// Whether all of these runs are so.
+    fn runs_all(&self, alloc: Global, runs: &[Run]) -> Option<bool> {
+        for run in runs {
+            if !self.runs(alloc, run)? {
+                return Some(false);
+            }
+        }
+        Some(true)
     }
-    Ok(())
+
+    /// Whether a run goes on so, and its last state, and no earlier one, is wrong in this way.
+    fn goes_wrong(
+        &self,
+        alloc: Global,
+        from: &From,
+        steps: &[(How, u32)],
+        wrong: Wrong,
+    ) -> Option<bool> {
+        let mut machine = self.start(alloc, from).ok()??;
+        for (how, to) in steps {
+            if self.wrong_of(alloc, &machine).ok()?.is_some() {
+                return Some(false);
+            }
+            machine = self.step(alloc, &machine, *how, *to).ok()??;
+        }
+        Some(self.wrong_of(alloc, &machine).ok()? == Some(wrong))
+    }
+
+    /// Whether this becomes of a run.
+    fn ends(&self, alloc: Global, end: &End) -> Option<bool> {
+        match end {
+            End::IsWrong(from, steps, wrong) => self.goes_wrong(alloc, from, steps, *wrong),
+            End::HasNoStep(from, how, to) => {
+                let machine = self.start(alloc, from).ok()??;
+                Some(self.step(alloc, &machine, *how, *to).ok()?.is_none())
+            }
+            End::IsNone(from) => Some(self.start(alloc, from).ok()?.is_none()),
+            End::IsNotRun => Some(true),
+        }
+    }
 }
 
-/// No rule warns, the states are kept, and the runs are as they should be.
-pub fn expect_accepted(rt: &impl Abort, alloc: Global, case: &Accepted) -> Result<(), Fail> {
-    let name = case.name;
-    let program = program(alloc, &case.table)?;
-    let found = warnings(alloc, &program, &NO_OPTIONS)?;
-    expect_warnings(rt, name, found.as_slice(), &[]);
-    let example = checked(alloc, program)?;
-    assert!(rt;
-        example.states.as_slice() == case.states,
-        "{name}: {:?}",
-        example.states
-    );
-    for run in case.runs {
-        expect_run(rt, alloc, name, &example, run)?;
-    }
-    Ok(())
-}
-
-/// A run goes on so; its last state, and no earlier one, is wrong in this way.
-fn expect_wrong(
-    rt: &impl Abort,
+/// Whether a machine stands at a point with this rsp, and its frames are these and end so.
+fn stands_at(
     alloc: Global,
-    name: &str,
-    example: &Example,
-    from: &From,
-    steps: &[(How, u32)],
-    wrong: Wrong,
-) -> Result<(), Fail> {
-    let mut next = example.start(alloc, from)?;
-    for (how, to) in steps {
-        let Some(machine) = next else {
-            break;
-        };
-        assert_eq!(rt;
-            example.wrong_of(alloc, &machine)?,
-            None,
-            "{name} before {to}"
-        );
-        next = example.step(alloc, &machine, *how, *to)?;
-    }
-    let Some(last) = next else {
-        assert!(rt; false, "{name}: no step");
-        return Ok(());
-    };
-    assert_eq!(rt; example.wrong_of(alloc, &last)?, Some(wrong), "{name}");
-    Ok(())
+    s: &Standing,
+    at: (u32, u64),
+    (frames, stop): (&[WalkedFrame], Stop),
+) -> Option<bool> {
+    let (found, found_stop) = frames_of(alloc, s).ok()?;
+    Some((s.point, s.core.rsp) == at && found.as_slice() == frames && found_stop == stop)
 }
 
-/// What becomes of a run is this.
-fn expect_end(
-    rt: &impl Abort,
-    alloc: Global,
-    name: &str,
-    example: &Example,
-    end: &End,
-) -> Result<(), Fail> {
-    match end {
-        End::IsWrong(from, steps, wrong) => {
-            expect_wrong(rt, alloc, name, example, from, steps, *wrong)
-        }
-        End::HasNoStep(from, how, to) => {
-            let start = example.start(alloc, from)?;
-            let after = match &start {
-                Some(machine) => example.step(alloc, machine, *how, *to)?,
-                None => None,
-            };
-            assert!(rt; start.is_some() && after.is_none(), "{name}: a step");
-            Ok(())
-        }
-        End::IsNone(from) => {
-            assert!(rt; example.start(alloc, from)?.is_none(), "{name}: a start");
-            Ok(())
-        }
-        End::IsNotRun => Ok(()),
-    }
+/// Whether a warning is this.
+fn is_one(warning: &Warning, other: &Warned) -> bool {
+    let (off, rule, a, b) = *other;
+    let place = Place { sec: 1, off };
+    *warning == Warning { place, rule, a, b }
 }
 
-/// The rules warn so, and the run ends so.
-pub fn expect_broken(rt: &impl Abort, alloc: Global, case: &Broken) -> Result<(), Fail> {
-    let program = program(alloc, &case.table)?;
-    let found = warnings(alloc, &program, &case.options)?;
-    expect_warnings(rt, case.name, found.as_slice(), case.warnings);
-    let example = checked(alloc, program)?;
-    expect_end(rt, alloc, case.name, &example, &case.run)
+/// Whether the warnings are these, each as often as may be.
+fn are_these(found: &[Warning], expected: &[Warned]) -> bool {
+    found.iter().all(|warning| expected.iter().any(|other| is_one(warning, other)))
+        && expected
+            .iter()
+            .all(|other| found.iter().any(|warning| is_one(warning, other)))
+}
+
+/// The example that a table tells.
+fn example_of(alloc: Global, table: &Table) -> Option<Example> {
+    let program = program(alloc, table).ok()?;
+    checked(alloc, program).ok()
+}
+
+/// Whether no rule warns, the states are kept, and the runs are as they should be.
+fn is_accepted(alloc: Global, case: &Accepted) -> Option<bool> {
+    let example = example_of(alloc, &case.table)?;
+    Some(
+        example.is_warned(alloc, &NO_OPTIONS, &[])?
+            && example.states.as_slice() == case.states
+            && example.runs_all(alloc, case.runs)?,
+    )
+}
+
+pub fn expect_accepted(rt: &impl Abort, alloc: Global, case: &Accepted) {
+    assert!(rt; is_accepted(alloc, case) == Some(true), "{}", case.name);
+}
+
+/// Whether the rules warn so, and the run ends so.
+fn is_broken(alloc: Global, case: &Broken) -> Option<bool> {
+    let example = example_of(alloc, &case.table)?;
+    Some(example.is_warned(alloc, &case.options, case.warnings)? && example.ends(alloc, &case.run)?)
+}
+
+pub fn expect_broken(rt: &impl Abort, alloc: Global, case: &Broken) {
+    assert!(rt; is_broken(alloc, case) == Some(true), "{}", case.name);
 }

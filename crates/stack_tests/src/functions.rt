@@ -8,7 +8,6 @@ use operation_defs::Op;
 use program_model::Store;
 use stack_examples::lines::{Table, With};
 use state_defs::{BpHome, Depth, State};
-use std::test::Fail;
 
 /// 55 48 89 E5 48 83 EC 10 48 89 45 F8 C9 C3: push rbp; mov rsp to rbp; sub 16 from rsp; store rax at
 /// rbp - 8; leave; ret. A store to the saved rbp or the return address is no step.
@@ -360,31 +359,31 @@ const JUMP_TABLE: Accepted = Accepted {
 };
 
 #[test]
-fn accepts_frame_pointer(rt: HostRuntime) -> Result<(), Fail> {
-    expect_accepted(&rt, rt.alloc(), &FRAME_POINTER)
+fn accepts_frame_pointer(rt: HostRuntime) {
+    expect_accepted(&rt, rt.alloc(), &FRAME_POINTER);
 }
 
 #[test]
-fn accepts_ordinary_bp(rt: HostRuntime) -> Result<(), Fail> {
-    expect_accepted(&rt, rt.alloc(), &ORDINARY_BP)
+fn accepts_ordinary_bp(rt: HostRuntime) {
+    expect_accepted(&rt, rt.alloc(), &ORDINARY_BP);
 }
 
 #[test]
-fn accepts_cold_part(rt: HostRuntime) -> Result<(), Fail> {
-    expect_accepted(&rt, rt.alloc(), &COLD_PART)
+fn accepts_cold_part(rt: HostRuntime) {
+    expect_accepted(&rt, rt.alloc(), &COLD_PART);
 }
 
 #[test]
-fn accepts_fixup(rt: HostRuntime) -> Result<(), Fail> {
-    expect_accepted(&rt, rt.alloc(), &FIXUP)
+fn accepts_fixup(rt: HostRuntime) {
+    expect_accepted(&rt, rt.alloc(), &FIXUP);
 }
 
 #[test]
-fn accepts_static_branch(rt: HostRuntime) -> Result<(), Fail> {
-    expect_accepted(&rt, rt.alloc(), &STATIC_BRANCH)
+fn accepts_static_branch(rt: HostRuntime) {
+    expect_accepted(&rt, rt.alloc(), &STATIC_BRANCH);
 }
 
 #[test]
-fn accepts_jump_table(rt: HostRuntime) -> Result<(), Fail> {
-    expect_accepted(&rt, rt.alloc(), &JUMP_TABLE)
+fn accepts_jump_table(rt: HostRuntime) {
+    expect_accepted(&rt, rt.alloc(), &JUMP_TABLE);
 }

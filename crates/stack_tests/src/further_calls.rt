@@ -12,7 +12,6 @@ use operation_defs::Op;
 use ot_base::rules;
 use stack_examples::lines::{Table, With};
 use state_defs::HintState;
-use std::test::Fail;
 use table_defs::{Frame, Stop};
 
 /// A hint ends the stack.
@@ -195,31 +194,31 @@ const UNLISTED_CALL: Broken = Broken {
 };
 
 #[test]
-fn accepts_free_call(rt: HostRuntime) -> Result<(), Fail> {
-    expect_accepted(&rt, rt.alloc(), &FREE_CALL)
+fn accepts_free_call(rt: HostRuntime) {
+    expect_accepted(&rt, rt.alloc(), &FREE_CALL);
 }
 
 #[test]
-fn warns_of_untold_call(rt: HostRuntime) -> Result<(), Fail> {
-    expect_broken(&rt, rt.alloc(), &UNTOLD_CALL)
+fn warns_of_untold_call(rt: HostRuntime) {
+    expect_broken(&rt, rt.alloc(), &UNTOLD_CALL);
 }
 
 #[test]
-fn accepts_call_within(rt: HostRuntime) -> Result<(), Fail> {
-    expect_accepted(&rt, rt.alloc(), &CALL_WITHIN)
+fn accepts_call_within(rt: HostRuntime) {
+    expect_accepted(&rt, rt.alloc(), &CALL_WITHIN);
 }
 
 #[test]
-fn warns_of_not_dropped(rt: HostRuntime) -> Result<(), Fail> {
-    expect_broken(&rt, rt.alloc(), &NOT_DROPPED)
+fn warns_of_not_dropped(rt: HostRuntime) {
+    expect_broken(&rt, rt.alloc(), &NOT_DROPPED);
 }
 
 #[test]
-fn accepts_listed_call(rt: HostRuntime) -> Result<(), Fail> {
-    expect_accepted(&rt, rt.alloc(), &LISTED_CALL)
+fn accepts_listed_call(rt: HostRuntime) {
+    expect_accepted(&rt, rt.alloc(), &LISTED_CALL);
 }
 
 #[test]
-fn warns_of_unlisted_call(rt: HostRuntime) -> Result<(), Fail> {
-    expect_broken(&rt, rt.alloc(), &UNLISTED_CALL)
+fn warns_of_unlisted_call(rt: HostRuntime) {
+    expect_broken(&rt, rt.alloc(), &UNLISTED_CALL);
 }

@@ -8,7 +8,6 @@ use machine_model::Start;
 use operation_defs::Op;
 use stack_examples::lines::{Table, With};
 use state_defs::HintState;
-use std::test::Fail;
 use table_defs::Stop;
 
 /// 55 48 89 E5 90 48 89 C5 48 89 C5 90 C9 C3: push rbp; mov rsp to rbp; a SAVE at a nop; rbp is written
@@ -108,11 +107,11 @@ const CALL_FRAME_BY_A_HINT: Accepted = Accepted {
 };
 
 #[test]
-fn accepts_save_and_restore(rt: HostRuntime) -> Result<(), Fail> {
-    expect_accepted(&rt, rt.alloc(), &SAVE_AND_RESTORE)
+fn accepts_save_and_restore(rt: HostRuntime) {
+    expect_accepted(&rt, rt.alloc(), &SAVE_AND_RESTORE);
 }
 
 #[test]
-fn accepts_call_frame_by_a_hint(rt: HostRuntime) -> Result<(), Fail> {
-    expect_accepted(&rt, rt.alloc(), &CALL_FRAME_BY_A_HINT)
+fn accepts_call_frame_by_a_hint(rt: HostRuntime) {
+    expect_accepted(&rt, rt.alloc(), &CALL_FRAME_BY_A_HINT);
 }

@@ -10,7 +10,6 @@ use machine_model::{Frame as ShadowFrame, Slot, Start};
 use operation_defs::Op;
 use stack_examples::lines::{Table, With};
 use state_defs::{BpHome, Depth, HintState, State};
-use std::test::Fail;
 use table_defs::{Frame, Stop};
 
 /// The five words of an interrupt, at rsp and 8 bytes above it.
@@ -274,16 +273,16 @@ const IRET_TO_ITSELF: Accepted = Accepted {
 };
 
 #[test]
-fn accepts_prologue_and_gates(rt: HostRuntime) -> Result<(), Fail> {
-    expect_accepted(&rt, rt.alloc(), &PROLOGUE_AND_GATES)
+fn accepts_prologue_and_gates(rt: HostRuntime) {
+    expect_accepted(&rt, rt.alloc(), &PROLOGUE_AND_GATES);
 }
 
 #[test]
-fn accepts_outside_interrupted(rt: HostRuntime) -> Result<(), Fail> {
-    expect_accepted(&rt, rt.alloc(), &OUTSIDE_INTERRUPTED)
+fn accepts_outside_interrupted(rt: HostRuntime) {
+    expect_accepted(&rt, rt.alloc(), &OUTSIDE_INTERRUPTED);
 }
 
 #[test]
-fn accepts_iret_to_itself(rt: HostRuntime) -> Result<(), Fail> {
-    expect_accepted(&rt, rt.alloc(), &IRET_TO_ITSELF)
+fn accepts_iret_to_itself(rt: HostRuntime) {
+    expect_accepted(&rt, rt.alloc(), &IRET_TO_ITSELF);
 }

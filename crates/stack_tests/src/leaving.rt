@@ -13,7 +13,6 @@ use operation_defs::Op;
 use ot_base::rules;
 use stack_examples::lines::{Table, With};
 use state_defs::{HintState, State};
-use std::test::Fail;
 use table_defs::{Frame, Stop};
 
 /// A hint ends the stack, or tells the stack as at an entry.
@@ -215,41 +214,41 @@ const RUNS_OFF: Broken = Broken {
 };
 
 #[test]
-fn accepts_ended_leaves(rt: HostRuntime) -> Result<(), Fail> {
-    expect_accepted(&rt, rt.alloc(), &ENDED_LEAVES)
+fn accepts_ended_leaves(rt: HostRuntime) {
+    expect_accepted(&rt, rt.alloc(), &ENDED_LEAVES);
 }
 
 #[test]
-fn accepts_gate_leaves(rt: HostRuntime) -> Result<(), Fail> {
-    expect_accepted(&rt, rt.alloc(), &GATE_LEAVES)
+fn accepts_gate_leaves(rt: HostRuntime) {
+    expect_accepted(&rt, rt.alloc(), &GATE_LEAVES);
 }
 
 #[test]
-fn accepts_ended_stays(rt: HostRuntime) -> Result<(), Fail> {
-    expect_accepted(&rt, rt.alloc(), &ENDED_STAYS)
+fn accepts_ended_stays(rt: HostRuntime) {
+    expect_accepted(&rt, rt.alloc(), &ENDED_STAYS);
 }
 
 #[test]
-fn accepts_ended_runs_off(rt: HostRuntime) -> Result<(), Fail> {
-    expect_accepted(&rt, rt.alloc(), &ENDED_RUNS_OFF)
+fn accepts_ended_runs_off(rt: HostRuntime) {
+    expect_accepted(&rt, rt.alloc(), &ENDED_RUNS_OFF);
 }
 
 #[test]
-fn warns_of_ended_function_returns(rt: HostRuntime) -> Result<(), Fail> {
-    expect_broken(&rt, rt.alloc(), &ENDED_FUNCTION_RETURNS)
+fn warns_of_ended_function_returns(rt: HostRuntime) {
+    expect_broken(&rt, rt.alloc(), &ENDED_FUNCTION_RETURNS);
 }
 
 #[test]
-fn warns_of_gate_drops_bytes(rt: HostRuntime) -> Result<(), Fail> {
-    expect_broken(&rt, rt.alloc(), &GATE_DROPS_BYTES)
+fn warns_of_gate_drops_bytes(rt: HostRuntime) {
+    expect_broken(&rt, rt.alloc(), &GATE_DROPS_BYTES);
 }
 
 #[test]
-fn warns_of_ended_jumps(rt: HostRuntime) -> Result<(), Fail> {
-    expect_broken(&rt, rt.alloc(), &ENDED_JUMPS)
+fn warns_of_ended_jumps(rt: HostRuntime) {
+    expect_broken(&rt, rt.alloc(), &ENDED_JUMPS);
 }
 
 #[test]
-fn warns_of_runs_off(rt: HostRuntime) -> Result<(), Fail> {
-    expect_broken(&rt, rt.alloc(), &RUNS_OFF)
+fn warns_of_runs_off(rt: HostRuntime) {
+    expect_broken(&rt, rt.alloc(), &RUNS_OFF);
 }

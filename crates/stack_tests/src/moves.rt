@@ -1,244 +1,282 @@
 //! Worked moves of stack states.
 
+use Told::{At, Framed, Is, Regs};
 use operation_defs::Op;
 use stack_state::{BpHome, Depth, EndKind, State, initial, step};
+use std::process::Abort;
 
-/// A state without a frame pointer, whose depth is known.
-fn at(depth: i64, bp: BpHome) -> State {
-    State::Live {
-        depth: Depth::Known(depth),
-        fp: None,
-        bp,
+/// A state as it is told here.
+#[derive(Clone, Copy)]
+enum Told {
+    /// Without a frame pointer, with a known depth.
+    At(i64, BpHome),
+    /// With a frame pointer right below the return address, where rbp is saved.
+    Framed(Depth),
+    /// Saved registers: all or not, and the depth.
+    Regs(bool, i64),
+    /// This one.
+    Is(State),
+}
+
+/// The state at an entry.
+const ENTRY: Told = At(8, BpHome::Same);
+
+fn state_of(told: Told) -> State {
+    match told {
+        At(depth, bp) => State::Live {
+            depth: Depth::Known(depth),
+            fp: None,
+            bp,
+        },
+        Framed(depth) => State::Live {
+            depth,
+            fp: Some(16),
+            bp: BpHome::Saved(16),
+        },
+        Regs(full, depth) => State::Regs { full, depth },
+        Is(state) => state,
     }
 }
 
-/// A state whose frame pointer is right below the return address, where rbp is saved.
-fn framed(depth: Depth) -> State {
-    State::Live {
-        depth,
-        fp: Some(16),
-        bp: BpHome::Saved(16),
+/// The moved state, or the rule that is broken. Which that is is told by no contract.
+fn moved(state: State, op: Op) -> Result<State, u8> {
+    step(state, op)
+}
+
+/// A state, an operation, and the moved state or the rule that is broken.
+type Move = (Told, Op, Result<Told, u8>);
+
+fn is_moved(row: &Move) -> bool {
+    let (before, op, after) = *row;
+    match (moved(state_of(before), op), after) {
+        (Ok(found), Ok(after)) => found == state_of(after),
+        (Err(found), Err(rule)) => found == rule,
+        _ => false,
     }
 }
 
-fn regs(full: bool, depth: i64) -> State {
-    State::Regs { full, depth }
+fn expect_moves(rt: &impl Abort, moves: &[Move]) {
+    for row in moves {
+        assert!(rt; is_moved(row), "{:?}", row.1);
+    }
 }
 
 /// The code 55 48 89 E5 5D C3: push rbp; mov rsp to rbp; pop rbp; ret.
+const FOLLOWED: [Move; 3] = [
+    (ENTRY, Op::PushBp, Ok(At(16, BpHome::Saved(16)))),
+    (
+        At(16, BpHome::Saved(16)),
+        Op::LeaBpSp { by: 0 },
+        Ok(Framed(Depth::Known(16))),
+    ),
+    (Framed(Depth::Known(16)), Op::PopBp, Ok(At(8, BpHome::Same))),
+];
+
 #[test]
 fn follows_a_frame_pointer(rt: HostRuntime) {
-    let moves = [
-        (initial(), Op::PushBp, at(16, BpHome::Saved(16))),
-        (
-            at(16, BpHome::Saved(16)),
-            Op::LeaBpSp { by: 0 },
-            framed(Depth::Known(16)),
-        ),
-        (framed(Depth::Known(16)), Op::PopBp, at(8, BpHome::Same)),
-    ];
-    for (before, op, after) in moves {
-        assert_eq!(rt; step(before, op), Ok(after));
-    }
-    assert_eq!(rt; initial(), at(8, BpHome::Same));
+    expect_moves(&rt, &FOLLOWED);
+    assert!(rt; initial() == state_of(ENTRY));
 }
+
+const LIVE: [Move; 24] = [
+    // sub rsp, 24; add rsp, 24; push rbx; pop rbx; popfq
+    (
+        At(8, BpHome::Same),
+        Op::AddSp { by: -24 },
+        Ok(At(32, BpHome::Same)),
+    ),
+    (
+        At(32, BpHome::Same),
+        Op::AddSp { by: 24 },
+        Ok(At(8, BpHome::Same)),
+    ),
+    (At(8, BpHome::Same), Op::Push, Ok(At(16, BpHome::Same))),
+    (At(16, BpHome::Same), Op::Pop, Ok(At(8, BpHome::Same))),
+    (At(16, BpHome::Same), Op::Popf, Ok(At(8, BpHome::Same))),
+    // mov [rsp + 8], rbp saves it in the frame, but not over the return address
+    (
+        At(32, BpHome::Same),
+        Op::StoreBp { at: 8 },
+        Ok(At(32, BpHome::Saved(24))),
+    ),
+    (
+        At(32, BpHome::Same),
+        Op::StoreBp { at: 24 },
+        Ok(At(32, BpHome::Same)),
+    ),
+    (
+        At(32, BpHome::Saved(24)),
+        Op::LoadBp { at: 8 },
+        Ok(At(32, BpHome::Same)),
+    ),
+    (
+        At(32, BpHome::Saved(24)),
+        Op::LoadBp { at: 0 },
+        Ok(At(32, BpHome::Saved(24))),
+    ),
+    // rsp is aligned, then set from the frame pointer
+    (
+        Framed(Depth::Known(40)),
+        Op::AndSp { mask: -32 },
+        Ok(Framed(Depth::AtLeast(40))),
+    ),
+    (
+        Framed(Depth::AtLeast(40)),
+        Op::Push,
+        Ok(Framed(Depth::AtLeast(48))),
+    ),
+    (
+        Framed(Depth::AtLeast(48)),
+        Op::LeaSpBp { by: -8 },
+        Ok(Framed(Depth::Known(24))),
+    ),
+    (
+        Framed(Depth::AtLeast(48)),
+        Op::Leave,
+        Ok(At(8, BpHome::Same)),
+    ),
+    (
+        Framed(Depth::Known(40)),
+        Op::BpOther,
+        Ok(At(40, BpHome::Saved(16))),
+    ),
+    // rbp becomes the frame's base where it points at its own saved word, and nowhere else
+    (
+        At(40, BpHome::Saved(24)),
+        Op::LeaBpSp { by: 16 },
+        Ok(Is(State::Live {
+            depth: Depth::Known(40),
+            fp: Some(24),
+            bp: BpHome::Saved(24),
+        })),
+    ),
+    (
+        Framed(Depth::Known(40)),
+        Op::LeaBpSp { by: 0 },
+        Ok(At(40, BpHome::Saved(16))),
+    ),
+    // a call within the function is a push
+    (At(8, BpHome::Same), Op::Hop, Ok(At(16, BpHome::Same))),
+    // room is made under the frame pointer, of which a function that makes room tells the depth so
+    (
+        Framed(Depth::Known(24)),
+        Op::SubSp,
+        Ok(Framed(Depth::AtLeast(24))),
+    ),
+    (
+        Framed(Depth::AtLeast(24)),
+        Op::SpReg,
+        Ok(Framed(Depth::AtLeast(24))),
+    ),
+    (
+        At(16, BpHome::Saved(16)),
+        Op::LeaBpRoom { by: 0 },
+        Ok(Framed(Depth::AtLeast(16))),
+    ),
+    (
+        Framed(Depth::Known(40)),
+        Op::LeaBpRoom { by: 0 },
+        Ok(At(40, BpHome::Saved(16))),
+    ),
+    // five words are pushed, then an iret goes on behind itself
+    (
+        Framed(Depth::Known(56)),
+        Op::IretNext,
+        Ok(Framed(Depth::Known(16))),
+    ),
+    (At(48, BpHome::Same), Op::IretNext, Ok(At(8, BpHome::Same))),
+    (
+        Framed(Depth::Known(40)),
+        Op::Ret,
+        Ok(Framed(Depth::Known(40))),
+    ),
+];
 
 #[test]
 fn moves_live_states(rt: HostRuntime) {
-    let moves = [
-        // sub rsp, 24; add rsp, 24; push rbx; pop rbx; popfq
-        (
-            at(8, BpHome::Same),
-            Op::AddSp { by: -24 },
-            Ok(at(32, BpHome::Same)),
-        ),
-        (
-            at(32, BpHome::Same),
-            Op::AddSp { by: 24 },
-            Ok(at(8, BpHome::Same)),
-        ),
-        (at(8, BpHome::Same), Op::Push, Ok(at(16, BpHome::Same))),
-        (at(16, BpHome::Same), Op::Pop, Ok(at(8, BpHome::Same))),
-        (at(16, BpHome::Same), Op::Popf, Ok(at(8, BpHome::Same))),
-        // mov [rsp + 8], rbp saves it in the frame, but not over the return address
-        (
-            at(32, BpHome::Same),
-            Op::StoreBp { at: 8 },
-            Ok(at(32, BpHome::Saved(24))),
-        ),
-        (
-            at(32, BpHome::Same),
-            Op::StoreBp { at: 24 },
-            Ok(at(32, BpHome::Same)),
-        ),
-        (
-            at(32, BpHome::Saved(24)),
-            Op::LoadBp { at: 8 },
-            Ok(at(32, BpHome::Same)),
-        ),
-        (
-            at(32, BpHome::Saved(24)),
-            Op::LoadBp { at: 0 },
-            Ok(at(32, BpHome::Saved(24))),
-        ),
-        // rsp is aligned, then set from the frame pointer
-        (
-            framed(Depth::Known(40)),
-            Op::AndSp { mask: -32 },
-            Ok(framed(Depth::AtLeast(40))),
-        ),
-        (
-            framed(Depth::AtLeast(40)),
-            Op::Push,
-            Ok(framed(Depth::AtLeast(48))),
-        ),
-        (
-            framed(Depth::AtLeast(48)),
-            Op::LeaSpBp { by: -8 },
-            Ok(framed(Depth::Known(24))),
-        ),
-        (
-            framed(Depth::AtLeast(48)),
-            Op::Leave,
-            Ok(at(8, BpHome::Same)),
-        ),
-        (
-            framed(Depth::Known(40)),
-            Op::BpOther,
-            Ok(at(40, BpHome::Saved(16))),
-        ),
-        // rbp becomes the frame's base where it points at its own saved word, and nowhere else
-        (
-            at(40, BpHome::Saved(24)),
-            Op::LeaBpSp { by: 16 },
-            Ok(State::Live {
-                depth: Depth::Known(40),
-                fp: Some(24),
-                bp: BpHome::Saved(24),
-            }),
-        ),
-        (
-            framed(Depth::Known(40)),
-            Op::LeaBpSp { by: 0 },
-            Ok(at(40, BpHome::Saved(16))),
-        ),
-        // a call within the function is a push
-        (at(8, BpHome::Same), Op::Hop, Ok(at(16, BpHome::Same))),
-        // room is made under the frame pointer, of which a function that makes room tells the depth so
-        (
-            framed(Depth::Known(24)),
-            Op::SubSp,
-            Ok(framed(Depth::AtLeast(24))),
-        ),
-        (
-            framed(Depth::AtLeast(24)),
-            Op::SpReg,
-            Ok(framed(Depth::AtLeast(24))),
-        ),
-        (
-            at(16, BpHome::Saved(16)),
-            Op::LeaBpRoom { by: 0 },
-            Ok(framed(Depth::AtLeast(16))),
-        ),
-        (
-            framed(Depth::Known(40)),
-            Op::LeaBpRoom { by: 0 },
-            Ok(at(40, BpHome::Saved(16))),
-        ),
-        // five words are pushed, then an iret goes on behind itself
-        (
-            framed(Depth::Known(56)),
-            Op::IretNext,
-            Ok(framed(Depth::Known(16))),
-        ),
-        (at(48, BpHome::Same), Op::IretNext, Ok(at(8, BpHome::Same))),
-        (
-            framed(Depth::Known(40)),
-            Op::Ret,
-            Ok(framed(Depth::Known(40))),
-        ),
-    ];
-    for (before, op, after) in moves {
-        assert_eq!(rt; step(before, op), after);
-    }
+    expect_moves(&rt, &LIVE);
 }
+
+/// A state that no code comes to.
+const UNSAVED_BASE: State = State::Live {
+    depth: Depth::Known(24),
+    fp: Some(24),
+    bp: BpHome::Same,
+};
+
+const UNDEFINED: State = State::Ended(EndKind::Undefined);
+
+const END: State = State::Ended(EndKind::EndOfStack);
+
+const REFUSED: [Move; 23] = [
+    (Framed(Depth::Known(16)), Op::SpOther, Err(7)),
+    (At(24, BpHome::Saved(16)), Op::SubSp, Err(7)),
+    (ENTRY, Op::SpReg, Err(7)),
+    (ENTRY, Op::BpOther, Err(8)),
+    (ENTRY, Op::LeaBpRoom { by: 0 }, Err(8)),
+    (ENTRY, Op::PopBp, Err(8)),
+    (ENTRY, Op::Pop, Err(9)),
+    (ENTRY, Op::AndSp { mask: -16 }, Err(9)),
+    (ENTRY, Op::LeaSpBp { by: 0 }, Err(9)),
+    (Framed(Depth::AtLeast(16)), Op::LeaBpSp { by: 0 }, Err(9)),
+    (Framed(Depth::AtLeast(16)), Op::LeaBpRoom { by: 0 }, Err(9)),
+    (Framed(Depth::AtLeast(16)), Op::PopBp, Err(9)),
+    (At(16, BpHome::Same), Op::AddSp { by: -(1 << 30) }, Err(10)),
+    (At(8, BpHome::Same), Op::AddSp { by: i64::MIN }, Err(10)),
+    (At(8, BpHome::Same), Op::AddSp { by: i64::MAX }, Err(9)),
+    (At(i64::MAX, BpHome::Same), Op::Push, Err(10)),
+    (At(16, BpHome::Saved(16)), Op::Pop, Err(11)),
+    (Framed(Depth::Known(40)), Op::LeaSpBp { by: 8 }, Err(11)),
+    (Is(UNSAVED_BASE), Op::Leave, Err(11)),
+    (ENTRY, Op::LeaBpSp { by: 0 }, Err(8)),
+    (At(40, BpHome::Same), Op::IretNext, Err(15)),
+    (Framed(Depth::Known(48)), Op::IretNext, Err(15)),
+    (Framed(Depth::AtLeast(48)), Op::IretNext, Err(15)),
+];
 
 #[test]
 fn refuses_by_rule(rt: HostRuntime) {
-    // a state that no code comes to
-    let unsaved_base = State::Live {
-        depth: Depth::Known(24),
-        fp: Some(24),
-        bp: BpHome::Same,
-    };
-    let moves = [
-        (framed(Depth::Known(16)), Op::SpOther, 7),
-        (at(24, BpHome::Saved(16)), Op::SubSp, 7),
-        (initial(), Op::SpReg, 7),
-        (initial(), Op::BpOther, 8),
-        (initial(), Op::LeaBpRoom { by: 0 }, 8),
-        (initial(), Op::PopBp, 8),
-        (initial(), Op::Pop, 9),
-        (initial(), Op::AndSp { mask: -16 }, 9),
-        (initial(), Op::LeaSpBp { by: 0 }, 9),
-        (framed(Depth::AtLeast(16)), Op::LeaBpSp { by: 0 }, 9),
-        (framed(Depth::AtLeast(16)), Op::LeaBpRoom { by: 0 }, 9),
-        (framed(Depth::AtLeast(16)), Op::PopBp, 9),
-        (at(16, BpHome::Same), Op::AddSp { by: -(1 << 30) }, 10),
-        (at(8, BpHome::Same), Op::AddSp { by: i64::MIN }, 10),
-        (at(8, BpHome::Same), Op::AddSp { by: i64::MAX }, 9),
-        (at(i64::MAX, BpHome::Same), Op::Push, 10),
-        (at(16, BpHome::Saved(16)), Op::Pop, 11),
-        (framed(Depth::Known(40)), Op::LeaSpBp { by: 8 }, 11),
-        (unsaved_base, Op::Leave, 11),
-        (initial(), Op::LeaBpSp { by: 0 }, 8),
-        (at(40, BpHome::Same), Op::IretNext, 15),
-        (framed(Depth::Known(48)), Op::IretNext, 15),
-        (framed(Depth::AtLeast(48)), Op::IretNext, 15),
-    ];
-    for (before, op, rule) in moves {
-        assert_eq!(rt; step(before, op), Err(rule));
-    }
+    expect_moves(&rt, &REFUSED);
 }
+
+const SAVED_REGISTERS: [Move; 16] = [
+    (Regs(true, -32), Op::PopBp, Ok(Regs(false, 88))),
+    (Regs(true, 0), Op::Pop, Ok(Regs(true, -8))),
+    (Regs(true, 0), Op::PopBp, Ok(Regs(true, -8))),
+    (Regs(true, 8), Op::BpOther, Ok(Regs(true, 8))),
+    (Regs(false, 88), Op::AddSp { by: 88 }, Ok(Regs(false, 0))),
+    (Regs(false, 0), Op::PushBp, Ok(Regs(false, 8))),
+    (Regs(false, 0), Op::Pop, Err(11)),
+    (Regs(true, -32), Op::Pop, Err(11)),
+    (Regs(false, 88), Op::PopBp, Err(8)),
+    (Regs(true, 0), Op::Leave, Err(9)),
+    (Regs(true, 0), Op::Hop, Ok(Regs(true, 8))),
+    (Regs(true, 8), Op::LeaBpRoom { by: 0 }, Ok(Regs(true, 8))),
+    (Regs(true, 0), Op::SpOther, Err(7)),
+    (Regs(true, 0), Op::SubSp, Err(7)),
+    (Regs(true, 0), Op::SpReg, Err(7)),
+    (Regs(false, 88), Op::IretNext, Err(15)),
+];
 
 #[test]
 fn moves_saved_registers(rt: HostRuntime) {
-    let moves = [
-        (regs(true, -32), Op::PopBp, Ok(regs(false, 88))),
-        (regs(true, 0), Op::Pop, Ok(regs(true, -8))),
-        (regs(true, 0), Op::PopBp, Ok(regs(true, -8))),
-        (regs(true, 8), Op::BpOther, Ok(regs(true, 8))),
-        (regs(false, 88), Op::AddSp { by: 88 }, Ok(regs(false, 0))),
-        (regs(false, 0), Op::PushBp, Ok(regs(false, 8))),
-        (regs(false, 0), Op::Pop, Err(11)),
-        (regs(true, -32), Op::Pop, Err(11)),
-        (regs(false, 88), Op::PopBp, Err(8)),
-        (regs(true, 0), Op::Leave, Err(9)),
-        (regs(true, 0), Op::Hop, Ok(regs(true, 8))),
-        (regs(true, 8), Op::LeaBpRoom { by: 0 }, Ok(regs(true, 8))),
-        (regs(true, 0), Op::SpOther, Err(7)),
-        (regs(true, 0), Op::SubSp, Err(7)),
-        (regs(true, 0), Op::SpReg, Err(7)),
-        (regs(false, 88), Op::IretNext, Err(15)),
-    ];
-    for (before, op, after) in moves {
-        assert_eq!(rt; step(before, op), after);
-    }
+    expect_moves(&rt, &SAVED_REGISTERS);
 }
+
+const ENDED_OPS: [Op; 7] = [
+    Op::Pop,
+    Op::SpOther,
+    Op::SubSp,
+    Op::SpReg,
+    Op::BpOther,
+    Op::Hop,
+    Op::IretNext,
+];
 
 #[test]
 fn leaves_ended_stacks(rt: HostRuntime) {
-    for kind in [EndKind::Undefined, EndKind::EndOfStack] {
-        for op in [
-            Op::Pop,
-            Op::SpOther,
-            Op::SubSp,
-            Op::SpReg,
-            Op::BpOther,
-            Op::Hop,
-            Op::IretNext,
-        ] {
-            assert_eq!(rt; step(State::Ended(kind), op), Ok(State::Ended(kind)));
-        }
+    for op in ENDED_OPS {
+        assert!(rt; moved(UNDEFINED, op) == Ok(UNDEFINED));
+        assert!(rt; moved(END, op) == Ok(END));
     }
 }

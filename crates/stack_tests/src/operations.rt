@@ -9,7 +9,6 @@ use operation_defs::Op;
 use ot_base::rules;
 use stack_examples::lines::{Table, With};
 use state_defs::{BpHome, Depth, HintState, State};
-use std::test::Fail;
 use table_defs::Stop;
 
 const SP_WRITTEN: Broken = Broken {
@@ -216,41 +215,41 @@ const IRET_TOO_HIGH: Broken = Broken {
 };
 
 #[test]
-fn warns_of_sp_written(rt: HostRuntime) -> Result<(), Fail> {
-    expect_broken(&rt, rt.alloc(), &SP_WRITTEN)
+fn warns_of_sp_written(rt: HostRuntime) {
+    expect_broken(&rt, rt.alloc(), &SP_WRITTEN);
 }
 
 #[test]
-fn warns_of_bp_written(rt: HostRuntime) -> Result<(), Fail> {
-    expect_broken(&rt, rt.alloc(), &BP_WRITTEN)
+fn warns_of_bp_written(rt: HostRuntime) {
+    expect_broken(&rt, rt.alloc(), &BP_WRITTEN);
 }
 
 #[test]
-fn warns_of_sp_aligned(rt: HostRuntime) -> Result<(), Fail> {
-    expect_broken(&rt, rt.alloc(), &SP_ALIGNED)
+fn warns_of_sp_aligned(rt: HostRuntime) {
+    expect_broken(&rt, rt.alloc(), &SP_ALIGNED);
 }
 
 #[test]
-fn warns_of_saved_slot_popped(rt: HostRuntime) -> Result<(), Fail> {
-    expect_broken(&rt, rt.alloc(), &SAVED_SLOT_POPPED)
+fn warns_of_saved_slot_popped(rt: HostRuntime) {
+    expect_broken(&rt, rt.alloc(), &SAVED_SLOT_POPPED);
 }
 
 #[test]
-fn warns_of_leave_unsaved(rt: HostRuntime) -> Result<(), Fail> {
-    expect_broken(&rt, rt.alloc(), &LEAVE_UNSAVED)
+fn warns_of_leave_unsaved(rt: HostRuntime) {
+    expect_broken(&rt, rt.alloc(), &LEAVE_UNSAVED);
 }
 
 #[test]
-fn warns_of_far(rt: HostRuntime) -> Result<(), Fail> {
-    expect_broken(&rt, rt.alloc(), &FAR)
+fn warns_of_far(rt: HostRuntime) {
+    expect_broken(&rt, rt.alloc(), &FAR);
 }
 
 #[test]
-fn warns_of_unfit(rt: HostRuntime) -> Result<(), Fail> {
-    expect_broken(&rt, rt.alloc(), &UNFIT)
+fn warns_of_unfit(rt: HostRuntime) {
+    expect_broken(&rt, rt.alloc(), &UNFIT);
 }
 
 #[test]
-fn warns_of_iret_too_high(rt: HostRuntime) -> Result<(), Fail> {
-    expect_broken(&rt, rt.alloc(), &IRET_TOO_HIGH)
+fn warns_of_iret_too_high(rt: HostRuntime) {
+    expect_broken(&rt, rt.alloc(), &IRET_TOO_HIGH);
 }

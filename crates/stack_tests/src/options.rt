@@ -7,7 +7,6 @@ use machine_defs::Role;
 use operation_defs::Op;
 use ot_base::{Options, rules};
 use stack_examples::lines::{Table, With};
-use std::test::Fail;
 
 /// Unreachable instructions are asked for, frame pointers, or both.
 const UNREACHABLE: Options = Options {
@@ -136,31 +135,31 @@ const WITHOUT_FRAME_UNASKED: Broken = Broken {
 };
 
 #[test]
-fn warns_of_unreached(rt: HostRuntime) -> Result<(), Fail> {
-    expect_broken(&rt, rt.alloc(), &UNREACHED)
+fn warns_of_unreached(rt: HostRuntime) {
+    expect_broken(&rt, rt.alloc(), &UNREACHED);
 }
 
 #[test]
-fn warns_of_unreached_of_none(rt: HostRuntime) -> Result<(), Fail> {
-    expect_broken(&rt, rt.alloc(), &UNREACHED_OF_NONE)
+fn warns_of_unreached_of_none(rt: HostRuntime) {
+    expect_broken(&rt, rt.alloc(), &UNREACHED_OF_NONE);
 }
 
 #[test]
-fn warns_of_unreached_in_patches(rt: HostRuntime) -> Result<(), Fail> {
-    expect_broken(&rt, rt.alloc(), &UNREACHED_IN_PATCHES)
+fn warns_of_unreached_in_patches(rt: HostRuntime) {
+    expect_broken(&rt, rt.alloc(), &UNREACHED_IN_PATCHES);
 }
 
 #[test]
-fn warns_of_unreached_unasked(rt: HostRuntime) -> Result<(), Fail> {
-    expect_broken(&rt, rt.alloc(), &UNREACHED_UNASKED)
+fn warns_of_unreached_unasked(rt: HostRuntime) {
+    expect_broken(&rt, rt.alloc(), &UNREACHED_UNASKED);
 }
 
 #[test]
-fn warns_of_without_frame(rt: HostRuntime) -> Result<(), Fail> {
-    expect_broken(&rt, rt.alloc(), &WITHOUT_FRAME)
+fn warns_of_without_frame(rt: HostRuntime) {
+    expect_broken(&rt, rt.alloc(), &WITHOUT_FRAME);
 }
 
 #[test]
-fn warns_of_without_frame_unasked(rt: HostRuntime) -> Result<(), Fail> {
-    expect_broken(&rt, rt.alloc(), &WITHOUT_FRAME_UNASKED)
+fn warns_of_without_frame_unasked(rt: HostRuntime) {
+    expect_broken(&rt, rt.alloc(), &WITHOUT_FRAME_UNASKED);
 }

@@ -8,7 +8,6 @@ use operation_defs::Op;
 use ot_base::rules;
 use stack_examples::lines::{Table, With};
 use state_defs::HintState;
-use std::test::Fail;
 use table_defs::Stop;
 
 /// Called from outside, where control stands at the first instruction of a replacement.
@@ -157,31 +156,31 @@ const RESTORE_AT_AN_ENTRY: Broken = Broken {
 };
 
 #[test]
-fn warns_of_variants(rt: HostRuntime) -> Result<(), Fail> {
-    expect_broken(&rt, rt.alloc(), &VARIANTS)
+fn warns_of_variants(rt: HostRuntime) {
+    expect_broken(&rt, rt.alloc(), &VARIANTS);
 }
 
 #[test]
-fn warns_of_call_in_a_site(rt: HostRuntime) -> Result<(), Fail> {
-    expect_broken(&rt, rt.alloc(), &CALL_IN_A_SITE)
+fn warns_of_call_in_a_site(rt: HostRuntime) {
+    expect_broken(&rt, rt.alloc(), &CALL_IN_A_SITE);
 }
 
 #[test]
-fn warns_of_restore_in_a_site(rt: HostRuntime) -> Result<(), Fail> {
-    expect_broken(&rt, rt.alloc(), &RESTORE_IN_A_SITE)
+fn warns_of_restore_in_a_site(rt: HostRuntime) {
+    expect_broken(&rt, rt.alloc(), &RESTORE_IN_A_SITE);
 }
 
 #[test]
-fn warns_of_restore_behind_a_nop(rt: HostRuntime) -> Result<(), Fail> {
-    expect_broken(&rt, rt.alloc(), &RESTORE_BEHIND_A_NOP)
+fn warns_of_restore_behind_a_nop(rt: HostRuntime) {
+    expect_broken(&rt, rt.alloc(), &RESTORE_BEHIND_A_NOP);
 }
 
 #[test]
-fn warns_of_restore_at_an_entry(rt: HostRuntime) -> Result<(), Fail> {
-    expect_broken(&rt, rt.alloc(), &RESTORE_AT_AN_ENTRY)
+fn warns_of_restore_at_an_entry(rt: HostRuntime) {
+    expect_broken(&rt, rt.alloc(), &RESTORE_AT_AN_ENTRY);
 }
 
 #[test]
-fn warns_of_unsized(rt: HostRuntime) -> Result<(), Fail> {
-    expect_broken(&rt, rt.alloc(), &UNSIZED)
+fn warns_of_unsized(rt: HostRuntime) {
+    expect_broken(&rt, rt.alloc(), &UNSIZED);
 }

@@ -10,7 +10,6 @@ use operation_defs::Op;
 use ot_base::rules;
 use stack_examples::lines::{Table, With};
 use state_defs::{BpHome, Depth, HintState, State};
-use std::test::Fail;
 use table_defs::Stop;
 
 /// 50 50 48 29 C4 5B C3: behind two pushes a register is subtracted from rsp, and a hint tells that one word is pushed. rsp may
@@ -295,36 +294,36 @@ const JOINED: Broken = Broken {
 };
 
 #[test]
-fn accepts_before_hint(rt: HostRuntime) -> Result<(), Fail> {
-    expect_accepted(&rt, rt.alloc(), &BEFORE_HINT)
+fn accepts_before_hint(rt: HostRuntime) {
+    expect_accepted(&rt, rt.alloc(), &BEFORE_HINT);
 }
 
 #[test]
-fn warns_of_before_save(rt: HostRuntime) -> Result<(), Fail> {
-    expect_broken(&rt, rt.alloc(), &BEFORE_SAVE)
+fn warns_of_before_save(rt: HostRuntime) {
+    expect_broken(&rt, rt.alloc(), &BEFORE_SAVE);
 }
 
 #[test]
-fn accepts_comes_back(rt: HostRuntime) -> Result<(), Fail> {
-    expect_accepted(&rt, rt.alloc(), &COMES_BACK)
+fn accepts_comes_back(rt: HostRuntime) {
+    expect_accepted(&rt, rt.alloc(), &COMES_BACK);
 }
 
 #[test]
-fn accepts_makes_room(rt: HostRuntime) -> Result<(), Fail> {
-    expect_accepted(&rt, rt.alloc(), &MAKES_ROOM)
+fn accepts_makes_room(rt: HostRuntime) {
+    expect_accepted(&rt, rt.alloc(), &MAKES_ROOM);
 }
 
 #[test]
-fn warns_of_no_base(rt: HostRuntime) -> Result<(), Fail> {
-    expect_broken(&rt, rt.alloc(), &NO_BASE)
+fn warns_of_no_base(rt: HostRuntime) {
+    expect_broken(&rt, rt.alloc(), &NO_BASE);
 }
 
 #[test]
-fn warns_of_popped(rt: HostRuntime) -> Result<(), Fail> {
-    expect_broken(&rt, rt.alloc(), &POPPED)
+fn warns_of_popped(rt: HostRuntime) {
+    expect_broken(&rt, rt.alloc(), &POPPED);
 }
 
 #[test]
-fn warns_of_joined(rt: HostRuntime) -> Result<(), Fail> {
-    expect_broken(&rt, rt.alloc(), &JOINED)
+fn warns_of_joined(rt: HostRuntime) {
+    expect_broken(&rt, rt.alloc(), &JOINED);
 }

@@ -8,7 +8,6 @@ use machine_model::Wreck;
 use operation_defs::Op;
 use ot_base::rules;
 use stack_examples::lines::{Table, With};
-use std::test::Fail;
 use table_defs::Stop;
 
 pub const JMP: Op = Op::Jmp {
@@ -191,36 +190,36 @@ const MISMATCH: Broken = Broken {
 };
 
 #[test]
-fn warns_of_bad_target(rt: HostRuntime) -> Result<(), Fail> {
-    expect_broken(&rt, rt.alloc(), &BAD_TARGET)
+fn warns_of_bad_target(rt: HostRuntime) {
+    expect_broken(&rt, rt.alloc(), &BAD_TARGET);
 }
 
 #[test]
-fn warns_of_past_end(rt: HostRuntime) -> Result<(), Fail> {
-    expect_broken(&rt, rt.alloc(), &PAST_END)
+fn warns_of_past_end(rt: HostRuntime) {
+    expect_broken(&rt, rt.alloc(), &PAST_END);
 }
 
 #[test]
-fn warns_of_into_site(rt: HostRuntime) -> Result<(), Fail> {
-    expect_broken(&rt, rt.alloc(), &INTO_SITE)
+fn warns_of_into_site(rt: HostRuntime) {
+    expect_broken(&rt, rt.alloc(), &INTO_SITE);
 }
 
 #[test]
-fn warns_of_into_function(rt: HostRuntime) -> Result<(), Fail> {
-    expect_broken(&rt, rt.alloc(), &INTO_FUNCTION)
+fn warns_of_into_function(rt: HostRuntime) {
+    expect_broken(&rt, rt.alloc(), &INTO_FUNCTION);
 }
 
 #[test]
-fn warns_of_relocated(rt: HostRuntime) -> Result<(), Fail> {
-    expect_broken(&rt, rt.alloc(), &RELOCATED)
+fn warns_of_relocated(rt: HostRuntime) {
+    expect_broken(&rt, rt.alloc(), &RELOCATED);
 }
 
 #[test]
-fn warns_of_falls_through(rt: HostRuntime) -> Result<(), Fail> {
-    expect_broken(&rt, rt.alloc(), &FALLS_THROUGH)
+fn warns_of_falls_through(rt: HostRuntime) {
+    expect_broken(&rt, rt.alloc(), &FALLS_THROUGH);
 }
 
 #[test]
-fn warns_of_mismatch(rt: HostRuntime) -> Result<(), Fail> {
-    expect_broken(&rt, rt.alloc(), &MISMATCH)
+fn warns_of_mismatch(rt: HostRuntime) {
+    expect_broken(&rt, rt.alloc(), &MISMATCH);
 }

@@ -16,8 +16,6 @@ use stack_rules::{
 use state_defs::{EndKind, State};
 use state_pool::count_states;
 use std::alloc::{AllocError, Global};
-use std::process::Abort;
-use std::test::Fail;
 
 /// The options that ask for these rules.
 fn options(unreachable: bool, fp: bool) -> Options {
@@ -124,90 +122,146 @@ fn count_different(alloc: Global, states: &[Option<State>]) -> Result<usize, All
     Ok(different.len())
 }
 
-/// Both keep the same states, and as many different ones.
-fn expect_same_states(
-    rt: &impl Abort,
-    alloc: Global,
-    name: &str,
-    p: &Program,
-    graph: &Graph,
-    kept: &Kept,
-) -> Result<(), Fail>
+/// Whether these are the states that the checker keeps.
+fn are_kept(graph: &Graph, kept: &Kept, states: &[Option<State>]) -> bool
     requires { length kept.now ≡ length graph.now.parts.points.items }
 {
-    let states = kept_states(alloc, p)?;
-    assert_eq!(rt; states.len(), graph.points() as usize, "{name}");
-    for n in 0..graph.points() {
-        let expected = states.get(n as usize).copied().flatten();
-        assert_eq!(rt; kept.state(n), expected, "{name} at {n}");
+    if states.len() != graph.points() as usize {
+        return false;
     }
-    let different = count_different(alloc, &states)?;
-    let found = count_states(alloc, kept, graph.points())?;
-    assert_eq!(rt; found as usize, different, "{name}");
-    Ok(())
+    for n in 0..graph.points() {
+        if kept.state(n) != states.get(n as usize).copied().flatten() {
+            return false;
+        }
+    }
+    true
 }
 
-/// Where no rule is broken, the table of the plain reading has in force, wherever a kept point runs of which rows tell, the row
-/// of the state that the checker keeps there.
-fn expect_rows_of_states(
-    rt: &impl Abort,
-    alloc: Global,
-    name: &str,
+/// Whether as many different ones are counted as there are.
+fn are_counted(alloc: Global, graph: &Graph, kept: &Kept, states: &[Option<State>]) -> Option<bool>
+    requires { length kept.now ≡ length graph.now.parts.points.items }
+{
+    let different = count_different(alloc, states).ok()?;
+    let found = count_states(alloc, kept, graph.points()).ok()?;
+    Some(found as usize == different)
+}
+
+/// Whether both keep the same states, and as many different ones.
+fn are_same_states(alloc: Global, p: &Program, graph: &Graph, kept: &Kept) -> Option<bool>
+    requires { length kept.now ≡ length graph.now.parts.points.items }
+{
+    let states = kept_states(alloc, p).ok()?;
+    Some(are_kept(graph, kept, &states) && are_counted(alloc, graph, kept, &states)?)
+}
+
+/// Whether a table has in force, wherever a kept point runs of which rows tell, the row of the state that the checker keeps there.
+fn are_told(
     p: &Program,
     graph: &Graph,
     kept: &Kept,
-) -> Result<(), Fail>
+    states: &[Option<State>],
+    table: &[PlacedRow],
+) -> bool
     requires { length kept.now ≡ length graph.now.parts.points.items }
 {
-    let table = model_rows(alloc, p)?;
-    let states = kept_states(alloc, p)?;
     for n in 0..graph.points() {
         let address = graph.address(n);
         if let Some(state) = kept.state(n)
-            && is_told(p, states.as_slice(), address)
+            && is_told(p, states, address)
+            && !is_row_of(state, row_in_force(table, address))
         {
-            let found = row_in_force(table.as_slice(), address);
-            assert!(rt; is_row_of(state, found), "{name} at {n}: {found:?}");
+            return false;
         }
     }
-    Ok(())
+    true
 }
 
-/// Under these options both warn of the same. Tells how often.
-fn expect_same_warnings(
-    rt: &impl Abort,
+/// Whether the table of the plain reading, where no rule is broken, tells the states that the checker keeps.
+fn are_same_rows(alloc: Global, p: &Program, graph: &Graph, kept: &Kept) -> Option<bool>
+    requires { length kept.now ≡ length graph.now.parts.points.items }
+{
+    let table = model_rows(alloc, p).ok()?;
+    let states = kept_states(alloc, p).ok()?;
+    Some(are_told(p, graph, kept, &states, &table))
+}
+
+/// Whether under these options both warn of the same.
+fn are_same_warnings(
     alloc: Global,
-    name: &str,
     p: &Program,
     graph: &Graph,
     kept: &Kept,
     options: Options,
-) -> Result<usize, Fail>
+) -> Option<bool>
     requires points { length kept.now ≡ length graph.now.parts.points.items }
     requires sites { All (λ site. site.len < 2 ^ 63) graph.now.parts.sites.items }
 {
-    let found = checked_warnings(alloc, graph, kept, options)?;
-    let expected = sorted_warnings(alloc, p, &options)?;
-    assert!(rt; found == expected, "{name}: {found:?}, not {expected:?}");
-    Ok(found.len())
+    let found = checked_warnings(alloc, graph, kept, options).ok()?;
+    let expected = sorted_warnings(alloc, p, &options).ok()?;
+    Some(found == expected)
 }
 
-/// The checker and the plain reading find the same in a program. Tells whether no rule is broken that no option has to
-/// ask for.
-pub fn expect_same(rt: &impl Abort, alloc: Global, name: &str, p: &Program) -> Result<bool, Fail> {
-    let Some(graph) = graph_of(parts_of(alloc, p)?) else {
-        assert!(rt; false, "{name}: no graph");
-        return Ok(false);
-    };
-    let kept = keep(alloc, &graph)?;
-    expect_same_states(rt, alloc, name, p, &graph, &kept)?;
-    let broken = expect_same_warnings(rt, alloc, name, p, &graph, &kept, options(false, false))?;
-    for (unreachable, fp) in [(true, false), (false, true), (true, true)] {
-        let asked = options(unreachable, fp);
-        expect_same_warnings(rt, alloc, name, p, &graph, &kept, asked)?;
+/// Whether under each setting of two options both warn of the same.
+fn are_same_under_all(alloc: Global, p: &Program, graph: &Graph, kept: &Kept) -> Option<bool>
+    requires points { length kept.now ≡ length graph.now.parts.points.items }
+    requires sites { All (λ site. site.len < 2 ^ 63) graph.now.parts.sites.items }
+{
+    for (unreachable, fp) in [(false, false), (true, false), (false, true), (true, true)] {
+        if !are_same_warnings(alloc, p, graph, kept, options(unreachable, fp))? {
+            return Some(false);
+        }
     }
-    if broken == 0 {
-        expect_rows_of_states(rt, alloc, name, p, &graph, &kept)?;
+    Some(true)
+}
+
+/// Whether no rule is broken that no option has to ask for.
+fn is_accepted(alloc: Global, graph: &Graph, kept: &Kept) -> Option<bool>
+    requires points { length kept.now ≡ length graph.now.parts.points.items }
+    requires sites { All (λ site. site.len < 2 ^ 63) graph.now.parts.sites.items }
+{
+    let warnings = checked_warnings(alloc, graph, kept, options(false, false)).ok()?;
+    Some(warnings.is_empty())
+}
+
+/// What the checker and the plain reading find in a program.
+#[derive(Clone, Copy, Debug, PartialEq, Eq)]
+pub enum Compared {
+    /// The same, and no rule is broken that no option has to ask for.
+    Accepted,
+    /// The same, and a rule is broken.
+    Broken,
+    /// Other states.
+    OtherStates,
+    /// Other warnings.
+    OtherWarnings,
+    /// Other rows.
+    OtherRows,
+}
+
+fn compare_by(alloc: Global, p: &Program, graph: &Graph, kept: &Kept) -> Option<Compared>
+    requires points { length kept.now ≡ length graph.now.parts.points.items }
+    requires sites { All (λ site. site.len < 2 ^ 63) graph.now.parts.sites.items }
+{
+    if !are_same_states(alloc, p, graph, kept)? {
+        return Some(Compared::OtherStates);
     }
-    Ok(broken == 0)
+    if !are_same_under_all(alloc, p, graph, kept)? {
+        return Some(Compared::OtherWarnings);
+    }
+    if !is_accepted(alloc, graph, kept)? {
+        return Some(Compared::Broken);
+    }
+    if are_same_rows(alloc, p, graph, kept)? {
+        Some(Compared::Accepted)
+    } else {
+        Some(Compared::OtherRows)
+    }
+}
+
+/// What both find in a program; nothing where it has no graph.
+pub fn compare(alloc: Global, p: &Program) -> Option<Compared> {
+    let parts = parts_of(alloc, p).ok()?;
+    let graph = graph_of(parts)?;
+    let kept = keep(alloc, &graph).ok()?;
+    compare_by(alloc, p, &graph, &kept)
 }

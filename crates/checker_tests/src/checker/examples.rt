@@ -8,12 +8,11 @@ mod operations;
 mod targets;
 mod ways;
 
-use super::compare::expect_same;
+use super::compare::{Compared, compare};
 use stack_examples::builder::program;
 use stack_examples::lines::Table;
 use std::alloc::Global;
 use std::process::Abort;
-use std::test::Fail;
 
 /// A program by its table.
 #[derive(Clone, Copy)]
@@ -22,11 +21,20 @@ pub struct Example {
     pub table: Table,
 }
 
+/// What the checker and the plain reading find in one of these programs.
+fn compared(alloc: Global, example: &Example) -> Option<Compared> {
+    let p = program(alloc, &example.table).ok()?;
+    compare(alloc, &p)
+}
+
 /// The checker and the plain reading find the same in each of these programs.
-pub fn expect_all(rt: &impl Abort, alloc: Global, examples: &[Example]) -> Result<(), Fail> {
+pub fn expect_all(rt: &impl Abort, alloc: Global, examples: &[Example]) {
     for example in examples {
-        let p = program(alloc, &example.table)?;
-        expect_same(rt, alloc, example.name, &p)?;
+        let found = compared(alloc, example);
+        assert!(rt;
+            matches!(found, Some(Compared::Accepted | Compared::Broken)),
+            "{}: {found:?}",
+            example.name
+        );
     }
-    Ok(())
 }

@@ -144,6 +144,9 @@ fn without_points(alloc: Global, p: &Program) -> Result<GraphParts, AllocError> 
         sec: text.sec,
         size: text.size,
     };
+    let sites = p.sites.iter().map(site).collect(alloc)?;
+    let texts = p.texts.iter().map(text).collect(alloc)?;
+    let without_size = p.without_size.clone()?;
     Ok(GraphParts {
         points: Vec::new(alloc),
         starts: Vec::new(alloc),
@@ -155,19 +158,24 @@ fn without_points(alloc: Global, p: &Program) -> Result<GraphParts, AllocError> 
         rares: Vec::new(alloc),
         hinted: Vec::new(alloc),
         restores: Vec::new(alloc),
-        sites: p.sites.iter().map(site).collect(alloc)?,
-        texts: p.texts.iter().map(text).collect(alloc)?,
-        without_size: p.without_size.clone()?,
+        sites,
+        texts,
+        without_size,
     })
+}
+
+/// Adds the points of a program.
+fn add_points(parts: &mut GraphParts, p: &Program, returning: &[bool]) -> Result<(), AllocError> {
+    for (q, point) in (0u32..).zip(&p.points) {
+        add_point(parts, p, returning, q, point)?;
+    }
+    Ok(parts.starts.push(number(parts.edges.len()))?)
 }
 
 /// The parts of the graph of a program.
 pub fn parts_of(alloc: Global, p: &Program) -> Result<GraphParts, NoMemory> {
     let returning = may_return(alloc, p)?;
     let mut parts = without_points(alloc, p)?;
-    for (q, point) in (0u32..).zip(&p.points) {
-        add_point(&mut parts, p, returning.as_slice(), q, point)?;
-    }
-    parts.starts.push(number(parts.edges.len()))?;
+    add_points(&mut parts, p, &returning)?;
     Ok(parts)
 }

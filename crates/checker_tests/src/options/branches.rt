@@ -9,7 +9,6 @@ use operation_defs::Op;
 use option_model::{Allowed, Promise};
 use ot_base::rules;
 use stack_examples::lines::{Table, With};
-use std::test::Fail;
 
 /// Point 1 is listed as safe, and points 1 and 2.
 const SAFE_AT_1: Allowed<'static> = Allowed {
@@ -217,26 +216,26 @@ const RETURN_BY_THUNK: Pair = Pair {
 };
 
 #[test]
-fn an_indirect_call(rt: HostRuntime) -> Result<(), Fail> {
-    expect_pair(&rt, rt.alloc(), &CALL)
+fn an_indirect_call(rt: HostRuntime) {
+    expect_pair(&rt, rt.alloc(), &CALL);
 }
 
 #[test]
-fn an_indirect_jump(rt: HostRuntime) -> Result<(), Fail> {
-    expect_pair(&rt, rt.alloc(), &JUMP)
+fn an_indirect_jump(rt: HostRuntime) {
+    expect_pair(&rt, rt.alloc(), &JUMP);
 }
 
 #[test]
-fn a_jump_through_a_table(rt: HostRuntime) -> Result<(), Fail> {
-    expect_pair(&rt, rt.alloc(), &TABLE_JUMP)
+fn a_jump_through_a_table(rt: HostRuntime) {
+    expect_pair(&rt, rt.alloc(), &TABLE_JUMP);
 }
 
 #[test]
-fn a_return(rt: HostRuntime) -> Result<(), Fail> {
-    expect_pair(&rt, rt.alloc(), &RETURN)
+fn a_return(rt: HostRuntime) {
+    expect_pair(&rt, rt.alloc(), &RETURN);
 }
 
 #[test]
-fn a_return_by_the_thunk(rt: HostRuntime) -> Result<(), Fail> {
-    expect_pair(&rt, rt.alloc(), &RETURN_BY_THUNK)
+fn a_return_by_the_thunk(rt: HostRuntime) {
+    expect_pair(&rt, rt.alloc(), &RETURN_BY_THUNK);
 }

@@ -7,7 +7,6 @@ use operation_defs::Op;
 use option_model::{Allowed, Promise};
 use ot_base::rules;
 use stack_examples::lines::{Table, With};
-use std::test::Fail;
 
 /// 0F 01 CB E8 04 00 00 00 0F 01 CA C3 C3: f turns user access on, calls g, and turns it off.
 const INSIDE_TABLE: Table = Table {
@@ -406,46 +405,46 @@ const IN_SITES: Pair = Pair {
 };
 
 #[test]
-fn a_function_of_the_object(rt: HostRuntime) -> Result<(), Fail> {
-    expect_pair(&rt, rt.alloc(), &INSIDE)
+fn a_function_of_the_object(rt: HostRuntime) {
+    expect_pair(&rt, rt.alloc(), &INSIDE);
 }
 
 #[test]
-fn a_weak_symbol_inside(rt: HostRuntime) -> Result<(), Fail> {
-    expect_pair(&rt, rt.alloc(), &WEAK_INSIDE)
+fn a_weak_symbol_inside(rt: HostRuntime) {
+    expect_pair(&rt, rt.alloc(), &WEAK_INSIDE);
 }
 
 #[test]
-fn a_weak_symbol_outside(rt: HostRuntime) -> Result<(), Fail> {
-    expect_pair(&rt, rt.alloc(), &WEAK_OUTSIDE)
+fn a_weak_symbol_outside(rt: HostRuntime) {
+    expect_pair(&rt, rt.alloc(), &WEAK_OUTSIDE);
 }
 
 #[test]
-fn a_symbol_outside(rt: HostRuntime) -> Result<(), Fail> {
-    expect_pair(&rt, rt.alloc(), &OUTSIDE)
+fn a_symbol_outside(rt: HostRuntime) {
+    expect_pair(&rt, rt.alloc(), &OUTSIDE);
 }
 
 #[test]
-fn an_indirect_call(rt: HostRuntime) -> Result<(), Fail> {
-    expect_pair(&rt, rt.alloc(), &INDIRECT)
+fn an_indirect_call(rt: HostRuntime) {
+    expect_pair(&rt, rt.alloc(), &INDIRECT);
 }
 
 #[test]
-fn a_tail_call(rt: HostRuntime) -> Result<(), Fail> {
-    expect_pair(&rt, rt.alloc(), &TAIL_CALL)
+fn a_tail_call(rt: HostRuntime) {
+    expect_pair(&rt, rt.alloc(), &TAIL_CALL);
 }
 
 #[test]
-fn a_jump_outside(rt: HostRuntime) -> Result<(), Fail> {
-    expect_pair(&rt, rt.alloc(), &JUMP_OUTSIDE)
+fn a_jump_outside(rt: HostRuntime) {
+    expect_pair(&rt, rt.alloc(), &JUMP_OUTSIDE);
 }
 
 #[test]
-fn an_indirect_jump(rt: HostRuntime) -> Result<(), Fail> {
-    expect_pair(&rt, rt.alloc(), &JUMP_ANYWHERE)
+fn an_indirect_jump(rt: HostRuntime) {
+    expect_pair(&rt, rt.alloc(), &JUMP_ANYWHERE);
 }
 
 #[test]
-fn a_call_between_sites(rt: HostRuntime) -> Result<(), Fail> {
-    expect_pair(&rt, rt.alloc(), &IN_SITES)
+fn a_call_between_sites(rt: HostRuntime) {
+    expect_pair(&rt, rt.alloc(), &IN_SITES);
 }

@@ -12,7 +12,6 @@ use program_model::{Program, Region};
 use stack_examples::builder::program;
 use std::alloc::{AllocError, Global};
 use std::process::Abort;
-use std::test::Fail;
 use table_defs::Range;
 
 /// Where section 1 is placed.
@@ -52,41 +51,37 @@ impl How {
     }
 }
 
-/// The warnings with these options are these, each as often as may be.
-fn expect_warnings(
-    rt: &impl Abort,
+/// Whether a warning is this.
+fn is_one(warning: &Warning, other: &Warned) -> bool {
+    let (off, rule, a) = *other;
+    let place = Place { sec: 1, off };
+    *warning
+        == Warning {
+            place,
+            rule,
+            a,
+            b: 0,
+        }
+}
+
+/// Whether the warnings are these, each as often as may be.
+fn are_these(found: &[Warning], expected: &[Warned]) -> bool {
+    found.iter().all(|warning| expected.iter().any(|other| is_one(warning, other)))
+        && expected
+            .iter()
+            .all(|other| found.iter().any(|warning| is_one(warning, other)))
+}
+
+/// Whether the warnings with these options are these.
+fn are_warned(
     alloc: Global,
-    name: &str,
+    p: &Program,
     example: &Example,
     options: &Options,
     expected: &[Warned],
-) -> Result<(), Fail> {
-    let program = program(alloc, &example.table)?;
-    let found = warnings(alloc, &program, &example.allowed, options)?;
-    let is_one = |warning: &Warning, other: &Warned| {
-        let (off, rule, a) = *other;
-        let place = Place { sec: 1, off };
-        *warning
-            == Warning {
-                place,
-                rule,
-                a,
-                b: 0,
-            }
-    };
-    for warning in &found {
-        assert!(rt;
-            expected.iter().any(|other| is_one(warning, other)),
-            "{name}: {warning:?}"
-        );
-    }
-    for other in expected {
-        assert!(rt;
-            found.iter().any(|warning| is_one(warning, other)),
-            "{name}: {other:?}"
-        );
-    }
-    Ok(())
+) -> Option<bool> {
+    let found = warnings(alloc, p, &example.allowed, options).ok()?;
+    Some(are_these(&found, expected))
 }
 
 /// A state of a run, with the homes of its frames.
@@ -149,91 +144,79 @@ fn state_after(
     }
 }
 
-/// A state is this, and breaks these promises.
-fn expect_state(
-    rt: &impl Abort,
+/// Whether a state is this.
+fn stands_at(state: &State, at: &At) -> bool {
+    let s = &state.standing;
+    let (point, rsp, rbp, ac, homes) = *at;
+    (s.point, s.core.rsp, s.core.rbp, s.core.ac) == (point, rsp, rbp, ac)
+        && state.homes.as_slice() == homes
+}
+
+/// Whether it breaks these promises.
+fn breaks(
     alloc: Global,
-    name: &str,
     p: &Program,
     example: &Example,
     options: &Options,
     state: &State,
-    at: &At,
     expected: &[Promise],
-) -> Result<(), Fail> {
-    let s = &state.standing;
-    let (point, rsp, rbp, ac, homes) = *at;
-    assert_eq!(rt;
-        (s.point, s.core.rsp, s.core.rbp, s.core.ac),
-        (point, rsp, rbp, ac),
-        "{name} at {point}"
-    );
-    assert!(rt;
-        state.homes.as_slice() == homes,
-        "{name} at {point}: {:?}",
-        state.homes
-    );
-    let broken = broken_promises(
-        alloc,
-        p,
-        &example.allowed,
-        options,
-        state.homes.as_slice(),
-        s,
-    )?;
-    assert!(rt;
-        broken.as_slice() == expected,
-        "{name} at {point}: {broken:?}"
-    );
-    Ok(())
+) -> Option<bool> {
+    let homes = state.homes.as_slice();
+    let broken = broken_promises(alloc, p, &example.allowed, options, homes, &state.standing);
+    Some(broken.ok()?.as_slice() == expected)
 }
 
-/// The run starts, each of its steps is possible and leads where it says, and its last state breaks these promises, and
+/// Whether the run starts, each of its steps is possible and leads where it says, and its last state breaks these promises, and
 /// no earlier one any.
-fn expect_run(
-    rt: &impl Abort,
+fn is_run(
     alloc: Global,
-    name: &str,
+    p: &Program,
     example: &Example,
     options: &Options,
     expected: &[Promise],
-) -> Result<(), Fail> {
-    let p = program(alloc, &example.table)?;
-    let Some(mut state) = first_state(alloc, &p, example)? else {
-        assert!(rt; false, "{name}: no start");
-        return Ok(());
-    };
+) -> Option<bool> {
+    let mut state = first_state(alloc, p, example).ok()??;
     let mut at = &example.from;
     for (how, next) in example.steps {
-        expect_state(rt, alloc, name, &p, example, options, &state, at, &[])?;
-        let (to, ..) = *next;
-        let Some(after) = state_after(alloc, &p, example, state, &how.choice(to))? else {
-            assert!(rt; false, "{name}: no step to {to}");
-            return Ok(());
-        };
-        state = after;
+        if !stands_at(&state, at) || !breaks(alloc, p, example, options, &state, &[])? {
+            return Some(false);
+        }
+        let choice = how.choice(next.0);
+        state = state_after(alloc, p, example, state, &choice).ok()??;
         at = next;
     }
-    expect_state(rt, alloc, name, &p, example, options, &state, at, expected)
+    Some(stands_at(&state, at) && breaks(alloc, p, example, options, &state, expected)?)
+}
+
+/// Whether a program breaks these rules where the options ask for them, and none else, none without options, and its run these
+/// promises.
+fn is_so(
+    alloc: Global,
+    example: &Example,
+    options: &Options,
+    warned: &[Warned],
+    broken: &[Promise],
+) -> Option<bool> {
+    let p = program(alloc, &example.table).ok()?;
+    Some(
+        are_warned(alloc, &p, example, options, warned)?
+            && are_warned(alloc, &p, example, &NO_OPTIONS, &[])?
+            && is_run(alloc, &p, example, options, broken)?,
+    )
 }
 
 /// The wrong program breaks its rule where the options ask for it, and none else, and its run the promise; the repaired
 /// one breaks no rule, and its run no promise.
-pub fn expect_pair(rt: &impl Abort, alloc: Global, pair: &Pair) -> Result<(), Fail> {
-    let name = pair.name;
+pub fn expect_pair(rt: &impl Abort, alloc: Global, pair: &Pair) {
     let options = &pair.options;
-    expect_warnings(rt, alloc, name, &pair.wrong, options, pair.warnings)?;
-    expect_warnings(rt, alloc, name, &pair.wrong, &NO_OPTIONS, &[])?;
-    expect_run(rt, alloc, name, &pair.wrong, options, pair.broken)?;
-    expect_warnings(rt, alloc, name, &pair.repaired, options, &[])?;
-    expect_run(rt, alloc, name, &pair.repaired, options, &[])
+    let wrong = is_so(alloc, &pair.wrong, options, pair.warnings, pair.broken);
+    assert!(rt; wrong == Some(true), "{}", pair.name);
+    let repaired = is_so(alloc, &pair.repaired, options, &[], &[]);
+    assert!(rt; repaired == Some(true), "{}, repaired", pair.name);
 }
 
 /// The program breaks its rule where the options ask for it, and none else, and its run breaks no promise.
-pub fn expect_harmless(rt: &impl Abort, alloc: Global, case: &Harmless) -> Result<(), Fail> {
-    let name = case.name;
-    let options = &case.options;
-    expect_warnings(rt, alloc, name, &case.example, options, case.warnings)?;
-    expect_warnings(rt, alloc, name, &case.example, &NO_OPTIONS, &[])?;
-    expect_run(rt, alloc, name, &case.example, options, &[])
+pub fn expect_harmless(rt: &impl Abort, alloc: Global, case: &Harmless) {
+    let found = is_so(alloc, &case.example, &case.options, case.warnings, &[]);
+    assert!(rt; found == Some(true), "{}", case.name);
 }

@@ -7,7 +7,6 @@ use operation_defs::Op;
 use option_model::Promise;
 use ot_base::rules;
 use stack_examples::lines::{Table, With};
-use std::test::Fail;
 
 /// 55 E8 02 00 00 00 5D C3 C3: rbp is saved, and not set up.
 const NOT_SET_UP: Pair = Pair {
@@ -202,16 +201,16 @@ const SAVED_ELSEWHERE: Pair = Pair {
 };
 
 #[test]
-fn a_call_where_rbp_is_not_set_up(rt: HostRuntime) -> Result<(), Fail> {
-    expect_pair(&rt, rt.alloc(), &NOT_SET_UP)
+fn a_call_where_rbp_is_not_set_up(rt: HostRuntime) {
+    expect_pair(&rt, rt.alloc(), &NOT_SET_UP);
 }
 
 #[test]
-fn a_call_below_a_word(rt: HostRuntime) -> Result<(), Fail> {
-    expect_pair(&rt, rt.alloc(), &BELOW_A_WORD)
+fn a_call_below_a_word(rt: HostRuntime) {
+    expect_pair(&rt, rt.alloc(), &BELOW_A_WORD);
 }
 
 #[test]
-fn a_call_where_rbp_is_saved_elsewhere(rt: HostRuntime) -> Result<(), Fail> {
-    expect_pair(&rt, rt.alloc(), &SAVED_ELSEWHERE)
+fn a_call_where_rbp_is_saved_elsewhere(rt: HostRuntime) {
+    expect_pair(&rt, rt.alloc(), &SAVED_ELSEWHERE);
 }

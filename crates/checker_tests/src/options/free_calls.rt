@@ -8,7 +8,6 @@ use option_model::Promise;
 use ot_base::rules;
 use stack_examples::lines::{Row, Table, With};
 use state_defs::{BpHome, Depth, HintState, State};
-use std::test::Fail;
 
 /// A jump.
 const JMP: Op = Op::Jmp {
@@ -95,6 +94,6 @@ const CALLS_NONE: Pair = Pair {
 };
 
 #[test]
-fn a_call_between_code_of_no_function(rt: HostRuntime) -> Result<(), Fail> {
-    expect_pair(&rt, rt.alloc(), &CALLS_NONE)
+fn a_call_between_code_of_no_function(rt: HostRuntime) {
+    expect_pair(&rt, rt.alloc(), &CALLS_NONE);
 }

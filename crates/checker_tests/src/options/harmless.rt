@@ -9,7 +9,6 @@ use operation_defs::Op;
 use option_model::Allowed;
 use ot_base::rules;
 use stack_examples::lines::{Table, With};
-use std::test::Fail;
 
 /// 0F 01 CA C3: user access is off already.
 const OFF_TWICE: Harmless = Harmless {
@@ -123,26 +122,26 @@ const UNREACHED_RETURN: Harmless = Harmless {
 };
 
 #[test]
-fn access_off_twice(rt: HostRuntime) -> Result<(), Fail> {
-    expect_harmless(&rt, rt.alloc(), &OFF_TWICE)
+fn access_off_twice(rt: HostRuntime) {
+    expect_harmless(&rt, rt.alloc(), &OFF_TWICE);
 }
 
 #[test]
-fn access_on_twice(rt: HostRuntime) -> Result<(), Fail> {
-    expect_harmless(&rt, rt.alloc(), &ON_TWICE)
+fn access_on_twice(rt: HostRuntime) {
+    expect_harmless(&rt, rt.alloc(), &ON_TWICE);
 }
 
 #[test]
-fn access_off_in_a_safe_function_called_with_access(rt: HostRuntime) -> Result<(), Fail> {
-    expect_harmless(&rt, rt.alloc(), &OFF_AND_ON)
+fn access_off_in_a_safe_function_called_with_access(rt: HostRuntime) {
+    expect_harmless(&rt, rt.alloc(), &OFF_AND_ON);
 }
 
 #[test]
-fn an_unreached_jump(rt: HostRuntime) -> Result<(), Fail> {
-    expect_harmless(&rt, rt.alloc(), &UNREACHED_JUMP)
+fn an_unreached_jump(rt: HostRuntime) {
+    expect_harmless(&rt, rt.alloc(), &UNREACHED_JUMP);
 }
 
 #[test]
-fn an_unreached_return(rt: HostRuntime) -> Result<(), Fail> {
-    expect_harmless(&rt, rt.alloc(), &UNREACHED_RETURN)
+fn an_unreached_return(rt: HostRuntime) {
+    expect_harmless(&rt, rt.alloc(), &UNREACHED_RETURN);
 }

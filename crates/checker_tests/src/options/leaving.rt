@@ -7,7 +7,6 @@ use operation_defs::Op;
 use option_model::{Allowed, Promise};
 use ot_base::rules;
 use stack_examples::lines::{Table, With};
-use std::test::Fail;
 
 /// 0F 01 CB C3; and repaired, 0F 01 CB 0F 01 CA C3.
 const RETURN_WITH_ACCESS: Pair = Pair {
@@ -211,21 +210,21 @@ const LEFT_WITHOUT_ACCESS: Pair = Pair {
 };
 
 #[test]
-fn a_return_with_access(rt: HostRuntime) -> Result<(), Fail> {
-    expect_pair(&rt, rt.alloc(), &RETURN_WITH_ACCESS)
+fn a_return_with_access(rt: HostRuntime) {
+    expect_pair(&rt, rt.alloc(), &RETURN_WITH_ACCESS);
 }
 
 #[test]
-fn a_jump_outside_with_access(rt: HostRuntime) -> Result<(), Fail> {
-    expect_pair(&rt, rt.alloc(), &JUMP_WITH_ACCESS)
+fn a_jump_outside_with_access(rt: HostRuntime) {
+    expect_pair(&rt, rt.alloc(), &JUMP_WITH_ACCESS);
 }
 
 #[test]
-fn a_tail_call_with_access(rt: HostRuntime) -> Result<(), Fail> {
-    expect_pair(&rt, rt.alloc(), &TAIL_CALL_WITH_ACCESS)
+fn a_tail_call_with_access(rt: HostRuntime) {
+    expect_pair(&rt, rt.alloc(), &TAIL_CALL_WITH_ACCESS);
 }
 
 #[test]
-fn a_safe_function_left_without_access(rt: HostRuntime) -> Result<(), Fail> {
-    expect_pair(&rt, rt.alloc(), &LEFT_WITHOUT_ACCESS)
+fn a_safe_function_left_without_access(rt: HostRuntime) {
+    expect_pair(&rt, rt.alloc(), &LEFT_WITHOUT_ACCESS);
 }

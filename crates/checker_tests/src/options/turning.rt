@@ -7,7 +7,6 @@ use operation_defs::Op;
 use option_model::{Allowed, Promise};
 use ot_base::rules;
 use stack_examples::lines::{Table, With};
-use std::test::Fail;
 
 /// E8 01 00 00 00 C3 0F 01 CB C3: g is safe, and f calls it with user access off, which g turns on.
 const ON_IN_SAFE: Pair = Pair {
@@ -183,16 +182,16 @@ const POPF: Pair = Pair {
 };
 
 #[test]
-fn access_on_in_a_safe_function(rt: HostRuntime) -> Result<(), Fail> {
-    expect_pair(&rt, rt.alloc(), &ON_IN_SAFE)
+fn access_on_in_a_safe_function(rt: HostRuntime) {
+    expect_pair(&rt, rt.alloc(), &ON_IN_SAFE);
 }
 
 #[test]
-fn access_off_in_a_safe_function(rt: HostRuntime) -> Result<(), Fail> {
-    expect_pair(&rt, rt.alloc(), &OFF_IN_SAFE)
+fn access_off_in_a_safe_function(rt: HostRuntime) {
+    expect_pair(&rt, rt.alloc(), &OFF_IN_SAFE);
 }
 
 #[test]
-fn flags_popped(rt: HostRuntime) -> Result<(), Fail> {
-    expect_pair(&rt, rt.alloc(), &POPF)
+fn flags_popped(rt: HostRuntime) {
+    expect_pair(&rt, rt.alloc(), &POPF);
 }

@@ -6,7 +6,6 @@ use objtool_cli::Status;
 use ot_files::{FileError, Files, Sink, SinkError};
 use std::alloc::Global;
 use std::process::Abort;
-use std::test::Fail;
 
 /// Files whose every name holds the same bytes. So many calls get memory, and the next none.
 #[derive(Drop)]
@@ -74,19 +73,23 @@ impl Sink for PoorSink {
 /// Words, how many calls of the files get memory, how many bytes the output takes, and the status.
 type Poor = (&'static str, u64, usize, Status);
 
-/// The command ends so over files that hold the object of this code. What it prints is a beginning of the text,
-/// of as many bytes as the output takes, and OUT is written exactly where it is done.
-fn expect_poor(
-    rt: &impl Abort,
-    alloc: Global,
-    code: &[u8],
-    poor: Poor,
-    text: &str,
-) -> Result<(), Fail> {
-    let (line, calls, most, status) = poor;
-    let object = code_in_f(alloc, code)?;
+/// What comes of a command.
+#[derive(Drop)]
+struct Ended {
+    status: Status,
+    /// What it printed.
+    taken: Vec<u8>,
+    /// Whether it wrote a file.
+    written: bool,
+}
+
+/// What comes of a command over files that hold the object of this code.
+fn end_of(alloc: Global, code: &[u8], poor: Poor) -> Option<Ended> {
+    let (line, calls, most, _) = poor;
+    let words = words_of(alloc, line).ok()?;
+    let held = code_in_f(alloc, code)?;
     let mut files = PoorFiles {
-        held: object,
+        held,
         calls,
         written: false,
     };
@@ -94,18 +97,24 @@ fn expect_poor(
         taken: Vec::new(alloc),
         most,
     };
-    let words = words_of(alloc, line)?;
-    let ended = run_words(alloc, &words, &mut files, &mut out);
-    assert!(rt; ended == status, "{line} {calls} {most}: {ended:?}");
-    assert!(rt;
-        text.as_bytes().get(..most) == Some(out.taken.as_slice()),
-        "{line} {calls} {most}"
-    );
-    assert!(rt;
-        files.written == (status == Status::Done),
-        "{line} {calls} {most}"
-    );
-    Ok(())
+    let status = run_words(alloc, &words, &mut files, &mut out);
+    Some(Ended {
+        status,
+        taken: out.taken,
+        written: files.written,
+    })
+}
+
+/// Whether the command ends so. What it prints is a beginning of the text, of as many bytes as the output takes, and OUT is
+/// written exactly where it is done.
+fn is_right(alloc: Global, code: &[u8], poor: Poor, text: &str) -> Option<bool> {
+    let (_, _, most, status) = poor;
+    let ended = end_of(alloc, code, poor)?;
+    Some(
+        ended.status == status
+            && text.as_bytes().get(..most) == Some(ended.taken.as_slice())
+            && ended.written == (status == Status::Done),
+    )
 }
 
 /// The names file is the object itself, of which the first line is no word.
@@ -119,11 +128,11 @@ const FILE_CALLS: [Poor; 6] = [
 ];
 
 #[test]
-fn files_want_memory(rt: HostRuntime) -> Result<(), Fail> {
+fn files_want_memory(rt: HostRuntime) {
     for poor in FILE_CALLS {
-        expect_poor(&rt, rt.alloc(), b"\xC3", poor, "")?;
+        let found = is_right(rt.alloc(), b"\xC3", poor, "");
+        assert!(rt; found == Some(true), "{} {}", poor.0, poor.1);
     }
-    Ok(())
 }
 
 /// What `check` prints on push %rbx; ret, and without words.
@@ -131,21 +140,21 @@ const WARNING: &str = ".text+0x1: rule 5: return with modified stack: depth 16\n
 
 const USAGE: &str = "usage: no command at word 0\n";
 
-#[test]
-fn an_output_wants_memory(rt: HostRuntime) -> Result<(), Fail> {
-    let alloc = rt.alloc();
-    for (line, text, whole) in [
-        ("check IN OUT", WARNING, Status::Warnings),
-        ("", USAGE, Status::Usage),
-    ] {
-        for most in 0..=text.len() {
-            let status = if most < text.len() {
-                Status::NoMemory
-            } else {
-                whole
-            };
-            expect_poor(&rt, alloc, b"\x53\xC3", (line, 9, most, status), text)?;
-        }
+/// Each beginning of a text is printed where the output takes as much, and all of it at the status of the command.
+fn expect_cut(rt: &impl Abort, alloc: Global, line: &'static str, text: &str, whole: Status) {
+    for most in 0..=text.len() {
+        let status = if most < text.len() {
+            Status::NoMemory
+        } else {
+            whole
+        };
+        let found = is_right(alloc, b"\x53\xC3", (line, 9, most, status), text);
+        assert!(rt; found == Some(true), "{line} {most}");
     }
-    Ok(())
+}
+
+#[test]
+fn an_output_wants_memory(rt: HostRuntime) {
+    expect_cut(&rt, rt.alloc(), "check IN OUT", WARNING, Status::Warnings);
+    expect_cut(&rt, rt.alloc(), "", USAGE, Status::Usage);
 }

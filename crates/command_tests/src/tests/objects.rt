@@ -7,7 +7,6 @@ use elf_objects::{
 };
 use ot_base::NoMemory;
 use std::alloc::Global;
-use std::test::Fail;
 
 /// `sh_flags` of sections with code.
 const CODE: u64 = SHF_ALLOC | SHF_EXECINSTR;
@@ -60,9 +59,8 @@ fn relocation(field: &Field) -> RelSpec {
     RelSpec { sec, reloc }
 }
 
-/// The object of an example, if it makes one.
-fn object(alloc: Global, example: &Example<'_>) -> Result<Option<Vec<u8>>, NoMemory> {
-    let mut spec = Spec::new(alloc);
+/// Adds what an example has.
+fn fill(alloc: Global, spec: &mut Spec, example: &Example<'_>) -> Result<(), NoMemory> {
     for (name, flags, body) in example.sections {
         spec.sections.push(section(alloc, name, *flags, body)?)?;
     }
@@ -72,11 +70,18 @@ fn object(alloc: Global, example: &Example<'_>) -> Result<Option<Vec<u8>>, NoMem
     for field in example.fields {
         spec.relocs.push(relocation(field))?;
     }
-    build(alloc, &spec)
+    Ok(())
+}
+
+/// The object of an example, if it makes one. What it is is told by no contract.
+fn object(alloc: Global, example: &Example<'_>) -> Option<Vec<u8>> {
+    let mut spec = Spec::new(alloc);
+    fill(alloc, &mut spec, example).ok()?;
+    build(alloc, &spec).ok()?
 }
 
 /// The object of a code: `.text` with the code, its section symbol, and the function `f` over the code.
-pub fn code_in_f(alloc: Global, code: &[u8]) -> Result<Vec<u8>, Fail> {
+pub fn code_in_f(alloc: Global, code: &[u8]) -> Option<Vec<u8>> {
     let sections: [Piece<'_>; 1] = [(b".text", CODE, code)];
     let symbols: [Named<'_>; 2] = [TEXT, (b"f", STB_GLOBAL, STT_FUNC, 1, 0, code.len() as u64)];
     let example = Example {
@@ -84,17 +89,12 @@ pub fn code_in_f(alloc: Global, code: &[u8]) -> Result<Vec<u8>, Fail> {
         symbols: &symbols,
         fields: &[],
     };
-    Ok(object(alloc, &example)?.ok_or("the code makes an object")?)
+    object(alloc, &example)
 }
 
 /// The object of a code that calls or jumps to a function which is defined elsewhere: `offset` is that
 /// of the displacement.
-pub fn code_with_call(
-    alloc: Global,
-    code: &[u8],
-    offset: u64,
-    callee: &[u8],
-) -> Result<Option<Vec<u8>>, NoMemory> {
+pub fn code_with_call(alloc: Global, code: &[u8], offset: u64, callee: &[u8]) -> Option<Vec<u8>> {
     let sections: [Piece<'_>; 1] = [(b".text", CODE, code)];
     let symbols: [Named<'_>; 3] = [
         TEXT,

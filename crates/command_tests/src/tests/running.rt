@@ -3,7 +3,6 @@
 use objtool_cli::{Status, run};
 use ot_files::{Files, Sink};
 use std::alloc::{AllocError, Global};
-use std::process::Abort;
 
 /// The words of a line.
 pub fn words_of(alloc: Global, line: &str) -> Result<Vec<String>, AllocError> {
@@ -22,15 +21,4 @@ pub fn run_words<F: Files, S: Sink>(
     out: &mut S,
 ) -> Status {
     run(alloc, words, files, out)
-}
-
-/// A command has this status, and printed this text.
-pub fn expect_printed(
-    rt: &impl Abort,
-    line: &str,
-    (found, printed): (Status, &[u8]),
-    (status, text): (Status, &str),
-) {
-    assert!(rt; found == status, "{line}: {found:?}");
-    assert!(rt; printed == text.as_bytes(), "{line}: {text}");
 }

@@ -1,16 +1,16 @@
 //! Objects with sections added, byte by byte.
 
-ghost use Rattle.std.specs.Prelude.{◌≡◌, ◌≤◌, IfOk, length, replicate};
+ghost use Rattle.std.specs.Prelude.{◌≡◌, ◌≤◌, IfOk, IsTrue, length, replicate};
 ghost use Rattle.elf_objects.specs.Object.{IsObject};
 ghost use Rattle.elf_write.specs.New.{entry_of};
 
 use super::leaf::leaf;
+use super::readings::{body_of, name_of, object_of};
 use elf_objects::Object;
 use elf_write::{NewSection, append};
 use ot_base::NoMemory;
 use std::alloc::{AllocError, Global};
 use std::process::Abort;
-use std::test::Fail;
 
 /// A section whose body is so many bytes, all the same.
 fn section(
@@ -130,13 +130,33 @@ const PLACES: [(usize, usize, usize, u8, usize); 2] = [
     (4, 608, 624, 0xd0, 1232),
 ];
 
-/// The leaf with the sections of so many rows.
-fn leaf_with_rows(rt: &impl Abort, alloc: Global, rows: usize) -> Result<Vec<u8>, Fail>
-    requires { rows ≤ 5 }
+/// Whether an object is as large as the leaf.
+fn is_small(object: &Object<'_>) -> bool
+    ensures object { IsTrue result → IsObject object.now.bytes object.now }
+    ensures sections { IsTrue result → length object.now.sections ≡ 5 }
+    ensures size { IsTrue result → length object.now.bytes ≤ 504 }
 {
-    let object = Object::parse(alloc, leaf())?;
-    assert!(rt; object.sections() == 5 && object.bytes().len() == 504);
-    Ok(with_rows(alloc, &object, rows)?)
+    object.sections() == 5 && object.bytes().len() <= 504
+}
+
+/// The leaf with the sections of so many rows.
+fn leaf_with_rows(alloc: Global, rows: usize) -> Option<Vec<u8>> {
+    let object = object_of(alloc, leaf())?;
+    if rows <= 5 && is_small(&object) {
+        with_rows(alloc, &object, rows).ok()
+    } else {
+        None
+    }
+}
+
+/// The leaf with no section more.
+fn leaf_with_none(alloc: Global) -> Option<Vec<u8>> {
+    let object = object_of(alloc, leaf())?;
+    if is_small(&object) {
+        with_none(alloc, &object).ok()
+    } else {
+        None
+    }
 }
 
 /// The file has the bytes of the table, and those of the input elsewhere.
@@ -150,11 +170,10 @@ fn expect_pieces(rt: &impl Abort, file: &[u8]) {
 }
 
 #[test]
-fn lays_out_the_pieces(rt: HostRuntime) -> Result<(), Fail> {
-    let file = leaf_with_rows(&rt, rt.alloc(), 5)?;
+fn lays_out_the_pieces(rt: HostRuntime) {
+    let file = leaf_with_rows(rt.alloc(), 5).expect(&rt, "a file");
     assert!(rt; file.len() == 1272);
     expect_pieces(&rt, &file);
-    Ok(())
 }
 
 fn expect_place(rt: &impl Abort, file: &[u8], place: (usize, usize, usize, u8, usize)) {
@@ -166,36 +185,34 @@ fn expect_place(rt: &impl Abort, file: &[u8], place: (usize, usize, usize, u8, u
 }
 
 #[test]
-fn places_follow_the_sizes(rt: HostRuntime) -> Result<(), Fail> {
+fn places_follow_the_sizes(rt: HostRuntime) {
     for place in PLACES {
-        assert!(rt; place.0 <= 5);
-        let file = leaf_with_rows(&rt, rt.alloc(), place.0)?;
+        let file = leaf_with_rows(rt.alloc(), place.0).expect(&rt, "a file");
         expect_place(&rt, &file, place);
     }
-    Ok(())
 }
 
 fn expect_read(rt: &impl Abort, object: &Object<'_>) {
-    assert!(rt; object.sections() == 8);
-    assert!(rt; object.symbols() == 3);
-    assert!(rt; object.name_of_section(1) == b".text".as_slice());
-    assert!(rt; object.name_of_section(6) == b".orc_unwind_ip".as_slice());
-    assert!(rt; object.section(6).body == [0x22; 20].as_slice());
+    assert!(rt; (object.sections(), object.symbols()) == (8, 3));
+    assert!(rt; name_of(object, 1) == Some(b".text".as_slice()));
+    assert!(rt; name_of(object, 6) == Some(b".orc_unwind_ip".as_slice()));
+    assert!(rt; body_of(object, 6) == Some([0x22; 20].as_slice()));
+}
+
+/// What is read of the leaf with the sections of five rows.
+fn expect_read_back(rt: &impl Abort, alloc: Global, file: &[u8]) {
+    let object = object_of(alloc, file).expect(rt, "an object");
+    expect_read(rt, &object);
 }
 
 #[test]
-fn reads_back(rt: HostRuntime) -> Result<(), Fail> {
-    let file = leaf_with_rows(&rt, rt.alloc(), 5)?;
-    assert!(rt; file.len() < 4096);
-    expect_read(&rt, &Object::parse(rt.alloc(), &file)?);
-    Ok(())
+fn reads_back(rt: HostRuntime) {
+    let file = leaf_with_rows(rt.alloc(), 5).expect(&rt, "a file");
+    expect_read_back(&rt, rt.alloc(), &file);
 }
 
 #[test]
-fn no_section_changes_nothing(rt: HostRuntime) -> Result<(), Fail> {
-    let object = Object::parse(rt.alloc(), leaf())?;
-    assert!(rt; object.sections() == 5 && object.bytes().len() == 504);
-    let file = with_none(rt.alloc(), &object)?;
+fn no_section_changes_nothing(rt: HostRuntime) {
+    let file = leaf_with_none(rt.alloc()).expect(&rt, "a file");
     assert!(rt; file.as_slice() == leaf());
-    Ok(())
 }

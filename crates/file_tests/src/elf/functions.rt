@@ -3,11 +3,12 @@
 ghost use Rattle.std.specs.Prelude.{◌≤◌};
 
 use super::leaf::leaf;
-use super::reading::put;
+use super::reading::{F0, put};
+use super::readings::{numbers_of, object_of, symbol_of};
 use demo_objects::demo;
-use elf_objects::{Home, Object};
+use elf_objects::{Object, Symbol};
 use ot_base::NoMemory;
-use std::alloc::Global;
+use std::alloc::{AllocError, Global};
 use std::process::Abort;
 use std::test::Fail;
 
@@ -86,7 +87,7 @@ const THREE: [Part; 31] = [
 ];
 
 /// So many bytes with these parts.
-fn bytes_of(alloc: Global, size: usize, parts: &[Part]) -> Result<Vec<u8>, Fail> {
+fn bytes_of(alloc: Global, size: usize, parts: &[Part]) -> Result<Vec<u8>, AllocError> {
     let mut bytes = vec![in alloc; 0; size]?;
     for (at, part) in parts {
         put(&mut bytes, *at, part);
@@ -102,29 +103,23 @@ fn functions(alloc: Global, n: u32) -> Result<Vec<u8>, NoMemory>
     demo(alloc, n)
 }
 
-/// The object of so many functions has these parts.
-fn expect_parts(
-    rt: &impl Abort,
-    alloc: Global,
-    n: u32,
-    size: usize,
-    parts: &[Part],
-) -> Result<(), Fail>
+/// Whether the object of so many functions has so many bytes, with these parts.
+fn is_of_parts(alloc: Global, n: u32, size: usize, parts: &[Part]) -> Option<bool>
     requires { n ≤ 100000 }
 {
-    let expected = bytes_of(alloc, size, parts)?;
-    assert!(rt; functions(alloc, n)? == expected);
-    Ok(())
+    let expected = bytes_of(alloc, size, parts).ok()?;
+    let found = functions(alloc, n).ok()?;
+    Some(found == expected)
 }
 
 #[test]
-fn none_byte_by_byte(rt: HostRuntime) -> Result<(), Fail> {
-    expect_parts(&rt, rt.alloc(), 0, 472, &NONE)
+fn none_byte_by_byte(rt: HostRuntime) {
+    assert!(rt; is_of_parts(rt.alloc(), 0, 472, &NONE) == Some(true));
 }
 
 #[test]
-fn three_byte_by_byte(rt: HostRuntime) -> Result<(), Fail> {
-    expect_parts(&rt, rt.alloc(), 3, 584, &THREE)
+fn three_byte_by_byte(rt: HostRuntime) {
+    assert!(rt; is_of_parts(rt.alloc(), 3, 584, &THREE) == Some(true));
 }
 
 #[test]
@@ -133,20 +128,27 @@ fn one_is_the_leaf(rt: HostRuntime) -> Result<(), Fail> {
     Ok(())
 }
 
-/// The last of 100,000 functions stands where those before it end.
+/// The last of 100,000 functions.
+const LAST: Symbol = Symbol {
+    value: 966_657,
+    ..F0
+};
+
+/// It stands where those before it end.
 fn expect_last(rt: &impl Abort, object: &Object<'_>) {
-    assert!(rt; object.sections() == 5);
-    assert!(rt; object.section(1).size == 966_663);
-    assert!(rt; object.symbols() == 100_002);
-    let last = object.symbol(100_001);
-    assert!(rt; last.home == Home::Section(1));
-    assert!(rt; (last.bind, last.kind, last.value, last.size) == (1, 2, 966_657, 6));
+    assert!(rt; (object.sections(), object.symbols()) == (5, 100_002));
+    assert!(rt; numbers_of(object, 1) == Some([1, 6, 64, 966_663, 0, 0, 1, 0]));
+    assert!(rt; symbol_of(object, 100_001) == Some(LAST));
+}
+
+fn expect_read(rt: &impl Abort, alloc: Global, file: &[u8]) {
+    let object = object_of(alloc, file).expect(rt, "an object");
+    expect_last(rt, &object);
 }
 
 #[test]
 fn as_many_as_there_may_be(rt: HostRuntime) -> Result<(), Fail> {
     let file = functions(rt.alloc(), 100_000)?;
-    assert!(rt; file.len() < 1 << 32);
-    expect_last(&rt, &Object::parse(rt.alloc(), &file)?);
+    expect_read(&rt, rt.alloc(), &file);
     Ok(())
 }

@@ -2,15 +2,16 @@
 
 use super::leaf::leaf;
 use super::reading::expect_section_names;
+use super::readings::{body_of, numbers_of, object_of, reloc_count, reloc_of};
 use demo_objects::{RelSpec, Spec, SymSpec, build, section};
 use elf_objects::{
     Home, Object, R_X86_64_PC32, Reloc, SHF_ALLOC, SHF_EXECINSTR, SHF_WRITE, SHT_NOBITS,
     SHT_PROGBITS, STB_GLOBAL, STB_LOCAL, STT_FUNC, STT_SECTION,
 };
+use elf_write::NewSection;
 use ot_base::NoMemory;
 use std::alloc::Global;
 use std::process::Abort;
-use std::test::Fail;
 
 /// The code `55 48 89 E5 5D C3` in a section, the symbol of the section, another symbol, and a relocation.
 #[derive(Clone, Copy)]
@@ -62,37 +63,71 @@ fn symbol(alloc: Global, name: &[u8], bind: u8, kind: u8, home: Home) -> Result<
     })
 }
 
-/// What the object of these parts is made of, without the relocation.
-fn spec_of(alloc: Global, parts: &Parts) -> Result<Spec, NoMemory> {
-    let mut text = section(
-        alloc,
-        parts.section,
-        SHF_ALLOC + SHF_EXECINSTR,
-        b"\x55\x48\x89\xE5\x5D\xC3",
-    )?;
+/// The section of the code.
+fn text(alloc: Global, parts: &Parts) -> Result<NewSection, NoMemory> {
+    let flags = SHF_ALLOC + SHF_EXECINSTR;
+    let mut text = section(alloc, parts.section, flags, b"\x55\x48\x89\xE5\x5D\xC3")?;
     text.kind = parts.kind;
     text.align = parts.align;
-    let first = symbol(alloc, b"", STB_LOCAL, STT_SECTION, Home::Section(1))?;
-    let second = symbol(alloc, parts.symbol, parts.bind, parts.of, parts.home)?;
+    Ok(text)
+}
+
+/// The section `.data` of four bytes.
+fn data(alloc: Global) -> Result<NewSection, NoMemory> {
+    let mut data = section(alloc, b".data", SHF_ALLOC + SHF_WRITE, b"1234")?;
+    data.align = 16;
+    Ok(data)
+}
+
+fn sections(alloc: Global, parts: &Parts) -> Result<Vec<NewSection>, NoMemory> {
+    let mut all = Vec::new(alloc);
+    all.push(text(alloc, parts)?)?;
+    Ok(all)
+}
+
+fn symbols(alloc: Global, parts: &Parts) -> Result<Vec<SymSpec>, NoMemory> {
+    let mut all = Vec::new(alloc);
+    let home = Home::Section(1);
+    all.push(symbol(alloc, b"", STB_LOCAL, STT_SECTION, home)?)?;
+    all.push(symbol(alloc, parts.symbol, parts.bind, parts.of, parts.home)?)?;
+    Ok(all)
+}
+
+/// What the object of these parts is made of, without the relocation.
+fn spec_of(alloc: Global, parts: &Parts) -> Result<Spec, NoMemory> {
     Ok(Spec {
-        sections: vec![in alloc; text]?,
-        symbols: vec![in alloc; first, second]?,
+        sections: sections(alloc, parts)?,
+        symbols: symbols(alloc, parts)?,
         relocs: Vec::new(alloc),
     })
+}
+
+/// The object of a specification, if it makes one. What it is is told by no contract.
+fn built(alloc: Global, spec: &Spec) -> Result<Option<Vec<u8>>, NoMemory> {
+    build(alloc, spec)
 }
 
 /// The object of these parts and relocations, if they make one.
 fn made(alloc: Global, parts: &Parts, relocs: &[RelSpec]) -> Result<Option<Vec<u8>>, NoMemory> {
     let mut spec = spec_of(alloc, parts)?;
     spec.relocs.extend_from_slice(relocs)?;
-    build(alloc, &spec)
+    built(alloc, &spec)
+}
+
+/// Whether these parts and relocations make an object.
+fn is_made(alloc: Global, parts: &Parts, relocs: &[RelSpec]) -> Option<bool> {
+    Some(made(alloc, parts, relocs).ok()?.is_some())
+}
+
+/// The leaf, made.
+fn made_leaf(alloc: Global) -> Option<Vec<u8>> {
+    made(alloc, &RIGHT, &[]).ok()?
 }
 
 #[test]
-fn the_leaf_byte_by_byte(rt: HostRuntime) -> Result<(), Fail> {
-    let file = made(rt.alloc(), &RIGHT, &[])?.ok_or("the leaf can be made")?;
+fn the_leaf_byte_by_byte(rt: HostRuntime) {
+    let file = made_leaf(rt.alloc()).expect(&rt, "the leaf can be made");
     assert!(rt; file.as_slice() == leaf());
-    Ok(())
 }
 
 /// The names of the sections of the leaf with `.data` and a relocation.
@@ -106,39 +141,43 @@ const SECTION_NAMES: [&[u8]; 7] = [
     b".shstrtab",
 ];
 
-/// The leaf with `.data` and a relocation of `.text`.
-fn with_data(alloc: Global) -> Result<Option<Vec<u8>>, NoMemory> {
+/// What the leaf with `.data` and a relocation of `.text` is made of.
+fn spec_with_data(alloc: Global) -> Result<Spec, NoMemory> {
     let mut spec = spec_of(alloc, &RIGHT)?;
-    let mut data = section(alloc, b".data", SHF_ALLOC + SHF_WRITE, b"1234")?;
-    data.align = 16;
-    spec.sections.push(data)?;
+    spec.sections.push(data(alloc)?)?;
     spec.relocs.push(CALL)?;
-    build(alloc, &spec)
+    Ok(spec)
+}
+
+/// The leaf with `.data` and a relocation of `.text`.
+fn with_data(alloc: Global) -> Option<Vec<u8>> {
+    let spec = spec_with_data(alloc).ok()?;
+    built(alloc, &spec).ok()?
 }
 
 fn expect_data(rt: &impl Abort, object: &Object<'_>) {
     assert!(rt; object.sections() == 7);
-    let data = object.section(2);
-    assert!(rt; (data.offset, data.size, data.align) == (80, 4, 16));
-    assert!(rt; data.body == b"1234".as_slice());
+    assert!(rt; numbers_of(object, 2) == Some([1, 3, 80, 4, 0, 0, 16, 0]));
+    assert!(rt; body_of(object, 2) == Some(b"1234".as_slice()));
 }
 
 fn expect_call(rt: &impl Abort, object: &Object<'_>) {
-    assert!(rt; object.sections() == 7);
-    assert!(rt; object.relocs(2) == 0);
-    assert!(rt; object.relocs(1) == 1);
-    assert!(rt; object.reloc(1, 0) == BY_F0);
+    assert!(rt; (reloc_count(object, 2), reloc_count(object, 1)) == (Some(0), Some(1)));
+    assert!(rt; reloc_of(object, 1, 0) == Some(BY_F0));
+}
+
+/// What is read of the leaf with `.data` and a relocation.
+fn expect_read(rt: &impl Abort, alloc: Global, file: &[u8]) {
+    let object = object_of(alloc, file).expect(rt, "an object");
+    expect_section_names(rt, &object, &SECTION_NAMES);
+    expect_data(rt, &object);
+    expect_call(rt, &object);
 }
 
 #[test]
-fn an_object_with_relocations(rt: HostRuntime) -> Result<(), Fail> {
-    let file = with_data(rt.alloc())?.ok_or("it can be made")?;
-    assert!(rt; file.len() < 1 << 32);
-    let object = Object::parse(rt.alloc(), &file)?;
-    expect_section_names(&rt, &object, &SECTION_NAMES);
-    expect_data(&rt, &object);
-    expect_call(&rt, &object);
-    Ok(())
+fn an_object_with_relocations(rt: HostRuntime) {
+    let file = with_data(rt.alloc()).expect(&rt, "it can be made");
+    expect_read(&rt, rt.alloc(), &file);
 }
 
 /// Parts of which no object is made.
@@ -191,25 +230,33 @@ const WRONG: [Parts; 12] = [
 ];
 
 /// No object is made of these parts with their relocation.
-fn expect_unmade(rt: &impl Abort, alloc: Global, wrong: &[Parts]) -> Result<(), NoMemory> {
+fn expect_unmade(rt: &impl Abort, alloc: Global, wrong: &[Parts]) {
     for parts in wrong {
-        assert!(rt; made(alloc, parts, &[parts.rel])?.is_none());
+        assert!(rt; is_made(alloc, parts, &[parts.rel]) == Some(false));
     }
-    Ok(())
 }
 
 #[test]
-fn what_cannot_be_made(rt: HostRuntime) -> Result<(), Fail> {
-    assert!(rt; made(rt.alloc(), &RIGHT, &[CALL])?.is_some());
-    expect_unmade(&rt, rt.alloc(), &WRONG)?;
-    Ok(())
+fn what_cannot_be_made(rt: HostRuntime) {
+    assert!(rt; is_made(rt.alloc(), &RIGHT, &[CALL]) == Some(true));
+    expect_unmade(&rt, rt.alloc(), &WRONG);
 }
 
-#[test]
-fn a_local_symbol_behind_a_global_one(rt: HostRuntime) -> Result<(), Fail> {
-    let mut spec = spec_of(rt.alloc(), &RIGHT)?;
-    let local = symbol(rt.alloc(), b"f1", STB_LOCAL, STT_FUNC, Home::Section(1))?;
+/// What the leaf with a local symbol behind the global one would be made of.
+fn spec_with_local(alloc: Global) -> Result<Spec, NoMemory> {
+    let mut spec = spec_of(alloc, &RIGHT)?;
+    let local = symbol(alloc, b"f1", STB_LOCAL, STT_FUNC, Home::Section(1))?;
     spec.symbols.push(local)?;
-    assert!(rt; build(rt.alloc(), &spec)?.is_none());
-    Ok(())
+    Ok(spec)
+}
+
+/// Whether it is made.
+fn is_made_with_local(alloc: Global) -> Option<bool> {
+    let spec = spec_with_local(alloc).ok()?;
+    Some(built(alloc, &spec).ok()?.is_some())
+}
+
+#[test]
+fn a_local_symbol_behind_a_global_one(rt: HostRuntime) {
+    assert!(rt; is_made_with_local(rt.alloc()) == Some(false));
 }

@@ -2,15 +2,20 @@
 
 use super::leaf::leaf;
 use super::plain;
-use elf_objects::{ElfFault, Home, NameOf, Object};
+use super::readings::{
+    body_of, is_text, numbers_of, object_of, reloc_count, section_symbol, symbol_of,
+};
+use elf_objects::{ElfFault, Home, NameOf, Object, Symbol};
 use ot_base::Names;
 use std::alloc::{AllocError, Global};
 use std::process::Abort;
 use std::test::Fail;
 
-/// The fault of a file, or `None` of an object.
-pub(super) fn fault_of(rt: &impl Abort, alloc: Global, bytes: &[u8]) -> Option<ElfFault> {
-    assert!(rt; bytes.len() < 1 << 32);
+/// The fault of a file, or `None` of an object. One of 4 GiB isn't read.
+pub(super) fn fault_of(alloc: Global, bytes: &[u8]) -> Option<ElfFault> {
+    if bytes.len() >= 1 << 32 {
+        return Some(ElfFault::NoMemory);
+    }
     Object::parse(alloc, bytes).err()
 }
 
@@ -34,7 +39,7 @@ fn changed(alloc: Global, at: usize, values: &[u8]) -> Result<Vec<u8>, AllocErro
 fn expect_short(rt: &impl Abort, alloc: Global, len: usize) {
     let need = if len < 64 { 64 } else { 504 };
     let have = len as u64;
-    let fault = fault_of(rt, alloc, leaf().get(..len).unwrap_or(&[]));
+    let fault = fault_of(alloc, leaf().get(..len).unwrap_or(&[]));
     assert!(rt; fault == Some(ElfFault::Short { need, have }));
 }
 
@@ -43,7 +48,7 @@ fn a_file_cut_short(rt: HostRuntime) {
     for len in 0..504 {
         expect_short(&rt, rt.alloc(), len);
     }
-    assert!(rt; fault_of(&rt, rt.alloc(), leaf()).is_none());
+    assert!(rt; fault_of(rt.alloc(), leaf()).is_none());
 }
 
 /// Bytes at an offset of the leaf, and the fault that they make.
@@ -95,19 +100,23 @@ const CHANGES: [(usize, &[u8], ElfFault); 13] = [
     (124, &[0x02], ElfFault::BadSymbol { sym: 2 }),
 ];
 
+/// The fault of the leaf with other bytes at an offset.
+fn fault_of_changed(alloc: Global, at: usize, values: &[u8]) -> Option<ElfFault> {
+    let file = changed(alloc, at, values).ok()?;
+    fault_of(alloc, &file)
+}
+
 #[test]
-fn a_file_with_changed_bytes(rt: HostRuntime) -> Result<(), Fail> {
+fn a_file_with_changed_bytes(rt: HostRuntime) {
     for (at, bytes, fault) in CHANGES {
-        let file = changed(rt.alloc(), at, bytes)?;
-        assert!(rt; fault_of(&rt, rt.alloc(), &file) == Some(fault));
+        assert!(rt; fault_of_changed(rt.alloc(), at, bytes) == Some(fault));
     }
-    Ok(())
 }
 
 /// A file is judged as the plain reading does.
 fn expect_plain(rt: &impl Abort, alloc: Global, file: &[u8]) -> Result<(), AllocError> {
     let want = plain::fault_of(alloc, file)?;
-    assert!(rt; fault_of(rt, alloc, file) == want);
+    assert!(rt; fault_of(alloc, file) == want);
     Ok(())
 }
 
@@ -188,42 +197,58 @@ fn expect_tables(rt: &impl Abort, object: &Object<'_>) {
     assert!(rt; (object.headers_at(), object.name_table()) == (184, 4));
     assert!(rt; object.symbol_table() == Some(2));
     assert!(rt; object.bytes().len() == 504);
+    assert!(rt; (object.sections(), object.symbols()) == (5, 3));
 }
 
 fn expect_sections(rt: &impl Abort, object: &Object<'_>) {
-    assert!(rt; object.sections() == 5);
-    let text = object.section(1);
-    assert!(rt; (text.kind, text.flags, text.offset, text.size) == (1, 6, 64, 6));
-    assert!(rt; text.body == b"\x55\x48\x89\xE5\x5D\xC3".as_slice());
-    assert!(rt; object.section(0).body.is_empty());
-    let symbols = object.section(2);
-    assert!(rt; (symbols.link, symbols.info, symbols.entsize) == (3, 2, 24));
+    assert!(rt; body_of(object, 1) == Some(b"\x55\x48\x89\xE5\x5D\xC3".as_slice()));
+    assert!(rt; body_of(object, 0) == Some(b"".as_slice()));
+    assert!(rt; numbers_of(object, 1) == Some([1, 6, 64, 6, 0, 0, 1, 0]));
+    assert!(rt; numbers_of(object, 2) == Some([2, 0, 72, 72, 3, 2, 8, 24]));
 }
 
 fn expect_text(rt: &impl Abort, object: &Object<'_>) {
-    assert!(rt; object.sections() == 5);
-    assert!(rt; (object.is_text(1), object.is_text(2)) == (true, false));
-    assert!(rt; object.section_symbol(1) == Some(1));
-    assert!(rt; object.section_symbol(2).is_none());
-    assert!(rt; object.relocs(1) == 0);
+    assert!(rt; (is_text(object, 1), is_text(object, 2)) == (Some(true), Some(false)));
+    assert!(rt; (section_symbol(object, 1), section_symbol(object, 2)) == (Some(1), None));
+    assert!(rt; reloc_count(object, 1) == Some(0));
 }
 
+/// The null symbol.
+pub(super) const NULL_SYMBOL: Symbol = Symbol {
+    bind: 0,
+    kind: 0,
+    other: 0,
+    home: Home::Undefined,
+    value: 0,
+    size: 0,
+};
+
+/// The function `f0`.
+pub(super) const F0: Symbol = Symbol {
+    bind: 1,
+    kind: 2,
+    other: 0,
+    home: Home::Section(1),
+    value: 0,
+    size: 6,
+};
+
 fn expect_symbols(rt: &impl Abort, object: &Object<'_>) {
-    assert!(rt; object.symbols() == 3);
-    assert!(rt; object.symbol(0).home == Home::Undefined);
-    let f = object.symbol(2);
-    assert!(rt; f.home == Home::Section(1));
-    assert!(rt; (f.bind, f.kind, f.other, f.value, f.size) == (1, 2, 0, 0, 6));
+    assert!(rt; symbol_of(object, 0) == Some(NULL_SYMBOL));
+    assert!(rt; symbol_of(object, 2) == Some(F0));
+}
+
+fn expect_leaf(rt: &impl Abort, object: &Object<'_>) {
+    expect_tables(rt, object);
+    expect_section_names(rt, object, &SECTION_NAMES);
+    expect_sections(rt, object);
+    expect_text(rt, object);
+    expect_symbol_names(rt, object);
+    expect_symbols(rt, object);
 }
 
 #[test]
-fn what_the_leaf_says(rt: HostRuntime) -> Result<(), Fail> {
-    let object = Object::parse(rt.alloc(), leaf())?;
-    expect_tables(&rt, &object);
-    expect_section_names(&rt, &object, &SECTION_NAMES);
-    expect_sections(&rt, &object);
-    expect_text(&rt, &object);
-    expect_symbol_names(&rt, &object);
-    expect_symbols(&rt, &object);
-    Ok(())
+fn what_the_leaf_says(rt: HostRuntime) {
+    let object = object_of(rt.alloc(), leaf()).expect(&rt, "an object");
+    expect_leaf(&rt, &object);
 }

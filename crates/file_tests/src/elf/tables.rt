@@ -1,8 +1,9 @@
 //! Objects with relocations, with wrong tables, and with many sections.
 
 use super::built::{Counts, Head, NULL, file};
-use super::reading::{fault_of, put};
-use elf_objects::{Counted, ElfFault, Home, NameOf, Object};
+use super::reading::{F0, NULL_SYMBOL, fault_of, put};
+use super::readings::{is_text, object_of, reloc_count, reloc_of, section_symbol, symbol_of};
+use elf_objects::{Counted, ElfFault, Home, NameOf, Object, Reloc, Symbol};
 use std::alloc::{AllocError, Global};
 use std::process::Abort;
 use std::test::Fail;
@@ -79,41 +80,55 @@ const BASE: Counts = Counts {
 };
 
 /// The object of these parts with other headers in the place of some.
-fn with(alloc: Global, changes: &[(usize, Head)]) -> Result<Vec<u8>, Fail> {
+fn with(alloc: Global, changes: &[(usize, Head)]) -> Result<Vec<u8>, AllocError> {
     let mut heads = [NULL, TEXT, RELA, SYMBOLS, STRINGS, NAMES].to_vec(alloc)?;
     for (i, head) in changes {
         if let Some(place) = heads.get_mut(*i) {
             *place = *head;
         }
     }
-    Ok(file(alloc, BASE, CONTENT, &heads)?)
+    file(alloc, BASE, CONTENT, &heads)
 }
+
+const RELOC: Reloc = Reloc {
+    offset: 1,
+    kind: 2,
+    sym: 2,
+    addend: -4,
+};
 
 fn expect_reloc(rt: &impl Abort, object: &Object<'_>) {
     assert!(rt; object.sections() == 6);
-    assert!(rt; object.relocs(2) == 0);
-    assert!(rt; object.relocs(1) == 1);
-    let reloc = object.reloc(1, 0);
-    assert!(rt; (reloc.offset, reloc.kind, reloc.sym, reloc.addend) == (1, 2, 2, -4));
+    assert!(rt; (reloc_count(object, 2), reloc_count(object, 1)) == (Some(0), Some(1)));
+    assert!(rt; reloc_of(object, 1, 0) == Some(RELOC));
+}
+
+/// What is read of the relocations of an object.
+fn expect_relocs(rt: &impl Abort, alloc: Global, bytes: &[u8]) {
+    let object = object_of(alloc, bytes).expect(rt, "an object");
+    expect_reloc(rt, &object);
 }
 
 #[test]
 fn relocations(rt: HostRuntime) -> Result<(), Fail> {
     let bytes = with(rt.alloc(), &[])?;
-    assert!(rt; bytes.len() < 1 << 32);
-    expect_reloc(&rt, &Object::parse(rt.alloc(), &bytes)?);
+    expect_relocs(&rt, rt.alloc(), &bytes);
     Ok(())
 }
 
 /// Headers in the place of those with their indices, and the fault that they make.
 type Change = (&'static [(usize, Head)], Option<ElfFault>);
 
-fn expect_faults(rt: &impl Abort, alloc: Global, table: &[Change]) -> Result<(), Fail> {
+/// The fault of the object with other headers, or `None` of an object.
+fn fault_with(alloc: Global, changes: &[(usize, Head)]) -> Option<Option<ElfFault>> {
+    let bytes = with(alloc, changes).ok()?;
+    Some(fault_of(alloc, &bytes))
+}
+
+fn expect_faults(rt: &impl Abort, alloc: Global, table: &[Change]) {
     for (changes, fault) in table {
-        let bytes = with(alloc, changes)?;
-        assert!(rt; fault_of(rt, alloc, &bytes) == *fault);
+        assert!(rt; fault_with(alloc, changes) == Some(*fault));
     }
-    Ok(())
 }
 
 const BODIES: [Change; 8] = [
@@ -199,8 +214,8 @@ const BODIES: [Change; 8] = [
 ];
 
 #[test]
-fn bodies(rt: HostRuntime) -> Result<(), Fail> {
-    expect_faults(&rt, rt.alloc(), &BODIES)
+fn bodies(rt: HostRuntime) {
+    expect_faults(&rt, rt.alloc(), &BODIES);
 }
 
 const FORMS: [Change; 9] = [
@@ -258,8 +273,8 @@ const FORMS: [Change; 9] = [
 ];
 
 #[test]
-fn forms(rt: HostRuntime) -> Result<(), Fail> {
-    expect_faults(&rt, rt.alloc(), &FORMS)
+fn forms(rt: HostRuntime) {
+    expect_faults(&rt, rt.alloc(), &FORMS);
 }
 
 const GROUP: Head = Head {
@@ -316,8 +331,8 @@ const LINKS: [Change; 10] = [
 ];
 
 #[test]
-fn links(rt: HostRuntime) -> Result<(), Fail> {
-    expect_faults(&rt, rt.alloc(), &LINKS)
+fn links(rt: HostRuntime) {
+    expect_faults(&rt, rt.alloc(), &LINKS);
 }
 
 const RELOCATION_FIELDS: [Change; 5] = [
@@ -354,8 +369,8 @@ const RELOCATION_FIELDS: [Change; 5] = [
 ];
 
 #[test]
-fn relocation_fields(rt: HostRuntime) -> Result<(), Fail> {
-    expect_faults(&rt, rt.alloc(), &RELOCATION_FIELDS)
+fn relocation_fields(rt: HostRuntime) {
+    expect_faults(&rt, rt.alloc(), &RELOCATION_FIELDS);
 }
 
 const NO_SYMBOLS: Head = Head {
@@ -381,8 +396,8 @@ const TWO_CHANGES: [Change; 4] = [
 ];
 
 #[test]
-fn two_changes(rt: HostRuntime) -> Result<(), Fail> {
-    expect_faults(&rt, rt.alloc(), &TWO_CHANGES)
+fn two_changes(rt: HostRuntime) {
+    expect_faults(&rt, rt.alloc(), &TWO_CHANGES);
 }
 
 /// The content with section numbers for the three symbols, where the second and the third say that they have one.
@@ -436,21 +451,31 @@ fn many(alloc: Global, number: u64) -> Result<Vec<u8>, AllocError> {
     file(alloc, EXTENDED, &content, &heads)
 }
 
+/// The function in `.text` of the object of many sections.
+const LAST_SYMBOL: Symbol = Symbol {
+    home: Home::Section(65_281),
+    ..F0
+};
+
 fn expect_many(rt: &impl Abort, object: &Object<'_>) {
-    assert!(rt; object.sections() == 65_286);
+    assert!(rt; (object.sections(), object.symbols()) == (65_286, 3));
     assert!(rt; object.name_table() == 65_285);
-    assert!(rt; object.is_text(65_281));
-    assert!(rt; object.section_symbol(65_281) == Some(1));
-    assert!(rt; object.symbols() == 3);
-    assert!(rt; object.symbol(0).home == Home::Undefined);
-    assert!(rt; object.symbol(2).home == Home::Section(65_281));
+    assert!(rt; is_text(object, 65_281) == Some(true));
+    assert!(rt; section_symbol(object, 65_281) == Some(1));
+    assert!(rt; symbol_of(object, 0) == Some(NULL_SYMBOL));
+    assert!(rt; symbol_of(object, 2) == Some(LAST_SYMBOL));
+}
+
+/// What is read of the object of many sections.
+fn expect_many_of(rt: &impl Abort, alloc: Global, bytes: &[u8]) {
+    let object = object_of(alloc, bytes).expect(rt, "an object");
+    expect_many(rt, &object);
 }
 
 #[test]
 fn many_sections(rt: HostRuntime) -> Result<(), Fail> {
     let bytes = many(rt.alloc(), 65_286)?;
-    assert!(rt; bytes.len() < 1 << 32);
-    expect_many(&rt, &Object::parse(rt.alloc(), &bytes)?);
+    expect_many_of(&rt, rt.alloc(), &bytes);
     Ok(())
 }
 
@@ -461,6 +486,6 @@ fn too_many_sections(rt: HostRuntime) -> Result<(), Fail> {
         what: Counted::Sections,
         count: 262_145,
     };
-    assert!(rt; fault_of(&rt, rt.alloc(), &bytes) == Some(fault));
+    assert!(rt; fault_of(rt.alloc(), &bytes) == Some(fault));
     Ok(())
 }

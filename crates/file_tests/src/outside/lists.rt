@@ -77,14 +77,3 @@ fn the_first_faulty_line_is_told(rt: HostRuntime) -> Result<(), Fail> {
     }
     Ok(())
 }
-
-#[test]
-fn faults_are_printed(rt: HostRuntime) -> Result<(), Fail> {
-    let fault = ListsFault::Line {
-        line: 1,
-        why: ListsWhy::Name,
-    };
-    let text = format!(in rt.alloc(); "{fault}")?;
-    assert_eq!(rt; text.as_str(), "names file line 1: bad name");
-    Ok(())
-}

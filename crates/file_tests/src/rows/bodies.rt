@@ -1,13 +1,14 @@
 //! The bodies for a small object, byte by byte.
 
-ghost use Rattle.std.specs.Prelude.{◌≡◌};
+ghost use Rattle.std.specs.Prelude.{◌≡◌, ◌<◌, IsSome, IsTrue, length};
+ghost use Rattle.elf_objects.specs.Contents.{is_text, section_at, section_symbol_of};
 ghost use Rattle.orc_bytes.specs.RowBytes.{IsRow};
 
+use crate::elf::readings::object_of;
 use elf_objects::Object;
-use orc_bytes::encode;
-use ot_base::{Place, PlacedRow, Row};
+use orc_bytes::{OrcSections, encode};
+use ot_base::{NoMemory, Place, PlacedRow, Row};
 use std::alloc::{AllocError, Global};
-use std::test::Fail;
 
 /// The parts of an object of four sections, but for their headers: that of the file, `.text` with `53 5B 90 C3`,
 /// `.symtab` with the section symbol of `.text`, `.strtab` and `.shstrtab`.
@@ -89,29 +90,52 @@ fn zero_row(off: u64) -> PlacedRow
     }
 }
 
-#[test]
-fn push_and_pop(rt: HostRuntime) -> Result<(), Fail> {
-    let bytes = small_object(rt.alloc())?;
-    assert_eq!(rt; bytes.len(), 480);
-    let object = Object::parse(rt.alloc(), &bytes)?;
-    assert_eq!(rt; object.sections(), 5);
-    assert_eq!(rt; object.section(1).size, 4);
-    assert!(rt; object.is_text(1));
-    assert!(rt; object.section_symbol(1).is_some());
+/// Whether section 1 has four bytes of code, and a symbol.
+fn has_text(object: &Object<'_>) -> bool
+    ensures sections { IsTrue result → 1 < length object.now.sections }
+    ensures size { IsTrue result → (section_at object.now 1).size ≡ 4 }
+    ensures text { IsTrue result → IsTrue (is_text (section_at object.now 1)) }
+    ensures symbol { IsTrue result → IsSome (section_symbol_of object.now 1) }
+{
+    object.sections() == 5
+        && object.section(1).size == 4
+        && object.is_text(1)
+        && object.section_symbol(1).is_some()
+}
+
+/// The bodies of four rows.
+fn four_rows(alloc: Global, object: &Object<'_>) -> Result<OrcSections, NoMemory>
+    requires sections { 1 < length object.now.sections }
+    requires size { (section_at object.now 1).size ≡ 4 }
+    requires text { IsTrue (is_text (section_at object.now 1)) }
+    requires symbol { IsSome (section_symbol_of object.now 1) }
+{
     let rows = [call_row(0, 8), call_row(1, 16), call_row(2, 8), zero_row(4)];
-    let sections = encode(rt.alloc(), &object, &rows)?;
-    assert_eq!(rt;
-        sections.orc.as_slice(),
-        b"\x08\0\0\0\x05\x02\x10\0\0\0\x05\x02\x08\0\0\0\x05\x02\0\0\0\0\0\0".as_slice()
-    );
-    assert_eq!(rt; sections.ip.as_slice(), [0; 16].as_slice());
-    assert_eq!(rt;
-        sections.rela.as_slice(),
-        b"\0\0\0\0\0\0\0\0\x02\0\0\0\x01\0\0\0\0\0\0\0\0\0\0\0\
-          \x04\0\0\0\0\0\0\0\x02\0\0\0\x01\0\0\0\x01\0\0\0\0\0\0\0\
-          \x08\0\0\0\0\0\0\0\x02\0\0\0\x01\0\0\0\x02\0\0\0\0\0\0\0\
-          \x0C\0\0\0\0\0\0\0\x02\0\0\0\x01\0\0\0\x04\0\0\0\0\0\0\0"
-            .as_slice()
-    );
-    Ok(())
+    encode(alloc, object, &rows)
+}
+
+/// The bodies for the small object. What they are is told by no contract.
+fn bodies(alloc: Global) -> Option<OrcSections> {
+    let bytes = small_object(alloc).ok()?;
+    let object = object_of(alloc, &bytes)?;
+    if has_text(&object) {
+        four_rows(alloc, &object).ok()
+    } else {
+        None
+    }
+}
+
+const ROWS: &[u8] = b"\x08\0\0\0\x05\x02\x10\0\0\0\x05\x02\x08\0\0\0\x05\x02\0\0\0\0\0\0";
+
+const RELOCATIONS: &[u8] = b"\0\0\0\0\0\0\0\0\x02\0\0\0\x01\0\0\0\0\0\0\0\0\0\0\0\
+    \x04\0\0\0\0\0\0\0\x02\0\0\0\x01\0\0\0\x01\0\0\0\0\0\0\0\
+    \x08\0\0\0\0\0\0\0\x02\0\0\0\x01\0\0\0\x02\0\0\0\0\0\0\0\
+    \x0C\0\0\0\0\0\0\0\x02\0\0\0\x01\0\0\0\x04\0\0\0\0\0\0\0";
+
+#[test]
+fn push_and_pop(rt: HostRuntime) {
+    let found = bodies(rt.alloc()).expect(&rt, "bodies");
+    assert!(rt; found.orc.as_slice() == ROWS);
+    assert!(rt; found.ip.as_slice() == [0; 16].as_slice());
+    assert!(rt; found.rela.as_slice() == RELOCATIONS);
 }

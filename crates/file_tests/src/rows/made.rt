@@ -1,12 +1,11 @@
-//! Tables and memories of examples, whose conditions are asserted.
+//! Tables and memories of examples.
 
-ghost use Rattle.std.specs.Prelude.{◌≡◌, ◌==◌, find, true};
+ghost use Rattle.std.specs.Prelude.{◌≡◌, ◌==◌, ◌<◌, ◌^◌, find, length, true};
 ghost use Rattle.orc_walk.specs.Table.{IsWithin};
 
 use orc_walk::{Memory, PlaceFault, Range, Table};
 use ot_base::{Place, PlacedRow, Row};
 use std::alloc::{AllocError, Global};
-use std::process::Abort;
 
 fn range_of(ranges: &[Range], sec: u32) -> Option<Range>
     ensures { result ≡ find (λ range. range.sec == sec) ranges.now }
@@ -23,39 +22,50 @@ fn is_in_range(ranges: &[Range], placed: PlacedRow) -> bool
     }
 }
 
+/// The table of rows, each of which is in its section's range. What it is is told by no contract.
 pub fn place(
-    rt: &impl Abort,
     alloc: Global,
     rows: &[PlacedRow],
     ranges: &[Range],
-) -> Result<Table, PlaceFault> {
+) -> Option<Result<Table, PlaceFault>> {
     for placed in rows {
         let within = is_in_range(ranges, *placed);
-        assert!(rt; within);
+        if !within {
+            return None;
+        }
     }
-    assert!(rt; rows.len() < 1000);
-    Table::place(alloc, rows, ranges)
+    if rows.len() < 1000 {
+        Some(Table::place(alloc, rows, ranges))
+    } else {
+        None
+    }
 }
 
 /// The memory of these bytes from an address on.
-pub fn memory(
-    rt: &impl Abort,
-    alloc: Global,
-    base: u64,
-    bytes: &[u8],
-) -> Result<Memory, AllocError> {
+pub fn memory(alloc: Global, base: u64, bytes: &[u8]) -> Option<Memory> {
     let size = bytes.len();
-    assert!(rt; size > 0);
-    assert!(rt; size < 0x1000);
-    assert!(rt; base < 0x1_0000_0000);
+    if size == 0 || size >= 0x1000 || base >= 0x1_0000_0000 {
+        return None;
+    }
+    memory_of(alloc, base, bytes).ok()
+}
+
+fn memory_of(alloc: Global, base: u64, bytes: &[u8]) -> Result<Memory, AllocError>
+    requires some { 0 < length bytes.now }
+    requires short { length bytes.now < 4096 }
+    requires low { base < 2 ^ 32 }
+{
     let items = Vec::from_slice(alloc, bytes)?;
     let mut ranges = Vec::new(alloc);
     ranges.push((base, items))?;
     Ok(Memory::new(ranges))
 }
 
-/// A row of a section, with its fields in the order of `struct orc_entry`.
-pub fn row(sec: u32, off: u64, fields: (i16, i16, u8, u8, u8, bool)) -> PlacedRow {
+/// The fields of a row, in the order of `struct orc_entry`.
+pub type Fields = (i16, i16, u8, u8, u8, bool);
+
+/// A row of a section.
+pub fn row(sec: u32, off: u64, fields: Fields) -> PlacedRow {
     let (sp_offset, bp_offset, sp_reg, bp_reg, kind, signal) = fields;
     PlacedRow {
         place: Place { sec, off },
@@ -70,25 +80,28 @@ pub fn row(sec: u32, off: u64, fields: (i16, i16, u8, u8, u8, bool)) -> PlacedRo
     }
 }
 
-pub const CALL: (i16, i16, u8, u8, u8, bool) = (8, 0, 5, 0, 2, false);
+pub const CALL: Fields = (8, 0, 5, 0, 2, false);
 
-pub const ZERO: (i16, i16, u8, u8, u8, bool) = (0, 0, 0, 0, 0, false);
+pub const ZERO: Fields = (0, 0, 0, 0, 0, false);
 
-pub const PUSHED: (i16, i16, u8, u8, u8, bool) = (16, -16, 5, 1, 2, false);
+pub const PUSHED: Fields = (16, -16, 5, 1, 2, false);
 
-pub const FRAMED: (i16, i16, u8, u8, u8, bool) = (16, -16, 4, 1, 2, false);
+pub const FRAMED: Fields = (16, -16, 4, 1, 2, false);
 
-/// The rows of `55 48 89 E5 5D C3`: `push rbp; mov rbp, rsp; pop rbp; ret`.
-pub fn frame_rows() -> [PlacedRow; 5] {
-    [
-        row(1, 0, CALL),
-        row(1, 1, PUSHED),
-        row(1, 4, FRAMED),
-        row(1, 5, CALL),
-        row(1, 6, ZERO),
-    ]
-}
+/// The rows of `55 48 89 E5 5D C3`: `push rbp; mov rbp, rsp; pop rbp; ret`, with their offsets.
+pub const FRAME_ROWS: [(u64, Fields); 5] = [
+    (0, CALL),
+    (1, PUSHED),
+    (4, FRAMED),
+    (5, CALL),
+    (6, ZERO),
+];
 
-pub fn range(sec: u32, base: u64, size: u64) -> Range {
-    Range { sec, base, size }
+/// Rows of section 1.
+pub fn rows_of(alloc: Global, rows: &[(u64, Fields)]) -> Option<Vec<PlacedRow>> {
+    let mut all = Vec::new(alloc);
+    for (off, fields) in rows {
+        all.push(row(1, *off, *fields)).ok()?;
+    }
+    Some(all)
 }

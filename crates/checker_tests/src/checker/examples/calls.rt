@@ -5,7 +5,6 @@ use machine_defs::{EdgeKind, Role};
 use operation_defs::Op;
 use stack_examples::lines::{Table, With};
 use state_defs::{EndKind, HintState, State};
-use std::test::Fail;
 
 /// The stack ends.
 const END: State = State::Ended(EndKind::EndOfStack);
@@ -267,6 +266,6 @@ const CALLS: [Example; 9] = [
 ];
 
 #[test]
-fn calls(rt: HostRuntime) -> Result<(), Fail> {
-    expect_all(&rt, rt.alloc(), &CALLS)
+fn calls(rt: HostRuntime) {
+    expect_all(&rt, rt.alloc(), &CALLS);
 }

@@ -5,7 +5,6 @@ use machine_defs::{EdgeKind, Role};
 use operation_defs::Op;
 use stack_examples::lines::{Table, With};
 use state_defs::{EndKind, HintState, State};
-use std::test::Fail;
 
 /// A jump.
 const JMP: Op = Op::Jmp {
@@ -122,6 +121,6 @@ const EXITS: [Example; 9] = [
 ];
 
 #[test]
-fn exits(rt: HostRuntime) -> Result<(), Fail> {
-    expect_all(&rt, rt.alloc(), &EXITS)
+fn exits(rt: HostRuntime) {
+    expect_all(&rt, rt.alloc(), &EXITS);
 }

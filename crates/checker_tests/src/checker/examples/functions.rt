@@ -5,7 +5,6 @@ use machine_defs::EdgeKind;
 use operation_defs::Op;
 use stack_examples::lines::{Table, With};
 use state_defs::{BpHome, Depth, HintState, State};
-use std::test::Fail;
 
 /// A word was pushed in a call frame.
 const PUSHED: State = State::Live {
@@ -212,6 +211,6 @@ const FUNCTIONS: [Example; 9] = [
 ];
 
 #[test]
-fn functions(rt: HostRuntime) -> Result<(), Fail> {
-    expect_all(&rt, rt.alloc(), &FUNCTIONS)
+fn functions(rt: HostRuntime) {
+    expect_all(&rt, rt.alloc(), &FUNCTIONS);
 }

@@ -5,7 +5,6 @@ use machine_defs::Role;
 use operation_defs::Op;
 use stack_examples::lines::{Table, With};
 use state_defs::{BpHome, Depth, HintState, State};
-use std::test::Fail;
 
 /// Wrong writes to rsp and rbp, wrong offsets, and what options ask for.
 const OPERATIONS: [Example; 10] = [
@@ -158,6 +157,6 @@ const OPERATIONS: [Example; 10] = [
 ];
 
 #[test]
-fn operations(rt: HostRuntime) -> Result<(), Fail> {
-    expect_all(&rt, rt.alloc(), &OPERATIONS)
+fn operations(rt: HostRuntime) {
+    expect_all(&rt, rt.alloc(), &OPERATIONS);
 }

@@ -5,7 +5,6 @@ use machine_defs::{EdgeKind, Marks, Role};
 use operation_defs::Op;
 use stack_examples::lines::{Table, With};
 use state_defs::{BpHome, Depth, EndKind, HintState, State};
-use std::test::Fail;
 
 /// A jump.
 const JMP: Op = Op::Jmp {
@@ -285,6 +284,6 @@ const TARGETS: [Example; 15] = [
 ];
 
 #[test]
-fn targets(rt: HostRuntime) -> Result<(), Fail> {
-    expect_all(&rt, rt.alloc(), &TARGETS)
+fn targets(rt: HostRuntime) {
+    expect_all(&rt, rt.alloc(), &TARGETS);
 }

@@ -5,7 +5,6 @@ use machine_defs::{EdgeKind, Marks, Role};
 use operation_defs::Op;
 use stack_examples::lines::{Table, With};
 use state_defs::{BpHome, Depth, EndKind, HintState, State};
-use std::test::Fail;
 
 /// A hint ends the stack, or tells the stack as at an entry, or a word on it.
 const ENDS: With = With::Hint(HintState::Set(State::Ended(EndKind::EndOfStack)));
@@ -226,16 +225,16 @@ const WRITES: [Example; 4] = [
 ];
 
 #[test]
-fn leaving(rt: HostRuntime) -> Result<(), Fail> {
-    expect_all(&rt, rt.alloc(), &LEAVING)
+fn leaving(rt: HostRuntime) {
+    expect_all(&rt, rt.alloc(), &LEAVING);
 }
 
 #[test]
-fn further_calls(rt: HostRuntime) -> Result<(), Fail> {
-    expect_all(&rt, rt.alloc(), &FURTHER_CALLS)
+fn further_calls(rt: HostRuntime) {
+    expect_all(&rt, rt.alloc(), &FURTHER_CALLS);
 }
 
 #[test]
-fn writes(rt: HostRuntime) -> Result<(), Fail> {
-    expect_all(&rt, rt.alloc(), &WRITES)
+fn writes(rt: HostRuntime) {
+    expect_all(&rt, rt.alloc(), &WRITES);
 }

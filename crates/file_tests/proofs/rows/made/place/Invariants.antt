@@ -4,4 +4,4 @@ use Rattle.orc_walk.specs.Table.{IsWithin}
 use Rattle.file_tests.proofs.rows.made.place.Given as goal
 
 abbrev pub invariant-loop-placed : goal.invariant-loop-placed
-invariant-loop-placed g l = (k : ℕ) → k < l.placed-index → (d : PlacedRow) → IsWithin l.ranges (get_or l.rows k d)
+invariant-loop-placed l = (k : ℕ) → k < l.placed-index → (d : PlacedRow) → IsWithin l.ranges (get_or l.rows k d)

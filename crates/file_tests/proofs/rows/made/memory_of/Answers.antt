@@ -2,7 +2,7 @@ use Rattle.std.proofs.Common.{◌≡◌, ℕ, ◌+◌, ◌<◌, ◌≤◌, ◌^�
 use Rattle.std.specs.declared.alloc.Global.{Global}
 use Rattle.std.proofs.lemmas.List.Elements.{All-nil, All-cons}
 use Rattle.orc_walk.specs.Memory.{IsMemory, pieces_of, piece_of, end_of}
-use Rattle.file_tests.proofs.rows.made.memory.Goals as goal
+use Rattle.file_tests.proofs.rows.made.memory_of.Goals as goal
 
 one_piece : (base : ℕ) (bytes : Vec ℕ Global) → 0 < length bytes.items → base + length bytes.items ≤ 2 ^ 64 → IsMemory (pieces_of ((base, bytes) ∷ []))
 one_piece base bytes some fits = record {
@@ -12,6 +12,6 @@ one_piece base bytes some fits = record {
 }
 
 pub new-requires : goal.new-requires
-new-requires g c =
+new-requires c =
     subst (λ ranges. IsMemory (pieces_of ranges)) (sym (c.in_ok-push.ensures.items ∙ ap (λ ranges. ranges ++ (c.args.base, c.in_ok-items.items) ∷ []) c.new-ranges.ensures.items))
     (one_piece c.args.base c.in_ok-items.items (omega (arith, ap length c.in_ok-items.ensures.items)) (omega (arith, ap length c.in_ok-items.ensures.items)))
