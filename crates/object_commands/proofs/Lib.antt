@@ -27,3 +27,12 @@ pub mod TableLemmas
 pub mod MergeLaws
 pub mod FindLaws
 pub mod FoundLemmas
+mod PlaceOrder
+mod SpotLemmas
+mod HolderLemmas
+mod PartLemmas
+mod CaseLemmas
+mod Telling
+mod NumberLemmas
+mod CaseLists
+mod BacktraceParts

@@ -20,3 +20,9 @@ pub mod Merge
 pub mod Find
 pub mod MergeRefused
 pub mod MergeLaws
+pub mod Backtrace
+pub mod BacktraceText
+pub mod BacktraceCases
+pub mod BacktraceSpots
+pub mod BacktracePrinting
+pub mod BacktraceWithin

@@ -1,8 +1,13 @@
-//! The commands that add to an object what a table or a list tells of its code, or read it back: `sites` and `list`, `cfi` and `cfa`, `merge`
-//! and `find`; `entry`, which checks the code against the rules on entry code, and `show`, which prints the
-//! program as the checker sees it.
+//! The commands that add to an object what a table or a list tells of its code, or read it back (`sites` and `list`, `cfi` and `cfa`, `merge` and
+//! `find`), that check entry code (`entry`) and that print the program as the checker sees it (`show`); and what `check` prints behind a
+//! warning: where it is, and how control came there.
 #![tactic(auto)]
 
+mod backtrace_cases;
+mod backtrace_holder;
+mod backtrace_printing;
+mod backtrace_spots;
+mod backtrace_text;
 mod entry_answering;
 mod entry_checking;
 mod entry_finding;
@@ -32,6 +37,8 @@ mod sites_text;
 mod sites_words;
 mod sites_writing;
 
+pub use backtrace_holder::Holder;
+pub use backtrace_printing::print_backtraces;
 pub use entry_checking::entry;
 pub use entry_words::EntryAsked;
 pub use finding::find;

@@ -1,9 +1,0 @@
-mod PlaceOrder
-mod SpotLemmas
-mod HolderLemmas
-mod PartLemmas
-mod CaseLemmas
-mod Telling
-mod NumberLemmas
-mod CaseLists
-mod BacktraceParts
