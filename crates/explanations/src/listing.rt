@@ -71,6 +71,7 @@ layout-line  layout line N: Word
 longer  NAME is longer than N bytes
 missing  NAME is missing
 names-file  names file line N: bad word
+no-function  no function NAME
 no-section  no section NAME
 no-text  section N: no text
 not-a-boundary  list N: entry M: not a boundary

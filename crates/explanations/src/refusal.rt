@@ -10,7 +10,7 @@ type Mark = (&'static str, &'static str);
 
 /// The words by which kinds of refusals are known. A name of a file or of a section is printed without blanks, and each of these has
 /// one, so they stand in what the line says itself. Words that lines of another kind have too stand behind those of that kind.
-const MARKS: [Mark; 52] = [
+const MARKS: [Mark; 53] = [
     (" is missing", "missing"),
     (" is longer than ", "longer"),
     ("names file line ", "names-file"),
@@ -50,6 +50,7 @@ const MARKS: [Mark; 52] = [
     (" is a frame section", "frame-section"),
     (" is an ORC section", "orc-section"),
     (" is a site list", "site-list"),
+    ("no function ", "no-function"),
     ("no section ", "no-section"),
     (": no text", "no-text"),
     (": not a boundary", "not-a-boundary"),

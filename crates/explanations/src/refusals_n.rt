@@ -6,7 +6,7 @@ ghost use Rattle.explanations.specs.Volumes.{refusals_n};
 
 use crate::row::Row;
 
-const ROWS: [Row; 10] = [
+const ROWS: [Row; 11] = [
     (
         "names-file",
         "names file line N: bad word",
@@ -20,6 +20,22 @@ end.
 
 Mind blanks at the end, tabs, and ends of lines as CR LF. A comment has a line
 of its own, which begins with #. share/linux.names is an example.
+",
+    ),
+    (
+        "no-function",
+        "no function NAME",
+        "\
+refused: no function NAME
+
+`show IN --function=NAME` lists the code of the functions of this name alone,
+and IN has none with any code. A function is a symbol of type FUNC with a size
+above 0 in a section of code; of several at one start the first one names it.
+
+`nm -n IN` shows the names. Compilers add to them (`.isra.0`, `.constprop.0`,
+`.part.0`), and call a part that is moved out `NAME.cold`: it is a function of
+its own. Code under a label that no such symbol covers is of no function; look
+for it in the listing of all code, `show IN`.
 ",
     ),
     (
