@@ -46,9 +46,9 @@ pub check_stop-requires : goal.check_stop-requires
 check_stop-requires g c = (c.args.asked.options.map, c.in-Err-check_object.ensures.err)
 
 pub tell_warnings-requires-clause-checkable : goal.tell_warnings-requires-clause-checkable
-tell_warnings-requires-clause-checkable c = (subst (IsOutcome (coded_by c.args.asked.options.map c.in-Ok.object) c.args.lists.now c.args.asked.options.rules) c.in-Ok-Broken.field-0-is c.in-Ok-Broken.ensures.ok).0
+tell_warnings-requires-clause-checkable g c = (subst (IsOutcome (coded_by c.args.asked.options.map c.in-Ok.object) c.args.lists.now c.args.asked.options.rules) c.in-Ok-Broken.field-0-is c.in-Ok-Broken.ensures.ok).0
 
 pub tell_warnings-requires-clause-warned : goal.tell_warnings-requires-clause-warned
-tell_warnings-requires-clause-warned c =
+tell_warnings-requires-clause-warned g c =
     subst (AreWarnings _ _ c.args.asked.options.rules) (sym c.deref.ensures.value)
     (subst (IsOutcome (coded_by c.args.asked.options.map c.in-Ok.object) c.args.lists.now c.args.asked.options.rules) c.in-Ok-Broken.field-0-is c.in-Ok-Broken.ensures.ok).1
