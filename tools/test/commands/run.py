@@ -38,6 +38,10 @@ def state_of(folder: Path) -> dict[str, object]:
     return state
 
 
+# How a claim begins that tells a line of standard error; these stand last.
+ERROR = "standard error: "
+
+
 def written_by(step: Step, status: int) -> set[str]:
     """The file that the command has to write: OUT of one that writes and is done."""
     names = [word for word in step.words[1:] if not word.startswith("-")]
@@ -85,6 +89,13 @@ def run_step(program: str, step: Step, folder: Path) -> tuple[int, bytes, bytes]
         return status if status >= 0 else 128 - status, printed.read(), complained.read()
 
 
+def told_by_error(step: Step, status: int, lines: list[str]) -> list[str]:
+    """What came by standard error. Where the case says nothing of it, one line of advice at status 2 or 3 is as it has to be."""
+    if not any(claim.startswith(ERROR) for claim in step.claims) and status in (2, 3) and len(lines) == 1 and lines[0].startswith("objtool: "):
+        return []
+    return [f"[{ERROR}{line}]" for line in lines]
+
+
 def expected_of(step: Step) -> list[str]:
     return [f"$ {step.line}", *step.output, *(f"[{claim}]" for claim in step.claims)]
 
@@ -99,11 +110,11 @@ def found_of(program: str, step: Step, folder: Path, before: dict, after: dict) 
     after.update(state_of(folder))
     output = lines_of(printed)
     lines = [f"$ {step.line}", *(step.output if fits(step.output, output) else output)]
-    lines += [f"[{claims.told(claim, folder, status)}]" for claim in step.claims]
+    lines += [f"[{claims.told(claim, folder, status)}]" for claim in step.claims if not claim.startswith(ERROR)]
     if status and not any(claims.STATUS.fullmatch(claim) for claim in step.claims):
         lines.append(f"[status {status}]")
     lines += change_lines(before, after, written_by(step, status))
-    return lines + [f"[standard error: {line}]" for line in lines_of(complained)]
+    return lines + told_by_error(step, status, lines_of(complained))
 
 
 def difference(program: str, case: Case) -> str:
