@@ -119,7 +119,7 @@ fn text_of(name: &Option<String>) -> Option<&str>
 
 /// What `explain` prints of a topic, or of none.
 fn explained(topic: Option<&str>) -> &'static str
-    ensures { result.now ≡ explained (option_map (λ text. text.now) topic) }
+    ensures { result.now ≡ explained (option_map (λ text. text.now) topic.entry) }
 {
     match topic {
         Some(topic) => explanation(topic).unwrap_or(""),
