@@ -16,7 +16,7 @@ from texts import WARNINGS
 SECONDS = 120
 TEXTS = (re.sub(r"\\\{.\w*\\\}", ".*", re.escape(text)) for text in WARNINGS.values())
 # What may stand on the standard error: where a file is refused, which topic explains it.
-POINTER = re.compile(rb"(objtool: see objtool explain [a-z0-9-]+\n)?")
+POINTER = re.compile(rb"(objtool: see objtool explain [A-Za-z0-9-]+\n)?")
 LINE = re.compile(r"refused: .+|\S*\+0x[0-9a-f]+: rule \d+: (?:" + "|".join(TEXTS) + ")")
 
 

@@ -1,9 +1,16 @@
-//! The program: the command of its words over the system's files and output, and the exit status.
+//! The program: the command of its words over the system's files and output, the exit status, and beside them a line that helps with what is at fault.
 #![tactic(auto)]
 
-ghost use Rattle.std.specs.Prelude.{◌≡◌};
-ghost use Rattle.objtool_cli.specs.Status.{exit_code};
+mod advice;
+mod known_words;
+mod last_line;
+mod nearest;
 
+ghost use Rattle.std.specs.Prelude.{◌≡◌};
+ghost use Rattle.command_base.specs.Status.{exit_code};
+
+use crate::advice::{refusal_line, usage_line};
+use crate::last_line::LastLine;
 use objtool_cli::{Status, run};
 use ot_files::{StdFiles, StdSink};
 use std::alloc::Global;
@@ -26,6 +33,19 @@ fn exit_code(status: Status) -> u8
     status.code()
 }
 
+/// Says to the standard error what helps with words at fault, or with the refusal that the last line tells. Where
+/// the standard error fails or memory runs out, nothing more is said.
+fn advise(rt: &HostRuntime, alloc: Global, words: &[String], status: Status, last_line: &[u8]) {
+    let said = match status {
+        Status::Usage => usage_line(alloc, words),
+        Status::Refused => refusal_line(alloc, last_line),
+        _ => Ok(None),
+    };
+    if let Ok(Some(line)) = said {
+        let _ = eprintln!(rt; "{line}");
+    }
+}
+
 fn main(rt: HostRuntime) -> ExitCode {
     let alloc = rt.alloc();
     let words = match words(&rt, alloc) {
@@ -37,7 +57,8 @@ fn main(rt: HostRuntime) -> ExitCode {
         Err(_) => Vec::new(alloc),
     };
     let mut files = StdFiles::new(alloc, &rt);
-    let mut out = StdSink::new(&rt);
+    let mut out = LastLine::new(alloc, StdSink::new(&rt));
     let status = run(alloc, &words, &mut files, &mut out);
+    advise(&rt, alloc, &words, status, out.line());
     ExitCode::from(exit_code(status))
 }

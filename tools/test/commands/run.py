@@ -6,6 +6,7 @@ many passed. Ends with status 1 where one differs, and 2 where a case or a tool 
 import difflib
 import multiprocessing
 import os
+import re
 import signal
 import subprocess
 import sys
@@ -36,6 +37,13 @@ def state_of(folder: Path) -> dict[str, object]:
         is_small = entry.is_file() and about.st_size <= SMALL
         state[entry.name] = Path(entry.path).read_bytes() if is_small else (about.st_ino, about.st_size, about.st_mtime_ns)
     return state
+
+
+# How a claim begins that tells a line of standard error; these stand last.
+ERROR = "standard error: "
+# What stands on standard error where a case doesn't tell it: at words at fault the advice, and at a refusal mostly the topic.
+REFUSED, USAGE = 2, 3
+ADVICE = {REFUSED: re.compile(r"(objtool: see objtool explain [\w-]+)?"), USAGE: re.compile(r"objtool: .+ objtool --help lists the commands")}
 
 
 def written_by(step: Step, status: int) -> set[str]:
@@ -85,6 +93,14 @@ def run_step(program: str, step: Step, folder: Path) -> tuple[int, bytes, bytes]
         return status if status >= 0 else 128 - status, printed.read(), complained.read()
 
 
+def error_lines(step: Step, status: int, lines: list[str]) -> list[str]:
+    """What came by standard error, where it isn't what has to come where the case doesn't tell it."""
+    is_told = any(claim.startswith(ERROR) for claim in step.claims)
+    if not is_told and status in ADVICE and ADVICE[status].fullmatch("\n".join(lines)):
+        return []
+    return [f"[{ERROR}{line}]" for line in lines] or (["[nothing by standard error]"] if status == USAGE else [])
+
+
 def expected_of(step: Step) -> list[str]:
     return [f"$ {step.line}", *step.output, *(f"[{claim}]" for claim in step.claims)]
 
@@ -99,11 +115,11 @@ def found_of(program: str, step: Step, folder: Path, before: dict, after: dict) 
     after.update(state_of(folder))
     output = lines_of(printed)
     lines = [f"$ {step.line}", *(step.output if fits(step.output, output) else output)]
-    lines += [f"[{claims.told(claim, folder, status)}]" for claim in step.claims]
+    lines += [f"[{claims.told(claim, folder, status)}]" for claim in step.claims if not claim.startswith(ERROR)]
     if status and not any(claims.STATUS.fullmatch(claim) for claim in step.claims):
         lines.append(f"[status {status}]")
     lines += change_lines(before, after, written_by(step, status))
-    return lines + [f"[standard error: {line}]" for line in lines_of(complained)]
+    return lines + error_lines(step, status, lines_of(complained))
 
 
 def difference(program: str, case: Case) -> str:

@@ -1,0 +1,54 @@
+-- What is said to the standard error of words at fault and of refusals.
+use Rattle.std.specs.Prelude.{◌≡◌, ℕ, true, List, [], ◌++◌, codes, Option, Some, None, IfSome, Contains, Err, is_ok, slice_get, slice_index_or}
+use Rattle.cli_words.specs.FaultText.{kind_text}
+use Rattle.cli_words.specs.declared.fault.UsageKind.{UsageKind}
+use Rattle.cli_words.specs.declared.fault.UsageKind.TheVariants.{UnknownCommand, UnknownOption, UnknownTopic}
+use Rattle.cli_words.specs.Grammar.{meaning}
+use Rattle.cli_words.specs.Words.{Word}
+use Rattle.ot_base.specs.PlaceText.{escaped}
+use Rattle.objtool.specs.KnownWords.{command_words, options_behind}
+use Rattle.objtool.specs.Nearest.{IsNearest, is_near}
+
+-- what a word at fault may stand for: a command, an option of the command that the first word asks for, or a topic
+abbrev pub IsMeant : UsageKind → (first word : Word) → Option Word → Type 0
+IsMeant UnknownCommand first word near = IsNearest word command_words near
+IsMeant UnknownOption first word near = IfSome near (λ known. Contains (options_behind first) known)
+IsMeant UnknownTopic first word near = IfSome near (λ known. is_near word known ≡ true)
+IsMeant _ first word near = near ≡ None
+
+-- the same of a word, where there is one; else nothing is meant
+abbrev pub IsMeantOf : UsageKind → Word → Option Word → Option Word → Type 0
+IsMeantOf kind first (Some word) near = IsMeant kind first word near
+IsMeantOf kind first None near = near ≡ None
+
+-- a word in quotes, where there is one
+abbrev pub quoted : Option (List ℕ) → List ℕ
+quoted (Some word) = codes " '" ++ escaped word ++ codes "'"
+quoted None = []
+
+-- the question whether a known word was meant, where one is near
+abbrev pub asked_for : Option (List ℕ) → List ℕ
+asked_for (Some near) = codes ", did you mean '" ++ near ++ codes "'?"
+asked_for None = codes ";"
+
+-- the line on words at fault: what is wrong, with which word, and which known word is near
+abbrev pub usage_advice : UsageKind → (word near : Option (List ℕ)) → List ℕ
+usage_advice kind word near = codes "objtool: " ++ kind_text kind ++ quoted word ++ asked_for near ++ codes " objtool --help lists the commands"
+
+-- a fault of the words is told: with the word at fault, where there is one, and with what it may stand for
+pub record TellsFault (words : List Word) (line : List ℕ) : Type 0 where
+  pub at : ℕ
+  pub kind : UsageKind
+  pub near : Option Word
+  pub fault : meaning words ≡ Err (at, kind)
+  pub meant : IsMeantOf kind (slice_index_or words 0 []) (slice_get words at) near
+  pub told : line ≡ usage_advice kind (slice_get words at) near
+
+-- the line on words, which tells their fault; without one they mean a command
+abbrev pub IsUsageLine : List Word → Option (List ℕ) → Type 0
+IsUsageLine words (Some line) = TellsFault words line
+IsUsageLine words None = is_ok (meaning words) ≡ true
+
+-- the line on a refusal: which topic explains it
+abbrev pub refusal_advice : List ℕ → List ℕ
+refusal_advice topic = codes "objtool: see objtool explain " ++ topic

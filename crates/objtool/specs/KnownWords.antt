@@ -1,0 +1,36 @@
+-- The words that a word at fault may stand for.
+use Rattle.std.specs.Prelude.{◌≡◌, List, [], ◌∷◌, codes, is_some, IsTrue, bytes_eq}
+use Rattle.std.specs.List.{list_all, list_any}
+use Rattle.std.specs.Option.{option_map_or}
+use Rattle.cli_words.specs.declared.word.CommandWord.{CommandWord}
+use Rattle.cli_words.specs.declared.word.CommandWord.TheVariants as the
+use Rattle.cli_words.specs.Words.{Word, command_named, is_option_of}
+
+-- the words of all commands
+abbrev pub command_words : List Word
+command_words =
+    codes "check" ∷ codes "dump" ∷ codes "unwind" ∷ codes "sites" ∷ codes "list" ∷ codes "entry" ∷ codes "cfi" ∷ codes "cfa"
+    ∷ codes "merge" ∷ codes "find" ∷ codes "show" ∷ codes "explain" ∷ codes "demo" ∷ []
+
+-- a word names a command where it is one of these
+abbrev pub AreCommands : Type 0
+AreCommands = (word : Word) → is_some (command_named word) ≡ list_any (λ known. bytes_eq word known) command_words
+
+-- the options of a command, those that have a value as they begin
+abbrev pub option_words : CommandWord → List Word
+option_words the.Check =
+    codes "--fp" ∷ codes "--retpoline" ∷ codes "--rethunk" ∷ codes "--uaccess" ∷ codes "--no-unreachable" ∷ codes "--backtrace"
+    ∷ codes "--all-opcodes" ∷ codes "--names=" ∷ []
+option_words the.Sites = codes "--all-opcodes" ∷ codes "--names=" ∷ []
+option_words the.Cfi = codes "--all-opcodes" ∷ codes "--names=" ∷ []
+option_words the.Entry = codes "--noinstr" ∷ codes "--sls" ∷ codes "--ibt" ∷ codes "--all-opcodes" ∷ codes "--names=" ∷ []
+option_words the.Show = codes "--function=" ∷ codes "--all-opcodes" ∷ codes "--names=" ∷ []
+option_words _ = []
+
+-- each of them is an option of that command
+abbrev pub AreOptions : Type 0
+AreOptions = (command : CommandWord) → IsTrue (list_all (is_option_of command) (option_words command))
+
+-- the options of the command that a first word asks for
+abbrev pub options_behind : Word → List Word
+options_behind first = option_map_or option_words (command_named first) []

@@ -1,0 +1,49 @@
+//! The words that a word at fault may stand for.
+
+ghost use Rattle.std.specs.Prelude.{◌≡◌, map};
+ghost use Rattle.objtool.specs.KnownWords.{AreCommands, AreOptions, command_words, options_behind};
+
+use explanations::{is_topic, topics};
+use std::alloc::{AllocError, Global};
+
+/// The words of all commands, and no others.
+pub(crate) fn command_words() -> &'static [&'static str]
+    ensures words { map (λ word. word.now) result.now ≡ command_words }
+    ensures commands { AreCommands }
+{
+    &[
+        "check", "dump", "unwind", "sites", "list", "entry", "cfi", "cfa", "merge", "find", "show",
+        "explain", "demo",
+    ]
+}
+
+/// The options of the command that a first word asks for, those that have a value as they begin.
+pub(crate) fn option_words(first: &str) -> &'static [&'static str]
+    ensures words { map (λ word. word.now) result.now ≡ options_behind first.now }
+    ensures options { AreOptions }
+{
+    match first {
+        "check" => &[
+            "--fp",
+            "--retpoline",
+            "--rethunk",
+            "--uaccess",
+            "--no-unreachable",
+            "--backtrace",
+            "--all-opcodes",
+            "--names=",
+        ],
+        "sites" | "cfi" => &["--all-opcodes", "--names="],
+        "entry" => &["--noinstr", "--sls", "--ibt", "--all-opcodes", "--names="],
+        "show" => &["--function=", "--all-opcodes", "--names="],
+        _ => &[],
+    }
+}
+
+/// The topics that `explain` lists.
+pub(crate) fn topic_words(alloc: Global) -> Result<Vec<&'static str>, AllocError> {
+    topics()
+        .split_whitespace()
+        .filter(|word| is_topic(word))
+        .collect(alloc)
+}

@@ -1,0 +1,6 @@
+	.text
+	.globl	f
+	.type	f, @function
+f:	push	%rbx
+	ret
+	.size	f, . - f
