@@ -187,7 +187,8 @@ faulted "/dev/full" "$out"
 lay old
 input=/dev/zero
 runs env
-[ "$status" = 2 ] && [ "$told" = "refused: /dev/zero is longer than 67108864 bytes" ] && is_before || failed "/dev/zero: status $status and '$told'"
+advice='objtool: see objtool explain longer'
+[ "$status" = 2 ] && [ "$told" = "refused: /dev/zero is longer than 67108864 bytes"$'\n'"$advice" ] && is_before || failed "/dev/zero: status $status and '$told'"
 "$program" dump wanted.check >/dev/full && status=0 || status=$?
 [ "$status" = 5 ] || failed "dump, whose lines fail: status $status"
 "$program" dump wanted.check >&- && status=0 || status=$?
