@@ -1,8 +1,8 @@
 #!/usr/bin/env bash
 # Runs each command of a table with each of its requests for memory refused in turn, one a run, and then with all behind it
 # refused too: it ends with status 6, what it told is a beginning of the text that it tells with ample memory, and OUT is as
-# it was. Where one alone is refused, all may be done as well: a list that can't grow to twice its length asks again for what
-# it needs.
+# it was. Or all is done as well: a list that can't grow to twice its length asks again for what it needs, and the line of the output
+# that the standard error is made of need not be remembered.
 #
 # And `demo 3` makes at least as many requests as the three calls that it is made of: one that made up its numbers would make fewer. These
 # calls are a test of command_tests, run alone by the program of tests that `rt ci` leaves; or TESTS names that program.
@@ -297,7 +297,8 @@ for command in "${commands[@]}"; do
                 [[ $text == "$told"* ]] || failed "$name, request $number $onwards: told '$told'"
                 [ ! -e out ] && [ ! itself.o -nt stamp ] || failed "$name, request $number $onwards: OUT was written"
             else
-                [ -z "$onwards" ] && [ "$status" = "$wanted" ] && [ "$told" = "$text" ] || failed "$name, request $number $onwards: status $status, told '$told'"
+                # (the first request is for the words, which no command can do without)
+                [ "$number$onwards" != 1onwards ] && [ "$status" = "$wanted" ] && [ "$told" = "$text" ] || failed "$name, request $number $onwards: status $status, told '$told'"
                 rm -f out
                 [ ! itself.o -nt stamp ] || { cp straight.o itself.o; touch -d '1 hour ago' itself.o; }
             fi
