@@ -29,14 +29,16 @@ def renamed(object, prefix, to):
     return to
 
 
-def joined(objects, to):
-    subprocess.run(["ld", "-r", "-o", to, *objects], check=True, stderr=subprocess.DEVNULL)
+def joined(objects, to, *flags):
+    """One object of these, by `ld -r` with these flags besides."""
+    subprocess.run(["ld", "-r", *flags, "-o", to, *objects], check=True, stderr=subprocess.DEVNULL)
     return to
 
 
-folder, size, out, scratch = sys.argv[1], int(sys.argv[2]), sys.argv[3], sys.argv[4]
-objects = sorted(glob.glob(f"{folder}/*.o"))
-one = joined([renamed(object, f"o{i}_", f"{scratch}/one{i}.o") for i, object in enumerate(objects)], f"{scratch}/one.o")
-copies = max(1, size // text_bytes(one))
-joined([renamed(one, f"c{i}_", f"{scratch}/copy{i}.o") for i in range(copies)], out)
-print(text_bytes(out))
+if __name__ == "__main__":
+    folder, size, out, scratch = sys.argv[1], int(sys.argv[2]), sys.argv[3], sys.argv[4]
+    objects = sorted(glob.glob(f"{folder}/*.o"))
+    one = joined([renamed(object, f"o{i}_", f"{scratch}/one{i}.o") for i, object in enumerate(objects)], f"{scratch}/one.o")
+    copies = max(1, size // text_bytes(one))
+    joined([renamed(one, f"c{i}_", f"{scratch}/copy{i}.o") for i in range(copies)], out)
+    print(text_bytes(out))
