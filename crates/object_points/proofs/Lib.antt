@@ -13,6 +13,7 @@ pub mod AllSites
 mod Order
 mod Runs
 mod Marked
+mod MarkedHints
 pub mod HintOrder
 pub mod Below
 pub mod Run

@@ -16,7 +16,7 @@ same_off : (a b c d : ℕ) → (eqb a c && eqb b d) ≡ true → b ≡ d
 same_off a b c d same = grind (arith, nat_tests)
 
 -- a place whose mark isn't set is none whose mark is
-other_place : (count : ℕ) (marks : List Bool) (p place : Place) → is_marked count marks p ≡ true → is_marked count marks place ≡ false → same_place p place ≡ false
+pub other_place : (count : ℕ) (marks : List Bool) (p place : Place) → is_marked count marks p ≡ true → is_marked count marks place ≡ false → same_place p place ≡ false
 other_place count marks p place set unset = elim (cases_Bool (same_place p place)) [
   | inr other ↦ other
   | inl same ↦ absurd (false≢true (sym unset ∙ ap (λ off. get_or marks (bit_and off (count - 1)) false) (sym (same_off p.sec p.off place.sec place.off same)) ∙ set))

@@ -6,6 +6,7 @@ mod code_owners;
 mod function_starts;
 mod hint_points;
 mod hinted;
+mod marked_hints;
 mod marks;
 mod meanings;
 mod owner;

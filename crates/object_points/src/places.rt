@@ -11,13 +11,13 @@ ghost use Rattle.flow_defs.specs.Owners.{function_of_point, is_entry as is_an_en
 use crate::PlaceSet;
 use crate::code_owners::{CodeOwner, address_of, list_items, list_numbers};
 use crate::function_starts::list_starts;
+use crate::marked_hints::MarkedHints;
 use crate::owner::{is_part, owner_of};
 use crate::unchecked::{is_among, list_unchecked};
 use alternatives::{Point, Sites};
 use object_code::Linked;
 use operation_defs::Insn;
 use ot_base::{NoMemory, Place};
-use special_sections::Hints;
 use state_defs::HintState;
 use std::alloc::Global;
 use std::marker::Model;
@@ -35,7 +35,7 @@ pub struct PointPlaces<'l, 'o, 'a> {
     items: Vec<CodeOwner>,
     /// For each point, which of these items is its own.
     numbers: Vec<u32>,
-    hints: Hints,
+    hints: MarkedHints,
 }
 
 impl<'l, 'o, 'a> Model for PointPlaces<'l, 'o, 'a> {
@@ -66,7 +66,7 @@ impl<'l, 'o, 'a> PointPlaces<'l, 'o, 'a> {
         let unchecked = list_unchecked(alloc, linked)?;
         let items = list_items(alloc, index, &unchecked)?;
         let numbers = list_numbers(alloc, linked, index, &items)?;
-        let hints = Hints::build(alloc, linked.special())?;
+        let hints = MarkedHints::build(alloc, linked.special())?;
         Ok(PointPlaces {
             linked,
             starts,
@@ -220,18 +220,6 @@ impl<'l, 'o, 'a> PointPlaces<'l, 'o, 'a> {
         requires { n < length (points_of_object self.now) }
         ensures { result ≡ hint_of self.now (point_at self.now n) }
     {
-        if self.linked.special().hints().is_empty() {
-            return None;
-        }
-        self.search_hint(n)
-    }
-
-    /// The same by a search among all hints.
-    #[inline(never)]
-    fn search_hint(&self, n: u32) -> Option<HintState>
-        requires { n < length (points_of_object self.now) }
-        ensures { result ≡ hint_of self.now (point_at self.now n) }
-    {
         if self.is_padding(n) {
             return None;
         }
@@ -239,6 +227,7 @@ impl<'l, 'o, 'a> PointPlaces<'l, 'o, 'a> {
     }
 
     /// The unwind hint of the plain point at a place: the hint there.
+    #[inline(always)]
     pub fn plain_hint(&self, place: Place) -> Option<HintState>
         ensures { result ≡ hint_of self.now (plain_point place) }
     {
