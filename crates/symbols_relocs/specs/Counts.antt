@@ -13,10 +13,6 @@ is_behind fs index place = nat_le (length fs) index || is_before place (function
 abbrev pub is_upto : List Function → ℕ → Place → Bool
 is_upto fs count place = count == 0 || not (is_before place (function fs (count - 1)).start)
 
--- so many start at a place or before it, where they ascend
-abbrev pub is_count : List Function → ℕ → Place → Bool
-is_count fs count place = nat_le count (length fs) && (is_behind fs count place && is_upto fs count place)
-
 -- the function with an index holds a place, and the next one starts behind that, or there is none
 abbrev pub is_holder : List Function → ℕ → Place → Bool
 is_holder fs index place = nat_lt index (length fs) && (in_function (function fs index) place && is_behind fs (index + 1) place)
