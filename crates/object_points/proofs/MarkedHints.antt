@@ -20,7 +20,7 @@ none_passes {X} p (y ∷ xs) x none other =
     go (p y) none
 
 -- where the mark of the place of each hint is set, none is at a place whose mark isn't
-pub no_hint : (count : ℕ) (hints : List HintEntry) (marks : List Bool) (place : Place) → AreMarked count (map (λ (h : HintEntry). h.place) hints) marks → is_marked count marks place ≡ false → last_hint_at hints place ≡ None
+pub no_hint : (count : ℕ) (hints : List HintEntry) (marks : List ℕ) (place : Place) → AreMarked count (map (λ (h : HintEntry). h.place) hints) marks → is_marked count marks place ≡ false → last_hint_at hints place ≡ None
 no_hint count [] marks place set unset = refl
 no_hint count (h ∷ hints) marks place set unset =
     let here : HintEntry → Bool = λ other. same_place other.place place in

@@ -18,7 +18,7 @@ use std::marker::Model;
 pub(crate) struct MarkedHints {
     hints: Hints,
     /// The marks of the places of these hints are set: at a place whose mark isn't set there is none.
-    marks: Vec<bool>,
+    marks: Vec<u8>,
 }
 
 impl Model for MarkedHints {
@@ -76,7 +76,7 @@ fn hint_places(alloc: Global, hints: &[HintEntry]) -> Result<Vec<Place>, NoMemor
 }
 
 /// Marks of which those of the places of hints are set.
-fn mark_hints(alloc: Global, hints: &[HintEntry]) -> Result<Vec<bool>, NoMemory>
+fn mark_hints(alloc: Global, hints: &[HintEntry]) -> Result<Vec<u8>, NoMemory>
     ensures some { IfOk result (λ marks. 0 < length marks.items) }
     ensures set { IfOk result (λ marks. AreMarked (length marks.items) (map (λ (h : Entry). h.place) hints.now) marks.items) }
 {

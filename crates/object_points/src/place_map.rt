@@ -15,7 +15,7 @@ use std::marker::Model;
 pub struct PlaceMap {
     places: Vec<Place>,
     targets: Vec<Place>,
-    marks: Vec<bool>,
+    marks: Vec<u8>,
 }
 
 impl Model for PlaceMap {

@@ -12,7 +12,7 @@ use std::marker::Model;
 #[derive(Drop)]
 pub struct PlaceSet {
     places: Vec<Place>,
-    marks: Vec<bool>,
+    marks: Vec<u8>,
 }
 
 impl Model for PlaceSet {

@@ -235,12 +235,21 @@ impl<'l, 'o, 'a> PointPlaces<'l, 'o, 'a> {
     }
 
     /// The function that starts at a place and isn't checked.
+    #[inline(always)]
     pub fn unchecked_start(&self, place: Place) -> Option<u32>
         ensures { result ≡ unchecked_starting_at self.now.elf place }
     {
         if !self.starts.may_contain(place) {
             return None;
         }
+        self.search_unchecked_start(place)
+    }
+
+    /// The same by a search.
+    #[inline(never)]
+    fn search_unchecked_start(&self, place: Place) -> Option<u32>
+        ensures { result ≡ unchecked_starting_at self.now.elf place }
+    {
         let index = self.linked.index();
         let Some(function) = index.starts_at(place) else {
             return None;
@@ -253,12 +262,21 @@ impl<'l, 'o, 'a> PointPlaces<'l, 'o, 'a> {
     }
 
     /// Whether a place is an entry: the start of a function that is no part and is checked.
+    #[inline(always)]
     pub fn is_entry(&self, place: Place) -> bool
         ensures { result ≡ is_an_entry self.now.elf place }
     {
         if !self.starts.may_contain(place) {
             return false;
         }
+        self.search_entry(place)
+    }
+
+    /// The same by a search.
+    #[inline(never)]
+    fn search_entry(&self, place: Place) -> bool
+        ensures { result ≡ is_an_entry self.now.elf place }
+    {
         let index = self.linked.index();
         let Some(function) = index.starts_at(place) else {
             return false;
