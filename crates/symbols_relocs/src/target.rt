@@ -32,6 +32,9 @@ pub enum Target {
 /// What the names of the thunks that jump to where a register points begin with.
 const INDIRECT_THUNK: &[u8] = b"__x86_indirect_thunk_";
 
+/// What of that tells them from the thunk that returns.
+const INDIRECT_START: &[u8] = b"__x86_i";
+
 /// The name of the thunk that returns.
 const RETURN_THUNK: &[u8] = b"__x86_return_thunk";
 
@@ -135,7 +138,7 @@ fn is_indirect_thunk(object: &Object<'_>, sym: u32) -> bool
     requires { sym < length object.now.symbols }
     ensures { result ≡ is_indirect_thunk_name (symbol_at object.now sym).name }
 {
-    object.symbol_name_begins(sym, INDIRECT_THUNK)
+    object.symbol_name_begins(sym, INDIRECT_START) && object.symbol_name_begins(sym, INDIRECT_THUNK)
 }
 
 /// Whether the name of a symbol is that of the thunk that returns.
