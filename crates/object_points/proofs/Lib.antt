@@ -14,6 +14,7 @@ mod Order
 mod Runs
 mod Marked
 mod MarkedHints
+mod SiteMarks
 pub mod HintOrder
 pub mod Below
 pub mod Run

@@ -17,6 +17,7 @@ mod place_set;
 mod places;
 mod saves;
 mod site;
+mod site_marks;
 mod sites;
 mod symbol_names;
 mod text_sections;

@@ -1,18 +1,20 @@
 //! Points by their numbers.
 
-ghost use Rattle.std.specs.Prelude.{◌≡◌, ◌+◌, ◌<◌, Some, length, nat_le, slice_get, IfOk, IfSome};
+ghost use Rattle.std.specs.Prelude.{◌≡◌, ◌+◌, ◌<◌, Some, None, false, length, nat_le, slice_get, IfOk, IfSome};
 ghost use Rattle.alternatives.specs.Texts.{is_boundary as is_a_boundary};
 ghost use Rattle.alternatives.specs.Points.{address_of_point};
 ghost use Rattle.flow_defs.specs.Arrival.{decoded_insn as decoded_insn_of, hint_of, is_padding as is_padding_at};
 ghost use Rattle.flow_defs.specs.Code.{alternatives_of, number_of as number_of_point, plain_point, point_at, points_of_object, texts_of};
 ghost use Rattle.object_points.specs.CodeOwners.{IsItemBy};
 ghost use Rattle.flow_defs.specs.Owners.{function_of_point, is_entry as is_an_entry, is_unchecked as is_unchecked_by, is_unchecked_point as is_unchecked_at, owner_of_point, unchecked_start as unchecked_starting_at};
+ghost use Rattle.flow_defs.specs.Sites.{site_holding};
 
 use crate::PlaceSet;
 use crate::code_owners::{CodeOwner, address_of, list_items, list_numbers};
 use crate::function_starts::list_starts;
 use crate::marked_hints::MarkedHints;
 use crate::owner::{is_part, owner_of};
+use crate::site_marks::{mark_sites, may_hold};
 use crate::unchecked::{is_among, list_unchecked};
 use alternatives::{Point, Sites};
 use object_code::Linked;
@@ -36,6 +38,8 @@ pub struct PointPlaces<'l, 'o, 'a> {
     /// For each point, which of these items is its own.
     numbers: Vec<u32>,
     hints: MarkedHints,
+    /// The marks of the blocks of code are set in which alternatives sites lie: no site holds a place of another block.
+    site_marks: Vec<u8>,
 }
 
 impl<'l, 'o, 'a> Model for PointPlaces<'l, 'o, 'a> {
@@ -46,7 +50,7 @@ impl<'l, 'o, 'a> Model for PointPlaces<'l, 'o, 'a> {
 
     ghost view = { λ p. p.linked.now };
 
-    ghost invariant = { λ p. IsKept p.linked.now p.starts p.unchecked.items p.items.items p.numbers.items p.hints };
+    ghost invariant = { λ p. IsKept p.linked.now p.starts p.unchecked.items p.items.items p.numbers.items p.hints p.site_marks.items };
 }
 
 impl<'l, 'o, 'a> PointPlaces<'l, 'o, 'a> {
@@ -67,6 +71,7 @@ impl<'l, 'o, 'a> PointPlaces<'l, 'o, 'a> {
         let items = list_items(alloc, index, &unchecked)?;
         let numbers = list_numbers(alloc, linked, index, &items)?;
         let hints = MarkedHints::build(alloc, linked.special())?;
+        let site_marks = mark_sites(alloc, linked)?;
         Ok(PointPlaces {
             linked,
             starts,
@@ -74,6 +79,7 @@ impl<'l, 'o, 'a> PointPlaces<'l, 'o, 'a> {
             items,
             numbers,
             hints,
+            site_marks,
         })
     }
 
@@ -232,6 +238,14 @@ impl<'l, 'o, 'a> PointPlaces<'l, 'o, 'a> {
         ensures { result ≡ hint_of self.now (plain_point place) }
     {
         self.hints.hint_at(place)
+    }
+
+    /// Whether an alternatives site may hold a place, told without a search: where none may, none does.
+    #[inline(always)]
+    pub(crate) fn may_be_in_site(&self, place: Place) -> bool
+        ensures { result ≡ false → site_holding self.now place ≡ None }
+    {
+        may_hold(&self.site_marks, place)
     }
 
     /// The function that starts at a place and isn't checked.
