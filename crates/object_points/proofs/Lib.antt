@@ -3,6 +3,7 @@ pub mod Found
 pub mod Starts
 pub mod Points
 pub mod Items
+mod ItemSpans
 pub mod ListedFields
 pub mod OwnerPairs
 mod PatchMarks

@@ -20,7 +20,7 @@ pub(crate) fn count_to(functions: &[Function], place: Place) -> usize
 }
 
 /// Whether the one with an index starts behind a place, or there is none.
-pub(crate) fn is_behind(functions: &[Function], index: usize, place: Place) -> bool
+fn is_behind(functions: &[Function], index: usize, place: Place) -> bool
     ensures { result ≡ is_one_behind functions.now index place }
 {
     index >= functions.len() || is_before(place, functions[index].start)
