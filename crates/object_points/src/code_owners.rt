@@ -73,6 +73,7 @@ pub(crate) fn list_items(
 /// Places in a row of a section that have one item.
 #[derive(Clone, Copy)]
 struct ItemSpan {
+    /// Their section.
     sec: u32,
     /// The first offset of them.
     first: u64,

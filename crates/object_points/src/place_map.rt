@@ -15,6 +15,7 @@ use std::marker::Model;
 pub struct PlaceMap {
     places: Vec<Place>,
     targets: Vec<Place>,
+    /// The marks of these places are set: a place whose mark isn't set leads nowhere.
     marks: Vec<u8>,
 }
 

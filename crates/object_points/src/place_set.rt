@@ -12,6 +12,7 @@ use std::marker::Model;
 #[derive(Drop)]
 pub struct PlaceSet {
     places: Vec<Place>,
+    /// The marks of these places are set: a place whose mark isn't set is none of them.
     marks: Vec<u8>,
 }
 
