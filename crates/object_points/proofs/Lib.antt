@@ -3,6 +3,7 @@ pub mod Found
 pub mod Starts
 pub mod Points
 pub mod Items
+mod ItemSpans
 pub mod ListedFields
 pub mod OwnerPairs
 mod PatchMarks
@@ -13,6 +14,8 @@ pub mod AllSites
 mod Order
 mod Runs
 mod Marked
+mod MarkedHints
+mod SiteMarks
 pub mod HintOrder
 pub mod Below
 pub mod Run

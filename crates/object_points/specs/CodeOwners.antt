@@ -1,5 +1,5 @@
 -- Whose code the points of an object are, by a list of items and the number of its item for each point.
-use Rattle.std.specs.Prelude.{◌≡◌, ◌<◌, ◌+◌, ℕ, List, Option, Some, None, length, slice_get}
+use Rattle.std.specs.Prelude.{◌≡◌, ◌<◌, ◌≤◌, ◌+◌, ℕ, List, Option, Some, None, length, slice_get}
 use Rattle.ot_base.specs.declared.place.Place.{Place}
 use Rattle.elf_objects.specs.Elf.{Elf}
 use Rattle.symbols_relocs.specs.declared.function.Function.{Function}
@@ -32,6 +32,16 @@ pub record AreItems (o : Elf) (fs : List Function) (items : List CodeOwner) : Ty
 pub record TellsOwner (o : Elf) (items : List CodeOwner) (place : Place) (number : ℕ) : Type 0 where
   pub inside : number < length items
   pub is : (x : CodeOwner) → slice_get items number ≡ Some x → IsItemBy o (function_at o place) (owner_at o place) x
+
+-- a place is one of those of a section from an offset to another
+pub record IsBetween (sec first last : ℕ) (place : Place) : Type 0 where
+  pub section : place.sec ≡ sec
+  pub from : first ≤ place.off
+  pub to : place.off ≤ last
+
+-- the item with a number is that of all of these
+abbrev pub TellsOwners : Elf → List CodeOwner → ℕ → ℕ → ℕ → ℕ → Type 0
+TellsOwners o items sec first last number = (place : Place) → IsBetween sec first last place → TellsOwner o items place number
 
 -- the item of each point is that of the place where it runs
 pub record TellOwners (o : Coded) (items : List CodeOwner) (numbers : List ℕ) : Type 0 where

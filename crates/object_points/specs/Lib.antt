@@ -7,6 +7,7 @@ pub mod Functions
 pub mod Plain
 pub mod Places
 pub mod Marks
+pub mod SiteBlocks
 pub mod SaveOrder
 pub mod Hinted
 pub mod Meanings

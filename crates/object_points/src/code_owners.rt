@@ -1,12 +1,12 @@
 //! Whose code the points of an object are.
 
-ghost use Rattle.std.specs.Prelude.{◌≡◌, ◌<◌, None, Some, IfOk, length};
+ghost use Rattle.std.specs.Prelude.{◌≡◌, ◌<◌, None, Some, IfOk, IfSome, length, unwrap_or};
 ghost use Rattle.elf_objects.specs.Elf.{Elf};
 ghost use Rattle.symbols_relocs.specs.Lists.{symbol_of};
 ghost use Rattle.symbols_relocs.specs.Parts.{owner_of as owner_of_function};
 ghost use Rattle.alternatives.specs.Points.{address_of_point};
 ghost use Rattle.flow_defs.specs.Code.{alternatives_of, point_at, points_of_object};
-ghost use Rattle.object_points.specs.CodeOwners.{AreItems, IsItemBy, TellsOwner, TellOwners};
+ghost use Rattle.object_points.specs.CodeOwners.{AreItems, IsBetween, IsItemBy, TellsOwners, TellOwners};
 ghost use Rattle.object_points.specs.Unchecked.{AreUnchecked};
 
 use crate::owner::owner_of;
@@ -70,15 +70,70 @@ pub(crate) fn list_items(
     Ok(items)
 }
 
-/// The index of the item of a place, found at once where it is the guessed one.
-fn number_of(index: &Index<'_, '_>, items: &[CodeOwner], place: Place, guess: u32) -> u32
-    requires { AreItems index.now.elf index.now.functions items.now }
-    ensures { TellsOwner index.now.elf items.now place result }
+/// Places in a row of a section that have one item.
+#[derive(Clone, Copy)]
+struct ItemSpan {
+    /// Their section.
+    sec: u32,
+    /// The first offset of them.
+    first: u64,
+    /// The last offset of them, below the first where there are none.
+    last: u64,
+    /// The index of their item.
+    number: u32,
+}
+
+/// No places.
+fn no_span() -> ItemSpan
+    ensures { result.last < result.first }
 {
-    match index.function_by_guess(place, guess) {
+    ItemSpan {
+        sec: 0,
+        first: 1,
+        last: 0,
+        number: 0,
+    }
+}
+
+/// The index of the item of a function, or of code of no function.
+fn number_of(index: &Index<'_, '_>, function: Option<u32>) -> u32
+    requires { IfSome function (λ f. f < length index.now.functions) }
+    ensures { result ≡ unwrap_or function (length index.now.functions) }
+{
+    match function {
         Some(function) => function,
         None => index.functions().len() as u32,
     }
+}
+
+/// The places from one on that have one item.
+#[inline(never)]
+fn span_from(index: &Index<'_, '_>, items: &[CodeOwner], place: Place) -> ItemSpan
+    requires { AreItems index.now.elf index.now.functions items.now }
+    ensures tells { TellsOwners index.now.elf items.now result.sec result.first result.last result.number }
+    ensures has { IsBetween result.sec result.first result.last place }
+{
+    let span = index.span_from(place);
+    ItemSpan {
+        sec: place.sec,
+        first: place.off,
+        last: span.last,
+        number: number_of(index, span.function),
+    }
+}
+
+/// Places in a row of which one is the given one: the given ones, where they have it.
+#[inline(always)]
+fn span_with(index: &Index<'_, '_>, items: &[CodeOwner], place: Place, span: ItemSpan) -> ItemSpan
+    requires items { AreItems index.now.elf index.now.functions items.now }
+    requires tells { TellsOwners index.now.elf items.now span.sec span.first span.last span.number }
+    ensures tells { TellsOwners index.now.elf items.now result.sec result.first result.last result.number }
+    ensures has { IsBetween result.sec result.first result.last place }
+{
+    if span.sec == place.sec && span.first <= place.off && place.off <= span.last {
+        return span;
+    }
+    span_from(index, items, place)
 }
 
 /// Where the point with a number runs.
@@ -102,10 +157,10 @@ pub(crate) fn list_numbers(
 {
     let count = linked.sites().point_count();
     let mut numbers = Vec::with_capacity(alloc, count as usize)?;
-    let mut number = 0;
+    let mut span = no_span();
     for n in 0..count {
-        number = number_of(index, items, address_of(linked, n), number);
-        numbers.push(number)?;
+        span = span_with(index, items, address_of(linked, n), span);
+        numbers.push(span.number)?;
     }
     Ok(numbers)
 }

@@ -15,7 +15,8 @@ use std::marker::Model;
 pub struct PlaceMap {
     places: Vec<Place>,
     targets: Vec<Place>,
-    marks: Vec<bool>,
+    /// The marks of these places are set: a place whose mark isn't set leads nowhere.
+    marks: Vec<u8>,
 }
 
 impl Model for PlaceMap {

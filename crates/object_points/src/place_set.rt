@@ -12,7 +12,8 @@ use std::marker::Model;
 #[derive(Drop)]
 pub struct PlaceSet {
     places: Vec<Place>,
-    marks: Vec<bool>,
+    /// The marks of these places are set: a place whose mark isn't set is none of them.
+    marks: Vec<u8>,
 }
 
 impl Model for PlaceSet {

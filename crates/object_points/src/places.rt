@@ -1,23 +1,25 @@
 //! Points by their numbers.
 
-ghost use Rattle.std.specs.Prelude.{◌≡◌, ◌+◌, ◌<◌, Some, length, nat_le, slice_get, IfOk, IfSome};
+ghost use Rattle.std.specs.Prelude.{◌≡◌, ◌+◌, ◌<◌, Some, None, false, length, nat_le, slice_get, IfOk, IfSome};
 ghost use Rattle.alternatives.specs.Texts.{is_boundary as is_a_boundary};
 ghost use Rattle.alternatives.specs.Points.{address_of_point};
 ghost use Rattle.flow_defs.specs.Arrival.{decoded_insn as decoded_insn_of, hint_of, is_padding as is_padding_at};
 ghost use Rattle.flow_defs.specs.Code.{alternatives_of, number_of as number_of_point, plain_point, point_at, points_of_object, texts_of};
 ghost use Rattle.object_points.specs.CodeOwners.{IsItemBy};
 ghost use Rattle.flow_defs.specs.Owners.{function_of_point, is_entry as is_an_entry, is_unchecked as is_unchecked_by, is_unchecked_point as is_unchecked_at, owner_of_point, unchecked_start as unchecked_starting_at};
+ghost use Rattle.flow_defs.specs.Sites.{site_holding};
 
 use crate::PlaceSet;
 use crate::code_owners::{CodeOwner, address_of, list_items, list_numbers};
 use crate::function_starts::list_starts;
+use crate::marked_hints::MarkedHints;
 use crate::owner::{is_part, owner_of};
+use crate::site_marks::{mark_sites, may_hold};
 use crate::unchecked::{is_among, list_unchecked};
 use alternatives::{Point, Sites};
 use object_code::Linked;
 use operation_defs::Insn;
 use ot_base::{NoMemory, Place};
-use special_sections::Hints;
 use state_defs::HintState;
 use std::alloc::Global;
 use std::marker::Model;
@@ -35,7 +37,9 @@ pub struct PointPlaces<'l, 'o, 'a> {
     items: Vec<CodeOwner>,
     /// For each point, which of these items is its own.
     numbers: Vec<u32>,
-    hints: Hints,
+    hints: MarkedHints,
+    /// The marks of the blocks of code are set in which alternatives sites lie: no site holds a place of another block.
+    site_marks: Vec<u8>,
 }
 
 impl<'l, 'o, 'a> Model for PointPlaces<'l, 'o, 'a> {
@@ -46,7 +50,7 @@ impl<'l, 'o, 'a> Model for PointPlaces<'l, 'o, 'a> {
 
     ghost view = { λ p. p.linked.now };
 
-    ghost invariant = { λ p. IsKept p.linked.now p.starts p.unchecked.items p.items.items p.numbers.items p.hints };
+    ghost invariant = { λ p. IsKept p.linked.now p.starts p.unchecked.items p.items.items p.numbers.items p.hints p.site_marks.items };
 }
 
 impl<'l, 'o, 'a> PointPlaces<'l, 'o, 'a> {
@@ -66,7 +70,8 @@ impl<'l, 'o, 'a> PointPlaces<'l, 'o, 'a> {
         let unchecked = list_unchecked(alloc, linked)?;
         let items = list_items(alloc, index, &unchecked)?;
         let numbers = list_numbers(alloc, linked, index, &items)?;
-        let hints = Hints::build(alloc, linked.special())?;
+        let hints = MarkedHints::build(alloc, linked.special())?;
+        let site_marks = mark_sites(alloc, linked)?;
         Ok(PointPlaces {
             linked,
             starts,
@@ -74,6 +79,7 @@ impl<'l, 'o, 'a> PointPlaces<'l, 'o, 'a> {
             items,
             numbers,
             hints,
+            site_marks,
         })
     }
 
@@ -220,18 +226,6 @@ impl<'l, 'o, 'a> PointPlaces<'l, 'o, 'a> {
         requires { n < length (points_of_object self.now) }
         ensures { result ≡ hint_of self.now (point_at self.now n) }
     {
-        if self.linked.special().hints().is_empty() {
-            return None;
-        }
-        self.search_hint(n)
-    }
-
-    /// The same by a search among all hints.
-    #[inline(never)]
-    fn search_hint(&self, n: u32) -> Option<HintState>
-        requires { n < length (points_of_object self.now) }
-        ensures { result ≡ hint_of self.now (point_at self.now n) }
-    {
         if self.is_padding(n) {
             return None;
         }
@@ -239,19 +233,37 @@ impl<'l, 'o, 'a> PointPlaces<'l, 'o, 'a> {
     }
 
     /// The unwind hint of the plain point at a place: the hint there.
+    #[inline(always)]
     pub fn plain_hint(&self, place: Place) -> Option<HintState>
         ensures { result ≡ hint_of self.now (plain_point place) }
     {
         self.hints.hint_at(place)
     }
 
+    /// Whether an alternatives site may hold a place, told without a search: where none may, none does.
+    #[inline(always)]
+    pub(crate) fn may_be_in_site(&self, place: Place) -> bool
+        ensures { result ≡ false → site_holding self.now place ≡ None }
+    {
+        may_hold(&self.site_marks, place)
+    }
+
     /// The function that starts at a place and isn't checked.
+    #[inline(always)]
     pub fn unchecked_start(&self, place: Place) -> Option<u32>
         ensures { result ≡ unchecked_starting_at self.now.elf place }
     {
         if !self.starts.may_contain(place) {
             return None;
         }
+        self.search_unchecked_start(place)
+    }
+
+    /// The same by a search.
+    #[inline(never)]
+    fn search_unchecked_start(&self, place: Place) -> Option<u32>
+        ensures { result ≡ unchecked_starting_at self.now.elf place }
+    {
         let index = self.linked.index();
         let Some(function) = index.starts_at(place) else {
             return None;
@@ -264,12 +276,21 @@ impl<'l, 'o, 'a> PointPlaces<'l, 'o, 'a> {
     }
 
     /// Whether a place is an entry: the start of a function that is no part and is checked.
+    #[inline(always)]
     pub fn is_entry(&self, place: Place) -> bool
         ensures { result ≡ is_an_entry self.now.elf place }
     {
         if !self.starts.may_contain(place) {
             return false;
         }
+        self.search_entry(place)
+    }
+
+    /// The same by a search.
+    #[inline(never)]
+    fn search_entry(&self, place: Place) -> bool
+        ensures { result ≡ is_an_entry self.now.elf place }
+    {
         let index = self.linked.index();
         let Some(function) = index.starts_at(place) else {
             return false;

@@ -15,7 +15,7 @@ use program_graph::GraphSite;
 use std::alloc::Global;
 
 /// The sites of an object. One without text sections has none.
-fn sites_in_code<'l>(linked: &'l Linked<'_, '_>) -> Option<&'l Sites>
+pub(crate) fn sites_in_code<'l>(linked: &'l Linked<'_, '_>) -> Option<&'l Sites>
     ensures none { IfNone result (sites_of linked.now ≡ []) }
     ensures all { IfSome result (λ sites. AreAllSites linked.now sites.now.sites) }
 {
@@ -43,7 +43,19 @@ pub fn list_sites(
 }
 
 /// The alternatives site that holds a place, its start included.
+#[inline(always)]
 pub fn site_holding(places: &PointPlaces<'_, '_, '_>, place: Place) -> Option<GraphSite>
+    ensures { option_map site_of result ≡ site_holding places.now place }
+{
+    if !places.may_be_in_site(place) {
+        return None;
+    }
+    search_site(places, place)
+}
+
+/// The same by a search.
+#[inline(never)]
+fn search_site(places: &PointPlaces<'_, '_, '_>, place: Place) -> Option<GraphSite>
     ensures { option_map site_of result ≡ site_holding places.now place }
 {
     let sites = sites_in_code(places.linked())?;

@@ -6,20 +6,9 @@ use Rattle.std.proofs.lemmas.Bool.Decides.{nat_tests}
 use Rattle.ot_base.specs.declared.place.Place.{Place}
 use Rattle.ot_base.specs.Places.{is_before}
 use Rattle.symbols_relocs.specs.declared.function.Function.{Function}
-use Rattle.symbols_relocs.specs.Counts.{is_behind, is_count, is_holder, is_upto}
-use Rattle.symbols_relocs.specs.Lists.{function, in_function, no_function, AreRising}
+use Rattle.symbols_relocs.specs.Counts.{is_behind, is_upto}
+use Rattle.symbols_relocs.specs.Lists.{function, no_function, AreRising}
 use Rattle.symbols_relocs.proofs.PlaceOrder.{rising_parts, not_true}
-
-left : (a b : Bool) → (a && b) ≡ true → a ≡ true
-left true b h = refl
-left false b h = h
-
-right : (a b : Bool) → (a && b) ≡ true → b ≡ true
-right true b h = h
-right false b h = absurd (false≢true h)
-
-within : (count len : ℕ) → leb count len ≡ true → count ≤ len
-within count len h = grind (arith, nat_tests)
 
 not_behind : (len count : ℕ) (b : Bool) → count < len → (leb len count || b) ≡ true → b ≡ true
 not_behind len count true less h = refl
@@ -32,17 +21,14 @@ not_upto count false some h = grind (arith, nat_tests)
 not_of : (b : Bool) → b ≡ false → not b ≡ true
 not_of b h = ap not h
 
-pub counted_within : (fs : List Function) (count : ℕ) (place : Place) → is_count fs count place ≡ true → count ≤ length fs
-counted_within fs count place is = within count (length fs) (left _ _ is)
-
-pub counted_to : (fs : List Function) (count : ℕ) (place : Place) → AreRising fs → is_count fs count place ≡ true → (k : ℕ) → k < count → is_before place (function fs k).start ≡ false
-counted_to fs count place up is k lower =
-    let inside : count ≤ length fs = counted_within fs count place is in
-    let last : not (is_before place (function fs (count - 1)).start) ≡ true = not_upto count _ (omega arith) (right (is_behind fs count place) _ (right (leb count (length fs)) _ is)) in
+-- where the last of so many starts at a place or before it, so do those in front of it
+pub counted_to : (fs : List Function) (count : ℕ) (place : Place) → AreRising fs → count ≤ length fs → is_upto fs count place ≡ true → (k : ℕ) → k < count → is_before place (function fs k).start ≡ false
+counted_to fs count place up inside is k lower =
+    let last : not (is_before place (function fs (count - 1)).start) ≡ true = not_upto count _ (omega arith) is in
     not_true _ (rising_parts fs place up k (count - 1) no_function (omega arith) (omega arith) last)
 
 -- where one starts behind a place, so do those behind it
-behind_on : (fs : List Function) (count : ℕ) (place : Place) → AreRising fs → is_behind fs count place ≡ true → (k : ℕ) → count ≤ k → k < length fs → is_before place (function fs k).start ≡ true
+pub behind_on : (fs : List Function) (count : ℕ) (place : Place) → AreRising fs → is_behind fs count place ≡ true → (k : ℕ) → count ≤ k → k < length fs → is_before place (function fs k).start ≡ true
 behind_on fs count place up is k from inside =
     let next : is_before place (function fs count).start ≡ true = not_behind (length fs) count _ (omega arith) is in
     elim (cases_Bool (is_before place (function fs k).start)) [
@@ -50,24 +36,6 @@ behind_on fs count place up is k from inside =
       | inr not_so ↦ absurd (false≢true (sym (not_true _ (rising_parts fs place up count k no_function from inside (not_of _ not_so))) ∙ next))
     ]
 
-pub counted_behind : (fs : List Function) (count : ℕ) (place : Place) → AreRising fs → is_count fs count place ≡ true → (k : ℕ) → count ≤ k → k < length fs → is_before place (function fs k).start ≡ true
-counted_behind fs count place up is k from inside =
-    behind_on fs count place up (left (is_behind fs count place) (is_upto fs count place) (right (leb count (length fs)) _ is)) k from inside
-
-below : (n m : ℕ) → ltb n m ≡ true → n < m
-below n m h = grind (arith, nat_tests)
-
-not_held : (a b c d n : ℕ) → is_lt (ordering_then (nat_cmp a c) (nat_cmp b d)) ≡ true → (eqb c a && (leb d b && ltb b (d + n))) ≡ false
+-- what starts behind a place doesn't hold it
+pub not_held : (a b c d n : ℕ) → is_lt (ordering_then (nat_cmp a c) (nat_cmp b d)) ≡ true → (eqb c a && (leb d b && ltb b (d + n))) ≡ false
 not_held a b c d n x = grind (arith, nat_tests)
-
-pub holder_within : (fs : List Function) (index : ℕ) (place : Place) → is_holder fs index place ≡ true → index < length fs
-holder_within fs index place is = below index (length fs) (left _ _ is)
-
-pub holder_holds : (fs : List Function) (index : ℕ) (place : Place) → is_holder fs index place ≡ true → in_function (function fs index) place ≡ true
-holder_holds fs index place is = left (in_function (function fs index) place) (is_behind fs (index + 1) place) (right (ltb index (length fs)) _ is)
-
-pub holder_last : (fs : List Function) (index : ℕ) (place : Place) → AreRising fs → is_holder fs index place ≡ true → (k : ℕ) → index < k → k < length fs → in_function (function fs k) place ≡ false
-holder_last fs index place up is k from inside =
-    let f : Function = function fs k in
-    not_held place.sec place.off f.start.sec f.start.off f.size
-    (behind_on fs (index + 1) place up (right (in_function (function fs index) place) (is_behind fs (index + 1) place) (right (ltb index (length fs)) _ is)) k (omega arith) inside)

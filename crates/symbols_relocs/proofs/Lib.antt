@@ -11,4 +11,5 @@ mod NamePlaces
 mod Stems
 mod Numbers
 mod Counted
+mod Spans
 mod Ranges

@@ -1,9 +1,9 @@
 -- How many functions start at a place or before it.
-use Rattle.std.specs.Prelude.{ℕ, ◌+◌, ◌-◌, ◌==◌, ◌&&◌, ◌||◌, not, nat_le, nat_lt, Bool, List, length}
+use Rattle.std.specs.Prelude.{ℕ, ◌-◌, ◌==◌, ◌||◌, not, nat_le, Bool, List, length}
 use Rattle.ot_base.specs.declared.place.Place.{Place}
 use Rattle.ot_base.specs.Places.{is_before}
 use Rattle.symbols_relocs.specs.declared.function.Function.{Function}
-use Rattle.symbols_relocs.specs.Lists.{function, in_function}
+use Rattle.symbols_relocs.specs.Lists.{function}
 
 -- the function with an index starts behind a place, or there is none
 abbrev pub is_behind : List Function → ℕ → Place → Bool
@@ -12,11 +12,3 @@ is_behind fs index place = nat_le (length fs) index || is_before place (function
 -- the last of so many starts at a place or before it, or there is none
 abbrev pub is_upto : List Function → ℕ → Place → Bool
 is_upto fs count place = count == 0 || not (is_before place (function fs (count - 1)).start)
-
--- so many start at a place or before it, where they ascend
-abbrev pub is_count : List Function → ℕ → Place → Bool
-is_count fs count place = nat_le count (length fs) && (is_behind fs count place && is_upto fs count place)
-
--- the function with an index holds a place, and the next one starts behind that, or there is none
-abbrev pub is_holder : List Function → ℕ → Place → Bool
-is_holder fs index place = nat_lt index (length fs) && (in_function (function fs index) place && is_behind fs (index + 1) place)

@@ -9,3 +9,4 @@ pub mod Names
 pub mod Faults
 pub mod FaultText
 pub mod Counts
+pub mod Spans

@@ -8,6 +8,7 @@ ghost use Rattle.symbols_relocs.specs.Faults.{Tells};
 ghost use Rattle.symbols_relocs.specs.Functions.{first_bad, function_at as function_symbol_at, starts_at as starts_symbol_at};
 ghost use Rattle.symbols_relocs.specs.Lists.{AreFunctions, HaveParents, IsIndexOfSymbol};
 ghost use Rattle.symbols_relocs.specs.Parts.{owner_at as owner_symbol_at};
+ghost use Rattle.symbols_relocs.specs.Spans.{place_at};
 ghost use Rattle.symbols_relocs.specs.Targets.{branch_target as branch_target_of, jump_target as jump_target_of, last_bytes as last_bytes_of, short_target as short_target_of, wide_target as wide_target_of};
 
 use crate::RelocIndex;
@@ -16,8 +17,9 @@ use crate::function::Function;
 use crate::merge::merge_symbols;
 use crate::near::list_counts;
 use crate::order::find_start;
-use crate::outer::{find_holder, is_holder, link_outer};
+use crate::outer::{find_holder, link_outer};
 use crate::parents::with_parents;
+use crate::span::{Span, find_span};
 use crate::symbols::list_symbols;
 use crate::target::{Target, relative_target, reloc_target};
 use elf_objects::{Object, Reloc};
@@ -105,15 +107,12 @@ impl<'o, 'a> Index<'o, 'a> {
         Some(index as u32)
     }
 
-    /// The function of a place, told at once where the guessed one holds it and the next one starts behind it. A wrong
-    /// guess costs time and nothing else.
-    pub fn function_by_guess(&self, place: Place, guess: u32) -> Option<u32>
-        ensures { IsIndexOfSymbol self.now.functions result (function_symbol_at self.now.elf place) }
+    /// The function of a place, and up to which offset it is that of all places behind in the section.
+    pub fn span_from(&self, place: Place) -> Span
+        ensures from { place.off ≤ result.last }
+        ensures function { (off : ℕ) → place.off ≤ off → off ≤ result.last → IsIndexOfSymbol self.now.functions result.function (function_symbol_at self.now.elf (place_at place.sec off)) }
     {
-        if is_holder(&self.functions, guess as usize, place) {
-            return Some(guess);
-        }
-        self.function_at(place)
+        find_span(&self.functions, &self.outer, &self.near, place)
     }
 
     /// The owner of a place, by its place among the functions: the parent of its function, or the function

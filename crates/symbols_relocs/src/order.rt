@@ -1,9 +1,9 @@
 //! Functions in the order of their starts.
 
-ghost use Rattle.std.specs.Prelude.{◌≡◌, ◌<◌, ◌≤◌, ℕ, true, false, length, MatchOption};
+ghost use Rattle.std.specs.Prelude.{◌≡◌, ◌<◌, ◌≤◌, ℕ, true, false, length, IfSome, MatchOption};
 ghost use Rattle.ot_base.specs.Places.{is_before as is_lower, same_place};
 ghost use Rattle.symbols_relocs.specs.Lists.{function, AreRising};
-ghost use Rattle.symbols_relocs.specs.Counts.{is_behind as is_one_behind, is_count as is_count_to, is_upto as is_one_upto};
+ghost use Rattle.symbols_relocs.specs.Counts.{is_behind as is_one_behind, is_upto as is_one_upto};
 
 use crate::function::Function;
 use crate::near::near_count;
@@ -20,7 +20,7 @@ pub(crate) fn count_to(functions: &[Function], place: Place) -> usize
 }
 
 /// Whether the one with an index starts behind a place, or there is none.
-pub(crate) fn is_behind(functions: &[Function], index: usize, place: Place) -> bool
+fn is_behind(functions: &[Function], index: usize, place: Place) -> bool
     ensures { result ≡ is_one_behind functions.now index place }
 {
     index >= functions.len() || is_before(place, functions[index].start)
@@ -34,25 +34,19 @@ fn is_upto(functions: &[Function], count: usize, place: Place) -> bool
     count == 0 || !is_before(place, functions[count - 1].start)
 }
 
-/// Whether so many of these start at a place or before it, where they ascend.
-fn is_count(functions: &[Function], count: usize, place: Place) -> bool
-    ensures { result ≡ is_count_to functions.now count place }
+/// How many of the first so many there are without those at the end that start behind a place, where those are fewer
+/// than 16.
+fn without_behind(functions: &[Function], count: usize, place: Place) -> Option<usize>
+    ensures { IfSome result (λ n. (n ≤ length functions.now) × (is_one_upto functions.now n place ≡ true)) }
 {
-    count <= functions.len()
-        && is_behind(functions, count, place)
-        && is_upto(functions, count, place)
-}
-
-/// How many of so many there are without those at the end that start behind a place, of which it leaves out at most 16.
-fn without_behind(functions: &[Function], count: usize, place: Place) -> usize {
     let mut left = count.min(functions.len());
     for _ in 0..16 {
-        if left == 0 || !is_before(place, functions[left - 1].start) {
-            break;
+        if is_upto(functions, left, place) {
+            return Some(left);
         }
-        left -= 1;
+        left = left.saturating_sub(1);
     }
-    left
+    None
 }
 
 /// How many of these start at a place or before it, where `near` has what to try first.
@@ -62,11 +56,10 @@ pub(crate) fn count_near(functions: &[Function], near: &[u32], place: Place) -> 
     ensures to { (k : ℕ) → k < result → is_lower place (function functions.now k).start ≡ false }
     ensures behind { (k : ℕ) → result ≤ k → k < length functions.now → is_lower place (function functions.now k).start ≡ true }
 {
-    let count = without_behind(functions, near_count(near, place), place);
-    if is_count(functions, count, place) {
-        return count;
+    match without_behind(functions, near_count(near, place), place) {
+        Some(count) if is_behind(functions, count, place) => count,
+        _ => count_to(functions, place),
     }
-    count_to(functions, place)
 }
 
 /// The index of the one that starts at a place.

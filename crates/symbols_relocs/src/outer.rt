@@ -1,11 +1,11 @@
 //! The function of a place, among functions that may overlap.
 
 ghost use Rattle.std.specs.Prelude.{◌≡◌, ◌<◌, ◌≤◌, ◌+◌, ◌-◌, ℕ, true, false, length, IfOk, MatchOption};
-ghost use Rattle.symbols_relocs.specs.Lists.{function, AreOuter, AreRising, ends_beyond as ends_after, in_function, in_function as holds_place, IsLastBeyond};
-ghost use Rattle.symbols_relocs.specs.Counts.{is_holder as is_one_holder};
+ghost use Rattle.ot_base.specs.Places.{is_before as is_lower};
+ghost use Rattle.symbols_relocs.specs.Lists.{function, AreOuter, AreRising, ends_beyond as ends_after, in_function, IsLastBeyond};
 
 use crate::function::Function;
-use crate::order::{count_near, is_behind};
+use crate::order::count_near;
 use ot_base::{NoMemory, Place};
 use std::alloc::Global;
 
@@ -56,22 +56,23 @@ pub(crate) fn link_outer(alloc: Global, functions: &[Function]) -> Result<Vec<us
     Ok(outer)
 }
 
-/// Whether a function holds a place.
-fn in_function(function: &Function, place: Place) -> bool
-    ensures { result ≡ holds_place function.now place }
+/// The index of the last function that holds a place, at which or before which so many start.
+#[inline(always)]
+pub(crate) fn last_holder(
+    functions: &[Function],
+    outer: &[usize],
+    count: usize,
+    place: Place,
+) -> Option<usize>
+    requires links { AreOuter functions.now outer.now }
+    requires len { length outer.now ≡ length functions.now }
+    requires within { count ≤ length functions.now }
+    requires to { (k : ℕ) → k < count → is_lower place (function functions.now k).start ≡ false }
+    requires behind { (k : ℕ) → count ≤ k → k < length functions.now → is_lower place (function functions.now k).start ≡ true }
+    ensures { MatchOption result ((k : ℕ) → k < length functions.now → in_function (function functions.now k) place ≡ false) (λ i. (i < length functions.now) × (in_function (function functions.now i) place ≡ true) × ((k : ℕ) → i < k → k < length functions.now → in_function (function functions.now k) place ≡ false)) }
 {
-    function.start.sec == place.sec
-        && function.start.off <= place.off
-        && u128::from(place.off) < end_of(function)
-}
-
-/// Whether the one with an index holds a place, and the next one starts behind that, or there is none.
-pub(crate) fn is_holder(functions: &[Function], index: usize, place: Place) -> bool
-    ensures { result ≡ is_one_holder functions.now index place }
-{
-    index < functions.len()
-        && in_function(&functions[index], place)
-        && is_behind(functions, index + 1, place)
+    let left = count_beyond(functions, outer, count, place.sec, u128::from(place.off));
+    if left > 0 { Some(left - 1) } else { None }
 }
 
 /// The index of the last function that holds a place.
@@ -86,7 +87,5 @@ pub(crate) fn find_holder(
     requires len { length outer.now ≡ length functions.now }
     ensures { MatchOption result ((k : ℕ) → k < length functions.now → in_function (function functions.now k) place ≡ false) (λ i. (i < length functions.now) × (in_function (function functions.now i) place ≡ true) × ((k : ℕ) → i < k → k < length functions.now → in_function (function functions.now k) place ≡ false)) }
 {
-    let count = count_near(functions, near, place);
-    let count = count_beyond(functions, outer, count, place.sec, u128::from(place.off));
-    if count > 0 { Some(count - 1) } else { None }
+    last_holder(functions, outer, count_near(functions, near, place), place)
 }

@@ -1,15 +1,16 @@
 //! The symbols of functions.
 
 ghost use Rattle.std.specs.Prelude.{◌≡◌, ◌<◌, ◌≤◌, None, length, IfOk, IfErr, OnOk};
-ghost use Rattle.elf_objects.specs.Contents.{section_at};
+ghost use Rattle.elf_objects.specs.Contents.{section_at, symbol_at};
+ghost use Rattle.elf_objects.specs.Lent.{lent_symbol};
 ghost use Rattle.symbols_relocs.specs.Functions.{first_bad, is_code as is_code_of, is_function as is_function_of, leaves_section as leaves_section_of, start_of as start_of_symbol};
 ghost use Rattle.symbols_relocs.specs.Faults.{Tells};
 ghost use Rattle.symbols_relocs.specs.Lists.{function_symbol as function_symbol_of, AreSymbols};
-ghost use Rattle.symbols_relocs.specs.Places.{is_text_home};
+ghost use Rattle.symbols_relocs.specs.Places.{home_section, is_text_home};
 
 use crate::fault::IndexFault;
 use crate::function::Function;
-use elf_objects::{Home, Object, STT_FUNC};
+use elf_objects::{Home, Object, STT_FUNC, Symbol};
 use ot_base::Place;
 use std::alloc::Global;
 
@@ -24,20 +25,17 @@ fn is_text_defined(object: &Object<'_>, home: Home) -> bool
 }
 
 /// Whether a symbol is of type `STT_FUNC` and defined in a text section.
-fn is_code(object: &Object<'_>, k: u32) -> bool
-    requires { k < length object.now.symbols }
+fn is_code(object: &Object<'_>, k: u32, symbol: &Symbol) -> bool
+    requires { lent_symbol (symbol_at object.now k).name symbol.now ≡ symbol_at object.now k }
     ensures { result ≡ is_code_of object.now k }
 {
-    let symbol = object.symbol(k);
     symbol.kind == STT_FUNC && is_text_defined(object, symbol.home)
 }
 
 /// The place of a symbol; in section 0, which is none, where it is defined in no section.
-pub(crate) fn start_of(object: &Object<'_>, k: u32) -> Place
-    requires { k < length object.now.symbols }
-    ensures { result ≡ start_of_symbol object.now k }
+fn place_of(symbol: &Symbol) -> Place
+    ensures { result ≡ record { sec = home_section symbol.now.home; off = symbol.now.value } }
 {
-    let symbol = object.symbol(k);
     let sec = match symbol.home {
         Home::Section(sec) => sec,
         Home::Undefined | Home::Absolute | Home::Common => 0,
@@ -46,6 +44,14 @@ pub(crate) fn start_of(object: &Object<'_>, k: u32) -> Place
         sec,
         off: symbol.value,
     }
+}
+
+/// The place of the symbol with a number.
+pub(crate) fn start_of(object: &Object<'_>, k: u32) -> Place
+    requires { k < length object.now.symbols }
+    ensures { result ≡ start_of_symbol object.now k }
+{
+    place_of(&object.symbol(k))
 }
 
 /// The size of a section in bytes, 0 where there is none with that index.
@@ -60,35 +66,41 @@ pub(crate) fn section_size(object: &Object<'_>, sec: u32) -> u64
 }
 
 /// Whether a symbol of code starts at its section's size or behind, or ends behind.
-fn leaves_section(object: &Object<'_>, k: u32) -> bool
-    requires { k < length object.now.symbols }
+fn leaves_section(object: &Object<'_>, k: u32, symbol: &Symbol) -> bool
+    requires { lent_symbol (symbol_at object.now k).name symbol.now ≡ symbol_at object.now k }
     ensures { result ≡ leaves_section_of object.now k }
 {
-    if !is_code(object, k) {
+    if !is_code(object, k, symbol) {
         return false;
     }
-    let symbol = object.symbol(k);
-    let start = start_of(object, k);
-    let size = section_size(object, start.sec);
+    let size = section_size(object, place_of(symbol).sec);
     symbol.value >= size || u128::from(symbol.value) + u128::from(symbol.size) > u128::from(size)
 }
 
-/// Whether a symbol is one of a function.
+/// Whether a symbol, which is given, is one of a function.
+fn stands_for_function(object: &Object<'_>, k: u32, symbol: &Symbol) -> bool
+    requires { lent_symbol (symbol_at object.now k).name symbol.now ≡ symbol_at object.now k }
+    ensures { result ≡ is_function_of object.now k }
+{
+    is_code(object, k, symbol) && symbol.size != 0
+}
+
+/// Whether the symbol with a number is one of a function.
 pub(crate) fn is_function(object: &Object<'_>, k: u32) -> bool
     requires { k < length object.now.symbols }
     ensures { result ≡ is_function_of object.now k }
 {
-    is_code(object, k) && object.symbol(k).size != 0
+    stands_for_function(object, k, &object.symbol(k))
 }
 
 /// What the symbol of a function says of it.
-fn function_symbol(object: &Object<'_>, k: u32) -> Function
-    requires { k < length object.now.symbols }
+fn function_symbol(object: &Object<'_>, k: u32, symbol: &Symbol) -> Function
+    requires { lent_symbol (symbol_at object.now k).name symbol.now ≡ symbol_at object.now k }
     ensures { result ≡ function_symbol_of object.now k }
 {
     Function {
-        start: start_of(object, k),
-        size: object.symbol(k).size,
+        start: place_of(symbol),
+        size: symbol.size,
         sym: k,
         parent: None,
     }
@@ -104,11 +116,12 @@ pub(crate) fn list_symbols(alloc: Global, object: &Object<'_>) -> Result<Vec<Fun
 {
     let mut list = Vec::new(alloc);
     for k in 0..object.symbols() {
-        if leaves_section(object, k) {
+        let symbol = object.symbol(k);
+        if leaves_section(object, k, &symbol) {
             return Err(IndexFault::Func { sym: k });
         }
-        if is_function(object, k) {
-            list.push(function_symbol(object, k))?;
+        if stands_for_function(object, k, &symbol) {
+            list.push(function_symbol(object, k, &symbol))?;
         }
     }
     Ok(list)

@@ -1,13 +1,14 @@
 //! The targets of direct calls and branches.
 
-ghost use Rattle.std.specs.Prelude.{◌≡◌, ◌<◌, ◌+ℤ◌, pos, length, bytes_eq};
+ghost use Rattle.std.specs.Prelude.{◌≡◌, ◌<◌, ◌+ℤ◌, pos, false, length, bytes_eq};
 ghost use Rattle.elf_objects.specs.Contents.{symbol_at};
+ghost use Rattle.elf_objects.specs.Lent.{lent_symbol};
 ghost use Rattle.symbols_relocs.specs.NamedPlaces.{offset_of};
 ghost use Rattle.symbols_relocs.specs.Places.{is_in_text as is_in_text_of};
 ghost use Rattle.symbols_relocs.specs.Targets.{either as either_at, inside as inside_at, is_branch_kind as is_branch_type, is_indirect_thunk as is_indirect_thunk_name, relative_target as relative_target_of, reloc_target as reloc_target_of, return_thunk, symbol_target as symbol_target_of};
 
 use crate::symbols::section_size;
-use elf_objects::{Home, Object, R_X86_64_PC32, R_X86_64_PLT32, Reloc, STB_WEAK};
+use elf_objects::{Home, Object, R_X86_64_PC32, R_X86_64_PLT32, Reloc, STB_WEAK, Symbol};
 use ot_base::Place;
 
 /// Where a direct call or branch goes.
@@ -31,8 +32,14 @@ pub enum Target {
 /// What the names of the thunks that jump to where a register points begin with.
 const INDIRECT_THUNK: &[u8] = b"__x86_indirect_thunk_";
 
+/// What of that tells them from the thunk that returns.
+const INDIRECT_START: &[u8] = b"__x86_i";
+
 /// The name of the thunk that returns.
 const RETURN_THUNK: &[u8] = b"__x86_return_thunk";
+
+/// What the names of all these thunks begin with, and few other names.
+const THUNK_START: &[u8] = b"__x";
 
 /// Whether a relocation of this type is one of a branch.
 fn is_branch_kind(kind: u32) -> bool
@@ -84,22 +91,20 @@ fn either(object: &Object<'_>, sym: u32, sec: u32, off: Option<u64>) -> Target
     }
 }
 
-/// The offset in its section of what a relocation names.
-fn symbol_offset(object: &Object<'_>, reloc: Reloc) -> Option<u64>
-    requires { reloc.sym < length object.now.symbols }
-    ensures { result ≡ offset_of (pos (symbol_at object.now reloc.sym).value +ℤ reloc.addend +ℤ pos 4) }
+/// The offset in its section of what a relocation names, whose symbol has this value.
+fn symbol_offset(value: u64, addend: i64) -> Option<u64>
+    ensures { result ≡ offset_of (pos value +ℤ addend +ℤ pos 4) }
 {
-    let symbol = object.symbol(reloc.sym);
-    offset(i128::from(symbol.value) + i128::from(reloc.addend) + 4)
+    offset(i128::from(value) + i128::from(addend) + 4)
 }
 
 /// The target at the symbol of a relocation, which is defined in a section.
-fn section_target(object: &Object<'_>, reloc: Reloc, sec: u32) -> Target
-    requires { reloc.sym < length object.now.symbols }
+fn section_target(object: &Object<'_>, reloc: Reloc, symbol: &Symbol, sec: u32) -> Target
+    requires { lent_symbol (symbol_at object.now reloc.sym).name symbol.now ≡ symbol_at object.now reloc.sym }
     ensures { result ≡ symbol_target_of object.now reloc (Home.Section sec) }
 {
-    let off = symbol_offset(object, reloc);
-    if object.symbol(reloc.sym).bind == STB_WEAK {
+    let off = symbol_offset(symbol.value, reloc.addend);
+    if symbol.bind == STB_WEAK {
         either(object, reloc.sym, sec, off)
     } else {
         inside(object, sec, off)
@@ -111,11 +116,21 @@ fn symbol_target(object: &Object<'_>, reloc: Reloc) -> Target
     requires { reloc.sym < length object.now.symbols }
     ensures { result ≡ symbol_target_of object.now reloc (symbol_at object.now reloc.sym).home }
 {
-    match object.symbol(reloc.sym).home {
+    let symbol = object.symbol(reloc.sym);
+    match symbol.home {
         Home::Undefined => Target::Outside(reloc.sym),
-        Home::Section(sec) => section_target(object, reloc, sec),
+        Home::Section(sec) => section_target(object, reloc, &symbol, sec),
         Home::Absolute | Home::Common => Target::Bad,
     }
+}
+
+/// Whether the name of a symbol may be that of a thunk, told by its first bytes.
+fn may_be_thunk(object: &Object<'_>, sym: u32) -> bool
+    requires { sym < length object.now.symbols }
+    ensures indirect { result ≡ false → is_indirect_thunk_name (symbol_at object.now sym).name ≡ false }
+    ensures returning { result ≡ false → bytes_eq (symbol_at object.now sym).name return_thunk ≡ false }
+{
+    object.symbol_name_begins(sym, THUNK_START)
 }
 
 /// Whether the name of a symbol is that of a thunk that jumps to where a register points.
@@ -123,7 +138,7 @@ fn is_indirect_thunk(object: &Object<'_>, sym: u32) -> bool
     requires { sym < length object.now.symbols }
     ensures { result ≡ is_indirect_thunk_name (symbol_at object.now sym).name }
 {
-    object.symbol_name_begins(sym, INDIRECT_THUNK)
+    object.symbol_name_begins(sym, INDIRECT_START) && object.symbol_name_begins(sym, INDIRECT_THUNK)
 }
 
 /// Whether the name of a symbol is that of the thunk that returns.
@@ -143,6 +158,8 @@ pub(crate) fn reloc_target(object: &Object<'_>, reloc: Reloc) -> Target
     } else if reloc.sym >= object.symbols() {
         // A symbol that isn't there is undefined.
         Target::Outside(reloc.sym)
+    } else if !may_be_thunk(object, reloc.sym) {
+        symbol_target(object, reloc)
     } else if is_indirect_thunk(object, reloc.sym) {
         Target::ThunkIndirect
     } else if is_return_thunk(object, reloc.sym) {

@@ -15,14 +15,15 @@ loop-n-preserved c =
     let o : Coded = c.args.linked.now in
     let items : List CodeOwner = c.args.items.now in
     let numbers : List ℕ = c.loop-n.numbers.items in
-    let number : ℕ = c.number_of-number.result in
+    let number : ℕ = c.span_with-span.result.number in
     let P : ℕ → ℕ → Type 0 = λ i k. TellsOwner o.elf items (address_of_point (alternatives_of o) (point_at o i)) k in
-    let at : P c.loop-n.n number = subst (λ (p : Place). TellsOwner o.elf items p number) c.address_of.ensures (subst (λ (e : Elf). TellsOwner e items c.address_of.result number) c.requires.object c.number_of-number.ensures) in
+    let at : P c.loop-n.n number = subst (λ (p : Place). TellsOwner o.elf items p number) c.address_of.ensures (subst (λ (e : Elf). TellsOwner e items c.address_of.result number) c.requires.object (c.span_with-span.ensures.tells c.address_of.result c.span_with-span.ensures.has)) in
     let here : P (length numbers) number = subst (λ (i : ℕ). P i number) (sym c.loop-n.invariant.long) at in
     record {
       long = omega (arith, c.in_ok-push.ensures.len, c.loop-n.invariant.long);
       each = subst (λ (xs : List ℕ). (i k : ℕ) → slice_get xs i ≡ Some k → P i k) (sym c.in_ok-push.ensures.items)
           (one_more P numbers number c.loop-n.invariant.each here);
+      tells = c.span_with-span.ensures.tells;
     }
 
 pub returns : goal.returns

@@ -1,12 +1,9 @@
 use Rattle.std.proofs.Common.{sym, ◌∙◌}
-use Rattle.symbols_relocs.proofs.Counted.{counted_behind, counted_to, counted_within}
+use Rattle.symbols_relocs.proofs.Counted.{behind_on, counted_to}
 use Rattle.symbols_relocs.proofs.order.count_near.Goals as goal
 
-pub returns-then-is_count-clause-within : goal.returns-then-is_count-clause-within
-returns-then-is_count-clause-within c = counted_within c.args.functions.now c.without_behind-count.result c.args.place (sym c.is_count.ensures ∙ c.if-is_count.true)
+pub returns-in-Some-clause-to : goal.returns-in-Some-clause-to
+returns-in-Some-clause-to c = counted_to c.args.functions.now c.in-Some.count c.args.place c.requires c.in-Some.ensures.0 c.in-Some.ensures.1
 
-pub returns-then-is_count-clause-to : goal.returns-then-is_count-clause-to
-returns-then-is_count-clause-to c = counted_to c.args.functions.now c.without_behind-count.result c.args.place c.requires (sym c.is_count.ensures ∙ c.if-is_count.true)
-
-pub returns-then-is_count-clause-behind : goal.returns-then-is_count-clause-behind
-returns-then-is_count-clause-behind c = counted_behind c.args.functions.now c.without_behind-count.result c.args.place c.requires (sym c.is_count.ensures ∙ c.if-is_count.true)
+pub returns-in-Some-clause-behind : goal.returns-in-Some-clause-behind
+returns-in-Some-clause-behind c = behind_on c.args.functions.now c.in-Some.count c.args.place c.requires (sym c.is_behind.ensures ∙ c.if-is_behind.true)

@@ -5,7 +5,7 @@ use Rattle.symbols_relocs.specs.Functions.{is_function, leaves_section}
 use Rattle.symbols_relocs.proofs.Least.{some-least_below}
 use Rattle.symbols_relocs.proofs.Listed.{one_more, no_more, as_bound, as_symbols}
 use Rattle.symbols_relocs.proofs.symbols.list_symbols.Goals as goal
-use Rattle.symbols_relocs.proofs.symbols.list_symbols.Goals.{then-is_function+in_ok-push, else-is_function}
+use Rattle.symbols_relocs.proofs.symbols.list_symbols.Goals.{then-stands_for_function+in_ok-push, else-stands_for_function}
 
 pub returns-then-leaves_section-clause-err : goal.returns-then-leaves_section-clause-err
 returns-then-leaves_section-clause-err c =
@@ -17,12 +17,12 @@ loop-k-preserved c =
     let o : Elf = c.args.object.now in
     let k : ℕ = c.loop-k.k in
     let stays : (j : ℕ) → j < k + 1 → leaves_section o j ≡ false = below_more (λ j. leaves_section o j ≡ false) k c.loop-k.invariant.1 (sym c.leaves_section.ensures ∙ c.if-leaves_section.false) in
-    elim c.if-is_function.branch [
-      | then-is_function+in_ok-push w ↦
-          let some : is_function o k ≡ true = sym c.is_function.ensures ∙ w.if-is_function.true in
+    elim c.if-stands_for_function.branch [
+      | then-stands_for_function+in_ok-push w ↦
+          let some : is_function o k ≡ true = sym c.stands_for_function.ensures ∙ w.if-stands_for_function.true in
           (as_symbols o (k + 1) _ _ (ap (λ l. l.items) w.list-is ∙ w.in_ok-push.ensures.items ∙ ap (λ f. c.loop-k.list.items ++ f ∷ []) w.function_symbol.ensures) (one_more o k c.loop-k.list.items c.loop-k.invariant.0 some), stays)
-      | else-is_function w ↦
-          let none : is_function o k ≡ false = sym c.is_function.ensures ∙ w.if-is_function.false in
+      | else-stands_for_function w ↦
+          let none : is_function o k ≡ false = sym c.stands_for_function.ensures ∙ w.if-stands_for_function.false in
           (as_symbols o (k + 1) _ _ (ap (λ l. l.items) w.list-is) (no_more o k c.loop-k.list.items c.loop-k.invariant.0 none), stays)
     ]
 
