@@ -1,7 +1,8 @@
 -- What bytes that were read before tell of bytes that are the same.
 use Rattle.std.specs.Prelude.{◌↔◌, slice_get}
-use Rattle.std.proofs.Common.{◌≡◌, ℕ, ◌+◌, ◌<◌, ◌≤◌, List, drop, length, get_or, Result, Ok, Err, Some, refl, sym, subst}
-use Rattle.std.proofs.lemmas.List.{get_or-drop}
+use Rattle.std.proofs.Common.{◌≡◌, ℕ, ◌+◌, ◌-◌, ◌<◌, ◌≤◌, List, ◌++◌, take, drop, length, length-drop, get_or, Result, Ok, Err, Some, refl, sym, ap, ◌∙◌, subst, arith}
+use Rattle.std.proofs.Math.Seq.{take-add}
+use Rattle.std.proofs.lemmas.List.{get_or-drop, take_all, take-take}
 use Rattle.operation_defs.specs.declared.insn.Insn.{Insn}
 use Rattle.x86_map.specs.declared.map.Map.{Map}
 use Rattle.x86_decode.specs.declared.DecodeFault.{DecodeFault}
@@ -46,3 +47,21 @@ pub refusal : (map : Map) (bytes : List ℕ) (why : DecodeFault) → ((seen : �
 refusal map bytes (Cut have) outside cut long = (cut have).0 refl
 refusal map bytes (Outside seen) outside cut long = (outside seen).0 refl
 refusal map bytes Long outside cut long = long.0 refl
+
+-- two chunks that overlap or meet
+pub two_chunks : (n len : ℕ) (xs ys : List ℕ) → n ≤ len → len ≤ n + n → take n xs ≡ take n ys → take n (drop (len - n) xs) ≡ take n (drop (len - n) ys) → take len xs ≡ take len ys
+two_chunks n len xs ys least most front back =
+    let parts : (zs : List ℕ) → take len zs ≡ take (len - n) (take n zs) ++ take n (drop (len - n) zs) = λ zs.
+    ap (λ m. take m zs) (omega arith)
+    ∙ take-add (len - n) n zs
+    ∙ ap (λ (ws : List ℕ). ws ++ take n (drop (len - n) zs)) (sym (take-take (len - n) n zs (omega arith))) in
+    parts xs
+    ∙ ap (λ (ws : List ℕ). take (len - n) ws ++ take n (drop (len - n) xs)) front
+    ∙ ap (λ (ws : List ℕ). take (len - n) (take n ys) ++ ws) back
+    ∙ sym (parts ys)
+
+-- where the second ones lie in what is left
+pub two_chunks_left : (n len : ℕ) (xs ys : List ℕ) → n ≤ len → len ≤ n + n → len ≤ length xs → len ≤ length ys → take n xs ≡ take n ys → take n (take (length xs - (len - n)) (drop (len - n) xs)) ≡ take n (take (length ys - (len - n)) (drop (len - n) ys)) → take len xs ≡ take len ys
+two_chunks_left n len xs ys least most in_xs in_ys front back =
+    two_chunks n len xs ys least most front
+    (ap (take n) (sym (take_all (length xs - (len - n)) (drop (len - n) xs) (simp length-drop (omega arith)))) ∙ back ∙ ap (take n) (take_all (length ys - (len - n)) (drop (len - n) ys) (simp length-drop (omega arith))))

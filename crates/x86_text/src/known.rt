@@ -14,7 +14,7 @@ use std::alloc::Global;
 use x86_decode::{Map, decode};
 
 /// How many places there are for hashes at most.
-const MOST: usize = 16_384;
+const MOST: usize = 32_768;
 
 /// Which instruction of a body was read last of those whose first bytes have a hash. It is a guess: what it tells is tried
 /// by comparison.
@@ -36,60 +36,109 @@ impl Recent {
         Ok(Recent { first, numbers })
     }
 
-    /// Where the number of an instruction that begins with these bytes is kept.
+    /// Where the number of an instruction with these first bytes is kept.
     #[inline(always)]
-    fn place_of(&self, bytes: &[u8]) -> usize {
-        hash_of_front(bytes) & self.numbers.len().wrapping_sub(1)
+    fn place_of(&self, front: u32) -> usize {
+        let hash = front.wrapping_mul(0x9E37_79B1) >> 17;
+        hash as usize & self.numbers.len().wrapping_sub(1)
     }
 
-    /// The number in the list of an instruction with the same bytes as the one at the offset, if one is known.
+    /// The number in the list of an instruction with the same bytes as the one at the offset, if one is known by its first
+    /// three, two or four bytes.
     #[inline(always)]
     fn find(&self, body: &[u8], off: usize, offsets: &[u32], insns: &InsnList) -> Option<usize>
         requires { off ≤ length body.now }
         ensures { IfSome result (IsAlike body.now off self.now.first offsets.now insns.now) }
     {
-        let number = *self.numbers.get(self.place_of(&body[off..]))? as usize;
+        let front = front_of(&body[off..])?;
+        let by_three = self.find_by(front << 8, body, off, offsets, insns);
+        if by_three.is_some() {
+            return by_three;
+        }
+        let by_two = self.find_by(front << 16, body, off, offsets, insns);
+        if by_two.is_some() {
+            return by_two;
+        }
+        self.find_by(front, body, off, offsets, insns)
+    }
+
+    /// The number in the list of an instruction with the same bytes as the one at the offset, if one is known by these.
+    #[inline(always)]
+    fn find_by(
+        &self,
+        front: u32,
+        body: &[u8],
+        off: usize,
+        offsets: &[u32],
+        insns: &InsnList,
+    ) -> Option<usize>
+        requires { off ≤ length body.now }
+        ensures { IfSome result (IsAlike body.now off self.now.first offsets.now insns.now) }
+    {
+        let number = *self.numbers.get(self.place_of(front))? as usize;
         let at = *offsets.get(number)? as usize;
         let n = self.first.checked_add(number)?;
-        if n < insns.len() && is_repeated(body, at, off, insns.get(n).len as usize) {
-            Some(n)
-        } else {
-            None
+        if at > body.len() || n >= insns.len() {
+            return None;
         }
+        let len = insns.get(n).len as usize;
+        begin_alike(&body[at..], &body[off..], len).then_some(n)
     }
 
-    /// Keeps the number of the instruction that begins with these bytes, if it has one.
-    fn note(&mut self, bytes: &[u8], number: usize)
+    /// Keeps the number of the instruction that begins with these bytes, if there is room for it.
+    fn note(&mut self, bytes: &[u8], number: u32)
         ensures { self.new.first ≡ self.old.first }
     {
-        let place = self.place_of(bytes);
-        if place < self.numbers.len() && number <= u32::MAX as usize {
-            self.numbers[place] = number as u32;
+        if let Some(front) = front_of(bytes) {
+            self.note_by(front << 8, number);
+            self.note_by(front << 16, number);
+            self.note_by(front, number);
+        }
+    }
+
+    /// Keeps the number of the instruction with these first bytes, if there is room for it.
+    fn note_by(&mut self, front: u32, number: u32)
+        ensures { self.new.first ≡ self.old.first }
+    {
+        let place = self.place_of(front);
+        if place < self.numbers.len() {
+            self.numbers[place] = number;
         }
     }
 }
 
-/// A hash of the first three bytes of at least four, below 16,384.
+/// The first four bytes: the first of them is the lowest of the number.
 #[inline(always)]
-fn hash_of_front(bytes: &[u8]) -> usize {
-    match bytes.first_chunk::<4>() {
-        Some(front) => {
-            let three = u32::from_le_bytes(*front) << 8;
-            (three.wrapping_mul(0x9E37_79B1) >> 18) as usize
-        }
-        None => 0,
-    }
+fn front_of(bytes: &[u8]) -> Option<u32> {
+    let front = bytes.first_chunk::<4>()?;
+    Some(u32::from_le_bytes(*front))
 }
 
-/// Whether the bytes at two offsets are the same ones, so many of them.
+/// Whether two slices begin with the same chunk.
 #[inline(always)]
-fn is_repeated(body: &[u8], at: usize, off: usize, len: usize) -> bool
-    ensures { result ≡ true → take len (drop at body.now) ≡ take len (drop off body.now) }
+fn is_same_chunk<const N: usize>(a: &[u8], b: &[u8]) -> bool
+    requires { N ≤ 16 }
+    ensures { result ≡ true → take N a.now ≡ take N b.now }
 {
-    if at > body.len() || off > body.len() || len > body.len() - at || len > body.len() - off {
+    match (a.first_chunk::<N>(), b.first_chunk::<N>()) {
+        (Some(one), Some(other)) => *one == *other,
+        _ => false,
+    }
+}
+
+/// Whether two slices begin with the same bytes, so many of them. Most instructions have 4 to 8: two chunks that overlap.
+#[inline(always)]
+fn begin_alike(a: &[u8], b: &[u8], len: usize) -> bool
+    ensures { result ≡ true → take len a.now ≡ take len b.now }
+{
+    if len > a.len() || len > b.len() {
         return false;
     }
-    body[at..at + len] == body[off..off + len]
+    match len {
+        4..=8 => is_same_chunk::<4>(a, b) && is_same_chunk::<4>(&a[len - 4..], &b[len - 4..]),
+        9..=16 => is_same_chunk::<8>(a, b) && is_same_chunk::<8>(&a[len - 8..], &b[len - 8..]),
+        _ => a[..len] == b[..len],
+    }
 }
 
 /// Reads the instruction at a boundary of a body, behind those that begin at the offsets, and adds it to the list behind
@@ -117,7 +166,9 @@ pub(crate) fn read_insn(
     match decode(map, bytes) {
         Ok(insn) => {
             insns.push(insn)?;
-            recent.note(bytes, offsets.len());
+            if let Ok(number) = u32::try_from(offsets.len()) {
+                recent.note(bytes, number);
+            }
             Ok(insn)
         }
         Err(why) => {
