@@ -1,8 +1,11 @@
 -- What bytes that were read before tell of bytes that are the same.
 use Rattle.std.specs.Prelude.{◌↔◌, slice_get}
-use Rattle.std.proofs.Common.{◌≡◌, ℕ, ◌+◌, ◌-◌, ◌<◌, ◌≤◌, List, ◌++◌, take, drop, length, length-drop, get_or, Result, Ok, Err, Some, refl, sym, ap, ◌∙◌, subst, arith}
+use Rattle.std.proofs.Common.{◌≡◌, ℕ, ◌+◌, ◌-◌, ◌<◌, ◌≤◌, List, ◌++◌, take, drop, length, length-drop, get_or, Result, Ok, Err, Some, inl, inr, refl, sym, ap, ◌∙◌, subst, arith}
 use Rattle.std.proofs.Math.Seq.{take-add}
-use Rattle.std.proofs.lemmas.List.{get_or-drop, take_all, take-take}
+use Rattle.std.specs.Int.{w64, from_le_bytes, to_le_bytes}
+use Rattle.std.proofs.lemmas.Bool.{cases_lt}
+use Rattle.std.proofs.lemmas.Nat.{le_bytes_8}
+use Rattle.std.proofs.lemmas.List.{get_or-drop, get_or-take, get_or_past, length-take, take_all, take-take}
 use Rattle.operation_defs.specs.declared.insn.Insn.{Insn}
 use Rattle.x86_map.specs.declared.map.Map.{Map}
 use Rattle.x86_decode.specs.declared.DecodeFault.{DecodeFault}
@@ -19,9 +22,9 @@ module _ (bytes : List ℕ) (off : ℕ) (each : (k : ℕ) → get_or bytes k 0 <
   still_bytes = bytes_from_each (drop off bytes) (λ k. subst (λ b. b < 256) (sym (get_or-drop off bytes k 0)) (each (off + k)))
 
   -- the instruction of the same bytes is decoded
-  pub alike_decoded : (map : Map) (first : ℕ) (offsets : List ℕ) (insns : List Insn) (n : ℕ) (insn : Insn) → AreRead (read_by map bytes) first offsets insns → IsAlike bytes off first offsets insns n → slice_get insns n ≡ Some insn → decoded map (drop off bytes) ≡ Ok insn
-  alike_decoded map first offsets insns n insn read alike told =
-      let there = read alike.number insn alike.among (subst (λ m. slice_get insns m ≡ Some insn) alike.is told) in
+  pub alike_decoded : (map : Map) (offsets : List ℕ) (insns : List Insn) (n : ℕ) (insn : Insn) → AreRead (read_by map bytes) offsets insns → IsAlike bytes off offsets insns n → slice_get insns n ≡ Some insn → decoded map (drop off bytes) ≡ Ok insn
+  alike_decoded map offsets insns n insn read alike told =
+      let there = read alike.k insn alike.among (subst (λ m. slice_get insns m ≡ Some insn) alike.is told) in
       let here : StandsInFront map (drop off bytes) insn = (there.0, subst (λ front. Spells map front insn) (alike.same insn told) there.1) in
       (decides map (drop off bytes) still_bytes (decoded map (drop off bytes)) (Ok insn) refl).1 here
 
@@ -65,3 +68,16 @@ pub two_chunks_left : (n len : ℕ) (xs ys : List ℕ) → n ≤ len → len ≤
 two_chunks_left n len xs ys least most in_xs in_ys front back =
     two_chunks n len xs ys least most front
     (ap (take n) (sym (take_all (length xs - (len - n)) (drop (len - n) xs) (simp length-drop (omega arith)))) ∙ back ∙ ap (take n) (take_all (length ys - (len - n)) (drop (len - n) ys) (simp length-drop (omega arith))))
+
+-- the bytes of eight that make one number
+pub same_eight : (xs ys : List ℕ) (n m : ℕ) → 8 ≤ length xs → 8 ≤ length ys → ((k : ℕ) → get_or xs k 0 < 256) → ((k : ℕ) → get_or ys k 0 < 256) → n ≡ from_le_bytes w64 (take 8 xs) → m ≡ from_le_bytes w64 (take 8 ys) → n ≡ m → take 8 xs ≡ take 8 ys
+same_eight xs ys n m some_xs some_ys each_xs each_ys is_n is_m same =
+    sym (le_bytes_8 (take 8 xs) n (omega (arith, length-take 8 xs)) (still_each xs each_xs) is_n)
+    ∙ ap (to_le_bytes w64) same
+    ∙ le_bytes_8 (take 8 ys) m (omega (arith, length-take 8 ys)) (still_each ys each_ys) is_m
+  where
+    still_each : (zs : List ℕ) → ((k : ℕ) → get_or zs k 0 < 256) → (k : ℕ) → get_or (take 8 zs) k 0 < 256
+    still_each zs each k = elim (cases_lt k 8) [
+      | inl less ↦ subst (λ b. b < 256) (sym (get_or-take 8 zs k 0 less)) (each k)
+      | inr past ↦ subst (λ b. b < 256) (sym (get_or_past (take 8 zs) k 0 (omega (arith, length-take 8 zs)))) (omega arith)
+    ]

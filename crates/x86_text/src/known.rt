@@ -1,6 +1,6 @@
 //! Reading instructions, where equal bytes were read before.
 
-ghost use Rattle.std.specs.Prelude.{◌≡◌, ◌++◌, ◌∷◌, [], ◌<◌, ◌≤◌, true, Ok, IfErr, IfOk, IfSome, length, drop, take};
+ghost use Rattle.std.specs.Prelude.{◌≡◌, ◌+◌, ◌++◌, ◌∷◌, [], ◌<◌, ◌≤◌, true, Ok, IfErr, IfOk, IfSome, length, drop, take};
 ghost use Rattle.x86_decode.specs.Decoding.{decoded};
 ghost use Rattle.x86_text.specs.Code.{read_by, IsBoundary};
 ghost use Rattle.x86_text.specs.Known.{AreRead, IsAlike};
@@ -20,20 +20,16 @@ const MOST: usize = 32_768;
 /// by comparison.
 #[derive(Drop)]
 pub(crate) struct Recent {
-    /// The number that the body's first instruction has in the list to which they are added.
-    first: usize,
     /// For each hash, the instruction's number among those of the body. Their count is a power of two.
     numbers: Vec<u32>,
 }
 
 impl Recent {
-    /// Room for the hashes of a body of so many bytes, whose instructions are added to a list of so many.
-    pub(crate) fn new(alloc: Global, size: usize, first: usize) -> Result<Recent, NoMemory>
-        ensures { IfOk result (λ recent. recent.first ≡ first) }
-    {
+    /// Room for the hashes of a body of so many bytes.
+    pub(crate) fn new(alloc: Global, size: usize) -> Result<Recent, NoMemory> {
         let places = (size / 4).clamp(1, MOST).next_power_of_two();
         let numbers = vec![in alloc; 0; places]?;
-        Ok(Recent { first, numbers })
+        Ok(Recent { numbers })
     }
 
     /// Where the number of an instruction with these first bytes is kept.
@@ -47,48 +43,55 @@ impl Recent {
     /// three, two or four bytes.
     #[inline(always)]
     fn find(&self, body: &[u8], off: usize, offsets: &[u32], insns: &InsnList) -> Option<usize>
-        requires { off ≤ length body.now }
-        ensures { IfSome result (IsAlike body.now off self.now.first offsets.now insns.now) }
+        requires inside { off ≤ length body.now }
+        requires all { length offsets.now ≤ length insns.now }
+        ensures { IfSome result (IsAlike body.now off offsets.now insns.now) }
     {
-        let front = front_of(&body[off..])?;
-        let by_three = self.find_by(front << 8, body, off, offsets, insns);
+        let by_three = self.find_by(8, body, off, offsets, insns);
         if by_three.is_some() {
             return by_three;
         }
-        let by_two = self.find_by(front << 16, body, off, offsets, insns);
+        let by_two = self.find_by(16, body, off, offsets, insns);
         if by_two.is_some() {
             return by_two;
         }
-        self.find_by(front, body, off, offsets, insns)
+        self.find_by(0, body, off, offsets, insns)
     }
 
-    /// The number in the list of an instruction with the same bytes as the one at the offset, if one is known by these.
+    /// The number in the list of an instruction with the same bytes as the one at the offset, if one is known by its first
+    /// four bytes without so many bits.
     #[inline(always)]
     fn find_by(
         &self,
-        front: u32,
+        bits: u32,
         body: &[u8],
         off: usize,
         offsets: &[u32],
         insns: &InsnList,
     ) -> Option<usize>
-        requires { off ≤ length body.now }
-        ensures { IfSome result (IsAlike body.now off self.now.first offsets.now insns.now) }
+        requires bits { bits < 32 }
+        requires inside { off ≤ length body.now }
+        requires all { length offsets.now ≤ length insns.now }
+        ensures { IfSome result (IsAlike body.now off offsets.now insns.now) }
     {
+        let here = &body[off..];
+        let front = front_of(here)? << bits;
         let number = *self.numbers.get(self.place_of(front))? as usize;
         let at = *offsets.get(number)? as usize;
-        let n = self.first.checked_add(number)?;
-        if at > body.len() || n >= insns.len() {
+        if at > body.len() {
             return None;
         }
+        let there = &body[at..];
+        if front_of(there)? << bits != front {
+            return None;
+        }
+        let n = insns.len() - (offsets.len() - number);
         let len = insns.get(n).len as usize;
-        begin_alike(&body[at..], &body[off..], len).then_some(n)
+        begin_alike(there, here, len).then_some(n)
     }
 
     /// Keeps the number of the instruction that begins with these bytes, if there is room for it.
-    fn note(&mut self, bytes: &[u8], number: u32)
-        ensures { self.new.first ≡ self.old.first }
-    {
+    fn note(&mut self, bytes: &[u8], number: u32) {
         if let Some(front) = front_of(bytes) {
             self.note_by(front << 8, number);
             self.note_by(front << 16, number);
@@ -97,9 +100,7 @@ impl Recent {
     }
 
     /// Keeps the number of the instruction with these first bytes, if there is room for it.
-    fn note_by(&mut self, front: u32, number: u32)
-        ensures { self.new.first ≡ self.old.first }
-    {
+    fn note_by(&mut self, front: u32, number: u32) {
         let place = self.place_of(front);
         if place < self.numbers.len() {
             self.numbers[place] = number;
@@ -114,19 +115,29 @@ fn front_of(bytes: &[u8]) -> Option<u32> {
     Some(u32::from_le_bytes(*front))
 }
 
-/// Whether two slices begin with the same chunk.
+/// Whether two slices begin with the same four bytes.
 #[inline(always)]
-fn is_same_chunk<const N: usize>(a: &[u8], b: &[u8]) -> bool
-    requires { N ≤ 16 }
-    ensures { result ≡ true → take N a.now ≡ take N b.now }
+fn begin_with_four(a: &[u8], b: &[u8]) -> bool
+    ensures { result ≡ true → take 4 a.now ≡ take 4 b.now }
 {
-    match (a.first_chunk::<N>(), b.first_chunk::<N>()) {
-        (Some(one), Some(other)) => *one == *other,
+    match (a.first_chunk::<4>(), b.first_chunk::<4>()) {
+        (Some(one), Some(other)) => u32::from_le_bytes(*one) == u32::from_le_bytes(*other),
         _ => false,
     }
 }
 
-/// Whether two slices begin with the same bytes, so many of them. Most instructions have 4 to 8: two chunks that overlap.
+/// Whether two slices begin with the same eight bytes.
+#[inline(always)]
+fn begin_with_eight(a: &[u8], b: &[u8]) -> bool
+    ensures { result ≡ true → take 8 a.now ≡ take 8 b.now }
+{
+    match (a.first_chunk::<8>(), b.first_chunk::<8>()) {
+        (Some(one), Some(other)) => u64::from_le_bytes(*one) == u64::from_le_bytes(*other),
+        _ => false,
+    }
+}
+
+/// Whether two slices begin with the same bytes, so many of them: from 4 to 16 in two parts that meet or overlap.
 #[inline(always)]
 fn begin_alike(a: &[u8], b: &[u8], len: usize) -> bool
     ensures { result ≡ true → take len a.now ≡ take len b.now }
@@ -135,14 +146,14 @@ fn begin_alike(a: &[u8], b: &[u8], len: usize) -> bool
         return false;
     }
     match len {
-        4..=8 => is_same_chunk::<4>(a, b) && is_same_chunk::<4>(&a[len - 4..], &b[len - 4..]),
-        9..=16 => is_same_chunk::<8>(a, b) && is_same_chunk::<8>(&a[len - 8..], &b[len - 8..]),
+        4..=8 => begin_with_four(a, b) && begin_with_four(&a[len - 4..], &b[len - 4..]),
+        9..=16 => begin_with_eight(a, b) && begin_with_eight(&a[len - 8..], &b[len - 8..]),
         _ => a[..len] == b[..len],
     }
 }
 
-/// Reads the instruction at a boundary of a body, behind those that begin at the offsets, and adds it to the list behind
-/// them. It is the one that `decode` gives.
+/// Reads the instruction at a boundary of a body, and adds it to a list, in which the last ones are those of the body that
+/// begin at the offsets. It is the one that `decode` gives.
 pub(crate) fn read_insn(
     map: Map,
     body: &[u8],
@@ -153,11 +164,11 @@ pub(crate) fn read_insn(
 ) -> Result<Insn, TextFault>
     requires boundary { IsBoundary (read_by map body.now) off }
     requires inside { off < length body.now }
-    requires read { AreRead (read_by map body.now) recent.old.first offsets.now insns.old }
+    requires read { AreRead (read_by map body.now) offsets.now insns.old }
+    requires all { length offsets.now ≤ length insns.old }
     ensures insn { IfOk result (λ insn. decoded map (drop off body.now) ≡ Ok insn) }
     ensures added { IfOk result (λ insn. insns.new ≡ insns.old ++ insn ∷ []) }
     ensures fault { IfErr result (IsTextFault (read_by map body.now)) }
-    ensures first { recent.new.first ≡ recent.old.first }
 {
     if let Some(n) = recent.find(body, off, offsets, insns) {
         return Ok(insns.push_again(n)?);

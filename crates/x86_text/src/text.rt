@@ -54,7 +54,7 @@ impl<'a> Text<'a> {
     {
         let mut offsets = Vec::new(alloc);
         let mut table_jumps = Vec::new(alloc);
-        let mut recent = Recent::new(alloc, body.len(), insns.len())?;
+        let mut recent = Recent::new(alloc, body.len())?;
         let mut off = 0usize;
         while off < body.len() {
             let insn = read_insn(map, body, off, &mut recent, &offsets, insns)?;

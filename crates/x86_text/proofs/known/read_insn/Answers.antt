@@ -6,7 +6,7 @@ use Rattle.x86_text.proofs.KnownLemmas.{alike_decoded, refusal}
 use Rattle.x86_text.proofs.known.read_insn.Goals as goal
 
 pub returns-in-Some-clause-insn : goal.returns-in-Some-clause-insn
-returns-in-Some-clause-insn c = alike_decoded c.args.body.now c.args.off (λ k. omega (arith, c.type_inv.body k)) c.args.map c.args.recent.now.first c.args.offsets.now c.args.insns.now c.in-Some.n c.in_ok-push_again.field-0 c.requires.read c.in-Some.ensures c.in_ok-push_again.ensures.0
+returns-in-Some-clause-insn c = alike_decoded c.args.body.now c.args.off (λ k. omega (arith, c.type_inv.body k)) c.args.map c.args.offsets.now c.args.insns.now c.in-Some.n c.in_ok-push_again.field-0 c.requires.read c.in-Some.ensures c.in_ok-push_again.ensures.0
 
 pub returns-in-Err-clause-fault : goal.returns-in-Err-clause-fault
 returns-in-Err-clause-fault c =
