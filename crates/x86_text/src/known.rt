@@ -1,6 +1,6 @@
 //! Reading instructions, where equal bytes were read before.
 
-ghost use Rattle.std.specs.Prelude.{◌≡◌, ◌+◌, ◌++◌, ◌∷◌, [], ◌<◌, ◌≤◌, true, Ok, IfErr, IfOk, IfSome, length, drop, take};
+ghost use Rattle.std.specs.Prelude.{◌≡◌, ◌++◌, ◌∷◌, [], ◌<◌, ◌≤◌, true, Ok, IfErr, IfOk, IfSome, length, drop, take};
 ghost use Rattle.x86_decode.specs.Decoding.{decoded};
 ghost use Rattle.x86_text.specs.Code.{read_by, IsBoundary};
 ghost use Rattle.x86_text.specs.Known.{AreRead, IsAlike};
