@@ -22,6 +22,7 @@ pub(crate) struct Blocks {
 
 impl Blocks {
     /// Counts a place, which comes behind so many others.
+    #[inline(always)]
     fn count(&mut self, place: Place, others: u32) -> Result<(), NoMemory>
         requires { others + 1 < 2 ^ 32 }
     {
@@ -38,6 +39,7 @@ impl Blocks {
     }
 
     /// The blocks of points that ascend by place.
+    #[inline(never)]
     pub(crate) fn of_points(alloc: Global, points: &[StoredPoint]) -> Result<Blocks, NoMemory>
         requires { length points.now < 2 ^ 32 }
     {

@@ -1,65 +1,83 @@
--- What instructions of one byte tell of bytes that begin with it.
-use Rattle.std.specs.Prelude.{◌↔◌, Result}
-use Rattle.std.proofs.Common.{◌≡◌, ℕ, zero, suc, Bool, false, ◌==◌, ◌<◌, ◌≤◌, List, [], ◌∷◌, Option, Some, None, length, get_or, set, replicate, take, Ok, arith, inl, inr, refl, sym, ap, ◌∙◌, subst}
-use Rattle.std.proofs.lemmas.Bool.{cases_eq, cases_lt, false≢true}
-use Rattle.std.proofs.lemmas.List.{get_or_past, get_or-replicate, get_or-set_other, get_or-set_same, length-replicate}
+-- What bytes that were read before tell of bytes that are the same.
+use Rattle.std.specs.Prelude.{◌↔◌, slice_get}
+use Rattle.std.proofs.Common.{◌≡◌, ℕ, ◌+◌, ◌-◌, ◌<◌, ◌≤◌, List, ◌++◌, take, drop, length, length-drop, get_or, Result, Ok, Err, Some, inl, inr, refl, sym, ap, ◌∙◌, subst, arith}
+use Rattle.std.proofs.Math.Seq.{take-add}
+use Rattle.std.specs.Int.{w64, from_le_bytes, to_le_bytes}
+use Rattle.std.proofs.lemmas.Bool.{cases_lt}
+use Rattle.std.proofs.lemmas.Nat.{le_bytes_8}
+use Rattle.std.proofs.lemmas.List.{get_or-drop, get_or-take, get_or_past, length-take, take_all, take-take}
 use Rattle.operation_defs.specs.declared.insn.Insn.{Insn}
 use Rattle.x86_map.specs.declared.map.Map.{Map}
 use Rattle.x86_decode.specs.declared.DecodeFault.{DecodeFault}
-use Rattle.x86_decode.specs.Decoding.{Outcome, StandsInFront, decoded}
+use Rattle.x86_decode.specs.declared.DecodeFault.TheVariants.{Cut, Outside, Long}
+use Rattle.x86_decode.specs.Decoding.{Outcome, StandsInFront, EndsOutside, IsCut, IsTooLong, decoded}
 use Rattle.x86_decode.specs.Spelling.{Spells}
 use Rattle.x86_decode.proofs.Decided.{bytes_from_each, decides, lengths, outcome}
-use Rattle.x86_text.specs.Known.{AreKnown}
+use Rattle.x86_decode.proofs.Languages.{IsBytes}
+use Rattle.x86_text.specs.Code.{read_by}
+use Rattle.x86_text.specs.Known.{AreRead, IsAlike}
 
-abbrev pub no_insn : Option Insn
-no_insn = None
+module _ (bytes : List ℕ) (off : ℕ) (each : (k : ℕ) → get_or bytes k 0 < 256) where
+  still_bytes : IsBytes (drop off bytes)
+  still_bytes = bytes_from_each (drop off bytes) (λ k. subst (λ b. b < 256) (sym (get_or-drop off bytes k 0)) (each (off + k)))
 
-nothing_at : (n b : ℕ) → get_or (replicate n no_insn) b None ≡ None
-nothing_at n b = elim (cases_lt b n) [
-  | inl less ↦ get_or-replicate n b no_insn None less
-  | inr past ↦ get_or_past (replicate n no_insn) b None (omega (arith, length-replicate n no_insn))
-]
+  -- the instruction of the same bytes is decoded
+  pub alike_decoded : (map : Map) (offsets : List ℕ) (insns : List Insn) (n : ℕ) (insn : Insn) → AreRead (read_by map bytes) offsets insns → IsAlike bytes off offsets insns n → slice_get insns n ≡ Some insn → decoded map (drop off bytes) ≡ Ok insn
+  alike_decoded map offsets insns n insn read alike told =
+      let there = read alike.k insn alike.among (subst (λ m. slice_get insns m ≡ Some insn) alike.is told) in
+      let here : StandsInFront map (drop off bytes) insn = (there.0, subst (λ front. Spells map front insn) (alike.same insn told) there.1) in
+      (decides map (drop off bytes) still_bytes (decoded map (drop off bytes)) (Ok insn) refl).1 here
 
--- where nothing is known
-pub nothing_known : (map : Map) (n : ℕ) → AreKnown map (replicate n no_insn)
-nothing_known map n = λ b insn is. absurd (let none : None ≡ Some insn = sym (nothing_at n b) ∙ is in let z : ⊥ = cc in z)
+  module _ (map : Map) (insn : Insn) (is : decoded map (drop off bytes) ≡ Ok insn) where
+    same_ok : (a b : Insn) → (let r : Result Insn DecodeFault = Ok b in r ≡ Ok a) → a ≡ b
+    same_ok a b e = cc
 
--- bytes of which it is told that there are some
-pub some_bytes : (n : ℕ) (none : Bool) → none ≡ (n == 0) → none ≡ false → 0 < n
-some_bytes zero none is not = absurd (false≢true (sym not ∙ is))
-some_bytes (suc n) none is not = omega arith
+    -- what is decoded stands in front, and nothing else
+    pub decoded_stands : StandsInFront map (drop off bytes) insn
+    decoded_stands = subst (Outcome map (drop off bytes)) is (outcome map (drop off bytes) still_bytes)
 
-take_first : (bytes : List ℕ) (b : ℕ) → 0 < length bytes → b ≡ get_or bytes 0 0 → take 1 bytes ≡ b ∷ []
-take_first [] b some is = absurd (omega arith)
-take_first (x ∷ bytes) b some is = ap (λ y. y ∷ []) (sym is)
+    pub decoded_only : (other : Insn) → StandsInFront map (drop off bytes) other → other ≡ insn
+    decoded_only other also = same_ok other insn ((decides map (drop off bytes) still_bytes (Ok insn) (Ok other) (sym is)).1 also)
 
--- the instruction that has the first byte alone stands in front
-known_stands : (map : Map) (bytes : List ℕ) (b : ℕ) (insn : Insn) → 0 < length bytes → b ≡ get_or bytes 0 0 → (insn.len ≡ 1) × Spells map (b ∷ []) insn → StandsInFront map bytes insn
-known_stands map bytes b insn some is known = (
-  omega (arith, known.0),
-  subst (λ front. Spells map front insn) (sym (ap (λ n. take n bytes) known.0 ∙ take_first bytes b some is)) known.1,
-)
+    pub decoded_lengths : (0 < insn.len) × (insn.len ≤ 15) × (insn.len ≤ length (drop off bytes))
+    decoded_lengths = lengths map (drop off bytes) (Ok insn) decoded_stands
 
-pub known_decoded : (map : Map) (bytes : List ℕ) (b : ℕ) (insn : Insn) → ((k : ℕ) → get_or bytes k 0 < 256) → 0 < length bytes → b ≡ get_or bytes 0 0 → (insn.len ≡ 1) × Spells map (b ∷ []) insn → decoded map bytes ≡ Ok insn
-known_decoded map bytes b insn each some is known = (decides map bytes (bytes_from_each bytes each) (decoded map bytes) (Ok insn) refl).1 (known_stands map bytes b insn some is known)
+abbrev failed : DecodeFault → Result Insn DecodeFault
+failed why = Err why
 
--- an instruction of one byte that stands in front is spelled by it
-spelled_by_first : (map : Map) (bytes : List ℕ) (b : ℕ) (insn : Insn) → 0 < length bytes → b ≡ get_or bytes 0 0 → insn.len ≡ 1 → StandsInFront map bytes insn → (insn.len ≡ 1) × Spells map (b ∷ []) insn
-spelled_by_first map bytes b insn some is one stands = (one, subst (λ front. Spells map front insn) (ap (λ n. take n bytes) one ∙ take_first bytes b some is) stands.1)
+-- what a refusal says, from what decoding ensures of each
+pub refusal : (map : Map) (bytes : List ℕ) (why : DecodeFault) → ((seen : ℕ) → (failed why ≡ failed (Outside seen)) ↔ EndsOutside map bytes seen) → ((have : ℕ) → (failed why ≡ failed (Cut have)) ↔ IsCut map bytes have) → ((failed why ≡ failed Long) ↔ IsTooLong map bytes) → Outcome map bytes (Err why)
+refusal map bytes (Cut have) outside cut long = (cut have).0 refl
+refusal map bytes (Outside seen) outside cut long = (outside seen).0 refl
+refusal map bytes Long outside cut long = long.0 refl
 
--- and is known from then on
-pub known_more : (map : Map) (known : List (Option Insn)) (bytes : List ℕ) (b : ℕ) (insn : Insn) → AreKnown map known → b < length known → 0 < length bytes → b ≡ get_or bytes 0 0 → insn.len ≡ 1 → StandsInFront map bytes insn → AreKnown map (set known b (Some insn))
-known_more map known bytes b insn are inside some is one stands = λ k other at. elim (cases_eq k b) [
-  | inl same ↦
-      let here : Some insn ≡ Some other = sym (get_or-set_same known b (Some insn) None inside) ∙ (ap (λ (i : ℕ). get_or (set known b (Some insn)) i None) (sym same) ∙ at) in
-      let equal : insn ≡ other = cc in
-      subst (λ (i : Insn). (i.len ≡ 1) × Spells map (k ∷ []) i) equal (subst (λ (n : ℕ). (insn.len ≡ 1) × Spells map (n ∷ []) insn) (sym same) (spelled_by_first map bytes b insn some is one stands))
-  | inr different ↦ are k other (sym (get_or-set_other known b k (Some insn) None different) ∙ at)
-]
+-- two chunks that overlap or meet
+pub two_chunks : (n len : ℕ) (xs ys : List ℕ) → n ≤ len → len ≤ n + n → take n xs ≡ take n ys → take n (drop (len - n) xs) ≡ take n (drop (len - n) ys) → take len xs ≡ take len ys
+two_chunks n len xs ys least most front back =
+    let parts : (zs : List ℕ) → take len zs ≡ take (len - n) (take n zs) ++ take n (drop (len - n) zs) = λ zs.
+    ap (λ m. take m zs) (omega arith)
+    ∙ take-add (len - n) n zs
+    ∙ ap (λ (ws : List ℕ). ws ++ take n (drop (len - n) zs)) (sym (take-take (len - n) n zs (omega arith))) in
+    parts xs
+    ∙ ap (λ (ws : List ℕ). take (len - n) ws ++ take n (drop (len - n) xs)) front
+    ∙ ap (λ (ws : List ℕ). take (len - n) (take n ys) ++ ws) back
+    ∙ sym (parts ys)
 
--- what decoding gives is r exactly where what r says is so
-pub known_is : (map : Map) (bytes : List ℕ) (r : Result Insn DecodeFault) → ((k : ℕ) → get_or bytes k 0 < 256) → (insn : Insn) → decoded map bytes ≡ Ok insn → (let found : Result Insn DecodeFault = Ok insn in found ≡ r) ↔ Outcome map bytes r
-known_is map bytes r each insn is = decides map bytes (bytes_from_each bytes each) (Ok insn) r (sym is)
+-- where the second ones lie in what is left
+pub two_chunks_left : (n len : ℕ) (xs ys : List ℕ) → n ≤ len → len ≤ n + n → len ≤ length xs → len ≤ length ys → take n xs ≡ take n ys → take n (take (length xs - (len - n)) (drop (len - n) xs)) ≡ take n (take (length ys - (len - n)) (drop (len - n) ys)) → take len xs ≡ take len ys
+two_chunks_left n len xs ys least most in_xs in_ys front back =
+    two_chunks n len xs ys least most front
+    (ap (take n) (sym (take_all (length xs - (len - n)) (drop (len - n) xs) (simp length-drop (omega arith)))) ∙ back ∙ ap (take n) (take_all (length ys - (len - n)) (drop (len - n) ys) (simp length-drop (omega arith))))
 
-pub known_lengths : (map : Map) (bytes : List ℕ) → ((k : ℕ) → get_or bytes k 0 < 256) → (insn : Insn) → decoded map bytes ≡ Ok insn → (0 < insn.len) × (insn.len ≤ 15) × (insn.len ≤ length bytes)
-known_lengths map bytes each insn is = lengths map bytes (Ok insn) (subst (Outcome map bytes) is (outcome map bytes (bytes_from_each bytes each)))
+-- the bytes of eight that make one number
+pub same_eight : (xs ys : List ℕ) (n m : ℕ) → 8 ≤ length xs → 8 ≤ length ys → ((k : ℕ) → get_or xs k 0 < 256) → ((k : ℕ) → get_or ys k 0 < 256) → n ≡ from_le_bytes w64 (take 8 xs) → m ≡ from_le_bytes w64 (take 8 ys) → n ≡ m → take 8 xs ≡ take 8 ys
+same_eight xs ys n m some_xs some_ys each_xs each_ys is_n is_m same =
+    sym (le_bytes_8 (take 8 xs) n (omega (arith, length-take 8 xs)) (still_each xs each_xs) is_n)
+    ∙ ap (to_le_bytes w64) same
+    ∙ le_bytes_8 (take 8 ys) m (omega (arith, length-take 8 ys)) (still_each ys each_ys) is_m
+  where
+    still_each : (zs : List ℕ) → ((k : ℕ) → get_or zs k 0 < 256) → (k : ℕ) → get_or (take 8 zs) k 0 < 256
+    still_each zs each k = elim (cases_lt k 8) [
+      | inl less ↦ subst (λ b. b < 256) (sym (get_or-take 8 zs k 0 less)) (each k)
+      | inr past ↦ subst (λ b. b < 256) (sym (get_or_past (take 8 zs) k 0 (omega (arith, length-take 8 zs)))) (omega arith)
+    ]

@@ -77,6 +77,17 @@ impl InsnList {
         Ok(())
     }
 
+    /// Adds the one with this number again, behind them, and tells it.
+    #[inline(always)]
+    pub(crate) fn push_again(&mut self, n: usize) -> Result<Insn, NoMemory>
+        requires { n < length self.old }
+        ensures { IfOk result (λ insn. (slice_get self.old n ≡ Some insn) × (self.new ≡ self.old ++ insn ∷ [])) }
+    {
+        let number = self.numbers[n];
+        self.numbers.push(number)?;
+        Ok(self.kinds[number as usize])
+    }
+
     /// Puts one in the place of the one with this number. As for `push`, there may be too many that differ.
     pub fn set(&mut self, n: usize, insn: Insn) -> Result<(), NoMemory>
         requires { n < length self.old }

@@ -1,4 +1,4 @@
-use Rattle.std.proofs.Common.{ℕ, ◌<◌, ◌≤◌, List, length, arith}
+use Rattle.std.proofs.Common.{◌<◌, ◌≤◌, arith}
 use Rattle.x86_text.specs.Code.{code_of}
 use Rattle.x86_text.proofs.QueryLemmas.{its_listing, its_offsets, offsets_ascend, as_many, code_below, code_above}
 use Rattle.x86_text.proofs.text.Text.count_before.Goals as goal

@@ -1,0 +1,14 @@
+-- What is read again is what decoding gives.
+use Rattle.std.proofs.Common.{◌≡◌, ℕ, ◌-◌, List, length, drop, take, Err, length-drop, arith, subst}
+use Rattle.std.proofs.lemmas.List.{take_all}
+use Rattle.x86_decode.specs.Decoding.{Outcome}
+use Rattle.x86_text.proofs.KnownLemmas.{alike_decoded, refusal}
+use Rattle.x86_text.proofs.known.read_insn.Goals as goal
+
+pub returns-in-Some-clause-insn : goal.returns-in-Some-clause-insn
+returns-in-Some-clause-insn c = alike_decoded c.args.body.now c.args.off (λ k. omega (arith, c.type_inv.body k)) c.args.map c.args.offsets.now c.args.insns.now c.in-Some.n c.in_ok-push_again.field-0 c.requires.read c.in-Some.ensures c.in_ok-push_again.ensures.0
+
+pub returns-in-Err-clause-fault : goal.returns-in-Err-clause-fault
+returns-in-Err-clause-fault c =
+    let whole : take (length c.args.body.now - c.args.off) (drop c.args.off c.args.body.now) ≡ drop c.args.off c.args.body.now = take_all _ _ (simp length-drop (omega arith)) in
+    (c.requires.boundary, subst (λ (bytes : List ℕ). Outcome c.args.map bytes (Err c.in-Err.why)) whole (refusal c.args.map _ c.in-Err.why c.in-Err.ensures.outside c.in-Err.ensures.cut c.in-Err.ensures.long))
