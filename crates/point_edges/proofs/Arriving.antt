@@ -79,3 +79,10 @@ no_original entries place none = by (entries_from entries place) refl
         let first : ℕ = get_or (entries_from entries place) 0 0 in
         let here : same_place (entry_at entries first).original place ≡ true = filter_passes (λ j. same_place (entry_at entries j).original place) (counted entries) 0 0 some in
         absurd (false≢true (sym none ∙ original_at entries place first (entries_inside entries place 0 0 some) here))
+
+-- where no original begins, control that comes to a place stands only at the plain point there
+pub alone_is : (o : Coded) (place : Place) (n : ℕ) → is_among (original_places_of (alternatives_of o)) place ≡ false → number_of o (plain_point place) ≡ Some n → arrive o place ≡ n ∷ []
+alone_is o place n none is =
+    sym (arrive_is o place)
+    ∙ ap (standing_at o place) (no_original (alternatives_of o) place none)
+    ∙ ap (λ x. cons_option x []) is

@@ -11,6 +11,8 @@ mod AllRooms
 mod Tableless
 pub mod StraightOn
 mod Numbered
+mod Plain
+mod Untold
 mod Pushing
 mod Going
 mod EdgesWithin

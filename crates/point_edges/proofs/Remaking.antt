@@ -6,10 +6,11 @@ use Rattle.operation_defs.specs.declared.op.Op.{Op}
 use Rattle.operation_defs.specs.declared.op.Op.TheVariants.{Call, Hop, Iret, IretNext, Jmp, JmpInd, LeaBpRoom, LeaBpSp, SpOther, Switch}
 use Rattle.operation_defs.specs.Made.{Around, made}
 use Rattle.flow_defs.specs.Coded.{Coded}
+use Rattle.flow_defs.specs.declared.destination.Destination.{Destination}
 use Rattle.alternatives.specs.declared.point.Point.{Point}
 use Rattle.flow_defs.specs.Arrival.{around, decoded_insn, insn_of_object}
 use Rattle.flow_defs.specs.Marks.{has_stack_offset}
-use Rattle.point_edges.specs.Remade.{may_be_remade, may_have_table}
+use Rattle.point_edges.specs.Remade.{may_be_remade, may_go_by_table, may_have_table}
 use Rattle.point_edges.specs.Straight.{is_straight_op}
 
 -- most stay
@@ -33,29 +34,29 @@ pub remade_insn : (o : Coded) (p : Point) (insn : Insn) (op : Op) → insn ≡ d
 remade_insn = insn_by
 
 -- what is so of an operation of the program, by the one that is decoded
-pub made_table : (a : Around) (op : Op) → may_have_table (made a op) ≡ may_have_table op
-made_table a (Call rel) = by a.intra_call
+pub made_by_table : (a : Around) (op : Op) (to : Destination) → may_go_by_table (made a op) to ≡ may_go_by_table op to
+made_by_table a (Call rel) to = by a.intra_call
   where
-    by : (b : Bool) → may_have_table (if b then Hop else Call rel) ≡ false
+    by : (b : Bool) → may_go_by_table (if b then Hop else Call rel) to ≡ false
     by true = refl
     by false = refl
-made_table a (LeaBpSp k) = by a.makes_room
+made_by_table a (LeaBpSp k) to = by a.makes_room
   where
-    by : (b : Bool) → may_have_table (if b then LeaBpRoom k else LeaBpSp k) ≡ false
+    by : (b : Bool) → may_go_by_table (if b then LeaBpRoom k else LeaBpSp k) to ≡ false
     by true = refl
     by false = refl
-made_table a Iret = by a.within
+made_by_table a Iret to = by a.within
   where
-    by : (b : Bool) → may_have_table (if b then IretNext else Iret) ≡ false
+    by : (b : Bool) → may_go_by_table (if b then IretNext else Iret) to ≡ false
     by true = refl
     by false = refl
-made_table a Switch = by a.within a.hinted
+made_by_table a Switch to = by a.within a.hinted
   where
-    by : (b c : Bool) → may_have_table (if b && c then SpOther else Switch) ≡ false
+    by : (b c : Bool) → may_go_by_table (if b && c then SpOther else Switch) to ≡ false
     by true true = refl
     by true false = refl
     by false c = refl
-made_table a op = refl
+made_by_table a op to = refl
 
 pub made_offset : (a : Around) (op : Op) → has_stack_offset (made a op) ≡ has_stack_offset op
 made_offset a (Call rel) = by a.intra_call

@@ -21,7 +21,7 @@ use Rattle.object_points.specs.Places.{is_among}
 use Rattle.object_points.proofs.Points.{known_point}
 use Rattle.point_edges.specs.Lists.{original_places_of}
 use Rattle.point_edges.specs.Marks.{is_listed}
-use Rattle.point_edges.specs.Straight.{end_of, goes_straight, is_next_at, is_straight, is_straight_insn, is_straight_op, IsStraight}
+use Rattle.point_edges.specs.Straight.{end_of, ends_at_next, goes_straight, is_next_at, is_straight, is_straight_insn, is_straight_op, IsStraight}
 use Rattle.point_edges.proofs.Arriving.{arrive_is, no_original, standing_at}
 use Rattle.point_edges.proofs.Following.{after_none, at_end_is, plain_none}
 use Rattle.point_edges.proofs.Numbers.{number_is}
@@ -92,31 +92,56 @@ same_offset : (o : Coded) (p : Point) → has_relocated_offset o p (insn_of_obje
 unfolding insn_of_object
 same_offset o p = ap (λ b. b && is_relocated o.elf p.place (decoded_insn o p).len) (made_offset (around o p) (decoded_insn o p).op)
 
-pub straight_on : (o : Coded) (n : ℕ) → is_straight o n ≡ true → IsStraight o n
-straight_on o n is =
+-- What is so where the plain point where a plain one ends has the next number, and no site starts there: that alone follows.
+pub record IsFollowed (o : Coded) (n : ℕ) : Type 0 where
+  pub plain : is_plain (point_at o n) ≡ true
+  pub inside : n + 1 < length (points_of_object o)
+  pub next : point_at o (n + 1) ≡ plain_point (place_behind o (point_at o n))
+  pub follows : after o (point_at o n) ≡ (n + 1) ∷ []
+  pub goes_on : is_at_end o (point_at o n) ≡ false
+
+pub followed : (o : Coded) (n : ℕ) → ends_at_next o n ≡ true → IsFollowed o n
+followed o n is =
     let p : Point = point_at o n in
     let end : Place = end_of o n in
     let site : Bool = is_among (original_places_of (alternatives_of o)) end in
-    let goes : goes_straight o n ≡ true = second_so (not (is_listed o p)) (goes_straight o n) is in
-    let insn : is_straight_insn o n ≡ true = first_so (is_straight_insn o n) (is_next_at o n end && not site) goes in
-    let behind_it : (is_next_at o n end && not site) ≡ true = second_so (is_straight_insn o n) (is_next_at o n end && not site) goes in
+    let plain : is_plain p ≡ true = first_so (is_plain p) (is_next_at o n end && not site) is in
+    let behind_it : (is_next_at o n end && not site) ≡ true = second_so (is_plain p) (is_next_at o n end && not site) is in
     let next : is_next_at o n end ≡ true = first_so (is_next_at o n end) (not site) behind_it in
     let alone : site ≡ false = not_true site (second_so (is_next_at o n end) (not site) behind_it) in
-    let straight : Bool = is_straight_op (decoded_insn o p).op in
-    let relocated : Bool = has_relocated_offset o p (decoded_insn o p) in
-    let plain : is_plain p ≡ true = first_so (is_plain p) (straight && not relocated) insn in
-    let decoded : (straight && not relocated) ≡ true = second_so (is_plain p) (straight && not relocated) insn in
     let inside : n + 1 < length (points_of_object o) = less_by (n + 1) (length (points_of_object o)) (first_so (nat_lt (n + 1) (length (points_of_object o))) (same_point (point_at o (n + 1)) (plain_point end)) next) in
     let at : point_at o (n + 1) ≡ plain_point end = one_point (point_at o (n + 1)) (plain_point end) (second_so (nat_lt (n + 1) (length (points_of_object o))) (same_point (point_at o (n + 1)) (plain_point end)) next) in
     let here : slice_get (points_of_object o) (n + 1) ≡ Some (plain_point end) = slice_get-get_or (points_of_object o) (n + 1) no_point inside ∙ ap (λ (q : Point). Some q) at in
     let behind_is : place_behind o p ≡ end = ap (λ b. if b then behind p.place (decoded_insn o p).len else site_end o p) plain in record {
+      plain = plain;
+      inside = inside;
+      next = at ∙ ap plain_point (sym behind_is);
+      follows = follows_alone o p end (n + 1) plain behind_is here alone;
+      goes_on = goes_on_to o p end (n + 1) plain behind_is here;
+    }
+
+both_so : (a b : Bool) → a ≡ true → b ≡ true → (a && b) ≡ true
+both_so a b one other = ap (λ c. c && b) one ∙ other
+
+pub straight_on : (o : Coded) (n : ℕ) → is_straight o n ≡ true → IsStraight o n
+straight_on o n is =
+    let p : Point = point_at o n in
+    let behind_it : Bool = is_next_at o n (end_of o n) && not (is_among (original_places_of (alternatives_of o)) (end_of o n)) in
+    let goes : goes_straight o n ≡ true = second_so (not (is_listed o p)) (goes_straight o n) is in
+    let insn : is_straight_insn o n ≡ true = first_so (is_straight_insn o n) behind_it goes in
+    let straight : Bool = is_straight_op (decoded_insn o p).op in
+    let relocated : Bool = has_relocated_offset o p (decoded_insn o p) in
+    let plain : is_plain p ≡ true = first_so (is_plain p) (straight && not relocated) insn in
+    let decoded : (straight && not relocated) ≡ true = second_so (is_plain p) (straight && not relocated) insn in
+    let it : IsFollowed o n = followed o n (both_so (is_plain p) behind_it plain (second_so (is_straight_insn o n) behind_it goes)) in
+    let inside : n + 1 < length (points_of_object o) = it.inside in record {
       plain = plain;
       straight = straight_made o p (first_so straight (not relocated) decoded);
       tableless = tableless o n (omega arith) (straight_tableless (decoded_insn o p).op (first_so straight (not relocated) decoded));
       unrelocated = same_offset o p ∙ not_true relocated (second_so straight (not relocated) decoded);
       unlisted = not_true (is_listed o p) (first_so (not (is_listed o p)) (goes_straight o n) is);
       inside = inside;
-      next = at ∙ ap plain_point (sym behind_is);
-      follows = follows_alone o p end (n + 1) plain behind_is here alone;
-      goes_on = goes_on_to o p end (n + 1) plain behind_is here;
+      next = it.next;
+      follows = it.follows;
+      goes_on = it.goes_on;
     }

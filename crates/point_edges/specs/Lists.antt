@@ -1,5 +1,5 @@
 -- What is kept of an object's lists of places.
-use Rattle.std.specs.Prelude.{ℕ, List, map}
+use Rattle.std.specs.Prelude.{ℕ, List, ◌++◌, map}
 use Rattle.ot_base.specs.declared.place.Place.{Place}
 use Rattle.flow_defs.specs.Coded.{Coded}
 use Rattle.special_sections.specs.declared.entries.AltEntry.{AltEntry}
@@ -19,6 +19,21 @@ branch_pairs_of branches = map (λ b. (b.code, b.target)) branches
 
 abbrev pub fix_pairs_of : List FixEntry → List (Place × Place)
 fix_pairs_of fixes = map (λ f. (f.insn, f.fixup)) fixes
+
+-- the places of static branches, and of exception entries
+abbrev pub branch_places_of : List BranchEntry → List Place
+branch_places_of branches = map (λ b. b.code) branches
+
+abbrev pub fix_places_of : List FixEntry → List Place
+fix_places_of fixes = map (λ f. f.insn) fixes
+
+-- the places of which a list says something: where a site starts, behind which code isn't reachable, and at which a static
+-- branch or an exception entry stands
+abbrev pub told_places_of : Coded → List Place
+told_places_of o =
+    original_places_of (special_of o.elf).alternatives
+    ++ ((special_of o.elf).after_unreachable
+    ++ (branch_places_of (special_of o.elf).branches ++ fix_places_of (special_of o.elf).fixes))
 
 -- the places of originals; those behind which code is reachable, and isn't; those of calls within a function; where static
 -- branches lead, and exception entries; and the owners that make room

@@ -4,6 +4,8 @@ use Rattle.std.specs.List.{list_all}
 use Rattle.operation_defs.specs.declared.op.Op.{Op}
 use Rattle.operation_defs.specs.declared.op.Op.TheVariants.{Call, Iret, Jmp, JmpInd, LeaBpSp, Switch}
 use Rattle.flow_defs.specs.Coded.{Coded}
+use Rattle.flow_defs.specs.declared.destination.Destination.{Destination}
+use Rattle.flow_defs.specs.declared.destination.Destination.TheVariants.{ToIndirectThunk}
 use Rattle.flow_defs.specs.Arrival.{decoded_insn, hint_of, is_room, makes_room, tells_frame}
 use Rattle.flow_defs.specs.Code.{point_at}
 use Rattle.flow_defs.specs.Owners.{owner_of_point}
@@ -22,6 +24,17 @@ abbrev pub may_have_table : Op → Bool
 may_have_table (Jmp rel wide) = true
 may_have_table (JmpInd table) = true
 may_have_table _ = false
+
+-- a direct jump to the thunk for indirect ones, which may go by a table too
+abbrev pub is_by_thunk : Destination → Bool
+is_by_thunk ToIndirectThunk = true
+is_by_thunk _ = false
+
+-- an operation may jump by a table where its direct jump goes there
+abbrev pub may_go_by_table : Op → Destination → Bool
+may_go_by_table (Jmp rel wide) to = is_by_thunk to
+may_go_by_table (JmpInd table) to = true
+may_go_by_table _ to = false
 
 -- hints tell the stack at all these points
 abbrev pub are_hinted : Coded → List ℕ → Bool

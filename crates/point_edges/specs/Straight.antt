@@ -42,6 +42,10 @@ is_straight_insn o n =
     let p = point_at o n in
     is_plain p && (is_straight_op (decoded_insn o p).op && not (has_relocated_offset o p (decoded_insn o p)))
 
+-- it is plain, the plain point where it ends has the next number, and no site starts there
+abbrev pub ends_at_next : Coded → ℕ → Bool
+ends_at_next o n = is_plain (point_at o n) && (is_next_at o n (end_of o n) && not (is_among (original_places_of (alternatives_of o)) (end_of o n)))
+
 -- besides, the plain point where it ends has the next number, and no site starts there
 abbrev pub goes_straight : Coded → ℕ → Bool
 goes_straight o n = is_straight_insn o n && (is_next_at o n (end_of o n) && not (is_among (original_places_of (alternatives_of o)) (end_of o n)))

@@ -1,6 +1,6 @@
 //! Points with where control comes to them.
 
-ghost use Rattle.std.specs.Prelude.{◌≡◌, ◌<◌, length, All, IfOk, IsTrue};
+ghost use Rattle.std.specs.Prelude.{◌≡◌, ◌<◌, [], ◌∷◌, length, All, IfOk, IfSome, IsTrue};
 ghost use Rattle.flow_defs.specs.Arrival.{after as points_following, arrive as points_coming_to, insn_of_object, is_at_end as is_at_an_end, is_dead_end as is_a_dead_end};
 ghost use Rattle.flow_defs.specs.Code.{point_at, points_of_object};
 ghost use Rattle.flow_defs.specs.Edges.{fixups as fixups_of, static_targets as static_targets_of};
@@ -20,8 +20,8 @@ use std::marker::Model;
 /// The points of an object with where control comes to them and from them, and what its lists say of their places.
 /// Contracts see it as the object.
 ///
-/// A point is told by its number. The lists say nothing of most points, and from most of these control goes straight on: of
-/// each point it is kept of which kind it is.
+/// A point is told by its number. The lists say nothing of most points, most of these are followed by the one with the next
+/// number alone, and from most of these control goes straight on: of each point it is kept of which kind it is.
 #[derive(Drop)]
 pub struct PointArrivals<'l, 'o, 'a> {
     lists: PointLists<'l, 'o, 'a>,
@@ -113,13 +113,34 @@ impl<'l, 'o, 'a> PointArrivals<'l, 'o, 'a> {
         self.lists.after(alloc, n)
     }
 
+    /// The number of the one point at which control stands that comes to a place, where it is told without a list: no site
+    /// starts there. It is found at once where it is the guessed one.
+    #[inline(always)]
+    pub(crate) fn arrive_alone(&self, place: Place, guess: u32) -> Option<u32>
+        ensures { IfSome result (λ q. points_coming_to self.now place ≡ q ∷ []) }
+    {
+        self.lists.arrive_alone(place, guess)
+    }
+
+    /// The number of the one point that follows a point, where its kind tells that.
+    #[inline(always)]
+    pub(crate) fn after_alone(&self, n: u32) -> Option<u32>
+        requires { n < length (points_of_object self.now) }
+        ensures { IfSome result (λ q. points_following self.now (point_at self.now n) ≡ q ∷ []) }
+    {
+        if !self.kind(n).is_followed() {
+            return None;
+        }
+        n.checked_add(1)
+    }
+
     /// Whether nothing follows a point: behind it its section ends.
     #[inline(always)]
     pub fn is_at_end(&self, n: u32) -> bool
         requires { n < length (points_of_object self.now) }
         ensures { result ≡ is_at_an_end self.now (point_at self.now n) }
     {
-        if self.is_straight(n) {
+        if self.kind(n).is_followed() {
             return false;
         }
         self.lists.is_at_end(n)

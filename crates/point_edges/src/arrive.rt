@@ -1,6 +1,6 @@
 //! Where control that comes to a place may stand.
 
-ghost use Rattle.std.specs.Prelude.{◌≡◌, ◌++◌, [], OnOk, IfOk};
+ghost use Rattle.std.specs.Prelude.{◌≡◌, ◌++◌, [], ◌∷◌, OnOk, IfOk, IfSome};
 ghost use Rattle.std.specs.List.{cons_option};
 ghost use Rattle.flow_defs.specs.Arrival.{arrive as points_coming_to};
 ghost use Rattle.flow_defs.specs.Code.{alternatives_of};
@@ -47,4 +47,23 @@ pub(crate) fn arrive(
         add(&mut points, sites.number_of_first(*entry))?;
     }
     Ok(points)
+}
+
+/// The number of the one point at which control stands that comes to a place, where it is told without a list. It is found at
+/// once where it is the guessed one.
+#[inline(always)]
+pub(crate) fn arrive_alone(
+    places: &PointPlaces<'_, '_, '_>,
+    originals: &PlaceSet,
+    place: Place,
+    guess: u32,
+) -> Option<u32>
+    requires { HaveSamePlaces (original_places_of (alternatives_of places.now)) originals.now }
+    ensures { IfSome result (λ q. points_coming_to places.now place ≡ q ∷ []) }
+{
+    if originals.may_contain(place) {
+        return None;
+    }
+    let variant = 0;
+    places.number_by_guess(Point { place, variant }, guess)
 }

@@ -27,18 +27,18 @@ fn is_bad(way: Way) -> bool
 }
 
 /// Whether a place is none to call: no boundary.
-fn is_bad_place(places: &PointPlaces<'_, '_, '_>, place: Place) -> bool
+fn is_bad_place(places: &PointPlaces<'_, '_, '_>, place: Place, guess: u32) -> bool
     ensures { result ≡ not (is_boundary_of (texts_of places.now) place) }
 {
-    !places.is_boundary(place)
+    !places.is_boundary_by_guess(place, guess)
 }
 
 /// Whether a call goes to no place of the text, or to the return thunk.
-fn is_bad_call(places: &PointPlaces<'_, '_, '_>, to: Destination) -> bool
-    ensures { result ≡ is_bad_called places.now to }
+fn is_bad_call(places: &PointPlaces<'_, '_, '_>, branch: Branch) -> bool
+    ensures { result ≡ is_bad_called places.now branch.to }
 {
-    match to {
-        Destination::ToPlace { place, .. } => is_bad_place(places, place),
+    match branch.to {
+        Destination::ToPlace { place, .. } => is_bad_place(places, place, branch.guess),
         Destination::ToOwnPoint(_) | Destination::ToOutside(_) | Destination::ToIndirectThunk =>
             false,
         Destination::ToReturnThunk | Destination::ToNowhere => true,
@@ -99,7 +99,7 @@ pub(crate) fn is_bad_branch(points: &FlowPoints<'_, '_, '_>, n: u32, op: Op, bra
 {
     let places = points.places();
     match op {
-        Op::Call { .. } => is_bad_call(places, branch.to),
+        Op::Call { .. } => is_bad_call(places, branch),
         Op::Jmp { .. } | Op::Jcc { .. } => is_bad_jump(places, n, branch),
         Op::Hop => is_bad_hop(places, n, branch),
         _ => false,

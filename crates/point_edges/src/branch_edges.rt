@@ -52,7 +52,7 @@ fn push_along(
 {
     match branch.to {
         Destination::ToPlace { place, .. } => {
-            push_way(alloc, points, n, place, branch.way, into)
+            push_way(alloc, points, n, place, branch.way, branch.guess, into)
         }
         Destination::ToOwnPoint(other) => push_within(points, n, other, into),
         Destination::ToOutside(_)
@@ -83,17 +83,20 @@ pub(crate) fn push_branch(
     }
 }
 
-/// Pushes the edges of an indirect jump through its table. A point without a table has none.
+/// Pushes the edges of an indirect jump through its table, which goes `to` there by its direct jump. A point without a table
+/// has none.
 pub(crate) fn push_table(
     alloc: Global,
     points: &FlowPoints<'_, '_, '_>,
     n: u32,
     insn: Insn,
+    to: Destination,
     into: &mut Vec<Edge>,
 ) -> Result<(), NoMemory>
     requires point { n < length (points_of_object points.now) }
     requires insn { insn ≡ insn_of_object points.now (point_at points.now n) }
+    requires to { to ≡ destination_of points.now (point_at points.now n) }
     ensures { OnOk result (into.new.items ≡ into.old.items ++ table_edges points.now (point_at points.now n)) }
 {
-    push_entries(alloc, points, n, points.table_by(n, insn.op), into)
+    push_entries(alloc, points, n, points.table_by(n, insn.op, to), into)
 }

@@ -6,6 +6,7 @@ ghost use Rattle.flow_defs.specs.Code.{alternatives_of, point_at, points_of_obje
 ghost use Rattle.flow_defs.specs.Roles.{call_role as call_role_of, entry_call as entry_call_of, place_call as place_call_of, plain_number as plain_number_of};
 ghost use Rattle.flow_defs.specs.Targets.{destination_of};
 
+use crate::Branch;
 use crate::called::is_called;
 use alternatives::Point;
 use flow_defs::Destination;
@@ -14,11 +15,13 @@ use object_points::PointPlaces;
 use ot_base::Place;
 
 /// The number of the plain point at a place; 0 where none is there.
-fn plain_number(places: &PointPlaces<'_, '_, '_>, place: Place) -> u32
+fn plain_number(places: &PointPlaces<'_, '_, '_>, place: Place, guess: u32) -> u32
     ensures { result ≡ plain_number_of places.now place }
 {
     let variant = 0;
-    places.number_of(Point { place, variant }).unwrap_or(0)
+    places
+        .number_by_guess(Point { place, variant }, guess)
+        .unwrap_or(0)
 }
 
 /// A call of an entry, by a weak symbol or not.
@@ -32,18 +35,24 @@ fn entry_call(entry: u32, weak: Option<u32>) -> Role
 }
 
 /// A call of a place from a point, by a weak symbol or not.
-fn place_call(places: &PointPlaces<'_, '_, '_>, n: u32, place: Place, weak: Option<u32>) -> Role
+fn place_call(
+    places: &PointPlaces<'_, '_, '_>,
+    n: u32,
+    place: Place,
+    weak: Option<u32>,
+    guess: u32,
+) -> Role
     requires { n < length (points_of_object places.now) }
     ensures { result ≡ place_call_of places.now (point_at places.now n) place weak }
 {
-    if !places.is_boundary(place) {
+    if !places.is_boundary_by_guess(place, guess) {
         return Role::Plain;
     }
     if let Some(sym) = places.unchecked_start(place) {
         return Role::CallOut { sym };
     }
     if is_called(places, n, place) {
-        entry_call(plain_number(places, place), weak)
+        entry_call(plain_number(places, place, guess), weak)
     } else {
         Role::Plain
     }
@@ -61,18 +70,20 @@ fn call_within(places: &PointPlaces<'_, '_, '_>, n: u32, other: Point) -> Role
     if places.is_padding(to) {
         Role::Plain
     } else {
-        place_call(places, n, other.place, None)
+        place_call(places, n, other.place, None, 0)
     }
 }
 
-/// What the direct call at a point is, which goes `to` there.
-pub(crate) fn call_role(places: &PointPlaces<'_, '_, '_>, n: u32, to: Destination) -> Role
+/// What the direct call at a point is that goes there.
+pub(crate) fn call_role(places: &PointPlaces<'_, '_, '_>, n: u32, branch: Branch) -> Role
     requires point { n < length (points_of_object places.now) }
-    requires to { to ≡ destination_of places.now (point_at places.now n) }
-    ensures { result ≡ call_role_of places.now (point_at places.now n) to }
+    requires to { branch.to ≡ destination_of places.now (point_at places.now n) }
+    ensures { result ≡ call_role_of places.now (point_at places.now n) branch.to }
 {
-    match to {
-        Destination::ToPlace { place, weak, .. } => place_call(places, n, place, weak),
+    match branch.to {
+        Destination::ToPlace { place, weak, .. } => {
+            place_call(places, n, place, weak, branch.guess)
+        }
         Destination::ToOwnPoint(point) => call_within(places, n, point),
         Destination::ToOutside(sym) => Role::CallOut { sym },
         Destination::ToIndirectThunk => Role::CallAny,

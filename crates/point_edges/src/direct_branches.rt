@@ -7,7 +7,8 @@ ghost use Rattle.flow_defs.specs.Ways.{hop_way as hop_way_of, jump_way as jump_w
 ghost use Rattle.point_edges.specs.Jumps.{destination_way as destination_way_of, direct_way as direct_way_of, within_way as within_way_of};
 
 use crate::destinations::destination;
-use crate::place_ways::branch_way;
+use crate::place_ways::way_by_guess;
+use alternatives::Point;
 use flow_defs::{Crossing, Destination, Way};
 use machine_defs::EdgeKind;
 use object_points::PointPlaces;
@@ -22,18 +23,27 @@ pub struct Branch {
     /// How a direct jump, or a call within a function, gets to the place that it goes to; [`Way::Bad`] where it goes to no
     /// place of the text, or inside its replacement, and where it is none of these.
     pub way: Way,
+    /// A guess of the number of the plain point at the place that it goes to. A wrong one costs time and nothing else.
+    pub(crate) guess: u32,
 }
 
 /// The way of a jump from a point to a place.
-fn jump_way(places: &PointPlaces<'_, '_, '_>, n: u32, crossing: Crossing, place: Place) -> Way
+fn jump_way(
+    places: &PointPlaces<'_, '_, '_>,
+    n: u32,
+    crossing: Crossing,
+    place: Place,
+    guess: u32,
+) -> Way
     requires { n < length (points_of_object places.now) }
     ensures { result ≡ jump_way_of places.now (point_at places.now n) crossing place }
 {
-    branch_way(places, crossing, EdgeKind::Taken, places.owner(n), place)
+    let kind = EdgeKind::Taken;
+    way_by_guess(places, crossing, kind, places.owner(n), place, guess)
 }
 
 /// The way of a jump from a point to where it goes.
-fn destination_way(places: &PointPlaces<'_, '_, '_>, n: u32, to: Destination) -> Way
+fn destination_way(places: &PointPlaces<'_, '_, '_>, n: u32, to: Destination, guess: u32) -> Way
     requires { n < length (points_of_object places.now) }
     ensures { result ≡ destination_way_of places.now (point_at places.now n) to }
 {
@@ -42,7 +52,7 @@ fn destination_way(places: &PointPlaces<'_, '_, '_>, n: u32, to: Destination) ->
             place,
             crossing,
             ..
-        } => jump_way(places, n, crossing, place),
+        } => jump_way(places, n, crossing, place, guess),
         _ => Way::Bad,
     }
 }
@@ -64,18 +74,19 @@ fn hop_way(
     weak: Option<u32>,
     crossing: Crossing,
     place: Place,
+    guess: u32,
 ) -> Way
     requires { n < length (points_of_object places.now) }
     ensures { result ≡ hop_way_of places.now (point_at places.now n) weak crossing place }
 {
     match weak {
         Some(_) => Way::Bad,
-        None => taken_only(jump_way(places, n, crossing, place)),
+        None => taken_only(jump_way(places, n, crossing, place, guess)),
     }
 }
 
 /// The way of a call within a function from a point to where it goes.
-fn within_way(places: &PointPlaces<'_, '_, '_>, n: u32, to: Destination) -> Way
+fn within_way(places: &PointPlaces<'_, '_, '_>, n: u32, to: Destination, guess: u32) -> Way
     requires { n < length (points_of_object places.now) }
     ensures { result ≡ within_way_of places.now (point_at places.now n) to }
 {
@@ -84,20 +95,31 @@ fn within_way(places: &PointPlaces<'_, '_, '_>, n: u32, to: Destination) -> Way
             place,
             weak,
             crossing,
-        } => hop_way(places, n, weak, crossing, place),
+        } => hop_way(places, n, weak, crossing, place, guess),
         _ => Way::Bad,
     }
 }
 
+/// A guess of the number of the plain point at the place that a branch goes to, which is right where one is there.
+fn guess_plain(places: &PointPlaces<'_, '_, '_>, to: Destination) -> u32 {
+    match to {
+        Destination::ToPlace { place, .. } => {
+            let variant = 0;
+            places.number_of(Point { place, variant }).unwrap_or(0)
+        }
+        _ => 0,
+    }
+}
+
 /// The way of the operation of a point, which goes `to` there.
-fn direct_way(places: &PointPlaces<'_, '_, '_>, n: u32, op: Op, to: Destination) -> Way
+fn direct_way(places: &PointPlaces<'_, '_, '_>, n: u32, op: Op, to: Destination, guess: u32) -> Way
     requires point { n < length (points_of_object places.now) }
     requires to { to ≡ destination_of places.now (point_at places.now n) }
     ensures { result ≡ direct_way_of places.now (point_at places.now n) op }
 {
     match op {
-        Op::Jmp { .. } | Op::Jcc { .. } => destination_way(places, n, to),
-        Op::Hop => within_way(places, n, to),
+        Op::Jmp { .. } | Op::Jcc { .. } => destination_way(places, n, to, guess),
+        Op::Hop => within_way(places, n, to, guess),
         _ => Way::Bad,
     }
 }
@@ -110,8 +132,10 @@ pub fn branch_at(places: &PointPlaces<'_, '_, '_>, n: u32, insn: Insn) -> Branch
     ensures way { result.way ≡ direct_way_of places.now (point_at places.now n) insn.op }
 {
     let to = destination(places, n, places.decoded_insn(n));
+    let guess = guess_plain(places, to);
     Branch {
         to,
-        way: direct_way(places, n, insn.op, to),
+        way: direct_way(places, n, insn.op, to, guess),
+        guess,
     }
 }

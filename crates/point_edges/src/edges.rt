@@ -56,5 +56,5 @@ pub fn push_edges(
         into,
     )?;
     push_listed(alloc, points, EdgeKind::Fixup, n, arrivals.fixups(n), into)?;
-    push_table(alloc, points, n, insn, into)
+    push_table(alloc, points, n, insn, branch.to, into)
 }

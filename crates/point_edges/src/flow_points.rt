@@ -5,10 +5,12 @@ ghost use Rattle.std.specs.Prelude.{◌≡◌, ◌<◌, IfOk, length};
 ghost use Rattle.flow_defs.specs.Arrival.{insn_of_object};
 ghost use Rattle.flow_defs.specs.Code.{point_at, points_of_object};
 ghost use Rattle.flow_defs.specs.Roles.{table_of_point};
-ghost use Rattle.point_edges.specs.Remade.{may_have_table as may_have_a_table};
+ghost use Rattle.flow_defs.specs.Targets.{destination_of};
+ghost use Rattle.point_edges.specs.Remade.{is_by_thunk as is_by_a_thunk, may_go_by_table as may_go_by_a_table};
 ghost use Rattle.point_edges.specs.Tables.{table_start_of};
 
 use crate::PointArrivals;
+use flow_defs::Destination;
 use jump_tables::JumpTables;
 use object_points::PointPlaces;
 use operation_defs::Op;
@@ -77,13 +79,15 @@ impl<'l, 'o, 'a> FlowPoints<'l, 'o, 'a> {
         self.tables.of(places.point(n), places.owner(n))
     }
 
-    /// The same, where the operation of the point is told.
-    pub(crate) fn table_by(&self, n: u32, op: Op) -> &[Place]
+    /// The same, where the operation of the point is told, and where its direct jump goes.
+    #[inline(always)]
+    pub(crate) fn table_by(&self, n: u32, op: Op, to: Destination) -> &[Place]
         requires point { n < length (points_of_object self.now) }
         requires op { op ≡ (insn_of_object self.now (point_at self.now n)).op }
+        requires to { to ≡ destination_of self.now (point_at self.now n) }
         ensures { result.now ≡ table_of_point self.now (point_at self.now n) }
     {
-        if !may_have_table(op) {
+        if !may_go_by_table(op, to) {
             return &[];
         }
         self.table(n)
@@ -98,9 +102,20 @@ impl<'l, 'o, 'a> FlowPoints<'l, 'o, 'a> {
     }
 }
 
-/// Whether an operation may jump by a table: a jump on a register may go by a thunk.
-fn may_have_table(op: Op) -> bool
-    ensures { result ≡ may_have_a_table op }
+/// Whether a direct jump goes to the thunk for indirect ones.
+fn is_by_thunk(to: Destination) -> bool
+    ensures { result ≡ is_by_a_thunk to }
 {
-    matches!(op, Op::Jmp { .. } | Op::JmpInd { .. })
+    matches!(to, Destination::ToIndirectThunk)
+}
+
+/// Whether an operation may jump by a table, whose direct jump goes there: it jumps indirectly, or by a thunk.
+fn may_go_by_table(op: Op, to: Destination) -> bool
+    ensures { result ≡ may_go_by_a_table op to }
+{
+    match op {
+        Op::Jmp { .. } => is_by_thunk(to),
+        Op::JmpInd { .. } => true,
+        _ => false,
+    }
 }

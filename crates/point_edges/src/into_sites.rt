@@ -28,20 +28,20 @@ fn is_along(way: Way) -> bool
 }
 
 /// Whether a call from a point of a place comes into a site.
-fn place_enters(places: &PointPlaces<'_, '_, '_>, n: u32, place: Place) -> bool
+fn place_enters(places: &PointPlaces<'_, '_, '_>, n: u32, place: Place, guess: u32) -> bool
     requires { n < length (points_of_object places.now) }
     ensures { result ≡ list_any (comes_into_site places.now (point_at places.now n)) (if is_boundary_of (texts_of places.now) place then place ∷ [] else []) }
 {
-    places.is_boundary(place) && is_into_site(places, n, place)
+    places.is_boundary_by_guess(place, guess) && is_into_site(places, n, place)
 }
 
 /// Whether a call from a point comes into a site.
-fn call_enters(places: &PointPlaces<'_, '_, '_>, n: u32, to: Destination) -> bool
+fn call_enters(places: &PointPlaces<'_, '_, '_>, n: u32, branch: Branch) -> bool
     requires { n < length (points_of_object places.now) }
-    ensures { result ≡ list_any (comes_into_site places.now (point_at places.now n)) (call_places places.now to) }
+    ensures { result ≡ list_any (comes_into_site places.now (point_at places.now n)) (call_places places.now branch.to) }
 {
-    match to {
-        Destination::ToPlace { place, .. } => place_enters(places, n, place),
+    match branch.to {
+        Destination::ToPlace { place, .. } => place_enters(places, n, place, branch.guess),
         _ => false,
     }
 }
@@ -74,13 +74,19 @@ fn one_enters(places: &PointPlaces<'_, '_, '_>, n: u32, table: &[Place]) -> bool
     table.iter().any(|place| is_into_site(places, n, *place))
 }
 
-/// Whether the jump table of a point with this instruction leads into a site.
-pub(crate) fn table_enters(points: &FlowPoints<'_, '_, '_>, n: u32, insn: Insn) -> bool
+/// Whether the jump table of a point with this instruction, whose direct jump goes `to` there, leads into a site.
+pub(crate) fn table_enters(
+    points: &FlowPoints<'_, '_, '_>,
+    n: u32,
+    insn: Insn,
+    to: Destination,
+) -> bool
     requires point { n < length (points_of_object points.now) }
     requires insn { insn ≡ insn_of_object points.now (point_at points.now n) }
+    requires to { to ≡ destination_of points.now (point_at points.now n) }
     ensures { result ≡ list_any (comes_into_site points.now (point_at points.now n)) (table_of_point points.now (point_at points.now n)) }
 {
-    one_enters(points.places(), n, points.table_by(n, insn.op))
+    one_enters(points.places(), n, points.table_by(n, insn.op, to))
 }
 
 /// Whether the call or jump with this operation at a point, which goes there, comes into a site.
@@ -92,13 +98,14 @@ pub(crate) fn branch_enters(points: &FlowPoints<'_, '_, '_>, n: u32, op: Op, bra
 {
     let places = points.places();
     match op {
-        Op::Call { .. } => call_enters(places, n, branch.to),
+        Op::Call { .. } => call_enters(places, n, branch),
         Op::Jmp { .. } | Op::Jcc { .. } | Op::Hop => jump_enters(places, n, branch),
         _ => false,
     }
 }
 
-/// Whether one of some static branches or exception entries at a point leads into a site.
+/// Whether one of some static branches or exception entries at a point leads into a site. Most points have none of them.
+#[inline(always)]
 pub(crate) fn listed_enter(
     places: &PointPlaces<'_, '_, '_>,
     kind: EdgeKind,
@@ -111,6 +118,15 @@ pub(crate) fn listed_enter(
     if listed.is_empty() {
         return false;
     }
+    any_enters(places, kind, n, listed)
+}
+
+/// The same of some places, by a look at each.
+#[inline(never)]
+fn any_enters(places: &PointPlaces<'_, '_, '_>, kind: EdgeKind, n: u32, listed: &[Place]) -> bool
+    requires { n < length (points_of_object places.now) }
+    ensures { result ≡ list_any (comes_into_site places.now (point_at places.now n)) (listed_places places.now kind (point_at places.now n) listed.now) }
+{
     let owner = places.owner(n);
     listed
         .iter()

@@ -34,6 +34,7 @@ mod rooms;
 mod same_owner;
 mod straight;
 mod target_edges;
+mod told;
 mod way_edges;
 
 pub use arrivals::PointArrivals;

@@ -1,20 +1,25 @@
 //! Points with what an object's lists say of their places.
 
-ghost use Rattle.std.specs.Prelude.{◌≡◌, ◌<◌, ◌||◌, length, All, IfOk};
+ghost use Rattle.std.specs.Prelude.{◌≡◌, ◌<◌, ◌||◌, [], ◌∷◌, length, All, IfOk, IfSome};
 ghost use Rattle.flow_defs.specs.Arrival.{after as points_following, around, arrive as points_coming_to, decoded_insn, ends_at, insn_of_object, is_at_end as is_at_an_end, is_dead_end as is_a_dead_end, is_ud2 as is_an_ud2};
 ghost use Rattle.special_sections.specs.Special.{special_of};
 ghost use Rattle.flow_defs.specs.Code.{point_at, points_of_object};
 ghost use Rattle.flow_defs.specs.Edges.{fixups as fixups_of, is_some_place, static_targets as static_targets_of};
+ghost use Rattle.object_points.specs.Places.{HaveSamePlaces};
+ghost use Rattle.point_edges.specs.Kinds.{kind_of};
+ghost use Rattle.point_edges.specs.Lists.{told_places_of};
 ghost use Rattle.point_edges.specs.Marks.{is_listed as is_listed_point};
-ghost use Rattle.point_edges.specs.Straight.{goes_straight as goes_straight_on};
+ghost use Rattle.point_edges.specs.Straight.{ends_at_next as ends_at_next_point};
 
-use crate::arrive::arrive;
+use crate::arrive::{arrive, arrive_alone};
 use crate::behind::{after, end_of, is_at_end};
+use crate::kind::Kind;
 use crate::low::points_are_low;
 use crate::pairs::{branch_pairs, fix_pairs, original_places};
 use crate::remade::insn;
 use crate::rooms::{list_rooms, makes_room};
-use crate::straight::goes_straight;
+use crate::straight::ends_at_next;
+use crate::told::{told_places, untold_kind};
 use object_points::{PlaceMap, PlaceSet, PointPlaces};
 use operation_defs::{Insn, Op};
 use ot_base::{NoMemory, Place};
@@ -102,6 +107,15 @@ impl<'l, 'o, 'a> PointLists<'l, 'o, 'a> {
         ensures known { IfOk result (λ points. All (λ q. q < length (points_of_object self.now)) points.items) }
     {
         after(alloc, &self.places, &self.originals, n)
+    }
+
+    /// The number of the one point at which control stands that comes to a place, where it is told without a list: no site
+    /// starts there. It is found at once where it is the guessed one.
+    #[inline(always)]
+    pub(crate) fn arrive_alone(&self, place: Place, guess: u32) -> Option<u32>
+        ensures { IfSome result (λ q. points_coming_to self.now place ≡ q ∷ []) }
+    {
+        arrive_alone(&self.places, &self.originals, place, guess)
     }
 
     /// Whether nothing follows a point: behind it its section ends.
@@ -201,15 +215,31 @@ impl<'l, 'o, 'a> PointLists<'l, 'o, 'a> {
         has_place(self.static_targets(n)) || has_place(self.fixups(n)) || self.is_dead_end(n)
     }
 
-    /// Whether control goes straight on from a point, where no list says anything of it: it is plain, it neither calls,
-    /// jumps nor returns, no relocation changes a number of the stack there, and the point with the next number alone
-    /// follows it.
+    /// Whether a point is plain, the plain point where it ends has the next number, and no site starts there.
     #[inline(always)]
-    pub(crate) fn goes_straight(&self, n: u32) -> bool
+    pub(crate) fn ends_at_next(&self, n: u32) -> bool
         requires { n < length (points_of_object self.now) }
-        ensures { result ≡ goes_straight_on self.now n }
+        ensures { result ≡ ends_at_next_point self.now n }
     {
-        goes_straight(&self.places, &self.originals, n)
+        ends_at_next(&self.places, &self.originals, n)
+    }
+
+    /// The places of which the lists say something: where a site starts, behind which code isn't reachable, and at which a
+    /// static branch or an exception entry stands.
+    pub(crate) fn told_places(&self, alloc: Global) -> Result<PlaceSet, NoMemory>
+        ensures { IfOk result (HaveSamePlaces (told_places_of self.now)) }
+    {
+        told_places(alloc, &self.places)
+    }
+
+    /// Of which kind a point is, where these places alone tell it.
+    #[inline(always)]
+    pub(crate) fn untold_kind(&self, told: &PlaceSet, n: u32) -> Option<Kind>
+        requires told { HaveSamePlaces (told_places_of self.now) told.now }
+        requires point { n < length (points_of_object self.now) }
+        ensures { IfSome result (λ kind. kind ≡ kind_of self.now n) }
+    {
+        untold_kind(&self.places, told, n)
     }
 }
 
@@ -221,7 +251,7 @@ fn has_place(places: &[Place]) -> bool
 }
 
 /// Whether an operation is a Ud2.
-fn is_ud2(op: Op) -> bool
+pub(crate) fn is_ud2(op: Op) -> bool
     ensures { result ≡ is_an_ud2 op }
 {
     matches!(op, Op::Ud2)

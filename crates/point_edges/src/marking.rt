@@ -71,7 +71,7 @@ pub fn marks(
         bad: has_bad_target(points, n, insn, branch),
         past_end: runs_past_end(points, n, insn, comes_back),
         into_site: has_target_in_site(points, n, insn, branch),
-        into_function: calls_into_function(points, n, insn, branch.to),
+        into_function: calls_into_function(points, n, insn, branch),
         relocated: is_relocated(points, n, insn),
     }
 }

@@ -6,7 +6,7 @@ ghost use Rattle.flow_defs.specs.Code.{point_at, points_of_object};
 ghost use Rattle.flow_defs.specs.Edges.{ends_flow as ends_flow_by, goes_on as goes_on_of, next_edges};
 
 use crate::flow_points::FlowPoints;
-use crate::way_edges::push_to;
+use crate::way_edges::push_after;
 use machine_defs::{Edge, EdgeKind};
 use operation_defs::{Insn, Op};
 use ot_base::NoMemory;
@@ -52,6 +52,5 @@ pub(crate) fn push_next(
     if !goes_on(points, n, insn) {
         return Ok(());
     }
-    let numbers = points.arrivals().after(alloc, n)?;
-    push_to(EdgeKind::Next, numbers.as_slice(), into)
+    push_after(alloc, points, EdgeKind::Next, n, into)
 }

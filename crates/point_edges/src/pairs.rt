@@ -1,7 +1,7 @@
 //! Entries of special sections as places, and as pairs of a place and one where it leads.
 
 ghost use Rattle.std.specs.Prelude.{◌≡◌, IfOk};
-ghost use Rattle.point_edges.specs.Lists.{branch_pairs_of, fix_pairs_of, original_places_of};
+ghost use Rattle.point_edges.specs.Lists.{branch_pairs_of, branch_places_of, fix_pairs_of, fix_places_of, original_places_of};
 
 use ot_base::{NoMemory, Place};
 use special_sections::{AltEntry, BranchEntry, FixEntry};
@@ -38,4 +38,20 @@ pub(crate) fn fix_pairs(alloc: Global, fixes: &[FixEntry]) -> Result<Vec<(Place,
         .map(|fix| (fix.insn, fix.fixup))
         .collect(alloc)?;
     Ok(pairs)
+}
+
+/// Where the code of each static branch stands.
+pub(crate) fn branch_places(alloc: Global, branches: &[BranchEntry]) -> Result<Vec<Place>, NoMemory>
+    ensures { IfOk result (λ places. places.items ≡ branch_places_of branches.now) }
+{
+    let places = branches.iter().map(|branch| branch.code).collect(alloc)?;
+    Ok(places)
+}
+
+/// Where the instruction of each exception entry stands.
+pub(crate) fn fix_places(alloc: Global, fixes: &[FixEntry]) -> Result<Vec<Place>, NoMemory>
+    ensures { IfOk result (λ places. places.items ≡ fix_places_of fixes.now) }
+{
+    let places = fixes.iter().map(|fix| fix.insn).collect(alloc)?;
+    Ok(places)
 }

@@ -1,9 +1,11 @@
 //! How control comes to the places that branches, static branches and exception entries lead to.
 
 ghost use Rattle.std.specs.Prelude.{◌≡◌};
+ghost use Rattle.symbols_relocs.specs.Parts.{owner_at as owner_of_place};
 ghost use Rattle.flow_defs.specs.Ways.{branch_way as branch_way_of, checked_way as checked_way_of, is_crossing as is_crossing_of, listed_way as listed_way_of, may_cross as may_cross_of};
 
-use crate::place_owner::{is_same_owner, owner_at};
+use crate::place_owner::is_same_owner;
+use alternatives::Point;
 use flow_defs::{Crossing, Way};
 use machine_defs::EdgeKind;
 use object_points::PointPlaces;
@@ -31,17 +33,18 @@ fn may_cross(crossing: Crossing) -> bool
     }
 }
 
-/// The way to a boundary at which no unchecked function starts.
+/// The way to a boundary of this owner at which no unchecked function starts.
 fn checked_way(
     places: &PointPlaces<'_, '_, '_>,
     crossing: Crossing,
     kind: EdgeKind,
     from: Option<u32>,
     place: Place,
+    owner: Option<u32>,
 ) -> Way
+    requires { owner ≡ owner_of_place places.now.elf place }
     ensures { result ≡ checked_way_of places.now crossing kind from place }
 {
-    let owner = owner_at(places, place);
     if is_same_owner(from, owner) {
         Way::Along(kind)
     } else if places.is_entry(place) {
@@ -50,6 +53,27 @@ fn checked_way(
         Way::Along(kind)
     } else {
         Way::Bad
+    }
+}
+
+/// The same as [`branch_way`], where the plain point at the place is found at once if it is the guessed one.
+pub(crate) fn way_by_guess(
+    places: &PointPlaces<'_, '_, '_>,
+    crossing: Crossing,
+    kind: EdgeKind,
+    from: Option<u32>,
+    place: Place,
+    guess: u32,
+) -> Way
+    ensures { result ≡ branch_way_of places.now crossing kind from place }
+{
+    let variant = 0;
+    let Some(to) = places.number_by_guess(Point { place, variant }, guess) else {
+        return Way::Bad;
+    };
+    match places.unchecked_start(place) {
+        Some(function) => Way::Outside(function),
+        None => checked_way(places, crossing, kind, from, place, places.owner(to)),
     }
 }
 
@@ -66,13 +90,7 @@ pub fn branch_way(
 ) -> Way
     ensures { result ≡ branch_way_of places.now crossing kind from place }
 {
-    if !places.is_boundary(place) {
-        return Way::Bad;
-    }
-    match places.unchecked_start(place) {
-        Some(function) => Way::Outside(function),
-        None => checked_way(places, crossing, kind, from, place),
-    }
+    way_by_guess(places, crossing, kind, from, place, 0)
 }
 
 /// How a static branch or an exception entry from code of an owner comes to a place: as a branch that may cross, but not

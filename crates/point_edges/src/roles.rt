@@ -22,7 +22,7 @@ fn role_by(points: &FlowPoints<'_, '_, '_>, n: u32, op: Op, branch: Branch) -> R
     ensures { result ≡ role_by_op points.now (point_at points.now n) op }
 {
     match op {
-        Op::Call { .. } => call_role(points.places(), n, branch.to),
+        Op::Call { .. } => call_role(points.places(), n, branch),
         Op::CallInd => Role::CallAny,
         Op::Jmp { .. } | Op::Jcc { .. } => jump_role(points, n, branch),
         Op::JmpInd { .. } => indirect_role(points, n),

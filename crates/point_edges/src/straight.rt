@@ -2,12 +2,12 @@
 
 ghost use Rattle.std.specs.Prelude.{◌≡◌, ◌<◌, ◌&&◌, length, not};
 ghost use Rattle.flow_defs.specs.Arrival.{decoded_insn};
-ghost use Rattle.flow_defs.specs.Code.{alternatives_of, plain_point, point_at, points_of_object, same_point};
+ghost use Rattle.flow_defs.specs.Code.{alternatives_of, is_plain, plain_point, point_at, points_of_object, same_point};
 ghost use Rattle.flow_defs.specs.Marks.{has_relocated_offset as has_relocated_offset_at};
 ghost use Rattle.object_points.specs.Places.{HaveSamePlaces};
 ghost use Rattle.point_edges.specs.Lists.{original_places_of};
 ghost use Rattle.point_edges.specs.Low.{AreLow};
-ghost use Rattle.point_edges.specs.Straight.{goes_straight as goes_straight_on, is_next_at as is_next_point_at, is_straight_insn as is_straight_insn_at, is_straight_op as is_straight_operation};
+ghost use Rattle.point_edges.specs.Straight.{ends_at_next as ends_at_next_point, is_next_at as is_next_point_at, is_straight_insn as is_straight_insn_at, is_straight_op as is_straight_operation};
 
 use crate::behind::end_of;
 use crate::relocated::has_relocated_offset;
@@ -66,24 +66,33 @@ fn is_decoded_straight(places: &PointPlaces<'_, '_, '_>, n: u32) -> bool
 
 /// Whether a point is plain, its operation is straight, and no relocation changes a number of the stack there.
 #[inline(always)]
-fn is_straight_insn(places: &PointPlaces<'_, '_, '_>, n: u32) -> bool
+pub(crate) fn is_straight_insn(places: &PointPlaces<'_, '_, '_>, n: u32) -> bool
     requires { n < length (points_of_object places.now) }
     ensures { result ≡ is_straight_insn_at places.now n }
 {
     places.point(n).variant == 0 && is_decoded_straight(places, n)
 }
 
-/// Whether control goes straight on from a point, where no list says anything of it.
+/// Whether a point is plain, and the plain one at this place has the next number.
 #[inline(always)]
-pub(crate) fn goes_straight(places: &PointPlaces<'_, '_, '_>, originals: &PlaceSet, n: u32) -> bool
+pub(crate) fn is_plain_before(places: &PointPlaces<'_, '_, '_>, n: u32, end: Place) -> bool
+    requires { n < length (points_of_object places.now) }
+    ensures { result ≡ (is_plain (point_at places.now n) && is_next_point_at places.now n end) }
+{
+    places.point(n).variant == 0 && is_next_at(places, n, end)
+}
+
+/// Whether a point is plain, the plain point where it ends has the next number, and no site starts there.
+#[inline(always)]
+pub(crate) fn ends_at_next(places: &PointPlaces<'_, '_, '_>, originals: &PlaceSet, n: u32) -> bool
     requires low { AreLow places.now }
     requires originals { HaveSamePlaces (original_places_of (alternatives_of places.now)) originals.now }
     requires point { n < length (points_of_object places.now) }
-    ensures { result ≡ goes_straight_on places.now n }
+    ensures { result ≡ ends_at_next_point places.now n }
 {
-    if !is_straight_insn(places, n) {
+    let end = end_of(places, n);
+    if !is_plain_before(places, n, end) {
         return false;
     }
-    let end = end_of(places, n);
-    is_next_at(places, n, end) && !originals.contains(end)
+    !originals.contains(end)
 }

@@ -15,6 +15,7 @@ use crate::Branch;
 use crate::bad_targets::{is_bad_branch, is_bad_listed};
 use crate::flow_points::FlowPoints;
 use crate::into_sites::{branch_enters, listed_enter, table_enters};
+use flow_defs::Destination;
 use machine_defs::EdgeKind;
 use operation_defs::Insn;
 
@@ -56,13 +57,15 @@ fn has_entry_in_site(points: &FlowPoints<'_, '_, '_>, n: u32) -> bool
         || listed_enter(places, EdgeKind::Fixup, n, arrivals.fixups(n))
 }
 
-/// Whether the jump table of a point with this instruction, a static branch or an exception entry at it leads into a site.
-fn leads_into_site(points: &FlowPoints<'_, '_, '_>, n: u32, insn: Insn) -> bool
+/// Whether the jump table of a point with this instruction, whose direct jump goes `to` there, a static branch or an exception
+/// entry at it leads into a site.
+fn leads_into_site(points: &FlowPoints<'_, '_, '_>, n: u32, insn: Insn, to: Destination) -> bool
     requires point { n < length (points_of_object points.now) }
     requires insn { insn ≡ insn_of_object points.now (point_at points.now n) }
+    requires to { to ≡ destination_of points.now (point_at points.now n) }
     ensures { let point = point_at points.now n in result ≡ (list_any (comes_into_site points.now point) (table_of_point points.now point) || (list_any (comes_into_site points.now point) (listed_places points.now EdgeKind.Taken point (static_targets_of points.now point)) || list_any (comes_into_site points.now point) (listed_places points.now EdgeKind.Fixup point (fixups_of points.now point)))) }
 {
-    table_enters(points, n, insn) || has_entry_in_site(points, n)
+    table_enters(points, n, insn, to) || has_entry_in_site(points, n)
 }
 
 /// Whether a target of a point with this instruction, whose direct call or branch goes there, lies in a site, past its start,
@@ -79,5 +82,5 @@ pub(crate) fn has_target_in_site(
     requires way { branch.way ≡ direct_way points.now (point_at points.now n) insn.op }
     ensures { result ≡ has_a_target_in_site points.now (point_at points.now n) }
 {
-    branch_enters(points, n, insn.op, branch) || leads_into_site(points, n, insn)
+    branch_enters(points, n, insn.op, branch) || leads_into_site(points, n, insn, branch.to)
 }
