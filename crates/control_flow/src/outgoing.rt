@@ -255,6 +255,7 @@ fn list_point(
 /// Where control goes from all points. 2^32 edges, which would take 32 GiB, are too many.
 ///
 /// Jumps that go nowhere but through one table have the edges of the first of them.
+#[inline(never)]
 pub(crate) fn list_outgoing(
     alloc: Global,
     points: &FlowPoints<'_, '_, '_>,
