@@ -105,7 +105,7 @@ fn look_around(
 }
 
 /// Pushes the edges of a point of any kind, or one to an earlier one that it goes like, and finds what else there is of it.
-#[inline(never)]
+#[inline(always)]
 fn look_for_jumps(
     alloc: Global,
     points: &FlowPoints<'_, '_, '_>,

@@ -17,4 +17,4 @@ returns-then-is_none c = λ numbers are.
     let absent : found ≡ None = is_absent found c.is_none.result c.is_none.ensures c.if-is_none.true in
     let unhinted : IsUnhinted o n = subst (λ (e : Coded). IsUnhinted e n) c.requires.hints (sym c.hint.ensures ∙ absent) in
     more_rares o c.args.hints.now.restores rares rares hinted hinted numbers n None None 0 USUAL are
-    unhinted (refl, refl) (c.is_behind_straight.ensures c.if-is_behind_straight.true) (stays rares rares USUAL 0 refl are.usual)
+    unhinted (refl, refl) (c.is_usual.ensures c.if-is_usual.true) (stays rares rares USUAL 0 refl are.usual)
