@@ -37,4 +37,4 @@ pub mod Settling
 pub mod Alike
 pub mod Noted
 pub mod Whole
-pub mod PlainKinds
+pub mod UsualKinds

@@ -22,7 +22,7 @@ loop-n-init c =
       subst (λ (items : List GraphPoint). AreMade o owners returns rares transfers c.in_ok-table.table.kinds.items items 0) (sym c.in_ok-made.ensures.items)
           (subst (λ (kinds : List PointKind). AreMade o owners returns rares transfers kinds [] 0) (sym c.in_ok-table.ensures.kinds) (none_made o owners returns rares transfers)),
       omega (arith, ap length c.in_ok-table.ensures.kinds),
-      c.in_ok-table.ensures.plain,
+      c.in_ok-table.ensures.usual,
     )
 
 pub loop-n-preserved : goal.loop-n-preserved
@@ -46,7 +46,7 @@ loop-n-preserved c =
       subst (λ (items : List GraphPoint). AreMade o owners returns rares transfers after items (n + 1)) (sym c.in_ok-push.ensures.items)
           (made_more o owners returns rares transfers before after k c.in_ok-number.number c.loop-n.made.items n x c.loop-n.invariant.0 numbered kind c.point_of-point.ensures),
       omega (arith, numbered.short, c.loop-n.invariant.1),
-      c.in_ok-number.ensures.plain,
+      c.in_ok-number.ensures.usual,
     )
 
 pub kind_of-requires-clause-entered : goal.kind_of-requires-clause-entered
