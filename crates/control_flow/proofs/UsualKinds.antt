@@ -1,10 +1,9 @@
 -- The kinds that most points have, as more kinds come.
-use Rattle.std.proofs.Common.{◌≡◌, ℕ, ◌+◌, ◌*◌, ◌<◌, inl, inr, true, false, List, Option, None, Some, length, get_or, replicate, set, refl, sym, ap, ◌∙◌, subst, arith, get_or-set_same, get_or-set_other}
+use Rattle.std.proofs.Common.{◌≡◌, ℕ, ◌<◌, inl, inr, true, false, List, Option, None, Some, length, get_or, replicate, set, refl, sym, ap, ◌∙◌, subst, arith, get_or-set_same, get_or-set_other}
 use Rattle.std.specs.Prelude.{Err, IfOk, Ok, OnOk, Result, slice_get}
 use Rattle.std.proofs.lemmas.Bool.{cases_eq, cases_lt}
 use Rattle.std.proofs.lemmas.List.{get_or-replicate, get_or_past, length-replicate}
 use Rattle.operation_defs.specs.declared.insn.Insn.{Insn}
-use Rattle.operation_defs.specs.declared.op.Op.{Op}
 use Rattle.program_graph.specs.Tells.{insn_of}
 use Rattle.program_graph.specs.declared.parts.PointKind.{PointKind}
 use Rattle.control_flow.specs.Kinds.{AreUsual, IsPlaceOf, common_op, usual_kind}

@@ -1,4 +1,4 @@
-use Rattle.std.proofs.Common.{◌≡◌, ℕ, ◌<◌, subst, arith}
+use Rattle.std.proofs.Common.{ℕ, ◌<◌, subst, arith}
 use Rattle.flow_defs.specs.Coded.{Coded}
 use Rattle.object_law.specs.Flows.{ObjectIsInOrder}
 use Rattle.control_flow.proofs.Behind.{behind_by}

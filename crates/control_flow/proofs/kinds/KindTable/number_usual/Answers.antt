@@ -2,7 +2,7 @@ use Rattle.std.proofs.Common.{◌≡◌, ◌<◌, ℕ, List, Option, Some, lengt
 use Rattle.std.specs.Prelude.{slice_get}
 use Rattle.program_graph.specs.Tells.{insn_of}
 use Rattle.program_graph.specs.declared.parts.PointKind.{PointKind}
-use Rattle.control_flow.specs.Kinds.{AreUsual, IsPlaceOf, usual_kind}
+use Rattle.control_flow.specs.Kinds.{AreUsual, usual_kind}
 use Rattle.control_flow.proofs.UsualKinds.{still_usual, usual_more}
 use Rattle.control_flow.proofs.kinds.KindTable.number_usual.Goals as goal
 
