@@ -1,11 +1,12 @@
--- The point behind a straight one.
-use Rattle.std.proofs.Common.{◌≡◌, ℕ, ◌+◌, ◌-◌, true, cond, ◌&&◌, Some, None, Contains, find, option_and_then, inl, inr, refl, sym, ap, ◌∙◌, subst, arith}
+-- The point right behind a plain one.
+use Rattle.std.proofs.Common.{◌≡◌, ℕ, ◌+◌, ◌-◌, ◌<◌, true, cond, ◌&&◌, Some, None, Contains, find, length, option_and_then, inl, inr, refl, sym, ap, ◌∙◌, subst, arith}
 use Rattle.std.specs.Prelude.{◌==◌}
-use Rattle.std.proofs.lemmas.Bool.{cases_lt, eqb-true, ne_eqb}
+use Rattle.std.proofs.lemmas.Bool.{cases_lt, eq-eqb, eqb-true, ne_eqb}
 use Rattle.std.proofs.lemmas.List.{get_or_default}
 use Rattle.std.proofs.lemmas.List.Elements.{Contains-get_or}
 use Rattle.ot_base.specs.declared.place.Place.{Place}
 use Rattle.ot_base.specs.Places.{same_place}
+use Rattle.operation_defs.specs.declared.insn.Insn.{Insn}
 use Rattle.flow_defs.specs.Coded.{Coded}
 use Rattle.alternatives.specs.declared.point.Point.{Point}
 use Rattle.alternatives.specs.Texts.{behind}
@@ -66,24 +67,19 @@ only_one o place a b one other = plain_is a one.plain ∙ (ap plain_point (equal
       ]
     ]
 
-module _ (o : Coded) (n : ℕ) (bytes : HasBytes o) (is : IsStraight o n) where
+-- a plain point right behind the plain one with the number below
+module _ (o : Coded) (n : ℕ) (bytes : HasBytes o) (inside : n < length (points_of_object o)) (plain : is_plain (point_at o n) ≡ true) (next_plain : (point_at o (n + 1)).variant ≡ 0) (next_place : (point_at o (n + 1)).place ≡ behind (point_at o n).place (decoded_insn o (point_at o n)).len) where
   abbrev p : Point
   p = point_at o n
 
   abbrev next : Point
   next = point_at o (n + 1)
 
-  next_place : next.place ≡ behind p.place (decoded_insn o p).len
-  next_place = ap (λ (x : Point). x.place) is.next ∙ ap (λ b. cond b (behind p.place (decoded_insn o p).len) (site_end o p)) is.plain
-
-  next_plain : next.variant ≡ 0
-  next_plain = ap (λ (x : Point). x.variant) is.next
-
   listed : Contains (points_of_object o) p
-  listed = Contains-get_or (points_of_object o) n no_point (omega (arith, is.inside))
+  listed = Contains-get_or (points_of_object o) n no_point inside
 
   right : is_right_before o next p ≡ true
-  right = ap (λ b. b && same_place (behind p.place (decoded_insn o p).len) next.place) is.plain ∙ is_same_place (behind p.place (decoded_insn o p).len) next.place (sym next_place)
+  right = ap (λ b. b && same_place (behind p.place (decoded_insn o p).len) next.place) plain ∙ is_same_place (behind p.place (decoded_insn o p).len) next.place (sym next_place)
 
   found : find (is_right_before o next) (points_of_object o) ≡ Some p
   found =
@@ -94,17 +90,45 @@ module _ (o : Coded) (n : ℕ) (bytes : HasBytes o) (is : IsStraight o n) where
   unfolding previous_of
   previous =
       ap (λ v. cond (v == 0) (option_and_then (number_of o) (find (is_right_before o next) (points_of_object o))) None) next_plain
-      ∙ (ap (option_and_then (number_of o)) found ∙ own_number o n (omega (arith, is.inside)))
+      ∙ (ap (option_and_then (number_of o)) found ∙ own_number o n inside)
 
   below : Some n ≡ previous_by (n + 1) Below
   below =
       let last : n ≡ n + 1 - 1 = omega arith in
       sym (ap (λ b. cond b None (Some (n + 1 - 1))) (ne_eqb (n + 1) 0 (λ none. omega (arith, none))) ∙ ap Some (sym last))
 
-  pub behind_straight : IsRare o (n + 1) None USUAL
-  behind_straight = record {
+  behind_plain : IsRare o (n + 1) None USUAL
+  behind_plain = record {
     variant = next_plain;
     address = address_plain o next next_plain;
     previous = previous ∙ below;
     hinted = refl;
   }
+
+-- the same by what was read of both
+pub behind_by : (o : Coded) (n : ℕ) (x y : Point) (insn : Insn) → HasBytes o → 0 < n → n < length (points_of_object o) → x ≡ point_at o (n - 1) → y ≡ point_at o n → insn ≡ decoded_insn o (point_at o (n - 1)) → y.variant ≡ 0 → x.variant ≡ 0 → x.place.sec ≡ y.place.sec → x.place.off + insn.len ≡ y.place.off
+    → IsRare o n None USUAL
+behind_by o n x y insn bytes some inside x_is y_is insn_is y_plain x_plain sec off =
+    let m : ℕ = n - 1 in
+    let number : m + 1 ≡ n = omega (arith, some) in
+    let p : Point = point_at o m in
+    let next : Point = point_at o (m + 1) in
+    let next_is : y ≡ next = y_is ∙ ap (point_at o) (sym number) in
+    let own : x.place.off ≡ p.place.off = ap (λ (z : Point). z.place.off) x_is in
+    let other : y.place.off ≡ next.place.off = ap (λ (z : Point). z.place.off) next_is in
+    let len : insn.len ≡ (decoded_insn o p).len = ap (λ (i : Insn). i.len) insn_is in
+    let same : p.place.sec ≡ next.place.sec = ap (λ (z : Point). z.place.sec) (sym x_is) ∙ (sec ∙ ap (λ (z : Point). z.place.sec) next_is) in
+    let ends : p.place.off + (decoded_insn o p).len ≡ next.place.off = omega (arith, own, other, len, off) in
+    subst (λ (k : ℕ). IsRare o k None USUAL) number
+    (behind_plain o m bytes (omega (arith, inside, some)) (eq-eqb p.variant 0 (ap (λ (z : Point). z.variant) (sym x_is) ∙ x_plain)) (ap (λ (z : Point). z.variant) (sym next_is) ∙ y_plain)
+    (sym (equal_places (behind p.place (decoded_insn o p).len) next.place same ends)))
+
+-- the point behind a straight one
+pub behind_straight : (o : Coded) (n : ℕ) → HasBytes o → IsStraight o n → IsRare o (n + 1) None USUAL
+behind_straight o n bytes is = behind_plain o n bytes (omega (arith, is.inside)) is.plain next_plain next_place
+  where
+    next_place : (point_at o (n + 1)).place ≡ behind (point_at o n).place (decoded_insn o (point_at o n)).len
+    next_place = ap (λ (x : Point). x.place) is.next ∙ ap (λ b. cond b (behind (point_at o n).place (decoded_insn o (point_at o n)).len) (site_end o (point_at o n))) is.plain
+
+    next_plain : (point_at o (n + 1)).variant ≡ 0
+    next_plain = ap (λ (x : Point). x.variant) is.next

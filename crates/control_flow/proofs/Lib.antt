@@ -37,3 +37,4 @@ pub mod Settling
 pub mod Alike
 pub mod Noted
 pub mod Whole
+pub mod UsualKinds

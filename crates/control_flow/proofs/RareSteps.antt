@@ -90,6 +90,6 @@ more_rares o restores before after hinted grown numbers n found known number x a
       ranges = more.ranges are.ranges;
     }
 
-pub is_absent : (x : Option ℕ) (none : Bool) → is_some x ≡ not none → none ≡ true → x ≡ None
+pub is_absent : {X : Type 0} (x : Option X) (none : Bool) → is_some x ≡ not none → none ≡ true → x ≡ None
 is_absent None none is told = refl
 is_absent (Some k) none is told = absurd (false≢true (sym (is ∙ ap not told)))

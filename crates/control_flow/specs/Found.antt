@@ -17,6 +17,7 @@ use Rattle.control_flow.specs.Lone.{GoAlike, HasEdgesOf}
 use Rattle.control_flow.specs.Numbers.{IsNumbered}
 use Rattle.control_flow.specs.Transfers.{IsTransferIfBack}
 use Rattle.control_flow.specs.declared.outgoing.Found.{Found}
+use Rattle.control_flow.specs.declared.outgoing.Gathered.{Gathered}
 use Rattle.control_flow.specs.declared.outgoing.Found.TheVariants.{Alike, Own}
 
 -- its own edges are put behind those of others, and it isn't listed as alike
@@ -52,3 +53,9 @@ pub record IsKept (o : Coded) (lists : NameLists) (n : ℕ) (before after : List
   pub is_exit : IsExit o lists n exit
   pub is_transfer : IsTransferIfBack o n transfer
   pub is_numbered : IsNumbered before after transfer number
+
+-- what is listed of point n, behind what is of others, with its exit and the number of its transfer
+pub record IsGathered (o : Coded) (lists : NameLists) (n : ℕ) (before after : Gathered) (exit : Exit) (number : ℕ) : Type 0 where
+  pub found : Found
+  pub listed : IsListed o n before.edges.items after.edges.items before.jumps.alike.items after.jumps.alike.items found
+  pub kept : IsKept o lists n before.transfers.items after.transfers.items exit number

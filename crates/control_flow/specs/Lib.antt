@@ -17,3 +17,4 @@ pub mod Numbers
 pub mod Points
 pub mod Rares
 pub mod Transfers
+pub mod Kinds

@@ -1,9 +1,11 @@
 //! The kinds of points.
 
-ghost use Rattle.std.specs.Prelude.{◌≡◌, ◌<◌, ◌^◌, [], IfOk, IfSome, Some, length, slice_get};
+ghost use Rattle.std.specs.Prelude.{◌≡◌, ◌<◌, ◌^◌, [], IfOk, IfSome, IsTrue, None, OnOk, Some, length, replicate, slice_get};
+ghost use Rattle.program_graph.specs.Tells.{insn_of};
+ghost use Rattle.control_flow.specs.Kinds.{AreUsual, IsPlaceOf, common_op, usual_kind};
 ghost use Rattle.control_flow.specs.Numbers.{IsNumbered};
 
-use operation_defs::Insn;
+use operation_defs::{Insn, Op};
 use ot_base::NoMemory;
 use program_graph::PointKind;
 use std::alloc::Global;
@@ -12,22 +14,32 @@ use x86_text::hash_of;
 /// How many marks there are.
 const MARKS: usize = 1024;
 
+/// How many lengths of instructions are told apart.
+const LENGTHS: usize = 16;
+
+/// How many operations are common.
+const COMMON: usize = 8;
+
 /// The kinds that points have so far. Few stand more than once.
 #[derive(Drop)]
 pub(crate) struct KindTable {
     pub(crate) kinds: Vec<PointKind>,
     /// For each mark where the last kind of this mark stands. It is a guess: no contract says so.
     recent: Vec<u32>,
+    /// For each place of common instructions where the kind stands that most points with the instruction have, once it does.
+    usual: Vec<Option<u32>>,
 }
 
 impl KindTable {
     /// No kinds yet.
     pub(crate) fn new(alloc: Global) -> Result<KindTable, NoMemory>
-        ensures { IfOk result (λ table. table.kinds.items ≡ []) }
+        ensures kinds { IfOk result (λ table. table.kinds.items ≡ []) }
+        ensures usual { IfOk result (λ table. AreUsual table.kinds.items table.usual.items) }
     {
         Ok(KindTable {
             kinds: Vec::new(alloc),
             recent: vec![in alloc; 0; MARKS]?,
+            usual: no_numbers(alloc, COMMON * LENGTHS)?,
         })
     }
 
@@ -45,9 +57,11 @@ impl KindTable {
     }
 
     /// The number of a kind, which goes behind the others unless the last one of its mark is the same.
-    pub(crate) fn number_of(&mut self, kind: PointKind) -> Result<u32, NoMemory>
-        requires { length self.old.kinds.items < 2 ^ 32 }
-        ensures { IfOk result (IsNumbered self.old.kinds.items self.new.kinds.items kind) }
+    #[inline(never)]
+    fn number_by_mark(&mut self, kind: PointKind) -> Result<u32, NoMemory>
+        requires few { length self.old.kinds.items < 2 ^ 32 }
+        ensures numbered { IfOk result (IsNumbered self.old.kinds.items self.new.kinds.items kind) }
+        ensures usual { self.new.usual.items ≡ self.old.usual.items }
     {
         let mark = mark_of(kind);
         if let Some(number) = self.find(kind, mark) {
@@ -60,6 +74,100 @@ impl KindTable {
         }
         Ok(number)
     }
+
+    /// The number of the kind that most points with a common instruction have, which is known from now on.
+    #[inline(never)]
+    fn number_usual(&mut self, kind: PointKind) -> Result<u32, NoMemory>
+        requires few { length self.old.kinds.items < 2 ^ 32 }
+        requires usual { AreUsual self.old.kinds.items self.old.usual.items }
+        requires kind { kind ≡ usual_kind (insn_of kind) }
+        ensures numbered { IfOk result (IsNumbered self.old.kinds.items self.new.kinds.items kind) }
+        ensures usual { OnOk result (AreUsual self.new.kinds.items self.new.usual.items) }
+    {
+        let number = self.number_by_mark(kind)?;
+        let Some(place) = place_of(kind) else {
+            return Ok(number);
+        };
+        if place < self.usual.len() {
+            self.usual[place] = Some(number);
+        }
+        Ok(number)
+    }
+
+    /// Where the kind stands that most points with the instruction of one have, if that is known.
+    #[inline(always)]
+    fn find_usual(&self, kind: PointKind) -> Option<u32>
+        requires { AreUsual self.now.kinds.items self.now.usual.items }
+        ensures { IfSome result (λ number. slice_get self.now.kinds.items number ≡ Some (usual_kind (insn_of kind))) }
+    {
+        let place = place_of(kind)?;
+        *self.usual.get(place)?
+    }
+
+    /// The number of a kind, which goes behind the others unless it is known where it stands.
+    #[inline(always)]
+    pub(crate) fn number_of(&mut self, kind: PointKind) -> Result<u32, NoMemory>
+        requires few { length self.old.kinds.items < 2 ^ 32 }
+        requires usual { AreUsual self.old.kinds.items self.old.usual.items }
+        ensures numbered { IfOk result (IsNumbered self.old.kinds.items self.new.kinds.items kind) }
+        ensures usual { OnOk result (AreUsual self.new.kinds.items self.new.usual.items) }
+    {
+        if !is_usual(kind) {
+            return self.number_by_mark(kind);
+        }
+        match self.find_usual(kind) {
+            Some(number) => Ok(number),
+            None => self.number_usual(kind),
+        }
+    }
+}
+
+/// So many times no number.
+fn no_numbers(alloc: Global, count: usize) -> Result<Vec<Option<u32>>, NoMemory>
+    ensures { IfOk result (λ numbers. numbers.items ≡ replicate count None) }
+{
+    Ok(vec![in alloc; None; count]?)
+}
+
+/// Which of the common operations one is.
+#[inline(always)]
+fn common(op: Op) -> Option<usize>
+    ensures { IfSome result (λ c. op ≡ common_op c) }
+{
+    match op {
+        Op::Plain => Some(0),
+        Op::Nop => Some(1),
+        Op::Endbr => Some(2),
+        Op::Push => Some(3),
+        Op::PushBp => Some(4),
+        Op::Pop => Some(5),
+        Op::PopBp => Some(6),
+        Op::Popf => Some(7),
+        _ => None,
+    }
+}
+
+/// The place of the instruction of a kind among the common ones, by operation and length.
+#[inline(always)]
+fn place_of(kind: PointKind) -> Option<usize>
+    ensures { IfSome result (IsPlaceOf (insn_of kind)) }
+{
+    let common = common(kind.op)?;
+    let len = usize::from(kind.len);
+    if common < COMMON && len < LENGTHS {
+        Some(LENGTHS * common + len)
+    } else {
+        None
+    }
+}
+
+/// Whether a kind is the one that most points with its instruction have.
+#[inline(always)]
+#[tactic(auto, using(crate::proofs::UsualKinds::is_usual_kind))]
+fn is_usual(kind: PointKind) -> bool
+    ensures { IsTrue result → kind ≡ usual_kind (insn_of kind) }
+{
+    kind.rare == 0 && kind.transfer == 0 && kind.may_return && !kind.is_entered && !kind.is_dead_end
 }
 
 /// The mark of a kind. Usual kinds with different instructions mostly have different ones.

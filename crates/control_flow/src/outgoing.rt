@@ -1,6 +1,7 @@
 //! Where control goes from the points, found by one look at each of them.
 
-ghost use Rattle.std.specs.Prelude.{◌≡◌, ◌+◌, ◌<◌, ◌^◌, ◌++◌, ℕ, List, All, IfOk, OnOk, true};
+ghost use Rattle.std.specs.Prelude.{◌≡◌, ◌+◌, ◌<◌, ◌^◌, ◌++◌, ◌∷◌, [], ℕ, List, All, IfOk, OnOk, Some, slice_get, true};
+ghost use Rattle.flow_defs.specs.Coded.{Coded};
 ghost use Rattle.flow_defs.specs.Arrival.{insn_of_object};
 ghost use Rattle.flow_defs.specs.Code.{point_at};
 ghost use Rattle.flow_defs.specs.Edges.{goes};
@@ -9,7 +10,7 @@ ghost use Rattle.flow_defs.specs.Roles.{role_of};
 ghost use Rattle.flow_defs.specs.Targets.{destination_of};
 ghost use Rattle.point_edges.specs.Jumps.{direct_way};
 ghost use Rattle.control_flow.specs.Told.{exit_of};
-ghost use Rattle.control_flow.specs.Found.{IsExit, IsFound, IsKept, IsListed};
+ghost use Rattle.control_flow.specs.Found.{IsExit, IsFound, IsGathered, IsKept, IsListed};
 ghost use Rattle.control_flow.specs.Listed.{AreEdges, AreExits, ExitCallsPoint, count_of};
 ghost use Rattle.control_flow.specs.Lone.{AreLoneJumps};
 ghost use Rattle.control_flow.specs.Numbers.{AreNumbered};
@@ -104,7 +105,7 @@ fn look_around(
 }
 
 /// Pushes the edges of a point of any kind, or one to an earlier one that it goes like, and finds what else there is of it.
-#[inline(never)]
+#[inline(always)]
 fn look_for_jumps(
     alloc: Global,
     points: &FlowPoints<'_, '_, '_>,
@@ -127,33 +128,6 @@ fn look_for_jumps(
     let kind = EdgeKind::Table;
     edges.push(Edge { to: first, kind })?;
     Ok(Found::Alike { first })
-}
-
-/// Pushes the edges of a point, and finds what else there is of it.
-#[inline(always)]
-fn look(
-    alloc: Global,
-    points: &FlowPoints<'_, '_, '_>,
-    lists: &Lists,
-    n: u32,
-    edges: &mut Vec<Edge>,
-    jumps: &mut LoneJumps,
-) -> Result<Found, NoMemory>
-    requires point { n < count_of points.now }
-    requires few { count_of points.now < 2 ^ 32 }
-    requires jumps { AreLoneJumps points.now jumps.old n }
-    ensures jumps { OnOk result (AreLoneJumps points.now jumps.new (n + 1)) }
-    ensures listed { IfOk result (IsListed points.now n edges.old.items edges.new.items jumps.old.alike.items jumps.new.alike.items) }
-    ensures found { IfOk result (IsFound points.now lists.now n) }
-{
-    if !points.arrivals().is_straight(n) {
-        return look_for_jumps(alloc, points, lists, n, edges, jumps);
-    }
-    push_below(points, n, edges)?;
-    Ok(Found::Own {
-        exit: Exit::Passes,
-        transfer: USUAL,
-    })
 }
 
 /// What is kept of a point beside its edges.
@@ -193,9 +167,95 @@ fn keep(
     }
 }
 
+/// What is listed of the points so far, in which most points stand alike.
+#[derive(Drop)]
+struct Gathered {
+    /// Their edges.
+    edges: Vec<Edge>,
+    /// Their lone jumps.
+    jumps: LoneJumps,
+    /// Their transfers, behind that of most points.
+    transfers: Vec<Transfer>,
+}
+
+impl Gathered {
+    /// No points.
+    fn new(alloc: Global) -> Result<Gathered, NoMemory>
+        ensures edges { IfOk result (λ gathered. gathered.edges.items ≡ []) }
+        ensures jumps { IfOk result (λ gathered. (o : Coded) → AreLoneJumps o gathered.jumps 0) }
+        ensures alike { IfOk result (λ gathered. gathered.jumps.alike.items ≡ []) }
+        ensures transfers { IfOk result (λ gathered. gathered.transfers.items ≡ USUAL ∷ []) }
+    {
+        let mut transfers = Vec::new(alloc);
+        transfers.push(USUAL)?;
+        Ok(Gathered {
+            edges: Vec::new(alloc),
+            jumps: LoneJumps::new(alloc),
+            transfers,
+        })
+    }
+}
+
+/// Lists a point of any kind, where those before it have these numbers of transfers.
+#[inline(never)]
+fn list_any(
+    alloc: Global,
+    points: &FlowPoints<'_, '_, '_>,
+    lists: &Lists,
+    n: u32,
+    gathered: &mut Gathered,
+    numbers: &[u32],
+) -> Result<Kept, NoMemory>
+    requires point { n < count_of points.now }
+    requires few { count_of points.now < 2 ^ 32 }
+    requires jumps { AreLoneJumps points.now gathered.old.jumps n }
+    requires numbered { AreNumbered (IsTransferIfBack points.now) gathered.old.transfers.items numbers.now n }
+    ensures jumps { OnOk result (AreLoneJumps points.now gathered.new.jumps (n + 1)) }
+    ensures gathered { IfOk result (λ kept. IsGathered points.now lists.now n gathered.old gathered.new kept.exit kept.number) }
+{
+    let found = look_for_jumps(
+        alloc,
+        points,
+        lists,
+        n,
+        &mut gathered.edges,
+        &mut gathered.jumps,
+    )?;
+    keep(points, lists, n, found, &mut gathered.transfers, numbers)
+}
+
+/// Lists a point, where those before it have these numbers of transfers. A straight one has the transfer of most points.
+#[inline(always)]
+fn list_point(
+    alloc: Global,
+    points: &FlowPoints<'_, '_, '_>,
+    lists: &Lists,
+    n: u32,
+    gathered: &mut Gathered,
+    numbers: &[u32],
+) -> Result<Kept, NoMemory>
+    requires point { n < count_of points.now }
+    requires few { count_of points.now < 2 ^ 32 }
+    requires jumps { AreLoneJumps points.now gathered.old.jumps n }
+    requires numbered { AreNumbered (IsTransferIfBack points.now) gathered.old.transfers.items numbers.now n }
+    requires usual { slice_get gathered.old.transfers.items 0 ≡ Some USUAL }
+    ensures jumps { OnOk result (AreLoneJumps points.now gathered.new.jumps (n + 1)) }
+    ensures gathered { IfOk result (λ kept. IsGathered points.now lists.now n gathered.old gathered.new kept.exit kept.number) }
+{
+    if !points.arrivals().is_straight(n) {
+        return list_any(alloc, points, lists, n, gathered, numbers);
+    }
+    push_below(points, n, &mut gathered.edges)?;
+    Ok(Kept {
+        exit: Exit::Passes,
+        number: 0,
+    })
+}
+
 /// Where control goes from all points. 2^32 edges, which would take 32 GiB, are too many.
 ///
 /// Jumps that go nowhere but through one table have the edges of the first of them.
+#[inline(never)]
 pub(crate) fn list_outgoing(
     alloc: Global,
     points: &FlowPoints<'_, '_, '_>,
@@ -209,24 +269,25 @@ pub(crate) fn list_outgoing(
     ensures few { OnOk result (count_of points.now < 2 ^ 32) }
 {
     let count = count_points(points.places());
-    let mut edges = Vec::new(alloc);
     let mut starts = Vec::with_capacity(alloc, count as usize + 1)?;
     starts.push(0)?;
     let mut exits = Vec::with_capacity(alloc, count as usize)?;
-    let mut transfers = Vec::new(alloc);
-    transfers.push(USUAL)?;
     let mut numbers = Vec::with_capacity(alloc, count as usize)?;
-    let mut jumps = LoneJumps::new(alloc);
+    let mut gathered = Gathered::new(alloc)?;
     for n in 0..count {
-        let found = look(alloc, points, lists, n, &mut edges, &mut jumps)?;
-        if edges.len() > u32::MAX as usize {
+        let kept = list_point(alloc, points, lists, n, &mut gathered, &numbers)?;
+        if gathered.edges.len() > u32::MAX as usize {
             return Err(NoMemory);
         }
-        starts.push(edges.len() as u32)?;
-        let kept = keep(points, lists, n, found, &mut transfers, &numbers)?;
+        starts.push(gathered.edges.len() as u32)?;
         exits.push(kept.exit)?;
         numbers.push(kept.number)?;
     }
+    let Gathered {
+        edges,
+        jumps,
+        transfers,
+    } = gathered;
     Ok(Outgoing {
         edges: EdgeList { starts, edges },
         alike: jumps.alike,

@@ -30,7 +30,7 @@ fn count_below(texts: &[SectionText<'_>], sec: u32) -> usize
 }
 
 /// Whether a plain point whose instruction has so many bytes ends at a place.
-fn ends_at(point: Point, len: u8, place: Place) -> bool
+pub(crate) fn ends_at(point: Point, len: u8, place: Place) -> bool
     ensures { IsTrue result → (point.variant ≡ 0) × (point.place.sec ≡ place.sec) × (point.place.off + len ≡ place.off) }
 {
     if point.variant != 0 || point.place.sec != place.sec || point.place.off > place.off {

@@ -14,7 +14,7 @@ use crate::listed::count_points;
 use crate::low::point_is_low;
 use crate::numbers::number_of;
 use crate::order::object_is_in_order;
-use crate::previous;
+use crate::preceding::{ends_at, previous};
 use object_points::{HintPoints, PointPlaces};
 use ot_base::NoMemory;
 use point_edges::FlowPoints;
@@ -83,6 +83,7 @@ fn number_rare(rares: &mut Vec<Rare>, rare: Rare) -> Result<u32, NoMemory>
 }
 
 /// Whether a point is right behind a straight one. But for a hint it has what most have then.
+#[inline(always)]
 fn is_behind_straight(points: &FlowPoints<'_, '_, '_>, n: u32) -> bool
     requires point { n < count_of points.now }
     ensures { IsTrue result → IsRare points.now n None USUAL }
@@ -91,8 +92,33 @@ fn is_behind_straight(points: &FlowPoints<'_, '_, '_>, n: u32) -> bool
     n > 0 && points.arrivals().is_straight(n - 1)
 }
 
-/// Lists what a point has where few have it, and tells where it stands.
-fn add_rare(
+/// Whether a point is a plain one right behind the plain one with the number below. But for a hint it has what most have
+/// then.
+fn is_behind_plain(places: &PointPlaces<'_, '_, '_>, n: u32) -> bool
+    requires point { n < count_of places.now }
+    ensures { IsTrue result → IsRare places.now n None USUAL }
+{
+    object_is_in_order(places.linked());
+    if n == 0 {
+        return false;
+    }
+    let point = places.point(n);
+    let len = places.decoded_insn(n - 1).len;
+    point.variant == 0 && ends_at(places.point(n - 1), len, point.place)
+}
+
+/// Whether it is seen at once that a point has what most have, but for a hint.
+#[inline(always)]
+fn is_usual(points: &FlowPoints<'_, '_, '_>, n: u32) -> bool
+    requires point { n < count_of points.now }
+    ensures { IsTrue result → IsRare points.now n None USUAL }
+{
+    is_behind_straight(points, n) || is_behind_plain(points.places(), n)
+}
+
+/// Lists what a point has, unless most have it or the one before, and tells where it stands.
+#[inline(never)]
+fn add_any(
     points: &FlowPoints<'_, '_, '_>,
     hints: &HintPoints<'_, '_, '_, '_>,
     n: u32,
@@ -107,10 +133,29 @@ fn add_rare(
     ensures { IfOk result (λ number. (numbers : List ℕ) → AreRares points.now hints.now.restores rares.old.items hinted.old.items numbers n → AreRares points.now hints.now.restores rares.new.items hinted.new.items (numbers ++ number ∷ []) (n + 1)) }
 {
     let known = push_hinted(hinted, hinted_of(hints, n))?;
-    if known.is_none() && is_behind_straight(points, n) {
+    number_rare(rares, rare_of(points.places(), n, known))
+}
+
+/// Lists what a point has where few have it, and tells where it stands. That of most points is the first.
+#[inline(always)]
+fn add_rare(
+    points: &FlowPoints<'_, '_, '_>,
+    hints: &HintPoints<'_, '_, '_, '_>,
+    n: u32,
+    rares: &mut Vec<Rare>,
+    hinted: &mut Vec<Hinted>,
+) -> Result<u32, NoMemory>
+    requires hints { hints.now.object ≡ points.now }
+    requires point { n < count_of points.now }
+    requires some { 0 < length rares.old.items }
+    requires few { length rares.old.items < 2 ^ 32 }
+    requires few_hinted { length hinted.old.items < 2 ^ 32 }
+    ensures { IfOk result (λ number. (numbers : List ℕ) → AreRares points.now hints.now.restores rares.old.items hinted.old.items numbers n → AreRares points.now hints.now.restores rares.new.items hinted.new.items (numbers ++ number ∷ []) (n + 1)) }
+{
+    if is_usual(points, n) && hints.hint(n).is_none() {
         return Ok(0);
     }
-    number_rare(rares, rare_of(points.places(), n, known))
+    add_any(points, hints, n, rares, hinted)
 }
 
 /// What few points have, and for each point where it stands.
@@ -125,6 +170,7 @@ pub(crate) struct RareList {
 }
 
 /// What all points have.
+#[inline(never)]
 pub(crate) fn list_rares(
     alloc: Global,
     points: &FlowPoints<'_, '_, '_>,

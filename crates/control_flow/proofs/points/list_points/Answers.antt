@@ -20,8 +20,9 @@ loop-n-init c =
     let rares : List ℕ = c.args.rares.now in
     let transfers : List ℕ = c.args.transfers.now in (
       subst (λ (items : List GraphPoint). AreMade o owners returns rares transfers c.in_ok-table.table.kinds.items items 0) (sym c.in_ok-made.ensures.items)
-          (subst (λ (kinds : List PointKind). AreMade o owners returns rares transfers kinds [] 0) (sym c.in_ok-table.ensures) (none_made o owners returns rares transfers)),
-      omega (arith, ap length c.in_ok-table.ensures),
+          (subst (λ (kinds : List PointKind). AreMade o owners returns rares transfers kinds [] 0) (sym c.in_ok-table.ensures.kinds) (none_made o owners returns rares transfers)),
+      omega (arith, ap length c.in_ok-table.ensures.kinds),
+      c.in_ok-table.ensures.usual,
     )
 
 pub loop-n-preserved : goal.loop-n-preserved
@@ -41,10 +42,11 @@ loop-n-preserved c =
     let in_rares : n < length rares = omega (arith, c.requires.rares) in
     let in_transfers : n < length transfers = omega (arith, c.requires.transfers) in
     let kind : IsKindAt o owners returns rares transfers n k = kind_at o owners returns rares transfers n k _ _ _ in_may c.index.ensures (get_or_default rares n _ 0 in_rares) (get_or_default transfers n _ 0 in_transfers) c.in_ok-kind.ensures in
-    let numbered : IsNumbered before after k c.in_ok-number.number = c.in_ok-number.ensures in (
+    let numbered : IsNumbered before after k c.in_ok-number.number = c.in_ok-number.ensures.numbered in (
       subst (λ (items : List GraphPoint). AreMade o owners returns rares transfers after items (n + 1)) (sym c.in_ok-push.ensures.items)
           (made_more o owners returns rares transfers before after k c.in_ok-number.number c.loop-n.made.items n x c.loop-n.invariant.0 numbered kind c.point_of-point.ensures),
       omega (arith, numbered.short, c.loop-n.invariant.1),
+      c.in_ok-number.ensures.usual,
     )
 
 pub kind_of-requires-clause-entered : goal.kind_of-requires-clause-entered

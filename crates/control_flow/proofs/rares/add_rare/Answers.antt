@@ -1,41 +1,20 @@
-use Rattle.std.proofs.Common.{◌≡◌, ℕ, List, Option, None, refl, sym, subst}
-use Rattle.std.specs.Prelude.{MatchOption}
+use Rattle.std.proofs.Common.{◌≡◌, ℕ, None, Option, refl, sym, ◌∙◌, subst}
+use Rattle.state_defs.specs.declared.state.HintState.{HintState}
 use Rattle.flow_defs.specs.Coded.{Coded}
-use Rattle.program_graph.specs.declared.parts.Hinted.{Hinted}
-use Rattle.program_graph.specs.declared.parts.Rare.{Rare}
-use Rattle.control_flow.specs.Hinted.{IsHinted, IsUnhinted}
-use Rattle.control_flow.specs.Rares.{IsRare}
+use Rattle.control_flow.specs.Hinted.{IsUnhinted}
 use Rattle.control_flow.specs.declared.rares.TheConstants.{USUAL}
 use Rattle.control_flow.proofs.Numbering.{stays}
 use Rattle.control_flow.proofs.RareSteps.{is_absent, more_rares}
-use Rattle.control_flow.proofs.Steps.{all_ok}
 use Rattle.control_flow.proofs.rares.add_rare.Goals as goal
 
--- what was found is so in the object of the points
-found_is : (o own : Coded) (restores : List ℕ) (n : ℕ) (found : Option Hinted) → own ≡ o → MatchOption found (IsUnhinted own n) (IsHinted own restores n) → MatchOption found (IsUnhinted o n) (IsHinted o restores n)
-found_is o own restores n found same is = subst (λ (e : Coded). MatchOption found (IsUnhinted e n) (IsHinted e restores n)) same is
-
-pub returns-then-is_behind_straight : goal.returns-then-is_behind_straight
-returns-then-is_behind_straight c = λ numbers are.
+pub returns-then-is_none : goal.returns-then-is_none
+returns-then-is_none c = λ numbers are.
     let o : Coded = c.args.points.now in
     let n : ℕ = c.args.n in
-    let restores = c.args.hints.now.restores in
     let rares = c.args.rares.now.items in
-    let known : Option ℕ = c.in_ok-known.known in
-    let absent : known ≡ None = is_absent known c.is_none.result c.is_none.ensures c.if-is_none.true in
-    let rare : IsRare o n known USUAL = subst (λ (k : Option ℕ). IsRare o n k USUAL) (sym absent) (c.is_behind_straight.ensures c.if-is_behind_straight.true) in
-    more_rares o restores rares rares c.args.hinted.now.items c.push_hinted.new.hinted.items numbers n c.hinted_of.result known 0 USUAL are
-    (found_is o c.args.hints.now.object restores n c.hinted_of.result c.requires.hints c.hinted_of.ensures) c.in_ok-known.ensures rare (stays rares rares USUAL 0 refl are.usual)
-
-pub returns : goal.returns
-returns c =
-    let o : Coded = c.args.points.now in
-    let n : ℕ = c.args.n in
-    let restores = c.args.hints.now.restores in
-    let known : Option ℕ = c.in_ok-known.known in
-    let x : Rare = c.rare_of.result in
-    let rare : IsRare o n known x = subst (λ (e : Coded). IsRare e n known x) c.places.ensures c.rare_of.ensures in
-    let after = c.number_rare.new.rares.items in
-    all_ok c.number_rare.result (λ number is numbers are.
-    more_rares o restores c.args.rares.now.items after c.args.hinted.now.items c.push_hinted.new.hinted.items numbers n c.hinted_of.result known number x are
-    (found_is o c.args.hints.now.object restores n c.hinted_of.result c.requires.hints c.hinted_of.ensures) c.in_ok-known.ensures rare is) c.number_rare.ensures
+    let hinted = c.args.hinted.now.items in
+    let found : Option HintState = c.hint.result in
+    let absent : found ≡ None = is_absent found c.is_none.result c.is_none.ensures c.if-is_none.true in
+    let unhinted : IsUnhinted o n = subst (λ (e : Coded). IsUnhinted e n) c.requires.hints (sym c.hint.ensures ∙ absent) in
+    more_rares o c.args.hints.now.restores rares rares hinted hinted numbers n None None 0 USUAL are
+    unhinted (refl, refl) (c.is_usual.ensures c.if-is_usual.true) (stays rares rares USUAL 0 refl are.usual)
