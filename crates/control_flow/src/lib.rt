@@ -6,6 +6,7 @@ mod backward;
 mod chains;
 mod check;
 mod entered;
+mod entering;
 mod found_returns;
 mod graph;
 mod hinted;
