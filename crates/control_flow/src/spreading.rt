@@ -1,12 +1,13 @@
 //! How returns are carried backwards over the edges of a program.
 
 ghost use Rattle.std.specs.Prelude.{◌≡◌, ◌+◌, ◌<◌, ◌&&◌, ◌↔◌, ℕ, true, false, IfOk, Contains, IsTrue, length, slice_index, slice_index_or, slice_set};
+ghost use Rattle.machine_defs.specs.declared.flow.EdgeKind.TheVariants.{Next};
 ghost use Rattle.control_flow.specs.declared.searched_flow.Exit.TheVariants.{Calls, Leaves};
 ghost use Rattle.control_flow.specs.Told.{dead_end_at, exit_at};
 ghost use Rattle.control_flow.specs.Shape.{HasShape, points_of};
 ghost use Rattle.control_flow.specs.declared.backward.Lead.TheVariants.{Call, Edge};
 ghost use Rattle.control_flow.specs.Backward.{IsBackward, IsEdgeOf, IsLead, edge_at};
-ghost use Rattle.control_flow.specs.Search.{AreClosed, AreListed, AreSound, Extends, FindsAlong, FindsLeaving, FindsMore, IsCarriedBy, IsSearch, IsTaken, carries as carries_back, is_set, target_returns as does_target_return, is_calling};
+ghost use Rattle.control_flow.specs.Search.{AreClosed, AreListed, AreSound, Extends, FindsAlong, FindsLeaving, FindsMore, IsCarriedBy, IsLedToFromBefore, IsNewlyCarried, IsSearch, IsTaken, RunsOn, carries as carries_back, is_set, target_returns as does_target_return, is_calling};
 
 use crate::backward::{Backward, Lead};
 use crate::return_search::Search;
@@ -14,16 +15,6 @@ use crate::searched_flow::{Exit, Flow};
 use machine_defs::EdgeKind;
 use ot_base::NoMemory;
 use std::alloc::Global;
-
-/// Whether a return comes from a point.
-fn is_leaving(exit: Exit) -> bool
-    ensures { IsTrue result ↔ (exit ≡ Leaves) }
-{
-    match exit {
-        Exit::Leaves => true,
-        Exit::Calls { .. } | Exit::CallsOut | Exit::CallsNever | Exit::Passes => false,
-    }
-}
 
 /// Whether the target of a point's call returns, as far as it is known. What isn't a call passes.
 pub(crate) fn target_returns(flow: &Flow, known: &[bool], q: u32) -> bool
@@ -51,6 +42,19 @@ fn is_dead_call(flow: &Flow, q: u32) -> bool
     }
 }
 
+/// Whether a return that may come from the end of a Next may come from its point too. Most points pass.
+fn carries_next(flow: &Flow, known: &[bool], q: u32) -> bool
+    requires shape { HasShape flow.now }
+    requires known { length known.now ≡ points_of flow.now }
+    requires point { q < points_of flow.now }
+    ensures { result ≡ carries_back flow.now known.now q Next }
+{
+    if let Exit::Passes = flow.exits[q as usize] {
+        return true;
+    }
+    target_returns(flow, known, q) && !is_dead_call(flow, q)
+}
+
 /// Whether a return that may come from the end of an edge of this kind may come from its point too.
 fn carries(flow: &Flow, known: &[bool], q: u32, kind: EdgeKind) -> bool
     requires shape { HasShape flow.now }
@@ -59,7 +63,7 @@ fn carries(flow: &Flow, known: &[bool], q: u32, kind: EdgeKind) -> bool
     ensures { result ≡ carries_back flow.now known.now q kind }
 {
     match kind {
-        EdgeKind::Next => target_returns(flow, known, q) && !is_dead_call(flow, q),
+        EdgeKind::Next => carries_next(flow, known, q),
         EdgeKind::Taken | EdgeKind::Fixup | EdgeKind::Table | EdgeKind::Sibling => true,
     }
 }
@@ -227,6 +231,52 @@ fn pass_on(flow: &Flow, backward: &Backward, search: &mut Search, x: u32)
     }
 }
 
+/// Whether nothing leads to a point but the point right before it, and no call names it.
+fn is_led_to_from_before(flow: &Flow, backward: &Backward, x: u32) -> bool
+    requires shape { HasShape flow.now }
+    requires backward { IsBackward flow.now backward.now }
+    requires point { x < points_of flow.now }
+    ensures { IsTrue result → IsLedToFromBefore flow.now x }
+{
+    if flow.entered[x as usize].is_some() {
+        return false;
+    }
+    backward.chains.last(x).is_none()
+}
+
+/// Whether a return is carried to a point that isn't found yet.
+fn is_newly_carried(flow: &Flow, search: &Search, q: u32) -> bool
+    requires shape { HasShape flow.now }
+    requires listed { AreListed flow.now search.now }
+    requires point { q < points_of flow.now }
+    ensures { IsTrue result → IsNewlyCarried flow.now search.now q }
+{
+    if search.found[q as usize] {
+        return false;
+    }
+    is_carried_to(flow, search, q)
+}
+
+/// Goes back from a point that was taken over points to which nothing else leads, as long as a return is carried on, and
+/// finds them. The last of them is taken in its place: most points are found so, and never wait.
+fn run_back(flow: &Flow, backward: &Backward, search: &mut Search, x: u32) -> u32
+    requires shape { HasShape flow.now }
+    requires backward { IsBackward flow.now backward.now }
+    requires taken { IsTaken flow.now search.old x }
+    ensures taken { IsTaken flow.now search.new result }
+    ensures on { RunsOn search.old search.new }
+{
+    let mut at = x;
+    'run: while at > 0
+        && is_led_to_from_before(flow, backward, at)
+        && is_newly_carried(flow, search, at - 1)
+    {
+        at -= 1;
+        search.mark(at);
+    }
+    at
+}
+
 /// Finds a point, if a return comes from it.
 fn find_leaving(flow: &Flow, search: &mut Search, q: u32)
     requires shape { HasShape flow.now }
@@ -239,7 +289,7 @@ fn find_leaving(flow: &Flow, search: &mut Search, q: u32)
     ensures sound { AreSound flow.now search.new.found.items search.new.known.items }
     ensures leaving { exit_at flow.now q ≡ Leaves → is_set search.new.found.items q ≡ true }
 {
-    if is_leaving(flow.exits[q as usize]) {
+    if let Exit::Leaves = flow.exits[q as usize] {
         search.find(flow, q);
     }
 }
@@ -259,7 +309,8 @@ pub(crate) fn spread(alloc: Global, flow: &Flow) -> Result<Search, NoMemory>
     for q in 0..flow.exits.len() as u32 {
         find_leaving(flow, &mut search, q);
         'waiting: while let Some(x) = search.take(flow) {
-            pass_on(flow, &backward, &mut search, x);
+            let last = run_back(flow, &backward, &mut search, x);
+            pass_on(flow, &backward, &mut search, last);
         }
     }
     Ok(search)
