@@ -115,6 +115,14 @@ pub record IsNewlyCarried (flow : Flow) (s : Search) (q : ℕ) : Type 0 where
   pub edge : ℕ
   pub carried : IsCarriedBy flow s.found.items s.known.items q edge
 
+-- the first edge of the point is a Next to the point right behind it, over which any return is carried to it
+pub record StepsOn (flow : Flow) (q : ℕ) : Type 0 where
+  pub edge : ℕ
+  pub of : IsEdgeOf flow q edge
+  pub behind : (edge_at flow edge).to ≡ q + 1
+  pub next : (edge_at flow edge).kind ≡ Next
+  pub passes : exit_at flow q ≡ Passes
+
 -- More is found, and what is listed stays.
 pub record RunsOn (before after : Search) : Type 0 where
   pub found : (q : ℕ) → is_set before.found.items q ≡ true → is_set after.found.items q ≡ true

@@ -7,7 +7,7 @@ ghost use Rattle.control_flow.specs.Told.{dead_end_at, exit_at};
 ghost use Rattle.control_flow.specs.Shape.{HasShape, points_of};
 ghost use Rattle.control_flow.specs.declared.backward.Lead.TheVariants.{Call, Edge};
 ghost use Rattle.control_flow.specs.Backward.{IsBackward, IsEdgeOf, IsLead, edge_at};
-ghost use Rattle.control_flow.specs.Search.{AreClosed, AreListed, AreSound, Extends, FindsAlong, FindsLeaving, FindsMore, IsCarriedBy, IsLedToFromBefore, IsNewlyCarried, IsSearch, IsTaken, RunsOn, carries as carries_back, is_set, target_returns as does_target_return, is_calling};
+ghost use Rattle.control_flow.specs.Search.{AreClosed, AreListed, AreSound, Extends, FindsAlong, FindsLeaving, FindsMore, IsCarriedBy, IsLedToFromBefore, IsNewlyCarried, IsSearch, IsTaken, RunsOn, StepsOn, carries as carries_back, is_set, target_returns as does_target_return, is_calling};
 
 use crate::backward::{Backward, Lead};
 use crate::return_search::Search;
@@ -244,15 +244,39 @@ fn is_led_to_from_before(flow: &Flow, backward: &Backward, x: u32) -> bool
     backward.chains.last(x).is_none()
 }
 
-/// Whether a return is carried to a point that isn't found yet.
+/// Whether a point has first of all a Next to the point right behind it, over which any return is carried to it. Most have.
+fn steps_on(flow: &Flow, q: u32) -> bool
+    requires shape { HasShape flow.now }
+    requires point { q < points_of flow.now }
+    ensures { IsTrue result → StepsOn flow.now q }
+{
+    let first = flow.start(q as usize);
+    if first == flow.start(q as usize + 1) {
+        return false;
+    }
+    let behind = q + 1;
+    if flow.edges[first].to != behind {
+        return false;
+    }
+    if !matches!(flow.edges[first].kind, EdgeKind::Next) {
+        return false;
+    }
+    matches!(flow.exits[q as usize], Exit::Passes)
+}
+
+/// Whether a return is carried to a point that isn't found yet, where the one right behind it is.
 fn is_newly_carried(flow: &Flow, search: &Search, q: u32) -> bool
     requires shape { HasShape flow.now }
     requires listed { AreListed flow.now search.now }
     requires point { q < points_of flow.now }
+    requires behind { is_set search.now.found.items (q + 1) ≡ true }
     ensures { IsTrue result → IsNewlyCarried flow.now search.now q }
 {
     if search.found[q as usize] {
         return false;
+    }
+    if steps_on(flow, q) {
+        return true;
     }
     is_carried_to(flow, search, q)
 }
