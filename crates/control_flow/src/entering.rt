@@ -1,6 +1,6 @@
 //! The entries at which control comes to stand at the points, listed from where functions start.
 
-ghost use Rattle.std.specs.Prelude.{◌≡◌, ◌<◌, ◌⊎◌, ℕ, List, Option, None, Some, All, Contains, IfOk, OnOk, length, replicate, slice_index_or};
+ghost use Rattle.std.specs.Prelude.{◌≡◌, ◌<◌, ◌⊎◌, ℕ, Option, None, Some, All, Contains, IfOk, OnOk, length, replicate, slice_index_or};
 ghost use Rattle.flow_defs.specs.Code.{point_at};
 ghost use Rattle.control_flow.specs.Entered.{IsEnteredAt};
 ghost use Rattle.control_flow.specs.Entering.{AreRight};

@@ -1,6 +1,6 @@
 //! How returns are carried backwards over the edges of a program.
 
-ghost use Rattle.std.specs.Prelude.{◌≡◌, ◌+◌, ◌<◌, ◌&&◌, ◌↔◌, ℕ, true, false, IfOk, Contains, IsTrue, length, slice_index, slice_index_or, slice_set};
+ghost use Rattle.std.specs.Prelude.{◌≡◌, ◌+◌, ◌<◌, ◌&&◌, ℕ, true, false, IfOk, Contains, IsTrue, length, slice_index, slice_index_or, slice_set};
 ghost use Rattle.machine_defs.specs.declared.flow.EdgeKind.TheVariants.{Next};
 ghost use Rattle.control_flow.specs.declared.searched_flow.Exit.TheVariants.{Calls, Leaves};
 ghost use Rattle.control_flow.specs.Told.{dead_end_at, exit_at};
@@ -318,7 +318,7 @@ fn find_leaving(flow: &Flow, search: &mut Search, q: u32)
     }
 }
 
-/// Finds the points from which a return may come. Each point is passed on once, and each edge is looked at three times at most.
+/// Finds the points from which a return may come. Each point is passed on once, and each edge is looked at a few times.
 ///
 /// All that a point leads to is passed on before the next point from which a return comes is looked for, so that the
 /// search stays in one function for long.
