@@ -8,10 +8,11 @@ ghost use Rattle.control_flow.specs.Shape.{HasShape, HaveShape, points_of};
 ghost use Rattle.control_flow.specs.Flagged.{AreFlagged};
 ghost use Rattle.control_flow.specs.Search.{is_set, target_returns as does_target_return};
 
+use crate::carrying::target_returns;
 use crate::kept_edges::drop_edges;
 use crate::return_search::Search;
 use crate::searched_flow::Flow;
-use crate::spreading::{spread, target_returns};
+use crate::spreading::spread;
 use machine_defs::Edge;
 use ot_base::NoMemory;
 use std::alloc::Global;

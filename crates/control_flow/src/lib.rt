@@ -3,6 +3,7 @@
 #![tactic(auto)]
 
 mod backward;
+mod carrying;
 mod chains;
 mod check;
 mod entered;

@@ -8,8 +8,8 @@ use Rattle.control_flow.specs.declared.searched_flow.Exit.TheVariants.{Passes}
 use Rattle.control_flow.specs.Backward.{IsEdgeOf, edge_at}
 use Rattle.control_flow.specs.Told.{exit_at, start_of}
 use Rattle.control_flow.proofs.Ranges.{ends_within}
-use Rattle.control_flow.proofs.spreading.steps_on.Goals as goal
-use Rattle.control_flow.proofs.spreading.steps_on.Goals.{in-Next, in_default}
+use Rattle.control_flow.proofs.carrying.steps_on.Goals as goal
+use Rattle.control_flow.proofs.carrying.steps_on.Goals.{in-Next, in_default}
 
 pub index-requires : goal.index-requires
 index-requires c =
