@@ -1,6 +1,6 @@
 -- Exits, dead ends, entries and edges, of one point more.
-use Rattle.std.proofs.Common.{◌≡◌, ℕ, ◌+◌, ◌-◌, ◌^◌, ◌<◌, ◌≤◌, Bool, List, [], ◌∷◌, ◌++◌, Option, Some, None, All, Contains, length, get_or, inl, inr, refl, sym, ap, ◌∙◌, subst, arith, length-append}
-use Rattle.std.specs.Prelude.{◌↔◌, IfSome, slice_index, slice_range}
+use Rattle.std.proofs.Common.{◌≡◌, ℕ, ◌+◌, ◌-◌, ◌^◌, ◌<◌, ◌≤◌, List, [], ◌∷◌, ◌++◌, All, Contains, length, get_or, inl, inr, refl, sym, ap, ◌∙◌, subst, arith, length-append}
+use Rattle.std.specs.Prelude.{slice_index, slice_range}
 use Rattle.std.proofs.lemmas.Bool.{cases_lt}
 use Rattle.std.proofs.lemmas.List.{get_or_append_left, get_or_push, length_push}
 use Rattle.std.specs.List.Sorted.{IsNonDecreasing}
@@ -11,7 +11,6 @@ use Rattle.flow_defs.specs.Coded.{Coded}
 use Rattle.machine_defs.specs.declared.flow.Edge.{Edge}
 use Rattle.machine_defs.specs.declared.flow.EdgeKind.TheVariants.{Table}
 use Rattle.machine_defs.specs.Program.{edge}
-use Rattle.flow_defs.specs.Arrival.{is_dead_end}
 use Rattle.flow_defs.specs.Code.{point_at}
 use Rattle.flow_defs.specs.Edges.{goes}
 use Rattle.flow_defs.specs.Program.{program_of}
@@ -19,8 +18,7 @@ use Rattle.flow_defs.specs.Roles.{role_of}
 use Rattle.control_flow.specs.declared.searched_flow.Exit.{Exit}
 use Rattle.control_flow.specs.Told.{exit_of}
 use Rattle.control_flow.proofs.Ranges.{range_new, range_push}
-use Rattle.control_flow.specs.Entered.{IsEnteredAt}
-use Rattle.control_flow.specs.Listed.{AreDeadEnds, AreEdges, AreEntered, AreExits, ExitCallsPoint, IsAlikeIn, IsPointIfAny, count_of}
+use Rattle.control_flow.specs.Listed.{AreEdges, AreExits, ExitCallsPoint, IsAlikeIn, count_of}
 use Rattle.control_flow.specs.Lone.{HasEdgesOf}
 use Rattle.control_flow.proofs.Steps.{each_more}
 
@@ -33,41 +31,6 @@ exits_more o lists exits n exit are here known = record {
   each = each_more (λ q. exit_of (program_of o lists) (role_of o (point_at o q))) exits exit n are.long are.each here;
   known = All-push (ExitCallsPoint o) exits exit are.known known;
 }
-
-pub no_dead_ends : (o : Coded) → AreDeadEnds o [] 0
-no_dead_ends o = record { long = refl; each = λ q d l. absurd (omega arith) }
-
-pub dead_ends_more : (o : Coded) (dead_ends : List Bool) (n : ℕ) (is : Bool) → AreDeadEnds o dead_ends n → is ≡ is_dead_end o (point_at o n) → AreDeadEnds o (dead_ends ++ is ∷ []) (n + 1)
-dead_ends_more o dead_ends n is are here = record {
-  long = omega (arith, length_push dead_ends is, are.long);
-  each = each_more (λ q. is_dead_end o (point_at o q)) dead_ends is n are.long are.each here;
-}
-
-pub no_entered : (o : Coded) → AreEntered o [] 0
-no_entered o = record { long = refl; each = λ q entry l. absurd (omega arith); known = All-nil (IsPointIfAny o) }
-
--- an entry that is told is a point
-pub known_entry : (o : Coded) (found : Option ℕ) → IfSome found (λ entry. entry < count_of o) → IsPointIfAny o found
-known_entry o None known entry e = absurd (let z : ⊥ = cc in z)
-known_entry o (Some k) known entry e = let same : k ≡ entry = cc in subst (λ (n : ℕ). n < count_of o) same known
-
-pub entered_more : (o : Coded) (entered : List (Option ℕ)) (n : ℕ) (found : Option ℕ) → AreEntered o entered n → ((entry : ℕ) → IsEnteredAt o entry n ↔ (found ≡ Some entry)) → IsPointIfAny o found → AreEntered o (entered ++ found ∷ []) (n + 1)
-entered_more o entered n found are here known = record {
-  long = omega (arith, length_push entered found, are.long);
-  each = each;
-  known = All-push (IsPointIfAny o) entered found are.known known;
-}
-  where
-    each : (q entry : ℕ) → q < n + 1 → IsEnteredAt o entry q ↔ (get_or (entered ++ found ∷ []) q None ≡ Some entry)
-    each q entry below = elim (cases_lt q n) [
-      | inl less ↦
-          let at : get_or (entered ++ found ∷ []) q None ≡ get_or entered q None = get_or_append_left entered (found ∷ []) None q (omega (arith, are.long)) in
-          subst (λ (x : Option ℕ). IsEnteredAt o entry q ↔ (x ≡ Some entry)) (sym at) (are.each q entry less)
-      | inr more ↦
-          let same : q ≡ n = omega arith in
-          let at : get_or (entered ++ found ∷ []) q None ≡ found = get_or_push entered found None q (are.long ∙ sym same) in
-          subst (λ (x : Option ℕ). IsEnteredAt o entry q ↔ (x ≡ Some entry)) (sym at) (subst (λ (k : ℕ). IsEnteredAt o entry k ↔ (found ≡ Some entry)) (sym same) (here entry))
-    ]
 
 pub no_edges : (o : Coded) → AreEdges o (0 ∷ []) [] [] 0
 no_edges o = record {

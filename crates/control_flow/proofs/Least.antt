@@ -18,7 +18,7 @@ use Rattle.machine_defs.specs.Kept.{can_go}
 use Rattle.control_flow.specs.declared.searched_flow.Exit.{Exit}
 use Rattle.control_flow.specs.declared.searched_flow.Exit.TheVariants.{Leaves, Calls, CallsOut, CallsNever, Passes}
 use Rattle.control_flow.specs.declared.searched_flow.Flow.{Flow}
-use Rattle.control_flow.specs.Told.{TellsFlow, SharesEdges, exit_of, exit_at, edges_from, start_of}
+use Rattle.control_flow.specs.Told.{TellsFlow, SharesEdges, callee_at, exit_of, exit_at, edges_from, start_of}
 use Rattle.control_flow.specs.Shape.{HasShape, points_of}
 use Rattle.control_flow.specs.Backward.{edge_at, IsEdgeOf}
 use Rattle.control_flow.specs.Search.{is_set, target_returns, is_calling, carries, AreSound, AreClosed}
@@ -189,8 +189,14 @@ module _ (p : Program) (flow : Flow) (tells : TellsFlow p flow) (shape : HasShap
     alive_over : (q : ℕ) → p.dead_end q ≡ false → not (true && p.dead_end q) ≡ true
     alive_over q e = ap not e
 
-    known_entry : (q entry first : ℕ) → IsPoint p q → p.role q ≡ CallIn entry → Contains (entry_points p entry) first → is_set found first ≡ true → is_set known entry ≡ true
-    known_entry q entry first point is c f = subst (λ (n : ℕ). is_set known n ≡ true) ((tells.callees q entry first point is (arrival p program entry first c)).0 c) (closed.passed first f).callee
+    -- a call whose name isn't listed is one of its entry
+    calls_entry : (q entry : ℕ) → IsPoint p q → p.role q ≡ CallIn entry → is_listed p (CallIn entry) ≡ false → exit_at flow q ≡ Calls entry
+    calls_entry q entry point is unlisted = sym (tells.exits q point) ∙ (ap (exit_of p) is ∙ ap (λ (b : Bool). cond b CallsNever (Calls entry)) unlisted)
+
+    known_entry : (q entry first : ℕ) → IsPoint p q → p.role q ≡ CallIn entry → is_listed p (CallIn entry) ≡ false → Contains (entry_points p entry) first → is_set found first ≡ true → is_set known entry ≡ true
+    known_entry q entry first point is unlisted c f =
+        let named : callee_at flow first ≡ entry = (tells.callees q entry first point is (arrival p program entry first c)).0 c in
+        subst (λ (n : ℕ). is_set known n ≡ true) named ((closed.passed first f).callee q (calls_entry q entry point is unlisted ∙ ap Calls (sym named)))
 
     complete : (q : ℕ) → IsPoint p q → MayReturn p q → is_set found q ≡ true
     complete _ point (MayReturn.returns q is) = leaves q Return point is refl
@@ -245,7 +251,7 @@ module _ (p : Program) (flow : Flow) (tells : TellsFlow p flow) (shape : HasShap
         by_role Switch is h f = absurd (let z : ⊥ = cc in z)
     complete _ point (MayReturn.comes_back_in q r entry first is unlisted alive arrived inside c from) =
         let f : is_set found r ≡ true = complete r (program.edges q (edge r Next) point c) from in
-        let known_is : is_set known entry ≡ true = known_entry q entry first point is arrived (complete first (arrival p program entry first arrived) inside) in
+        let known_is : is_set known entry ≡ true = known_entry q entry first point is unlisted arrived (complete first (arrival p program entry first arrived) inside) in
         over q r (CallIn entry) point is (subst (λ (b : Bool). over_next known (cond b CallsNever (Calls entry)) (p.dead_end q) ≡ true) (sym unlisted) (rw known_is (alive_over q alive))) c f
 
 same_tests : (a b : Bool) → (a ≡ true → b ≡ true) → (b ≡ true → a ≡ true) → a ≡ b
@@ -264,8 +270,8 @@ module _ (p : Program) (flow : Flow) (tells : TellsFlow p flow) (shape : HasShap
   pub may_return_is : (q : ℕ) → IsPoint p q → q < length found → slice_get found q ≡ Some (p.may_return q)
   may_return_is q point inside = slice_get-get_or found q false inside ∙ ap Some (found_is q point)
 
-  known_is : (q entry : ℕ) → IsPoint p q → p.role q ≡ CallIn entry → is_set known entry ≡ list_any p.may_return (entry_points p entry)
-  known_is q entry point role = same_tests (is_set known entry) (list_any p.may_return (entry_points p entry)) there back
+  known_is : (q entry : ℕ) → IsPoint p q → p.role q ≡ CallIn entry → is_listed p (CallIn entry) ≡ false → is_set known entry ≡ list_any p.may_return (entry_points p entry)
+  known_is q entry point role unlisted = same_tests (is_set known entry) (list_any p.may_return (entry_points p entry)) there back
     where
       there : is_set known entry ≡ true → list_any p.may_return (entry_points p entry) ≡ true
       there h = go (sound.entries p tells q entry point role h)
@@ -279,7 +285,7 @@ module _ (p : Program) (flow : Flow) (tells : TellsFlow p flow) (shape : HasShap
           go : (k : ℕ) × (first : ℕ) × (k < length (entry_points p entry)) × (get_or (entry_points p entry) k first ≡ first) × (p.may_return first ≡ true) → is_set known entry ≡ true
           go (k, first, l, e, m) =
               let point_first : IsPoint p first = arrival p is entry first (k, l, e) in
-              known_entry p flow tells shape found known closed is q entry first point role (k, l, e) (found_complete first point_first ((is.may_return first point_first).0 m))
+              known_entry p flow tells shape found known closed is q entry first point role unlisted (k, l, e) (found_complete first point_first ((is.may_return first point_first).0 m))
 
   target_is : (q : ℕ) → IsPoint p q → target_returns known (exit_at flow q) ≡ target_may_return p (p.role q)
   target_is q point = ap (target_returns known) (sym (tells.exits q point)) ∙ by_role (p.role q) refl
@@ -288,9 +294,9 @@ module _ (p : Program) (flow : Flow) (tells : TellsFlow p flow) (shape : HasShap
       by_call true = refl
       by_call false = refl
 
-      by_entry : (b may : Bool) (entry : ℕ) → is_set known entry ≡ may → target_returns known (cond b CallsNever (Calls entry)) ≡ (not b && may)
+      by_entry : (b may : Bool) (entry : ℕ) → (b ≡ false → is_set known entry ≡ may) → target_returns known (cond b CallsNever (Calls entry)) ≡ (not b && may)
       by_entry true may entry is = refl
-      by_entry false may entry is = is
+      by_entry false may entry is = is refl
 
       by_jump : (b : Bool) → target_returns known (cond b Passes Leaves) ≡ true
       by_jump true = refl

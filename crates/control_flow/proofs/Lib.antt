@@ -6,6 +6,7 @@ pub mod Keeping
 pub mod Dropping
 pub mod Passing
 pub mod Walks
+pub mod Running
 pub mod Leading
 pub mod Standing
 pub mod Apart
@@ -20,6 +21,7 @@ pub mod ToldFaults
 pub mod InOrder
 pub mod Steps
 pub mod Gathered
+pub mod Listing
 pub mod Bytes
 pub mod Fields
 pub mod Callees

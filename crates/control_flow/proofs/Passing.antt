@@ -1,5 +1,5 @@
 -- A point more is passed on.
-use Rattle.std.proofs.Common.{◌≡◌, ◌≢◌, ℕ, zero, suc, ◌+◌, ◌<◌, ◌≤◌, ◌⊎◌, inl, inr, Bool, true, false, not, ◌&&◌, List, [], ◌∷◌, ◌++◌, Some, All, Contains, get_or, length, replicate, set, refl, sym, ap, ◌∙◌, subst, arith, get_or-set_other}
+use Rattle.std.proofs.Common.{◌≡◌, ◌≢◌, ℕ, zero, suc, ◌+◌, ◌<◌, ◌≤◌, ◌⊎◌, inl, inr, Bool, true, false, not, ◌&&◌, List, [], ◌∷◌, ◌++◌, All, Contains, get_or, length, replicate, set, refl, sym, ap, ◌∙◌, subst, arith, get_or-set_other}
 use Rattle.std.specs.Prelude.{count_by, vec_capacity}
 use Rattle.std.proofs.lemmas.Bool.{cases_eq}
 use Rattle.std.proofs.lemmas.List.{get_or-replicate, get_or_append_left, get_or_push, length_push}
@@ -78,7 +78,7 @@ pub passed_know : (flow : Flow) (found after known : List Bool) (entry x : ℕ) 
     → is_set found x ≡ true → IsPassedOn flow found known x → IsPassedOn flow after (set known entry true) x
 passed_know flow found after known entry x inside still calls is passed = record {
   edges = along_know flow found after known entry x still calls is passed.edges;
-  callee = holds_still known entry (callee_at flow x) inside passed.callee;
+  callee = λ q e. holds_still known entry (callee_at flow x) inside (passed.callee q e);
 }
 
 -- a point is passed on, and those stay so that were
@@ -105,7 +105,7 @@ search_same flow s t x taken listed sound extends same along callee =
     (subst (λ (known : List Bool). IsPassedOn flow t.found.items known x) (sym same) here)
   where
     here : IsPassedOn flow t.found.items s.known.items x
-    here = record { edges = along; callee = callee }
+    here = record { edges = along; callee = λ q e. callee }
 
 -- where one more is known to return: `one` is the search before its calls are found
 module _ (flow : Flow) (s one t : Search) (x entry : ℕ) (taken : IsTaken flow s x) (named : callee_at flow x ≡ entry) (entry_in : entry < length one.known.items) where
@@ -123,7 +123,7 @@ module _ (flow : Flow) (s one t : Search) (x entry : ℕ) (taken : IsTaken flow 
       here : IsPassedOn flow t.found.items (set one.known.items entry true) x
       here = record {
         edges = along_know flow one.found.items t.found.items one.known.items entry x second.found calls (first.found x taken.found) (subst (λ (ks : List Bool). FindsAlong flow one.found.items ks x) (sym same) along);
-        callee = subst (λ (k : ℕ). is_set (set one.known.items entry true) k ≡ true) (sym named) (holds_new one.known.items entry entry_in);
+        callee = λ q e. subst (λ (k : ℕ). is_set (set one.known.items entry true) k ≡ true) (sym named) (holds_new one.known.items entry entry_in);
       }
 
 -- at first nothing is found

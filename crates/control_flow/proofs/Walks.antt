@@ -94,13 +94,13 @@ module _ (flow : Flow) (leads : List Lead) (x : ℕ) where
   pub in_leads : (k : ℕ) → k < length keys → k < length leads
   in_leads k inside = omega (arith, inside, length-map leads (key_of flow))
 
-  in_keys : (k : ℕ) → k < length leads → k < length keys
+  pub in_keys : (k : ℕ) → k < length leads → k < length keys
   in_keys k inside = omega (arith, inside, length-map leads (key_of flow))
 
-  edge_key : (k q i : ℕ) → k < length leads → lead_at leads k ≡ Edge q i → (edge_at flow i).to ≡ x → get_or keys k None ≡ Some x
+  pub edge_key : (k q i : ℕ) → k < length leads → lead_at leads k ≡ Edge q i → (edge_at flow i).to ≡ x → get_or keys k None ≡ Some x
   edge_key k q i inside at to = key_at (key_of flow) leads k (Call 0) inside ∙ (ap (key_of flow) at ∙ ap Some to)
 
-  call_key : (k q : ℕ) → k < length leads → lead_at leads k ≡ Call q → exit_at flow q ≡ Calls x → get_or keys k None ≡ Some x
+  pub call_key : (k q : ℕ) → k < length leads → lead_at leads k ≡ Call q → exit_at flow q ≡ Calls x → get_or keys k None ≡ Some x
   call_key k q inside at is = key_at (key_of flow) leads k (Call 0) inside ∙ (ap (key_of flow) at ∙ ap called is)
 
   -- where an edge of the chain leads

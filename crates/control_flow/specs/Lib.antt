@@ -9,6 +9,8 @@ pub mod Gapless
 pub mod Few
 pub mod Judged
 pub mod Listed
+pub mod Entering
+pub mod Flagged
 pub mod Lone
 pub mod Found
 pub mod Returns

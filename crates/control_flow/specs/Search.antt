@@ -1,5 +1,5 @@
 -- A search for the points from which a return may come.
-use Rattle.std.specs.Prelude.{◌≡◌, ℕ, ◌+◌, ◌<◌, ◌≤◌, ◌⊎◌, List, Some, Bool, true, false, not, ◌&&◌, All, Contains, length, count_by, vec_capacity, slice_index_or}
+use Rattle.std.specs.Prelude.{◌≡◌, ℕ, ◌+◌, ◌<◌, ◌≤◌, ◌⊎◌, List, Bool, true, false, not, ◌&&◌, All, Contains, length, count_by, vec_capacity, slice_index_or}
 use Rattle.machine_defs.specs.declared.flow.EdgeKind.{EdgeKind}
 use Rattle.machine_defs.specs.declared.flow.EdgeKind.TheVariants.{Next, Taken, Fixup, Table, Sibling}
 use Rattle.machine_defs.specs.declared.flow.Role.TheVariants.{CallIn}
@@ -69,7 +69,7 @@ FindsAlong flow found known x = (q i : ℕ) → IsEdgeOf flow q i → (edge_at f
 -- all is found that a return which comes from x is carried to
 pub record IsPassedOn (flow : Flow) (found known : List Bool) (x : ℕ) : Type 0 where
   pub edges : FindsAlong flow found known x
-  pub callee : is_set known (callee_at flow x) ≡ true
+  pub callee : (q : ℕ) → exit_at flow q ≡ Calls (callee_at flow x) → is_set known (callee_at flow x) ≡ true
 
 -- those of the first n points from which a return comes are found
 abbrev pub FindsLeaving : Flow → List Bool → ℕ → Type 0
@@ -103,3 +103,28 @@ pub record FindsMore (flow : Flow) (before after : Search) : Type 0 where
 -- a return is carried to the point along one of its edges, from a point that is found
 abbrev pub IsCarriedBy : Flow → List Bool → List Bool → ℕ → ℕ → Type 0
 IsCarriedBy flow found known q i = IsEdgeOf flow q i × (is_set found (edge_at flow i).to ≡ true) × (carries flow known q (edge_at flow i).kind ≡ true)
+
+-- nothing leads to the point but the point right before it, and no call names it
+pub record IsLedToFromBefore (flow : Flow) (x : ℕ) : Type 0 where
+  pub edges : (q i : ℕ) → IsEdgeOf flow q i → (edge_at flow i).to ≡ x → q + 1 ≡ x
+  pub calls : (q : ℕ) → exit_at flow q ≡ Calls (callee_at flow x) → ⊥
+
+-- a return is carried to the point, which isn't found yet
+pub record IsNewlyCarried (flow : Flow) (s : Search) (q : ℕ) : Type 0 where
+  pub new : is_set s.found.items q ≡ false
+  pub edge : ℕ
+  pub carried : IsCarriedBy flow s.found.items s.known.items q edge
+
+-- the first edge of the point is a Next to the point right behind it, over which any return is carried to it
+pub record StepsOn (flow : Flow) (q : ℕ) : Type 0 where
+  pub edge : ℕ
+  pub of : IsEdgeOf flow q edge
+  pub behind : (edge_at flow edge).to ≡ q + 1
+  pub next : (edge_at flow edge).kind ≡ Next
+  pub passes : exit_at flow q ≡ Passes
+
+-- More is found, and what is listed stays.
+pub record RunsOn (before after : Search) : Type 0 where
+  pub found : (q : ℕ) → is_set before.found.items q ≡ true → is_set after.found.items q ≡ true
+  pub waiting : after.waiting.items ≡ before.waiting.items
+  pub more : count_by (λ b. b) before.found.items ≤ count_by (λ b. b) after.found.items

@@ -74,7 +74,8 @@ impl Backward {
         ensures { OnOk result (IsBackwardTo flow.now self.new (q + 1) (number + 1)) }
     {
         let to = flow.edges[number as usize].to;
-        if to > q && to - q == 1 {
+        let behind = q + 1;
+        if to == behind {
             return Ok(());
         }
         self.add(Lead::Edge { from: q, number }, to)?;

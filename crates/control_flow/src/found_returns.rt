@@ -1,16 +1,18 @@
 //! From which points of a program a return may come.
 
-ghost use Rattle.std.specs.Prelude.{◌≡◌, ◌<◌, ℕ, IfOk, length, slice_index_or};
+ghost use Rattle.std.specs.Prelude.{◌≡◌, ◌+◌, ◌<◌, ℕ, IfOk, length, slice_index_or, true};
 ghost use Rattle.machine_defs.specs.Program.{Program};
 ghost use Rattle.machine_defs.specs.IsProgram.{IsProgram};
 ghost use Rattle.control_flow.specs.Told.{TellsFlow, TellsReturns, exit_at};
 ghost use Rattle.control_flow.specs.Shape.{HasShape, HaveShape, points_of};
+ghost use Rattle.control_flow.specs.Flagged.{AreFlagged};
 ghost use Rattle.control_flow.specs.Search.{is_set, target_returns as does_target_return};
 
+use crate::carrying::target_returns;
 use crate::kept_edges::drop_edges;
 use crate::return_search::Search;
 use crate::searched_flow::Flow;
-use crate::spreading::{spread, target_returns};
+use crate::spreading::spread;
 use machine_defs::Edge;
 use ot_base::NoMemory;
 use std::alloc::Global;
@@ -35,16 +37,29 @@ pub struct Returns {
     pub entered: Vec<Option<u32>>,
 }
 
-/// Whether the target of each point's call returns, where these entries are known to return.
+/// Clears the flag of a point, if the target of its call doesn't return.
+fn flag_target(flow: &Flow, known: &[bool], targets: &mut Vec<bool>, q: u32)
+    requires shape { HasShape flow.now }
+    requires known { length known.now ≡ points_of flow.now }
+    requires point { q < points_of flow.now }
+    requires so_far { AreFlagged (λ r. does_target_return known.now (exit_at flow.now r)) true targets.old.items (points_of flow.now) q }
+    ensures { AreFlagged (λ r. does_target_return known.now (exit_at flow.now r)) true targets.new.items (points_of flow.now) (q + 1) }
+{
+    if !target_returns(flow, known, q) {
+        targets[q as usize] = false;
+    }
+}
+
+/// Whether the target of each point's call returns, where these entries are known to return. Most do.
 fn returning_targets(alloc: Global, flow: &Flow, known: &[bool]) -> Result<Vec<bool>, NoMemory>
     requires shape { HasShape flow.now }
     requires known { length known.now ≡ points_of flow.now }
     ensures len { IfOk result (λ targets. length targets.items ≡ points_of flow.now) }
     ensures each { IfOk result (λ targets. (q : ℕ) → q < points_of flow.now → is_set targets.items q ≡ does_target_return known.now (exit_at flow.now q)) }
 {
-    let mut targets = Vec::with_capacity(alloc, flow.exits.len())?;
+    let mut targets = vec![in alloc; true; flow.exits.len()]?;
     for q in 0..flow.exits.len() as u32 {
-        targets.push(target_returns(flow, known, q))?;
+        flag_target(flow, known, &mut targets, q);
     }
     Ok(targets)
 }

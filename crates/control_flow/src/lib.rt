@@ -3,9 +3,11 @@
 #![tactic(auto)]
 
 mod backward;
+mod carrying;
 mod chains;
 mod check;
 mod entered;
+mod entering;
 mod found_returns;
 mod graph;
 mod hinted;

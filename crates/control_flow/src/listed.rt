@@ -1,12 +1,15 @@
 //! What the points are to returns, by their numbers.
 
-ghost use Rattle.std.specs.Prelude.{◌≡◌, ◌<◌, IfOk};
+ghost use Rattle.std.specs.Prelude.{◌≡◌, ◌+◌, ◌<◌, IfOk, false};
+ghost use Rattle.flow_defs.specs.Arrival.{is_dead_end};
+ghost use Rattle.flow_defs.specs.Code.{point_at};
 ghost use Rattle.flow_defs.specs.Program.{program_of};
 ghost use Rattle.control_flow.specs.Told.{exit_of};
 ghost use Rattle.machine_defs.specs.MayReturn.{is_listed, is_listed_function as is_listed_in};
-ghost use Rattle.control_flow.specs.Listed.{AreDeadEnds, AreEntered, CallsPoint, count_of};
+ghost use Rattle.control_flow.specs.Flagged.{AreFlagged};
+ghost use Rattle.control_flow.specs.Listed.{AreDeadEnds, CallsPoint, count_of};
 
-use crate::{Exit, entry_of_point};
+use crate::Exit;
 use machine_defs::Role;
 use object_points::{PointPlaces, never_returns};
 use ot_base::{Lists, NoMemory};
@@ -71,7 +74,18 @@ pub(crate) fn exit(places: &PointPlaces<'_, '_, '_>, lists: &Lists, role: Role) 
     }
 }
 
-/// Whether execution never passes the points.
+/// Sets the flag of a point that execution never passes.
+fn flag_dead_end(points: &FlowPoints<'_, '_, '_>, dead_ends: &mut Vec<bool>, n: u32)
+    requires point { n < count_of points.now }
+    requires so_far { AreFlagged (λ q. is_dead_end points.now (point_at points.now q)) false dead_ends.old.items (count_of points.now) n }
+    ensures { AreFlagged (λ q. is_dead_end points.now (point_at points.now q)) false dead_ends.new.items (count_of points.now) (n + 1) }
+{
+    if points.arrivals().is_dead_end(n) {
+        dead_ends[n as usize] = true;
+    }
+}
+
+/// Whether execution never passes the points. Most it passes.
 pub(crate) fn list_dead_ends(
     alloc: Global,
     points: &FlowPoints<'_, '_, '_>,
@@ -79,24 +93,9 @@ pub(crate) fn list_dead_ends(
     ensures { IfOk result (λ dead_ends. AreDeadEnds points.now dead_ends.items (count_of points.now)) }
 {
     let count = count_points(points.places());
-    let mut dead_ends = Vec::with_capacity(alloc, count as usize)?;
+    let mut dead_ends = vec![in alloc; false; count as usize]?;
     for n in 0..count {
-        dead_ends.push(points.arrivals().is_dead_end(n))?;
+        flag_dead_end(points, &mut dead_ends, n);
     }
     Ok(dead_ends)
-}
-
-/// The entries at which control comes to stand at the points.
-pub(crate) fn list_entered(
-    alloc: Global,
-    places: &PointPlaces<'_, '_, '_>,
-) -> Result<Vec<Option<u32>>, NoMemory>
-    ensures { IfOk result (λ entered. AreEntered places.now entered.items (count_of places.now)) }
-{
-    let count = count_points(places);
-    let mut entered = Vec::with_capacity(alloc, count as usize)?;
-    for n in 0..count {
-        entered.push(entry_of_point(places, n))?;
-    }
-    Ok(entered)
 }

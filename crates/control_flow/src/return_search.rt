@@ -1,6 +1,6 @@
 //! What a search has found.
 
-ghost use Rattle.std.specs.Prelude.{◌≡◌, ◌+◌, ◌<◌, ◌≤◌, [], false, true, IfOk, MatchOption, length, replicate, slice_index, slice_set};
+ghost use Rattle.std.specs.Prelude.{◌≡◌, ◌+◌, ◌<◌, ◌≤◌, [], false, true, IfOk, MatchOption, length, replicate, slice_index, slice_set, vec_capacity};
 ghost use Rattle.control_flow.specs.Shape.{HasShape, points_of};
 
 use crate::searched_flow::{Exit, Flow};
@@ -51,6 +51,17 @@ impl Search {
             self.found[q as usize] = true;
             self.waiting.push_reserved(q);
         }
+    }
+
+    /// A point is found, and is not to wait.
+    pub(crate) fn mark(&mut self, q: u32)
+        requires { q < length self.old.found.items }
+        ensures found { self.new.found.items ≡ slice_set self.old.found.items q true }
+        ensures known { self.new.known.items ≡ self.old.known.items }
+        ensures waiting { self.new.waiting.items ≡ self.old.waiting.items }
+        ensures room { vec_capacity self.new.waiting ≡ vec_capacity self.old.waiting }
+    {
+        self.found[q as usize] = true;
     }
 
     /// Takes a point that is found and not passed on yet, if there is one: the last that was found.

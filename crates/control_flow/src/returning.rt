@@ -8,7 +8,8 @@ ghost use Rattle.control_flow.specs.Told.{TellsFlow};
 ghost use Rattle.control_flow.specs.Listed.{AreEdges, AreEntered, AreExits, count_of};
 ghost use Rattle.control_flow.specs.Returns.{AreReturns};
 
-use crate::listed::{list_dead_ends, list_entered};
+use crate::entering::list_entered;
+use crate::listed::list_dead_ends;
 use crate::order::object_is_in_order;
 use crate::outgoing::EdgeList;
 use crate::{Exit, Flow, Returns, find_returns};
@@ -43,10 +44,9 @@ fn flow_of(
     ensures entered { IfOk result (λ flow. AreEntered points.now flow.entered.items (count_of points.now)) }
 {
     program_is_right(points, lists);
-    let places = points.places();
     let EdgeList { starts, edges } = list;
     let dead_ends = list_dead_ends(alloc, points)?;
-    let entered = list_entered(alloc, places)?;
+    let entered = list_entered(alloc, points)?;
     Ok(Flow {
         starts,
         edges,

@@ -1,85 +1,19 @@
 //! How returns are carried backwards over the edges of a program.
 
-ghost use Rattle.std.specs.Prelude.{◌≡◌, ◌+◌, ◌<◌, ◌&&◌, ◌↔◌, ℕ, true, false, IfOk, Contains, IsTrue, length, slice_index, slice_index_or, slice_set};
+ghost use Rattle.std.specs.Prelude.{◌≡◌, ◌+◌, ◌<◌, ℕ, true, false, IfOk, Contains, IsTrue, slice_index, slice_index_or, slice_set};
 ghost use Rattle.control_flow.specs.declared.searched_flow.Exit.TheVariants.{Calls, Leaves};
-ghost use Rattle.control_flow.specs.Told.{dead_end_at, exit_at};
+ghost use Rattle.control_flow.specs.Told.{exit_at};
 ghost use Rattle.control_flow.specs.Shape.{HasShape, points_of};
 ghost use Rattle.control_flow.specs.declared.backward.Lead.TheVariants.{Call, Edge};
 ghost use Rattle.control_flow.specs.Backward.{IsBackward, IsEdgeOf, IsLead, edge_at};
-ghost use Rattle.control_flow.specs.Search.{AreClosed, AreListed, AreSound, Extends, FindsAlong, FindsLeaving, FindsMore, IsCarriedBy, IsSearch, IsTaken, carries as carries_back, is_set, target_returns as does_target_return, is_calling};
+ghost use Rattle.control_flow.specs.Search.{AreClosed, AreListed, AreSound, Extends, FindsAlong, FindsMore, IsCarriedBy, IsLedToFromBefore, IsSearch, IsTaken, RunsOn, carries as carries_back, is_set};
 
 use crate::backward::{Backward, Lead};
+use crate::carrying::{carries, is_carried_to, is_newly_carried};
 use crate::return_search::Search;
 use crate::searched_flow::{Exit, Flow};
-use machine_defs::EdgeKind;
 use ot_base::NoMemory;
 use std::alloc::Global;
-
-/// Whether a return comes from a point.
-fn is_leaving(exit: Exit) -> bool
-    ensures { IsTrue result ↔ (exit ≡ Leaves) }
-{
-    match exit {
-        Exit::Leaves => true,
-        Exit::Calls { .. } | Exit::CallsOut | Exit::CallsNever | Exit::Passes => false,
-    }
-}
-
-/// Whether the target of a point's call returns, as far as it is known. What isn't a call passes.
-pub(crate) fn target_returns(flow: &Flow, known: &[bool], q: u32) -> bool
-    requires shape { HasShape flow.now }
-    requires known { length known.now ≡ points_of flow.now }
-    requires point { q < points_of flow.now }
-    ensures { result ≡ does_target_return known.now (exit_at flow.now q) }
-{
-    match flow.exits[q as usize] {
-        Exit::Calls { entry } => known[entry as usize],
-        Exit::CallsNever => false,
-        Exit::Leaves | Exit::CallsOut | Exit::Passes => true,
-    }
-}
-
-/// Whether a point is a call that execution never passes.
-fn is_dead_call(flow: &Flow, q: u32) -> bool
-    requires shape { HasShape flow.now }
-    requires point { q < points_of flow.now }
-    ensures { result ≡ (is_calling (exit_at flow.now q) && dead_end_at flow.now q) }
-{
-    match flow.exits[q as usize] {
-        Exit::Calls { .. } | Exit::CallsOut | Exit::CallsNever => flow.dead_ends[q as usize],
-        Exit::Leaves | Exit::Passes => false,
-    }
-}
-
-/// Whether a return that may come from the end of an edge of this kind may come from its point too.
-fn carries(flow: &Flow, known: &[bool], q: u32, kind: EdgeKind) -> bool
-    requires shape { HasShape flow.now }
-    requires known { length known.now ≡ points_of flow.now }
-    requires point { q < points_of flow.now }
-    ensures { result ≡ carries_back flow.now known.now q kind }
-{
-    match kind {
-        EdgeKind::Next => target_returns(flow, known, q) && !is_dead_call(flow, q),
-        EdgeKind::Taken | EdgeKind::Fixup | EdgeKind::Table | EdgeKind::Sibling => true,
-    }
-}
-
-/// Whether a return is carried to a point from one that is found.
-fn is_carried_to(flow: &Flow, search: &Search, q: u32) -> bool
-    requires shape { HasShape flow.now }
-    requires listed { AreListed flow.now search.now }
-    requires point { q < points_of flow.now }
-    ensures carried { IsTrue result → (i : ℕ) × IsEdgeOf flow.now q i × (is_set search.now.found.items (edge_at flow.now i).to ≡ true) × (carries_back flow.now search.now.known.items q (edge_at flow.now i).kind ≡ true) }
-    ensures not_carried { result ≡ false → (i : ℕ) → IsEdgeOf flow.now q i → is_set search.now.found.items (edge_at flow.now i).to ≡ true → carries_back flow.now search.now.known.items q (edge_at flow.now i).kind ≡ true → ⊥ }
-{
-    for i in flow.start(q as usize)..flow.start(q as usize + 1) {
-        let edge = flow.edges[i];
-        if search.found[edge.to as usize] && carries(flow, &search.known, q, edge.kind) {
-            return true;
-        }
-    }
-    false
-}
 
 /// Finds a point, if a return is carried to it from one that is found.
 fn find_carried(flow: &Flow, search: &mut Search, q: u32)
@@ -227,6 +161,39 @@ fn pass_on(flow: &Flow, backward: &Backward, search: &mut Search, x: u32)
     }
 }
 
+/// Whether nothing leads to a point but the point right before it, and no call names it.
+fn is_led_to_from_before(flow: &Flow, backward: &Backward, x: u32) -> bool
+    requires shape { HasShape flow.now }
+    requires backward { IsBackward flow.now backward.now }
+    requires point { x < points_of flow.now }
+    ensures { IsTrue result → IsLedToFromBefore flow.now x }
+{
+    if flow.entered[x as usize].is_some() {
+        return false;
+    }
+    backward.chains.last(x).is_none()
+}
+
+/// Goes back from a point that was taken over points to which nothing else leads, as long as a return is carried on, and
+/// finds them. The last of them is taken in its place: most points are found so, and never wait.
+fn run_back(flow: &Flow, backward: &Backward, search: &mut Search, x: u32) -> u32
+    requires shape { HasShape flow.now }
+    requires backward { IsBackward flow.now backward.now }
+    requires taken { IsTaken flow.now search.old x }
+    ensures taken { IsTaken flow.now search.new result }
+    ensures on { RunsOn search.old search.new }
+{
+    let mut at = x;
+    'run: while at > 0
+        && is_led_to_from_before(flow, backward, at)
+        && is_newly_carried(flow, search, at - 1)
+    {
+        at -= 1;
+        search.mark(at);
+    }
+    at
+}
+
 /// Finds a point, if a return comes from it.
 fn find_leaving(flow: &Flow, search: &mut Search, q: u32)
     requires shape { HasShape flow.now }
@@ -239,12 +206,12 @@ fn find_leaving(flow: &Flow, search: &mut Search, q: u32)
     ensures sound { AreSound flow.now search.new.found.items search.new.known.items }
     ensures leaving { exit_at flow.now q ≡ Leaves → is_set search.new.found.items q ≡ true }
 {
-    if is_leaving(flow.exits[q as usize]) {
+    if let Exit::Leaves = flow.exits[q as usize] {
         search.find(flow, q);
     }
 }
 
-/// Finds the points from which a return may come. Each point is passed on once, and each edge is looked at three times at most.
+/// Finds the points from which a return may come. Each point is passed on once, and each edge is looked at a few times.
 ///
 /// All that a point leads to is passed on before the next point from which a return comes is looked for, so that the
 /// search stays in one function for long.
@@ -259,7 +226,8 @@ pub(crate) fn spread(alloc: Global, flow: &Flow) -> Result<Search, NoMemory>
     for q in 0..flow.exits.len() as u32 {
         find_leaving(flow, &mut search, q);
         'waiting: while let Some(x) = search.take(flow) {
-            pass_on(flow, &backward, &mut search, x);
+            let last = run_back(flow, &backward, &mut search, x);
+            pass_on(flow, &backward, &mut search, last);
         }
     }
     Ok(search)

@@ -1,4 +1,4 @@
-use Rattle.std.proofs.Common.{refl, subst}
+use Rattle.std.proofs.Common.{refl}
 use Rattle.flow_defs.specs.Coded.{Coded}
 use Rattle.control_flow.specs.declared.searched_flow.Flow.{Flow}
 use Rattle.control_flow.specs.Listed.{AreEntered, count_of}
@@ -16,7 +16,7 @@ returns c =
       dead_ends = c.in_ok-dead_ends.dead_ends;
       entered = c.in_ok-entered.entered;
     } in
-    let entered : AreEntered o c.in_ok-entered.entered.items (count_of o) = subst (λ (e : Coded). AreEntered e c.in_ok-entered.entered.items (count_of e)) c.places-places.ensures c.in_ok-entered.ensures in
+    let entered : AreEntered o c.in_ok-entered.entered.items (count_of o) = c.in_ok-entered.ensures in
     record {
       listed = (refl, refl);
       told = tells_flow o lists flow c.requires.edges.0 c.requires.edges.1 c.requires.exits c.in_ok-dead_ends.ensures entered c.program_is_right.ensures;

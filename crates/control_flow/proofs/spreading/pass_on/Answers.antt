@@ -3,7 +3,6 @@ use Rattle.std.proofs.Common.{◌≡◌, ◌<◌, ℕ, Bool, true, false, List, 
 use Rattle.std.proofs.lemmas.List.{get_or_read}
 use Rattle.control_flow.specs.declared.searched_flow.Flow.{Flow}
 use Rattle.control_flow.specs.declared.return_search.Search.{Search}
-use Rattle.control_flow.specs.Told.{callee_at}
 use Rattle.control_flow.specs.Shape.{points_of}
 use Rattle.control_flow.specs.Search.{is_set, Extends, IsTaken}
 use Rattle.control_flow.proofs.Passing.{holds_inside, search_entry, search_same, sound_know}

@@ -15,16 +15,18 @@ use Rattle.control_flow.proofs.backward.Backward.add_edge.Goals as goal
 pub index-requires : goal.index-requires
 index-requires c = omega (arith, ends_within c.args.flow.now c.requires.shape c.args.q c.requires.edge.point, c.requires.edge.to)
 
-pub returns-then-to-q-eq1 : goal.returns-then-to-q-eq1
-returns-then-to-q-eq1 c =
+pub overflow_add-behind : goal.overflow_add-behind
+overflow_add-behind c = omega (arith, c.requires.edge.point, c.requires.shape.few)
+
+pub returns-then-to-behind : goal.returns-then-to-behind
+returns-then-to-behind c =
     let flow = c.args.flow.now in
     let q = c.args.q in
     let i = c.args.number in
     let e : Edge = (c.index.result).now in
     let inside : i < length flow.edges.items = omega (arith, ends_within flow c.requires.shape q c.requires.edge.point, c.requires.edge.to) in
     let read : e ≡ edge_at flow i = get_or_read flow.edges.items i e inside c.index.ensures (edge 0 Next) in
-    let here : e.to ≡ q + 1 = omega (arith, c.if-to-q.true, c.if-to-q-eq1.true) in
-    let behind : (edge_at flow i).to ≡ q + 1 = ap (λ (f : Edge). f.to) (sym read) ∙ here in
+    let behind : (edge_at flow i).to ≡ q + 1 = ap (λ (f : Edge). f.to) (sym read) ∙ c.if-to-behind.true in
     record {
       leads = leads_behind flow c.args.self.now.leads.items (q + 1) i c.requires.so_far.leads c.requires.shape q c.requires.edge behind;
       chains = c.requires.so_far.chains;

@@ -9,8 +9,8 @@ use Rattle.control_flow.specs.Shape.{HasShape, points_of}
 use Rattle.control_flow.specs.Backward.{IsEdgeOf, edge_at}
 use Rattle.control_flow.specs.Search.{carries, is_set}
 use Rattle.control_flow.proofs.Ranges.{ends_within}
-use Rattle.control_flow.proofs.spreading.is_carried_to.Goals as goal
-use Rattle.control_flow.proofs.spreading.is_carried_to.Goals.{else-index-via-then-index+else-carries, else-index-via-else-index}
+use Rattle.control_flow.proofs.carrying.is_carried_to.Goals as goal
+use Rattle.control_flow.proofs.carrying.is_carried_to.Goals.{else-index-via-then-index+else-carries, else-index-via-else-index}
 
 -- where an edge leads, as it is read
 leads_in : (flow : Flow) → HasShape flow → (i : ℕ) (e : Edge) → i < length flow.edges.items → e ≡ edge_at flow i → e.to < points_of flow

@@ -3,7 +3,7 @@ use Rattle.std.proofs.Common.{◌≡◌, sym, ◌∙◌, arith}
 use Rattle.std.proofs.lemmas.List.{get_or_read}
 use Rattle.control_flow.specs.declared.searched_flow.Exit.TheVariants.{Calls, Passes}
 use Rattle.control_flow.specs.Told.{exit_at}
-use Rattle.control_flow.proofs.spreading.target_returns.Goals as goal
+use Rattle.control_flow.proofs.carrying.target_returns.Goals as goal
 
 pub bounds-known-entry : goal.bounds-known-entry
 bounds-known-entry c =
