@@ -15,14 +15,15 @@ ghost use Rattle.kept_states.specs.Passages.{ArePassages};
 ghost use Rattle.kept_states.specs.Ranks.{AreSpread};
 
 use crate::levels::Levels;
-use crate::passages::Passage;
+use crate::passages::{Passage, passage_at};
 use crate::runs::{no_run, run_from};
 use crate::spreading::{keep_first, offer_first, spread_levels};
 use program_graph::Graph;
 
 /// Offers the points of mixed runs their states of level 0, and tells how many of them got one.
-pub(crate) fn offer_mixed_first(graph: &Graph, levels: &mut Levels) -> usize
+pub(crate) fn offer_mixed_first(graph: &Graph, passages: &[Passage], levels: &mut Levels) -> usize
     requires points { length levels.old.kept ≡ length graph.now.parts.points.items }
+    requires passages { length passages.now ≡ length graph.now.parts.points.items }
     requires next { length levels.old.next.states ≡ length levels.old.kept }
     requires not_kept { (q : ℕ) → at levels.old.kept q ≡ None }
     requires not_offered { (q : ℕ) → at levels.old.next.states q ≡ None }
@@ -35,7 +36,7 @@ pub(crate) fn offer_mixed_first(graph: &Graph, levels: &mut Levels) -> usize
         if n == run.end {
             run = run_from(graph, n, run);
         }
-        if run.is_mixed {
+        if run.is_mixed && passage_at(passages, n).is_special {
             offer_first(graph, levels, n);
         }
     }
@@ -71,7 +72,7 @@ pub(crate) fn spread_at_once(graph: &Graph, passages: &[Passage], levels: &mut L
     ensures spread { (p : Program) → Tells p graph.now.parts → IsProgram p → AreSpread p (at levels.new.kept) [] [] }
 {
     levels.clear();
-    keep_first(graph, levels);
+    keep_first(graph, passages, levels);
     let end = levels.firsts();
     levels.begin_batch(0, end);
     spread_levels(graph, passages, levels);

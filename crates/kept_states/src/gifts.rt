@@ -19,6 +19,7 @@ use program_graph::Graph;
 use stack_state::step;
 
 /// Offers a point the state that another one keeps, moved by an operation, if that isn't refused.
+#[inline(never)]
 fn offer_stepped(levels: &mut Levels, from: u32, op: Op, to: u32)
     requires from { from < length levels.old.kept }
     requires point { to < length levels.old.kept }
@@ -39,6 +40,7 @@ fn offer_stepped(levels: &mut Levels, from: u32, op: Op, to: u32)
 
 /// Offers a point the state that another one keeps, moved by its operation, if that isn't refused. Where the operation
 /// leaves the state as it is, it is handed on as it stands.
+#[inline(always)]
 fn offer_moved(graph: &Graph, passages: &[Passage], levels: &mut Levels, from: u32, to: u32)
     requires points { length levels.old.kept ≡ length graph.now.parts.points.items }
     requires passages { length passages.now ≡ length graph.now.parts.points.items }
@@ -61,6 +63,7 @@ fn offer_moved(graph: &Graph, passages: &[Passage], levels: &mut Levels, from: u
 
 /// Offers the point at an edge's end what is brought along it: to a fixup the state before the instruction, else the one
 /// after it; to another function none.
+#[inline(always)]
 fn bring_along(graph: &Graph, passages: &[Passage], levels: &mut Levels, from: u32, edge: Edge)
     requires points { length levels.old.kept ≡ length graph.now.parts.points.items }
     requires passages { length passages.now ≡ length graph.now.parts.points.items }
@@ -84,6 +87,7 @@ fn bring_along(graph: &Graph, passages: &[Passage], levels: &mut Levels, from: u
 }
 
 /// Offers the point at an edge's end what a point that is kept gives along it.
+#[inline(always)]
 pub(crate) fn give_along(
     graph: &Graph,
     passages: &[Passage],

@@ -99,6 +99,7 @@ impl Levels {
     }
 
     /// The state that a point keeps, packed.
+    #[inline(always)]
     fn packed(&self, n: u32) -> Option<PackedState>
         requires { n < length self.now.kept }
         ensures { option_map state_of result ≡ at self.now.kept n }
@@ -203,6 +204,7 @@ impl Levels {
     }
 
     /// Offers a point the state that another one keeps.
+    #[inline(always)]
     pub(crate) fn pass_on(&mut self, n: u32, from: u32)
         requires point { n < length self.old.kept }
         requires from { from < length self.old.kept }

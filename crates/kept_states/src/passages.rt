@@ -3,7 +3,7 @@
 //! What is told of all points stands in a list of its own, which is much shorter than the graph: while states spread, a
 //! level may have points far from each other, and most of them are passed without a look at the graph but for edges.
 
-ghost use Rattle.std.specs.Prelude.{◌≡◌, ◌<◌, ◌&&◌, ◌↔◌, ℕ, All, Contains, IfOk, false, length, not};
+ghost use Rattle.std.specs.Prelude.{◌≡◌, ◌<◌, ◌↔◌, ℕ, All, Contains, IfOk, None, false, length};
 ghost use Rattle.machine_defs.specs.Program.{Program};
 ghost use Rattle.machine_defs.specs.Kept.{is_free as is_free_hint};
 ghost use Rattle.program_graph.specs.Tells.{Means, Tells};
@@ -22,8 +22,8 @@ pub(crate) struct Passage {
     pub(crate) is_open: bool,
     /// Whether its operation leaves each state as it is, and isn't a way out that a state has to allow.
     pub(crate) is_neutral: bool,
-    /// Whether a RESTORE means it, to which its state is given.
-    pub(crate) is_meant: bool,
+    /// Whether it may be of level 0, or meant by a RESTORE, to which its state is given. Few points are.
+    pub(crate) is_special: bool,
 }
 
 const _: () = prove!(size_of::<Passage>() == 3);
@@ -32,7 +32,7 @@ const _: () = prove!(size_of::<Passage>() == 3);
 const UNTOLD: Passage = Passage {
     is_open: false,
     is_neutral: false,
-    is_meant: true,
+    is_special: true,
 };
 
 /// Whether states come in along edges at a point with this hint.
@@ -45,20 +45,13 @@ fn is_free(hint: Option<HintState>) -> bool
     }
 }
 
-/// Whether states come in along edges at a point.
-fn is_open(graph: &Graph, n: u32) -> bool
+/// Whether a point has a hint, or a RESTORE means it.
+fn is_hinted(graph: &Graph, n: u32) -> bool
     requires { n < length graph.now.parts.points.items }
-    ensures { (p : Program) → Tells p graph.now.parts → result ≡ (not (p.unchecked n) && is_free_hint (p.hint n)) }
+    ensures hint { result ≡ false → (p : Program) → Tells p graph.now.parts → p.hint n ≡ None }
+    ensures meant { result ≡ false → (p : Program) → Tells p graph.now.parts → (r : ℕ) → Means p n r → ⊥ }
 {
-    !graph.unchecked(n) && is_free(graph.hint(n))
-}
-
-/// Whether a RESTORE means a point.
-fn is_meant(graph: &Graph, n: u32) -> bool
-    requires { n < length graph.now.parts.points.items }
-    ensures { result ≡ false → (p : Program) → Tells p graph.now.parts → (r : ℕ) → Means p n r → ⊥ }
-{
-    !graph.restores(n).is_empty()
+    graph.hint(n).is_some() || !graph.restores(n).is_empty()
 }
 
 /// How states pass a point.
@@ -66,10 +59,12 @@ fn passage_of(graph: &Graph, n: u32) -> Passage
     requires { n < length graph.now.parts.points.items }
     ensures { (p : Program) → Tells p graph.now.parts → IsPassage p n result }
 {
+    let is_free = is_free(graph.hint(n));
+    let is_special = is_hinted(graph, n) || graph.is_entered(n);
     Passage {
-        is_open: is_open(graph, n),
+        is_open: !graph.unchecked(n) && is_free,
         is_neutral: is_neutral(graph.insn(n).op),
-        is_meant: is_meant(graph, n),
+        is_special,
     }
 }
 
@@ -107,7 +102,7 @@ pub(crate) fn restores_of<'a>(graph: &'a Graph, passages: &[Passage], n: u32) ->
     ensures restores { (p : Program) → Tells p graph.now.parts → (r : ℕ) → Contains result.now r ↔ Means p n r }
     ensures within { All (λ r. r < length graph.now.parts.points.items) result.now }
 {
-    if passage_at(passages, n).is_meant {
+    if passage_at(passages, n).is_special {
         graph.restores(n)
     } else {
         &[]

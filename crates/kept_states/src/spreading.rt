@@ -24,7 +24,7 @@ use crate::batches::{offer_mixed_first, spread_batches};
 use crate::gifts::{give_along, give_to_restore};
 use crate::levels::Levels;
 use crate::packed::PackedState;
-use crate::passages::{Passage, list_passages, no_passages, restores_of};
+use crate::passages::{Passage, list_passages, no_passages, passage_at, restores_of};
 use ot_base::NoMemory;
 use program_graph::Graph;
 use stack_state::initial;
@@ -119,9 +119,33 @@ pub(crate) fn offer_first(graph: &Graph, levels: &mut Levels, n: u32)
     }
 }
 
-/// Offers each point its state of level 0 that was offered none yet.
-fn offer_all_first(graph: &Graph, levels: &mut Levels)
+/// Offers a point its state of level 0, where it was offered none yet.
+fn offer_missing_first(graph: &Graph, passages: &[Passage], levels: &mut Levels, n: u32)
     requires points { length levels.old.kept ≡ length graph.now.parts.points.items }
+    requires passages { length passages.now ≡ length graph.now.parts.points.items }
+    requires told { (p : Program) → Tells p graph.now.parts → ArePassages p passages.now }
+    requires next { length levels.old.next.states ≡ length levels.old.kept }
+    requires point { n < length levels.old.kept }
+    requires not_kept { at levels.old.kept n ≡ None }
+    requires offered { (p : Program) → Tells p graph.now.parts → IsSome (at levels.old.next.states n) → at levels.old.next.states n ≡ state_at p 0 n }
+    ensures kept { levels.new.kept ≡ levels.old.kept }
+    ensures next { length levels.new.next.states ≡ length levels.old.kept }
+    ensures first { (p : Program) → Tells p graph.now.parts → at levels.new.next.states n ≡ state_at p 0 n }
+    ensures others { (q : ℕ) → q ≢ n → at levels.new.next.states q ≡ at levels.old.next.states q }
+{
+    if !passage_at(passages, n).is_special {
+        return;
+    }
+    if !levels.is_offered(n) {
+        offer_first(graph, levels, n);
+    }
+}
+
+/// Offers each point its state of level 0 that was offered none yet.
+fn offer_all_first(graph: &Graph, passages: &[Passage], levels: &mut Levels)
+    requires points { length levels.old.kept ≡ length graph.now.parts.points.items }
+    requires passages { length passages.now ≡ length graph.now.parts.points.items }
+    requires told { (p : Program) → Tells p graph.now.parts → ArePassages p passages.now }
     requires next { length levels.old.next.states ≡ length levels.old.kept }
     requires not_kept { (q : ℕ) → at levels.old.kept q ≡ None }
     requires offered { (p : Program) → Tells p graph.now.parts → (q : ℕ) → IsPoint p q → IsSome (at levels.old.next.states q) → at levels.old.next.states q ≡ state_at p 0 q }
@@ -130,15 +154,15 @@ fn offer_all_first(graph: &Graph, levels: &mut Levels)
     ensures first { (p : Program) → Tells p graph.now.parts → (q : ℕ) → IsPoint p q → at levels.new.next.states q ≡ state_at p 0 q }
 {
     for n in 0..graph.points() {
-        if !levels.is_offered(n) {
-            offer_first(graph, levels, n);
-        }
+        offer_missing_first(graph, passages, levels, n);
     }
 }
 
 /// Keeps the states of level 0, of which some may be offered already. All of its points wait for their batch.
-pub(crate) fn keep_first(graph: &Graph, levels: &mut Levels)
+pub(crate) fn keep_first(graph: &Graph, passages: &[Passage], levels: &mut Levels)
     requires points { length levels.old.kept ≡ length graph.now.parts.points.items }
+    requires passages { length passages.now ≡ length graph.now.parts.points.items }
+    requires told { (p : Program) → Tells p graph.now.parts → ArePassages p passages.now }
     requires next { length levels.old.next.states ≡ length levels.old.kept }
     requires not_kept { (q : ℕ) → at levels.old.kept q ≡ None }
     requires offered { (p : Program) → Tells p graph.now.parts → (q : ℕ) → IsPoint p q → IsSome (at levels.old.next.states q) → at levels.old.next.states q ≡ state_at p 0 q }
@@ -149,7 +173,7 @@ pub(crate) fn keep_first(graph: &Graph, levels: &mut Levels)
     ensures first { (p : Program) → Tells p graph.now.parts → AreFirst p levels.new.firsts }
     ensures spread { (p : Program) → Tells p graph.now.parts → AreSpread p (at levels.new.kept) [] levels.new.firsts }
 {
-    offer_all_first(graph, levels);
+    offer_all_first(graph, passages, levels);
     levels.keep_first();
 }
 
@@ -278,8 +302,8 @@ pub fn spread(graph: &Graph, scratch: Scratch) -> Kept
         mut passages,
     } = scratch;
     list_passages(graph, &mut passages);
-    let mixed = offer_mixed_first(graph, &mut levels);
-    keep_first(graph, &mut levels);
+    let mixed = offer_mixed_first(graph, &passages, &mut levels);
+    keep_first(graph, &passages, &mut levels);
     spread_batches(graph, &passages, &mut levels, mixed);
     Kept { levels }
 }
