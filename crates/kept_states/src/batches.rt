@@ -34,7 +34,7 @@ pub(crate) fn offer_mixed_first(graph: &Graph, passages: &[Passage], levels: &mu
     let mut run = no_run();
     for n in 0..graph.points() {
         if n == run.end {
-            run = run_from(graph, n, run);
+            run = run_from(graph, passages, n, run);
         }
         if run.is_mixed && passage_at(passages, n).is_special {
             offer_first(graph, levels, n);

@@ -54,7 +54,7 @@ fn offer_moved(graph: &Graph, passages: &[Passage], levels: &mut Levels, from: u
     ensures len { length levels.new.next.states ≡ length levels.old.next.states }
     ensures next { (p : Program) (s : StateValue) → Tells p graph.now.parts → at levels.old.kept from ≡ Some s → levels.new.next ≡ offer_all levels.old.kept levels.old.next to (moved (move s (p.insn from).op)) }
 {
-    if passage_at(passages, from).is_neutral && levels.is_short(from) {
+    if passage_at(passages, from).onward.is_neutral() && levels.is_short(from) {
         levels.pass_on(to, from);
     } else {
         offer_stepped(levels, from, graph.insn(from).op, to);

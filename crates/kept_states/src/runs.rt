@@ -1,8 +1,9 @@
 //! Runs of neighbouring points with one owner.
 
-ghost use Rattle.std.specs.Prelude.{◌<◌, ◌≤◌, length};
+ghost use Rattle.std.specs.Prelude.{◌≡◌, ◌<◌, ◌≤◌, length};
 
 use crate::alike::FEW_EDGES;
+use crate::passages::{Passage, passage_at};
 use machine_defs::EdgeKind;
 use ot_base::Place;
 use program_graph::Graph;
@@ -60,9 +61,21 @@ fn owner_end(graph: &Graph, from: u32) -> u32
 
 /// Whether states go from a point of a run, which has this owner, to code of another. A point that has the edges of
 /// another one of its run isn't asked, as that one is.
-fn leads_away(graph: &Graph, n: u32, from: u32, end: u32, owner: Option<u32>) -> bool
-    requires { n < length graph.now.parts.points.items }
+fn leads_away(
+    graph: &Graph,
+    passages: &[Passage],
+    n: u32,
+    from: u32,
+    end: u32,
+    owner: Option<u32>,
+) -> bool
+    requires point { n < length graph.now.parts.points.items }
+    requires passages { length passages.now ≡ length graph.now.parts.points.items }
+    requires inside { n < end }
 {
+    if passage_at(passages, n).onward.is_straight() && end - n > 1 {
+        return false;
+    }
     let edges = graph.successors(n);
     if edges.len() > FEW_EDGES
         && let Some(first) = graph.alike(n)
@@ -79,11 +92,12 @@ fn leads_away(graph: &Graph, n: u32, from: u32, end: u32, owner: Option<u32>) ->
 }
 
 /// Whether states go from one of the points of a run, which has this owner, to code of another.
-fn lead_away(graph: &Graph, from: u32, end: u32, owner: Option<u32>) -> bool
-    requires { end ≤ length graph.now.parts.points.items }
+fn lead_away(graph: &Graph, passages: &[Passage], from: u32, end: u32, owner: Option<u32>) -> bool
+    requires points { end ≤ length graph.now.parts.points.items }
+    requires passages { length passages.now ≡ length graph.now.parts.points.items }
 {
     for n in from..end {
-        if leads_away(graph, n, from, end, owner) {
+        if leads_away(graph, passages, n, from, end, owner) {
             return true;
         }
     }
@@ -99,15 +113,16 @@ fn has_alternatives(graph: &Graph, n: u32, sites_below: usize) -> bool
 }
 
 /// The run that begins at a point, behind another run.
-pub(crate) fn run_from(graph: &Graph, from: u32, before: Run) -> Run
-    requires { from < length graph.now.parts.points.items }
+pub(crate) fn run_from(graph: &Graph, passages: &[Passage], from: u32, before: Run) -> Run
+    requires point { from < length graph.now.parts.points.items }
+    requires passages { length passages.now ≡ length graph.now.parts.points.items }
 {
     let sites = sites_below(graph, before.sites, graph.place(from));
     let owner = graph.owner(from);
     let end = owner_end(graph, from);
     let is_mixed = owner.is_none()
         || has_alternatives(graph, from, sites)
-        || lead_away(graph, from, end, owner);
+        || lead_away(graph, passages, from, end, owner);
     Run {
         end,
         is_mixed,

@@ -24,7 +24,9 @@ use crate::batches::{offer_mixed_first, spread_batches};
 use crate::gifts::{give_along, give_to_restore};
 use crate::levels::Levels;
 use crate::packed::PackedState;
-use crate::passages::{Passage, list_passages, no_passages, passage_at, restores_of};
+use crate::passages::{
+    Passage, list_passages, no_passages, passage_at, restores_of, straight_next,
+};
 use ot_base::NoMemory;
 use program_graph::Graph;
 use stack_state::initial;
@@ -53,8 +55,9 @@ fn first_state(graph: &Graph, n: u32) -> Option<State>
     }
 }
 
-/// Gives what the point at a place in front gives to others.
-fn give(graph: &Graph, passages: &[Passage], levels: &mut Levels, i: usize)
+/// Gives what the point at a place in front gives to others, along each of its edges and to each RESTORE.
+#[inline(never)]
+fn give_each(graph: &Graph, passages: &[Passage], levels: &mut Levels, i: usize)
     requires points { length levels.old.kept ≡ length graph.now.parts.points.items }
     requires passages { length passages.now ≡ length graph.now.parts.points.items }
     requires told { (p : Program) → Tells p graph.now.parts → ArePassages p passages.now }
@@ -78,6 +81,33 @@ fn give(graph: &Graph, passages: &[Passage], levels: &mut Levels, i: usize)
     }
     for restore in restores_of(graph, passages, a) {
         give_to_restore(graph, levels, a, *restore);
+    }
+}
+
+/// Gives what the point at a place in front gives to others.
+#[inline(always)]
+fn give(graph: &Graph, passages: &[Passage], levels: &mut Levels, i: usize)
+    requires points { length levels.old.kept ≡ length graph.now.parts.points.items }
+    requires passages { length passages.now ≡ length graph.now.parts.points.items }
+    requires told { (p : Program) → Tells p graph.now.parts → ArePassages p passages.now }
+    requires next { length levels.old.next.states ≡ length levels.old.kept }
+    requires inside { i < length levels.old.front }
+    requires done { (p : Program) → Tells p graph.now.parts → HaveGivenAll p levels.old }
+    requires given { (p : Program) → Tells p graph.now.parts → HaveGiven p levels.old i }
+    ensures kept { levels.new.kept ≡ levels.old.kept }
+    ensures front { levels.new.front ≡ levels.old.front }
+    ensures done { levels.new.done ≡ levels.old.done }
+    ensures same { StaysSame levels.old levels.new }
+    ensures next { length levels.new.next.states ≡ length levels.old.kept }
+    ensures given { (p : Program) → Tells p graph.now.parts → HaveGiven p levels.new (i + 1) }
+{
+    let a = levels.front(i);
+    if let Some(next) = straight_next(passages, a)
+        && levels.is_short(a)
+    {
+        levels.pass_on(next, a);
+    } else {
+        give_each(graph, passages, levels, i);
     }
 }
 
