@@ -155,6 +155,7 @@ impl Levels {
         requires { i < length self.now.front }
         ensures front { result ≡ slice_index self.now.front i }
         ensures point { result < length self.now.kept }
+        ensures kept { IsSome (at self.now.kept result) }
     {
         self.reached[self.front_from + i]
     }

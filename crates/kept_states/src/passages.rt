@@ -5,10 +5,9 @@
 
 ghost use Rattle.std.specs.Prelude.{◌≡◌, ◌+◌, ◌<◌, ◌↔◌, ◌∷◌, ℕ, [], All, Contains, IfOk, IfSome, IsSome, IsTrue, None, false, length, true};
 ghost use Rattle.machine_defs.specs.Program.{Program};
-ghost use Rattle.machine_defs.specs.Kept.{is_free as is_free_hint, state_at};
+ghost use Rattle.machine_defs.specs.Kept.{edges_of, is_free as is_free_hint, state_at};
 ghost use Rattle.program_graph.specs.Tells.{Means, Tells};
-ghost use Rattle.kept_states.specs.Neutral.{is_neutral as is_neutral_op};
-ghost use Rattle.kept_states.specs.Passages.{ArePassages, GoesOn, IsPassage, IsStraight, next_edge};
+ghost use Rattle.kept_states.specs.Passages.{ArePassages, GivesSo, IsPassage, IsStraight, next_edge};
 
 use crate::neutral::is_neutral;
 use machine_defs::{Edge, EdgeKind};
@@ -17,37 +16,15 @@ use program_graph::Graph;
 use state_defs::HintState;
 use std::alloc::Global;
 
-/// How states go on from a point.
+/// To which points a point gives something.
 #[derive(Clone, Copy)]
-pub(crate) enum Onward {
-    /// Its operation may change a state, or is a way out that a state has to allow.
-    Moved,
-    /// Its operation leaves each state as it is, and isn't such a way out.
-    Same,
-    /// So it does, and one edge leads from it: a Next to the next point.
+pub(crate) enum Giving {
+    /// To the next point alone, along its one edge, which is a Next. It isn't of level 0.
     Straight,
-}
-
-impl Onward {
-    /// Whether the operation leaves each state as it is.
-    pub(crate) fn is_neutral(self) -> bool
-        ensures { IsTrue result → (p : Program) (n : ℕ) → GoesOn p n self → is_neutral_op (p.insn n).op ≡ true }
-    {
-        match self {
-            Onward::Moved => false,
-            Onward::Same | Onward::Straight => true,
-        }
-    }
-
-    /// Whether states go on to the next point alone.
-    pub(crate) fn is_straight(self) -> bool
-        ensures { IsTrue result → self ≡ Onward.Straight }
-    {
-        match self {
-            Onward::Moved | Onward::Same => false,
-            Onward::Straight => true,
-        }
-    }
+    /// To points at the ends of its edges. It isn't of level 0.
+    AlongEdges,
+    /// So too, and to a RESTORE if one means it; or it is of level 0. Few points are special.
+    Special,
 }
 
 /// How states pass a point.
@@ -55,10 +32,34 @@ impl Onward {
 pub(crate) struct Passage {
     /// Whether they come in along edges.
     pub(crate) is_open: bool,
-    /// How they go on from it.
-    pub(crate) onward: Onward,
-    /// Whether it may be of level 0, or meant by a RESTORE, to which its state is given. Few points are.
-    pub(crate) is_special: bool,
+    /// Whether its operation leaves each state as it is, and isn't a way out that a state has to allow.
+    pub(crate) is_neutral: bool,
+    /// To which points it gives something.
+    pub(crate) giving: Giving,
+}
+
+impl Passage {
+    /// Whether a point may be of level 0, or meant by a RESTORE.
+    pub(crate) fn is_special(self) -> bool
+        ensures first { result ≡ false → (p : Program) (n : ℕ) → IsPassage p n self → state_at p 0 n ≡ None }
+        ensures meant { result ≡ false → (p : Program) (n : ℕ) → IsPassage p n self → (r : ℕ) → Means p n r → ⊥ }
+    {
+        match self.giving {
+            Giving::Straight | Giving::AlongEdges => false,
+            Giving::Special => true,
+        }
+    }
+
+    /// Whether a point gives something to the next point alone.
+    pub(crate) fn is_straight(self) -> bool
+        ensures edges { IsTrue result → (p : Program) (n : ℕ) → IsPassage p n self → edges_of p n ≡ next_edge n ∷ [] }
+        ensures meant { IsTrue result → (p : Program) (n : ℕ) → IsPassage p n self → (r : ℕ) → Means p n r → ⊥ }
+    {
+        match self.giving {
+            Giving::Straight => true,
+            Giving::AlongEdges | Giving::Special => false,
+        }
+    }
 }
 
 const _: () = prove!(size_of::<Passage>() == 3);
@@ -66,8 +67,8 @@ const _: () = prove!(size_of::<Passage>() == 3);
 /// That of a point of which nothing is told yet.
 const UNTOLD: Passage = Passage {
     is_open: false,
-    onward: Onward::Moved,
-    is_special: true,
+    is_neutral: false,
+    giving: Giving::Special,
 };
 
 /// Whether states come in along edges at a point with this hint.
@@ -112,32 +113,33 @@ fn lead_straight(edges: &[Edge], n: u32) -> bool
     }
 }
 
-/// How states go on from a point.
-fn onward_of(graph: &Graph, n: u32) -> Onward
+/// To which points a point gives something.
+#[inline(always)]
+fn giving_of(graph: &Graph, n: u32) -> Giving
     requires { n < length graph.now.parts.points.items }
-    ensures { (p : Program) → Tells p graph.now.parts → GoesOn p n result }
+    ensures { (p : Program) → Tells p graph.now.parts → GivesSo p n result }
 {
-    if !is_neutral(graph.insn(n).op) {
-        return Onward::Moved;
+    if is_special(graph, n) {
+        return Giving::Special;
     }
     if lead_straight(graph.successors(n), n) {
-        Onward::Straight
+        Giving::Straight
     } else {
-        Onward::Same
+        Giving::AlongEdges
     }
 }
 
 /// How states pass a point.
-fn passage_of(graph: &Graph, n: u32) -> Passage
+#[inline(always)]
+pub(crate) fn passage_of(graph: &Graph, n: u32) -> Passage
     requires { n < length graph.now.parts.points.items }
     ensures { (p : Program) → Tells p graph.now.parts → IsPassage p n result }
 {
     let is_free = is_free(graph.hint(n));
-    let is_special = is_special(graph, n);
     Passage {
         is_open: !graph.unchecked(n) && is_free,
-        onward: onward_of(graph, n),
-        is_special,
+        is_neutral: is_neutral(graph.insn(n).op),
+        giving: giving_of(graph, n),
     }
 }
 
@@ -148,17 +150,6 @@ pub(crate) fn no_passages(alloc: Global, points: u32) -> Result<Vec<Passage>, No
     Ok(vec![in alloc; UNTOLD; points as usize]?)
 }
 
-/// Tells of each point how states pass it.
-pub(crate) fn list_passages(graph: &Graph, passages: &mut Vec<Passage>)
-    requires { length passages.old.items ≡ length graph.now.parts.points.items }
-    ensures points { length passages.new.items ≡ length passages.old.items }
-    ensures told { (p : Program) → Tells p graph.now.parts → ArePassages p passages.new.items }
-{
-    for n in 0..graph.points() {
-        passages[n as usize] = passage_of(graph, n);
-    }
-}
-
 /// How states pass a point, of those that are told of.
 pub(crate) fn passage_at(passages: &[Passage], n: u32) -> Passage
     requires { n < length passages.now }
@@ -167,7 +158,7 @@ pub(crate) fn passage_at(passages: &[Passage], n: u32) -> Passage
     passages[n as usize]
 }
 
-/// The next point, where what a point gives is its state to that one, as far as its operation leaves it.
+/// The next point, where a point gives something to that one alone, and states come in there.
 #[inline(always)]
 pub(crate) fn straight_next(passages: &[Passage], n: u32) -> Option<u32>
     requires { n < length passages.now }
@@ -175,7 +166,7 @@ pub(crate) fn straight_next(passages: &[Passage], n: u32) -> Option<u32>
     ensures straight { IsSome result → (p : Program) → ArePassages p passages.now → IsStraight p n }
 {
     let passage = passage_at(passages, n);
-    if passage.is_special || !passage.onward.is_straight() {
+    if !passage.is_straight() {
         return None;
     }
     let next = n.checked_add(1)?;
@@ -194,7 +185,7 @@ pub(crate) fn restores_of<'a>(graph: &'a Graph, passages: &[Passage], n: u32) ->
     ensures restores { (p : Program) → Tells p graph.now.parts → (r : ℕ) → Contains result.now r ↔ Means p n r }
     ensures within { All (λ r. r < length graph.now.parts.points.items) result.now }
 {
-    if passage_at(passages, n).is_special {
+    if passage_at(passages, n).is_special() {
         graph.restores(n)
     } else {
         &[]

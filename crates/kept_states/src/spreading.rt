@@ -20,13 +20,11 @@ ghost use Rattle.kept_states.specs.Ranks.{AreSpread};
 ghost use Rattle.kept_states.specs.Told.{HaveGiven};
 
 use crate::alike::giving_edges;
-use crate::batches::{offer_mixed_first, spread_batches};
-use crate::gifts::{give_along, give_to_restore};
+use crate::batches::{spread_batches, tell_points};
+use crate::gifts::{give_along, give_to_restore, offer_moved};
 use crate::levels::Levels;
 use crate::packed::PackedState;
-use crate::passages::{
-    Passage, list_passages, no_passages, passage_at, restores_of, straight_next,
-};
+use crate::passages::{Passage, no_passages, passage_at, restores_of, straight_next};
 use ot_base::NoMemory;
 use program_graph::Graph;
 use stack_state::initial;
@@ -73,9 +71,6 @@ fn give_each(graph: &Graph, passages: &[Passage], levels: &mut Levels, i: usize)
     ensures given { (p : Program) → Tells p graph.now.parts → HaveGiven p levels.new (i + 1) }
 {
     let a = levels.front(i);
-    if !levels.is_kept(a) {
-        return;
-    }
     for edge in giving_edges(graph, levels, i, a) {
         give_along(graph, passages, levels, a, *edge);
     }
@@ -84,7 +79,7 @@ fn give_each(graph: &Graph, passages: &[Passage], levels: &mut Levels, i: usize)
     }
 }
 
-/// Gives what the point at a place in front gives to others.
+/// Gives what the point at a place in front gives to others. Most give to the next point alone.
 #[inline(always)]
 fn give(graph: &Graph, passages: &[Passage], levels: &mut Levels, i: usize)
     requires points { length levels.old.kept ≡ length graph.now.parts.points.items }
@@ -102,10 +97,8 @@ fn give(graph: &Graph, passages: &[Passage], levels: &mut Levels, i: usize)
     ensures given { (p : Program) → Tells p graph.now.parts → HaveGiven p levels.new (i + 1) }
 {
     let a = levels.front(i);
-    if let Some(next) = straight_next(passages, a)
-        && levels.is_short(a)
-    {
-        levels.pass_on(next, a);
+    if let Some(next) = straight_next(passages, a) {
+        offer_moved(graph, passages, levels, a, next);
     } else {
         give_each(graph, passages, levels, i);
     }
@@ -163,7 +156,7 @@ fn offer_missing_first(graph: &Graph, passages: &[Passage], levels: &mut Levels,
     ensures first { (p : Program) → Tells p graph.now.parts → at levels.new.next.states n ≡ state_at p 0 n }
     ensures others { (q : ℕ) → q ≢ n → at levels.new.next.states q ≡ at levels.old.next.states q }
 {
-    if !passage_at(passages, n).is_special {
+    if !passage_at(passages, n).is_special() {
         return;
     }
     if !levels.is_offered(n) {
@@ -319,9 +312,9 @@ impl Kept {
 /// The states that a checker keeps for the points of a program, by levels: those that hints set and those at entries,
 /// then for each further point the least state that is brought to it first.
 ///
-/// Each edge is looked at once when its point is kept, and once before, to choose the batches; each point before, to tell
-/// how states pass it and to choose them, and when it is kept only where its operation moves the state; where batches meet,
-/// once more. The edges of a point that has those of another mostly aren't. No memory is taken.
+/// Each point and its edges are looked at once before, to tell how states pass it and to choose the batches. When it is
+/// kept its edges are looked at again, unless it gives to the next point alone, and its operation only where that moves the
+/// state; where batches meet, once more. The edges of a point that has those of another mostly aren't. No memory is taken.
 pub fn spread(graph: &Graph, scratch: Scratch) -> Kept
     requires { scratch ≡ length graph.now.parts.points.items }
     ensures points { length result ≡ length graph.now.parts.points.items }
@@ -331,8 +324,7 @@ pub fn spread(graph: &Graph, scratch: Scratch) -> Kept
         mut levels,
         mut passages,
     } = scratch;
-    list_passages(graph, &mut passages);
-    let mixed = offer_mixed_first(graph, &passages, &mut levels);
+    let mixed = tell_points(graph, &mut passages, &mut levels);
     keep_first(graph, &passages, &mut levels);
     spread_batches(graph, &passages, &mut levels, mixed);
     Kept { levels }

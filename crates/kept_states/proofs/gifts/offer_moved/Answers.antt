@@ -11,6 +11,6 @@ use Rattle.kept_states.proofs.gifts.offer_moved.Goals as goal
 
 pub returns-then-is_short-clause-next : goal.returns-then-is_short-clause-next
 returns-then-is_short-clause-next c p s t has =
-    let neutral : is_neutral (p.insn c.args.from).op ≡ true = c.is_neutral.ensures c.if-is_neutral.true p c.args.from (c.passage_at.ensures p (c.requires.told p t)).onward in
+    let neutral : is_neutral (p.insn c.args.from).op ≡ true = sym (c.passage_at.ensures p (c.requires.told p t)).neutral ∙ c.if-passage_at.true in
     let near : has_near_numbers s ≡ true = c.is_short.ensures.near c.if-is_short.true s has in
     c.pass_on.ensures.next s has ∙ ap (λ (gifts : List State). offer_all c.args.levels.now.kept c.args.levels.now.next c.args.to gifts) (sym (moved_stays s (p.insn c.args.from).op neutral near))

@@ -8,15 +8,10 @@ use Rattle.machine_defs.specs.Kept.{edges_of}
 use Rattle.kept_states.specs.Gives.{IsGiven}
 use Rattle.kept_states.specs.LevelStates.{Offers, at}
 use Rattle.kept_states.specs.Told.{AreLeast, HaveGiven, offer_all, given_along, given_to_restore}
-use Rattle.kept_states.proofs.LevelSteps.{none_of, state_of_some}
-use Rattle.kept_states.proofs.Giving.{WithEdges, WithRestores, no_edge, edge_more, no_restore, in_vain, restore_more, given_none, given_more}
+use Rattle.kept_states.proofs.LevelSteps.{state_of_some}
+use Rattle.kept_states.proofs.Giving.{WithEdges, WithRestores, no_edge, edge_more, no_restore, in_vain, restore_more, given_more}
 use Rattle.kept_states.proofs.Rounds.{same_still}
 use Rattle.kept_states.proofs.spreading.give_each.Goals as goal
-
-pub returns-then-not-is_kept-clause-given : goal.returns-then-not-is_kept-clause-given
-returns-then-not-is_kept-clause-given c p t =
-    let none = none_of (at c.args.levels.now.kept c.front-a.result) (λ some. let k = c.is_kept.ensures.1 some in let h = c.if-not-is_kept.true in grind arith) in
-    given_none p c.args.levels.now.kept c.args.levels.now.front c.args.i c.front-a.result c.requires.inside c.front-a.ensures.front (t.count ∙ sym c.requires.points) c.args.levels.now.next none (c.requires.given p t)
 
 pub loop-edge-init : goal.loop-edge-init
 loop-edge-init c = record {
@@ -99,7 +94,7 @@ loop-restore-preserved c =
     }
 
 pub returns-clause-given : goal.returns-clause-given
-returns-clause-given c p t = all (state_of_some (at c.args.levels.now.kept c.front-a.result) (c.is_kept.ensures.0 (let h = c.if-not-is_kept.false in grind arith)))
+returns-clause-given c p t = all (state_of_some (at c.args.levels.now.kept c.front-a.result) c.front-a.ensures.kept)
   where
     all : (s : State) × (at c.args.levels.now.kept c.front-a.result ≡ Some s) → HaveGiven p c.loop-restore.levels (c.args.i + 1)
     all (s, has) =
