@@ -1,5 +1,5 @@
 -- How states pass points, told of one after another.
-use Rattle.std.proofs.Common.{◌≡◌, ◌≢◌, ℕ, ◌+◌, ◌<◌, ◌&&◌, Bool, true, false, not, ◌⊎◌, inl, inr, List, [], if◌then◌else◌, length, get_or, set, refl, sym, ◌∙◌, subst, arith}
+use Rattle.std.proofs.Common.{◌≡◌, ◌≢◌, ℕ, ◌+◌, ◌<◌, ◌&&◌, Bool, true, false, not, inl, inr, List, [], if◌then◌else◌, length, get_or, set, refl, sym, subst, arith}
 use Rattle.std.proofs.lemmas.List.{get_or-set_same, get_or-set_other}
 use Rattle.machine_defs.specs.Program.{Program}
 use Rattle.kept_states.specs.declared.passages.Passage.{Passage}

@@ -1,18 +1,17 @@
 -- What a point gives whose state goes on to the next point alone.
-use Rattle.std.proofs.Common.{◌≡◌, ◌↔◌, ℕ, ◌+◌, ◌<◌, true, not, ◌&&◌, List, [], ◌∷◌, Option, Some, Contains, length, take, get_or, refl, ap, sym, ◌∙◌, subst, arith}
+use Rattle.std.proofs.Common.{◌≡◌, ℕ, ◌+◌, ◌<◌, List, [], ◌∷◌, Option, Some, length, take, get_or, refl, sym, subst, arith}
 use Rattle.operation_defs.specs.declared.op.Op.{Op}
 use Rattle.machine_defs.specs.declared.flow.Edge.{Edge}
 use Rattle.state_defs.specs.declared.state.State.{State}
 use Rattle.state_defs.specs.Move.{move}
 use Rattle.machine_defs.specs.Program.{Program}
-use Rattle.machine_defs.specs.Kept.{brought_along, edges_of, is_free, moved}
+use Rattle.machine_defs.specs.Kept.{edges_of, is_free, moved}
 use Rattle.unwinding_law.proofs.Lists.{nowhere}
-use Rattle.program_graph.specs.Tells.{Means}
 use Rattle.kept_states.specs.Gives.{IsGiven}
 use Rattle.kept_states.specs.LevelStates.{Offers, at}
 use Rattle.kept_states.specs.Passages.{IsStraight, next_edge}
 use Rattle.kept_states.specs.Told.{AreLeast, given_along, offer_all}
-use Rattle.kept_states.proofs.Giving.{WithEdges, WithRestores, no_edge, edge_more, no_restore, given_more}
+use Rattle.kept_states.proofs.Giving.{WithEdges, no_edge, edge_more, no_restore, given_more}
 use Rattle.kept_states.proofs.PassageLemmas.{open_gives}
 
 -- what it gives along its edge is its state, moved

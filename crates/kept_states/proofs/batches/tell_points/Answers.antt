@@ -1,5 +1,5 @@
 -- One run after another is told of.
-use Rattle.std.proofs.Common.{◌≡◌, ◌≤◌, ℕ, length, ap, ◌∙◌, arith}
+use Rattle.std.proofs.Common.{length, ap, ◌∙◌, arith}
 use Rattle.kept_states.specs.LevelStates.{at}
 use Rattle.kept_states.proofs.LevelSteps.{not_none}
 use Rattle.kept_states.proofs.batches.tell_points.Goals as goal

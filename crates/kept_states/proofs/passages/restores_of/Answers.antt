@@ -1,5 +1,4 @@
 -- No RESTORE means the point.
-use Rattle.std.proofs.Common.{ℕ}
 use Rattle.unwinding_law.proofs.Lists.{nowhere}
 use Rattle.kept_states.proofs.passages.restores_of.Goals as goal
 

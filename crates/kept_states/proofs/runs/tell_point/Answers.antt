@@ -1,5 +1,5 @@
 -- One more point is told of.
-use Rattle.std.proofs.Common.{length, arith}
+use Rattle.std.proofs.Common.{arith}
 use Rattle.kept_states.proofs.PassageLemmas.{told_more}
 use Rattle.kept_states.proofs.runs.tell_point.Goals as goal
 

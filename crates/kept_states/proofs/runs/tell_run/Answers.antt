@@ -1,5 +1,5 @@
 -- One point of the run after another is told of.
-use Rattle.std.proofs.Common.{length, ◌∙◌, arith}
+use Rattle.std.proofs.Common.{◌∙◌, arith}
 use Rattle.kept_states.proofs.runs.tell_run.Goals as goal
 
 pub loop-n-preserved : goal.loop-n-preserved

@@ -1,4 +1,4 @@
-use Rattle.std.proofs.Common.{◌≡◌, ◌≤◌, length}
+use Rattle.std.proofs.Common.{◌≡◌, length}
 use Rattle.machine_defs.specs.Program.{Program}
 use Rattle.program_graph.specs.Tells.{Tells}
 use Rattle.kept_states.specs.Passages.{AreToldBelow}

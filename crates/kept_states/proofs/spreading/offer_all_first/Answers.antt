@@ -1,5 +1,5 @@
 -- One more point was offered what it has on level 0.
-use Rattle.std.proofs.Common.{◌≡◌, ◌≢◌, ℕ, ◌+◌, ◌<◌, inl, inr, List, Option, IsSome, length, ap, sym, ◌∙◌, subst, arith}
+use Rattle.std.proofs.Common.{◌≡◌, ℕ, inl, inr, List, Option, IsSome, length, ap, sym, ◌∙◌, subst, arith}
 use Rattle.state_defs.specs.declared.state.State.{State}
 use Rattle.machine_defs.specs.Kept.{state_at}
 use Rattle.kept_states.specs.LevelStates.{at}

@@ -1,10 +1,10 @@
 -- A point that is kept leaves what is offered aside, and one that was offered another has the lesser.
-use Rattle.std.proofs.Common.{◌≡◌, ◌<◌, ℕ, List, [], ◌∷◌, ◌++◌, Some, length, ◌||◌, Bool, get_or, set, slice_get, map, refl, ap, sym, ◌∙◌, subst, arith, length-set}
+use Rattle.std.proofs.Common.{◌≡◌, ◌<◌, ℕ, List, Some, length, ◌||◌, Bool, get_or, set, slice_get, map, refl, ap, sym, ◌∙◌, subst, arith}
 use Rattle.kept_states.specs.LevelStates.{LevelStates, offered}
 use Rattle.kept_states.specs.Packed.{state_of}
-use Rattle.kept_states.specs.Reached.{AreReached, kept_at, offered_at, settled_at}
-use Rattle.kept_states.proofs.Places.{point_inside, read_place, leaves_kept, kept_same, offered_better, better_reached, has_room, kept_too, offered_too, new_reached}
-use Rattle.kept_states.proofs.Firsts.{make_offers, same_offers, settled_of, behind_settled, or_false, settled_stay}
+use Rattle.kept_states.specs.Reached.{kept_at, offered_at, settled_at}
+use Rattle.kept_states.proofs.Places.{point_inside, read_place, leaves_kept, kept_same, offered_better, better_reached}
+use Rattle.kept_states.proofs.Firsts.{make_offers, same_offers, settled_of, behind_settled, or_false}
 use Rattle.kept_states.proofs.levels.Levels.offer.Goals as goal
 
 pub returns-then-place-self-clause-next : goal.returns-then-place-self-clause-next
