@@ -131,6 +131,18 @@ module _ (places reached : List ℕ) (states : List State) (kept : ℕ) (are : A
           let same : get_or places q 0 ≡ i = r.1 in
           (at-map (kept_at kept states) places q r.0 ∙ not_below kept states (get_or places q 0) (omega (arith, same, low)), kept_of_place (length reached) q (omega arith) r.0 (omega (arith, same, l)))
 
+  -- the points at some of the places that are kept
+  pub part_kept : (from to q : ℕ) → to ≤ kept → Contains (drop from (take to reached)) q → IsSome (at (map (kept_at kept states) places) q)
+  part_kept from to q few c = go (in_drop (take to reached) from q c)
+    where
+      go : (i : ℕ) × (from ≤ i) × (i < length (take to reached)) × (get_or (take to reached) i q ≡ q) → IsSome (at (map (kept_at kept states) places) q)
+      go (i, low, high, e) =
+          let n : length (take to reached) ≡ to = length-take-le to reached (omega (arith, few, are.ordered)) in
+          let i_in : i < to = omega (arith, n, high) in
+          let r = place_of i q (omega (arith, i_in, few, are.ordered)) (sym (get_or-take to reached i q i_in) ∙ e) in
+          let same : get_or places q 0 ≡ i = r.1 in
+          kept_of_place kept q are.ordered r.0 (omega (arith, same, i_in, few))
+
   -- a batch of points of level 0 is kept, and beside level 0 all that is kept is settled
   module _ (first : ℕ) (few : first ≤ kept) where
     first_fits : first ≤ length reached

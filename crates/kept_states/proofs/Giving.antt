@@ -198,16 +198,6 @@ module _ (p : Program) (old : LevelStates) (next : Offers) (i a : ℕ) (s : Stat
       ]
 
 module _ (p : Program) (kept : List (Option State)) (front : List ℕ) (i : ℕ) (a : ℕ) (l : i < length front) (is : a ≡ get_or front i 0) (count : p.count ≡ length kept) where
-  -- a point without a state gives nothing
-  pub given_none : (next : Offers) → at kept a ≡ None → AreLeast kept next (IsGiven p (at kept) (take i front)) → AreLeast kept next (IsGiven p (at kept) (take (i + 1) front))
-  given_none next none h = least_alike kept next (IsGiven p (at kept) (take i front)) (IsGiven p (at kept) (take (i + 1) front)) (λ q u k. (λ x. to q u x, λ x. from q u x)) h
-    where
-      to : (q : ℕ) (u : State) → IsGiven p (at kept) (take i front) q u → IsGiven p (at kept) (take (i + 1) front) q u
-      to q u (b, t, c, e, g) = (b, t, more_old front i 0 b l c, e, g)
-
-      from : (q : ℕ) (u : State) → IsGiven p (at kept) (take (i + 1) front) q u → IsGiven p (at kept) (take i front) q u
-      from q u (b, t, c, e, g) = elim (in_more front i 0 b l c) [ inl d ↦ (b, t, d, e, g) | inr same ↦ absurd (let k : at kept b ≡ None = subst (λ (x : ℕ). at kept x ≡ None) (is ∙ same) none in let z : ⊥ = cc in z) ]
-
   pub given_more : (next : Offers) (s : State) (restores : List ℕ) → at kept a ≡ Some s → ((r : ℕ) → Contains restores r ↔ Means p a r)
       → AreLeast kept next (WithRestores (WithEdges (IsGiven p (at kept) (take i front)) p s (p.insn a).op (edges_of p a)) p s restores) → AreLeast kept next (IsGiven p (at kept) (take (i + 1) front))
   given_more next s restores has mean h = least_alike kept next (WithRestores (WithEdges (IsGiven p (at kept) (take i front)) p s (p.insn a).op (edges_of p a)) p s restores) (IsGiven p (at kept) (take (i + 1) front)) (λ q u k. (λ x. to q u (point q k) x, λ x. from q u (point q k) x)) h

@@ -11,3 +11,4 @@ pub mod Short
 pub mod Slots
 pub mod NeutralMoves
 pub mod PassageLemmas
+pub mod Straight

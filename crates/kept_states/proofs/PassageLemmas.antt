@@ -1,15 +1,12 @@
 -- How states pass points, told of one after another.
-use Rattle.std.proofs.Common.{◌≡◌, ◌≢◌, ℕ, ◌+◌, ◌<◌, ◌&&◌, Bool, true, false, not, ◌⊎◌, inl, inr, List, [], if◌then◌else◌, length, get_or, set, refl, sym, ◌∙◌, subst, arith}
+use Rattle.std.proofs.Common.{◌≡◌, ◌≢◌, ℕ, ◌+◌, ◌<◌, ◌&&◌, Bool, true, false, not, inl, inr, List, [], if◌then◌else◌, length, get_or, set, refl, sym, subst, arith}
 use Rattle.std.proofs.lemmas.List.{get_or-set_same, get_or-set_other}
 use Rattle.machine_defs.specs.Program.{Program}
 use Rattle.kept_states.specs.declared.passages.Passage.{Passage}
-use Rattle.kept_states.specs.Passages.{ArePassages, IsPassage}
+use Rattle.kept_states.specs.Passages.{AreToldBelow, IsPassage}
 use Rattle.kept_states.proofs.Places.{same_or_not}
 
--- the points below n are told of
-abbrev pub AreToldBelow : Program → List Passage → ℕ → Type 0
-AreToldBelow p passages n = (k : ℕ) (d : Passage) → k < n → IsPassage p k (get_or passages k d)
-
+-- one more point is told of
 pub told_more : (p : Program) (passages : List Passage) (n : ℕ) (passage : Passage) → n < length passages → IsPassage p n passage → AreToldBelow p passages n → AreToldBelow p (set passages n passage) (n + 1)
 told_more p passages n passage inside own told k d less = elim (same_or_not n k) [
   | inl e ↦ subst (λ (m : ℕ). IsPassage p m (get_or (set passages n passage) m d)) (sym e) (subst (IsPassage p n) (sym (get_or-set_same passages n passage d inside)) own)

@@ -268,11 +268,28 @@ module _ (places reached : List ℕ) (states : List State) (kept : ℕ) (are : A
         rw a (sym (set-get_or (map (offered_at kept states) places) n None))
 
     -- one that isn't
-    none_kept : kept ≤ get_or places n 0 → at (map (kept_at kept states) places) n ≡ None
+    pub none_kept : kept ≤ get_or places n 0 → at (map (kept_at kept states) places) n ≡ None
     none_kept h = at-map (kept_at kept states) places n inside ∙ not_below kept states (get_or places n 0) h
 
     what_was_offered : kept ≤ get_or places n 0 → at (map (offered_at kept states) places) n ≡ slice_get states (get_or places n 0)
     what_was_offered h = at-map (offered_at kept states) places n inside ∙ from_bound kept states (get_or places n 0) h
+
+    -- one that isn't reached
+    pub none_offered : length states ≤ get_or places n 0 → at (map (offered_at kept states) places) n ≡ None
+    none_offered h = what_was_offered (omega (arith, h, are.long, are.ordered)) ∙ slice_get_past states (get_or places n 0) h
+
+    pub not_reached : at (map (kept_at kept states) places) n ≡ None → at (map (offered_at kept states) places) n ≡ None → length states ≤ get_or places n 0
+    not_reached not_kept not_offered = elim (within (get_or places n 0) (length states)) [
+      | inl l ↦ absurd (
+          let place : ℕ = get_or places n 0 in
+          let k : kept_at kept states place ≡ None = sym (at-map (kept_at kept states) places n inside) ∙ not_kept in
+          let o : offered_at kept states place ≡ None = sym (at-map (offered_at kept states) places n inside) ∙ not_offered in
+          let some : slice_get states place ≡ Some (get_or states place initial) = slice_get-get_or states place initial l in
+          let none : slice_get states place ≡ None = both kept states place ∙ rw (k, o) refl in
+          let z : ⊥ = cc in
+          z)
+      | inr h ↦ h
+    ]
 
     -- one that was offered another before
     module _ (h : kept ≤ get_or places n 0) (best t : State) (was : slice_get states (get_or places n 0) ≡ Some best) where

@@ -1,17 +1,46 @@
 -- How states pass points, as far as that doesn't depend on them.
-use Rattle.std.specs.Prelude.{◌≡◌, ℕ, ◌<◌, ◌&&◌, not, false, List, length, slice_index_or}
+use Rattle.std.specs.Prelude.{◌≡◌, ℕ, ◌+◌, ◌<◌, ◌∷◌, [], ◌&&◌, not, true, List, None, length, slice_index_or}
+use Rattle.machine_defs.specs.declared.flow.Edge.{Edge}
+use Rattle.machine_defs.specs.declared.flow.EdgeKind.TheVariants.{Next}
 use Rattle.machine_defs.specs.Program.{Program}
-use Rattle.machine_defs.specs.Kept.{is_free}
+use Rattle.machine_defs.specs.Kept.{edges_of, is_free, state_at}
 use Rattle.program_graph.specs.Tells.{Means}
 use Rattle.kept_states.specs.Neutral.{is_neutral}
+use Rattle.kept_states.specs.declared.passages.Giving.{Giving}
+use Rattle.kept_states.specs.declared.passages.Giving.TheVariants.{Straight, AlongEdges, Special}
 use Rattle.kept_states.specs.declared.passages.Passage.{Passage}
+
+-- a Next to the next point
+abbrev pub next_edge : ℕ → Edge
+next_edge n = record { to = n + 1; kind = Next }
+
+-- the point isn't of level 0, and no RESTORE means it
+pub record IsOrdinary (p : Program) (n : ℕ) : Type 0 where
+  pub first : state_at p 0 n ≡ None
+  pub meant : (r : ℕ) → Means p n r → ⊥
+
+-- to such points a point gives something
+abbrev pub GivesSo : Program → ℕ → Giving → Type 0
+GivesSo p n Straight = IsOrdinary p n × (edges_of p n ≡ next_edge n ∷ [])
+GivesSo p n AlongEdges = IsOrdinary p n
+GivesSo p n Special = Unit {0}
 
 -- so states pass a point
 pub record IsPassage (p : Program) (n : ℕ) (passage : Passage) : Type 0 where
   pub takes : passage.is_open ≡ (not (p.unchecked n) && is_free (p.hint n))
   pub neutral : passage.is_neutral ≡ is_neutral (p.insn n).op
-  pub meant : passage.is_meant ≡ false → (r : ℕ) → Means p n r → ⊥
+  pub giving : GivesSo p n passage.giving
 
--- so they pass each of the points from 0 on that the list has
+-- so they pass those below a number, of the points from 0 on that the list has
+abbrev pub AreToldBelow : Program → List Passage → ℕ → Type 0
+AreToldBelow p passages n = (k : ℕ) (d : Passage) → k < n → IsPassage p k (slice_index_or passages k d)
+
+-- so they pass each of them
 abbrev pub ArePassages : Program → List Passage → Type 0
 ArePassages p passages = (n : ℕ) (d : Passage) → n < length passages → IsPassage p n (slice_index_or passages n d)
+
+-- What a point gives is what it brings to the next point along its one edge, where states come in.
+pub record IsStraight (p : Program) (n : ℕ) : Type 0 where
+  pub edges : edges_of p n ≡ next_edge n ∷ []
+  pub meant : (r : ℕ) → Means p n r → ⊥
+  pub takes : (not (p.unchecked (n + 1)) && is_free (p.hint (n + 1))) ≡ true

@@ -4,7 +4,7 @@
 //! tells only how soon all is done. The first batch has those that are likely to reach points that others reach; any
 //! other has neighbouring points with one owner.
 
-ghost use Rattle.std.specs.Prelude.{◌≡◌, ◌<◌, ◌≤◌, ℕ, [], None, IsSome, length};
+ghost use Rattle.std.specs.Prelude.{◌≡◌, ◌≢◌, ◌<◌, ◌≤◌, ℕ, [], None, IsSome, length};
 ghost use Rattle.machine_defs.specs.Program.{IsPoint, Program};
 ghost use Rattle.machine_defs.specs.IsProgram.{IsProgram};
 ghost use Rattle.machine_defs.specs.Kept.{state_at};
@@ -15,31 +15,74 @@ ghost use Rattle.kept_states.specs.Passages.{ArePassages};
 ghost use Rattle.kept_states.specs.Ranks.{AreSpread};
 
 use crate::levels::Levels;
-use crate::passages::Passage;
-use crate::runs::{no_run, run_from};
+use crate::passages::{Passage, passage_at};
+use crate::runs::{no_run, tell_run};
 use crate::spreading::{keep_first, offer_first, spread_levels};
 use program_graph::Graph;
 
-/// Offers the points of mixed runs their states of level 0, and tells how many of them got one.
-pub(crate) fn offer_mixed_first(graph: &Graph, levels: &mut Levels) -> usize
+/// Offers a point its state of level 0, where it may have one.
+#[inline(always)]
+fn offer_special_first(graph: &Graph, passages: &[Passage], levels: &mut Levels, n: u32)
     requires points { length levels.old.kept ≡ length graph.now.parts.points.items }
+    requires passages { length passages.now ≡ length graph.now.parts.points.items }
+    requires next { length levels.old.next.states ≡ length levels.old.kept }
+    requires point { n < length levels.old.kept }
+    requires not_kept { at levels.old.kept n ≡ None }
+    requires not_offered { at levels.old.next.states n ≡ None }
+    ensures kept { levels.new.kept ≡ levels.old.kept }
+    ensures next { length levels.new.next.states ≡ length levels.old.kept }
+    ensures offered { (p : Program) → Tells p graph.now.parts → IsSome (at levels.new.next.states n) → at levels.new.next.states n ≡ state_at p 0 n }
+    ensures others { (q : ℕ) → q ≢ n → at levels.new.next.states q ≡ at levels.old.next.states q }
+{
+    if passage_at(passages, n).is_special() {
+        offer_first(graph, levels, n);
+    }
+}
+
+/// Offers the points of a run their states of level 0.
+fn offer_run_first(graph: &Graph, passages: &[Passage], levels: &mut Levels, from: u32, to: u32)
+    requires points { length levels.old.kept ≡ length graph.now.parts.points.items }
+    requires passages { length passages.now ≡ length graph.now.parts.points.items }
+    requires order { from ≤ to }
+    requires inside { to ≤ length graph.now.parts.points.items }
+    requires next { length levels.old.next.states ≡ length levels.old.kept }
+    requires not_kept { (q : ℕ) → at levels.old.kept q ≡ None }
+    requires not_offered { (q : ℕ) → from ≤ q → at levels.old.next.states q ≡ None }
+    requires offered { (p : Program) → Tells p graph.now.parts → (q : ℕ) → IsPoint p q → IsSome (at levels.old.next.states q) → at levels.old.next.states q ≡ state_at p 0 q }
+    ensures kept { levels.new.kept ≡ levels.old.kept }
+    ensures next { length levels.new.next.states ≡ length levels.old.kept }
+    ensures offered { (p : Program) → Tells p graph.now.parts → (q : ℕ) → IsPoint p q → IsSome (at levels.new.next.states q) → at levels.new.next.states q ≡ state_at p 0 q }
+    ensures others { (q : ℕ) → to ≤ q → at levels.new.next.states q ≡ None }
+{
+    for n in from..to {
+        offer_special_first(graph, passages, levels, n);
+    }
+}
+
+/// Tells how states pass the points, and offers those of mixed runs their states of level 0. Tells how many got one.
+pub(crate) fn tell_points(graph: &Graph, passages: &mut Vec<Passage>, levels: &mut Levels) -> usize
+    requires points { length levels.old.kept ≡ length graph.now.parts.points.items }
+    requires passages { length passages.old.items ≡ length graph.now.parts.points.items }
     requires next { length levels.old.next.states ≡ length levels.old.kept }
     requires not_kept { (q : ℕ) → at levels.old.kept q ≡ None }
     requires not_offered { (q : ℕ) → at levels.old.next.states q ≡ None }
+    ensures passages { length passages.new.items ≡ length passages.old.items }
+    ensures told { (p : Program) → Tells p graph.now.parts → ArePassages p passages.new.items }
     ensures kept { levels.new.kept ≡ levels.old.kept }
     ensures next { length levels.new.next.states ≡ length levels.old.kept }
     ensures offered { (p : Program) → Tells p graph.now.parts → (q : ℕ) → IsPoint p q → IsSome (at levels.new.next.states q) → at levels.new.next.states q ≡ state_at p 0 q }
 {
     let mut run = no_run();
-    for n in 0..graph.points() {
-        if n == run.end {
-            run = run_from(graph, n, run);
+    'runs: loop {
+        let from = run.end;
+        if from == graph.points() {
+            return levels.reached();
         }
+        run = tell_run(graph, passages, from, run);
         if run.is_mixed {
-            offer_first(graph, levels, n);
+            offer_run_first(graph, passages, levels, from, run.end);
         }
     }
-    levels.reached()
 }
 
 /// Where the batch ends that begins at a place among the points of level 0, of which so many are mixed.
@@ -71,7 +114,7 @@ pub(crate) fn spread_at_once(graph: &Graph, passages: &[Passage], levels: &mut L
     ensures spread { (p : Program) → Tells p graph.now.parts → IsProgram p → AreSpread p (at levels.new.kept) [] [] }
 {
     levels.clear();
-    keep_first(graph, levels);
+    keep_first(graph, passages, levels);
     let end = levels.firsts();
     levels.begin_batch(0, end);
     spread_levels(graph, passages, levels);

@@ -14,12 +14,13 @@ use crate::levels::Levels;
 use crate::packed::PackedState;
 use crate::passages::{Passage, passage_at};
 use machine_defs::{Edge, EdgeKind};
-use operation_defs::Op;
 use program_graph::Graph;
 use stack_state::step;
 
-/// Offers a point the state that another one keeps, moved by an operation, if that isn't refused.
-fn offer_stepped(levels: &mut Levels, from: u32, op: Op, to: u32)
+/// Offers a point the state that another one keeps, moved by its operation, if that isn't refused.
+#[inline(never)]
+fn offer_stepped(graph: &Graph, levels: &mut Levels, from: u32, to: u32)
+    requires points { length levels.old.kept ≡ length graph.now.parts.points.items }
     requires from { from < length levels.old.kept }
     requires point { to < length levels.old.kept }
     ensures kept { levels.new.kept ≡ levels.old.kept }
@@ -27,19 +28,26 @@ fn offer_stepped(levels: &mut Levels, from: u32, op: Op, to: u32)
     ensures done { levels.new.done ≡ levels.old.done }
     ensures same { StaysSame levels.old levels.new }
     ensures len { length levels.new.next.states ≡ length levels.old.next.states }
-    ensures next { (s : StateValue) → at levels.old.kept from ≡ Some s → levels.new.next ≡ offer_all levels.old.kept levels.old.next to (moved (move s op)) }
+    ensures next { (p : Program) (s : StateValue) → Tells p graph.now.parts → at levels.old.kept from ≡ Some s → levels.new.next ≡ offer_all levels.old.kept levels.old.next to (moved (move s (p.insn from).op)) }
 {
     let Some(state) = levels.state(from) else {
         return;
     };
-    if let Ok(after) = step(state, op) {
+    if let Ok(after) = step(state, graph.insn(from).op) {
         levels.offer(to, PackedState::new(after));
     }
 }
 
 /// Offers a point the state that another one keeps, moved by its operation, if that isn't refused. Where the operation
 /// leaves the state as it is, it is handed on as it stands.
-fn offer_moved(graph: &Graph, passages: &[Passage], levels: &mut Levels, from: u32, to: u32)
+#[inline(always)]
+pub(crate) fn offer_moved(
+    graph: &Graph,
+    passages: &[Passage],
+    levels: &mut Levels,
+    from: u32,
+    to: u32,
+)
     requires points { length levels.old.kept ≡ length graph.now.parts.points.items }
     requires passages { length passages.now ≡ length graph.now.parts.points.items }
     requires told { (p : Program) → Tells p graph.now.parts → ArePassages p passages.now }
@@ -55,12 +63,13 @@ fn offer_moved(graph: &Graph, passages: &[Passage], levels: &mut Levels, from: u
     if passage_at(passages, from).is_neutral && levels.is_short(from) {
         levels.pass_on(to, from);
     } else {
-        offer_stepped(levels, from, graph.insn(from).op, to);
+        offer_stepped(graph, levels, from, to);
     }
 }
 
 /// Offers the point at an edge's end what is brought along it: to a fixup the state before the instruction, else the one
 /// after it; to another function none.
+#[inline(always)]
 fn bring_along(graph: &Graph, passages: &[Passage], levels: &mut Levels, from: u32, edge: Edge)
     requires points { length levels.old.kept ≡ length graph.now.parts.points.items }
     requires passages { length passages.now ≡ length graph.now.parts.points.items }
@@ -84,6 +93,7 @@ fn bring_along(graph: &Graph, passages: &[Passage], levels: &mut Levels, from: u
 }
 
 /// Offers the point at an edge's end what a point that is kept gives along it.
+#[inline(always)]
 pub(crate) fn give_along(
     graph: &Graph,
     passages: &[Passage],

@@ -99,6 +99,7 @@ impl Levels {
     }
 
     /// The state that a point keeps, packed.
+    #[inline(always)]
     fn packed(&self, n: u32) -> Option<PackedState>
         requires { n < length self.now.kept }
         ensures { option_map state_of result ≡ at self.now.kept n }
@@ -154,6 +155,7 @@ impl Levels {
         requires { i < length self.now.front }
         ensures front { result ≡ slice_index self.now.front i }
         ensures point { result < length self.now.kept }
+        ensures kept { IsSome (at self.now.kept result) }
     {
         self.reached[self.front_from + i]
     }
@@ -196,14 +198,49 @@ impl Levels {
             let best = self.states.packed(place);
             self.states.set(place, lesser(best, state));
         } else {
-            self.places[n as usize] = self.states.len() as u32;
-            self.reached.push_reserved(n);
-            self.states.push(state);
+            self.offer_new(n, state);
         }
     }
 
+    /// Offers a point that isn't reached a state for the next level.
+    #[inline(always)]
+    fn offer_new(&mut self, n: u32, state: PackedState)
+        requires point { n < length self.old.kept }
+        requires not_kept { at self.old.kept n ≡ None }
+        requires not_offered { at self.old.next.states n ≡ None }
+        ensures kept { self.new.kept ≡ self.old.kept }
+        ensures front { self.new.front ≡ self.old.front }
+        ensures done { self.new.done ≡ self.old.done }
+        ensures firsts { self.new.firsts ≡ self.old.firsts }
+        ensures next { self.new.next ≡ offered self.old.kept self.old.next n (state_of state) }
+    {
+        self.places[n as usize] = self.states.len() as u32;
+        self.reached.push_reserved(n);
+        self.states.push(state);
+    }
+
     /// Offers a point the state that another one keeps.
+    #[inline(always)]
     pub(crate) fn pass_on(&mut self, n: u32, from: u32)
+        requires point { n < length self.old.kept }
+        requires from { from < length self.old.kept }
+        ensures kept { self.new.kept ≡ self.old.kept }
+        ensures front { self.new.front ≡ self.old.front }
+        ensures done { self.new.done ≡ self.old.done }
+        ensures same { StaysSame self.old self.new }
+        ensures len { length self.new.next.states ≡ length self.old.next.states }
+        ensures next { (s : State) → at self.old.kept from ≡ Some s → self.new.next ≡ offered self.old.kept self.old.next n s }
+    {
+        if self.is_reached(n) {
+            self.pass_on_again(n, from);
+        } else if let Some(state) = self.packed(from) {
+            self.offer_new(n, state);
+        }
+    }
+
+    /// Offers a point that is likely to be reached the state that another one keeps.
+    #[inline(never)]
+    fn pass_on_again(&mut self, n: u32, from: u32)
         requires point { n < length self.old.kept }
         requires from { from < length self.old.kept }
         ensures kept { self.new.kept ≡ self.old.kept }
@@ -216,6 +253,15 @@ impl Levels {
         if let Some(state) = self.packed(from) {
             self.offer(n, state);
         }
+    }
+
+    /// Whether a point keeps a state, or was offered one.
+    fn is_reached(&self, n: u32) -> bool
+        requires { n < length self.now.kept }
+        ensures kept { result ≡ false → at self.now.kept n ≡ None }
+        ensures offered { result ≡ false → at self.now.next.states n ≡ None }
+    {
+        (self.places[n as usize] as usize) < self.states.len()
     }
 
     /// Whether a point was offered a state for the next level.

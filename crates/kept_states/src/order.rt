@@ -108,6 +108,7 @@ pub(crate) fn is_before(one: State, other: State) -> bool
 }
 
 /// The lesser of two states.
+#[inline(never)]
 pub(crate) fn lesser(one: PackedState, other: PackedState) -> PackedState
     ensures { state_of result ≡ lesser_state (state_of one) (state_of other) }
 {

@@ -3,17 +3,29 @@
 //! What is told of all points stands in a list of its own, which is much shorter than the graph: while states spread, a
 //! level may have points far from each other, and most of them are passed without a look at the graph but for edges.
 
-ghost use Rattle.std.specs.Prelude.{◌≡◌, ◌<◌, ◌&&◌, ◌↔◌, ℕ, All, Contains, IfOk, false, length, not};
+ghost use Rattle.std.specs.Prelude.{◌≡◌, ◌+◌, ◌<◌, ◌↔◌, ◌∷◌, ℕ, [], All, Contains, IfOk, IfSome, IsSome, IsTrue, None, false, length, true};
 ghost use Rattle.machine_defs.specs.Program.{Program};
-ghost use Rattle.machine_defs.specs.Kept.{is_free as is_free_hint};
+ghost use Rattle.machine_defs.specs.Kept.{edges_of, is_free as is_free_hint, state_at};
 ghost use Rattle.program_graph.specs.Tells.{Means, Tells};
-ghost use Rattle.kept_states.specs.Passages.{ArePassages, IsPassage};
+ghost use Rattle.kept_states.specs.Passages.{ArePassages, GivesSo, IsPassage, IsStraight, next_edge};
 
 use crate::neutral::is_neutral;
+use machine_defs::{Edge, EdgeKind};
 use ot_base::NoMemory;
 use program_graph::Graph;
 use state_defs::HintState;
 use std::alloc::Global;
+
+/// To which points a point gives something.
+#[derive(Clone, Copy)]
+pub(crate) enum Giving {
+    /// To the next point alone, along its one edge, which is a Next. It isn't of level 0.
+    Straight,
+    /// To points at the ends of its edges. It isn't of level 0.
+    AlongEdges,
+    /// So too, and to a RESTORE if one means it; or it is of level 0. Few points are special.
+    Special,
+}
 
 /// How states pass a point.
 #[derive(Clone, Copy)]
@@ -22,8 +34,32 @@ pub(crate) struct Passage {
     pub(crate) is_open: bool,
     /// Whether its operation leaves each state as it is, and isn't a way out that a state has to allow.
     pub(crate) is_neutral: bool,
-    /// Whether a RESTORE means it, to which its state is given.
-    pub(crate) is_meant: bool,
+    /// To which points it gives something.
+    pub(crate) giving: Giving,
+}
+
+impl Passage {
+    /// Whether a point may be of level 0, or meant by a RESTORE.
+    pub(crate) fn is_special(self) -> bool
+        ensures first { result ≡ false → (p : Program) (n : ℕ) → IsPassage p n self → state_at p 0 n ≡ None }
+        ensures meant { result ≡ false → (p : Program) (n : ℕ) → IsPassage p n self → (r : ℕ) → Means p n r → ⊥ }
+    {
+        match self.giving {
+            Giving::Straight | Giving::AlongEdges => false,
+            Giving::Special => true,
+        }
+    }
+
+    /// Whether a point gives something to the next point alone.
+    pub(crate) fn is_straight(self) -> bool
+        ensures edges { IsTrue result → (p : Program) (n : ℕ) → IsPassage p n self → edges_of p n ≡ next_edge n ∷ [] }
+        ensures meant { IsTrue result → (p : Program) (n : ℕ) → IsPassage p n self → (r : ℕ) → Means p n r → ⊥ }
+    {
+        match self.giving {
+            Giving::Straight => true,
+            Giving::AlongEdges | Giving::Special => false,
+        }
+    }
 }
 
 const _: () = prove!(size_of::<Passage>() == 3);
@@ -32,7 +68,7 @@ const _: () = prove!(size_of::<Passage>() == 3);
 const UNTOLD: Passage = Passage {
     is_open: false,
     is_neutral: false,
-    is_meant: true,
+    giving: Giving::Special,
 };
 
 /// Whether states come in along edges at a point with this hint.
@@ -45,31 +81,65 @@ fn is_free(hint: Option<HintState>) -> bool
     }
 }
 
-/// Whether states come in along edges at a point.
-fn is_open(graph: &Graph, n: u32) -> bool
+/// Whether a point has a hint, or a RESTORE means it.
+fn is_hinted(graph: &Graph, n: u32) -> bool
     requires { n < length graph.now.parts.points.items }
-    ensures { (p : Program) → Tells p graph.now.parts → result ≡ (not (p.unchecked n) && is_free_hint (p.hint n)) }
+    ensures hint { result ≡ false → (p : Program) → Tells p graph.now.parts → p.hint n ≡ None }
+    ensures meant { result ≡ false → (p : Program) → Tells p graph.now.parts → (r : ℕ) → Means p n r → ⊥ }
 {
-    !graph.unchecked(n) && is_free(graph.hint(n))
+    graph.hint(n).is_some() || !graph.restores(n).is_empty()
 }
 
-/// Whether a RESTORE means a point.
-fn is_meant(graph: &Graph, n: u32) -> bool
+/// Whether a point may be of level 0, or meant by a RESTORE.
+fn is_special(graph: &Graph, n: u32) -> bool
     requires { n < length graph.now.parts.points.items }
-    ensures { result ≡ false → (p : Program) → Tells p graph.now.parts → (r : ℕ) → Means p n r → ⊥ }
+    ensures first { result ≡ false → (p : Program) → Tells p graph.now.parts → state_at p 0 n ≡ None }
+    ensures meant { result ≡ false → (p : Program) → Tells p graph.now.parts → (r : ℕ) → Means p n r → ⊥ }
 {
-    !graph.restores(n).is_empty()
+    is_hinted(graph, n) || graph.is_entered(n)
+}
+
+/// Whether the edges of a point are one, a Next to the next point.
+fn lead_straight(edges: &[Edge], n: u32) -> bool
+    ensures { IsTrue result → edges.now ≡ next_edge n ∷ [] }
+{
+    if edges.len() != 1 {
+        return false;
+    }
+    let edge = edges[0];
+    match edge.kind {
+        EdgeKind::Next => u64::from(edge.to) == u64::from(n) + 1,
+        EdgeKind::Taken | EdgeKind::Fixup | EdgeKind::Table | EdgeKind::Sibling => false,
+    }
+}
+
+/// To which points a point gives something.
+#[inline(always)]
+fn giving_of(graph: &Graph, n: u32) -> Giving
+    requires { n < length graph.now.parts.points.items }
+    ensures { (p : Program) → Tells p graph.now.parts → GivesSo p n result }
+{
+    if is_special(graph, n) {
+        return Giving::Special;
+    }
+    if lead_straight(graph.successors(n), n) {
+        Giving::Straight
+    } else {
+        Giving::AlongEdges
+    }
 }
 
 /// How states pass a point.
-fn passage_of(graph: &Graph, n: u32) -> Passage
+#[inline(always)]
+pub(crate) fn passage_of(graph: &Graph, n: u32) -> Passage
     requires { n < length graph.now.parts.points.items }
     ensures { (p : Program) → Tells p graph.now.parts → IsPassage p n result }
 {
+    let is_free = is_free(graph.hint(n));
     Passage {
-        is_open: is_open(graph, n),
+        is_open: !graph.unchecked(n) && is_free,
         is_neutral: is_neutral(graph.insn(n).op),
-        is_meant: is_meant(graph, n),
+        giving: giving_of(graph, n),
     }
 }
 
@@ -80,23 +150,31 @@ pub(crate) fn no_passages(alloc: Global, points: u32) -> Result<Vec<Passage>, No
     Ok(vec![in alloc; UNTOLD; points as usize]?)
 }
 
-/// Tells of each point how states pass it.
-pub(crate) fn list_passages(graph: &Graph, passages: &mut Vec<Passage>)
-    requires { length passages.old.items ≡ length graph.now.parts.points.items }
-    ensures points { length passages.new.items ≡ length passages.old.items }
-    ensures told { (p : Program) → Tells p graph.now.parts → ArePassages p passages.new.items }
-{
-    for n in 0..graph.points() {
-        passages[n as usize] = passage_of(graph, n);
-    }
-}
-
 /// How states pass a point, of those that are told of.
 pub(crate) fn passage_at(passages: &[Passage], n: u32) -> Passage
     requires { n < length passages.now }
     ensures { (p : Program) → ArePassages p passages.now → IsPassage p n result }
 {
     passages[n as usize]
+}
+
+/// The next point, where a point gives something to that one alone, and states come in there.
+#[inline(always)]
+pub(crate) fn straight_next(passages: &[Passage], n: u32) -> Option<u32>
+    requires { n < length passages.now }
+    ensures number { IfSome result (λ next. (next ≡ n + 1) × (next < length passages.now)) }
+    ensures straight { IsSome result → (p : Program) → ArePassages p passages.now → IsStraight p n }
+{
+    let passage = passage_at(passages, n);
+    if !passage.is_straight() {
+        return None;
+    }
+    let next = n.checked_add(1)?;
+    if (next as usize) < passages.len() && passage_at(passages, next).is_open {
+        Some(next)
+    } else {
+        None
+    }
 }
 
 /// The RESTORE points that mean a SAVE point.
@@ -107,7 +185,7 @@ pub(crate) fn restores_of<'a>(graph: &'a Graph, passages: &[Passage], n: u32) ->
     ensures restores { (p : Program) → Tells p graph.now.parts → (r : ℕ) → Contains result.now r ↔ Means p n r }
     ensures within { All (λ r. r < length graph.now.parts.points.items) result.now }
 {
-    if passage_at(passages, n).is_meant {
+    if passage_at(passages, n).is_special() {
         graph.restores(n)
     } else {
         &[]

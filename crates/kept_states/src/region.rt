@@ -63,6 +63,7 @@ impl Region {
     }
 
     /// The state at a place, packed.
+    #[inline(always)]
     pub(crate) fn packed(&self, place: usize) -> PackedState
         requires { place < length self.now.list }
         ensures { slice_get self.now.list place ≡ Some (state_of result) }
@@ -119,6 +120,7 @@ impl Region {
     }
 
     /// Puts a state behind the others.
+    #[inline(always)]
     pub(crate) fn push(&mut self, state: PackedState)
         requires { length self.old.list < self.old.room }
         ensures { self.new ≡ record { list = self.old.list ++ state_of state ∷ []; room = self.old.room } }

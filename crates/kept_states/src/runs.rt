@@ -1,8 +1,12 @@
-//! Runs of neighbouring points with one owner.
+//! Runs of neighbouring points with one owner, and how states pass their points.
 
-ghost use Rattle.std.specs.Prelude.{◌<◌, ◌≤◌, length};
+ghost use Rattle.std.specs.Prelude.{◌≡◌, ◌+◌, ◌<◌, ◌≤◌, length};
+ghost use Rattle.machine_defs.specs.Program.{Program};
+ghost use Rattle.program_graph.specs.Tells.{Tells};
+ghost use Rattle.kept_states.specs.Passages.{AreToldBelow};
 
 use crate::alike::FEW_EDGES;
+use crate::passages::{Passage, passage_at, passage_of};
 use machine_defs::EdgeKind;
 use ot_base::Place;
 use program_graph::Graph;
@@ -20,7 +24,9 @@ pub(crate) struct Run {
 }
 
 /// The run of no points, before the first.
-pub(crate) fn no_run() -> Run {
+pub(crate) fn no_run() -> Run
+    ensures { result.end ≡ 0 }
+{
     Run {
         end: 0,
         is_mixed: false,
@@ -44,50 +50,44 @@ fn sites_below(graph: &Graph, least: usize, place: Place) -> usize {
     sites.len()
 }
 
-/// Where the points end that have the owner of this one.
-fn owner_end(graph: &Graph, from: u32) -> u32
-    requires { from < length graph.now.parts.points.items }
-    ensures { result ≤ length graph.now.parts.points.items }
-{
-    let owner = graph.owner(from);
-    for n in from..graph.points() {
-        if graph.owner(n) != owner {
-            return n;
-        }
-    }
-    graph.points()
-}
-
-/// Whether states go from a point of a run, which has this owner, to code of another. A point that has the edges of
-/// another one of its run isn't asked, as that one is.
-fn leads_away(graph: &Graph, n: u32, from: u32, end: u32, owner: Option<u32>) -> bool
+/// Whether states go from a point of a run, which begins at `from` and has this owner, to code of another. A point that
+/// has the edges of an earlier one of the run isn't asked, as that one is.
+fn leads_away(graph: &Graph, n: u32, from: u32, owner: Option<u32>) -> bool
     requires { n < length graph.now.parts.points.items }
 {
     let edges = graph.successors(n);
     if edges.len() > FEW_EDGES
         && let Some(first) = graph.alike(n)
     {
-        return first < from || end <= first;
+        return first < from || n <= first;
     }
     for edge in edges {
-        let is_inside = from <= edge.to && edge.to < end;
-        if !is_inside && edge.kind != EdgeKind::Sibling && graph.owner(edge.to) != owner {
+        if edge.kind != EdgeKind::Sibling && graph.owner(edge.to) != owner {
             return true;
         }
     }
     false
 }
 
-/// Whether states go from one of the points of a run, which has this owner, to code of another.
-fn lead_away(graph: &Graph, from: u32, end: u32, owner: Option<u32>) -> bool
-    requires { end ≤ length graph.now.parts.points.items }
+/// Tells how states pass a point of such a run, and whether they go from it to code of another owner. A point that gives
+/// to the next one alone isn't asked: that one is of the run too, unless the run ends there.
+#[inline(always)]
+fn tell_point(
+    graph: &Graph,
+    passages: &mut Vec<Passage>,
+    n: u32,
+    from: u32,
+    owner: Option<u32>,
+) -> bool
+    requires point { n < length graph.now.parts.points.items }
+    requires passages { length passages.old.items ≡ length graph.now.parts.points.items }
+    ensures passages { length passages.new.items ≡ length passages.old.items }
+    ensures told { (p : Program) → Tells p graph.now.parts → AreToldBelow p passages.old.items n → AreToldBelow p passages.new.items (n + 1) }
 {
-    for n in from..end {
-        if leads_away(graph, n, from, end, owner) {
-            return true;
-        }
-    }
-    false
+    let passage = passage_of(graph, n);
+    let is_away = !passage.is_straight() && leads_away(graph, n, from, owner);
+    passages[n as usize] = passage;
+    is_away
 }
 
 /// Whether alternatives stand at a point: it is of a replacement, or the first of a site.
@@ -98,18 +98,33 @@ fn has_alternatives(graph: &Graph, n: u32, sites_below: usize) -> bool
     graph.variant(n) != 0 || sites_below < sites.len() && sites[sites_below].start == graph.place(n)
 }
 
-/// The run that begins at a point, behind another run.
-pub(crate) fn run_from(graph: &Graph, from: u32, before: Run) -> Run
-    requires { from < length graph.now.parts.points.items }
+/// The run that begins at a point, behind another run. Tells how states pass its points.
+pub(crate) fn tell_run(graph: &Graph, passages: &mut Vec<Passage>, from: u32, before: Run) -> Run
+    requires point { from < length graph.now.parts.points.items }
+    requires passages { length passages.old.items ≡ length graph.now.parts.points.items }
+    ensures passages { length passages.new.items ≡ length passages.old.items }
+    ensures told { (p : Program) → Tells p graph.now.parts → AreToldBelow p passages.old.items from → AreToldBelow p passages.new.items result.end }
+    ensures more { from < result.end }
+    ensures within { result.end ≤ length graph.now.parts.points.items }
 {
     let sites = sites_below(graph, before.sites, graph.place(from));
     let owner = graph.owner(from);
-    let end = owner_end(graph, from);
-    let is_mixed = owner.is_none()
-        || has_alternatives(graph, from, sites)
-        || lead_away(graph, from, end, owner);
+    let is_away = tell_point(graph, passages, from, from, owner);
+    let mut is_mixed = is_away || owner.is_none() || has_alternatives(graph, from, sites);
+    for n in from + 1..graph.points() {
+        if graph.owner(n) != owner {
+            let is_passed = passage_at(passages, n - 1).is_straight();
+            return Run {
+                end: n,
+                is_mixed: is_mixed || is_passed,
+                sites,
+            };
+        }
+        let is_away = tell_point(graph, passages, n, from, owner);
+        is_mixed = is_mixed || is_away;
+    }
     Run {
-        end,
+        end: graph.points(),
         is_mixed,
         sites,
     }

@@ -20,11 +20,11 @@ ghost use Rattle.kept_states.specs.Ranks.{AreSpread};
 ghost use Rattle.kept_states.specs.Told.{HaveGiven};
 
 use crate::alike::giving_edges;
-use crate::batches::{offer_mixed_first, spread_batches};
-use crate::gifts::{give_along, give_to_restore};
+use crate::batches::{spread_batches, tell_points};
+use crate::gifts::{give_along, give_to_restore, offer_moved};
 use crate::levels::Levels;
 use crate::packed::PackedState;
-use crate::passages::{Passage, list_passages, no_passages, restores_of};
+use crate::passages::{Passage, no_passages, passage_at, restores_of, straight_next};
 use ot_base::NoMemory;
 use program_graph::Graph;
 use stack_state::initial;
@@ -53,7 +53,34 @@ fn first_state(graph: &Graph, n: u32) -> Option<State>
     }
 }
 
-/// Gives what the point at a place in front gives to others.
+/// Gives what the point at a place in front gives to others, along each of its edges and to each RESTORE.
+#[inline(never)]
+fn give_each(graph: &Graph, passages: &[Passage], levels: &mut Levels, i: usize)
+    requires points { length levels.old.kept ≡ length graph.now.parts.points.items }
+    requires passages { length passages.now ≡ length graph.now.parts.points.items }
+    requires told { (p : Program) → Tells p graph.now.parts → ArePassages p passages.now }
+    requires next { length levels.old.next.states ≡ length levels.old.kept }
+    requires inside { i < length levels.old.front }
+    requires done { (p : Program) → Tells p graph.now.parts → HaveGivenAll p levels.old }
+    requires given { (p : Program) → Tells p graph.now.parts → HaveGiven p levels.old i }
+    ensures kept { levels.new.kept ≡ levels.old.kept }
+    ensures front { levels.new.front ≡ levels.old.front }
+    ensures done { levels.new.done ≡ levels.old.done }
+    ensures same { StaysSame levels.old levels.new }
+    ensures next { length levels.new.next.states ≡ length levels.old.kept }
+    ensures given { (p : Program) → Tells p graph.now.parts → HaveGiven p levels.new (i + 1) }
+{
+    let a = levels.front(i);
+    for edge in giving_edges(graph, levels, i, a) {
+        give_along(graph, passages, levels, a, *edge);
+    }
+    for restore in restores_of(graph, passages, a) {
+        give_to_restore(graph, levels, a, *restore);
+    }
+}
+
+/// Gives what the point at a place in front gives to others. Most give to the next point alone.
+#[inline(always)]
 fn give(graph: &Graph, passages: &[Passage], levels: &mut Levels, i: usize)
     requires points { length levels.old.kept ≡ length graph.now.parts.points.items }
     requires passages { length passages.now ≡ length graph.now.parts.points.items }
@@ -70,14 +97,10 @@ fn give(graph: &Graph, passages: &[Passage], levels: &mut Levels, i: usize)
     ensures given { (p : Program) → Tells p graph.now.parts → HaveGiven p levels.new (i + 1) }
 {
     let a = levels.front(i);
-    if !levels.is_kept(a) {
-        return;
-    }
-    for edge in giving_edges(graph, levels, i, a) {
-        give_along(graph, passages, levels, a, *edge);
-    }
-    for restore in restores_of(graph, passages, a) {
-        give_to_restore(graph, levels, a, *restore);
+    if let Some(next) = straight_next(passages, a) {
+        offer_moved(graph, passages, levels, a, next);
+    } else {
+        give_each(graph, passages, levels, i);
     }
 }
 
@@ -119,9 +142,33 @@ pub(crate) fn offer_first(graph: &Graph, levels: &mut Levels, n: u32)
     }
 }
 
-/// Offers each point its state of level 0 that was offered none yet.
-fn offer_all_first(graph: &Graph, levels: &mut Levels)
+/// Offers a point its state of level 0, where it was offered none yet.
+fn offer_missing_first(graph: &Graph, passages: &[Passage], levels: &mut Levels, n: u32)
     requires points { length levels.old.kept ≡ length graph.now.parts.points.items }
+    requires passages { length passages.now ≡ length graph.now.parts.points.items }
+    requires told { (p : Program) → Tells p graph.now.parts → ArePassages p passages.now }
+    requires next { length levels.old.next.states ≡ length levels.old.kept }
+    requires point { n < length levels.old.kept }
+    requires not_kept { at levels.old.kept n ≡ None }
+    requires offered { (p : Program) → Tells p graph.now.parts → IsSome (at levels.old.next.states n) → at levels.old.next.states n ≡ state_at p 0 n }
+    ensures kept { levels.new.kept ≡ levels.old.kept }
+    ensures next { length levels.new.next.states ≡ length levels.old.kept }
+    ensures first { (p : Program) → Tells p graph.now.parts → at levels.new.next.states n ≡ state_at p 0 n }
+    ensures others { (q : ℕ) → q ≢ n → at levels.new.next.states q ≡ at levels.old.next.states q }
+{
+    if !passage_at(passages, n).is_special() {
+        return;
+    }
+    if !levels.is_offered(n) {
+        offer_first(graph, levels, n);
+    }
+}
+
+/// Offers each point its state of level 0 that was offered none yet.
+fn offer_all_first(graph: &Graph, passages: &[Passage], levels: &mut Levels)
+    requires points { length levels.old.kept ≡ length graph.now.parts.points.items }
+    requires passages { length passages.now ≡ length graph.now.parts.points.items }
+    requires told { (p : Program) → Tells p graph.now.parts → ArePassages p passages.now }
     requires next { length levels.old.next.states ≡ length levels.old.kept }
     requires not_kept { (q : ℕ) → at levels.old.kept q ≡ None }
     requires offered { (p : Program) → Tells p graph.now.parts → (q : ℕ) → IsPoint p q → IsSome (at levels.old.next.states q) → at levels.old.next.states q ≡ state_at p 0 q }
@@ -130,15 +177,15 @@ fn offer_all_first(graph: &Graph, levels: &mut Levels)
     ensures first { (p : Program) → Tells p graph.now.parts → (q : ℕ) → IsPoint p q → at levels.new.next.states q ≡ state_at p 0 q }
 {
     for n in 0..graph.points() {
-        if !levels.is_offered(n) {
-            offer_first(graph, levels, n);
-        }
+        offer_missing_first(graph, passages, levels, n);
     }
 }
 
 /// Keeps the states of level 0, of which some may be offered already. All of its points wait for their batch.
-pub(crate) fn keep_first(graph: &Graph, levels: &mut Levels)
+pub(crate) fn keep_first(graph: &Graph, passages: &[Passage], levels: &mut Levels)
     requires points { length levels.old.kept ≡ length graph.now.parts.points.items }
+    requires passages { length passages.now ≡ length graph.now.parts.points.items }
+    requires told { (p : Program) → Tells p graph.now.parts → ArePassages p passages.now }
     requires next { length levels.old.next.states ≡ length levels.old.kept }
     requires not_kept { (q : ℕ) → at levels.old.kept q ≡ None }
     requires offered { (p : Program) → Tells p graph.now.parts → (q : ℕ) → IsPoint p q → IsSome (at levels.old.next.states q) → at levels.old.next.states q ≡ state_at p 0 q }
@@ -149,7 +196,7 @@ pub(crate) fn keep_first(graph: &Graph, levels: &mut Levels)
     ensures first { (p : Program) → Tells p graph.now.parts → AreFirst p levels.new.firsts }
     ensures spread { (p : Program) → Tells p graph.now.parts → AreSpread p (at levels.new.kept) [] levels.new.firsts }
 {
-    offer_all_first(graph, levels);
+    offer_all_first(graph, passages, levels);
     levels.keep_first();
 }
 
@@ -265,9 +312,9 @@ impl Kept {
 /// The states that a checker keeps for the points of a program, by levels: those that hints set and those at entries,
 /// then for each further point the least state that is brought to it first.
 ///
-/// Each edge is looked at once when its point is kept, and once before, to choose the batches; each point before, to tell
-/// how states pass it and to choose them, and when it is kept only where its operation moves the state; where batches meet,
-/// once more. The edges of a point that has those of another mostly aren't. No memory is taken.
+/// Each point and its edges are looked at once before, to tell how states pass it and to choose the batches. When it is
+/// kept its edges are looked at again, unless it gives to the next point alone, and its operation only where that moves the
+/// state; where batches meet, once more. The edges of a point that has those of another mostly aren't. No memory is taken.
 pub fn spread(graph: &Graph, scratch: Scratch) -> Kept
     requires { scratch ≡ length graph.now.parts.points.items }
     ensures points { length result ≡ length graph.now.parts.points.items }
@@ -277,9 +324,8 @@ pub fn spread(graph: &Graph, scratch: Scratch) -> Kept
         mut levels,
         mut passages,
     } = scratch;
-    list_passages(graph, &mut passages);
-    let mixed = offer_mixed_first(graph, &mut levels);
-    keep_first(graph, &mut levels);
+    let mixed = tell_points(graph, &mut passages, &mut levels);
+    keep_first(graph, &passages, &mut levels);
     spread_batches(graph, &passages, &mut levels, mixed);
     Kept { levels }
 }

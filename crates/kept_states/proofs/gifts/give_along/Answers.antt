@@ -1,5 +1,5 @@
 -- What comes along an edge comes in where the point is open, and nowhere else.
-use Rattle.std.proofs.Common.{◌≡◌, ◌&&◌, true, false, not, List, ap, sym, refl, ◌∙◌}
+use Rattle.std.proofs.Common.{◌≡◌, ◌&&◌, true, false, not, List, ap, sym, ◌∙◌}
 use Rattle.state_defs.specs.declared.state.State.{State}
 use Rattle.machine_defs.specs.Kept.{brought_along, is_free}
 use Rattle.kept_states.specs.Told.{offer_all}

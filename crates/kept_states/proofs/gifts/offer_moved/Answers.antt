@@ -1,9 +1,7 @@
 -- A neutral operation leaves a state with near numbers as it is.
 use Rattle.std.proofs.Common.{◌≡◌, true, List, ap, sym, ◌∙◌}
-use Rattle.operation_defs.specs.declared.insn.Insn.{Insn}
 use Rattle.state_defs.specs.declared.state.State.{State}
-use Rattle.state_defs.specs.Move.{has_near_numbers, move}
-use Rattle.machine_defs.specs.Kept.{moved}
+use Rattle.state_defs.specs.Move.{has_near_numbers}
 use Rattle.kept_states.specs.Neutral.{is_neutral}
 use Rattle.kept_states.specs.Told.{offer_all}
 use Rattle.kept_states.proofs.NeutralMoves.{moved_stays}

@@ -17,4 +17,7 @@ returns-clause-kept c p t is hints =
     spread_are_kept p is hints (at kept) (c.spread_batches.ensures.spread p t is) point
 
 pub spread_batches-requires-clause-told : goal.spread_batches-requires-clause-told
-spread_batches-requires-clause-told c p t = subst (λ (passages : List Passage). ArePassages p passages) (sym c.deref.ensures.value) (c.list_passages.ensures.told p t)
+spread_batches-requires-clause-told c p t = subst (λ (passages : List Passage). ArePassages p passages) (sym c.deref-2.ensures.value) (c.tell_points-mixed.ensures.told p t)
+
+pub keep_first-requires-clause-told : goal.keep_first-requires-clause-told
+keep_first-requires-clause-told c p t = subst (λ (passages : List Passage). ArePassages p passages) (sym c.deref.ensures.value) (c.tell_points-mixed.ensures.told p t)

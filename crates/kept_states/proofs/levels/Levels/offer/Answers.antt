@@ -1,10 +1,10 @@
--- A point that is offered a state for the first time is put behind those that are reached.
-use Rattle.std.proofs.Common.{◌≡◌, ◌<◌, ℕ, List, [], ◌∷◌, ◌++◌, Some, length, ◌||◌, Bool, get_or, set, slice_get, map, refl, ap, sym, ◌∙◌, subst, arith, length-set}
+-- A point that is kept leaves what is offered aside, and one that was offered another has the lesser.
+use Rattle.std.proofs.Common.{◌≡◌, ◌<◌, ℕ, List, Some, length, ◌||◌, Bool, get_or, set, slice_get, map, refl, ap, sym, ◌∙◌, subst, arith}
 use Rattle.kept_states.specs.LevelStates.{LevelStates, offered}
 use Rattle.kept_states.specs.Packed.{state_of}
-use Rattle.kept_states.specs.Reached.{AreReached, kept_at, offered_at, settled_at}
-use Rattle.kept_states.proofs.Places.{point_inside, read_place, leaves_kept, kept_same, offered_better, better_reached, has_room, kept_too, offered_too, new_reached}
-use Rattle.kept_states.proofs.Firsts.{make_offers, same_offers, settled_of, behind_settled, or_false, settled_stay}
+use Rattle.kept_states.specs.Reached.{kept_at, offered_at, settled_at}
+use Rattle.kept_states.proofs.Places.{point_inside, read_place, leaves_kept, kept_same, offered_better, better_reached}
+use Rattle.kept_states.proofs.Firsts.{make_offers, same_offers, settled_of, behind_settled, or_false}
 use Rattle.kept_states.proofs.levels.Levels.offer.Goals as goal
 
 pub returns-then-place-self-clause-next : goal.returns-then-place-self-clause-next
@@ -44,56 +44,4 @@ returns-then-place-len-clause-next c =
     rw (c.set.ensures, place)
     (subst (λ (v : LevelStates). make_offers (map (offered_at c.self.inside.kept (set c.self.inside.states.list (get_or places c.args.n 0) (state_of c.lesser.result))) places) (map (settled_at c.self.inside.first c.self.inside.settled) places) c.self.inside.met ≡ offered v.kept v.next c.args.n (state_of c.args.state)) c.self.view_is
     (same_offers _ _ _ _ _ _ (offered_better places c.self.inside.reached.items c.self.inside.states.list c.self.inside.kept c.self.invariant.2 c.args.n (state_of c.args.state) inside (omega (arith, place, c.if-place-self.false)) (state_of c.packed-best.result) (state_of c.lesser.result) was c.lesser.ensures) refl
-    (or_false c.self.inside.met _ (settled_of c.self.inside.first c.self.inside.settled places c.args.n inside ∙ behind_settled c.self.inside.first c.self.inside.settled (get_or places c.args.n 0) (omega (arith, place, c.if-place-self.false, c.self.invariant.3.settled_in))))))
-
-pub push_reserved-requires : goal.push_reserved-requires
-push_reserved-requires c =
-    let places : List ℕ = c.self.inside.places.items in
-    let inside : c.args.n < length places = point_inside places (kept_at c.self.inside.kept c.self.inside.states.list) c.args.n (subst (λ (v : LevelStates). c.args.n < length v.kept) (sym c.self.view_is) c.requires) in
-    let place : c.index.result.now ≡ get_or places c.args.n 0 = read_place places c.args.n c.index.result.now inside c.index.ensures in
-    let room : length c.self.inside.reached.items < length places =
-    has_room places c.self.inside.reached.items c.self.inside.states.list c.self.inside.kept c.self.invariant.2 c.args.n (state_of c.args.state) inside (omega (arith, place, c.if-place-len.false, c.len.ensures)) in
-    omega (arith, room, c.self.invariant.0, c.self.inside.reached.ok)
-
-pub push-requires : goal.push-requires
-push-requires c =
-    let places : List ℕ = c.self.inside.places.items in
-    let are : AreReached places c.self.inside.reached.items c.self.inside.states.list c.self.inside.kept = c.self.invariant.2 in
-    let inside : c.args.n < length places = point_inside places (kept_at c.self.inside.kept c.self.inside.states.list) c.args.n (subst (λ (v : LevelStates). c.args.n < length v.kept) (sym c.self.view_is) c.requires) in
-    let place : c.index.result.now ≡ get_or places c.args.n 0 = read_place places c.args.n c.index.result.now inside c.index.ensures in
-    let room : length c.self.inside.reached.items < length places =
-    has_room places c.self.inside.reached.items c.self.inside.states.list c.self.inside.kept are c.args.n (state_of c.args.state) inside (omega (arith, place, c.if-place-len.false, c.len.ensures)) in
-    omega (arith, room, c.self.invariant.1, are.long)
-
-pub invariant_of-self-else-place-len : goal.invariant_of-self-else-place-len
-invariant_of-self-else-place-len c =
-    let places : List ℕ = c.self.inside.places.items in
-    let inside : c.args.n < length places = point_inside places (kept_at c.self.inside.kept c.self.inside.states.list) c.args.n (subst (λ (v : LevelStates). c.args.n < length v.kept) (sym c.self.view_is) c.requires) in
-    let place : c.index.result.now ≡ get_or places c.args.n 0 = read_place places c.args.n c.index.result.now inside c.index.ensures in
-    let long : length (set places c.args.n (length c.self.inside.states.list)) ≡ length places = length-set places c.args.n (length c.self.inside.states.list) in
-    rw (c.len-else-place-len.ensures, c.push_reserved.ensures.items, c.push.ensures) (
-      omega (arith, long, c.push_reserved.ensures.capacity, c.self.invariant.0),
-      omega (arith, long, c.self.invariant.1),
-      new_reached places c.self.inside.reached.items c.self.inside.states.list c.self.inside.kept c.self.invariant.2 c.args.n (state_of c.args.state) inside (omega (arith, place, c.if-place-len.false, c.len.ensures)),
-      c.self.invariant.3,
-    )
-
-pub returns-else-place-len-clause-kept : goal.returns-else-place-len-clause-kept
-returns-else-place-len-clause-kept c =
-    let places : List ℕ = c.self.inside.places.items in
-    let inside : c.args.n < length places = point_inside places (kept_at c.self.inside.kept c.self.inside.states.list) c.args.n (subst (λ (v : LevelStates). c.args.n < length v.kept) (sym c.self.view_is) c.requires) in
-    let place : c.index.result.now ≡ get_or places c.args.n 0 = read_place places c.args.n c.index.result.now inside c.index.ensures in
-    rw (c.len-else-place-len.ensures, c.push.ensures)
-    (subst (λ (v : LevelStates). map (kept_at c.self.inside.kept (c.self.inside.states.list ++ (state_of c.args.state) ∷ [])) (set places c.args.n (length c.self.inside.states.list)) ≡ v.kept) c.self.view_is
-    (kept_too places c.self.inside.reached.items c.self.inside.states.list c.self.inside.kept c.self.invariant.2 c.args.n (state_of c.args.state) inside (omega (arith, place, c.if-place-len.false, c.len.ensures))))
-
-pub returns-else-place-len-clause-next : goal.returns-else-place-len-clause-next
-returns-else-place-len-clause-next c =
-    let places : List ℕ = c.self.inside.places.items in
-    let inside : c.args.n < length places = point_inside places (kept_at c.self.inside.kept c.self.inside.states.list) c.args.n (subst (λ (v : LevelStates). c.args.n < length v.kept) (sym c.self.view_is) c.requires) in
-    let place : c.index.result.now ≡ get_or places c.args.n 0 = read_place places c.args.n c.index.result.now inside c.index.ensures in
-    rw (c.len-else-place-len.ensures, c.push.ensures)
-    (subst (λ (v : LevelStates). make_offers (map (offered_at c.self.inside.kept (c.self.inside.states.list ++ (state_of c.args.state) ∷ [])) (set places c.args.n (length c.self.inside.states.list))) (map (settled_at c.self.inside.first c.self.inside.settled) (set places c.args.n (length c.self.inside.states.list))) c.self.inside.met ≡ offered v.kept v.next c.args.n (state_of c.args.state)) c.self.view_is
-    (same_offers _ _ _ _ _ _ (offered_too places c.self.inside.reached.items c.self.inside.states.list c.self.inside.kept c.self.invariant.2 c.args.n (state_of c.args.state) inside (omega (arith, place, c.if-place-len.false, c.len.ensures)))
-    (settled_stay c.self.inside.first c.self.inside.settled places c.args.n (length c.self.inside.states.list) inside (omega (arith, place, c.if-place-self.false, c.self.invariant.3.settled_in)) (omega (arith, c.self.invariant.3.settled_in, c.self.invariant.2.ordered, c.self.invariant.2.long)))
     (or_false c.self.inside.met _ (settled_of c.self.inside.first c.self.inside.settled places c.args.n inside ∙ behind_settled c.self.inside.first c.self.inside.settled (get_or places c.args.n 0) (omega (arith, place, c.if-place-self.false, c.self.invariant.3.settled_in))))))

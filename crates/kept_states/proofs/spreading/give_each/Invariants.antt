@@ -7,7 +7,7 @@ use Rattle.kept_states.specs.Gives.{IsGiven}
 use Rattle.kept_states.specs.LevelStates.{StaysSame, at}
 use Rattle.kept_states.specs.Told.{AreLeast}
 use Rattle.kept_states.proofs.Giving.{WithEdges, WithRestores}
-use Rattle.kept_states.proofs.spreading.give.Given as goal
+use Rattle.kept_states.proofs.spreading.give_each.Given as goal
 
 abbrev pub invariant-loop-edge : goal.invariant-loop-edge
 invariant-loop-edge l = record {

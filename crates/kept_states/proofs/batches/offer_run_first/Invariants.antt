@@ -1,9 +1,9 @@
-use Rattle.std.proofs.Common.{◌≡◌, ℕ, ◌≤◌, None, IsSome, length}
+use Rattle.std.proofs.Common.{◌≡◌, ◌≤◌, ℕ, None, IsSome, length}
 use Rattle.machine_defs.specs.Program.{Program, IsPoint}
 use Rattle.machine_defs.specs.Kept.{state_at}
 use Rattle.program_graph.specs.Tells.{Tells}
 use Rattle.kept_states.specs.LevelStates.{at}
-use Rattle.kept_states.proofs.batches.offer_mixed_first.Given as goal
+use Rattle.kept_states.proofs.batches.offer_run_first.Given as goal
 
 abbrev pub invariant-loop-n : goal.invariant-loop-n
 invariant-loop-n l = record {

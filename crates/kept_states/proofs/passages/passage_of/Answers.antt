@@ -1,0 +1,10 @@
+use Rattle.std.proofs.Common.{arith}
+use Rattle.std.proofs.lemmas.Grind.{common_steps}
+use Rattle.kept_states.proofs.passages.passage_of.Goals as goal
+
+pub returns : goal.returns
+returns c p t = record {
+  takes = grind (arith, common_steps);
+  neutral = grind (arith, common_steps);
+  giving = c.giving_of.ensures p t;
+}

@@ -1,0 +1,13 @@
+-- One point of the run after another is told of.
+use Rattle.std.proofs.Common.{◌∙◌, arith}
+use Rattle.kept_states.proofs.runs.tell_run.Goals as goal
+
+pub loop-n-preserved : goal.loop-n-preserved
+loop-n-preserved c = record {
+  passages = c.tell_point-is_away-in-loop-n.ensures.passages ∙ c.loop-n.invariant.passages;
+  told = λ p t told. c.tell_point-is_away-in-loop-n.ensures.told p t (c.loop-n.invariant.told p t told);
+}
+
+pub returns-clause-told : goal.returns-clause-told
+returns-clause-told c p t told k d less =
+    c.loop-n.invariant.told p t told k d (omega (arith, less, c.loop-n-test.false, c.points-n-end.ensures.points, c.points.ensures.points))
