@@ -19,3 +19,4 @@ pub mod Following
 pub mod AllWarnings
 pub mod Tracked
 pub mod OptionSums
+pub mod Staying

@@ -104,3 +104,40 @@ none_between sites place near d indexed apart within before behind site (k, l, a
     from_there : (j : ℕ) (e : OwnSite) → near ≤ j → j < length sites → is_before place (get_or sites j e).start ≡ true
     from_there j e up m =
         unbegun sites place indexed near j e up m (subst (λ (s : OwnSite). is_before place s.start ≡ true) (get_or_default sites near d e (omega arith)) (behind (omega arith)))
+
+-- a place that is not behind the offset at which the next site of the section begins is before it
+before_next : (a b c d f : ℕ) → is_lt (ordering_then (nat_cmp a c) (nat_cmp b d)) ≡ true → (c ≡ a → f < d) → is_lt (ordering_then (nat_cmp a c) (nat_cmp f d)) ≡ true
+before_next a b c d f h k = elim (cases_lt a c) [ inl lower ↦ grind (arith, nat_tests) | inr other ↦ (let same : c ≡ a = grind (arith, nat_tests) in let l : f < d = k same in grind (arith, nat_tests)) ]
+
+not_before : (a b f : ℕ) → b ≤ f → is_lt (ordering_then (nat_cmp a a) (nat_cmp f b)) ≡ false
+not_before a b f h = grind (arith, nat_tests)
+
+-- no place is among no places
+pub none_inside : (a b : ℕ) → (eqb a 0 && (leb 0 b && ltb b 0)) ≡ true → ⊥
+none_inside a b h = grind (arith, nat_tests)
+
+-- what it says that a place is among those of a gap
+pub gap_parts : (a b c d e : ℕ) → (eqb a b && (leb c d && ltb d e)) ≡ true → (a ≡ b) × (c ≤ d) × (d < e)
+gap_parts a b c d e h = (grind (arith, nat_tests), grind (arith, nat_tests), grind (arith, nat_tests))
+
+-- where no site holds a place, none holds one of its section that comes before the next site
+pub clear_from : (sites : List OwnSite) (place other : Place) (near : ℕ) → AreIndexed sites → other.sec ≡ place.sec → place.off ≤ other.off
+    → ((k : ℕ) (d : OwnSite) → k < near → is_before place (get_or sites k d).start ≡ false)
+    → ((k : ℕ) (d : OwnSite) → near ≤ k → k < length sites → is_before place (get_or sites k d).start ≡ true)
+    → ((d : OwnSite) → near < length sites → (get_or sites near d).start.sec ≡ place.sec → other.off < (get_or sites near d).start.off)
+    → ((site : OwnSite) → Contains sites site → in_own_site site place ≡ false) → (site : OwnSite) → Contains sites site → in_own_site site other ≡ false
+clear_from sites place other near indexed section from low high next none site (k, l, at) = elim (cases_lt k near) [
+  | inl below ↦ elim (cases_Bool (in_own_site site other)) [
+    | inr clear ↦ clear
+    | inl held ↦
+        let started : is_before place site.start ≡ false = subst (λ (s : OwnSite). is_before place s.start ≡ false) at (low k site below) in
+        let order : is_before other place ≡ false = subst (λ (s : ℕ). is_lt (ordering_then (nat_cmp s place.sec) (nat_cmp other.off place.off)) ≡ false) (sym section) (not_before place.sec place.off other.off from) in
+        absurd (both_ways (in_own_site site place) (none site (k, l, at)) (between_held other place site held started order))
+  ]
+  | inr above ↦
+      let inside : near < length sites = omega (arith, l, above) in
+      let begins : is_before other (get_or sites near site).start ≡ true =
+      subst (λ (s : ℕ). is_lt (ordering_then (nat_cmp s (get_or sites near site).start.sec) (nat_cmp other.off (get_or sites near site).start.off)) ≡ true) (sym section)
+      (before_next place.sec place.off (get_or sites near site).start.sec (get_or sites near site).start.off other.off (high near site (omega arith) inside) (next site inside)) in
+      before_not_held other site (subst (λ (s : OwnSite). is_before other s.start ≡ true) at (unbegun sites other indexed near k site above l begins))
+]

@@ -1,6 +1,7 @@
 -- At a quiet point no rule is broken.
-use Rattle.std.proofs.Common.{◌≡◌, ◌≢◌, ℕ, Bool, true, false, All, get_or, arith, Option, Some, None, List, [], ◌∷◌, inl, inr, Ok, refl, sym, ◌∙◌, subst}
+use Rattle.std.proofs.Common.{◌≡◌, ◌≢◌, ℕ, Bool, true, false, ◌<◌, All, ap, get_or, length, arith, Option, Some, None, List, [], ◌∷◌, inl, inr, Ok, refl, sym, ◌∙◌, subst}
 use Rattle.std.specs.Prelude.{option_to_list}
+use Rattle.std.proofs.lemmas.List.{get_or_default}
 use Rattle.std.proofs.lemmas.List.Elements.{All-contains}
 use Rattle.ot_base.specs.declared.place.Place.{Place}
 use Rattle.ot_base.specs.declared.warning.Warning.{Warning}
@@ -19,6 +20,7 @@ use Rattle.machine_defs.specs.Program.{Program}
 use Rattle.machine_defs.specs.Kept.{brought_along, edges_of}
 use Rattle.machine_defs.specs.Ways.{is_before_hint, may_leave}
 use Rattle.kept_states.specs.LevelStates.{at}
+use Rattle.kept_states.specs.Neutral.{is_neutral}
 use Rattle.stack_rules.specs.PointWarns.{ArrivalWarns, EdgeWarns, IsBrought, KeptWarns, MarksWarn, OperationWarns, PointWarns, RoleWarns, RowWarns}
 use Rattle.stack_rules.specs.Quiet.{IsQuiet, Leads, Passes, is_exit, is_unmarked, stays}
 
@@ -55,6 +57,22 @@ no_operation place op s t before w h m (inr (inr ((e, b), k))) = let n : is_exit
 no_row : (place : Place) (s : State) (w : Warning) → unfit_offset s ≡ None → RowWarns place s w → ⊥
 no_row place s w h (a, e, k) = let z : ⊥ = cc in z
 
+moved_along : (s t : State) (op : Op) → move s op ≡ Ok t → brought_along s op Next ≡ t ∷ []
+moved_along s t op m = rw m refl
+
+-- what holds of a single edge holds of each
+pub single : (P : Edge → Type 0) (edges : List Edge) (d : Edge) → length edges ≡ 1 → P (get_or edges 0 d) → All P edges
+single P edges d one h = λ i e l.
+    let first : 0 < length edges = omega (arith, one) in
+    let same : 0 ≡ i = omega (arith, one, l) in
+    subst P (get_or_default edges 0 d e first ∙ ap (λ (k : ℕ). get_or edges k e) same) h
+
+-- an operation that leaves each state as it is is no way out
+pub neutral_stays : (op : Op) → is_neutral op ≡ true → is_exit op ≡ false
+neutral_stays Switch h = let z : ⊥ = cc in absurd z
+neutral_stays Iret h = let z : ⊥ = cc in absurd z
+neutral_stays _ h = refl
+
 module _ (p : Program) (states : List (Option State)) (q : ℕ) where
   no_arrival : (s : State) (to : ℕ) (brought : Option State) (w : Warning) → at states to ≡ Some s → ((t : State) → brought ≡ Some t → t ≡ s) → ArrivalWarns p states to brought w → ⊥
   no_arrival s to brought w some same (inl ((h, none), e)) = let z : ⊥ = cc in z
@@ -81,3 +99,11 @@ module _ (p : Program) (states : List (Option State)) (q : ℕ) where
   -- where the operation leaves the state as it is, an edge leads on that passes
   pub pass_leads : (s : State) (edges : List Edge) → at states q ≡ Some s → move s (p.insn q).op ≡ Ok s → All (Passes p states q) edges → All (Leads p states q s) edges
   pass_leads s edges some m all = λ i d l. (let passes = all i d l in (passes.0, passes.1, (s, passes.2 ∙ some, same_along s (p.insn q).op (get_or edges i d).kind passes.0 m)))
+
+  -- the edge to the next instruction leads on, where the moved state is kept there
+  pub next_leads : (s t : State) (e : Edge) → e.kind ≡ Next → p.owner e.to ≡ p.owner q → move s (p.insn q).op ≡ Ok t → at states e.to ≡ Some t → Leads p states q s e
+  next_leads s t e next owner m some = (
+    (λ sibling. let k : Next ≡ Sibling = sym next ∙ sibling in let z : ⊥ = cc in z),
+    (λ out. out.1 owner),
+    (t, some, subst (λ (kind : EdgeKind). brought_along s (p.insn q).op kind ≡ t ∷ []) (sym next) (moved_along s t (p.insn q).op m)),
+  )

@@ -9,3 +9,4 @@ pub mod Quiet
 pub mod Sites
 pub mod Points
 pub mod Disagree
+pub mod Gaps

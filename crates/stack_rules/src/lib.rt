@@ -7,6 +7,7 @@ mod exit_rules;
 mod exits;
 mod force;
 mod frames;
+mod gap;
 mod listing;
 mod numbers;
 mod offsets;

@@ -82,6 +82,24 @@ fn push_unkept(graph: &Graph, into: &mut Vec<Warning>, n: u32) -> Result<(), NoM
     push_if(into, is_entered_restore(graph, n), warning)
 }
 
+/// The rules at a point, by whether it keeps a state.
+#[inline(never)]
+fn push_by_state(
+    graph: &Graph,
+    kept: &Kept,
+    into: &mut Vec<Warning>,
+    n: u32,
+) -> Result<(), NoMemory>
+    requires points { length kept.now ≡ length graph.now.parts.points.items }
+    requires point { n < length graph.now.parts.points.items }
+    ensures { OnOk result ((p : Program) → Checks p graph.now.parts kept.now → Gains into.old.items into.new.items (PointWarns p kept.now n)) }
+{
+    match kept.state(n) {
+        Some(state) => push_kept(graph, kept, into, n, state),
+        None => push_unkept(graph, into, n),
+    }
+}
+
 /// The rules at a point. Points are known all of whose edges pass, of those that others have the edges of.
 fn push_point(
     graph: &Graph,
@@ -99,10 +117,7 @@ fn push_point(
     if is_quiet(graph, kept, passing, n)? {
         return Ok(());
     }
-    match kept.state(n) {
-        Some(state) => push_kept(graph, kept, into, n, state),
-        None => push_unkept(graph, into, n),
-    }
+    push_by_state(graph, kept, into, n)
 }
 
 /// Rule 17: functions at these places have no size.

@@ -1,8 +1,9 @@
 //! Points at which no rule is broken, by a quick test that most of them pass: the operation moves the state, and whatever
 //! comes next of the function keeps the moved one.
 
-ghost use Rattle.std.specs.Prelude.{◌≡◌, ◌≢◌, ◌<◌, ◌↔◌, ◌∷◌, [], All, IfOk, IsTrue, Ok, OnOk, Some, length};
-ghost use Rattle.state_defs.specs.Move.{move};
+ghost use Rattle.std.specs.Prelude.{◌≡◌, ◌≢◌, ◌<◌, ◌↔◌, ◌∷◌, [], All, IfOk, IsSome, IsTrue, None, Ok, OnOk, Some, false, length, true};
+ghost use Rattle.state_defs.specs.Move.{has_near_numbers, move};
+ghost use Rattle.state_defs.specs.Row.{unfit_offset};
 ghost use Rattle.machine_defs.specs.Program.{Program};
 ghost use Rattle.machine_defs.specs.Kept.{brought_along, edges_of};
 ghost use Rattle.program_graph.specs.Tells.{Tells};
@@ -57,6 +58,7 @@ fn is_sibling(kind: EdgeKind) -> bool
 }
 
 /// Whether an edge stays in its function, and leads to where the same state is kept.
+#[inline(always)]
 fn passes(graph: &Graph, kept: &Kept, n: u32, edge: Edge) -> bool
     requires points { length kept.now ≡ length graph.now.parts.points.items }
     requires from { n < length graph.now.parts.points.items }
@@ -66,18 +68,35 @@ fn passes(graph: &Graph, kept: &Kept, n: u32, edge: Edge) -> bool
     !is_sibling(edge.kind) && !falls_out(graph, n, edge) && kept.are_alike(edge.to, n)
 }
 
-/// Whether each edge of a point does.
-fn all_pass(graph: &Graph, kept: &Kept, n: u32) -> bool
+/// Whether each of these edges of a point does.
+#[inline(never)]
+fn each_passes(graph: &Graph, kept: &Kept, n: u32, edges: &[Edge]) -> bool
     requires points { length kept.now ≡ length graph.now.parts.points.items }
     requires point { n < length graph.now.parts.points.items }
-    ensures { IsTrue result → (p : Program) → Tells p graph.now.parts → All (Passes p kept.now n) (edges_of p n) }
+    requires within { All (λ e. e.to < length graph.now.parts.points.items) edges.now }
+    ensures { IsTrue result → (p : Program) → Tells p graph.now.parts → All (Passes p kept.now n) edges.now }
 {
-    for edge in graph.successors(n) {
+    for edge in edges {
         if !passes(graph, kept, n, *edge) {
             return false;
         }
     }
     true
+}
+
+/// Whether each edge of a point does: most points have one.
+#[inline(always)]
+fn all_pass(graph: &Graph, kept: &Kept, n: u32) -> bool
+    requires points { length kept.now ≡ length graph.now.parts.points.items }
+    requires point { n < length graph.now.parts.points.items }
+    ensures { IsTrue result → (p : Program) → Tells p graph.now.parts → All (Passes p kept.now n) (edges_of p n) }
+{
+    let edges = graph.successors(n);
+    if edges.len() == 1 {
+        passes(graph, kept, n, edges[0])
+    } else {
+        each_passes(graph, kept, n, edges)
+    }
 }
 
 /// Whether two points have one owner, and keep the same state.
@@ -93,6 +112,7 @@ fn are_alike(graph: &Graph, kept: &Kept, one: u32, other: u32) -> bool
 
 /// Whether each edge of a point passes. Where they are those of another point with the same owner and state, they pass
 /// exactly if those of that one do, which is among the passing points from then on.
+#[inline(never)]
 fn all_pass_by_table(
     graph: &Graph,
     kept: &Kept,
@@ -121,72 +141,80 @@ fn all_pass_by_table(
     Ok(true)
 }
 
-/// What comes along an edge in its function, by the states before and after the instruction.
-fn brought(kind: EdgeKind, before: State, after: State) -> State
-    ensures { (op : Op) → kind ≢ EdgeKind.Sibling → move before op ≡ Ok after → brought_along before op kind ≡ result ∷ [] }
+/// Whether an edge leads to the next instruction.
+fn is_next(kind: EdgeKind) -> bool
+    ensures { IsTrue result ↔ (kind ≡ EdgeKind.Next) }
 {
-    match kind {
-        EdgeKind::Fixup => before,
-        EdgeKind::Next | EdgeKind::Taken | EdgeKind::Table | EdgeKind::Sibling => after,
-    }
+    matches!(kind, EdgeKind::Next)
 }
 
-/// Whether a point keeps a state.
-fn keeps(kept: &Kept, n: u32, state: State) -> bool
-    requires { n < length kept.now }
-    ensures { IsTrue result → at kept.now n ≡ Some state }
-{
-    match kept.state(n) {
-        Some(other) => is_same(other, state),
-        None => false,
-    }
-}
-
-/// Whether an edge stays in its function, and leads to where the state is kept that is brought along it.
-fn leads(graph: &Graph, kept: &Kept, n: u32, before: State, after: State, edge: Edge) -> bool
-    requires points { length kept.now ≡ length graph.now.parts.points.items }
+/// Whether an edge leads to the next instruction, of the same owner.
+fn stays_next(graph: &Graph, n: u32, edge: Edge) -> bool
     requires from { n < length graph.now.parts.points.items }
     requires to { edge.to < length graph.now.parts.points.items }
-    ensures { IsTrue result → (p : Program) → Tells p graph.now.parts → move before (p.insn n).op ≡ Ok after → Leads p kept.now n before edge }
+    ensures next { IsTrue result → edge.kind ≡ EdgeKind.Next }
+    ensures owner { IsTrue result → (p : Program) → Tells p graph.now.parts → p.owner edge.to ≡ p.owner n }
 {
-    !is_sibling(edge.kind)
-        && !falls_out(graph, n, edge)
-        && keeps(kept, edge.to, brought(edge.kind, before, after))
+    is_next(edge.kind) && graph.owner(edge.to) == graph.owner(n)
 }
 
-/// Whether each edge of a point does.
-fn all_lead(graph: &Graph, kept: &Kept, n: u32, before: State, after: State) -> bool
-    requires points { length kept.now ≡ length graph.now.parts.points.items }
-    requires point { n < length graph.now.parts.points.items }
-    ensures { IsTrue result → (p : Program) → Tells p graph.now.parts → move before (p.insn n).op ≡ Ok after → All (Leads p kept.now n before) (edges_of p n) }
+/// Whether an operation moves the state of a point to that of another.
+fn moves_to(kept: &Kept, op: Op, n: u32, to: u32) -> bool
+    requires from { n < length kept.now }
+    requires to { to < length kept.now }
+    ensures { IsTrue result → (s : State) → at kept.now n ≡ Some s → (t : State) × (move s op ≡ Ok t) × (at kept.now to ≡ Some t) }
 {
-    for edge in graph.successors(n) {
-        if !leads(graph, kept, n, before, after, *edge) {
-            return false;
-        }
+    match (kept.state(n), kept.state(to)) {
+        (Some(before), Some(after)) => match step(before, op) {
+            Ok(moved) => is_same(moved, after),
+            Err(_) => false,
+        },
+        (Some(_) | None, _) => false,
     }
-    true
 }
 
-/// Whether the operation of a point isn't refused in its state, and each edge does.
+/// Whether the operation of a point is no way out, and moves its state to that of the next instruction, of the same owner, to
+/// which alone control goes.
+#[inline(never)]
 fn moves_on(graph: &Graph, kept: &Kept, n: u32) -> bool
     requires points { length kept.now ≡ length graph.now.parts.points.items }
     requires point { n < length graph.now.parts.points.items }
+    ensures exit { IsTrue result → (p : Program) → Tells p graph.now.parts → is_exit_op (p.insn n).op ≡ false }
     ensures moves { IsTrue result → (p : Program) → Tells p graph.now.parts → (s : State) → at kept.now n ≡ Some s → (t : State) × (move s (p.insn n).op ≡ Ok t) }
     ensures leads { IsTrue result → (p : Program) → Tells p graph.now.parts → (s : State) → at kept.now n ≡ Some s → All (Leads p kept.now n s) (edges_of p n) }
 {
-    let Some(state) = kept.state(n) else {
+    let edges = graph.successors(n);
+    if edges.len() != 1 {
         return false;
-    };
-    match step(state, graph.insn(n).op) {
-        Ok(after) => all_lead(graph, kept, n, state, after),
-        Err(_) => false,
     }
+    let edge = edges[0];
+    if !stays_next(graph, n, edge) {
+        return false;
+    }
+    let op = graph.insn(n).op;
+    if is_exit(op) {
+        return false;
+    }
+    moves_to(kept, op, n, edge.to)
 }
 
 /// Whether an operation is an indirect jump.
 fn is_indirect_jump(op: Op) -> bool {
     matches!(op, Op::JmpInd { .. })
+}
+
+/// Whether a state is kept at a point whose numbers are near and whose row fits, and where control goes from it asks nothing of a state.
+#[inline(always)]
+fn is_allowed(graph: &Graph, kept: &Kept, n: u32) -> bool
+    requires points { length kept.now ≡ length graph.now.parts.points.items }
+    requires point { n < length graph.now.parts.points.items }
+    ensures some { IsTrue result → IsSome (at kept.now n) }
+    ensures near { IsTrue result → (s : State) → at kept.now n ≡ Some s → has_near_numbers s ≡ true }
+    ensures fit { IsTrue result → (s : State) → at kept.now n ≡ Some s → unfit_offset s ≡ None }
+    ensures stays { IsTrue result → (p : Program) → Tells p graph.now.parts → stays_by (p.role n) ≡ true }
+    ensures unmarked { IsTrue result → (p : Program) → Tells p graph.now.parts → is_unmarked_by (p.marks n) ≡ true }
+{
+    kept.is_short(n) && stays(graph.role(n)) && is_unmarked(graph.marks(n))
 }
 
 /// Whether it is quickly seen that no rule is broken at a point. Points are known all of whose edges pass, of those that
@@ -203,19 +231,10 @@ pub(crate) fn is_quiet(
     ensures passing { OnOk result ((p : Program) → Tells p graph.now.parts → ArePassing p kept.now passing.new) }
     ensures quiet { IfOk result (λ quiet. IsTrue quiet → (p : Program) → Tells p graph.now.parts → IsQuiet p kept.now n) }
 {
+    if !is_allowed(graph, kept, n) {
+        return Ok(false);
+    }
     let op = graph.insn(n).op;
-    if is_exit(op) {
-        return Ok(false);
-    }
-    if !kept.is_short(n) {
-        return Ok(false);
-    }
-    if !stays(graph.role(n)) {
-        return Ok(false);
-    }
-    if !is_unmarked(graph.marks(n)) {
-        return Ok(false);
-    }
     if !is_neutral(op) {
         return Ok(moves_on(graph, kept, n));
     }

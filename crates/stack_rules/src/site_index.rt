@@ -6,7 +6,9 @@ ghost use Rattle.machine_defs.specs.Program.{Program};
 ghost use Rattle.program_graph.specs.declared.parts.GraphSite.{GraphSite};
 ghost use Rattle.program_graph.specs.Tells.{Tells};
 ghost use Rattle.stack_rules.specs.Sites.{AreApart, AreIndexed, IsIndexOf, in_own_site as is_held};
+ghost use Rattle.stack_rules.specs.Gaps.{IsClear};
 
+use crate::gap::{Gap, NO_GAP};
 use ot_base::{NoMemory, Place, is_before};
 use program_graph::{Graph, GraphSite};
 use std::alloc::Global;
@@ -124,6 +126,17 @@ fn lies_between(sites: &[GraphSite], place: Place, near: usize) -> bool
     near == sites.len() || is_before(place, sites[near].start)
 }
 
+/// Where in a section the site with a number begins; where it is in another, or there is none, behind all places.
+fn gap_end(sites: &[GraphSite], section: u32, number: usize) -> u64
+    ensures { (d : GraphSite) → number < length sites.now → (slice_index_or sites.now number d).start.sec ≡ section → result ≡ (slice_index_or sites.now number d).start.off }
+{
+    if number < sites.len() && sites[number].start.sec == section {
+        sites[number].start.off
+    } else {
+        u64::MAX
+    }
+}
+
 /// A quick test whether the site before the one with a number holds a place.
 #[inline(always)]
 fn site_near(sites: &[GraphSite], place: Place, near: usize) -> Option<GraphSite>
@@ -221,5 +234,23 @@ impl SiteIndex {
         let sites = self.sites.as_slice();
         *near = count_near(sites, place, *near);
         site_before(sites, place, *near)
+    }
+
+    /// Places from one on that lie in no site, where that one doesn't: those before the next site of its section. `near` is the
+    /// number that the look-up of the place left there; where it isn't, they are none.
+    #[inline(never)]
+    pub(crate) fn gap_from(&self, place: Place, near: usize) -> Gap
+        ensures { AreApart self.now → ((site : GraphSite) → Contains self.now site → is_held site place ≡ false) → IsClear self.now result }
+    {
+        let sites = self.sites.as_slice();
+        if is_count(sites, place, near) {
+            Gap {
+                section: place.sec,
+                from: place.off,
+                to: gap_end(sites, place.sec, near),
+            }
+        } else {
+            NO_GAP
+        }
     }
 }

@@ -1,13 +1,15 @@
 //! Kept points that run in sites.
 
-ghost use Rattle.std.specs.Prelude.{◌≡◌, ◌++◌, ◌⊎◌, ℕ, ◌<◌, [], true, All, AllPairs, IsPermutation, Contains, IfOk, IfSome, IfNone, IsSome, IsTrue, OnOk, length, map};
+ghost use Rattle.std.specs.Prelude.{◌≡◌, ◌++◌, ◌⊎◌, ℕ, ◌<◌, [], false, true, All, AllPairs, IsPermutation, Contains, IfOk, IfSome, IfNone, IsSome, IsTrue, OnOk, length, map};
 ghost use Rattle.machine_defs.specs.Program.{Program};
 ghost use Rattle.program_graph.specs.declared.parts.GraphSite.{GraphSite};
 ghost use Rattle.program_graph.specs.Tells.{Tells};
 ghost use Rattle.kept_states.specs.LevelStates.{at};
 ghost use Rattle.stack_rules.specs.Sites.{AreApart, in_own_site};
+ghost use Rattle.stack_rules.specs.Gaps.{IsClear};
 ghost use Rattle.stack_rules.specs.Points.{AreAmong, AreInOrder, AreKeptIn, ArePointsIn, AreSitePointsOf, IsStartOf, RunsIn, address_by_number, key_by_number};
 
+use crate::gap::{Gap, NO_GAP};
 use crate::site_index::SiteIndex;
 use kept_states::Kept;
 use ot_base::{NoMemory, Place};
@@ -51,6 +53,24 @@ fn runs_in(graph: &Graph, sites: &SiteIndex, near: &mut usize, n: u32) -> bool
     sites.find(graph.address(n), near).is_some()
 }
 
+/// The one of these sites that holds a place, if one does. Where a gap has the place, which lies in none, nothing is looked up.
+#[inline(always)]
+fn site_at(sites: &SiteIndex, near: &mut usize, gap: &mut Gap, place: Place) -> Option<GraphSite>
+    requires { AreApart sites.now → IsClear sites.now gap.old }
+    ensures held { IfSome result (λ site. Contains sites.now site × (in_own_site site place ≡ true)) }
+    ensures none { AreApart sites.now → IfNone result ((site : GraphSite) → Contains sites.now site → in_own_site site place ≡ false) }
+    ensures clear { AreApart sites.now → IsClear sites.now gap.new }
+{
+    if gap.has(place) {
+        return None;
+    }
+    let site = sites.find(place, near);
+    if site.is_none() {
+        *gap = sites.gap_from(place, *near);
+    }
+    site
+}
+
 /// The one of these sites in which a point runs, if it is kept and runs in one.
 #[inline(always)]
 fn site_of_kept(
@@ -58,16 +78,19 @@ fn site_of_kept(
     kept: &Kept,
     sites: &SiteIndex,
     near: &mut usize,
+    gap: &mut Gap,
     n: u32,
 ) -> Option<GraphSite>
     requires points { length kept.now ≡ length graph.now.parts.points.items }
     requires inside { n < length graph.now.parts.points.items }
+    requires clear { AreApart sites.now → IsClear sites.now gap.old }
     ensures kept { IfSome result (λ site. IsSome (at kept.now n)) }
     ensures some { IfSome result (λ site. 0 < site.len) }
     ensures site { (p : Program) → Tells p graph.now.parts → IfSome result (λ site. Contains sites.now site × (in_own_site site (p.address n) ≡ true)) }
     ensures none { (p : Program) → Tells p graph.now.parts → AreApart sites.now → IfNone result (IsSome (at kept.now n) → RunsIn p sites.now n → ⊥) }
+    ensures clear { AreApart sites.now → IsClear sites.now gap.new }
 {
-    let site = sites.find(graph.address(n), near)?;
+    let site = site_at(sites, near, gap, graph.address(n))?;
     if kept.is_kept(n) { Some(site) } else { None }
 }
 
@@ -120,8 +143,9 @@ fn points_in(
 {
     let mut points = Vec::new(alloc);
     let mut near = 0usize;
+    let mut gap = NO_GAP;
     for n in 0..graph.points() {
-        if let Some(site) = site_of_kept(graph, kept, sites, &mut near, n) {
+        if let Some(site) = site_of_kept(graph, kept, sites, &mut near, &mut gap, n) {
             points.push(n)?;
             push_start(graph, starts, site, n)?;
         }

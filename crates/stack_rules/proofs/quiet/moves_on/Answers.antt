@@ -1,16 +1,33 @@
--- The state that is kept is the one that was read.
-use Rattle.std.proofs.Common.{◌≡◌, All, Some, Ok, ap, sym, ◌∙◌, subst}
+-- The single edge leads to where the moved state is kept.
+use Rattle.std.proofs.Common.{◌≡◌, true, false, arith, ap, sym, ◌∙◌}
+use Rattle.std.proofs.lemmas.List.Elements.{All-same}
 use Rattle.operation_defs.specs.declared.insn.Insn.{Insn}
+use Rattle.operation_defs.specs.declared.op.Op.{Op}
+use Rattle.machine_defs.specs.declared.flow.Edge.{Edge}
+use Rattle.machine_defs.specs.declared.flow.EdgeKind.TheVariants.{Next}
 use Rattle.state_defs.specs.declared.state.State.{State}
 use Rattle.state_defs.specs.Move.{move}
-use Rattle.machine_defs.specs.Kept.{edges_of}
 use Rattle.kept_states.specs.LevelStates.{at}
-use Rattle.stack_rules.specs.Quiet.{Leads}
+use Rattle.stack_rules.specs.Quiet.{Leads, is_exit}
+use Rattle.stack_rules.proofs.QuietPoints.{next_leads, single}
 use Rattle.stack_rules.proofs.quiet.moves_on.Goals as goal
 
-pub returns-in-Ok-clause-leads : goal.returns-in-Ok-clause-leads
-returns-in-Ok-clause-leads c all p tells s some =
-    let read : at c.args.kept.now c.args.n ≡ Some c.in-Some.state = sym c.state.ensures ∙ c.in-Some.is in
-    let same : c.in-Some.state ≡ s = cc in
-    let moved : move c.in-Some.state (p.insn c.args.n).op ≡ Ok c.in-Ok.after = ap (λ (i : Insn). move c.in-Some.state i.op) (sym (c.insn.ensures p tells)) ∙ (sym c.step.ensures ∙ c.in-Ok.is) in
-    subst (λ (u : State). All (Leads p c.args.kept.now c.args.n u) (edges_of p c.args.n)) same (c.all_lead.ensures all p tells moved)
+pub returns-clause-exit : goal.returns-clause-exit
+returns-clause-exit c moves p tells =
+    let exit : c.is_exit.result ≡ false = (let h = c.if-is_exit.false in grind arith) in
+    ap (λ (i : Insn). is_exit i.op) (sym (c.insn-op.ensures p tells)) ∙ (sym c.is_exit.ensures ∙ exit)
+
+pub returns-clause-moves : goal.returns-clause-moves
+returns-clause-moves c moves p tells s some =
+    let r = c.moves_to.ensures moves s some in
+    (r.0, ap (λ (i : Insn). move s i.op) (sym (c.insn-op.ensures p tells)) ∙ r.1)
+
+pub returns-clause-leads : goal.returns-clause-leads
+returns-clause-leads c moves p tells s some =
+    let none : Edge = record { to = 0; kind = Next } in
+    let stay : c.stays_next.result ≡ true = (let h = c.if-not-stays_next.false in grind arith) in
+    let r = c.moves_to.ensures moves s some in
+    let moved = ap (λ (i : Insn). move s i.op) (sym (c.insn-op.ensures p tells)) ∙ r.1 in
+    All-same (Leads p c.args.kept.now c.args.n s) _ _ (sym (c.successors-edges.ensures.edges p tells))
+    (single (Leads p c.args.kept.now c.args.n s) c.successors-edges.result.now none c.if-edges-ne1.false
+    (next_leads p c.args.kept.now c.args.n s r.0 _ (c.stays_next.ensures.next stay) (c.stays_next.ensures.owner stay p tells) moved r.2))

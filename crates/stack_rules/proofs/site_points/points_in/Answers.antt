@@ -7,6 +7,7 @@ use Rattle.unwinding_law.proofs.Lists.{nowhere}
 use Rattle.program_graph.specs.declared.parts.GraphSite.{GraphSite}
 use Rattle.kept_states.specs.LevelStates.{at}
 use Rattle.stack_rules.specs.Points.{IsStartOf, RunsIn}
+use Rattle.stack_rules.proofs.Finding.{none_inside}
 use Rattle.stack_rules.proofs.site_points.points_in.Goals as goal
 use Rattle.stack_rules.proofs.site_points.points_in.Goals.{in-Some+in_ok-push+in_ok-push_start, in_default}
 
@@ -21,6 +22,7 @@ pub loop-n-init : goal.loop-n-init
 loop-n-init c =
     let new = c.new-points.ensures.items in
     rw new (record {
+      clear = λ apart place inside. absurd (none_inside place.sec place.off inside);
       ascending = λ i j d l inside. absurd (let z : j < 0 = inside in omega (arith, z));
       below = All-nil (λ (q : ℕ). q < 0);
       kept = All-nil (λ (q : ℕ). IsSome (at c.args.kept.now q));
@@ -43,6 +45,7 @@ loop-n-preserved c =
           let starts_is = w.starts-is in
           let pushed = w.in_ok-push.ensures.items in
           rw (is, starts_is, pushed) (record {
+            clear = c.site_of_kept.ensures.clear;
             ascending = all_pairs_push (λ (q r : ℕ). q < r) points n c.loop-n.invariant.ascending (λ k d l. c.loop-n.invariant.below k d l);
             below = All-push (λ (q : ℕ). q < n + 1) points n (All-weaker (λ (q : ℕ). q < n) (λ (q : ℕ). q < n + 1) (λ q h. omega arith) points c.loop-n.invariant.below) (omega arith);
             kept = All-push (λ (q : ℕ). IsSome (at c.args.kept.now q)) points n c.loop-n.invariant.kept w.in-Some.ensures.kept;
@@ -71,6 +74,7 @@ loop-n-preserved c =
           let is = w.points-is in
           let starts_is = w.starts-is in
           rw (is, starts_is) (record {
+            clear = c.site_of_kept.ensures.clear;
             ascending = c.loop-n.invariant.ascending;
             below = All-weaker (λ (q : ℕ). q < n) (λ (q : ℕ). q < n + 1) (λ q h. omega arith) points c.loop-n.invariant.below;
             kept = c.loop-n.invariant.kept;

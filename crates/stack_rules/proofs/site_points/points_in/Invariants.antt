@@ -5,11 +5,13 @@ use Rattle.program_graph.specs.declared.parts.GraphSite.{GraphSite}
 use Rattle.program_graph.specs.Tells.{Tells}
 use Rattle.kept_states.specs.LevelStates.{at}
 use Rattle.stack_rules.specs.Sites.{AreApart}
+use Rattle.stack_rules.specs.Gaps.{IsClear}
 use Rattle.stack_rules.specs.Points.{IsStartOf, RunsIn}
 use Rattle.stack_rules.proofs.site_points.points_in.Given as goal
 
 abbrev pub invariant-loop-n : goal.invariant-loop-n
 invariant-loop-n l = record {
+  clear : AreApart l.sites → IsClear l.sites l.gap;
   ascending : AllPairs (λ (q r : ℕ). q < r) l.points.items;
   below : All (λ (q : ℕ). q < l.n) l.points.items;
   kept : All (λ (q : ℕ). IsSome (at l.kept q)) l.points.items;
