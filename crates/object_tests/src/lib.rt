@@ -1,12 +1,7 @@
-//! Tests of what an object says of its code: its functions, targets, entries and hints, its sites and tables, which fault
-//! of it is told, and how many different states are kept of objects that `demo` makes.
+//! Tests of how many different states are kept of objects that `demo` makes, which no command prints.
 #![tactic(auto)]
 
 #[cfg(test)]
-mod code;
-#[cfg(test)]
-mod readers;
-#[cfg(test)]
 mod readings;
 #[cfg(test)]
-mod sites;
+mod states;

@@ -1,1 +1,3 @@
 mod Closest
+mod OptionPart
+mod Topics

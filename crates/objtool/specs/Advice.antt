@@ -1,19 +1,24 @@
 -- What is said to the standard error of words at fault and of refusals.
-use Rattle.std.specs.Prelude.{◌≡◌, ℕ, true, List, [], ◌++◌, codes, Option, Some, None, IfSome, Contains, Err, is_ok, slice_get, slice_index_or}
+use Rattle.std.specs.Prelude.{◌≡◌, ℕ, ◌+◌, ◌==◌, true, List, [], ◌++◌, take, codes, Option, Some, None, Err, is_ok, slice_get, slice_index_or}
+use Rattle.std.specs.List.{position_or_len}
 use Rattle.cli_words.specs.FaultText.{kind_text}
 use Rattle.cli_words.specs.declared.fault.UsageKind.{UsageKind}
 use Rattle.cli_words.specs.declared.fault.UsageKind.TheVariants.{UnknownCommand, UnknownOption, UnknownTopic}
 use Rattle.cli_words.specs.Grammar.{meaning}
 use Rattle.cli_words.specs.Words.{Word}
 use Rattle.ot_base.specs.PlaceText.{escaped}
-use Rattle.objtool.specs.KnownWords.{command_words, options_behind}
-use Rattle.objtool.specs.Nearest.{IsNearest, is_near}
+use Rattle.objtool.specs.KnownWords.{command_words, options_behind, topic_words}
+use Rattle.objtool.specs.Nearest.{IsNearest}
 
--- what a word at fault may stand for: a command, an option of the command that the first word asks for, or a topic
+-- what of a word is compared with options: all of it, or as far as its first `=`, with it
+abbrev pub option_part : Word → Word
+option_part word = take (position_or_len (λ byte. byte == 61) word + 1) word
+
+-- what a word at fault may stand for: the nearest command, option of the command that the first word asks for, or topic
 abbrev pub IsMeant : UsageKind → (first word : Word) → Option Word → Type 0
 IsMeant UnknownCommand first word near = IsNearest word command_words near
-IsMeant UnknownOption first word near = IfSome near (λ known. Contains (options_behind first) known)
-IsMeant UnknownTopic first word near = IfSome near (λ known. is_near word known ≡ true)
+IsMeant UnknownOption first word near = IsNearest (option_part word) (options_behind first) near
+IsMeant UnknownTopic first word near = IsNearest word topic_words near
 IsMeant _ first word near = near ≡ None
 
 -- the same of a word, where there is one; else nothing is meant

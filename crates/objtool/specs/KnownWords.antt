@@ -1,10 +1,11 @@
 -- The words that a word at fault may stand for.
-use Rattle.std.specs.Prelude.{◌≡◌, List, [], ◌∷◌, codes, is_some, IsTrue, bytes_eq}
+use Rattle.std.specs.Prelude.{◌≡◌, List, [], ◌∷◌, map, codes, is_some, IsTrue, bytes_eq}
 use Rattle.std.specs.List.{list_all, list_any}
 use Rattle.std.specs.Option.{option_map_or}
 use Rattle.cli_words.specs.declared.word.CommandWord.{CommandWord}
 use Rattle.cli_words.specs.declared.word.CommandWord.TheVariants as the
 use Rattle.cli_words.specs.Words.{Word, command_named, is_option_of}
+use Rattle.explanations.specs.Volumes.{entries}
 
 -- the words of all commands
 abbrev pub command_words : List Word
@@ -34,3 +35,7 @@ AreOptions = (command : CommandWord) → IsTrue (list_all (is_option_of command)
 -- the options of the command that a first word asks for
 abbrev pub options_behind : Word → List Word
 options_behind first = option_map_or option_words (command_named first) []
+
+-- all topics
+abbrev pub topic_words : List Word
+topic_words = map (λ e. e.topic) entries

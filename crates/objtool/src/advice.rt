@@ -2,7 +2,7 @@
 
 ghost use Rattle.std.specs.Prelude.{◌≡◌, [], IfOk, Some, map, option_map, slice_get, slice_index_or, string_bytes};
 ghost use Rattle.explanations.specs.Refusals.{topic_of};
-ghost use Rattle.objtool.specs.Advice.{IsMeant, IsMeantOf, IsUsageLine, asked_for, quoted, refusal_advice, usage_advice};
+ghost use Rattle.objtool.specs.Advice.{IsMeant, IsMeantOf, IsUsageLine, asked_for, option_part, quoted, refusal_advice, usage_advice};
 
 use crate::known_words::{command_words, option_words, topic_words};
 use crate::nearest::nearest;
@@ -64,8 +64,10 @@ impl fmt::Display for UsageAdvice<'_> {
     }
 }
 
-/// What of a word is compared with options: all of it, or as far as its first `=`.
-fn spelling(word: &str) -> &str {
+/// What of a word is compared with options: all of it, or as far as its first `=`, with it.
+fn option_part(word: &str) -> &str
+    ensures { result.now ≡ option_part word.now }
+{
     word.split_inclusive('=').next().unwrap_or(word)
 }
 
@@ -81,7 +83,7 @@ fn known_word(
 {
     match kind {
         UsageKind::UnknownCommand => nearest(alloc, word, command_words()),
-        UsageKind::UnknownOption => nearest(alloc, spelling(word), option_words(first)),
+        UsageKind::UnknownOption => nearest(alloc, option_part(word), option_words(first)),
         UsageKind::UnknownTopic => nearest(alloc, word, &topic_words(alloc)?),
         _ => Ok(None),
     }

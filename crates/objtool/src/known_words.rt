@@ -1,7 +1,8 @@
 //! The words that a word at fault may stand for.
 
-ghost use Rattle.std.specs.Prelude.{◌≡◌, map};
-ghost use Rattle.objtool.specs.KnownWords.{AreCommands, AreOptions, command_words, options_behind};
+ghost use Rattle.std.specs.Prelude.{◌≡◌, ◌==◌, IfOk, map};
+ghost use Rattle.std.specs.List.{before_first};
+ghost use Rattle.objtool.specs.KnownWords.{AreCommands, AreOptions, command_words, options_behind, topic_words};
 
 use explanations::{is_topic, topics};
 use std::alloc::{AllocError, Global};
@@ -40,10 +41,23 @@ pub(crate) fn option_words(first: &str) -> &'static [&'static str]
     }
 }
 
-/// The topics that `explain` lists.
-pub(crate) fn topic_words(alloc: Global) -> Result<Vec<&'static str>, AllocError> {
+/// A line as far as its first blank.
+fn before_blank(line: &str) -> &str
+    ensures { result.now ≡ before_first (λ byte. byte == 32) line.now }
+{
+    match line.split_once(' ') {
+        Some((word, _)) => word,
+        None => line,
+    }
+}
+
+/// The topics that `explain` lists: all topics, and no other words.
+pub(crate) fn topic_words(alloc: Global) -> Result<Vec<&'static str>, AllocError>
+    ensures { IfOk result (λ words. map (λ word. word.now) words.items ≡ topic_words) }
+{
     topics()
-        .split_whitespace()
+        .lines()
+        .map(|line| before_blank(line))
         .filter(|word| is_topic(word))
         .collect(alloc)
 }
