@@ -7,10 +7,10 @@ use Rattle.flow_defs.specs.Faults.{flow_faults}
 use Rattle.flow_defs.specs.declared.fault.FlowFault.{FlowFault}
 use Rattle.flow_defs.specs.declared.fault.FlowFault.TheVariants as flow
 use Rattle.x86_text.specs.declared.fault.TextFault.{TextFault}
-use Rattle.object_code.specs.Linked.{IsLinked}
-use Rattle.object_code.specs.declared.fault.LinkFault.{LinkFault}
-use Rattle.object_code.specs.declared.fault.LinkFault.TheVariants as link
-use Rattle.object_code.specs.declared.fault_text.LinkFaultText.{LinkFaultText}
+use Rattle.object_points.specs.Linked.{IsLinked}
+use Rattle.object_points.specs.declared.fault.LinkFault.{LinkFault}
+use Rattle.object_points.specs.declared.fault.LinkFault.TheVariants as link
+use Rattle.object_points.specs.declared.fault_text.LinkFaultText.{LinkFaultText}
 use Rattle.command_base.specs.declared.refusal.Refusal.TheVariants.{Unlinked, Unflowed}
 use Rattle.command_base.specs.declared.stop.CommandStop.{CommandStop}
 use Rattle.command_base.specs.declared.stop.CommandStop.TheVariants.{Refused, NoMemory}

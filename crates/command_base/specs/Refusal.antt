@@ -8,7 +8,7 @@ use Rattle.ot_base.specs.PlaceText.{escaped}
 use Rattle.orc_bytes.specs.FaultText as orc
 use Rattle.orc_walk.specs.FaultText as placed
 use Rattle.orc_walk.specs.ImageFaultText as image
-use Rattle.object_code.specs.FaultText as code
+use Rattle.object_points.specs.FaultText as code
 use Rattle.eh_frame.specs.Texts as frames
 use Rattle.site_lists.specs.FaultText as sites
 use Rattle.orc_merge.specs.FaultTexts.{layout_text, merge_text, table_text}

@@ -2,7 +2,7 @@
 
 ghost use Rattle.std.specs.Prelude.{◌≡◌};
 ghost use Rattle.flow_defs.specs.Coded.{coded_by};
-ghost use Rattle.object_code.specs.Linked.{IsLinkFault};
+ghost use Rattle.object_points.specs.Linked.{IsLinkFault};
 ghost use Rattle.x86_map.specs.declared.map.Map.{Map};
 ghost use Rattle.command_base.specs.Code.{IsLinkStop, IsWorded, flow_stop};
 
@@ -11,7 +11,7 @@ use crate::refusal::Refusal;
 use crate::stop::CommandStop;
 use elf_objects::Object;
 use flow_defs::FlowFault;
-use object_code::{LinkFault, LinkFaultText};
+use object_points::{LinkFault, LinkFaultText};
 
 /// Why an object's code isn't read, in words.
 fn link_text<'a>(object: &Object<'a>, fault: LinkFault) -> LinkFaultText<'a>

@@ -1,7 +1,7 @@
 use crate::flow_text::FlowFaultText;
 use eh_frame::EhFault;
 use elf_objects::{Counted, ElfFault};
-use object_code::LinkFaultText;
+use object_points::LinkFaultText;
 use orc_bytes::OrcFault;
 use orc_merge::{LayoutFault, MergeFault, TableFault};
 use orc_walk::{ImageFault, PlaceFault};

@@ -15,7 +15,7 @@ use Rattle.alternatives.proofs.Ascending.{In, every-from_in, every-in, every-map
 use Rattle.alternatives.proofs.Placed.{RiseBySection, and_both, rise_by_section}
 use Rattle.flow_defs.specs.Code.{body_of, text_numbers, texts_of}
 use Rattle.flow_defs.specs.Faults.{is_no_end}
-use Rattle.object_code.proofs.TextsLemmas.{text_in, texts_ascend}
+use Rattle.object_points.proofs.TextsLemmas.{text_in, texts_ascend}
 use Rattle.object_points.proofs.Made.{kept_passes}
 use Rattle.control_flow.specs.Judged.{ends_text}
 use Rattle.control_flow.proofs.StartPlaces.{text_known, text_listed}

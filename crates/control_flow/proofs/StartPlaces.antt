@@ -34,7 +34,7 @@ use Rattle.flow_defs.specs.declared.fault.FlowFault.TheVariants.{FuncStart}
 use Rattle.flow_defs.specs.Code.{text_numbers, texts_of}
 use Rattle.flow_defs.specs.Faults.{is_no_start, start_faults}
 use Rattle.flow_defs.specs.Sites.{places_of, places_of_text}
-use Rattle.object_code.proofs.TextsLemmas.{body_size, text_in}
+use Rattle.object_points.proofs.TextsLemmas.{body_size, text_in}
 use Rattle.object_points.proofs.Made.{made_of_fewer}
 use Rattle.object_points.proofs.SitePlaces.{listed_place, places_sorted}
 use Rattle.control_flow.proofs.FirstFaults.{first_made}

@@ -14,9 +14,8 @@ use crate::rares::{RareList, list_rares};
 use crate::returning::returns_of;
 use crate::transfers::settle_transfers;
 use flow_defs::FlowFault;
-use object_code::Linked;
 use object_points::{
-    HintPoints, OwnerTable, PointPlaces, list_sites, list_texts, list_without_size,
+    HintPoints, Linked, OwnerTable, PointPlaces, list_sites, list_texts, list_without_size,
 };
 use ot_base::{Lists, NoMemory};
 use point_edges::{FlowPoints, PointArrivals};

@@ -3,7 +3,7 @@
 ghost use Rattle.std.specs.Prelude.{◌<◌, All};
 ghost use Rattle.object_law.specs.Flows.{ObjectIsInOrder};
 
-use object_code::Linked;
+use object_points::Linked;
 
 /// The law that bytes are numbers below 256.
 fn bytes_are_low(bytes: &[u8])

@@ -4,7 +4,7 @@ ghost use Rattle.std.specs.Prelude.{◌≡◌, find, option_map, slice_get};
 ghost use Rattle.elf_objects.specs.Object.{IsObject};
 ghost use Rattle.flow_defs.specs.Faults.{is_no_start as is_no_start_of, start_faults};
 ghost use Rattle.flow_defs.specs.declared.fault.FlowFault.TheVariants.{FuncStart};
-ghost use Rattle.object_code.specs.Linked.{IsLinked};
+ghost use Rattle.object_points.specs.Linked.{IsLinked};
 
 use crate::places::is_no_start;
 use object_points::PointPlaces;

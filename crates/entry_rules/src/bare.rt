@@ -10,7 +10,7 @@ ghost use Rattle.entry_rules.specs.EntryWarns.{is_before_int3 as is_before_int3_
 ghost use Rattle.entry_rules.specs.PointWarns.{BareWarns, PointIsBare};
 
 use crate::listing::push_if;
-use object_code::Linked;
+use object_points::Linked;
 use operation_defs::Op;
 use ot_base::rules::{JUMP_WITHOUT_INT3, RETURN_WITHOUT_INT3};
 use ot_base::{NoMemory, Warning};

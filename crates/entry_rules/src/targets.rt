@@ -12,7 +12,7 @@ use alternatives::SectionText;
 use elf_objects::{
     Home, Object, R_X86_64_32, R_X86_64_32S, R_X86_64_64, R_X86_64_PC32, Reloc, SHF_ALLOC,
 };
-use object_code::Linked;
+use object_points::Linked;
 use operation_defs::Op;
 use ot_base::{NoMemory, Place};
 use std::alloc::Global;

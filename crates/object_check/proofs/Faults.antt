@@ -1,8 +1,8 @@
 -- What the faults of readers are told as is why the code isn't read, and why the object isn't checked.
 use Rattle.flow_defs.specs.Coded.{Coded}
-use Rattle.object_code.specs.declared.fault.LinkFault.{LinkFault}
-use Rattle.object_code.specs.declared.fault.LinkFault.TheVariants as link
-use Rattle.object_code.specs.Linked.{IsLinked, IsLinkFault}
+use Rattle.object_points.specs.declared.fault.LinkFault.{LinkFault}
+use Rattle.object_points.specs.declared.fault.LinkFault.TheVariants as link
+use Rattle.object_points.specs.Linked.{IsLinked, IsLinkFault}
 use Rattle.flow_defs.specs.declared.fault.FlowFault.{FlowFault}
 use Rattle.flow_defs.specs.declared.fault.FlowFault.TheVariants as flow
 use Rattle.flow_defs.specs.Faults.{IsFirstFlowFault}

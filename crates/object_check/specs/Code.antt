@@ -10,9 +10,9 @@ use Rattle.flow_defs.specs.Program.{program_of}
 use Rattle.flow_defs.specs.declared.fault.FlowFault.{FlowFault}
 use Rattle.flow_defs.specs.declared.fault.FlowFault.TheVariants as flow
 use Rattle.flow_defs.specs.Faults.{IsFirstFlowFault}
-use Rattle.object_code.specs.declared.fault.LinkFault.{LinkFault}
-use Rattle.object_code.specs.declared.fault.LinkFault.TheVariants as link
-use Rattle.object_code.specs.Linked.{IsLinked, IsLinkFault}
+use Rattle.object_points.specs.declared.fault.LinkFault.{LinkFault}
+use Rattle.object_points.specs.declared.fault.LinkFault.TheVariants as link
+use Rattle.object_points.specs.Linked.{IsLinked, IsLinkFault}
 use Rattle.program_check.specs.AskedRules.{IsEnough}
 use Rattle.object_check.specs.Allowances.{allowances_of}
 use Rattle.table_defs.specs.Order.{ComesBefore}

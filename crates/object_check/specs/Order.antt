@@ -3,9 +3,9 @@ use Rattle.std.specs.Prelude.{◌≡◌, ◌≢◌, ℕ, ◌-◌, ◌<◌, ◌�
 use Rattle.elf_objects.specs.Elf.{Elf}
 use Rattle.flow_defs.specs.Coded.{Coded}
 use Rattle.elf_objects.specs.declared.TheConstants.{MAX_SECTIONS}
-use Rattle.object_code.specs.declared.fault.LinkFault.{LinkFault}
-use Rattle.object_code.specs.declared.fault.LinkFault.TheVariants as link
-use Rattle.object_code.specs.Linked.{IsLinked, IsLinkFault}
+use Rattle.object_points.specs.declared.fault.LinkFault.{LinkFault}
+use Rattle.object_points.specs.declared.fault.LinkFault.TheVariants as link
+use Rattle.object_points.specs.Linked.{IsLinked, IsLinkFault}
 use Rattle.flow_defs.specs.declared.fault.FlowFault.{FlowFault}
 use Rattle.flow_defs.specs.declared.fault.FlowFault.TheVariants as flow
 use Rattle.flow_defs.specs.Faults.{flow_faults, IsFirstFlowFault}

@@ -7,7 +7,7 @@ ghost use Rattle.object_check.specs.Counts.{IsCounted, object_text_bytes};
 
 use alternatives::Sites;
 use elf_objects::Object;
-use object_code::Linked;
+use object_points::Linked;
 
 /// How much code an object has.
 #[derive(Clone, Copy, Debug, PartialEq, Eq)]

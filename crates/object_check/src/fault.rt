@@ -1,7 +1,7 @@
 //! Why an object isn't checked.
 
 use flow_defs::FlowFault;
-use object_code::LinkFault;
+use object_points::LinkFault;
 use ot_base::NoMemory;
 
 /// Why an object's code isn't read.

@@ -19,6 +19,6 @@ pub use check::{check_code, check_object};
 pub use code::{ReadCode, read_code, states_of};
 pub use counts::CodeCounts;
 pub use fault::{CheckFault, CodeFault};
-pub use object_code::Map;
+pub use object_points::Map;
 pub use outcome::ObjectVerdict;
 pub use table::table_of;

@@ -24,3 +24,4 @@ pub mod ListedHints
 pub mod Nearest
 pub mod Listing
 pub mod Meant
+pub mod TextsLemmas

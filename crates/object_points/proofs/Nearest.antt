@@ -10,7 +10,7 @@ use Rattle.ot_base.specs.declared.place.Place.{Place}
 use Rattle.flow_defs.specs.Coded.{Coded}
 use Rattle.alternatives.specs.declared.point.Point.{Point}
 use Rattle.alternatives.specs.Points.{address_of_point, point_cmp}
-use Rattle.object_code.proofs.TextsLemmas.{texts_ascend}
+use Rattle.object_points.proofs.TextsLemmas.{texts_ascend}
 use Rattle.flow_defs.specs.Code.{alternatives_of, no_point, number_of, point_at, points_of_object, texts_of}
 use Rattle.flow_defs.specs.Hints.{is_nearer, is_save_before, nearest, saves_before}
 use Rattle.flow_defs.specs.Owners.{owner_of_point}

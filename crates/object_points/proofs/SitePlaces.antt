@@ -15,7 +15,7 @@ use Rattle.alternatives.proofs.Ranges.{range_more}
 use Rattle.machine_defs.specs.Program.{below}
 use Rattle.flow_defs.specs.Code.{texts_of}
 use Rattle.flow_defs.specs.Sites.{places_of, places_of_text}
-use Rattle.object_code.proofs.TextsLemmas.{texts_ascend}
+use Rattle.object_points.proofs.TextsLemmas.{texts_ascend}
 
 below_is : (n : ℕ) → below n ≡ range_with_len 0 n
 below_is zero = refl

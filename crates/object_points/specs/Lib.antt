@@ -12,3 +12,6 @@ pub mod SaveOrder
 pub mod Hinted
 pub mod Meanings
 pub mod HintedCode
+pub mod Linked
+pub mod KeptCode
+pub mod FaultText

@@ -9,9 +9,9 @@ ghost use Rattle.flow_defs.specs.Code.{alternatives_of, point_at, points_of_obje
 ghost use Rattle.object_points.specs.CodeOwners.{AreItems, IsBetween, IsItemBy, TellsOwners, TellOwners};
 ghost use Rattle.object_points.specs.Unchecked.{AreUnchecked};
 
+use crate::linked::Linked;
 use crate::owner::owner_of;
 use crate::unchecked::is_among;
-use object_code::Linked;
 use ot_base::{NoMemory, Place};
 use std::alloc::Global;
 use symbols_relocs::Index;

@@ -5,10 +5,10 @@ ghost use Rattle.object_points.specs.Plain.{AreAllSites};
 ghost use Rattle.object_points.specs.Marks.{is_marked as is_marked_by};
 ghost use Rattle.object_points.specs.SiteBlocks.{block_behind as one_block_behind, block_of as block_of_place, AreKept, HasUnmarkedNoSite, HaveAllBlocks, HaveBlocks};
 
+use crate::linked::Linked;
 use crate::marks::{is_marked, mark_places};
 use crate::sites::sites_in_code;
 use alternatives::AlternativesSite;
-use object_code::Linked;
 use ot_base::{NoMemory, Place};
 use std::alloc::Global;
 

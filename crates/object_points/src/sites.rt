@@ -7,9 +7,9 @@ ghost use Rattle.flow_defs.specs.Sites.{is_into_site as comes_into_site, site_ho
 ghost use Rattle.object_points.specs.Plain.{AreAllSites};
 
 use crate::PointPlaces;
+use crate::linked::Linked;
 use crate::site::{is_in_site, plain_site, plain_sites, starts_at};
 use alternatives::Sites;
-use object_code::Linked;
 use ot_base::{NoMemory, Place};
 use program_graph::GraphSite;
 use std::alloc::Global;

@@ -4,8 +4,8 @@ ghost use Rattle.std.specs.Prelude.{◌≡◌, filter_map, IfOk};
 ghost use Rattle.flow_defs.specs.Owners.{owner_of_start as owner_of_function_at};
 ghost use Rattle.object_points.specs.Unchecked.{is_among as is_one_of, AreAscending, AreUnchecked};
 
+use crate::linked::Linked;
 use crate::owner::owner_of_start;
-use object_code::Linked;
 use ot_base::{NoMemory, Place};
 use std::alloc::Global;
 use symbols_relocs::Index;

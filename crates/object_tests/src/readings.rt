@@ -1,7 +1,7 @@
 //! Objects and their code, read. What that is is told by no contract, so that tests are proved without those of the readers.
 
 use elf_objects::{MAX_FILE_BYTES, Object};
-use object_code::{Linked, Map};
+use object_points::{Linked, Map};
 use std::alloc::Global;
 
 /// The object that some bytes are.

@@ -8,7 +8,7 @@ use control_flow::flow;
 use demo_objects::demo;
 use elf_objects::Object;
 use kept_states::{Scratch, spread};
-use object_code::Linked;
+use object_points::Linked;
 use ot_base::Lists;
 use program_graph::Graph;
 use state_pool::count_states;

@@ -12,7 +12,7 @@ use Rattle.command_base.specs.declared.stop.CommandStop.{CommandStop}
 use Rattle.command_base.specs.Outside.{Outside, Output}
 use Rattle.command_base.specs.Stop.{status_of}
 use Rattle.command_base.proofs.ConcludeLemmas.{concluded_fault, concluded_sink_fault, printed_fault, printed_sink_fault}
-use Rattle.object_commands.specs.Cfi.{EndsCfi, GetNoFrames, IsUnchecked, StopsCfi, done, has_frames, malformed, no_memory, out_of_memory, refused, stopped, too_many_sections, too_many_symbols, unchecked, unflowed, unlinked, unread, unwritten, warned, without_names}
+use Rattle.objtool_cli.specs.Cfi.{EndsCfi, GetNoFrames, IsUnchecked, StopsCfi, done, has_frames, malformed, no_memory, out_of_memory, refused, stopped, too_many_sections, too_many_symbols, unchecked, unflowed, unlinked, unread, unwritten, warned, without_names}
 use Rattle.command_base.proofs.DumpLaws.{read_fault}
 use Rattle.command_base.proofs.Stops.{names_fault, write_fault}
 use Rattle.objtool_cli.proofs.StatusLemmas.{warnings_no_sink_fault}

@@ -28,9 +28,9 @@ use Rattle.alternatives.specs.declared.fault.SiteWhy.{SiteWhy}
 use Rattle.flow_defs.specs.Faults.{flow_faults, IsFirstFlowFault}
 use Rattle.flow_defs.specs.declared.fault.FlowFault.{FlowFault}
 use Rattle.flow_defs.specs.declared.fault.FlowFault.TheVariants as flow
-use Rattle.object_code.specs.Linked.{AllCode, IsLinked, IsLinkFault, TellsText}
-use Rattle.object_code.specs.declared.fault.LinkFault.{LinkFault}
-use Rattle.object_code.specs.declared.fault.LinkFault.TheVariants as link
+use Rattle.object_points.specs.Linked.{AllCode, IsLinked, IsLinkFault, TellsText}
+use Rattle.object_points.specs.declared.fault.LinkFault.{LinkFault}
+use Rattle.object_points.specs.declared.fault.LinkFault.TheVariants as link
 use Rattle.object_check.specs.Order.{IsCheckable, IsCheckFault, crowded, has_orc, most_sections, no_memory, orc_section, unflowed, unlinked}
 use Rattle.object_check.specs.Outcome.{HasRows}
 use Rattle.object_check.specs.declared.fault.CheckFault.{CheckFault}

@@ -14,8 +14,8 @@ use Rattle.cli_words.specs.Grammar.{cfa, cfi, dump, entry, find, list, merge, sh
 use Rattle.objtool_cli.specs.Words.{Meaning, entry_options}
 use Rattle.cli_words.specs.declared.options.EntryRules.{EntryRules}
 use Rattle.command_base.specs.Code.{IsInOrder}
-use Rattle.object_commands.specs.Entry.{BreaksEntryRule, IsUnbroken}
-use Rattle.object_commands.proofs.EntryLaws.{entry_accepts, entry_warns}
+use Rattle.objtool_cli.specs.Entry.{BreaksEntryRule, IsUnbroken}
+use Rattle.objtool_cli.proofs.EntryLaws.{entry_accepts, entry_warns}
 use Rattle.ot_base.specs.declared.row.PlacedRow.{PlacedRow}
 use Rattle.elf_objects.specs.Elf.{Elf}
 use Rattle.command_base.specs.Dump.{HoldsRows, IsAnswered, IsDumped}
@@ -31,29 +31,29 @@ use Rattle.x86_map.specs.declared.map.Map.{Map}
 use Rattle.x86_decode.specs.Decoding.{OneOutcome}
 use Rattle.command_base.specs.Names.{HasNames}
 use Rattle.site_lists.specs.Listed.{Listed}
-use Rattle.object_commands.specs.SitesOrder.{GetsSites}
-use Rattle.object_commands.specs.List.{HoldsLists}
-use Rattle.object_commands.proofs.ListLaws.{list_left}
-use Rattle.object_commands.proofs.SitesLaws.{sites_left}
+use Rattle.objtool_cli.specs.SitesOrder.{GetsSites}
+use Rattle.objtool_cli.specs.List.{HoldsLists}
+use Rattle.objtool_cli.proofs.ListLaws.{list_left}
+use Rattle.objtool_cli.proofs.SitesLaws.{sites_left}
 use Rattle.eh_frame.specs.declared.rule.PlacedRule.{PlacedRule}
-use Rattle.object_commands.specs.Cfa.{SaysRules}
-use Rattle.object_commands.specs.Cfi.{BreaksRule, Gets}
+use Rattle.objtool_cli.specs.Cfa.{SaysRules}
+use Rattle.objtool_cli.specs.Cfi.{BreaksRule, Gets}
 use Rattle.command_base.specs.Refusing.{IsWarnedOrFails}
-use Rattle.object_commands.proofs.CfaLaws.{cfa_left}
-use Rattle.object_commands.proofs.CfiLaws.{cfi_left, cfi_warns}
+use Rattle.objtool_cli.proofs.CfaLaws.{cfa_left}
+use Rattle.objtool_cli.proofs.CfiLaws.{cfi_left, cfi_warns}
 use Rattle.table_defs.specs.Lookup.{AddressedRow}
 use Rattle.orc_merge.specs.LayoutFile.{FileSaid}
 use Rattle.orc_merge.specs.MergeFaults.{merge_fault}
 use Rattle.orc_merge.specs.Merged.{IsMergedTable}
 use Rattle.orc_merge.specs.TableBytes.{table_bytes}
 use Rattle.orc_merge.specs.declared.part.Part.{Part}
-use Rattle.object_commands.specs.Layouts.{IsLayoutOf}
-use Rattle.object_commands.specs.MergedObjects.{ArePartsOf}
-use Rattle.object_commands.proofs.FindLaws.{find_left}
-use Rattle.object_commands.proofs.ShowLaws.{show_accepts}
-use Rattle.object_commands.specs.Show.{HasCode}
+use Rattle.objtool_cli.specs.Layouts.{IsLayoutOf}
+use Rattle.objtool_cli.specs.MergedObjects.{ArePartsOf}
+use Rattle.objtool_cli.proofs.FindLaws.{find_left}
+use Rattle.objtool_cli.proofs.ShowLaws.{show_accepts}
+use Rattle.objtool_cli.specs.Show.{HasCode}
 use Rattle.flow_defs.specs.Program.{program_of}
-use Rattle.object_commands.proofs.MergeLaws.{merge_left}
+use Rattle.objtool_cli.proofs.MergeLaws.{merge_left}
 use Rattle.objtool_cli.proofs.SameCommand.{done_as, ends_as}
 
 pub rows_dumped : (meaning : Meaning) (before after : Outside) (out out' : Output) (x : Status) (file : List ℕ) → Ends meaning before after out out' x → x ≡ Done → meaning ≡ Ok (dump file) → IsDumped file before.content out.written out'.written

@@ -30,14 +30,14 @@ use Rattle.command_base.specs.Refusing.{IsRefusedOrFails, Tells}
 use Rattle.objtool_cli.specs.Refused.{IsRefused, RefusesAs, RefusesCheck, RefusesDemo, RefusesDump, RefusesUnwind, TellsRefusal, image_unread, input_refused, input_unread, list_faulty, list_unread, object_unread, tables_unread, without_rows, without_walk}
 use Rattle.objtool_cli.specs.Summary.{IsOrFails, SumsUp, demo_bytes, demo_title}
 use Rattle.objtool_cli.specs.Words.{Meaning, entry_options}
-use Rattle.object_commands.proofs.EntryLaws.{entry_refused, entry_told}
-use Rattle.object_commands.proofs.ListLaws.{list_refused, list_told}
-use Rattle.object_commands.proofs.SitesLaws.{sites_refused, sites_told}
-use Rattle.object_commands.proofs.CfaLaws.{cfa_refused, cfa_told}
-use Rattle.object_commands.proofs.CfiLaws.{cfi_refused, cfi_told}
-use Rattle.object_commands.proofs.MergeLaws.{merge_refused, merge_told}
-use Rattle.object_commands.proofs.FindLaws.{find_refused, find_told}
-use Rattle.object_commands.proofs.ShowLaws.{show_refused, show_told}
+use Rattle.objtool_cli.proofs.EntryLaws.{entry_refused, entry_told}
+use Rattle.objtool_cli.proofs.ListLaws.{list_refused, list_told}
+use Rattle.objtool_cli.proofs.SitesLaws.{sites_refused, sites_told}
+use Rattle.objtool_cli.proofs.CfaLaws.{cfa_refused, cfa_told}
+use Rattle.objtool_cli.proofs.CfiLaws.{cfi_refused, cfi_told}
+use Rattle.objtool_cli.proofs.MergeLaws.{merge_refused, merge_told}
+use Rattle.objtool_cli.proofs.FindLaws.{find_refused, find_told}
+use Rattle.objtool_cli.proofs.ShowLaws.{show_refused, show_told}
 use Rattle.objtool_cli.proofs.AcceptsLemmas.{IsUnrefused, accepted_unrefused, broken_unrefused, same_names, warns_breaks}
 use Rattle.objtool_cli.proofs.SameCommand.{ends_as}
 use Rattle.objtool_cli.proofs.StatusLemmas.{done_no_warnings, warnings_not_done}

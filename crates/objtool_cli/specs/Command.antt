@@ -30,14 +30,14 @@ use Rattle.objtool_cli.specs.Summary.{PrintsWarningsOf, SumsUp, demo_bytes, demo
 use Rattle.cli_words.specs.declared.options.EntryRules.{EntryRules}
 use Rattle.objtool_cli.specs.Words.{Meaning, entry_options, explained}
 use Rattle.command_base.specs.Writing.{StopsAtWrite}
-use Rattle.object_commands.specs.Sites.{EndsSites, SitesMayChange}
-use Rattle.object_commands.specs.List.{EndsList}
-use Rattle.object_commands.specs.Entry.{EndsEntry, PrintsEntryWarnings}
-use Rattle.object_commands.specs.Cfi.{CfiMayChange, EndsCfi, TellsWarnings}
-use Rattle.object_commands.specs.Cfa.{EndsCfa}
-use Rattle.object_commands.specs.Merge.{EndsMerge, MayBeMerged}
-use Rattle.object_commands.specs.Find.{EndsFind}
-use Rattle.object_commands.specs.Show.{EndsShow}
+use Rattle.objtool_cli.specs.Sites.{EndsSites, SitesMayChange}
+use Rattle.objtool_cli.specs.List.{EndsList}
+use Rattle.objtool_cli.specs.Entry.{EndsEntry, PrintsEntryWarnings}
+use Rattle.objtool_cli.specs.Cfi.{CfiMayChange, EndsCfi, TellsWarnings}
+use Rattle.objtool_cli.specs.Cfa.{EndsCfa}
+use Rattle.objtool_cli.specs.Merge.{EndsMerge, MayBeMerged}
+use Rattle.objtool_cli.specs.Find.{EndsFind}
+use Rattle.objtool_cli.specs.Show.{EndsShow}
 
 -- The file of this name may read as these bytes, and these are the lists of names of the names file, or the built-in ones
 -- where none is given.

@@ -20,11 +20,11 @@ use Rattle.command_base.specs.Reading.{IsUnreadable}
 use Rattle.command_base.specs.Refusing.{Tells}
 use Rattle.command_base.specs.Unwind.{HasNoWalk}
 use Rattle.objtool_cli.specs.Checked.{IsUncheckable, Refuses}
-use Rattle.object_commands.specs.SitesRefused.{RefusesList, RefusesSites}
-use Rattle.object_commands.specs.EntryRefused.{RefusesEntry}
-use Rattle.object_commands.specs.FramesRefused.{RefusesCfa, RefusesCfi}
-use Rattle.object_commands.specs.MergeRefused.{RefusesFind, RefusesMerge}
-use Rattle.object_commands.specs.ShowRefused.{RefusesShow}
+use Rattle.objtool_cli.specs.SitesRefused.{RefusesList, RefusesSites}
+use Rattle.objtool_cli.specs.EntryRefused.{RefusesEntry}
+use Rattle.objtool_cli.specs.FramesRefused.{RefusesCfa, RefusesCfi}
+use Rattle.objtool_cli.specs.MergeRefused.{RefusesFind, RefusesMerge}
+use Rattle.objtool_cli.specs.ShowRefused.{RefusesShow}
 use Rattle.objtool_cli.specs.Summary.{demo_bytes, no_options}
 use Rattle.objtool_cli.specs.Words.{Meaning}
 

@@ -9,13 +9,13 @@ ghost use Rattle.flow_defs.specs.Coded.{coded_by};
 ghost use Rattle.objtool_cli.specs.Checked.{allowances_under, program_under};
 ghost use Rattle.objtool_cli.specs.Telling.{TellsWarnings};
 
+use crate::backtrace_printing::print_backtraces;
 use crate::check::check_stop;
 use crate::words::Check;
 use cli_words::CheckOptions;
 use command_base::{Status, conclude, print_warnings};
 use elf_objects::{MAX_FILE_BYTES, Object};
 use object_check::{CheckFault, ReadCode, read_code, states_of};
-use object_commands::print_backtraces;
 use object_law::flow_laws::{program_is_laid_out, program_is_one};
 use ot_base::{Lists, NoMemory, Warning};
 use ot_files::Sink;

@@ -17,7 +17,7 @@ use Rattle.flow_defs.specs.declared.destination.Destination.TheVariants.{ToPlace
 use Rattle.flow_defs.specs.Arrival.{replacement_end, site_end}
 use Rattle.flow_defs.specs.Code.{alternatives_of, number_of, points_of_object, texts_of}
 use Rattle.flow_defs.specs.Targets.{own_destination}
-use Rattle.object_code.proofs.TextsLemmas.{texts_ascend}
+use Rattle.object_points.proofs.TextsLemmas.{texts_ascend}
 use Rattle.object_points.proofs.Numbers.{all_sorted, numbered}
 use Rattle.object_points.proofs.Points.{listed_point}
 

@@ -12,7 +12,7 @@ use Rattle.alternatives.specs.Texts.{behind, text_bytes, AreShort}
 use Rattle.alternatives.proofs.Listing.{points_sound}
 use Rattle.alternatives.proofs.Numbering.{points_kept}
 use Rattle.flow_defs.specs.Code.{alternatives_of, is_plain, no_point, point_at, points_of_object, texts_of}
-use Rattle.object_code.specs.Linked.{IsLinked}
+use Rattle.object_points.specs.Linked.{IsLinked}
 
 -- no text has more bytes than all together
 short_texts : (texts : List SectionText) → text_bytes texts ≤ 16777216 → AreShort texts

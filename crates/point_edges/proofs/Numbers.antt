@@ -14,7 +14,7 @@ use Rattle.alternatives.specs.Points.{is_point, point_cmp, points_of}
 use Rattle.alternatives.proofs.Ascending.{contains_in}
 use Rattle.alternatives.proofs.Listing.{points_complete}
 use Rattle.flow_defs.specs.Code.{alternatives_of, no_point, number_of, numbers_of, points_of_object, same_point, texts_of}
-use Rattle.object_code.proofs.TextsLemmas.{texts_ascend}
+use Rattle.object_points.proofs.TextsLemmas.{texts_ascend}
 use Rattle.object_points.proofs.Numbers.{all_sorted, numbered}
 use Rattle.object_points.proofs.Points.{listed_point}
 

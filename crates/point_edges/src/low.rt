@@ -2,7 +2,7 @@
 
 ghost use Rattle.point_edges.specs.Low.{AreLow};
 
-use object_code::Linked;
+use object_points::Linked;
 
 /// The law that the points of code that is read, and the ends of their sites, lie in the first 16 MiB of their sections.
 pub(crate) fn points_are_low(linked: &Linked<'_, '_>)

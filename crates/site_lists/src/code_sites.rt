@@ -12,8 +12,7 @@ ghost use Rattle.site_lists.specs.Sites.{AreFew, AreSitesIn, can_have_symbol as 
 use crate::lists::SiteLists;
 use alternatives::SectionText;
 use elf_objects::{Object, SHN_LORESERVE, SHT_SYMTAB_SHNDX};
-use object_code::Linked;
-use object_points::PlaceSet;
+use object_points::{Linked, PlaceSet};
 use operation_defs::{Insn, Op};
 use ot_base::{NoMemory, Place};
 use std::alloc::Global;

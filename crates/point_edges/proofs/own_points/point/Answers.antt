@@ -4,7 +4,7 @@ use Rattle.alternatives.specs.declared.texts.SectionText.{SectionText}
 use Rattle.alternatives.specs.Numbers.{IsKept}
 use Rattle.alternatives.specs.Texts.{text_bytes}
 use Rattle.flow_defs.specs.Code.{alternatives_of, texts_of}
-use Rattle.object_code.specs.Linked.{IsLinked}
+use Rattle.object_points.specs.Linked.{IsLinked}
 use Rattle.point_edges.proofs.LowPlaces.{low_point}
 use Rattle.point_edges.proofs.own_points.point.Goals as goal
 

@@ -5,7 +5,7 @@ use Rattle.flow_defs.specs.Coded.{Coded}
 use Rattle.alternatives.specs.declared.point.Point.{Point}
 use Rattle.alternatives.specs.Points.{point_cmp}
 use Rattle.flow_defs.specs.Code.{alternatives_of, points_of_object, same_point, texts_of}
-use Rattle.object_code.proofs.TextsLemmas.{texts_ascend}
+use Rattle.object_points.proofs.TextsLemmas.{texts_ascend}
 use Rattle.object_points.proofs.Numbers.{all_sorted, numbered}
 use Rattle.object_points.proofs.places.PointPlaces.number_by_guess.Goals as goal
 

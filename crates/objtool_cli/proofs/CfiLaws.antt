@@ -1,0 +1,272 @@
+-- What follows from how `cfi` ends.
+use Rattle.std.proofs.Common.{◌≡◌, ℕ, List, refl, sym, ap, ◌∙◌, subst, inl, inr}
+use Rattle.std.specs.Prelude.{◌≢◌, ◌⊎◌, Option, Some, None, Ok}
+use Rattle.std.specs.FinMap.{get}
+use Rattle.ot_base.specs.NameLists.{NameLists, lists_with}
+use Rattle.ot_base.specs.NamesFile.{IsNamesFile}
+use Rattle.ot_base.specs.declared.lists.ListsFault.TheVariants as lists_fault
+use Rattle.ot_base.specs.declared.row.PlacedRow.{PlacedRow}
+use Rattle.ot_files.specs.Content.{Content, reading, writing}
+use Rattle.elf_objects.specs.declared.TheConstants.{MAX_FILE_BYTES}
+use Rattle.elf_objects.specs.Elf.{Elf}
+use Rattle.x86_decode.specs.Decoding.{OneOutcome}
+use Rattle.x86_map.specs.declared.map.Map.{Map}
+use Rattle.command_base.specs.Dump.{IsAnswered}
+use Rattle.command_base.specs.Names.{HasNames, IsListsStop, StopsAtNames, names_unread, no_lists, no_names}
+use Rattle.command_base.specs.Outside.{Outside, Output}
+use Rattle.command_base.specs.Printing.{Concludes}
+use Rattle.command_base.specs.Stop.{status_of}
+use Rattle.command_base.specs.declared.refusal.Refusal.TheVariants as refusal
+use Rattle.command_base.specs.declared.status.Status.{Status}
+use Rattle.command_base.specs.declared.status.Status.TheVariants.{Done, Warnings, Refused, Usage, FileFault, NoMemory}
+use Rattle.command_base.specs.declared.stop.CommandStop.{CommandStop}
+use Rattle.command_base.specs.declared.stop.CommandStop.TheVariants as stop
+use Rattle.command_base.proofs.ConcludeLemmas.{concluded_no_warnings, concluded_not_done}
+use Rattle.command_base.proofs.DumpLaws.{fault_left, no_memory_left, unread_left}
+use Rattle.objtool_cli.specs.Cfi.{BreaksRule, CfiMayChange, EndsCfi, GetNoFrames, Gets, HasWarnings, IsRead, IsUnchecked, MayGetFrames, StopsCfi, TellsWarnings, done, has_frames, malformed, no_memory, out_of_memory, refused, stopped, too_many_sections, too_many_symbols, unchecked, unflowed, unlinked, unread, unwritten, warned, without_names}
+use Rattle.command_base.specs.Refusing.{IsRefusedOrFails, IsWarnedOrFails, Tells}
+use Rattle.objtool_cli.specs.FramesRefused.{RefusesCfi, input_refused, input_unread, list_faulty, list_unread}
+use Rattle.objtool_cli.specs.Written.{OutTellsFrames}
+use Rattle.command_base.proofs.Content.{get-insert_same, held_is, written_others}
+use Rattle.objtool_cli.proofs.FramesGets.{breaks_unbroken, broken_excluded, gets_excluded, gets_unwarned, warns_breaks}
+use Rattle.command_base.proofs.Stops.{concluded_usage, done_not_refused, done_not_warned, given_names, is_read, left, left_warned, names_left, names_no_usage, neither, no_faulty_line, not_memory, of_stop, one_text, read_no_usage, readable, unreadable, warned_no_usage, warned_not_done, warned_not_refused, warned_text, write_no_usage, write_not_refused, write_told}
+
+-- ---- what it leaves
+
+out_tells : (map : Map) (input output : List ℕ) (names : Option (List ℕ)) (o : Elf) (rows : List PlacedRow) (file : List ℕ) (before after : Option Content) → MayGetFrames map before input names o rows file → after ≡ writing before output file → OutTellsFrames map input output names before after
+out_tells map input output names o rows file None after may e = tt
+out_tells map input output names o rows file (Some held) after may e =
+    subst (λ (c : Option Content). OutTellsFrames map input output names (Some held) c) (sym e) (record {
+      read = may.read;
+      held = held_is MAX_FILE_BYTES (get held input) may.read may.is_read.may;
+      lists = may.lists;
+      named = may.is_read.named;
+      object = o;
+      is_object = may.gets.is;
+      rows = rows;
+      has_rows = may.gets.gets.has_rows;
+      written = file;
+      left = get-insert_same held output file;
+      tells = may.tells;
+      undoes = may.undoes;
+    })
+
+pub frames_told : (map : Map) (input output : List ℕ) (names : Option (List ℕ)) (before after : Outside) (out out' : Output) (x : Status) → EndsCfi map input output names before after out out' x → x ≡ Done → OutTellsFrames map input output names before.content after.content
+frames_told map input output names before after out out' Done (done o rows file may e same) is = out_tells map input output names o rows file before.content after.content may e
+frames_told map input output names before after out out' x (warned o warnings may kept t) is = absurd (warned_not_done _ out out' x t is)
+frames_told map input output names before after out out' x (stopped s h t) is = absurd (concluded_not_done s out out' x t is)
+
+pub cfi_silent : (map : Map) (input output : List ℕ) (names : Option (List ℕ)) (before after : Outside) (out out' : Output) (x : Status) → EndsCfi map input output names before after out out' x → x ≡ Done → out'.written ≡ out.written
+cfi_silent map input output names before after out out' Done (done o rows file may e same) is = ap (λ (u : Output). u.written) same
+cfi_silent map input output names before after out out' x (warned o warnings may kept t) is = absurd (warned_not_done _ out out' x t is)
+cfi_silent map input output names before after out out' x (stopped s h t) is = absurd (concluded_not_done s out out' x t is)
+
+stop_keeps : (s : CommandStop) (map : Map) (input output : List ℕ) (names : Option (List ℕ)) (before after : Outside) (out out' : Output) (x : Status) → StopsCfi map input output names before after s → Concludes s out out' x → x ≢ FileFault → x ≢ NoMemory → after.content ≡ before.content
+stop_keeps s map input output names before after out out' x (unread h kept) t f m = kept
+stop_keeps s map input output names before after out out' x (without_names read may h kept) t f m = kept
+stop_keeps s map input output names before after out out' x (refused read lists is h kept) t f m = kept
+stop_keeps s map input output names before after out out' x (unwritten o rows file may h others) t f m = absurd (neither x (write_told s output before after out out' x h t) f m)
+
+pub cfi_unchanged : (map : Map) (input output : List ℕ) (names : Option (List ℕ)) (before after : Outside) (out out' : Output) (x : Status) → EndsCfi map input output names before after out out' x → x ≢ Done → x ≢ FileFault → x ≢ NoMemory → after.content ≡ before.content
+cfi_unchanged map input output names before after out out' Done (done o rows file may e same) d f m = absurd (d refl)
+cfi_unchanged map input output names before after out out' x (warned o warnings may kept t) d f m = kept
+cfi_unchanged map input output names before after out out' x (stopped s h t) d f m = stop_keeps s map input output names before after out out' x h t f m
+
+abbrev Left : Map → List ℕ → List ℕ → Option (List ℕ) → Outside → Outside → Type 0
+Left map input output names before after = (after.content ≡ before.content) ⊎ CfiMayChange map input output names before.content after.content
+
+stop_changes : (s : CommandStop) (map : Map) (input output : List ℕ) (names : Option (List ℕ)) (before after : Outside) → StopsCfi map input output names before after s → Left map input output names before after
+stop_changes s map input output names before after (unread h kept) = inl kept
+stop_changes s map input output names before after (without_names read may h kept) = inl kept
+stop_changes s map input output names before after (refused read lists is h kept) = inl kept
+stop_changes s map input output names before after (unwritten o rows file may h others) = inr (record { object = o; rows = rows; written = file; may = may; others = others })
+
+pub cfi_changes : (map : Map) (input output : List ℕ) (names : Option (List ℕ)) (before after : Outside) (out out' : Output) (x : Status) → EndsCfi map input output names before after out out' x → Left map input output names before after
+cfi_changes map input output names before after out out' Done (done o rows file may e same) = inr (record { object = o; rows = rows; written = file; may = may; others = written_others output file before.content after.content e })
+cfi_changes map input output names before after out out' x (warned o warnings may kept t) = inl kept
+cfi_changes map input output names before after out out' x (stopped s h t) = stop_changes s map input output names before after h
+
+-- ---- what is known of the files
+
+record IsKnown (before : Outside) (input : List ℕ) (names : Option (List ℕ)) (read : List ℕ) (lists : NameLists) : Type 0 where
+  held : Content
+  told : before.content ≡ Some held
+  is : reading held input MAX_FILE_BYTES ≡ Ok read
+  named : HasNames (Some held) names lists
+
+one_names : (names : Option (List ℕ)) (held : Content) (others lists : NameLists) → HasNames (Some held) names others → HasNames (Some held) names lists → others ≡ lists
+one_names None held others lists h k = h ∙ sym k
+one_names (Some file) held others lists h k =
+    let same = one_text MAX_FILE_BYTES held file h.text k.text (sym h.may) (sym k.may) in
+    h.are ∙ ap lists_with same ∙ sym k.are
+
+-- what may have been read is what was read
+one_reading : (P : List ℕ → NameLists → Type 0) (before : Outside) (input : List ℕ) (names : Option (List ℕ)) (read other : List ℕ) (lists others : NameLists) → IsKnown before input names read lists → IsRead before.content input names other others → P other others → P read lists
+one_reading P before input names read other lists others known was h =
+    let bytes = one_text MAX_FILE_BYTES known.held input other read (is_read MAX_FILE_BYTES input other known.held before.content known.told was.may) known.is in
+    let named = one_names names known.held others lists (subst (λ (c : Option Content). HasNames c names others) known.told was.named) known.named in
+    subst (λ (l : NameLists). P read l) named (subst (λ (b : List ℕ). P b others) bytes h)
+
+-- bytes that nothing but want of memory keeps from call frame information, or from their warnings
+abbrev IsUnrefused : Map → List ℕ → NameLists → Type 0
+IsUnrefused map bytes lists = (s : CommandStop) → GetNoFrames map bytes lists s → s ≡ stop.NoMemory
+
+stop_left : (s : CommandStop) (map : Map) (input output : List ℕ) (names : Option (List ℕ)) (read : List ℕ) (lists : NameLists) (before after : Outside) (out out' : Output) (x : Status) → IsKnown before input names read lists → IsUnrefused map read lists → StopsCfi map input output names before after s → Concludes s out out' x → IsAnswered x
+stop_left s map input output names read lists before after out out' x known never (unread h kept) t = unread_left MAX_FILE_BYTES s input read known.held before after out out' x known.told known.is h t
+stop_left s map input output names read lists before after out out' x known never (without_names other may h kept) t = names_left s names lists known.held before after out out' x known.told known.named h t
+stop_left s map input output names read lists before after out out' x known never (refused other others was h kept) t =
+    no_memory_left s out out' x (never s (one_reading (λ b l. GetNoFrames map b l s) before input names read other lists others known was h)) t
+stop_left s map input output names read lists before after out out' x known never (unwritten p rows file may h others) t = fault_left x (write_told s output before after out out' x h t)
+
+-- ---- where IN gets call frame information
+
+got_left : OneOutcome → (map : Map) (input output : List ℕ) (names : Option (List ℕ)) (read : List ℕ) (o : Elf) (rows : List PlacedRow) (lists : NameLists) (before after : Outside) (out out' : Output) (x : Status) → IsKnown before input names read lists → Gets map read lists o rows → EndsCfi map input output names before after out out' x → IsAnswered x
+got_left one map input output names read o rows lists before after out out' Done known gets (done p others file may e same) = inl refl
+got_left one map input output names read o rows lists before after out out' x known gets (warned p warnings may kept t) =
+    absurd (gets_unwarned map read lists o p rows warnings gets (one_reading (λ b l. HasWarnings map b l p warnings) before input names read may.read lists may.lists known may.is_read may.warns))
+got_left one map input output names read o rows lists before after out out' x known gets (stopped s h t) =
+    stop_left s map input output names read lists before after out out' x known (λ u why. gets_excluded one u map read lists o rows gets why) h t
+
+pub cfi_left : OneOutcome → (map : Map) (input output : List ℕ) (names : Option (List ℕ)) (read : List ℕ) (o : Elf) (rows : List PlacedRow) (lists : NameLists) (held : Content) (before after : Outside) (out out' : Output) (x : Status) → before.content ≡ Some held → reading held input MAX_FILE_BYTES ≡ Ok read → HasNames (Some held) names lists → Gets map read lists o rows → EndsCfi map input output names before after out out' x → IsAnswered x
+cfi_left one map input output names read o rows lists held before after out out' x c is has gets ends =
+    got_left one map input output names read o rows lists before after out out' x (record { held = held; told = c; is = is; named = has }) gets ends
+
+-- ---- warnings
+
+pub cfi_warned : (map : Map) (input output : List ℕ) (names : Option (List ℕ)) (before after : Outside) (out out' : Output) (x : Status) → EndsCfi map input output names before after out out' x → x ≡ Warnings → TellsWarnings map input names before.content out.written out'.written
+cfi_warned map input output names before after out out' Done (done o rows file may e same) is = absurd (done_not_warned is)
+cfi_warned map input output names before after out out' x (warned o warnings may kept t) is = record { object = o; warnings = warnings; may = may; printed = warned_text _ out out' x t is }
+cfi_warned map input output names before after out out' x (stopped s h t) is = absurd (concluded_no_warnings s out out' x t is)
+
+answered_warned : (x : Status) → IsAnswered x → x ≢ Done → IsWarnedOrFails x
+answered_warned x (inl is) d = absurd (d is)
+answered_warned x (inr (inl is)) d = inr (inl is)
+answered_warned x (inr (inr (inl is))) d = inr (inr (inl is))
+answered_warned x (inr (inr (inr is))) d = inr (inr (inr is))
+
+broken_left : OneOutcome → (map : Map) (input output : List ℕ) (names : Option (List ℕ)) (read : List ℕ) (lists : NameLists) (before after : Outside) (out out' : Output) (x : Status) → IsKnown before input names read lists → BreaksRule map read lists → EndsCfi map input output names before after out out' x → IsWarnedOrFails x
+broken_left one map input output names read lists before after out out' Done known breaks (done o rows file may e same) =
+    let gets : Gets map read lists o rows = one_reading (λ b l. Gets map b l o rows) before input names read may.read lists may.lists known may.is_read may.gets in
+    absurd (breaks_unbroken map read lists o breaks gets.is gets.gets.unbroken)
+broken_left one map input output names read lists before after out out' x known breaks (warned p warnings may kept t) =
+    left_warned x (warned_not_done _ out out' x t) (warned_not_refused _ out out' x t) (warned_no_usage _ out out' x t)
+broken_left one map input output names read lists before after out out' x known breaks (stopped s h t) =
+    answered_warned x (stop_left s map input output names read lists before after out out' x known (λ u why. broken_excluded one u map read lists breaks why) h t) (concluded_not_done s out out' x t)
+
+pub cfi_warns : OneOutcome → (map : Map) (input output : List ℕ) (names : Option (List ℕ)) (read : List ℕ) (lists : NameLists) (held : Content) (before after : Outside) (out out' : Output) (x : Status) → before.content ≡ Some held → reading held input MAX_FILE_BYTES ≡ Ok read → HasNames (Some held) names lists → BreaksRule map read lists → EndsCfi map input output names before after out out' x → IsWarnedOrFails x
+cfi_warns one map input output names read lists held before after out out' x c is has breaks ends =
+    broken_left one map input output names read lists before after out out' x (record { held = held; told = c; is = is; named = has }) breaks ends
+
+-- ---- where a step refuses
+
+faulty_line : (s : CommandStop) (map : Map) (input : List ℕ) (names : Option (List ℕ)) (held : Content) (read file text : List ℕ) → reading held input MAX_FILE_BYTES ≡ Ok read → names ≡ Some file → reading held file MAX_FILE_BYTES ≡ Ok text → IsListsStop text s → status_of s ≡ Refused → RefusesCfi map input names held s
+faulty_line (stop.Refused (refusal.Malformed fault)) map input names held read file text is given said h e = absurd h
+faulty_line (stop.Refused (refusal.Orc fault)) map input names held read file text is given said h e = absurd h
+faulty_line (stop.Refused (refusal.Lists (lists_fault.Line line why))) map input names held read file text is given said h e = list_faulty read file text is given said h
+faulty_line (stop.Refused (refusal.Lists lists_fault.NoMemory)) map input names held read file text is given said h e = absurd h
+faulty_line (stop.Refused (refusal.Image fault)) map input names held read file text is given said h e = absurd h
+faulty_line (stop.Refused (refusal.NoText sec)) map input names held read file text is given said h e = absurd h
+faulty_line (stop.Refused (refusal.Unplaced fault)) map input names held read file text is given said h e = absurd h
+faulty_line (stop.Refused (refusal.Unlinked told)) map input names held read file text is given said h e = absurd h
+faulty_line (stop.Refused (refusal.Unflowed told)) map input names held read file text is given said h e = absurd h
+faulty_line (stop.Refused (refusal.HasOrc sec)) map input names held read file text is given said h e = absurd h
+faulty_line (stop.Refused (refusal.HasSites sec)) map input names held read file text is given said h e = absurd h
+faulty_line (stop.Refused (refusal.Sites fault)) map input names held read file text is given said h e = absurd h
+faulty_line (stop.Refused (refusal.HasFrames sec)) map input names held read file text is given said h e = absurd h
+faulty_line (stop.Refused (refusal.Frames fault)) map input names held read file text is given said h e = absurd h
+faulty_line (stop.Refused (refusal.TooMany what count)) map input names held read file text is given said h e = absurd h
+faulty_line (stop.Refused (refusal.Layout fault)) map input names held read file text is given said h e = absurd h
+faulty_line (stop.Refused (refusal.TooManyFiles count)) map input names held read file text is given said h e = absurd h
+faulty_line (stop.Refused (refusal.Merge fault)) map input names held read file text is given said h e = absurd h
+faulty_line (stop.Refused (refusal.Table fault)) map input names held read file text is given said h e = absurd h
+faulty_line (stop.Refused (refusal.NoFunction function)) map input names held read file text is given said h e = absurd h
+faulty_line (stop.Usage usage) map input names held read file text is given said h e = absurd h
+faulty_line (stop.Missing told) map input names held read file text is given said h e = absurd h
+faulty_line (stop.TooLong told at) map input names held read file text is given said h e = absurd h
+faulty_line (stop.PartMissing part told) map input names held read file text is given said h e = absurd h
+faulty_line (stop.PartTooLong part told at) map input names held read file text is given said h e = absurd h
+faulty_line (stop.PartRefused part why) map input names held read file text is given said h e = absurd h
+faulty_line (stop.FileFault told) map input names held read file text is given said h e = absurd h
+faulty_line stop.NoMemory map input names held read file text is given said h e = absurd (not_memory stop.NoMemory e refl)
+
+names_refuse : (s : CommandStop) (map : Map) (input : List ℕ) (names : Option (List ℕ)) (held : Content) (read : List ℕ) (before after : Outside) → before.content ≡ Some held → reading held input MAX_FILE_BYTES ≡ Ok read → StopsAtNames names before after s → status_of s ≡ Refused → RefusesCfi map input names held s
+names_refuse s map input names held read before after c is (names_unread file given h) e = list_unread read file is given (unreadable MAX_FILE_BYTES s file held before after c h e)
+names_refuse s map input names held read before after c is (no_names file text given may h) e = faulty_line s map input names held read file text is given (is_read MAX_FILE_BYTES file text held before.content c may) h e
+names_refuse stop.NoMemory map input names held read before after c is no_lists e = absurd (not_memory stop.NoMemory e refl)
+
+cfi_refuse : (s : CommandStop) (map : Map) (input output : List ℕ) (names : Option (List ℕ)) (held : Content) (before after : Outside) → before.content ≡ Some held → StopsCfi map input output names before after s → status_of s ≡ Refused → RefusesCfi map input names held s
+cfi_refuse s map input output names held before after c (unread h kept) e = input_unread (unreadable MAX_FILE_BYTES s input held before after c h e)
+cfi_refuse s map input output names held before after c (without_names read may h kept) e = names_refuse s map input names held read before after c (is_read MAX_FILE_BYTES input read held before.content c may) h e
+cfi_refuse s map input output names held before after c (refused read lists was h kept) e =
+    input_refused read lists (is_read MAX_FILE_BYTES input read held before.content c was.may) (subst (λ (content : Option Content). HasNames content names lists) c was.named) h (not_memory s e)
+cfi_refuse s map input output names held before after c (unwritten o rows file may h others) e = absurd (write_not_refused s output before after h e)
+
+pub cfi_told : (map : Map) (input output : List ℕ) (names : Option (List ℕ)) (held : Content) (before after : Outside) (out out' : Output) (x : Status) → before.content ≡ Some held → EndsCfi map input output names before after out out' x → x ≡ Refused → Tells (RefusesCfi map input names held) out.written out'.written
+cfi_told map input output names held before after out out' Done c (done o rows file may e same) is = absurd (done_not_refused is)
+cfi_told map input output names held before after out out' x c (warned o warnings may kept t) is = absurd (warned_not_refused _ out out' x t is)
+cfi_told map input output names held before after out out' x c (stopped s h t) is =
+    of_stop (RefusesCfi map input names held) s out out' x t is (λ at. cfi_refuse s map input output names held before after c h at)
+
+-- bytes that nothing but want of memory keeps from call frame information, or from their warnings, are refused by no step
+unrefused : (s : CommandStop) (map : Map) (input : List ℕ) (names : Option (List ℕ)) (held : Content) (read : List ℕ) (lists : NameLists) → reading held input MAX_FILE_BYTES ≡ Ok read → HasNames (Some held) names lists → IsUnrefused map read lists → RefusesCfi map input names held s → ⊥
+unrefused s map input names held read lists is has never (input_unread h) = readable MAX_FILE_BYTES s held input read h is
+unrefused s map input names held read lists is has never (list_unread other file was given h) =
+    let names_are = given_names held names file lists given has in
+    readable MAX_FILE_BYTES s held file names_are.text h (sym names_are.may)
+unrefused s map input names held read lists is has never (list_faulty other file text was given said fault) =
+    let names_are = given_names held names file lists given has in
+    no_faulty_line text _ _ (subst IsNamesFile (one_text MAX_FILE_BYTES held file names_are.text text (sym names_are.may) said) names_are.right) fault
+unrefused s map input names held read lists is has never (input_refused other others was had h some) =
+    let bytes = one_text MAX_FILE_BYTES held input other read was is in
+    let named = one_names names held others lists had has in
+    some (never s (subst (λ (l : NameLists). GetNoFrames map read l s) named (subst (λ (b : List ℕ). GetNoFrames map b others s) bytes h)))
+
+known_names : (names : Option (List ℕ)) (lists : NameLists) (held : Content) (content : Option Content) → content ≡ Some held → HasNames content names lists → HasNames (Some held) names lists
+known_names names lists held content c has = subst (λ (k : Option Content). HasNames k names lists) c has
+
+refused_not_done : OneOutcome → (s : CommandStop) (map : Map) (input output : List ℕ) (names : Option (List ℕ)) (held : Content) (before after : Outside) (out out' : Output) (x : Status) → before.content ≡ Some held → RefusesCfi map input names held s → EndsCfi map input output names before after out out' x → x ≢ Done
+refused_not_done one s map input output names held before after out out' Done c why (done o rows file may e same) is =
+    unrefused s map input names held may.read may.lists (is_read MAX_FILE_BYTES input may.read held before.content c may.is_read.may) (known_names names may.lists held before.content c may.is_read.named)
+    (λ u no. gets_excluded one u map may.read may.lists o rows may.gets no) why
+refused_not_done one s map input output names held before after out out' x c why (warned o warnings may kept t) is = warned_not_done _ out out' x t is
+refused_not_done one s map input output names held before after out out' x c why (stopped told h t) is = concluded_not_done told out out' x t is
+
+refused_not_warned : OneOutcome → (s : CommandStop) (map : Map) (input output : List ℕ) (names : Option (List ℕ)) (held : Content) (before after : Outside) (out out' : Output) (x : Status) → before.content ≡ Some held → RefusesCfi map input names held s → EndsCfi map input output names before after out out' x → x ≢ Warnings
+refused_not_warned one s map input output names held before after out out' Done c why (done o rows file may e same) is = done_not_warned is
+refused_not_warned one s map input output names held before after out out' x c why (warned o warnings may kept t) is =
+    unrefused s map input names held may.read may.lists (is_read MAX_FILE_BYTES input may.read held before.content c may.is_read.may) (known_names names may.lists held before.content c may.is_read.named)
+    (λ u no. broken_excluded one u map may.read may.lists (warns_breaks map may.read may.lists o warnings may.warns) no) why
+refused_not_warned one s map input output names held before after out out' x c why (stopped told h t) is = concluded_no_warnings told out out' x t is
+
+-- ---- usage
+
+unchecked_no_usage : (s : CommandStop) (map : Map) (o : Elf) → IsUnchecked map o s → status_of s ≢ Usage
+unchecked_no_usage s map o (unlinked why worded) e = cc
+unchecked_no_usage s map o (unflowed why) e = cc
+unchecked_no_usage s map o (has_frames order at) e = cc
+unchecked_no_usage s map o (too_many_sections order new many count) e = cc
+unchecked_no_usage s map o out_of_memory e = cc
+
+gets_no_usage : (s : CommandStop) (map : Map) (bytes : List ℕ) (lists : NameLists) → GetNoFrames map bytes lists s → status_of s ≢ Usage
+gets_no_usage s map bytes lists (malformed fault) e = cc
+gets_no_usage s map bytes lists (unchecked o is why) e = unchecked_no_usage s map o why e
+gets_no_usage s map bytes lists (too_many_symbols o rows is can unbroken has many count) e = cc
+gets_no_usage s map bytes lists no_memory e = cc
+
+stop_no_usage : (s : CommandStop) (map : Map) (input output : List ℕ) (names : Option (List ℕ)) (before after : Outside) → StopsCfi map input output names before after s → status_of s ≢ Usage
+stop_no_usage s map input output names before after (unread h kept) e = read_no_usage MAX_FILE_BYTES s input before after h e
+stop_no_usage s map input output names before after (without_names read may h kept) e = names_no_usage s names before after h e
+stop_no_usage s map input output names before after (refused read lists was h kept) e = gets_no_usage s map read lists h e
+stop_no_usage s map input output names before after (unwritten o rows file may h others) e = write_no_usage s output before after h e
+
+not_usage : Done ≢ Usage
+not_usage e = cc
+
+cfi_no_usage : (map : Map) (input output : List ℕ) (names : Option (List ℕ)) (before after : Outside) (out out' : Output) (x : Status) → EndsCfi map input output names before after out out' x → x ≢ Usage
+cfi_no_usage map input output names before after out out' Done (done o rows file may e same) is = not_usage is
+cfi_no_usage map input output names before after out out' x (warned o warnings may kept t) is = warned_no_usage _ out out' x t is
+cfi_no_usage map input output names before after out out' x (stopped s h t) is = stop_no_usage s map input output names before after h (concluded_usage s out out' x t is)
+
+pub cfi_refused : OneOutcome → (map : Map) (input output : List ℕ) (names : Option (List ℕ)) (held : Content) (before after : Outside) (out out' : Output) (x : Status) (s : CommandStop) → EndsCfi map input output names before after out out' x → before.content ≡ Some held → RefusesCfi map input names held s → IsRefusedOrFails x
+cfi_refused one map input output names held before after out out' x s ends c why =
+    left x (refused_not_done one s map input output names held before after out out' x c why ends) (refused_not_warned one s map input output names held before after out out' x c why ends) (cfi_no_usage map input output names before after out out' x ends)

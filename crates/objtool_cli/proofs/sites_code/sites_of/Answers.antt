@@ -1,0 +1,17 @@
+use Rattle.std.proofs.Common.{sym, subst}
+use Rattle.std.proofs.lemmas.Result.{err_from_is_err_and}
+use Rattle.elf_objects.specs.Object.{IsObject}
+use Rattle.flow_defs.specs.Coded.{Coded}
+use Rattle.objtool_cli.specs.Sites.{GetNoSites, no_memory}
+use Rattle.objtool_cli.proofs.sites_code.sites_of.Goals as goal
+
+pub returns-in_err-check_code-clause-stopped : goal.returns-in_err-check_code-clause-stopped
+returns-in_err-check_code-clause-stopped c bytes is =
+    let same = c.in_ok-linked.ensures.ok in
+    let met = c.in_err-check_code.ensures.stopped bytes (subst (λ (x : Coded). IsObject bytes x.elf) (sym same) is) in
+    let here = subst (λ (x : Coded). GetNoSites x.map bytes c.in_err-check_code.field-0.0) same met in
+    let p = err_from_is_err_and c.from_residual-in_err-check_code.result c.from_residual-in_err-check_code.ensures.1 in
+    rw (p.1, p.2) here
+
+pub returns-clause-stopped : goal.returns-clause-stopped
+returns-clause-stopped c bytes is = no_memory
