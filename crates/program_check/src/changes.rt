@@ -50,7 +50,11 @@ fn keep_the_same(kept: &Kept, one: u32, other: u32) -> bool
     requires other { other < length kept.now }
     ensures { IsTrue result → at kept.now one ≡ at kept.now other }
 {
-    kept.are_alike(one, other) || !kept.is_kept(one) && !kept.is_kept(other)
+    if kept.is_short(one) {
+        kept.are_alike(one, other)
+    } else {
+        !kept.is_kept(one) && !kept.is_kept(other)
+    }
 }
 
 /// A quick test whether the rows end with a point's row in the section of a place: where it says so they do.
@@ -61,7 +65,7 @@ fn ends_with(kept: &Kept, held: Option<Held>, point: u32, place: Place) -> bool
     ensures { IsTrue result → (rows : List PlacedRow) → IfSome held (λ h. is_row_held rows h.sec (row_of_point (at kept.now) h.point) ≡ true) → is_row_held rows place.sec (row_of_point (at kept.now) point) ≡ true }
 {
     match held {
-        Some(before) => before.sec == place.sec && keep_the_same(kept, before.point, point),
+        Some(before) => keep_the_same(kept, before.point, point) && before.sec == place.sec,
         None => false,
     }
 }
@@ -248,7 +252,7 @@ fn adds_none(graph: &Graph, kept: &Kept, held: Option<Held>, waiting: Option<Pla
     ensures clear { IsTrue result → (p : Program) → Tells p graph.now.parts → (first : Place) → waiting ≡ Some first → is_lower first (p.place n) ≡ false }
 {
     let place = graph.place(n);
-    !waits_before(waiting, place) && ends_with(kept, held, n, place)
+    ends_with(kept, held, n, place) && !waits_before(waiting, place)
 }
 
 /// The first point from one on at which the rows may change, if there is one: they stay as they are at those that are passed over.

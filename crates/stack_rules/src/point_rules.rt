@@ -15,7 +15,7 @@ ghost use Rattle.stack_rules.specs.Quiet.{ArePassing};
 
 use crate::arrivals::push_edge;
 use crate::exits::{push_marks, push_operation, push_role};
-use crate::listing::{bare_warning, is_restore, push, push_if};
+use crate::listing::{bare_warning, is_restore, push};
 use crate::numbers::push_row;
 use crate::quiet::is_quiet;
 use crate::ways::{is_before_hint, may_leave};
@@ -70,7 +70,7 @@ fn is_entered_restore(graph: &Graph, n: u32) -> bool
     requires { n < length graph.now.parts.points.items }
     ensures { (p : Program) → Tells p graph.now.parts → IsTrue result ↔ (p.hint n ≡ Some HintState.Restore × is_at_entry p n ≡ true) }
 {
-    is_restore(graph.hint(n)) && graph.is_entered(n)
+    graph.is_entered(n) && is_restore(graph.hint(n))
 }
 
 /// Rule 18 at a point that keeps none.
@@ -78,8 +78,10 @@ fn push_unkept(graph: &Graph, into: &mut Vec<Warning>, n: u32) -> Result<(), NoM
     requires { n < length graph.now.parts.points.items }
     ensures { OnOk result ((p : Program) → Tells p graph.now.parts → Gains into.old.items into.new.items (UnkeptWarns p n)) }
 {
-    let warning = bare_warning(graph.place(n), RESTORE_WITHOUT_SAVE);
-    push_if(into, is_entered_restore(graph, n), warning)
+    if !is_entered_restore(graph, n) {
+        return Ok(());
+    }
+    push(into, bare_warning(graph.place(n), RESTORE_WITHOUT_SAVE))
 }
 
 /// The rules at a point, by whether it keeps a state.
