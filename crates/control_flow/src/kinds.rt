@@ -112,12 +112,17 @@ impl KindTable {
         ensures numbered { IfOk result (IsNumbered self.old.kinds.items self.new.kinds.items kind) }
         ensures usual { OnOk result (AreUsual self.new.kinds.items self.new.usual.items) }
     {
+        // What is handed on is a copy, so that the fields of a kind that is found needn't stand in memory.
         if !is_usual(kind) {
-            return self.number_by_mark(kind);
+            let other = kind;
+            return self.number_by_mark(other);
         }
         match self.find_usual(kind) {
             Some(number) => Ok(number),
-            None => self.number_usual(kind),
+            None => {
+                let new = kind;
+                self.number_usual(new)
+            }
         }
     }
 }
