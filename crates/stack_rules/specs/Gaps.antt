@@ -3,7 +3,7 @@ use Rattle.std.specs.Prelude.{◌≡◌, ◌==◌, ◌&&◌, Bool, true, false, 
 use Rattle.ot_base.specs.declared.place.Place.{Place}
 use Rattle.program_graph.specs.declared.parts.GraphSite.{GraphSite}
 use Rattle.stack_rules.specs.declared.gap.Gap.{Gap}
-use Rattle.stack_rules.specs.Sites.{AreApart, in_own_site}
+use Rattle.stack_rules.specs.Sites.{in_own_site}
 
 -- whether a place is among those of a gap
 abbrev pub is_in_gap : Gap → Place → Bool

@@ -1,5 +1,5 @@
 -- One point more.
-use Rattle.std.proofs.Common.{◌≡◌, ◌<◌, ℕ, true, false, inl, inr, arith, subst}
+use Rattle.std.proofs.Common.{◌≡◌, ℕ, true, false, inl, inr, arith, subst}
 use Rattle.std.proofs.lemmas.Bool.{cases_lt}
 use Rattle.machine_defs.specs.Rows.{row_of_point}
 use Rattle.ot_base.specs.Places.{is_before}

@@ -1,7 +1,6 @@
 -- An entered RESTORE.
-use Rattle.std.proofs.Common.{◌≡◌, IsTrue, true, false, arith, ap, ◌∙◌, refl, sym}
+use Rattle.std.proofs.Common.{◌≡◌, true, false, arith, ap, ◌∙◌, sym}
 use Rattle.std.proofs.lemmas.Result.{on_ok_weaker}
-use Rattle.ot_base.specs.declared.warning.Warning.{Warning}
 use Rattle.ot_base.specs.Warnings.{bare_warning}
 use Rattle.stack_rules.specs.PointWarns.{UnkeptWarns}
 use Rattle.stack_rules.proofs.GainsLemmas.{gains_none, gains_same}

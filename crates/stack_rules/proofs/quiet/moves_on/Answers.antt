@@ -2,12 +2,9 @@
 use Rattle.std.proofs.Common.{◌≡◌, true, false, arith, ap, sym, ◌∙◌}
 use Rattle.std.proofs.lemmas.List.Elements.{All-same}
 use Rattle.operation_defs.specs.declared.insn.Insn.{Insn}
-use Rattle.operation_defs.specs.declared.op.Op.{Op}
 use Rattle.machine_defs.specs.declared.flow.Edge.{Edge}
 use Rattle.machine_defs.specs.declared.flow.EdgeKind.TheVariants.{Next}
-use Rattle.state_defs.specs.declared.state.State.{State}
 use Rattle.state_defs.specs.Move.{move}
-use Rattle.kept_states.specs.LevelStates.{at}
 use Rattle.stack_rules.specs.Quiet.{Leads, is_exit}
 use Rattle.stack_rules.proofs.QuietPoints.{next_leads, single}
 use Rattle.stack_rules.proofs.quiet.moves_on.Goals as goal
