@@ -12,6 +12,7 @@ pub mod Listed
 pub mod Entering
 pub mod Flagged
 pub mod Lone
+pub mod Named
 pub mod Found
 pub mod Returns
 pub mod Hinted

@@ -29,6 +29,7 @@ mod returning;
 mod searched_flow;
 mod spreading;
 mod starts;
+mod symbol_names;
 mod transfers;
 
 pub use check::check_flow;

@@ -8,10 +8,12 @@ ghost use Rattle.control_flow.specs.Told.{exit_of};
 ghost use Rattle.machine_defs.specs.MayReturn.{is_listed, is_listed_function as is_listed_in};
 ghost use Rattle.control_flow.specs.Flagged.{AreFlagged};
 ghost use Rattle.control_flow.specs.Listed.{AreDeadEnds, CallsPoint, count_of};
+ghost use Rattle.control_flow.specs.Named.{AreLookedUp};
 
 use crate::Exit;
+use crate::symbol_names::is_listed_name;
 use machine_defs::Role;
-use object_points::{PointPlaces, never_returns};
+use object_points::PointPlaces;
 use ot_base::{Lists, NoMemory};
 use point_edges::FlowPoints;
 use std::alloc::Global;
@@ -24,45 +26,67 @@ pub(crate) fn count_points(places: &PointPlaces<'_, '_, '_>) -> u32
 }
 
 /// Whether the name of the function that holds a point is listed as one that never returns.
-fn is_listed_function(places: &PointPlaces<'_, '_, '_>, lists: &Lists, n: u32) -> bool
-    requires { n < count_of places.now }
-    ensures { let p = program_of places.now lists.now in result ≡ is_listed_in p (p.function n) }
+fn is_listed_function(
+    places: &PointPlaces<'_, '_, '_>,
+    lists: &Lists,
+    names: &mut Vec<Option<bool>>,
+    n: u32,
+) -> bool
+    requires point { n < count_of places.now }
+    requires names { AreLookedUp places.now.elf lists.now names.old.items }
+    ensures is { let p = program_of places.now lists.now in result ≡ is_listed_in p (p.function n) }
+    ensures names { AreLookedUp places.now.elf lists.now names.new.items }
 {
     match places.function(n) {
-        Some(sym) => never_returns(places.linked().object(), lists, sym),
+        Some(sym) => is_listed_name(places.linked().object(), lists, names, sym),
         None => false,
     }
 }
 
 /// Whether a call with this role is listed: the name of its symbol, or of the function whose start is its entry, is listed as
 /// one that never returns.
-fn is_listed_call(places: &PointPlaces<'_, '_, '_>, lists: &Lists, role: Role) -> bool
-    requires { CallsPoint places.now role }
-    ensures { result ≡ is_listed (program_of places.now lists.now) role }
+fn is_listed_call(
+    places: &PointPlaces<'_, '_, '_>,
+    lists: &Lists,
+    names: &mut Vec<Option<bool>>,
+    role: Role,
+) -> bool
+    requires role { CallsPoint places.now role }
+    requires names { AreLookedUp places.now.elf lists.now names.old.items }
+    ensures is { result ≡ is_listed (program_of places.now lists.now) role }
+    ensures names { AreLookedUp places.now.elf lists.now names.new.items }
 {
     let object = places.linked().object();
     match role {
-        Role::CallIn { entry } => is_listed_function(places, lists, entry),
+        Role::CallIn { entry } => is_listed_function(places, lists, names, entry),
         Role::CallEither { entry, sym } => {
-            never_returns(object, lists, sym) || is_listed_function(places, lists, entry)
+            is_listed_name(object, lists, names, sym)
+                || is_listed_function(places, lists, names, entry)
         }
-        Role::CallOut { sym } => never_returns(object, lists, sym),
+        Role::CallOut { sym } => is_listed_name(object, lists, names, sym),
         _ => false,
     }
 }
 
 /// What a point with this role is to a return.
-pub(crate) fn exit(places: &PointPlaces<'_, '_, '_>, lists: &Lists, role: Role) -> Exit
-    requires { CallsPoint places.now role }
-    ensures { result ≡ exit_of (program_of places.now lists.now) role }
+pub(crate) fn exit(
+    places: &PointPlaces<'_, '_, '_>,
+    lists: &Lists,
+    names: &mut Vec<Option<bool>>,
+    role: Role,
+) -> Exit
+    requires role { CallsPoint places.now role }
+    requires names { AreLookedUp places.now.elf lists.now names.old.items }
+    ensures is { result ≡ exit_of (program_of places.now lists.now) role }
+    ensures names { AreLookedUp places.now.elf lists.now names.new.items }
 {
-    if is_listed_call(places, lists, role) {
+    if is_listed_call(places, lists, names, role) {
         return Exit::CallsNever;
     }
     match role {
         Role::Return | Role::JumpAny => Exit::Leaves,
         Role::JumpOut { sym } => {
-            if never_returns(places.linked().object(), lists, sym) {
+            if is_listed_name(places.linked().object(), lists, names, sym) {
                 Exit::Passes
             } else {
                 Exit::Leaves

@@ -1,6 +1,8 @@
 //! Where control goes from the points, found by one look at each of them.
 
 ghost use Rattle.std.specs.Prelude.{◌≡◌, ◌+◌, ◌<◌, ◌^◌, ◌++◌, ◌∷◌, [], ℕ, List, All, IfOk, OnOk, Some, slice_get, true};
+ghost use Rattle.ot_base.specs.NameLists.{NameLists};
+ghost use Rattle.elf_objects.specs.Elf.{Elf};
 ghost use Rattle.flow_defs.specs.Coded.{Coded};
 ghost use Rattle.flow_defs.specs.Arrival.{insn_of_object};
 ghost use Rattle.flow_defs.specs.Code.{point_at};
@@ -13,6 +15,7 @@ ghost use Rattle.control_flow.specs.Told.{exit_of};
 ghost use Rattle.control_flow.specs.Found.{IsExit, IsFound, IsGathered, IsKept, IsListed};
 ghost use Rattle.control_flow.specs.Listed.{AreEdges, AreExits, ExitCallsPoint, count_of};
 ghost use Rattle.control_flow.specs.Lone.{AreLoneJumps};
+ghost use Rattle.control_flow.specs.Named.{AreLookedUp};
 ghost use Rattle.control_flow.specs.Numbers.{AreNumbered};
 ghost use Rattle.point_edges.specs.Straight.{IsStraight};
 ghost use Rattle.control_flow.specs.Transfers.{IsTransfer, IsTransferIfBack};
@@ -20,7 +23,9 @@ ghost use Rattle.control_flow.specs.Transfers.{IsTransfer, IsTransferIfBack};
 use crate::Exit;
 use crate::listed::{count_points, exit};
 use crate::lone_jumps::LoneJumps;
+use crate::symbol_names::no_names;
 use crate::transfers::{TransferList, USUAL, number_transfer, transfer_of};
+use elf_objects::Object;
 use machine_defs::{Edge, EdgeKind};
 use operation_defs::Insn;
 use ot_base::{Lists, NoMemory};
@@ -88,18 +93,21 @@ fn look_around(
     insn: Insn,
     branch: Branch,
     edges: &mut Vec<Edge>,
+    names: &mut Vec<Option<bool>>,
 ) -> Result<Found, NoMemory>
     requires point { n < count_of points.now }
+    requires names { AreLookedUp points.now.elf lists.now names.old.items }
     requires insn { insn ≡ insn_of_object points.now (point_at points.now n) }
     requires to { branch.to ≡ destination_of points.now (point_at points.now n) }
     requires way { branch.way ≡ direct_way points.now (point_at points.now n) insn.op }
     ensures listed { IfOk result (λ found. (alike : List ℕ) → IsListed points.now n edges.old.items edges.new.items alike alike found) }
     ensures found { IfOk result (IsFound points.now lists.now n) }
+    ensures names { OnOk result (AreLookedUp points.now.elf lists.now names.new.items) }
 {
     let role = role(points, n, insn, branch);
     push_edges(alloc, points, n, insn, branch, edges)?;
     Ok(Found::Own {
-        exit: exit(points.places(), lists, role),
+        exit: exit(points.places(), lists, names, role),
         transfer: transfer_of(points, n, insn, branch, role),
     })
 }
@@ -113,17 +121,20 @@ fn look_for_jumps(
     n: u32,
     edges: &mut Vec<Edge>,
     jumps: &mut LoneJumps,
+    names: &mut Vec<Option<bool>>,
 ) -> Result<Found, NoMemory>
     requires point { n < count_of points.now }
+    requires names { AreLookedUp points.now.elf lists.now names.old.items }
     requires jumps { AreLoneJumps points.now jumps.old n }
     ensures jumps { OnOk result (AreLoneJumps points.now jumps.new (n + 1)) }
     ensures listed { IfOk result (IsListed points.now n edges.old.items edges.new.items jumps.old.alike.items jumps.new.alike.items) }
     ensures found { IfOk result (IsFound points.now lists.now n) }
+    ensures names { OnOk result (AreLookedUp points.now.elf lists.now names.new.items) }
 {
     let insn = points.arrivals().insn(alloc, n)?;
     let branch = branch_at(points.places(), n, insn);
     let Some(first) = jumps.note(points, n, insn, branch.to)? else {
-        return look_around(alloc, points, lists, n, insn, branch, edges);
+        return look_around(alloc, points, lists, n, insn, branch, edges, names);
     };
     let kind = EdgeKind::Table;
     edges.push(Edge { to: first, kind })?;
@@ -176,15 +187,18 @@ struct Gathered {
     jumps: LoneJumps,
     /// Their transfers, behind that of most points.
     transfers: Vec<Transfer>,
+    /// For each symbol whether its name is listed as one that never returns, once it was looked up.
+    names: Vec<Option<bool>>,
 }
 
 impl Gathered {
     /// No points.
-    fn new(alloc: Global) -> Result<Gathered, NoMemory>
+    fn new(alloc: Global, object: &Object<'_>) -> Result<Gathered, NoMemory>
         ensures edges { IfOk result (λ gathered. gathered.edges.items ≡ []) }
         ensures jumps { IfOk result (λ gathered. (o : Coded) → AreLoneJumps o gathered.jumps 0) }
         ensures alike { IfOk result (λ gathered. gathered.jumps.alike.items ≡ []) }
         ensures transfers { IfOk result (λ gathered. gathered.transfers.items ≡ USUAL ∷ []) }
+        ensures names { IfOk result (λ gathered. (o : Elf) → (lists : NameLists) → AreLookedUp o lists gathered.names.items) }
     {
         let mut transfers = Vec::new(alloc);
         transfers.push(USUAL)?;
@@ -192,6 +206,7 @@ impl Gathered {
             edges: Vec::new(alloc),
             jumps: LoneJumps::new(alloc),
             transfers,
+            names: no_names(alloc, object)?,
         })
     }
 }
@@ -208,8 +223,10 @@ fn list_any(
 ) -> Result<Kept, NoMemory>
     requires point { n < count_of points.now }
     requires few { count_of points.now < 2 ^ 32 }
+    requires names { AreLookedUp points.now.elf lists.now gathered.old.names.items }
     requires jumps { AreLoneJumps points.now gathered.old.jumps n }
     requires numbered { AreNumbered (IsTransferIfBack points.now) gathered.old.transfers.items numbers.now n }
+    ensures names { OnOk result (AreLookedUp points.now.elf lists.now gathered.new.names.items) }
     ensures jumps { OnOk result (AreLoneJumps points.now gathered.new.jumps (n + 1)) }
     ensures gathered { IfOk result (λ kept. IsGathered points.now lists.now n gathered.old gathered.new kept.exit kept.number) }
 {
@@ -220,6 +237,7 @@ fn list_any(
         n,
         &mut gathered.edges,
         &mut gathered.jumps,
+        &mut gathered.names,
     )?;
     keep(points, lists, n, found, &mut gathered.transfers, numbers)
 }
@@ -236,9 +254,11 @@ fn list_point(
 ) -> Result<Kept, NoMemory>
     requires point { n < count_of points.now }
     requires few { count_of points.now < 2 ^ 32 }
+    requires names { AreLookedUp points.now.elf lists.now gathered.old.names.items }
     requires jumps { AreLoneJumps points.now gathered.old.jumps n }
     requires numbered { AreNumbered (IsTransferIfBack points.now) gathered.old.transfers.items numbers.now n }
     requires usual { slice_get gathered.old.transfers.items 0 ≡ Some USUAL }
+    ensures names { OnOk result (AreLookedUp points.now.elf lists.now gathered.new.names.items) }
     ensures jumps { OnOk result (AreLoneJumps points.now gathered.new.jumps (n + 1)) }
     ensures gathered { IfOk result (λ kept. IsGathered points.now lists.now n gathered.old gathered.new kept.exit kept.number) }
 {
@@ -273,7 +293,7 @@ pub(crate) fn list_outgoing(
     starts.push(0)?;
     let mut exits = Vec::with_capacity(alloc, count as usize)?;
     let mut numbers = Vec::with_capacity(alloc, count as usize)?;
-    let mut gathered = Gathered::new(alloc)?;
+    let mut gathered = Gathered::new(alloc, points.places().linked().object())?;
     for n in 0..count {
         let kept = list_point(alloc, points, lists, n, &mut gathered, &numbers)?;
         if gathered.edges.len() > u32::MAX as usize {
@@ -287,6 +307,7 @@ pub(crate) fn list_outgoing(
         edges,
         jumps,
         transfers,
+        ..
     } = gathered;
     Ok(Outgoing {
         edges: EdgeList { starts, edges },

@@ -5,11 +5,11 @@ use Rattle.flow_defs.specs.Program.{never_returns_by}
 use Rattle.control_flow.proofs.Fields.{listed_name, no_listed_name}
 use Rattle.control_flow.proofs.listed.is_listed_function.Goals as goal
 
-pub returns-in-Some : goal.returns-in-Some
-returns-in-Some c =
-    c.never_returns.ensures
+pub returns-in-Some-clause-is : goal.returns-in-Some-clause-is
+returns-in-Some-clause-is c =
+    c.is_listed_name.ensures.is
     ∙ ap (λ (e : Elf). never_returns_by e c.args.lists.now c.in-Some.sym) (c.object.ensures ∙ ap (λ (e : Coded). e.elf) c.linked.ensures)
     ∙ sym (listed_name c.args.places.now c.args.lists.now c.args.n c.in-Some.sym (sym c.function.ensures ∙ c.in-Some.is))
 
-pub returns-in-None : goal.returns-in-None
-returns-in-None c = sym (no_listed_name c.args.places.now c.args.lists.now c.args.n (sym c.function.ensures ∙ c.in-None.is))
+pub returns-in-None-clause-is : goal.returns-in-None-clause-is
+returns-in-None-clause-is c = sym (no_listed_name c.args.places.now c.args.lists.now c.args.n (sym c.function.ensures ∙ c.in-None.is))

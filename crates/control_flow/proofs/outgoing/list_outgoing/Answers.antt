@@ -23,6 +23,7 @@ loop-n-init c =
           (subst (λ (ns : List ℕ). AreOutgoing o lists (0 ∷ []) [] none.jumps [] (USUAL ∷ []) ns 0) (sym c.in_ok-numbers.ensures.items)
           (none_outgoing o lists USUAL none.jumps c.in_ok-gathered.ensures.alike (c.in_ok-gathered.ensures.jumps o)))))),
       subst (λ (ts : List Transfer). slice_get ts 0 ≡ Some USUAL) (sym c.in_ok-gathered.ensures.transfers) refl,
+      c.in_ok-gathered.ensures.names o.elf lists,
     )
 
 pub loop-n-preserved : goal.loop-n-preserved
@@ -45,6 +46,7 @@ loop-n-preserved c =
           (outgoing_more o lists c.loop-n.starts.items before.edges.items after before.jumps grown.jumps c.loop-n.exits.items before.transfers.items grown.transfers.items c.loop-n.numbers.items n listed.found kept.exit kept.number
           c.loop-n.invariant.0 here few listed.listed c.in_ok-kept.ensures.jumps listed.kept))),
       listed.kept.is_numbered.kept 0 USUAL c.loop-n.invariant.1,
+      c.in_ok-kept.ensures.names,
     )
 
 pub returns-clause-edges : goal.returns-clause-edges
