@@ -11,8 +11,11 @@ use program_graph::PointKind;
 use std::alloc::Global;
 use x86_text::hash_of;
 
-/// How many marks there are.
+/// How many marks there are of kinds whose transfer is that of most points.
 const MARKS: usize = 1024;
+
+/// How many marks there are of kinds with another transfer. Few points have it, and these mostly stand in a row.
+const TRANSFER_MARKS: usize = 64;
 
 /// How many lengths of instructions are told apart.
 const LENGTHS: usize = 16;
@@ -38,7 +41,7 @@ impl KindTable {
     {
         Ok(KindTable {
             kinds: Vec::new(alloc),
-            recent: vec![in alloc; 0; MARKS]?,
+            recent: vec![in alloc; 0; MARKS + TRANSFER_MARKS]?,
             usual: no_numbers(alloc, COMMON * LENGTHS)?,
         })
     }
@@ -49,7 +52,10 @@ impl KindTable {
     {
         let number = *self.recent.get(mark)?;
         let k = number as usize;
-        if k < self.kinds.len() && self.kinds[k] == kind {
+        if k >= self.kinds.len() || self.kinds[k].transfer != kind.transfer {
+            return None;
+        }
+        if self.kinds[k] == kind {
             Some(number)
         } else {
             None
@@ -175,13 +181,27 @@ fn is_usual(kind: PointKind) -> bool
     kind.rare == 0 && kind.transfer == 0 && kind.may_return && !kind.is_entered && !kind.is_dead_end
 }
 
-/// The mark of a kind. Usual kinds with different instructions mostly have different ones.
-fn mark_of(kind: PointKind) -> usize {
+/// The mark of a kind whose transfer is that of most points. Usual kinds with different instructions mostly have different
+/// ones.
+fn mark_of_insn(kind: PointKind) -> usize {
     let PointKind { len, op, .. } = kind;
-    let others = u64::from(kind.transfer)
-        .wrapping_mul(3)
-        .wrapping_add(u64::from(kind.rare))
-        .wrapping_mul(0x9e37_79b9_7f4a_7c15);
+    let others = u64::from(kind.rare).wrapping_mul(0x9e37_79b9_7f4a_7c15);
     let returning = if kind.may_return { 0 } else { 0x155 };
     (hash_of(Insn { len, op }) ^ (others >> 54) as usize ^ returning) % MARKS
+}
+
+/// The mark of a kind with another transfer, behind those of the rest. Kinds with transfers in a row have different ones.
+fn mark_of_transfer(kind: PointKind) -> usize {
+    let others = kind.rare.wrapping_mul(5).wrapping_add(u32::from(kind.len));
+    let mark = kind.transfer.wrapping_add(others.wrapping_mul(7));
+    MARKS + mark as usize % TRANSFER_MARKS
+}
+
+/// The mark of a kind.
+fn mark_of(kind: PointKind) -> usize {
+    if kind.transfer == 0 {
+        mark_of_insn(kind)
+    } else {
+        mark_of_transfer(kind)
+    }
 }
