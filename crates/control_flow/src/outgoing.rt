@@ -290,7 +290,7 @@ pub(crate) fn list_outgoing(
 {
     let count = count_points(points.places());
     let mut starts = Vec::with_capacity(alloc, count as usize + 1)?;
-    starts.push(0)?;
+    starts.push_reserved(0);
     let mut exits = Vec::with_capacity(alloc, count as usize)?;
     let mut numbers = Vec::with_capacity(alloc, count as usize)?;
     let mut gathered = Gathered::new(alloc, points.places().linked().object())?;
@@ -299,9 +299,9 @@ pub(crate) fn list_outgoing(
         if gathered.edges.len() > u32::MAX as usize {
             return Err(NoMemory);
         }
-        starts.push(gathered.edges.len() as u32)?;
-        exits.push(kept.exit)?;
-        numbers.push(kept.number)?;
+        starts.push_reserved(gathered.edges.len() as u32);
+        exits.push_reserved(kept.exit);
+        numbers.push_reserved(kept.number);
     }
     let Gathered {
         edges,

@@ -177,7 +177,7 @@ pub(crate) fn list_points(
         let number = table.number_of(kind)?;
         let owned = owned_with(points, owners, n, before);
         before = Some(owned);
-        made.push(point_of(points, n, owned.number, number))?;
+        made.push_reserved(point_of(points, n, owned.number, number));
     }
     Ok(PointList {
         points: made,

@@ -4,6 +4,7 @@ ghost use Rattle.std.specs.Prelude.{◌≡◌, ◌+◌, ◌<◌, ◌^◌, ◌++�
 ghost use Rattle.alternatives.specs.Points.{address_of_point};
 ghost use Rattle.flow_defs.specs.Code.{alternatives_of, point_at};
 ghost use Rattle.flow_defs.specs.Program.{previous_of as previous_of_point};
+ghost use Rattle.object_law.specs.Flows.{ObjectIsInOrder};
 ghost use Rattle.program_graph.specs.Tells.{address_by, previous_by, variant_by};
 ghost use Rattle.control_flow.specs.Listed.{count_of};
 ghost use Rattle.control_flow.specs.Numbers.{IsNumbered};
@@ -85,10 +86,10 @@ fn number_rare(rares: &mut Vec<Rare>, rare: Rare) -> Result<u32, NoMemory>
 /// Whether a point is right behind a straight one. But for a hint it has what most have then.
 #[inline(always)]
 fn is_behind_straight(points: &FlowPoints<'_, '_, '_>, n: u32) -> bool
+    requires order { ObjectIsInOrder points.now }
     requires point { n < count_of points.now }
     ensures { IsTrue result → IsRare points.now n None USUAL }
 {
-    object_is_in_order(points.places().linked());
     n > 0 && points.arrivals().is_straight(n - 1)
 }
 
@@ -110,6 +111,7 @@ fn is_behind_plain(places: &PointPlaces<'_, '_, '_>, n: u32) -> bool
 /// Whether it is seen at once that a point has what most have, but for a hint.
 #[inline(always)]
 fn is_usual(points: &FlowPoints<'_, '_, '_>, n: u32) -> bool
+    requires order { ObjectIsInOrder points.now }
     requires point { n < count_of points.now }
     ensures { IsTrue result → IsRare points.now n None USUAL }
 {
@@ -146,6 +148,7 @@ fn add_rare(
     hinted: &mut Vec<Hinted>,
 ) -> Result<u32, NoMemory>
     requires hints { hints.now.object ≡ points.now }
+    requires order { ObjectIsInOrder points.now }
     requires point { n < count_of points.now }
     requires some { 0 < length rares.old.items }
     requires few { length rares.old.items < 2 ^ 32 }
@@ -179,13 +182,15 @@ pub(crate) fn list_rares(
     requires { hints.now.object ≡ points.now }
     ensures { IfOk result (λ list. AreRares points.now hints.now.restores list.rares.items list.hinted.items list.numbers.items (count_of points.now)) }
 {
+    object_is_in_order(points.places().linked());
     let count = count_points(points.places());
     let mut rares = Vec::new(alloc);
     rares.push(USUAL)?;
     let mut hinted = Vec::new(alloc);
     let mut numbers = Vec::with_capacity(alloc, count as usize)?;
     for n in 0..count {
-        numbers.push(add_rare(points, hints, n, &mut rares, &mut hinted)?)?;
+        let number = add_rare(points, hints, n, &mut rares, &mut hinted)?;
+        numbers.push_reserved(number);
     }
     Ok(RareList {
         rares,

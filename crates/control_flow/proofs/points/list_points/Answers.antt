@@ -24,6 +24,8 @@ loop-n-init c =
       omega (arith, ap length c.in_ok-table.ensures.kinds),
       c.in_ok-table.ensures.usual,
       tt,
+      c.in_ok-made.ensures.len,
+      c.in_ok-made.ensures.exact,
     )
 
 pub loop-n-preserved : goal.loop-n-preserved
@@ -50,11 +52,13 @@ loop-n-preserved c =
       owner = λ w at. c.owned_with-owned.ensures.owned.each n w c.owned_with-owned.ensures.of (ap (slice_get owners) c.point_of.ensures.owner ∙ at);
     } in
     let numbered : IsNumbered before after k c.in_ok-number.number = c.in_ok-number.ensures.numbered in (
-      subst (λ (items : List GraphPoint). AreMade o owners returns rares transfers after items (n + 1)) (sym c.in_ok-push.ensures.items)
+      subst (λ (items : List GraphPoint). AreMade o owners returns rares transfers after items (n + 1)) (sym c.push_reserved.ensures.items)
           (made_more o owners returns rares transfers before after k c.in_ok-number.number c.loop-n.made.items n x c.loop-n.invariant.0 numbered kind placed),
       omega (arith, numbered.short, c.loop-n.invariant.1),
       c.in_ok-number.ensures.usual,
       c.owned_with-owned.ensures.owned,
+      omega (arith, c.push_reserved.ensures.len, c.loop-n.invariant.4),
+      c.push_reserved.ensures.capacity ∙ c.loop-n.invariant.5,
     )
 
 pub kind_of-requires-clause-entered : goal.kind_of-requires-clause-entered

@@ -1,6 +1,5 @@
 use Rattle.std.proofs.Common.{◌≡◌, ℕ, ◌+◌, ◌-◌, ◌<◌, None, sym, ◌∙◌, subst, arith}
 use Rattle.flow_defs.specs.Coded.{Coded}
-use Rattle.object_law.specs.Flows.{ObjectIsInOrder}
 use Rattle.point_edges.specs.Straight.{IsStraight}
 use Rattle.control_flow.specs.Listed.{count_of}
 use Rattle.control_flow.specs.Rares.{IsRare}
@@ -15,7 +14,6 @@ pub returns-then-n-gt0 : goal.returns-then-n-gt0
 returns-then-n-gt0 c = λ is.
     let o : Coded = c.args.points.now in
     let n : ℕ = c.args.n in
-    let order : ObjectIsInOrder o = subst ObjectIsInOrder (c.linked.ensures ∙ c.places.ensures) c.object_is_in_order.ensures in
     let next : n - 1 + 1 ≡ n = omega (arith, c.if-n-gt0.true) in
     let is_before : IsStraight o (n - 1) = subst (λ (e : Coded). IsStraight e (n - 1)) c.arrivals.ensures (c.is_straight.ensures.straight is) in
-    subst (λ (k : ℕ). IsRare o k None USUAL) next (behind_straight o (n - 1) order.bytes is_before)
+    subst (λ (k : ℕ). IsRare o k None USUAL) next (behind_straight o (n - 1) c.requires.order.bytes is_before)
