@@ -31,7 +31,11 @@ fn keep_edges(edges: &mut Vec<Edge>, kept: usize, from: usize, to: usize, comes_
     for i in from..to {
         let edge = edges[i];
         if stays_edge(comes_back, edge.kind) {
-            edges[end] = edge;
+            // The fields alone are written, and not the bytes between them.
+            edges[end] = Edge {
+                to: edge.to,
+                kind: edge.kind,
+            };
             end += 1;
         }
     }
