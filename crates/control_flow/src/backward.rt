@@ -88,11 +88,14 @@ impl Backward {
         ensures { IfOk result (IsBackward flow.now) }
     {
         let mut backward = Backward::empty(alloc, flow)?;
+        let mut from = 0;
         for q in 0..flow.exits.len() as u32 {
             backward.add_call(flow, q)?;
-            'edges: for number in flow.starts[q as usize]..flow.starts[q as usize + 1] {
+            let to = flow.starts[q as usize + 1];
+            'edges: for number in from..to {
                 backward.add_edge(flow, q, number)?;
             }
+            from = to;
         }
         Ok(backward)
     }

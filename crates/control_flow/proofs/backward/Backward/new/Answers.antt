@@ -12,7 +12,6 @@ loop-q-preserved c =
     let starts = flow.starts.items in
     let q = c.loop-q.q in
     let inside : q < points_of flow = omega arith in
-    let from : (c.index-number.result).now ≡ start_of flow q = get_or_read starts q (c.index-number.result).now (omega (arith, inside, c.requires.starts)) c.index-number.ensures 0 in
-    let to : (c.index-number-end.result).now ≡ start_of flow (q + 1) = get_or_read starts (q + 1) (c.index-number-end.result).now (omega (arith, inside, c.requires.starts)) c.index-number-end.ensures 0 in
-    let end : c.edges.number ≡ start_of flow (q + 1) = omega (arith, from, to, c.requires.ascending q inside) in
-    subst (IsBackwardTo flow c.edges.backward (q + 1)) end c.edges.invariant
+    let to : (c.index-to.result).now ≡ start_of flow (q + 1) = get_or_read starts (q + 1) (c.index-to.result).now (omega (arith, inside, c.requires.starts)) c.index-to.ensures 0 in
+    let end : c.edges.number ≡ start_of flow (q + 1) = omega (arith, c.loop-q.invariant.1, to, c.requires.ascending q inside) in
+    (subst (IsBackwardTo flow c.edges.backward (q + 1)) end c.edges.invariant, to)
