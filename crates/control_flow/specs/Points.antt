@@ -5,7 +5,6 @@ use Rattle.flow_defs.specs.Coded.{Coded}
 use Rattle.machine_defs.specs.Kept.{is_at_entry}
 use Rattle.flow_defs.specs.Arrival.{insn_of_object, is_dead_end}
 use Rattle.flow_defs.specs.Code.{point_at}
-use Rattle.flow_defs.specs.Owners.{function_of_point}
 use Rattle.flow_defs.specs.Program.{program_of}
 use Rattle.object_points.specs.Owners.{IsOwnerOf}
 use Rattle.program_graph.specs.Tells.{insn_of, place_of}
@@ -13,7 +12,6 @@ use Rattle.program_graph.specs.declared.parts.Owner.{Owner}
 use Rattle.program_graph.specs.declared.parts.GraphPoint.{GraphPoint}
 use Rattle.program_graph.specs.declared.parts.PointKind.{PointKind}
 use Rattle.control_flow.specs.declared.found_returns.Returns.{Returns}
-use Rattle.control_flow.specs.declared.points.Owned.{Owned}
 
 -- it is the kind of point q, where it is told whether a return may come from it on, and where what few points have and its
 -- transfer stand for it
@@ -24,16 +22,6 @@ pub record IsKind (o : Coded) (q : ℕ) (may_return : Bool) (rare transfer : ℕ
   pub dead_end : is_dead_end o (point_at o q) ≡ k.is_dead_end
   pub returns : may_return ≡ k.may_return
   pub entered : (lists : NameLists) → is_at_entry (program_of o lists) q ≡ k.is_entered
-
--- point q is of this function, and stands in this section
-pub record IsOf (o : Coded) (q : ℕ) (t : Owned) : Type 0 where
-  pub function : function_of_point o (point_at o q) ≡ t.function
-  pub section : (point_at o q).place.sec ≡ t.section
-
--- the owner that stands there is that of the points of this function in this section
-pub record AreOwnedBy (o : Coded) (owners : List Owner) (t : Owned) : Type 0 where
-  pub inside : t.number < length owners
-  pub each : (q : ℕ) (w : Owner) → IsOf o q t → slice_get owners t.number ≡ Some w → IsOwnerOf o q w
 
 -- it is point q, where it is told where its kind stands
 pub record IsPlaced (o : Coded) (owners : List Owner) (q kind : ℕ) (x : GraphPoint) : Type 0 where

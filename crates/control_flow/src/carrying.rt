@@ -11,18 +11,14 @@ use crate::return_search::Search;
 use crate::searched_flow::{Exit, Flow};
 use machine_defs::EdgeKind;
 
-/// Whether the target of a point's call returns, as far as it is known. What isn't a call passes, as most points do.
+/// Whether the target of a point's call returns, as far as it is known. What isn't a call passes.
 pub(crate) fn target_returns(flow: &Flow, known: &[bool], q: u32) -> bool
     requires shape { HasShape flow.now }
     requires known { length known.now ≡ points_of flow.now }
     requires point { q < points_of flow.now }
     ensures { result ≡ does_target_return known.now (exit_at flow.now q) }
 {
-    let exit = flow.exits[q as usize];
-    if let Exit::Passes = exit {
-        return true;
-    }
-    match exit {
+    match flow.exits[q as usize] {
         Exit::Calls { entry } => known[entry as usize],
         Exit::CallsNever => false,
         Exit::Leaves | Exit::CallsOut | Exit::Passes => true,

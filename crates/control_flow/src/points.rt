@@ -1,14 +1,12 @@
 //! The points of a graph.
 
-ghost use Rattle.std.specs.Prelude.{◌≡◌, ◌<◌, ◌^◌, IfOk, IfSome, IsTrue, length};
+ghost use Rattle.std.specs.Prelude.{◌≡◌, ◌<◌, ◌^◌, IfOk, length};
 ghost use Rattle.ot_base.specs.NameLists.{NameLists};
 ghost use Rattle.machine_defs.specs.Kept.{is_at_entry};
-ghost use Rattle.flow_defs.specs.Code.{point_at};
 ghost use Rattle.flow_defs.specs.Program.{program_of};
-ghost use Rattle.program_graph.specs.Tells.{place_of};
 ghost use Rattle.control_flow.specs.Shape.{HaveShape};
 ghost use Rattle.control_flow.specs.Listed.{AreEntered, count_of};
-ghost use Rattle.control_flow.specs.Points.{AreMade, AreOwnedBy, IsKind, IsOf};
+ghost use Rattle.control_flow.specs.Points.{AreMade, IsKind, IsPlaced};
 
 use crate::Returns;
 use crate::kinds::KindTable;
@@ -56,75 +54,17 @@ fn kind_of(
     })
 }
 
-/// Whose code the points of one function in one section are.
-#[derive(Clone, Copy)]
-struct Owned {
-    /// The function, or none.
-    function: Option<u32>,
-    /// The section.
-    section: u32,
-    /// Where their owner stands.
-    number: u32,
-}
-
-/// Whose code a point and others are, where the owner is guessed.
-#[inline(never)]
-fn owned_by_guess(
+/// The point with a number, whose kind has a number, where it is guessed where its owner stands.
+fn point_of(
     points: &FlowPoints<'_, '_, '_>,
     owners: &OwnerTable<'_, '_, '_>,
     n: u32,
     guess: u32,
-) -> Owned
+    kind: u32,
+) -> GraphPoint
     requires point { n < count_of points.now }
     requires owners { owners.now.elf ≡ points.now.elf }
-    ensures of { IsOf points.now n result }
-    ensures owned { AreOwnedBy points.now owners.now.owners result }
-{
-    let places = points.places();
-    Owned {
-        function: places.function(n),
-        section: places.point(n).place.sec,
-        number: owners.number_by_guess(places, n, guess),
-    }
-}
-
-/// Whether a point is one of these.
-#[inline(always)]
-fn is_of(points: &FlowPoints<'_, '_, '_>, n: u32, owned: Owned) -> bool
-    requires { n < count_of points.now }
-    ensures { IsTrue result → IsOf points.now n owned }
-{
-    let places = points.places();
-    places.function(n) == owned.function && places.point(n).place.sec == owned.section
-}
-
-/// Whose code a point and others are: those before, where it is one of them.
-#[inline(always)]
-fn owned_with(
-    points: &FlowPoints<'_, '_, '_>,
-    owners: &OwnerTable<'_, '_, '_>,
-    n: u32,
-    before: Option<Owned>,
-) -> Owned
-    requires point { n < count_of points.now }
-    requires owners { owners.now.elf ≡ points.now.elf }
-    requires before { IfSome before (AreOwnedBy points.now owners.now.owners) }
-    ensures of { IsOf points.now n result }
-    ensures owned { AreOwnedBy points.now owners.now.owners result }
-{
-    match before {
-        Some(owned) if is_of(points, n, owned) => owned,
-        Some(owned) => owned_by_guess(points, owners, n, owned.number),
-        None => owned_by_guess(points, owners, n, 0),
-    }
-}
-
-/// The point with a number, whose kind and owner have numbers.
-fn point_of(points: &FlowPoints<'_, '_, '_>, n: u32, owner: u32, kind: u32) -> GraphPoint
-    requires { n < count_of points.now }
-    ensures place { (point_at points.now n).place ≡ place_of result }
-    ensures kind { kind ≡ result.kind }
-    ensures owner { owner ≡ result.owner }
+    ensures { IsPlaced points.now owners.now.owners n kind result }
 {
     let places = points.places();
     let place = places.point(n).place;
@@ -132,7 +72,7 @@ fn point_of(points: &FlowPoints<'_, '_, '_>, n: u32, owner: u32, kind: u32) -> G
     GraphPoint {
         section: place.sec,
         offset: place.off as u32,
-        owner,
+        owner: owners.number_by_guess(places, n, guess),
         kind,
     }
 }
@@ -164,7 +104,7 @@ pub(crate) fn list_points(
     let count = count_points(points.places());
     let mut table = KindTable::new(alloc)?;
     let mut made = Vec::with_capacity(alloc, count as usize)?;
-    let mut before = None;
+    let mut guess = 0;
     for n in 0..count {
         let k = n as usize;
         let told = Told {
@@ -175,9 +115,9 @@ pub(crate) fn list_points(
         };
         let kind = kind_of(alloc, points, n, told)?;
         let number = table.number_of(kind)?;
-        let owned = owned_with(points, owners, n, before);
-        before = Some(owned);
-        made.push_reserved(point_of(points, n, owned.number, number));
+        let point = point_of(points, owners, n, guess, number);
+        guess = point.owner;
+        made.push_reserved(point);
     }
     Ok(PointList {
         points: made,

@@ -7,5 +7,5 @@ use Rattle.control_flow.proofs.carrying.target_returns.Goals as goal
 
 pub bounds-known-entry : goal.bounds-known-entry
 bounds-known-entry c =
-    let is : exit_at c.args.flow.now c.args.q ≡ Calls c.in-Calls.entry = sym (get_or_read c.args.flow.now.exits.items c.args.q (c.index-exit.result).now c.requires.point c.index-exit.ensures Passes) ∙ c.in-Calls.is in
+    let is : exit_at c.args.flow.now c.args.q ≡ Calls c.in-Calls.entry = sym (get_or_read c.args.flow.now.exits.items c.args.q (c.index.result).now c.requires.point c.index.ensures Passes) ∙ c.in-Calls.is in
     omega (arith, c.requires.shape.calls c.args.q c.in-Calls.entry is, c.requires.known)

@@ -1,5 +1,5 @@
 use Rattle.std.proofs.Common.{◌≡◌, ◌+◌, ◌<◌, ℕ, List, [], None, Option, Some, length, sym, ap, ◌∙◌, subst, arith}
-use Rattle.std.specs.Prelude.{◌↔◌, slice_get, slice_index_or}
+use Rattle.std.specs.Prelude.{◌↔◌, slice_index_or}
 use Rattle.std.proofs.lemmas.List.{get_or_default}
 use Rattle.flow_defs.specs.Coded.{Coded}
 use Rattle.program_graph.specs.declared.parts.GraphPoint.{GraphPoint}
@@ -8,7 +8,7 @@ use Rattle.control_flow.specs.Entered.{IsEnteredAt}
 use Rattle.control_flow.proofs.Standing.{program_enters}
 use Rattle.control_flow.specs.Listed.{count_of}
 use Rattle.control_flow.specs.Numbers.{IsNumbered}
-use Rattle.control_flow.specs.Points.{AreMade, IsPlaced}
+use Rattle.control_flow.specs.Points.{AreMade}
 use Rattle.control_flow.proofs.Making.{IsKindAt, kind_at, made_more, none_made}
 use Rattle.control_flow.proofs.points.list_points.Goals as goal
 
@@ -23,7 +23,6 @@ loop-n-init c =
           (subst (λ (kinds : List PointKind). AreMade o owners returns rares transfers kinds [] 0) (sym c.in_ok-table.ensures.kinds) (none_made o owners returns rares transfers)),
       omega (arith, ap length c.in_ok-table.ensures.kinds),
       c.in_ok-table.ensures.usual,
-      tt,
       c.in_ok-made.ensures.len,
       c.in_ok-made.ensures.exact,
     )
@@ -39,26 +38,19 @@ loop-n-preserved c =
     let after : List PointKind = c.number_of.new.self.kinds.items in
     let n : ℕ = c.loop-n.n in
     let k : PointKind = c.in_ok-kind.kind in
-    let x : GraphPoint = c.point_of.result in
+    let x : GraphPoint = c.point_of-point.result in
     let inside : n < count_of o = omega (arith, c.count_points-count.ensures, ap count_of c.places.ensures) in
     let in_may : n < length returns.may_return.items = omega (arith, c.requires.returns.may_return) in
     let in_rares : n < length rares = omega (arith, c.requires.rares) in
     let in_transfers : n < length transfers = omega (arith, c.requires.transfers) in
     let kind : IsKindAt o owners returns rares transfers n k = kind_at o owners returns rares transfers n k _ _ _ in_may c.index.ensures (get_or_default rares n _ 0 in_rares) (get_or_default transfers n _ 0 in_transfers) c.in_ok-kind.ensures in
-    let placed : IsPlaced o owners n c.in_ok-number.number x = record {
-      place = c.point_of.ensures.place;
-      kind_number = c.point_of.ensures.kind;
-      owner_inside = subst (λ (k : ℕ). k < length owners) c.point_of.ensures.owner c.owned_with-owned.ensures.owned.inside;
-      owner = λ w at. c.owned_with-owned.ensures.owned.each n w c.owned_with-owned.ensures.of (ap (slice_get owners) c.point_of.ensures.owner ∙ at);
-    } in
     let numbered : IsNumbered before after k c.in_ok-number.number = c.in_ok-number.ensures.numbered in (
       subst (λ (items : List GraphPoint). AreMade o owners returns rares transfers after items (n + 1)) (sym c.push_reserved.ensures.items)
-          (made_more o owners returns rares transfers before after k c.in_ok-number.number c.loop-n.made.items n x c.loop-n.invariant.0 numbered kind placed),
+          (made_more o owners returns rares transfers before after k c.in_ok-number.number c.loop-n.made.items n x c.loop-n.invariant.0 numbered kind c.point_of-point.ensures),
       omega (arith, numbered.short, c.loop-n.invariant.1),
       c.in_ok-number.ensures.usual,
-      c.owned_with-owned.ensures.owned,
-      omega (arith, c.push_reserved.ensures.len, c.loop-n.invariant.4),
-      c.push_reserved.ensures.capacity ∙ c.loop-n.invariant.5,
+      omega (arith, c.push_reserved.ensures.len, c.loop-n.invariant.3),
+      c.push_reserved.ensures.capacity ∙ c.loop-n.invariant.4,
     )
 
 pub kind_of-requires-clause-entered : goal.kind_of-requires-clause-entered
