@@ -1,15 +1,19 @@
 //! A graph and its getters.
 
-ghost use Rattle.std.specs.Prelude.{◌≡◌, ◌+◌, ◌<◌, ◌≤◌, ◌↔◌, Some, ℕ, All, Contains, IfSome, IsTrue, MatchOption, length, map, slice_get, slice_range};
-ghost use Rattle.machine_defs.specs.Program.{Program};
+ghost use Rattle.std.specs.Prelude.{◌≡◌, ◌+◌, ◌<◌, ◌≤◌, ◌↔◌, ◌∷◌, [], None, Some, ℕ, All, Contains, IfSome, IsTrue, MatchOption, length, map, slice_get, slice_range};
+ghost use Rattle.machine_defs.specs.Program.{Program, no_marks};
 ghost use Rattle.machine_defs.specs.Kept.{edges_of, is_at_entry};
 ghost use Rattle.program_graph.specs.Shape.{HaveShape, IsAlike, IsKindOf, listed_of, start_of};
 ghost use Rattle.program_graph.specs.Tells.{Means, Tells, TellsHinted, TellsKind, TellsOwner, TellsRare, TellsTransfer, TellsUnhinted, site_of, text_of};
+ghost use Rattle.program_graph.specs.declared.parts.Rare.{Rare as RareValue};
+ghost use Rattle.program_graph.specs.declared.parts.Transfer.{Transfer as TransferValue};
+ghost use Rattle.program_graph.specs.declared.usual.TheConstants.{USUAL_RARE, USUAL_TRANSFER};
 
 use crate::parts::{
     GraphParts, GraphPoint, GraphSite, Hinted, Owner, PointKind, Previous, Rare, TextSection,
     Transfer,
 };
+use crate::usual::{find_usual_rare, find_usual_transfer};
 use machine_defs::{Edge, EdgeKind, Marks, Role};
 use operation_defs::Insn;
 use ot_base::Place;
@@ -22,7 +26,13 @@ use state_defs::HintState;
 #[derive(Drop)]
 pub struct Graph {
     parts: GraphParts,
+    /// Where in the list of what few points have that of a usual point stands, or the list's length.
+    usual_rare: usize,
+    /// Where in the list of transfers that of a usual point stands, or the list's length.
+    usual_transfer: usize,
     ghost shape: { HaveShape parts },
+    ghost rare: { (r : RareValue) → slice_get parts.rares.items usual_rare ≡ Some r → r ≡ USUAL_RARE },
+    ghost transfer: { (t : TransferValue) → slice_get parts.transfers.items usual_transfer ≡ Some t → t ≡ USUAL_TRANSFER },
 }
 
 impl Graph {
@@ -31,7 +41,13 @@ impl Graph {
         requires { HaveShape parts }
         ensures { result.parts ≡ parts }
     {
-        Graph { parts }
+        let usual_rare = find_usual_rare(parts.rares.as_slice());
+        let usual_transfer = find_usual_transfer(parts.transfers.as_slice());
+        Graph {
+            parts,
+            usual_rare,
+            usual_transfer,
+        }
     }
 
     /// How many points there are.
@@ -120,6 +136,47 @@ impl Graph {
             Some(k) => Some(self.hinted_at(k)),
             None => None,
         }
+    }
+
+    /// Whether a point is known to be usual: it has no hint, no RESTORE means it, it is an instruction of the object's code,
+    /// and the one right before it has the number below.
+    pub fn is_usual(&self, n: u32) -> bool
+        requires { n < length self.now.parts.points.items }
+        ensures hint { IsTrue result → (p : Program) → Tells p self.now.parts → p.hint n ≡ None }
+        ensures meant { IsTrue result → (p : Program) → Tells p self.now.parts → (r : ℕ) → Means p n r → ⊥ }
+        ensures variant { IsTrue result → (p : Program) → Tells p self.now.parts → p.variant n ≡ 0 }
+        ensures address { IsTrue result → (p : Program) → Tells p self.now.parts → p.address n ≡ p.place n }
+    {
+        self.kind(n).rare as usize == self.usual_rare
+    }
+
+    /// Whether control is known to go from a point along its edges alone, and nothing to be wrong with where it goes.
+    pub fn goes_along_edges(&self, n: u32) -> bool
+        requires { n < length self.now.parts.points.items }
+        ensures role { IsTrue result → (p : Program) → Tells p self.now.parts → p.role n ≡ Role.Plain }
+        ensures marks { IsTrue result → (p : Program) → Tells p self.now.parts → p.marks n ≡ no_marks }
+    {
+        self.kind(n).transfer as usize == self.usual_transfer
+    }
+
+    /// A quick test whether two points are code of the same function: where it says so they are.
+    pub fn are_together(&self, one: u32, other: u32) -> bool
+        requires one { one < length self.now.parts.points.items }
+        requires other { other < length self.now.parts.points.items }
+        ensures owner { IsTrue result → (p : Program) → Tells p self.now.parts → p.owner one ≡ p.owner other }
+        ensures unchecked { IsTrue result → (p : Program) → Tells p self.now.parts → p.unchecked one ≡ p.unchecked other }
+    {
+        self.point(one).owner == self.point(other).owner
+    }
+
+    /// Whether two points have one owner.
+    #[inline(always)]
+    pub fn have_one_owner(&self, one: u32, other: u32) -> bool
+        requires one { one < length self.now.parts.points.items }
+        requires other { other < length self.now.parts.points.items }
+        ensures { (p : Program) → Tells p self.now.parts → IsTrue result ↔ p.owner one ≡ p.owner other }
+    {
+        self.are_together(one, other) || self.owner(one) == self.owner(other)
     }
 
     /// A point's instruction.
@@ -298,6 +355,20 @@ impl Graph {
             Some(first) => self.listed(first),
             None => self.listed(n),
         }
+    }
+
+    /// The edge along which control goes from a point, where it is the only one.
+    #[inline(always)]
+    pub fn only_edge(&self, n: u32) -> Option<Edge>
+        requires { n < length self.now.parts.points.items }
+        ensures edges { IfSome result (λ edge. (p : Program) → Tells p self.now.parts → edges_of p n ≡ edge ∷ []) }
+        ensures within { IfSome result (λ edge. edge.to < length self.now.parts.points.items) }
+    {
+        let edges = self.successors(n);
+        if edges.len() != 1 {
+            return None;
+        }
+        Some(edges[0])
     }
 
     /// What a point is to its function.

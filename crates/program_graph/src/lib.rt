@@ -4,6 +4,7 @@
 
 mod graph;
 mod parts;
+mod usual;
 
 pub use graph::Graph;
 pub use parts::{
