@@ -87,7 +87,15 @@ fn is_hinted(graph: &Graph, n: u32) -> bool
     ensures hint { result ≡ false → (p : Program) → Tells p graph.now.parts → p.hint n ≡ None }
     ensures meant { result ≡ false → (p : Program) → Tells p graph.now.parts → (r : ℕ) → Means p n r → ⊥ }
 {
-    graph.hint(n).is_some() || !graph.restores(n).is_empty()
+    !graph.is_usual(n) && (graph.hint(n).is_some() || !graph.restores(n).is_empty())
+}
+
+/// Whether the hint at a point, if it has one, lets states come in along edges.
+fn takes_states(graph: &Graph, n: u32) -> bool
+    requires { n < length graph.now.parts.points.items }
+    ensures { (p : Program) → Tells p graph.now.parts → result ≡ is_free_hint (p.hint n) }
+{
+    graph.is_usual(n) || is_free(graph.hint(n))
 }
 
 /// Whether a point may be of level 0, or meant by a RESTORE.
@@ -99,14 +107,10 @@ fn is_special(graph: &Graph, n: u32) -> bool
     is_hinted(graph, n) || graph.is_entered(n)
 }
 
-/// Whether the edges of a point are one, a Next to the next point.
-fn lead_straight(edges: &[Edge], n: u32) -> bool
-    ensures { IsTrue result → edges.now ≡ next_edge n ∷ [] }
+/// Whether an edge of a point is a Next to the next point.
+fn leads_straight(edge: Edge, n: u32) -> bool
+    ensures { IsTrue result → edge ≡ next_edge n }
 {
-    if edges.len() != 1 {
-        return false;
-    }
-    let edge = edges[0];
     match edge.kind {
         EdgeKind::Next => u64::from(edge.to) == u64::from(n) + 1,
         EdgeKind::Taken | EdgeKind::Fixup | EdgeKind::Table | EdgeKind::Sibling => false,
@@ -122,22 +126,21 @@ fn giving_of(graph: &Graph, n: u32) -> Giving
     if is_special(graph, n) {
         return Giving::Special;
     }
-    if lead_straight(graph.successors(n), n) {
-        Giving::Straight
-    } else {
-        Giving::AlongEdges
+    match graph.only_edge(n) {
+        Some(edge) if leads_straight(edge, n) => Giving::Straight,
+        Some(_) | None => Giving::AlongEdges,
     }
 }
 
-/// How states pass a point.
+/// How states pass a point, whose owner is checked or not.
 #[inline(always)]
-pub(crate) fn passage_of(graph: &Graph, n: u32) -> Passage
-    requires { n < length graph.now.parts.points.items }
+pub(crate) fn passage_of(graph: &Graph, n: u32, is_unchecked: bool) -> Passage
+    requires point { n < length graph.now.parts.points.items }
+    requires unchecked { (p : Program) → Tells p graph.now.parts → is_unchecked ≡ p.unchecked n }
     ensures { (p : Program) → Tells p graph.now.parts → IsPassage p n result }
 {
-    let is_free = is_free(graph.hint(n));
     Passage {
-        is_open: !graph.unchecked(n) && is_free,
+        is_open: !is_unchecked && takes_states(graph, n),
         is_neutral: is_neutral(graph.insn(n).op),
         giving: giving_of(graph, n),
     }

@@ -50,9 +50,9 @@ fn sites_below(graph: &Graph, least: usize, place: Place) -> usize {
     sites.len()
 }
 
-/// Whether states go from a point of a run, which begins at `from` and has this owner, to code of another. A point that
-/// has the edges of an earlier one of the run isn't asked, as that one is.
-fn leads_away(graph: &Graph, n: u32, from: u32, owner: Option<u32>) -> bool
+/// Whether states go from a point of a run, which begins at `from`, to code of another owner. A point that has the edges of
+/// an earlier one of the run isn't asked, as that one is.
+fn leads_away(graph: &Graph, n: u32, from: u32) -> bool
     requires { n < length graph.now.parts.points.items }
 {
     let edges = graph.successors(n);
@@ -62,30 +62,47 @@ fn leads_away(graph: &Graph, n: u32, from: u32, owner: Option<u32>) -> bool
         return first < from || n <= first;
     }
     for edge in edges {
-        if edge.kind != EdgeKind::Sibling && graph.owner(edge.to) != owner {
+        if edge.kind != EdgeKind::Sibling && !graph.have_one_owner(edge.to, n) {
             return true;
         }
     }
     false
 }
 
-/// Tells how states pass a point of such a run, and whether they go from it to code of another owner. A point that gives
-/// to the next one alone isn't asked: that one is of the run too, unless the run ends there.
+/// Whether the owner of a point isn't checked, where it is known of another point.
+fn is_unchecked_as(graph: &Graph, n: u32, other: u32, is_unchecked: bool) -> bool
+    requires point { n < length graph.now.parts.points.items }
+    requires other { other < length graph.now.parts.points.items }
+    requires known { (p : Program) → Tells p graph.now.parts → is_unchecked ≡ p.unchecked other }
+    ensures { (p : Program) → Tells p graph.now.parts → result ≡ p.unchecked n }
+{
+    if graph.are_together(n, other) {
+        is_unchecked
+    } else {
+        graph.unchecked(n)
+    }
+}
+
+/// Tells how states pass a point of such a run, whose first point is known to be checked or not, and whether they go from it
+/// to code of another owner. A point that gives to the next one alone isn't asked: that one is of the run too, unless the
+/// run ends there.
 #[inline(always)]
 fn tell_point(
     graph: &Graph,
     passages: &mut Vec<Passage>,
     n: u32,
     from: u32,
-    owner: Option<u32>,
+    is_unchecked: bool,
 ) -> bool
     requires point { n < length graph.now.parts.points.items }
+    requires from { from < length graph.now.parts.points.items }
+    requires unchecked { (p : Program) → Tells p graph.now.parts → is_unchecked ≡ p.unchecked from }
     requires passages { length passages.old.items ≡ length graph.now.parts.points.items }
     ensures passages { length passages.new.items ≡ length passages.old.items }
     ensures told { (p : Program) → Tells p graph.now.parts → AreToldBelow p passages.old.items n → AreToldBelow p passages.new.items (n + 1) }
 {
-    let passage = passage_of(graph, n);
-    let is_away = !passage.is_straight() && leads_away(graph, n, from, owner);
+    let passage = passage_of(graph, n, is_unchecked_as(graph, n, from, is_unchecked));
+    let is_away = !passage.is_straight() && leads_away(graph, n, from);
     passages[n as usize] = passage;
     is_away
 }
@@ -108,11 +125,13 @@ pub(crate) fn tell_run(graph: &Graph, passages: &mut Vec<Passage>, from: u32, be
     ensures within { result.end ≤ length graph.now.parts.points.items }
 {
     let sites = sites_below(graph, before.sites, graph.place(from));
-    let owner = graph.owner(from);
-    let is_away = tell_point(graph, passages, from, from, owner);
-    let mut is_mixed = is_away || owner.is_none() || has_alternatives(graph, from, sites);
+    let is_unchecked = graph.unchecked(from);
+    let is_away = tell_point(graph, passages, from, from, is_unchecked);
+    let mut is_mixed = is_away
+        || graph.owner(from).is_none()
+        || has_alternatives(graph, from, sites);
     for n in from + 1..graph.points() {
-        if graph.owner(n) != owner {
+        if !graph.have_one_owner(n, from) {
             let is_passed = passage_at(passages, n - 1).is_straight();
             return Run {
                 end: n,
@@ -120,7 +139,7 @@ pub(crate) fn tell_run(graph: &Graph, passages: &mut Vec<Passage>, from: u32, be
                 sites,
             };
         }
-        let is_away = tell_point(graph, passages, n, from, owner);
+        let is_away = tell_point(graph, passages, n, from, is_unchecked);
         is_mixed = is_mixed || is_away;
     }
     Run {
