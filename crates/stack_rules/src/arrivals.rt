@@ -51,7 +51,7 @@ pub(crate) fn falls_out(graph: &Graph, n: u32, edge: Edge) -> bool
     ensures { (p : Program) → Tells p graph.now.parts → IsTrue result ↔ (edge.kind ≡ EdgeKind.Next × p.owner edge.to ≢ p.owner n) }
 {
     match edge.kind {
-        EdgeKind::Next => graph.owner(edge.to) != graph.owner(n),
+        EdgeKind::Next => !graph.have_one_owner(edge.to, n),
         EdgeKind::Taken | EdgeKind::Fixup | EdgeKind::Table | EdgeKind::Sibling => false,
     }
 }

@@ -91,11 +91,9 @@ fn all_pass(graph: &Graph, kept: &Kept, n: u32) -> bool
     requires point { n < length graph.now.parts.points.items }
     ensures { IsTrue result → (p : Program) → Tells p graph.now.parts → All (Passes p kept.now n) (edges_of p n) }
 {
-    let edges = graph.successors(n);
-    if edges.len() == 1 {
-        passes(graph, kept, n, edges[0])
-    } else {
-        each_passes(graph, kept, n, edges)
+    match graph.only_edge(n) {
+        Some(edge) => passes(graph, kept, n, edge),
+        None => each_passes(graph, kept, n, graph.successors(n)),
     }
 }
 
@@ -107,7 +105,7 @@ fn are_alike(graph: &Graph, kept: &Kept, one: u32, other: u32) -> bool
     ensures owner { IsTrue result → (p : Program) → Tells p graph.now.parts → p.owner one ≡ p.owner other }
     ensures state { IsTrue result → at kept.now one ≡ at kept.now other }
 {
-    graph.owner(one) == graph.owner(other) && kept.are_alike(one, other)
+    graph.have_one_owner(one, other) && kept.are_alike(one, other)
 }
 
 /// Whether each edge of a point passes. Where they are those of another point with the same owner and state, they pass
@@ -155,7 +153,7 @@ fn stays_next(graph: &Graph, n: u32, edge: Edge) -> bool
     ensures next { IsTrue result → edge.kind ≡ EdgeKind.Next }
     ensures owner { IsTrue result → (p : Program) → Tells p graph.now.parts → p.owner edge.to ≡ p.owner n }
 {
-    is_next(edge.kind) && graph.owner(edge.to) == graph.owner(n)
+    is_next(edge.kind) && graph.have_one_owner(edge.to, n)
 }
 
 /// Whether an operation moves the state of a point to that of another.
@@ -183,11 +181,9 @@ fn moves_on(graph: &Graph, kept: &Kept, n: u32) -> bool
     ensures moves { IsTrue result → (p : Program) → Tells p graph.now.parts → (s : State) → at kept.now n ≡ Some s → (t : State) × (move s (p.insn n).op ≡ Ok t) }
     ensures leads { IsTrue result → (p : Program) → Tells p graph.now.parts → (s : State) → at kept.now n ≡ Some s → All (Leads p kept.now n s) (edges_of p n) }
 {
-    let edges = graph.successors(n);
-    if edges.len() != 1 {
+    let Some(edge) = graph.only_edge(n) else {
         return false;
-    }
-    let edge = edges[0];
+    };
     if !stays_next(graph, n, edge) {
         return false;
     }
@@ -203,6 +199,15 @@ fn is_indirect_jump(op: Op) -> bool {
     matches!(op, Op::JmpInd { .. })
 }
 
+/// Whether where control goes from a point asks nothing of a state.
+fn asks_nothing(graph: &Graph, n: u32) -> bool
+    requires { n < length graph.now.parts.points.items }
+    ensures stays { IsTrue result → (p : Program) → Tells p graph.now.parts → stays_by (p.role n) ≡ true }
+    ensures unmarked { IsTrue result → (p : Program) → Tells p graph.now.parts → is_unmarked_by (p.marks n) ≡ true }
+{
+    graph.goes_along_edges(n) || stays(graph.role(n)) && is_unmarked(graph.marks(n))
+}
+
 /// Whether a state is kept at a point whose numbers are near and whose row fits, and where control goes from it asks nothing of a state.
 #[inline(always)]
 fn is_allowed(graph: &Graph, kept: &Kept, n: u32) -> bool
@@ -214,7 +219,7 @@ fn is_allowed(graph: &Graph, kept: &Kept, n: u32) -> bool
     ensures stays { IsTrue result → (p : Program) → Tells p graph.now.parts → stays_by (p.role n) ≡ true }
     ensures unmarked { IsTrue result → (p : Program) → Tells p graph.now.parts → is_unmarked_by (p.marks n) ≡ true }
 {
-    kept.is_short(n) && stays(graph.role(n)) && is_unmarked(graph.marks(n))
+    kept.is_short(n) && asks_nothing(graph, n)
 }
 
 /// Whether it is quickly seen that no rule is broken at a point. Points are known all of whose edges pass, of those that

@@ -1,9 +1,7 @@
 -- The single edge leads to where the moved state is kept.
-use Rattle.std.proofs.Common.{◌≡◌, true, false, arith, ap, sym, ◌∙◌}
+use Rattle.std.proofs.Common.{◌≡◌, [], ◌∷◌, true, false, arith, refl, ap, sym, ◌∙◌}
 use Rattle.std.proofs.lemmas.List.Elements.{All-same}
 use Rattle.operation_defs.specs.declared.insn.Insn.{Insn}
-use Rattle.machine_defs.specs.declared.flow.Edge.{Edge}
-use Rattle.machine_defs.specs.declared.flow.EdgeKind.TheVariants.{Next}
 use Rattle.state_defs.specs.Move.{move}
 use Rattle.stack_rules.specs.Quiet.{Leads, is_exit}
 use Rattle.stack_rules.proofs.QuietPoints.{next_leads, single}
@@ -21,10 +19,10 @@ returns-clause-moves c moves p tells s some =
 
 pub returns-clause-leads : goal.returns-clause-leads
 returns-clause-leads c moves p tells s some =
-    let none : Edge = record { to = 0; kind = Next } in
+    let edge = c.in-Some.edge in
     let stay : c.stays_next.result ≡ true = (let h = c.if-not-stays_next.false in grind arith) in
     let r = c.moves_to.ensures moves s some in
     let moved = ap (λ (i : Insn). move s i.op) (sym (c.insn-op.ensures p tells)) ∙ r.1 in
-    All-same (Leads p c.args.kept.now c.args.n s) _ _ (sym (c.successors-edges.ensures.edges p tells))
-    (single (Leads p c.args.kept.now c.args.n s) c.successors-edges.result.now none c.if-edges-ne1.false
+    All-same (Leads p c.args.kept.now c.args.n s) _ _ (c.in-Some.ensures.edges p tells)
+    (single (Leads p c.args.kept.now c.args.n s) (edge ∷ []) edge refl
     (next_leads p c.args.kept.now c.args.n s r.0 _ (c.stays_next.ensures.next stay) (c.stays_next.ensures.owner stay p tells) moved r.2))
