@@ -118,14 +118,6 @@ impl Graph {
         &self.parts.restores[hinted.restores_from as usize..hinted.restores_to as usize]
     }
 
-    /// Where in the list of edges those of a point begin.
-    fn start(&self, n: usize) -> usize
-        requires { n < length self.now.parts.starts.items }
-        ensures { result ≡ start_of self.now.parts n }
-    {
-        self.parts.starts[n] as usize
-    }
-
     /// What a point has of hints, where it has something.
     fn hinted(&self, n: u32) -> Option<&Hinted>
         requires { n < length self.now.parts.points.items }
@@ -208,6 +200,9 @@ impl Graph {
         requires { n < length self.now.parts.points.items }
         ensures { (p : Program) → Tells p self.now.parts → result ≡ p.address n }
     {
+        if self.is_usual(n) {
+            return self.place(n);
+        }
         match self.rare(n).replaced {
             Some(replaced) => Place {
                 sec: replaced.section,
@@ -314,9 +309,8 @@ impl Graph {
         ensures edges { result.now ≡ listed_of self.now.parts n }
         ensures within { All (λ e. e.to < length self.now.parts.points.items) result.now }
     {
-        let from = self.start(n as usize);
-        let to = self.start(n as usize + 1);
-        &self.parts.edges[from..to]
+        let starts = &self.parts.starts[n as usize..n as usize + 2];
+        &self.parts.edges[starts[0] as usize..starts[1] as usize]
     }
 
     /// Whether a point is listed as one that has the edges of another.

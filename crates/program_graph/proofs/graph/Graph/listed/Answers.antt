@@ -7,5 +7,5 @@ use Rattle.program_graph.proofs.graph.Graph.listed.Goals as goal
 pub returns-clause-within : goal.returns-clause-within
 returns-clause-within c =
     let P : Edge → Type 0 = λ e. e.to < length c.args.self.now.parts.points.items in
-    let all : All P c.deref.result.now = rw c.deref.ensures.value c.args.self.now.shape.targets in
+    let all : All P c.deref-2.result.now = rw c.deref-2.ensures.value c.args.self.now.shape.targets in
     All-take P _ _ (All-drop P _ _ all)
