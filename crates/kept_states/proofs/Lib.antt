@@ -12,3 +12,4 @@ pub mod Slots
 pub mod NeutralMoves
 pub mod PassageLemmas
 pub mod Straight
+pub mod WordMoves

@@ -28,10 +28,10 @@ round_trip n fits e =
 pub opposite_fits : (n : ℤ) → SFits w16 n → int_le (negsuc 32766) n ≡ true → has_16_bits (neg_ℤ n) ≡ true
 opposite_fits n fits above = grind (arith, ints)
 
-near_of : (n : ℤ) → has_16_bits n ≡ true → is_near n ≡ true
+pub near_of : (n : ℤ) → has_16_bits n ≡ true → is_near n ≡ true
 near_of n e = grind (arith, ints)
 
-short_is_near : (shape : Shape) (n : Numbers) → is_near n.depth ≡ true → is_near n.fp ≡ true → is_near n.home ≡ true → has_near_numbers (with_numbers shape n) ≡ true
+pub short_is_near : (shape : Shape) (n : Numbers) → is_near n.depth ≡ true → is_near n.fp ≡ true → is_near n.home ≡ true → has_near_numbers (with_numbers shape n) ≡ true
 short_is_near Known n d f h = rw d refl
 short_is_near KnownSaved n d f h = rw (d, h) refl
 short_is_near KnownFramed n d f h = rw (d, f) refl

@@ -10,3 +10,4 @@ pub mod Ranks
 pub mod Reached
 pub mod Region
 pub mod Told
+pub mod Words

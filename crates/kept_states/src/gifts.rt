@@ -4,18 +4,17 @@ ghost use Rattle.std.specs.Prelude.{◌≡◌, ◌<◌, Some, length};
 ghost use Rattle.state_defs.specs.declared.state.State.{State as StateValue};
 ghost use Rattle.state_defs.specs.Move.{move};
 ghost use Rattle.machine_defs.specs.Program.{Program};
-ghost use Rattle.machine_defs.specs.Kept.{brought_along, moved};
+ghost use Rattle.machine_defs.specs.Kept.{brought_along, moved as moved_by};
 ghost use Rattle.program_graph.specs.Tells.{Tells};
 ghost use Rattle.kept_states.specs.LevelStates.{StaysSame, at};
 ghost use Rattle.kept_states.specs.Passages.{ArePassages};
 ghost use Rattle.kept_states.specs.Told.{given_along, given_to_restore, offer_all};
 
 use crate::levels::Levels;
-use crate::packed::PackedState;
+use crate::moves::moved;
 use crate::passages::{Passage, passage_at};
 use machine_defs::{Edge, EdgeKind};
 use program_graph::Graph;
-use stack_state::step;
 
 /// Offers a point the state that another one keeps, moved by its operation, if that isn't refused.
 #[inline(never)]
@@ -28,13 +27,13 @@ fn offer_stepped(graph: &Graph, levels: &mut Levels, from: u32, to: u32)
     ensures done { levels.new.done ≡ levels.old.done }
     ensures same { StaysSame levels.old levels.new }
     ensures len { length levels.new.next.states ≡ length levels.old.next.states }
-    ensures next { (p : Program) (s : StateValue) → Tells p graph.now.parts → at levels.old.kept from ≡ Some s → levels.new.next ≡ offer_all levels.old.kept levels.old.next to (moved (move s (p.insn from).op)) }
+    ensures next { (p : Program) (s : StateValue) → Tells p graph.now.parts → at levels.old.kept from ≡ Some s → levels.new.next ≡ offer_all levels.old.kept levels.old.next to (moved_by (move s (p.insn from).op)) }
 {
-    let Some(state) = levels.state(from) else {
+    let Some(state) = levels.packed(from) else {
         return;
     };
-    if let Ok(after) = step(state, graph.insn(from).op) {
-        levels.offer(to, PackedState::new(after));
+    if let Some(after) = moved(state, graph.insn(from).op) {
+        levels.offer(to, after);
     }
 }
 
@@ -58,7 +57,7 @@ pub(crate) fn offer_moved(
     ensures done { levels.new.done ≡ levels.old.done }
     ensures same { StaysSame levels.old levels.new }
     ensures len { length levels.new.next.states ≡ length levels.old.next.states }
-    ensures next { (p : Program) (s : StateValue) → Tells p graph.now.parts → at levels.old.kept from ≡ Some s → levels.new.next ≡ offer_all levels.old.kept levels.old.next to (moved (move s (p.insn from).op)) }
+    ensures next { (p : Program) (s : StateValue) → Tells p graph.now.parts → at levels.old.kept from ≡ Some s → levels.new.next ≡ offer_all levels.old.kept levels.old.next to (moved_by (move s (p.insn from).op)) }
 {
     if passage_at(passages, from).is_neutral && levels.is_short(from) {
         levels.pass_on(to, from);

@@ -100,7 +100,7 @@ impl Levels {
 
     /// The state that a point keeps, packed.
     #[inline(always)]
-    fn packed(&self, n: u32) -> Option<PackedState>
+    pub(crate) fn packed(&self, n: u32) -> Option<PackedState>
         requires { n < length self.now.kept }
         ensures { option_map state_of result ≡ at self.now.kept n }
     {

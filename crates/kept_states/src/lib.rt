@@ -7,6 +7,7 @@ mod batches;
 mod done;
 mod gifts;
 mod levels;
+mod moves;
 mod neutral;
 mod order;
 mod packed;

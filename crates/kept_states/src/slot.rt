@@ -1,12 +1,14 @@
 //! A state in 8 bytes.
 
-ghost use Rattle.std.specs.Prelude.{◌≡◌, IsTrue, None, false, true};
-ghost use Rattle.state_defs.specs.Move.{has_near_numbers};
+ghost use Rattle.std.specs.Prelude.{◌≡◌, IfSome, IsTrue, None, Ok, false, true};
+ghost use Rattle.state_defs.specs.Move.{has_near_numbers, move};
 ghost use Rattle.state_defs.specs.Row.{has_16_bits as has_16_bits_spec, unfit_offset};
 ghost use Rattle.kept_states.specs.declared.parts.Numbers.{Numbers as NumbersValue};
 ghost use Rattle.kept_states.specs.Packed.{short_numbers, state_in};
+ghost use Rattle.kept_states.specs.Words.{floor_in, is_live as is_live_shape};
 
 use crate::parts::{Numbers, Parts, Shape};
+use operation_defs::Op;
 
 /// A state whose numbers have 16 bits each, or a wide one, with a number that has more: its numbers stand elsewhere,
 /// and are 0 here.
@@ -25,6 +27,46 @@ fn has_16_bits(number: i64) -> bool
     ensures { result ≡ has_16_bits_spec number }
 {
     -32768 <= number && number <= 32767
+}
+
+/// The bytes that a push moves rsp by.
+const WORD: i16 = 8;
+
+/// Whether a state of this shape is live.
+fn is_live(shape: Shape) -> bool
+    ensures { result ≡ is_live_shape shape }
+{
+    match shape {
+        Shape::Known
+        | Shape::KnownSaved
+        | Shape::KnownFramed
+        | Shape::KnownFramedSaved
+        | Shape::AtLeast
+        | Shape::AtLeastSaved
+        | Shape::AtLeastFramed
+        | Shape::AtLeastFramedSaved => true,
+        Shape::Undefined | Shape::EndOfStack | Shape::Regs | Shape::FullRegs => false,
+    }
+}
+
+/// The lowest depth that leaves everything at or above rsp that a live state of this shape needs.
+fn floor(shape: Shape, home: i16) -> i16
+    ensures { result ≡ floor_in shape home }
+{
+    match shape {
+        Shape::KnownSaved
+        | Shape::KnownFramedSaved
+        | Shape::AtLeastSaved
+        | Shape::AtLeastFramedSaved => home,
+        Shape::Known
+        | Shape::KnownFramed
+        | Shape::AtLeast
+        | Shape::AtLeastFramed
+        | Shape::Undefined
+        | Shape::EndOfStack
+        | Shape::Regs
+        | Shape::FullRegs => WORD,
+    }
 }
 
 impl Slot {
@@ -98,5 +140,54 @@ impl Slot {
                 & (self.depth == other.depth)
                 & (self.fp == other.fp)
                 & (self.home == other.home)
+    }
+
+    /// The slot of a live state that isn't wide, after a push.
+    fn pushed(self) -> Option<Slot>
+        ensures { IfSome result (λ slot. (wide other : NumbersValue) → (move (state_in self wide) Op.Push ≡ Ok (state_in slot other)) × (move (state_in self wide) Op.Hop ≡ Ok (state_in slot other))) }
+    {
+        if self.is_wide || !is_live(self.shape) || self.depth > i16::MAX - WORD {
+            return None;
+        }
+        Some(Slot {
+            shape: self.shape,
+            is_wide: false,
+            depth: self.depth + WORD,
+            fp: self.fp,
+            home: self.home,
+        })
+    }
+
+    /// The slot of a live state that isn't wide, after a pop.
+    fn popped(self) -> Option<Slot>
+        ensures { IfSome result (λ slot. (wide other : NumbersValue) → (move (state_in self wide) Op.Pop ≡ Ok (state_in slot other)) × (move (state_in self wide) Op.Popf ≡ Ok (state_in slot other))) }
+    {
+        if self.is_wide || !is_live(self.shape) || self.depth < i16::MIN + WORD {
+            return None;
+        }
+        let depth = self.depth - WORD;
+        if depth < floor(self.shape, self.home) {
+            return None;
+        }
+        Some(Slot {
+            shape: self.shape,
+            is_wide: false,
+            depth,
+            fp: self.fp,
+            home: self.home,
+        })
+    }
+
+    /// The slot of the state after an operation, where that pushes or pops a word and it is quickly seen that it isn't
+    /// refused.
+    #[inline(always)]
+    pub(crate) fn quickly_moved(self, op: Op) -> Option<Slot>
+        ensures { IfSome result (λ slot. (wide other : NumbersValue) → move (state_in self wide) op ≡ Ok (state_in slot other)) }
+    {
+        match op {
+            Op::Push | Op::Hop => self.pushed(),
+            Op::Pop | Op::Popf => self.popped(),
+            _ => None,
+        }
     }
 }

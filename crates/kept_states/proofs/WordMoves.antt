@@ -1,0 +1,128 @@
+-- Where a word is pushed or popped, a live state keeps its shape.
+use Rattle.std.proofs.Common.{◌≡◌, true, false, ℤ, SFits, w16, to_z, of_z, Option, Some, None, Ok, ◌⊎◌, inl, inr, refl, ap, sym, subst, ◌∙◌, arith}
+use Rattle.std.specs.Prelude.{IfSome, pos, negsuc, int_lt, ◌+ℤ◌, ◌-ℤ◌}
+use Rattle.std.proofs.lemmas.Int.{ints, to_z-of_z}
+use Rattle.operation_defs.specs.declared.op.Op.{Op}
+use Rattle.operation_defs.specs.declared.op.Op.TheVariants.{Push, Hop, Pop, Popf}
+use Rattle.state_defs.specs.declared.state.State.{State}
+use Rattle.state_defs.specs.Move.{has_near_numbers, move, to}
+use Rattle.state_defs.specs.Row.{has_16_bits}
+use Rattle.kept_states.specs.declared.parts.Numbers.{Numbers}
+use Rattle.kept_states.specs.declared.parts.Shape.{Shape}
+use Rattle.kept_states.specs.declared.parts.Shape.TheVariants.{Known, KnownSaved, KnownFramed, KnownFramedSaved, AtLeast, AtLeastSaved, AtLeastFramed, AtLeastFramedSaved, Undefined, EndOfStack, Regs, FullRegs}
+use Rattle.kept_states.specs.declared.slot.Slot.{Slot}
+use Rattle.kept_states.specs.Packed.{short_numbers, state_in, with_numbers}
+use Rattle.kept_states.specs.Words.{is_live, floor_in}
+use Rattle.kept_states.proofs.Short.{in_16_bits, near_of, short_is_near}
+
+to_near : (s : State) → has_near_numbers s ≡ true → to s ≡ Ok s
+to_near s e = rw e refl
+
+abbrev pub at_depth : Numbers → ℤ → Numbers
+at_depth n depth = record { depth = depth; fp = n.fp; home = n.home }
+
+pub push_word : (shape : Shape) (n : Numbers) → is_live shape ≡ true → has_near_numbers (with_numbers shape (at_depth n (n.depth +ℤ pos 8))) ≡ true → (move (with_numbers shape n) Push ≡ Ok (with_numbers shape (at_depth n (n.depth +ℤ pos 8)))) × (move (with_numbers shape n) Hop ≡ Ok (with_numbers shape (at_depth n (n.depth +ℤ pos 8))))
+push_word Known n l near = (to_near _ near, to_near _ near)
+push_word KnownSaved n l near = (to_near _ near, to_near _ near)
+push_word KnownFramed n l near = (to_near _ near, to_near _ near)
+push_word KnownFramedSaved n l near = (to_near _ near, to_near _ near)
+push_word AtLeast n l near = (to_near _ near, to_near _ near)
+push_word AtLeastSaved n l near = (to_near _ near, to_near _ near)
+push_word AtLeastFramed n l near = (to_near _ near, to_near _ near)
+push_word AtLeastFramedSaved n l near = (to_near _ near, to_near _ near)
+push_word Undefined n l near = absurd (let z : ⊥ = cc in z)
+push_word EndOfStack n l near = absurd (let z : ⊥ = cc in z)
+push_word Regs n l near = absurd (let z : ⊥ = cc in z)
+push_word FullRegs n l near = absurd (let z : ⊥ = cc in z)
+
+pub pop_word : (shape : Shape) (n : Numbers) → is_live shape ≡ true → int_lt (n.depth -ℤ pos 8) (floor_in shape n.home) ≡ false → has_near_numbers (with_numbers shape (at_depth n (n.depth -ℤ pos 8))) ≡ true → (move (with_numbers shape n) Pop ≡ Ok (with_numbers shape (at_depth n (n.depth -ℤ pos 8)))) × (move (with_numbers shape n) Popf ≡ Ok (with_numbers shape (at_depth n (n.depth -ℤ pos 8))))
+pop_word Known n l over near = (rw over (to_near _ near), rw over (to_near _ near))
+pop_word KnownSaved n l over near = (rw over (to_near _ near), rw over (to_near _ near))
+pop_word KnownFramed n l over near = (rw over (to_near _ near), rw over (to_near _ near))
+pop_word KnownFramedSaved n l over near = (rw over (to_near _ near), rw over (to_near _ near))
+pop_word AtLeast n l over near = (rw over (to_near _ near), rw over (to_near _ near))
+pop_word AtLeastSaved n l over near = (rw over (to_near _ near), rw over (to_near _ near))
+pop_word AtLeastFramed n l over near = (rw over (to_near _ near), rw over (to_near _ near))
+pop_word AtLeastFramedSaved n l over near = (rw over (to_near _ near), rw over (to_near _ near))
+pop_word Undefined n l over near = absurd (let z : ⊥ = cc in z)
+pop_word EndOfStack n l over near = absurd (let z : ⊥ = cc in z)
+pop_word Regs n l over near = absurd (let z : ⊥ = cc in z)
+pop_word FullRegs n l over near = absurd (let z : ⊥ = cc in z)
+
+pub up_fits : (n : ℤ) → SFits w16 n → int_lt (pos 32759) n ≡ false → SFits w16 (n +ℤ pos 8)
+up_fits n fits e = grind (arith, ints)
+
+pub down_fits : (n : ℤ) → SFits w16 n → int_lt n (negsuc 32759) ≡ false → SFits w16 (n -ℤ pos 8)
+down_fits n fits e = grind (arith, ints)
+
+-- what is read, moved, written and read back
+pub read_up : (n : ℤ) → SFits w16 n → int_lt (pos 32759) (to_z w16 (of_z w16 n)) ≡ false → to_z w16 (of_z w16 (to_z w16 (of_z w16 n) +ℤ pos 8)) ≡ n +ℤ pos 8
+read_up n fits e =
+    let same : to_z w16 (of_z w16 n) ≡ n = to_z-of_z w16 n fits in
+    ap (λ (m : ℤ). to_z w16 (of_z w16 (m +ℤ pos 8))) same ∙ to_z-of_z w16 (n +ℤ pos 8) (up_fits n fits (subst (λ (m : ℤ). int_lt (pos 32759) m ≡ false) same e))
+
+pub read_down : (n : ℤ) → SFits w16 n → int_lt (to_z w16 (of_z w16 n)) (negsuc 32759) ≡ false → to_z w16 (of_z w16 (to_z w16 (of_z w16 n) -ℤ pos 8)) ≡ n -ℤ pos 8
+read_down n fits e =
+    let same : to_z w16 (of_z w16 n) ≡ n = to_z-of_z w16 n fits in
+    ap (λ (m : ℤ). to_z w16 (of_z w16 (m -ℤ pos 8))) same ∙ to_z-of_z w16 (n -ℤ pos 8) (down_fits n fits (subst (λ (m : ℤ). int_lt m (negsuc 32759) ≡ false) same e))
+
+-- one slot has what another one has, but for the depth
+pub record IsMoved (s t : Slot) (moved : ℤ) : Type 0 where
+  pub short : s.is_wide ≡ false
+  pub still_short : t.is_wide ≡ false
+  pub shape : t.shape ≡ s.shape
+  pub depth : t.depth ≡ moved
+  pub fp : t.fp ≡ s.fp
+  pub home : t.home ≡ s.home
+  pub depth_fits : SFits w16 t.depth
+  pub fp_fits : SFits w16 s.fp
+  pub home_fits : SFits w16 s.home
+
+moved_state : (s t : Slot) (depth : ℤ) (other : Numbers) → IsMoved s t depth → with_numbers s.shape (at_depth (short_numbers s) depth) ≡ state_in t other
+moved_state s t depth other m = rw (m.still_short, m.shape, m.depth, m.fp, m.home) refl
+
+moved_near : (s t : Slot) (depth : ℤ) → IsMoved s t depth → has_near_numbers (with_numbers s.shape (at_depth (short_numbers s) depth)) ≡ true
+moved_near s t depth m =
+    short_is_near s.shape (at_depth (short_numbers s) depth) (near_of depth (subst (λ (d : ℤ). has_16_bits d ≡ true) m.depth (in_16_bits t.depth m.depth_fits))) (near_of s.fp (in_16_bits s.fp m.fp_fits)) (near_of s.home (in_16_bits s.home m.home_fits))
+
+old_state : (s : Slot) (wide : Numbers) → s.is_wide ≡ false → with_numbers s.shape (short_numbers s) ≡ state_in s wide
+old_state s wide short = rw short refl
+
+same_move : (a b c d : State) (op : Op) → a ≡ b → c ≡ d → move a op ≡ Ok c → move b op ≡ Ok d
+same_move a b c d op one other h = subst (λ (x : State). move x op ≡ Ok d) one (subst (λ (x : State). move a op ≡ Ok x) other h)
+
+pub push_slot : (s t : Slot) (wide other : Numbers) → is_live s.shape ≡ true → IsMoved s t (s.depth +ℤ pos 8) → (move (state_in s wide) Push ≡ Ok (state_in t other)) × (move (state_in s wide) Hop ≡ Ok (state_in t other))
+push_slot s t wide other live m =
+    let both = push_word s.shape (short_numbers s) live (moved_near s t (s.depth +ℤ pos 8) m) in
+    let old = old_state s wide m.short in
+    let new = moved_state s t (s.depth +ℤ pos 8) other m in
+    (same_move _ _ _ _ Push old new both.0, same_move _ _ _ _ Hop old new both.1)
+
+pub pop_slot : (s t : Slot) (wide other : Numbers) → is_live s.shape ≡ true → IsMoved s t (s.depth -ℤ pos 8) → int_lt (s.depth -ℤ pos 8) (floor_in s.shape s.home) ≡ false → (move (state_in s wide) Pop ≡ Ok (state_in t other)) × (move (state_in s wide) Popf ≡ Ok (state_in t other))
+pop_slot s t wide other live m over =
+    let both = pop_word s.shape (short_numbers s) live over (moved_near s t (s.depth -ℤ pos 8) m) in
+    let old = old_state s wide m.short in
+    let new = moved_state s t (s.depth -ℤ pos 8) other m in
+    (same_move _ _ _ _ Pop old new both.0, same_move _ _ _ _ Popf old new both.1)
+
+eight_fits : SFits w16 (pos 8)
+eight_fits = grind (arith, ints)
+
+floor_fits : (shape : Shape) (home : ℤ) → SFits w16 home → SFits w16 (floor_in shape home)
+floor_fits KnownSaved home fits = fits
+floor_fits KnownFramedSaved home fits = fits
+floor_fits AtLeastSaved home fits = fits
+floor_fits AtLeastFramedSaved home fits = fits
+floor_fits _ home fits = eight_fits
+
+-- a depth that isn't below the floor, both read back
+pub over_floor : (depth floor : ℤ) (shape : Shape) (home : ℤ) → SFits w16 home → floor ≡ floor_in shape home → int_lt depth (to_z w16 (of_z w16 floor)) ≡ false → int_lt depth (floor_in shape home) ≡ false
+over_floor depth floor shape home fits is e =
+    let same : to_z w16 (of_z w16 floor) ≡ floor_in shape home = ap (λ (m : ℤ). to_z w16 (of_z w16 m)) is ∙ to_z-of_z w16 (floor_in shape home) (floor_fits shape home fits) in
+    subst (λ (m : ℤ). int_lt depth m ≡ false) same e
+
+-- where either of two operations moves the state so, one of them does
+pub one_of : (s : Slot) (found : Option Slot) (op one other : Op) → (op ≡ one) ⊎ (op ≡ other) → IfSome found (λ slot. (w o : Numbers) → (move (state_in s w) one ≡ Ok (state_in slot o)) × (move (state_in s w) other ≡ Ok (state_in slot o))) → IfSome found (λ slot. (w o : Numbers) → move (state_in s w) op ≡ Ok (state_in slot o))
+one_of s None op one other which h = tt
+one_of s (Some slot) op one other (inl is) h = λ w o. subst (λ (x : Op). move (state_in s w) x ≡ Ok (state_in slot o)) (sym is) (h w o).0
+one_of s (Some slot) op one other (inr is) h = λ w o. subst (λ (x : Op). move (state_in s w) x ≡ Ok (state_in slot o)) (sym is) (h w o).1

@@ -1,0 +1,9 @@
+-- An operation pushes a word or pops one.
+use Rattle.kept_states.proofs.WordMoves.{one_of}
+use Rattle.kept_states.proofs.slot.Slot.quickly_moved.Goals as goal
+
+pub returns-in-Push : goal.returns-in-Push
+returns-in-Push c = one_of c.args.self c.pushed.result c.args.op _ _ c.in-Push.is c.pushed.ensures
+
+pub returns-in-Pop : goal.returns-in-Pop
+returns-in-Pop c = one_of c.args.self c.popped.result c.args.op _ _ c.in-Pop.is c.popped.ensures
