@@ -1,7 +1,7 @@
 //! The states of points, level by level.
 
-ghost use Rattle.std.specs.Prelude.{◌≡◌, ◌+◌, ◌<◌, ◌≤◌, ◌⊎◌, ◌↔◌, ℕ, [], None, Some, All, Contains, IfOk, IsSome, IsTrue, drop, length, option_map, replicate, slice_index, take, true, false};
-ghost use Rattle.state_defs.specs.Move.{has_near_numbers};
+ghost use Rattle.std.specs.Prelude.{◌≡◌, ◌+◌, ◌<◌, ◌≤◌, ◌⊎◌, ◌↔◌, ℕ, [], None, Some, All, Contains, IfOk, IsSome, IsTrue, Ok, drop, length, option_map, replicate, slice_index, take, true, false};
+ghost use Rattle.state_defs.specs.Move.{has_near_numbers, move};
 ghost use Rattle.state_defs.specs.Row.{unfit_offset};
 ghost use Rattle.machine_defs.specs.Kept.{kept_or};
 ghost use Rattle.kept_states.specs.Done.{done_of};
@@ -13,6 +13,7 @@ use crate::done::Done;
 use crate::order::lesser;
 use crate::packed::PackedState;
 use crate::region::Region;
+use operation_defs::Op;
 use ot_base::NoMemory;
 use state_defs::State;
 use std::alloc::Global;
@@ -140,6 +141,19 @@ impl Levels {
         let place = self.places[one as usize] as usize;
         let other_place = self.places[other as usize] as usize;
         place < self.kept && other_place < self.kept && self.states.are_alike(place, other_place)
+    }
+
+    /// Whether it is quickly seen that an operation moves the state of a point to that of another.
+    #[inline(always)]
+    pub(crate) fn moves_to(&self, op: Op, one: u32, other: u32) -> bool
+        requires one { one < length self.now.kept }
+        requires other { other < length self.now.kept }
+        ensures { IsTrue result → (s : State) → at self.now.kept one ≡ Some s → (t : State) × (move s op ≡ Ok t) × (at self.now.kept other ≡ Some t) }
+    {
+        match (self.packed(one), self.packed(other)) {
+            (Some(before), Some(after)) => before.quickly_moves_to(op, after),
+            (Some(_) | None, _) => false,
+        }
     }
 
     /// How many points are kept since the last level.

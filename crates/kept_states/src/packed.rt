@@ -1,10 +1,12 @@
 //! A state in 32 bytes, as it is handed on.
 
-ghost use Rattle.std.specs.Prelude.{◌≡◌};
+ghost use Rattle.std.specs.Prelude.{◌≡◌, IsTrue, Ok};
+ghost use Rattle.state_defs.specs.Move.{move};
 ghost use Rattle.kept_states.specs.Packed.{state_of};
 
 use crate::parts::{Numbers, Parts};
 use crate::slot::Slot;
+use operation_defs::Op;
 use state_defs::State;
 
 /// A state in its slot, and beside it the numbers that it has where the slot is wide; else they say nothing.
@@ -38,5 +40,16 @@ impl PackedState {
             self.slot.numbers()
         };
         self.slot.with(numbers).state()
+    }
+
+    /// Whether it is quickly seen that an operation moves the state to another one.
+    #[inline(always)]
+    pub(crate) fn quickly_moves_to(self, op: Op, other: PackedState) -> bool
+        ensures { IsTrue result → move (state_of self) op ≡ Ok (state_of other) }
+    {
+        match self.slot.quickly_moved(op) {
+            Some(moved) => moved.is_alike(other.slot),
+            None => false,
+        }
     }
 }

@@ -5,8 +5,8 @@
 //! those of level 0, no point is reached from two batches; so each has the level and the state that it has where states
 //! spread from all points of level 0 at once. Where one does, they spread from all at once, from the beginning.
 
-ghost use Rattle.std.specs.Prelude.{◌≡◌, ◌≢◌, ◌+◌, ◌<◌, ◌↔◌, ℕ, List, [], None, Some, All, Contains, IfOk, IsSome, IsTrue, length, true};
-ghost use Rattle.state_defs.specs.Move.{has_near_numbers};
+ghost use Rattle.std.specs.Prelude.{◌≡◌, ◌≢◌, ◌+◌, ◌<◌, ◌↔◌, ℕ, List, [], None, Some, All, Contains, IfOk, IsSome, IsTrue, Ok, length, true};
+ghost use Rattle.state_defs.specs.Move.{has_near_numbers, move};
 ghost use Rattle.state_defs.specs.Row.{unfit_offset};
 ghost use Rattle.machine_defs.specs.Program.{Program, IsPoint};
 ghost use Rattle.machine_defs.specs.IsProgram.{IsProgram, HintsStandAtPoints};
@@ -25,6 +25,7 @@ use crate::gifts::{give_along, give_to_restore, offer_moved};
 use crate::levels::Levels;
 use crate::packed::PackedState;
 use crate::passages::{Passage, no_passages, passage_at, restores_of, straight_next};
+use operation_defs::Op;
 use ot_base::NoMemory;
 use program_graph::Graph;
 use stack_state::initial;
@@ -297,6 +298,15 @@ impl Kept {
         ensures fit { IsTrue result → (s : State) → at self.now n ≡ Some s → unfit_offset s ≡ None }
     {
         self.levels.is_short(n)
+    }
+
+    /// A quick test whether an operation moves the state of a point to that of another: where it says so it does.
+    pub fn moves_to(&self, op: Op, one: u32, other: u32) -> bool
+        requires one { one < length self.now }
+        requires other { other < length self.now }
+        ensures { IsTrue result → (s : State) → at self.now one ≡ Some s → (t : State) × (move s op ≡ Ok t) × (at self.now other ≡ Some t) }
+    {
+        self.levels.moves_to(op, one, other)
     }
 
     /// A quick test whether two points keep the same state: where it says so they do.

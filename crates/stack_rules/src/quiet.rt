@@ -162,6 +162,9 @@ fn moves_to(kept: &Kept, op: Op, n: u32, to: u32) -> bool
     requires to { to < length kept.now }
     ensures { IsTrue result → (s : State) → at kept.now n ≡ Some s → (t : State) × (move s op ≡ Ok t) × (at kept.now to ≡ Some t) }
 {
+    if kept.moves_to(op, n, to) {
+        return true;
+    }
     match (kept.state(n), kept.state(to)) {
         (Some(before), Some(after)) => match step(before, op) {
             Ok(moved) => is_same(moved, after),
