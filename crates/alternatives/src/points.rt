@@ -149,6 +149,7 @@ fn comes_first(others: &[StoredPoint], n: usize, point: Point) -> bool
 }
 
 /// Adds those of these points, from a number on, that come before a plain point, and tells the number of the next.
+#[inline(never)]
 fn push_before(
     points: &mut Vec<StoredPoint>,
     others: &[StoredPoint],
@@ -167,8 +168,26 @@ fn push_before(
     Ok(next)
 }
 
+/// Below which offset the plain points of a section come before the other point of this number.
+fn limit_of(others: &[StoredPoint], n: usize, sec: u32) -> u64
+    ensures { (p : Point) (rest : List Point) → p.place.sec ≡ sec → p.place.off < result → woven (p ∷ rest) (drop n others.now) ≡ p ∷ woven rest (drop n others.now) }
+{
+    if n >= others.len() {
+        return u64::MAX;
+    }
+    let other = others[n].place();
+    if other.sec > sec {
+        return u64::MAX;
+    }
+    if other.sec < sec {
+        return 0;
+    }
+    other.off.saturating_add(1)
+}
+
 /// Adds the points of a text section, and those of these points, from a number on, that come before one of them, and tells
 /// the number of the next.
+#[inline(always)]
 fn push_text(
     points: &mut Vec<StoredPoint>,
     text: &SectionText<'_>,
@@ -179,19 +198,25 @@ fn push_text(
     ensures within { IfOk result (λ next. next ≤ length others.now) }
     ensures points { IfOk result (λ next. (rest : List Point) → points.new.items ++ woven rest (drop next others.now) ≡ points.old.items ++ woven (plain_of text.now ++ rest) (drop from others.now)) }
 {
+    let sec = text.sec;
     let mut next = from;
+    let mut limit = limit_of(others, next, sec);
     let offsets = text.text.offsets();
     for off in offsets {
         let off = u64::from(*off);
-        let place = Place { sec: text.sec, off };
+        let place = Place { sec, off };
         let point = Point { place, variant: 0 };
-        next = push_before(points, others, next, point)?;
+        if off >= limit {
+            next = push_before(points, others, next, point)?;
+            limit = limit_of(others, next, sec);
+        }
         points.push(StoredPoint::new(point))?;
     }
     Ok(next)
 }
 
 /// The points of texts, and other points among them by place and then by variant.
+#[inline(never)]
 fn weave_points(
     alloc: Global,
     texts: &[SectionText<'_>],
