@@ -51,6 +51,9 @@ pub(crate) fn list_hinted(
     let mut saves = Vec::new(alloc);
     let mut restores = Vec::new(alloc);
     for n in 0..count_points(places) {
+        if !places.may_have_hint(n) {
+            continue;
+        }
         let hint = places.hint(n);
         if is_save(hint) {
             saves.push(save_point(places, n))?;

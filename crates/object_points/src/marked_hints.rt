@@ -1,6 +1,6 @@
 //! Hints by their places, of which most without one are told by marks.
 
-ghost use Rattle.std.specs.Prelude.{◌≡◌, ◌<◌, length, map, IfOk};
+ghost use Rattle.std.specs.Prelude.{◌≡◌, ◌<◌, None, false, length, map, IfOk};
 ghost use Rattle.special_sections.specs.declared.entries.HintEntry.{HintEntry as Entry};
 ghost use Rattle.special_sections.specs.HintStates.{hint_at as hint_at_place};
 ghost use Rattle.special_sections.specs.Places.{HaveSameLast};
@@ -47,12 +47,20 @@ impl MarkedHints {
         Ok(MarkedHints { hints, marks })
     }
 
+    /// Whether a hint may be at a place, told without a search: where none may, there is none.
+    #[inline(always)]
+    pub(crate) fn may_have(&self, place: Place) -> bool
+        ensures { result ≡ false → hint_at_place self.now place ≡ None }
+    {
+        is_marked(&self.marks, place)
+    }
+
     /// What the hint at a place does, or None where there is none.
     #[inline(always)]
     pub(crate) fn hint_at(&self, place: Place) -> Option<HintState>
         ensures { result ≡ hint_at_place self.now place }
     {
-        if !is_marked(&self.marks, place) {
+        if !self.may_have(place) {
             return None;
         }
         self.search(place)

@@ -220,6 +220,15 @@ impl<'l, 'o, 'a> PointPlaces<'l, 'o, 'a> {
         self.items[self.numbers[n as usize] as usize]
     }
 
+    /// Whether a point may have an unwind hint, told without a search: where it may not, it has none.
+    #[inline(always)]
+    pub fn may_have_hint(&self, n: u32) -> bool
+        requires { n < length (points_of_object self.now) }
+        ensures { result ≡ false → hint_of self.now (point_at self.now n) ≡ None }
+    {
+        self.hints.may_have(self.point(n).place)
+    }
+
     /// The unwind hint of a point: the one at its place. Padding has none.
     #[inline(always)]
     pub fn hint(&self, n: u32) -> Option<HintState>

@@ -1,4 +1,6 @@
-use Rattle.std.proofs.Common.{◌≡◌, ℕ, [], ◌∷◌, ◌++◌, length, Global, Vec, arith, sym, ap, ◌∙◌}
+use Rattle.std.proofs.Common.{◌≡◌, ℕ, [], ◌∷◌, ◌++◌, length, Global, Vec, None, false, arith, sym, ap, ◌∙◌}
+use Rattle.flow_defs.specs.Arrival.{hint_of}
+use Rattle.flow_defs.specs.Code.{point_at}
 use Rattle.flow_defs.specs.Coded.{Coded}
 use Rattle.flow_defs.specs.Hints.{is_restore, is_save}
 use Rattle.object_points.specs.Hinted.{is_restore_at, is_save_at}
@@ -37,4 +39,17 @@ loop-n-preserved c =
         | then-is_restore+in_ok-push-2 w ↦ omega (arith, ap (λ (v : Vec ℕ Global). length v.items) w.restores-is, w.in_ok-push-2.ensures.len, c.loop-n.invariant.few)
         | else-is_restore w ↦ omega (arith, ap (λ (v : Vec ℕ Global). length v.items) w.restores-is, c.loop-n.invariant.few)
       ];
+    }
+
+-- a point that has no hint is neither
+pub loop-n-preserved-then-not-may_have_hint : goal.loop-n-preserved-then-not-may_have_hint
+loop-n-preserved-then-not-may_have_hint c =
+    let o : Coded = c.args.places.now in
+    let n : ℕ = c.loop-n.n in
+    let unmarked : c.may_have_hint.result ≡ false = c.if-not-may_have_hint.true in
+    let none : hint_of o (point_at o n) ≡ None = c.may_have_hint.ensures unmarked in
+    record {
+      all_saves = save_same o n c.loop-n.saves.items c.loop-n.invariant.all_saves (ap is_save none);
+      all_restores = restore_same o n c.loop-n.restores.items c.loop-n.invariant.all_restores (ap is_restore none);
+      few = omega (arith, c.loop-n.invariant.few);
     }
