@@ -27,7 +27,7 @@ use Rattle.object_law.proofs.Levels.{and_true}
 use Rattle.object_law.proofs.Numbers.{numbered}
 use Rattle.object_law.proofs.Owners.{from_map}
 use Rattle.object_points.proofs.Points.{numbered_point}
-use Rattle.point_edges.proofs.Numbers.{number_is}
+use Rattle.point_edges.proofs.Points.{number_is}
 use Rattle.control_flow.specs.Entered.{IsEnteredAt}
 
 -- the number of the point with a number

@@ -24,9 +24,9 @@ use Rattle.flow_defs.specs.Roles.{table_of_point}
 use Rattle.flow_defs.specs.Sites.{is_into_site}
 use Rattle.flow_defs.specs.Targets.{destination_of}
 use Rattle.flow_defs.specs.Ways.{hop_way, jump_way, listed_way}
-use Rattle.point_edges.proofs.Arriving.{arrive_inside}
-use Rattle.point_edges.proofs.Following.{after_inside}
-use Rattle.point_edges.proofs.Numbers.{numbers_inside, IsNumber}
+use Rattle.point_arrivals.proofs.Arriving.{arrive_inside}
+use Rattle.point_arrivals.proofs.Following.{after_inside}
+use Rattle.point_arrivals.proofs.Numbers.{numbers_inside, IsNumber}
 
 -- edges lead to points
 abbrev pub LeadInside : Coded → List Edge → Type 0

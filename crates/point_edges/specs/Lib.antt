@@ -1,11 +1,5 @@
 pub mod Displacements
 pub mod Jumps
-pub mod Low
-pub mod Next
-pub mod Remade
-pub mod Lists
-pub mod Marks
-pub mod Straight
-pub mod Kinds
 pub mod Entries
+pub mod Straight
 pub mod Tables

@@ -8,12 +8,12 @@ ghost use Rattle.flow_defs.specs.Targets.{destination as destination_of, destina
 ghost use Rattle.point_edges.specs.Displacements.{meant};
 
 use crate::displacement::{Displacement, displacement_of, lacks_reloc, relative_place};
-use crate::own_points::point;
 use alternatives::Point;
 use flow_defs::{Crossing, Destination};
 use object_points::PointPlaces;
 use operation_defs::Insn;
 use ot_base::Place;
+use point_arrivals::point;
 use symbols_relocs::Target;
 
 /// The place so many bytes behind another, whose offset has 32 bits.

@@ -6,15 +6,15 @@ ghost use Rattle.flow_defs.specs.Arrival.{insn_of_object};
 ghost use Rattle.flow_defs.specs.Code.{point_at, points_of_object};
 ghost use Rattle.flow_defs.specs.Roles.{table_of_point};
 ghost use Rattle.flow_defs.specs.Targets.{destination_of};
-ghost use Rattle.point_edges.specs.Remade.{is_by_thunk as is_by_a_thunk, may_go_by_table as may_go_by_a_table};
+ghost use Rattle.point_arrivals.specs.Remade.{is_by_thunk as is_by_a_thunk, may_go_by_table as may_go_by_a_table};
 ghost use Rattle.point_edges.specs.Tables.{table_start_of};
 
-use crate::PointArrivals;
 use flow_defs::Destination;
 use jump_tables::JumpTables;
 use object_points::PointPlaces;
 use operation_defs::Op;
 use ot_base::{NoMemory, Place};
+use point_arrivals::PointArrivals;
 use std::alloc::Global;
 use std::marker::Model;
 

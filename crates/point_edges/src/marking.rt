@@ -12,10 +12,10 @@ use crate::Branch;
 use crate::flow_points::FlowPoints;
 use crate::into_functions::calls_into_function;
 use crate::next_edges::goes_on;
-use crate::relocated::has_relocated_offset;
 use crate::target_edges::{has_bad_target, has_target_in_site};
 use machine_defs::Marks;
 use operation_defs::Insn;
+use point_arrivals::has_relocated_offset;
 
 /// Whether nothing follows a point.
 fn is_at_end(points: &FlowPoints<'_, '_, '_>, n: u32) -> bool

@@ -3,7 +3,7 @@ use Rattle.flow_defs.specs.Coded.{Coded}
 use Rattle.alternatives.specs.Texts.{text_bytes}
 use Rattle.flow_defs.specs.Code.{texts_of}
 use Rattle.object_points.specs.Linked.{IsLinked}
-use Rattle.point_edges.proofs.LowPlaces.{low_point}
+use Rattle.point_edges.proofs.Points.{low_point}
 use Rattle.control_flow.proofs.low.point_is_low.Goals as goal
 
 pub returns : goal.returns

@@ -14,7 +14,7 @@ use Rattle.flow_defs.specs.Arrival.{replacement_end}
 use Rattle.flow_defs.specs.Code.{alternatives_of, is_plain, number_of, point_at}
 use Rattle.flow_defs.specs.Targets.{own_destination}
 use Rattle.point_edges.proofs.Aims.{behind_own, other_point, within_own}
-use Rattle.point_edges.proofs.LowPlaces.{low_original}
+use Rattle.point_arrivals.proofs.LowPlaces.{low_original}
 use Rattle.point_edges.proofs.destinations.own_destination.Goals as goal
 
 pub returns-then-is_some : goal.returns-then-is_some

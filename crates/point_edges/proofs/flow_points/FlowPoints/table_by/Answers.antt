@@ -5,8 +5,8 @@ use Rattle.flow_defs.specs.Code.{point_at}
 use Rattle.flow_defs.specs.Targets.{destination_of}
 use Rattle.operation_defs.specs.declared.op.Op.{Op}
 use Rattle.flow_defs.specs.declared.destination.Destination.{Destination}
-use Rattle.point_edges.specs.Remade.{may_go_by_table}
-use Rattle.point_edges.proofs.Tableless.{tableless_by}
+use Rattle.point_arrivals.specs.Remade.{may_go_by_table}
+use Rattle.point_arrivals.proofs.Tableless.{tableless_by}
 use Rattle.point_edges.proofs.flow_points.FlowPoints.table_by.Goals as goal
 
 pub returns-then-not-may_go_by_table : goal.returns-then-not-may_go_by_table

@@ -1,0 +1,12 @@
+pub mod LowPlaces
+pub mod LowPoints
+pub mod Numbers
+pub mod Arriving
+pub mod Following
+pub mod Ending
+pub mod KindOf
+mod Remaking
+mod AllRooms
+pub mod Tableless
+pub mod StraightOn
+mod Untold

@@ -1,0 +1,99 @@
+-- What a program makes of decoded operations.
+use Rattle.std.proofs.Common.{◌≡◌, Bool, true, false, ◌&&◌, if◌then◌else◌, refl, sym, ap, ◌∙◌}
+use Rattle.std.proofs.lemmas.Bool.{false≢true}
+use Rattle.operation_defs.specs.declared.insn.Insn.{Insn}
+use Rattle.operation_defs.specs.declared.op.Op.{Op}
+use Rattle.operation_defs.specs.declared.op.Op.TheVariants.{Call, Hop, Iret, IretNext, Jmp, JmpInd, LeaBpRoom, LeaBpSp, SpOther, Switch}
+use Rattle.operation_defs.specs.Made.{Around, made}
+use Rattle.flow_defs.specs.Coded.{Coded}
+use Rattle.flow_defs.specs.declared.destination.Destination.{Destination}
+use Rattle.alternatives.specs.declared.point.Point.{Point}
+use Rattle.flow_defs.specs.Arrival.{around, decoded_insn, insn_of_object}
+use Rattle.flow_defs.specs.Marks.{has_stack_offset}
+use Rattle.point_arrivals.specs.Remade.{may_be_remade, may_go_by_table, may_have_table}
+use Rattle.point_arrivals.specs.Straight.{is_straight_op}
+
+-- most stay
+made_same : (a : Around) (op : Op) → may_be_remade op ≡ false → made a op ≡ op
+made_same a (Call rel) is = absurd (false≢true (sym is))
+made_same a (LeaBpSp by) is = absurd (false≢true (sym is))
+made_same a Iret is = absurd (false≢true (sym is))
+made_same a Switch is = absurd (false≢true (sym is))
+made_same a op is = refl
+
+insn_by : (o : Coded) (p : Point) (insn : Insn) (op : Op) → insn ≡ decoded_insn o p → op ≡ made (around o p) insn.op → (let it : Insn = record { len = insn.len; op = op } in it) ≡ insn_of_object o p
+unfolding insn_of_object
+insn_by o p insn op decoded is =
+    ap (λ (x : Op). let it : Insn = record { len = insn.len; op = x } in it) is
+    ∙ ap (λ (i : Insn). let it : Insn = record { len = i.len; op = made (around o p) i.op } in it) decoded
+
+pub same_insn : (o : Coded) (p : Point) (insn : Insn) → insn ≡ decoded_insn o p → may_be_remade insn.op ≡ false → insn ≡ insn_of_object o p
+same_insn o p insn decoded other = insn_by o p insn insn.op decoded (sym (made_same (around o p) insn.op other))
+
+pub remade_insn : (o : Coded) (p : Point) (insn : Insn) (op : Op) → insn ≡ decoded_insn o p → op ≡ made (around o p) insn.op → (let it : Insn = record { len = insn.len; op = op } in it) ≡ insn_of_object o p
+remade_insn = insn_by
+
+-- what is so of an operation of the program, by the one that is decoded
+pub made_by_table : (a : Around) (op : Op) (to : Destination) → may_go_by_table (made a op) to ≡ may_go_by_table op to
+made_by_table a (Call rel) to = by a.intra_call
+  where
+    by : (b : Bool) → may_go_by_table (if b then Hop else Call rel) to ≡ false
+    by true = refl
+    by false = refl
+made_by_table a (LeaBpSp k) to = by a.makes_room
+  where
+    by : (b : Bool) → may_go_by_table (if b then LeaBpRoom k else LeaBpSp k) to ≡ false
+    by true = refl
+    by false = refl
+made_by_table a Iret to = by a.within
+  where
+    by : (b : Bool) → may_go_by_table (if b then IretNext else Iret) to ≡ false
+    by true = refl
+    by false = refl
+made_by_table a Switch to = by a.within a.hinted
+  where
+    by : (b c : Bool) → may_go_by_table (if b && c then SpOther else Switch) to ≡ false
+    by true true = refl
+    by true false = refl
+    by false c = refl
+made_by_table a op to = refl
+
+pub made_offset : (a : Around) (op : Op) → has_stack_offset (made a op) ≡ has_stack_offset op
+made_offset a (Call rel) = by a.intra_call
+  where
+    by : (b : Bool) → has_stack_offset (if b then Hop else Call rel) ≡ false
+    by true = refl
+    by false = refl
+made_offset a (LeaBpSp k) = by a.makes_room
+  where
+    by : (b : Bool) → has_stack_offset (if b then LeaBpRoom k else LeaBpSp k) ≡ true
+    by true = refl
+    by false = refl
+made_offset a Iret = by a.within
+  where
+    by : (b : Bool) → has_stack_offset (if b then IretNext else Iret) ≡ false
+    by true = refl
+    by false = refl
+made_offset a Switch = by a.within a.hinted
+  where
+    by : (b c : Bool) → has_stack_offset (if b && c then SpOther else Switch) ≡ false
+    by true true = refl
+    by true false = refl
+    by false c = refl
+made_offset a op = refl
+
+pub made_straight : (a : Around) (op : Op) → is_straight_op op ≡ true → is_straight_op (made a op) ≡ true
+made_straight a (Call rel) h = absurd (false≢true h)
+made_straight a Iret h = absurd (false≢true h)
+made_straight a Switch h = absurd (false≢true h)
+made_straight a (LeaBpSp k) h = by a.makes_room
+  where
+    by : (b : Bool) → is_straight_op (if b then LeaBpRoom k else LeaBpSp k) ≡ true
+    by true = refl
+    by false = refl
+made_straight a op h = h
+
+pub straight_tableless : (op : Op) → is_straight_op op ≡ true → may_have_table op ≡ false
+straight_tableless (Jmp rel wide) h = absurd (false≢true h)
+straight_tableless (JmpInd table) h = absurd (false≢true h)
+straight_tableless op h = refl

@@ -1,6 +1,0 @@
-use Rattle.std.proofs.Common.{◌≡◌, true, take}
-use Rattle.point_edges.specs.Remade.{are_hinted}
-use Rattle.point_edges.proofs.remade.are_hinted.Given as goal
-
-abbrev pub invariant-loop-q : goal.invariant-loop-q
-invariant-loop-q l = are_hinted l.places (take l.q-index l.numbers) ≡ true
