@@ -11,7 +11,7 @@ ghost use Rattle.control_flow.specs.Search.{is_set, target_returns as does_targe
 use crate::carrying::target_returns;
 use crate::kept_edges::drop_edges;
 use crate::return_search::Search;
-use crate::searched_flow::Flow;
+use crate::searched_flow::{Exit, Flow};
 use crate::spreading::spread;
 use machine_defs::Edge;
 use ot_base::NoMemory;
@@ -37,7 +37,7 @@ pub struct Returns {
     pub entered: Vec<Option<u32>>,
 }
 
-/// Clears the flag of a point, if the target of its call doesn't return.
+/// Clears the flag of a point, if the target of its call doesn't return. Most points pass.
 fn flag_target(flow: &Flow, known: &[bool], targets: &mut Vec<bool>, q: u32)
     requires shape { HasShape flow.now }
     requires known { length known.now ≡ points_of flow.now }
@@ -45,6 +45,9 @@ fn flag_target(flow: &Flow, known: &[bool], targets: &mut Vec<bool>, q: u32)
     requires so_far { AreFlagged (λ r. does_target_return known.now (exit_at flow.now r)) true targets.old.items (points_of flow.now) q }
     ensures { AreFlagged (λ r. does_target_return known.now (exit_at flow.now r)) true targets.new.items (points_of flow.now) (q + 1) }
 {
+    if let Exit::Passes = flow.exits[q as usize] {
+        return;
+    }
     if !target_returns(flow, known, q) {
         targets[q as usize] = false;
     }

@@ -17,7 +17,8 @@ fn stays_edge(comes_back: bool, kind: EdgeKind) -> bool
     }
 }
 
-/// Moves the edges from one number to another that stay behind the first `kept`, and tells how many are kept then.
+/// Moves the edges from one number to another that stay behind the first `kept`, and tells how many are kept then. Most points
+/// have one edge, which stays.
 fn keep_edges(edges: &mut Vec<Edge>, kept: usize, from: usize, to: usize, comes_back: bool) -> usize
     requires before { kept ≤ from }
     requires ordered { from ≤ to }
@@ -27,6 +28,10 @@ fn keep_edges(edges: &mut Vec<Edge>, kept: usize, from: usize, to: usize, comes_
     ensures long { length edges.new.items ≡ length edges.old.items }
     ensures within { result ≤ to }
 {
+    if comes_back && to - from == 1 {
+        edges[kept] = edges[from];
+        return kept + 1;
+    }
     let mut end = kept;
     for i in from..to {
         let edge = edges[i];
