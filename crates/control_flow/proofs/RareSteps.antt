@@ -1,7 +1,6 @@
 -- What few points have otherwise than most, of one point more.
-use Rattle.std.proofs.Common.{◌≡◌, ℕ, ◌+◌, ◌≤◌, Bool, List, [], ◌∷◌, ◌++◌, Option, Some, None, true, not, length, refl, sym, ap, ◌∙◌, subst, arith}
-use Rattle.std.proofs.lemmas.Bool.{false≢true}
-use Rattle.std.specs.Prelude.{MatchOption, is_some, slice_get}
+use Rattle.std.proofs.Common.{◌≡◌, ℕ, ◌+◌, ◌≤◌, List, [], ◌∷◌, ◌++◌, Option, Some, None, length, refl, sym, subst, arith}
+use Rattle.std.specs.Prelude.{MatchOption, slice_get}
 use Rattle.std.proofs.lemmas.List.{length_push}
 use Rattle.object_points.proofs.Items.{earlier_item, last_item}
 use Rattle.flow_defs.specs.Coded.{Coded}
@@ -89,7 +88,3 @@ more_rares o restores before after hinted grown numbers n found known number x a
       short = omega (arith, more.short, are.short);
       ranges = more.ranges are.ranges;
     }
-
-pub is_absent : {X : Type 0} (x : Option X) (none : Bool) → is_some x ≡ not none → none ≡ true → x ≡ None
-is_absent None none is told = refl
-is_absent (Some k) none is told = absurd (false≢true (sym (is ∙ ap not told)))

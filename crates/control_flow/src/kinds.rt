@@ -47,15 +47,15 @@ impl KindTable {
     }
 
     /// Where a kind stands, by the last one of its mark.
-    fn find(&self, kind: PointKind, mark: usize) -> Option<u32>
-        ensures { IfSome result (λ number. slice_get self.now.kinds.items number ≡ Some kind) }
+    fn find(&self, kind: &PointKind, mark: usize) -> Option<u32>
+        ensures { IfSome result (λ number. slice_get self.now.kinds.items number ≡ Some kind.now) }
     {
         let number = *self.recent.get(mark)?;
         let k = number as usize;
         if k >= self.kinds.len() || self.kinds[k].transfer != kind.transfer {
             return None;
         }
-        if self.kinds[k] == kind {
+        if self.kinds[k] == *kind {
             Some(number)
         } else {
             None
@@ -64,9 +64,9 @@ impl KindTable {
 
     /// The number of a kind, which goes behind the others unless the last one of its mark is the same.
     #[inline(never)]
-    fn number_by_mark(&mut self, kind: PointKind) -> Result<u32, NoMemory>
+    fn number_by_mark(&mut self, kind: &PointKind) -> Result<u32, NoMemory>
         requires few { length self.old.kinds.items < 2 ^ 32 }
-        ensures numbered { IfOk result (IsNumbered self.old.kinds.items self.new.kinds.items kind) }
+        ensures numbered { IfOk result (IsNumbered self.old.kinds.items self.new.kinds.items kind.now) }
         ensures usual { self.new.usual.items ≡ self.old.usual.items }
     {
         let mark = mark_of(kind);
@@ -74,7 +74,7 @@ impl KindTable {
             return Ok(number);
         }
         let number = self.kinds.len() as u32;
-        self.kinds.push(kind)?;
+        self.kinds.push(*kind)?;
         if let Some(last) = self.recent.get_mut(mark) {
             *last = number;
         }
@@ -83,15 +83,15 @@ impl KindTable {
 
     /// The number of the kind that most points with a common instruction have, which is known from now on.
     #[inline(never)]
-    fn number_usual(&mut self, kind: PointKind) -> Result<u32, NoMemory>
+    fn number_usual(&mut self, kind: &PointKind) -> Result<u32, NoMemory>
         requires few { length self.old.kinds.items < 2 ^ 32 }
         requires usual { AreUsual self.old.kinds.items self.old.usual.items }
-        requires kind { kind ≡ usual_kind (insn_of kind) }
-        ensures numbered { IfOk result (IsNumbered self.old.kinds.items self.new.kinds.items kind) }
+        requires kind { kind.now ≡ usual_kind (insn_of kind.now) }
+        ensures numbered { IfOk result (IsNumbered self.old.kinds.items self.new.kinds.items kind.now) }
         ensures usual { OnOk result (AreUsual self.new.kinds.items self.new.usual.items) }
     {
         let number = self.number_by_mark(kind)?;
-        let Some(place) = place_of(kind) else {
+        let Some(place) = place_of(*kind) else {
             return Ok(number);
         };
         if place < self.usual.len() {
@@ -100,13 +100,14 @@ impl KindTable {
         Ok(number)
     }
 
-    /// Where the kind stands that most points with the instruction of one have, if that is known.
+    /// Where the kind stands that most points with the instruction of one have, if that is known, by the place of the
+    /// instruction.
     #[inline(always)]
-    fn find_usual(&self, kind: PointKind) -> Option<u32>
-        requires { AreUsual self.now.kinds.items self.now.usual.items }
+    fn find_usual(&self, kind: PointKind, place: usize) -> Option<u32>
+        requires usual { AreUsual self.now.kinds.items self.now.usual.items }
+        requires place { IsPlaceOf (insn_of kind) place }
         ensures { IfSome result (λ number. slice_get self.now.kinds.items number ≡ Some (usual_kind (insn_of kind))) }
     {
-        let place = place_of(kind)?;
         *self.usual.get(place)?
     }
 
@@ -119,15 +120,15 @@ impl KindTable {
         ensures usual { OnOk result (AreUsual self.new.kinds.items self.new.usual.items) }
     {
         // What is handed on is a copy, so that the fields of a kind that is found needn't stand in memory.
-        if !is_usual(kind) {
+        let Some(place) = usual_place(kind) else {
             let other = kind;
-            return self.number_by_mark(other);
-        }
-        match self.find_usual(kind) {
+            return self.number_by_mark(&other);
+        };
+        match self.find_usual(kind, place) {
             Some(number) => Ok(number),
             None => {
                 let new = kind;
-                self.number_usual(new)
+                self.number_usual(&new)
             }
         }
     }
@@ -181,24 +182,33 @@ fn is_usual(kind: PointKind) -> bool
     kind.rare == 0 && kind.transfer == 0 && kind.may_return && !kind.is_entered && !kind.is_dead_end
 }
 
+/// The place of the instruction of a kind among the common ones, where most points with this instruction have this kind.
+#[inline(always)]
+fn usual_place(kind: PointKind) -> Option<usize>
+    ensures place { IfSome result (IsPlaceOf (insn_of kind)) }
+    ensures kind { IfSome result (λ place. kind ≡ usual_kind (insn_of kind)) }
+{
+    if is_usual(kind) { place_of(kind) } else { None }
+}
+
 /// The mark of a kind whose transfer is that of most points. Usual kinds with different instructions mostly have different
 /// ones.
-fn mark_of_insn(kind: PointKind) -> usize {
-    let PointKind { len, op, .. } = kind;
+fn mark_of_insn(kind: &PointKind) -> usize {
+    let PointKind { len, op, .. } = *kind;
     let others = u64::from(kind.rare).wrapping_mul(0x9e37_79b9_7f4a_7c15);
     let returning = if kind.may_return { 0 } else { 0x155 };
     (hash_of(Insn { len, op }) ^ (others >> 54) as usize ^ returning) % MARKS
 }
 
 /// The mark of a kind with another transfer, behind those of the rest. Kinds with transfers in a row have different ones.
-fn mark_of_transfer(kind: PointKind) -> usize {
+fn mark_of_transfer(kind: &PointKind) -> usize {
     let others = kind.rare.wrapping_mul(5).wrapping_add(u32::from(kind.len));
     let mark = kind.transfer.wrapping_add(others.wrapping_mul(7));
     MARKS + mark as usize % TRANSFER_MARKS
 }
 
 /// The mark of a kind.
-fn mark_of(kind: PointKind) -> usize {
+fn mark_of(kind: &PointKind) -> usize {
     if kind.transfer == 0 {
         mark_of_insn(kind)
     } else {

@@ -6,6 +6,7 @@ ghost use Rattle.flow_defs.specs.Code.{alternatives_of, point_at};
 ghost use Rattle.flow_defs.specs.Program.{previous_of as previous_of_point};
 ghost use Rattle.object_law.specs.Flows.{ObjectIsInOrder};
 ghost use Rattle.program_graph.specs.Tells.{address_by, previous_by, variant_by};
+ghost use Rattle.control_flow.specs.Hinted.{IsUnhinted};
 ghost use Rattle.control_flow.specs.Listed.{count_of};
 ghost use Rattle.control_flow.specs.Numbers.{IsNumbered};
 ghost use Rattle.control_flow.specs.Rares.{AreRares, IsRare};
@@ -118,6 +119,15 @@ fn is_usual(points: &FlowPoints<'_, '_, '_>, n: u32) -> bool
     is_behind_straight(points, n) || is_behind_plain(points.places(), n)
 }
 
+/// Whether a point has no hint. Of most points that is told without a search.
+#[inline(always)]
+fn is_unhinted(places: &PointPlaces<'_, '_, '_>, n: u32) -> bool
+    requires point { n < count_of places.now }
+    ensures { IsTrue result → IsUnhinted places.now n }
+{
+    !places.may_have_hint(n) || places.hint(n).is_none()
+}
+
 /// Lists what a point has, unless most have it or the one before, and tells where it stands.
 #[inline(never)]
 fn add_any(
@@ -155,7 +165,7 @@ fn add_rare(
     requires few_hinted { length hinted.old.items < 2 ^ 32 }
     ensures { IfOk result (λ number. (numbers : List ℕ) → AreRares points.now hints.now.restores rares.old.items hinted.old.items numbers n → AreRares points.now hints.now.restores rares.new.items hinted.new.items (numbers ++ number ∷ []) (n + 1)) }
 {
-    if is_usual(points, n) && hints.hint(n).is_none() {
+    if is_usual(points, n) && is_unhinted(points.places(), n) {
         return Ok(0);
     }
     add_any(points, hints, n, rares, hinted)

@@ -11,5 +11,5 @@ returns-then-eq c =
     let all : List PointKind = c.args.self.now.kinds.items in
     let number : ℕ = c.in_ok-number.field-0.now in
     let inside : number < length all = omega (arith, c.len.ensures, c.if-k-len.false) in
-    subst (λ (k : PointKind). slice_get all number ≡ Some k) ((same_kind c.index-2.result.now c.args.kind).0 (sym c.eq.ensures ∙ c.if-eq.true))
+    subst (λ (k : PointKind). slice_get all number ≡ Some k) ((same_kind c.index-2.result.now c.args.kind.now).0 (sym c.eq.ensures ∙ c.if-eq.true))
     (slice_get_read all (length all) number c.index-2.result.now refl inside c.index-2.ensures)

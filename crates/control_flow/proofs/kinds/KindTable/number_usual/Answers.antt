@@ -19,8 +19,8 @@ returns-then-place-len-clause-usual c =
     let number : ℕ = c.in_ok-number.number in
     let place : ℕ = c.in-Some.place in
     let inside : place < length usual = omega (arith, c.len.ensures, c.if-place-len.true) in
-    let here : slice_get after number ≡ Some (usual_kind (insn_of c.args.kind)) = c.in_ok-number.ensures.numbered.here ∙ ap (λ (k : PointKind). Some k) c.requires.kind in
-    usual_more after usual place number (insn_of c.args.kind) inside c.in-Some.ensures here
+    let here : slice_get after number ≡ Some (usual_kind (insn_of c.args.kind.now)) = c.in_ok-number.ensures.numbered.here ∙ ap (λ (k : PointKind). Some k) c.requires.kind in
+    usual_more after usual place number (insn_of c.args.kind.now) inside c.in-Some.ensures here
     (still_usual before after usual c.in_ok-number.ensures.numbered.kept (subst (AreUsual before) (sym c.number_by_mark.ensures.usual) c.requires.usual))
 
 pub returns-else-place-len-clause-usual : goal.returns-else-place-len-clause-usual
