@@ -1,6 +1,6 @@
 //! A graph and its getters.
 
-ghost use Rattle.std.specs.Prelude.{◌≡◌, ◌+◌, ◌<◌, ◌≤◌, ◌↔◌, ◌∷◌, [], None, Some, ℕ, All, Contains, IfSome, IsTrue, MatchOption, length, map, slice_get, slice_range};
+ghost use Rattle.std.specs.Prelude.{◌≡◌, ◌+◌, ◌<◌, ◌≤◌, ◌↔◌, ◌∷◌, [], None, Some, false, ℕ, All, Contains, IfSome, IsSome, IsTrue, MatchOption, length, map, slice_get, slice_range};
 ghost use Rattle.machine_defs.specs.Program.{Program, no_marks};
 ghost use Rattle.machine_defs.specs.Kept.{edges_of, is_at_entry};
 ghost use Rattle.program_graph.specs.Shape.{HaveShape, IsAlike, IsKindOf, listed_of, start_of};
@@ -15,7 +15,7 @@ use crate::parts::{
 };
 use crate::usual::{find_usual_rare, find_usual_transfer};
 use machine_defs::{Edge, EdgeKind, Marks, Role};
-use operation_defs::Insn;
+use operation_defs::{Insn, Op};
 use ot_base::Place;
 use state_defs::HintState;
 
@@ -140,6 +140,23 @@ impl Graph {
         ensures address { IsTrue result → (p : Program) → Tells p self.now.parts → p.address n ≡ p.place n }
     {
         self.kind(n).rare as usize == self.usual_rare
+    }
+
+    /// The operation of a point that is known to have no hint, and to be meant by no RESTORE, where no control that comes to
+    /// an entry stands at it.
+    #[inline(always)]
+    pub fn usual_op(&self, n: u32) -> Option<Op>
+        requires { n < length self.now.parts.points.items }
+        ensures op { IfSome result (λ op. (p : Program) → Tells p self.now.parts → op ≡ (p.insn n).op) }
+        ensures hint { IsSome result → (p : Program) → Tells p self.now.parts → p.hint n ≡ None }
+        ensures meant { IsSome result → (p : Program) → Tells p self.now.parts → (r : ℕ) → Means p n r → ⊥ }
+        ensures entered { IsSome result → (p : Program) → Tells p self.now.parts → is_at_entry p n ≡ false }
+    {
+        let kind = self.kind(n);
+        if kind.is_entered || !self.is_usual(n) {
+            return None;
+        }
+        Some(kind.op)
     }
 
     /// Whether control is known to go from a point along its edges alone, and nothing to be wrong with where it goes.
