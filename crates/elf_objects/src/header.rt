@@ -23,6 +23,7 @@ pub struct SectionHeader {
 }
 
 /// The header whose 64 bytes begin at an offset.
+#[inline(always)]
 #[tactic(auto, unfolding(crate::specs::Header::header_at))]
 pub(crate) fn read_header(bytes: &[u8], at: usize) -> SectionHeader
     requires { at + 64 ≤ length bytes.now }

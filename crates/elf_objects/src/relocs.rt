@@ -28,6 +28,7 @@ pub(crate) fn nth_reloc(bytes: &[u8], h: &SectionHeader, k: u32) -> Reloc
 }
 
 /// The header of the section with the relocations of a section, or zeros.
+#[inline(always)]
 #[tactic(auto, unfolding(crate::specs::Table::rela_of))]
 pub(crate) fn rela_header(headers: &Headers, relas: &[Option<u32>], sec: u32) -> SectionHeader
     requires known { sec < section_count (file headers.now) }

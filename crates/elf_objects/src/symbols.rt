@@ -42,6 +42,7 @@ pub(crate) struct Symbols<'a> {
 }
 
 /// The header of a table that may be missing.
+#[inline(always)]
 #[tactic(auto, unfolding(crate::specs::Table::header_of))]
 pub(crate) fn header_or_null(headers: &Headers, index: Option<u32>) -> SectionHeader
     requires known { ForSome index (λ i. i < section_count headers.now.bytes.now) }
@@ -124,6 +125,7 @@ fn home_in(i: u32) -> Home
 }
 
 /// Where a symbol is defined.
+#[inline(always)]
 #[tactic(auto, unfolding(crate::specs::Table::symbol_home))]
 pub(crate) fn find_home(symbols: &Symbols, k: u32) -> Option<Home>
     requires known { k < symbol_count symbols.now.headers.bytes.now }
