@@ -1,5 +1,5 @@
 -- Points of level 0, in front and settled, by their places.
-use Rattle.std.proofs.Common.{◌≡◌, ℕ, ◌+◌, ◌-◌, ◌<◌, ◌≤◌, Bool, true, false, ◌||◌, ◌&&◌, ◌⊎◌, ◌↔◌, inl, inr, List, Option, Some, None, IsSome, Contains, length, map, take, drop, get_or, set, refl, ap, sym, ◌∙◌, subst, arith}
+use Rattle.std.proofs.Common.{◌≡◌, ℕ, ◌+◌, ◌-◌, ◌<◌, ◌≤◌, Bool, true, false, ◌||◌, ◌&&◌, ◌⊎◌, ◌↔◌, inl, inr, List, Option, Some, None, IsSome, Contains, length, map, take, drop, get_or, set, slice_get, refl, ap, sym, ◌∙◌, subst, arith}
 use Rattle.std.specs.Prelude.{nat_lt, nat_le}
 use Rattle.std.proofs.lemmas.List.{get_or-map, get_or_past, length-map, map-set, set-get_or, length-take-le, length-drop, get_or-take, get_or-drop}
 use Rattle.std.proofs.lemmas.Option.{slice_get-get_or}
@@ -142,6 +142,18 @@ module _ (places reached : List ℕ) (states : List State) (kept : ℕ) (are : A
           let r = place_of i q (omega (arith, i_in, few, are.ordered)) (sym (get_or-take to reached i q i_in) ∙ e) in
           let same : get_or places q 0 ≡ i = r.1 in
           kept_of_place kept q are.ordered r.0 (omega (arith, same, i_in, few))
+
+  -- and their states
+  pub part_state : (from to i : ℕ) → to ≤ kept → i < length (drop from (take to reached)) → at (map (kept_at kept states) places) (get_or (drop from (take to reached)) i 0) ≡ slice_get states (from + i)
+  part_state from to i few inside =
+      let q : ℕ = get_or (drop from (take to reached)) i 0 in
+      let n : length (take to reached) ≡ to = length-take-le to reached (omega (arith, few, are.ordered)) in
+      let m : length (drop from (take to reached)) ≡ length (take to reached) - from = length-drop from (take to reached) in
+      let l : from + i < to = omega (arith, n, m, inside) in
+      let is : get_or reached (from + i) q ≡ q = sym (get_or-take to reached (from + i) q l) ∙ (sym (get_or-drop from (take to reached) i q) ∙ get_or_default_zero (drop from (take to reached)) i q inside) in
+      let r = place_of (from + i) q (omega (arith, l, few, are.ordered)) is in
+      let same : get_or places q 0 ≡ from + i = r.1 in
+      at-map (kept_at kept states) places q r.0 ∙ (ap (kept_at kept states) same ∙ below kept states (from + i) (omega (arith, l, few)))
 
   -- a batch of points of level 0 is kept, and beside level 0 all that is kept is settled
   module _ (first : ℕ) (few : first ≤ kept) where

@@ -1,49 +1,48 @@
 //! What a kept point gives to others.
 
-ghost use Rattle.std.specs.Prelude.{◌≡◌, ◌<◌, Some, length};
-ghost use Rattle.state_defs.specs.declared.state.State.{State as StateValue};
+ghost use Rattle.std.specs.Prelude.{◌≡◌, ◌<◌, length};
 ghost use Rattle.state_defs.specs.Move.{move};
 ghost use Rattle.machine_defs.specs.Program.{Program};
 ghost use Rattle.machine_defs.specs.Kept.{brought_along, moved as moved_by};
 ghost use Rattle.program_graph.specs.Tells.{Tells};
-ghost use Rattle.kept_states.specs.LevelStates.{StaysSame, at};
+ghost use Rattle.kept_states.specs.LevelStates.{StaysSame};
+ghost use Rattle.kept_states.specs.Packed.{state_of};
 ghost use Rattle.kept_states.specs.Passages.{ArePassages};
 ghost use Rattle.kept_states.specs.Told.{given_along, given_to_restore, offer_all};
 
 use crate::levels::Levels;
 use crate::moves::moved;
+use crate::packed::PackedState;
 use crate::passages::{Passage, passage_at};
 use machine_defs::{Edge, EdgeKind};
 use program_graph::Graph;
 
-/// Offers a point the state that another one keeps, moved by its operation, if that isn't refused.
+/// Offers a point the state of another one, moved by its operation, if that isn't refused.
 #[inline(never)]
-fn offer_stepped(graph: &Graph, levels: &mut Levels, from: u32, to: u32)
+fn offer_stepped(graph: &Graph, levels: &mut Levels, state: PackedState, from: u32, to: u32)
     requires points { length levels.old.kept ≡ length graph.now.parts.points.items }
-    requires from { from < length levels.old.kept }
-    requires point { to < length levels.old.kept }
+    requires from { from < length graph.now.parts.points.items }
+    requires point { to < length graph.now.parts.points.items }
     ensures kept { levels.new.kept ≡ levels.old.kept }
     ensures front { levels.new.front ≡ levels.old.front }
     ensures done { levels.new.done ≡ levels.old.done }
     ensures same { StaysSame levels.old levels.new }
     ensures len { length levels.new.next.states ≡ length levels.old.next.states }
-    ensures next { (p : Program) (s : StateValue) → Tells p graph.now.parts → at levels.old.kept from ≡ Some s → levels.new.next ≡ offer_all levels.old.kept levels.old.next to (moved_by (move s (p.insn from).op)) }
+    ensures next { (p : Program) → Tells p graph.now.parts → levels.new.next ≡ offer_all levels.old.kept levels.old.next to (moved_by (move (state_of state) (p.insn from).op)) }
 {
-    let Some(state) = levels.packed(from) else {
-        return;
-    };
     if let Some(after) = moved(state, graph.insn(from).op) {
         levels.offer(to, after);
     }
 }
 
-/// Offers a point the state that another one keeps, moved by its operation, if that isn't refused. Where the operation
+/// Offers a point the state of another one, moved by its operation, if that isn't refused. Where the operation
 /// leaves the state as it is, it is handed on as it stands.
 #[inline(always)]
 pub(crate) fn offer_moved(
     graph: &Graph,
     passages: &[Passage],
     levels: &mut Levels,
+    state: PackedState,
     from: u32,
     to: u32,
 )
@@ -57,46 +56,23 @@ pub(crate) fn offer_moved(
     ensures done { levels.new.done ≡ levels.old.done }
     ensures same { StaysSame levels.old levels.new }
     ensures len { length levels.new.next.states ≡ length levels.old.next.states }
-    ensures next { (p : Program) (s : StateValue) → Tells p graph.now.parts → at levels.old.kept from ≡ Some s → levels.new.next ≡ offer_all levels.old.kept levels.old.next to (moved_by (move s (p.insn from).op)) }
+    ensures next { (p : Program) → Tells p graph.now.parts → levels.new.next ≡ offer_all levels.old.kept levels.old.next to (moved_by (move (state_of state) (p.insn from).op)) }
 {
-    if passage_at(passages, from).is_neutral && levels.is_short(from) {
-        levels.pass_on(to, from);
+    if passage_at(passages, from).is_neutral && state.slot.is_short() {
+        levels.offer(to, state);
     } else {
-        offer_stepped(graph, levels, from, to);
+        offer_stepped(graph, levels, state, from, to);
     }
 }
 
-/// Offers the point at an edge's end what is brought along it: to a fixup the state before the instruction, else the one
+/// Offers the point at an edge's end what a state brings along it: to a fixup the state before the instruction, else the one
 /// after it; to another function none.
 #[inline(always)]
-fn bring_along(graph: &Graph, passages: &[Passage], levels: &mut Levels, from: u32, edge: Edge)
-    requires points { length levels.old.kept ≡ length graph.now.parts.points.items }
-    requires passages { length passages.now ≡ length graph.now.parts.points.items }
-    requires told { (p : Program) → Tells p graph.now.parts → ArePassages p passages.now }
-    requires from { from < length graph.now.parts.points.items }
-    requires point { edge.to < length graph.now.parts.points.items }
-    ensures kept { levels.new.kept ≡ levels.old.kept }
-    ensures front { levels.new.front ≡ levels.old.front }
-    ensures done { levels.new.done ≡ levels.old.done }
-    ensures same { StaysSame levels.old levels.new }
-    ensures len { length levels.new.next.states ≡ length levels.old.next.states }
-    ensures next { (p : Program) (s : StateValue) → Tells p graph.now.parts → at levels.old.kept from ≡ Some s → levels.new.next ≡ offer_all levels.old.kept levels.old.next edge.to (brought_along s (p.insn from).op edge.kind) }
-{
-    match edge.kind {
-        EdgeKind::Next | EdgeKind::Taken | EdgeKind::Table => {
-            offer_moved(graph, passages, levels, from, edge.to);
-        }
-        EdgeKind::Fixup => levels.pass_on(edge.to, from),
-        EdgeKind::Sibling => {}
-    }
-}
-
-/// Offers the point at an edge's end what a point that is kept gives along it.
-#[inline(always)]
-pub(crate) fn give_along(
+fn bring_along(
     graph: &Graph,
     passages: &[Passage],
     levels: &mut Levels,
+    state: PackedState,
     from: u32,
     edge: Edge,
 )
@@ -110,26 +86,56 @@ pub(crate) fn give_along(
     ensures done { levels.new.done ≡ levels.old.done }
     ensures same { StaysSame levels.old levels.new }
     ensures len { length levels.new.next.states ≡ length levels.old.next.states }
-    ensures next { (p : Program) (s : StateValue) → Tells p graph.now.parts → at levels.old.kept from ≡ Some s → levels.new.next ≡ offer_all levels.old.kept levels.old.next edge.to (given_along p s (p.insn from).op edge) }
+    ensures next { (p : Program) → Tells p graph.now.parts → levels.new.next ≡ offer_all levels.old.kept levels.old.next edge.to (brought_along (state_of state) (p.insn from).op edge.kind) }
 {
-    if passage_at(passages, edge.to).is_open {
-        bring_along(graph, passages, levels, from, edge);
+    match edge.kind {
+        EdgeKind::Next | EdgeKind::Taken | EdgeKind::Table => {
+            offer_moved(graph, passages, levels, state, from, edge.to);
+        }
+        EdgeKind::Fixup => levels.offer(edge.to, state),
+        EdgeKind::Sibling => {}
     }
 }
 
-/// Offers a RESTORE the state of its SAVE, which is kept.
-pub(crate) fn give_to_restore(graph: &Graph, levels: &mut Levels, save: u32, restore: u32)
+/// Offers the point at an edge's end what a point with a state gives along it.
+#[inline(always)]
+pub(crate) fn give_along(
+    graph: &Graph,
+    passages: &[Passage],
+    levels: &mut Levels,
+    state: PackedState,
+    from: u32,
+    edge: Edge,
+)
     requires points { length levels.old.kept ≡ length graph.now.parts.points.items }
-    requires save { save < length graph.now.parts.points.items }
+    requires passages { length passages.now ≡ length graph.now.parts.points.items }
+    requires told { (p : Program) → Tells p graph.now.parts → ArePassages p passages.now }
+    requires from { from < length graph.now.parts.points.items }
+    requires point { edge.to < length graph.now.parts.points.items }
+    ensures kept { levels.new.kept ≡ levels.old.kept }
+    ensures front { levels.new.front ≡ levels.old.front }
+    ensures done { levels.new.done ≡ levels.old.done }
+    ensures same { StaysSame levels.old levels.new }
+    ensures len { length levels.new.next.states ≡ length levels.old.next.states }
+    ensures next { (p : Program) → Tells p graph.now.parts → levels.new.next ≡ offer_all levels.old.kept levels.old.next edge.to (given_along p (state_of state) (p.insn from).op edge) }
+{
+    if passage_at(passages, edge.to).is_open {
+        bring_along(graph, passages, levels, state, from, edge);
+    }
+}
+
+/// Offers a RESTORE the state of its SAVE.
+pub(crate) fn give_to_restore(graph: &Graph, levels: &mut Levels, state: PackedState, restore: u32)
+    requires points { length levels.old.kept ≡ length graph.now.parts.points.items }
     requires point { restore < length graph.now.parts.points.items }
     ensures kept { levels.new.kept ≡ levels.old.kept }
     ensures front { levels.new.front ≡ levels.old.front }
     ensures done { levels.new.done ≡ levels.old.done }
     ensures same { StaysSame levels.old levels.new }
     ensures len { length levels.new.next.states ≡ length levels.old.next.states }
-    ensures next { (p : Program) (s : StateValue) → Tells p graph.now.parts → at levels.old.kept save ≡ Some s → levels.new.next ≡ offer_all levels.old.kept levels.old.next restore (given_to_restore p s restore) }
+    ensures next { (p : Program) → Tells p graph.now.parts → levels.new.next ≡ offer_all levels.old.kept levels.old.next restore (given_to_restore p (state_of state) restore) }
 {
     if !graph.unchecked(restore) {
-        levels.pass_on(restore, save);
+        levels.offer(restore, state);
     }
 }

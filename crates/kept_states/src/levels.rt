@@ -174,6 +174,15 @@ impl Levels {
         self.reached[self.front_from + i]
     }
 
+    /// The state of a point that is kept since the last level, packed.
+    #[inline(always)]
+    pub(crate) fn front_state(&self, i: usize) -> PackedState
+        requires { i < length self.now.front }
+        ensures { at self.now.kept (slice_index self.now.front i) ≡ Some (state_of result) }
+    {
+        self.states.packed(self.front_from + i)
+    }
+
     /// Whether a point is known to have given in this batch.
     pub(crate) fn has_given(&self, n: u32) -> bool
         requires { n < length self.now.kept }
@@ -196,6 +205,23 @@ impl Levels {
     /// Offers a point a state for the next level.
     #[inline(always)]
     pub(crate) fn offer(&mut self, n: u32, state: PackedState)
+        requires { n < length self.old.kept }
+        ensures kept { self.new.kept ≡ self.old.kept }
+        ensures front { self.new.front ≡ self.old.front }
+        ensures done { self.new.done ≡ self.old.done }
+        ensures firsts { self.new.firsts ≡ self.old.firsts }
+        ensures next { self.new.next ≡ offered self.old.kept self.old.next n (state_of state) }
+    {
+        if self.is_reached(n) {
+            self.offer_again(n, state);
+        } else {
+            self.offer_new(n, state);
+        }
+    }
+
+    /// Offers a point that is likely to be reached a state for the next level.
+    #[inline(never)]
+    fn offer_again(&mut self, n: u32, state: PackedState)
         requires { n < length self.old.kept }
         ensures kept { self.new.kept ≡ self.old.kept }
         ensures front { self.new.front ≡ self.old.front }
@@ -231,42 +257,6 @@ impl Levels {
         self.places[n as usize] = self.states.len() as u32;
         self.reached.push_reserved(n);
         self.states.push(state);
-    }
-
-    /// Offers a point the state that another one keeps.
-    #[inline(always)]
-    pub(crate) fn pass_on(&mut self, n: u32, from: u32)
-        requires point { n < length self.old.kept }
-        requires from { from < length self.old.kept }
-        ensures kept { self.new.kept ≡ self.old.kept }
-        ensures front { self.new.front ≡ self.old.front }
-        ensures done { self.new.done ≡ self.old.done }
-        ensures same { StaysSame self.old self.new }
-        ensures len { length self.new.next.states ≡ length self.old.next.states }
-        ensures next { (s : State) → at self.old.kept from ≡ Some s → self.new.next ≡ offered self.old.kept self.old.next n s }
-    {
-        if self.is_reached(n) {
-            self.pass_on_again(n, from);
-        } else if let Some(state) = self.packed(from) {
-            self.offer_new(n, state);
-        }
-    }
-
-    /// Offers a point that is likely to be reached the state that another one keeps.
-    #[inline(never)]
-    fn pass_on_again(&mut self, n: u32, from: u32)
-        requires point { n < length self.old.kept }
-        requires from { from < length self.old.kept }
-        ensures kept { self.new.kept ≡ self.old.kept }
-        ensures front { self.new.front ≡ self.old.front }
-        ensures done { self.new.done ≡ self.old.done }
-        ensures same { StaysSame self.old self.new }
-        ensures len { length self.new.next.states ≡ length self.old.next.states }
-        ensures next { (s : State) → at self.old.kept from ≡ Some s → self.new.next ≡ offered self.old.kept self.old.next n s }
-    {
-        if let Some(state) = self.packed(from) {
-            self.offer(n, state);
-        }
     }
 
     /// Whether a point keeps a state, or was offered one.

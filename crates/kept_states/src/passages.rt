@@ -11,6 +11,7 @@ ghost use Rattle.kept_states.specs.Passages.{ArePassages, GivesSo, IsPassage, Is
 
 use crate::neutral::is_neutral;
 use machine_defs::{Edge, EdgeKind};
+use operation_defs::Op;
 use ot_base::NoMemory;
 use program_graph::Graph;
 use state_defs::HintState;
@@ -87,7 +88,7 @@ fn is_hinted(graph: &Graph, n: u32) -> bool
     ensures hint { result ≡ false → (p : Program) → Tells p graph.now.parts → p.hint n ≡ None }
     ensures meant { result ≡ false → (p : Program) → Tells p graph.now.parts → (r : ℕ) → Means p n r → ⊥ }
 {
-    !graph.is_usual(n) && (graph.hint(n).is_some() || !graph.restores(n).is_empty())
+    graph.hint(n).is_some() || !graph.restores(n).is_empty()
 }
 
 /// Whether the hint at a point, if it has one, lets states come in along edges.
@@ -95,7 +96,7 @@ fn takes_states(graph: &Graph, n: u32) -> bool
     requires { n < length graph.now.parts.points.items }
     ensures { (p : Program) → Tells p graph.now.parts → result ≡ is_free_hint (p.hint n) }
 {
-    graph.is_usual(n) || is_free(graph.hint(n))
+    is_free(graph.hint(n))
 }
 
 /// Whether a point may be of level 0, or meant by a RESTORE.
@@ -117,18 +118,61 @@ fn leads_straight(edge: Edge, n: u32) -> bool
     }
 }
 
-/// To which points a point gives something.
+/// To which points a point gives something that isn't special.
 #[inline(always)]
+fn ordinary_giving(graph: &Graph, n: u32) -> Giving
+    requires point { n < length graph.now.parts.points.items }
+    requires first { (p : Program) → Tells p graph.now.parts → state_at p 0 n ≡ None }
+    requires meant { (p : Program) → Tells p graph.now.parts → (r : ℕ) → Means p n r → ⊥ }
+    ensures { (p : Program) → Tells p graph.now.parts → GivesSo p n result }
+{
+    match graph.only_edge(n) {
+        Some(edge) if leads_straight(edge, n) => Giving::Straight,
+        Some(_) | None => Giving::AlongEdges,
+    }
+}
+
+/// To which points a point gives something.
 fn giving_of(graph: &Graph, n: u32) -> Giving
     requires { n < length graph.now.parts.points.items }
     ensures { (p : Program) → Tells p graph.now.parts → GivesSo p n result }
 {
     if is_special(graph, n) {
-        return Giving::Special;
+        Giving::Special
+    } else {
+        ordinary_giving(graph, n)
     }
-    match graph.only_edge(n) {
-        Some(edge) if leads_straight(edge, n) => Giving::Straight,
-        Some(_) | None => Giving::AlongEdges,
+}
+
+/// How states pass a point, whatever it is, whose owner is checked or not.
+#[inline(never)]
+fn rare_passage(graph: &Graph, n: u32, is_unchecked: bool) -> Passage
+    requires point { n < length graph.now.parts.points.items }
+    requires unchecked { (p : Program) → Tells p graph.now.parts → is_unchecked ≡ p.unchecked n }
+    ensures { (p : Program) → Tells p graph.now.parts → IsPassage p n result }
+{
+    Passage {
+        is_open: !is_unchecked && takes_states(graph, n),
+        is_neutral: is_neutral(graph.insn(n).op),
+        giving: giving_of(graph, n),
+    }
+}
+
+/// How states pass a usual point with this operation, whose owner is checked or not.
+#[inline(always)]
+fn usual_passage(graph: &Graph, n: u32, op: Op, is_unchecked: bool) -> Passage
+    requires point { n < length graph.now.parts.points.items }
+    requires unchecked { (p : Program) → Tells p graph.now.parts → is_unchecked ≡ p.unchecked n }
+    requires op { (p : Program) → Tells p graph.now.parts → op ≡ (p.insn n).op }
+    requires hint { (p : Program) → Tells p graph.now.parts → p.hint n ≡ None }
+    requires first { (p : Program) → Tells p graph.now.parts → state_at p 0 n ≡ None }
+    requires meant { (p : Program) → Tells p graph.now.parts → (r : ℕ) → Means p n r → ⊥ }
+    ensures { (p : Program) → Tells p graph.now.parts → IsPassage p n result }
+{
+    Passage {
+        is_open: !is_unchecked,
+        is_neutral: is_neutral(op),
+        giving: ordinary_giving(graph, n),
     }
 }
 
@@ -139,10 +183,9 @@ pub(crate) fn passage_of(graph: &Graph, n: u32, is_unchecked: bool) -> Passage
     requires unchecked { (p : Program) → Tells p graph.now.parts → is_unchecked ≡ p.unchecked n }
     ensures { (p : Program) → Tells p graph.now.parts → IsPassage p n result }
 {
-    Passage {
-        is_open: !is_unchecked && takes_states(graph, n),
-        is_neutral: is_neutral(graph.insn(n).op),
-        giving: giving_of(graph, n),
+    match graph.usual_op(n) {
+        Some(op) => usual_passage(graph, n, op, is_unchecked),
+        None => rare_passage(graph, n, is_unchecked),
     }
 }
 

@@ -132,6 +132,7 @@ impl Slot {
     }
 
     /// A quick test whether two slots hold the same state, which isn't wide.
+    #[inline(always)]
     pub(crate) fn is_alike(self, other: Slot) -> bool
         ensures { IsTrue result → (wide other_wide : NumbersValue) → state_in self wide ≡ state_in other other_wide }
     {

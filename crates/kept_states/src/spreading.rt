@@ -72,11 +72,12 @@ fn give_each(graph: &Graph, passages: &[Passage], levels: &mut Levels, i: usize)
     ensures given { (p : Program) → Tells p graph.now.parts → HaveGiven p levels.new (i + 1) }
 {
     let a = levels.front(i);
+    let state = levels.front_state(i);
     for edge in giving_edges(graph, levels, i, a) {
-        give_along(graph, passages, levels, a, *edge);
+        give_along(graph, passages, levels, state, a, *edge);
     }
     for restore in restores_of(graph, passages, a) {
-        give_to_restore(graph, levels, a, *restore);
+        give_to_restore(graph, levels, state, *restore);
     }
 }
 
@@ -99,7 +100,8 @@ fn give(graph: &Graph, passages: &[Passage], levels: &mut Levels, i: usize)
 {
     let a = levels.front(i);
     if let Some(next) = straight_next(passages, a) {
-        offer_moved(graph, passages, levels, a, next);
+        let state = levels.front_state(i);
+        offer_moved(graph, passages, levels, state, a, next);
     } else {
         give_each(graph, passages, levels, i);
     }

@@ -7,8 +7,8 @@ use Rattle.state_defs.specs.declared.state.State.{State}
 use Rattle.machine_defs.specs.Kept.{edges_of}
 use Rattle.kept_states.specs.Gives.{IsGiven}
 use Rattle.kept_states.specs.LevelStates.{Offers, at}
-use Rattle.kept_states.specs.Told.{AreLeast, HaveGiven, offer_all, given_along, given_to_restore}
-use Rattle.kept_states.proofs.LevelSteps.{state_of_some}
+use Rattle.kept_states.specs.Packed.{state_of}
+use Rattle.kept_states.specs.Told.{AreLeast, offer_all, given_along, given_to_restore}
 use Rattle.kept_states.proofs.Giving.{WithEdges, WithRestores, no_edge, edge_more, no_restore, in_vain, restore_more, given_more}
 use Rattle.kept_states.proofs.Rounds.{same_still}
 use Rattle.kept_states.proofs.spreading.give_each.Goals as goal
@@ -20,7 +20,7 @@ loop-edge-init c = record {
   done = refl;
   same = (refl, refl, λ e. e);
   next = c.requires.next;
-  given = λ p s t e. no_edge c.args.levels.now.kept p s (IsGiven p (at c.args.levels.now.kept) (take c.args.i c.args.levels.now.front)) c.args.levels.now.next (p.insn c.front-a.result).op c.giving_edges-edge-items.result.now (c.requires.given p t);
+  given = λ p t. no_edge c.args.levels.now.kept p (state_of c.front_state-state.result) (IsGiven p (at c.args.levels.now.kept) (take c.args.i c.args.levels.now.front)) c.args.levels.now.next (p.insn c.front-a.result).op c.giving_edges-edge-items.result.now (c.requires.given p t);
 }
 
 pub loop-edge-preserved : goal.loop-edge-preserved
@@ -38,14 +38,14 @@ loop-edge-preserved c =
       done = c.give_along.ensures.done ∙ c.loop-edge.invariant.done;
       same = same_still c.args.levels.now c.loop-edge.levels c.give_along.new.levels c.loop-edge.invariant.same c.give_along.ensures.same;
       next = c.give_along.ensures.len ∙ long;
-      given = λ p s t has.
+      given = λ p t.
+          let s : State = state_of c.front_state-state.result in
           let gift : List State = given_along p s (p.insn c.front-a.result).op e in
           let A : ℕ → State → Type 0 = IsGiven p (at kept) (take c.args.i c.args.levels.now.front) in
-          let still : at c.loop-edge.levels.kept c.front-a.result ≡ Some s = ap (λ (k : List (Option State)). at k c.front-a.result) c.loop-edge.invariant.kept ∙ has in
           let m : c.give_along.new.levels.next ≡ offer_all kept c.loop-edge.levels.next e.to gift =
-          c.give_along.ensures.next p s t still ∙ ap (λ (k : List (Option State)). offer_all k c.loop-edge.levels.next e.to gift) c.loop-edge.invariant.kept in
+          c.give_along.ensures.next p t ∙ ap (λ (k : List (Option State)). offer_all k c.loop-edge.levels.next e.to gift) c.loop-edge.invariant.kept in
           subst (λ (n : Offers). AreLeast kept n (WithEdges A p s (p.insn c.front-a.result).op (take (c.loop-edge.edge-index + 1) items))) (sym m)
-          (edge_more kept p s A c.loop-edge.levels.next (p.insn c.front-a.result).op items c.loop-edge.edge-index d e c.loop-edge-test.true refl inside (c.loop-edge.invariant.given p s t has));
+          (edge_more kept p s A c.loop-edge.levels.next (p.insn c.front-a.result).op items c.loop-edge.edge-index d e c.loop-edge-test.true refl inside (c.loop-edge.invariant.given p t));
     }
 
 pub loop-restore-init : goal.loop-restore-init
@@ -55,13 +55,15 @@ loop-restore-init c = record {
   done = c.loop-edge.invariant.done;
   same = c.loop-edge.invariant.same;
   next = c.loop-edge.invariant.next;
-  given = λ p s t has.
+  given = λ p t.
       let kept : List (Option State) = c.args.levels.now.kept in
+      let s : State = state_of c.front_state-state.result in
+      let has : at kept c.front-a.result ≡ Some s = ap (at kept) c.front-a.ensures.front ∙ c.front_state-state.ensures in
       let items : List Edge = c.giving_edges-edge-items.result.now in
       let A : ℕ → State → Type 0 = IsGiven p (at kept) (take c.args.i c.args.levels.now.front) in
       let next : Offers = c.loop-edge.levels.next in
       let listed : AreLeast kept next (WithEdges A p s (p.insn c.front-a.result).op items) =
-      subst (λ (es : List Edge). AreLeast kept next (WithEdges A p s (p.insn c.front-a.result).op es)) (take_all c.loop-edge.edge-index items c.loop-edge-test.false) (c.loop-edge.invariant.given p s t has) in
+      subst (λ (es : List Edge). AreLeast kept next (WithEdges A p s (p.insn c.front-a.result).op es)) (take_all c.loop-edge.edge-index items c.loop-edge-test.false) (c.loop-edge.invariant.given p t) in
       let edges : AreLeast kept next (WithEdges A p s (p.insn c.front-a.result).op (edges_of p c.front-a.result)) = elim (c.giving_edges-edge-items.ensures.edges p t (c.requires.done p t)) [
         | inl e ↦ subst (λ (es : List Edge). AreLeast kept next (WithEdges A p s (p.insn c.front-a.result).op es)) e listed
         | inr r ↦ in_vain p c.args.levels.now next c.args.i c.front-a.result s (t.count ∙ sym c.requires.points) has r.1 c.loop-edge.invariant.same.1 c.loop-edge.invariant.same.2 (subst (λ (es : List Edge). AreLeast kept next (WithEdges A p s (p.insn c.front-a.result).op es)) r.0 listed)
@@ -83,29 +85,28 @@ loop-restore-preserved c =
       done = c.give_to_restore.ensures.done ∙ c.loop-restore.invariant.done;
       same = same_still c.args.levels.now c.loop-restore.levels c.give_to_restore.new.levels c.loop-restore.invariant.same c.give_to_restore.ensures.same;
       next = c.give_to_restore.ensures.len ∙ long;
-      given = λ p s t has.
+      given = λ p t.
+          let s : State = state_of c.front_state-state.result in
           let gift : List State = given_to_restore p s r in
           let A : ℕ → State → Type 0 = WithEdges (IsGiven p (at kept) (take c.args.i c.args.levels.now.front)) p s (p.insn c.front-a.result).op (edges_of p c.front-a.result) in
-          let still : at c.loop-restore.levels.kept c.front-a.result ≡ Some s = ap (λ (k : List (Option State)). at k c.front-a.result) c.loop-restore.invariant.kept ∙ has in
           let m : c.give_to_restore.new.levels.next ≡ offer_all kept c.loop-restore.levels.next r gift =
-          c.give_to_restore.ensures.next p s t still ∙ ap (λ (k : List (Option State)). offer_all k c.loop-restore.levels.next r gift) c.loop-restore.invariant.kept in
+          c.give_to_restore.ensures.next p t ∙ ap (λ (k : List (Option State)). offer_all k c.loop-restore.levels.next r gift) c.loop-restore.invariant.kept in
           subst (λ (n : Offers). AreLeast kept n (WithRestores A p s (take (c.loop-restore.restore-index + 1) items))) (sym m)
-          (restore_more kept p s A c.loop-restore.levels.next items c.loop-restore.restore-index r c.loop-restore-test.true refl inside (c.loop-restore.invariant.given p s t has));
+          (restore_more kept p s A c.loop-restore.levels.next items c.loop-restore.restore-index r c.loop-restore-test.true refl inside (c.loop-restore.invariant.given p t));
     }
 
 pub returns-clause-given : goal.returns-clause-given
-returns-clause-given c p t = all (state_of_some (at c.args.levels.now.kept c.front-a.result) c.front-a.ensures.kept)
-  where
-    all : (s : State) × (at c.args.levels.now.kept c.front-a.result ≡ Some s) → HaveGiven p c.loop-restore.levels (c.args.i + 1)
-    all (s, has) =
-        let items : List ℕ = c.restores_of-restore-items.result.now in
-        let kept : List (Option State) = c.args.levels.now.kept in
-        let front : List ℕ = c.args.levels.now.front in
-        let next : Offers = c.loop-restore.levels.next in
-        let A : ℕ → State → Type 0 = WithEdges (IsGiven p (at kept) (take c.args.i front)) p s (p.insn c.front-a.result).op (edges_of p c.front-a.result) in
-        let all : AreLeast kept next (WithRestores A p s items) =
-        subst (λ (rs : List ℕ). AreLeast kept next (WithRestores A p s rs)) (take_all c.loop-restore.restore-index items c.loop-restore-test.false) (c.loop-restore.invariant.given p s t has) in
-        let more : AreLeast kept next (IsGiven p (at kept) (take (c.args.i + 1) front)) =
-        given_more p kept front c.args.i c.front-a.result c.requires.inside c.front-a.ensures.front (t.count ∙ sym c.requires.points) next s items has (c.restores_of-restore-items.ensures.restores p t) all in
-        subst (λ (k : List (Option State)). AreLeast k next (IsGiven p (at k) (take (c.args.i + 1) c.loop-restore.levels.front))) (sym c.loop-restore.invariant.kept)
-        (subst (λ (f : List ℕ). AreLeast kept next (IsGiven p (at kept) (take (c.args.i + 1) f))) (sym c.loop-restore.invariant.front) more)
+returns-clause-given c p t =
+    let items : List ℕ = c.restores_of-restore-items.result.now in
+    let kept : List (Option State) = c.args.levels.now.kept in
+    let front : List ℕ = c.args.levels.now.front in
+    let next : Offers = c.loop-restore.levels.next in
+    let s : State = state_of c.front_state-state.result in
+    let has : at kept c.front-a.result ≡ Some s = ap (at kept) c.front-a.ensures.front ∙ c.front_state-state.ensures in
+    let A : ℕ → State → Type 0 = WithEdges (IsGiven p (at kept) (take c.args.i front)) p s (p.insn c.front-a.result).op (edges_of p c.front-a.result) in
+    let all : AreLeast kept next (WithRestores A p s items) =
+    subst (λ (rs : List ℕ). AreLeast kept next (WithRestores A p s rs)) (take_all c.loop-restore.restore-index items c.loop-restore-test.false) (c.loop-restore.invariant.given p t) in
+    let more : AreLeast kept next (IsGiven p (at kept) (take (c.args.i + 1) front)) =
+    given_more p kept front c.args.i c.front-a.result c.requires.inside c.front-a.ensures.front (t.count ∙ sym c.requires.points) next s items has (c.restores_of-restore-items.ensures.restores p t) all in
+    subst (λ (k : List (Option State)). AreLeast k next (IsGiven p (at k) (take (c.args.i + 1) c.loop-restore.levels.front))) (sym c.loop-restore.invariant.kept)
+    (subst (λ (f : List ℕ). AreLeast kept next (IsGiven p (at kept) (take (c.args.i + 1) f))) (sym c.loop-restore.invariant.front) more)

@@ -5,7 +5,7 @@ use Rattle.kept_states.specs.Packed.{state_of}
 use Rattle.kept_states.specs.Reached.{kept_at, offered_at, settled_at}
 use Rattle.kept_states.proofs.Places.{point_inside, read_place, leaves_kept, kept_same, offered_better, better_reached}
 use Rattle.kept_states.proofs.Firsts.{make_offers, same_offers, settled_of, behind_settled, or_false}
-use Rattle.kept_states.proofs.levels.Levels.offer.Goals as goal
+use Rattle.kept_states.proofs.levels.Levels.offer_again.Goals as goal
 
 pub returns-then-place-self-clause-next : goal.returns-then-place-self-clause-next
 returns-then-place-self-clause-next c =

@@ -1,6 +1,6 @@
 use Rattle.std.proofs.Common.{arith}
 use Rattle.std.proofs.lemmas.Grind.{common_steps}
-use Rattle.kept_states.proofs.passages.passage_of.Goals as goal
+use Rattle.kept_states.proofs.passages.rare_passage.Goals as goal
 
 pub returns : goal.returns
 returns c p t = record {
