@@ -1,6 +1,6 @@
 -- What is known of the bytes that were read before, and of those that are decoded.
 use Rattle.std.specs.Prelude.{◌↔◌}
-use Rattle.std.proofs.Common.{◌≡◌, ℕ, zero, suc, absurd, ◌+◌, ◌*◌, ◌-◌, ◌/◌, ◌%◌, ◌^◌, ◌<◌, ◌≤◌, List, [], ◌∷◌, take, drop, length, get_or, Result, Ok, Err, All, refl, sym, ap, ◌∙◌, subst, arith}
+use Rattle.std.proofs.Common.{◌≡◌, ℕ, zero, suc, ◌+◌, ◌*◌, ◌-◌, ◌/◌, ◌%◌, ◌^◌, ◌<◌, ◌≤◌, List, [], ◌∷◌, take, drop, length, get_or, Result, Ok, Err, All, refl, sym, ap, ◌∙◌, subst, arith}
 use Rattle.std.specs.Int.{w64, to_le_bytes}
 use Rattle.std.proofs.Math.Pow.{mod-mod-pow}
 use Rattle.std.proofs.lemmas.Nat.{field_of, shl-shr, shr-shr}
@@ -53,15 +53,24 @@ refusal map bytes Long outside cut long = long.0 refl
 byte_above : (x s i : ℕ) → s + i + 8 ≤ 64 → x * 2 ^ s % 2 ^ 64 / 2 ^ (s + i) % 2 ^ 8 ≡ x / 2 ^ i % 2 ^ 8
 byte_above x s i fits =
     let j : ℕ = 64 - (s + i) in
-    ap (λ n. x * 2 ^ s % 2 ^ n / 2 ^ (s + i) % 2 ^ 8) (omega arith)
+    let whole : 64 ≡ j + (s + i) = omega arith in
+    let part : j ≡ j - 8 + 8 = omega arith in
+    ap (λ n. x * 2 ^ s % 2 ^ n / 2 ^ (s + i) % 2 ^ 8) whole
     ∙ ap (λ n. n % 2 ^ 8) (field_of (x * 2 ^ s) j (s + i))
-    ∙ ap (λ n. x * 2 ^ s / 2 ^ (s + i) % 2 ^ n % 2 ^ 8) (omega arith)
+    ∙ ap (λ n. x * 2 ^ s / 2 ^ (s + i) % 2 ^ n % 2 ^ 8) part
     ∙ mod-mod-pow (x * 2 ^ s / 2 ^ (s + i)) (j - 8) 8
     ∙ ap (λ n. n % 2 ^ 8) (sym (shr-shr (x * 2 ^ s) s i) ∙ ap (λ n. n / 2 ^ i) (shl-shr x s))
 
 -- its lowest byte
 byte_first : (x s : ℕ) → s + 8 ≤ 64 → x * 2 ^ s % 2 ^ 64 / 2 ^ s % 2 ^ 8 ≡ x % 2 ^ 8
-byte_first x s fits = ap (λ n. x * 2 ^ s % 2 ^ 64 / 2 ^ n % 2 ^ 8) (omega arith) ∙ byte_above x s 0 (omega arith) ∙ ap (λ n. n % 2 ^ 8) (omega arith)
+byte_first x s fits =
+    let still : s ≡ s + 0 = omega arith in
+    let whole : x / 1 ≡ x = omega arith in
+    ap (λ n. x * 2 ^ s % 2 ^ 64 / 2 ^ n % 2 ^ 8) still ∙ byte_above x s 0 (omega arith) ∙ ap (λ n. n % 2 ^ 8) whole
+
+-- that of a number that isn't moved
+byte_kept : (x : ℕ) → x * 1 % 2 ^ 64 % 2 ^ 8 ≡ x % 2 ^ 8
+byte_kept x = let same : x * 1 ≡ x = omega arith in mod-mod-pow (x * 1) 56 8 ∙ ap (λ n. n % 2 ^ 8) same
 
 -- the lowest bytes are moved up to the end
 pub moved_up : (x len : ℕ) → 0 < len → len ≤ 8 → upper_bytes (x * 2 ^ (64 - 8 * len) % 2 ^ 64) len ≡ take len (to_le_bytes w64 x)
@@ -73,7 +82,7 @@ moved_up x (suc (suc (suc (suc zero)))) some few = λ i. byte_first x 32 (omega 
 moved_up x (suc (suc (suc (suc (suc zero))))) some few = λ i. byte_first x 24 (omega arith) i ∷ byte_above x 24 8 (omega arith) i ∷ byte_above x 24 16 (omega arith) i ∷ byte_above x 24 24 (omega arith) i ∷ byte_above x 24 32 (omega arith) i ∷ []
 moved_up x (suc (suc (suc (suc (suc (suc zero)))))) some few = λ i. byte_first x 16 (omega arith) i ∷ byte_above x 16 8 (omega arith) i ∷ byte_above x 16 16 (omega arith) i ∷ byte_above x 16 24 (omega arith) i ∷ byte_above x 16 32 (omega arith) i ∷ byte_above x 16 40 (omega arith) i ∷ []
 moved_up x (suc (suc (suc (suc (suc (suc (suc zero))))))) some few = λ i. byte_first x 8 (omega arith) i ∷ byte_above x 8 8 (omega arith) i ∷ byte_above x 8 16 (omega arith) i ∷ byte_above x 8 24 (omega arith) i ∷ byte_above x 8 32 (omega arith) i ∷ byte_above x 8 40 (omega arith) i ∷ byte_above x 8 48 (omega arith) i ∷ []
-moved_up x (suc (suc (suc (suc (suc (suc (suc (suc zero)))))))) some few = λ i. byte_first x 0 (omega arith) i ∷ byte_above x 0 8 (omega arith) i ∷ byte_above x 0 16 (omega arith) i ∷ byte_above x 0 24 (omega arith) i ∷ byte_above x 0 32 (omega arith) i ∷ byte_above x 0 40 (omega arith) i ∷ byte_above x 0 48 (omega arith) i ∷ byte_above x 0 56 (omega arith) i ∷ []
+moved_up x (suc (suc (suc (suc (suc (suc (suc (suc zero)))))))) some few = λ i. byte_kept x i ∷ byte_above x 0 8 (omega arith) i ∷ byte_above x 0 16 (omega arith) i ∷ byte_above x 0 24 (omega arith) i ∷ byte_above x 0 32 (omega arith) i ∷ byte_above x 0 40 (omega arith) i ∷ byte_above x 0 48 (omega arith) i ∷ byte_above x 0 56 (omega arith) i ∷ []
 moved_up x (suc (suc (suc (suc (suc (suc (suc (suc (suc len))))))))) some few = absurd (omega arith)
 
 -- ---- spellings
