@@ -140,7 +140,11 @@ fn guessed(kinds: &[Insn], recent: &[u32], hash: usize, insn: Insn) -> Option<u3
     ensures { IfSome result (λ n. slice_get kinds.now n ≡ Some insn) }
 {
     let number = *recent.get(hash)?;
-    if has_number(kinds, number, insn) { Some(number) } else { None }
+    if has_number(kinds, number, insn) {
+        Some(number)
+    } else {
+        None
+    }
 }
 
 /// Whether an instruction has this number among these.

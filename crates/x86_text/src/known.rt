@@ -75,7 +75,21 @@ impl Known {
         ensures { (map : OpcodeMap) → All (IsSpelling map) self.now.spellings.items → IfSome result (λ s. StandsInFront map bytes.now (insn_spelled s)) }
     {
         let first = first_eight(bytes)?;
-        let len = *self.lengths.get(length_place(first))?;
+        let by_few = self.find_by(bytes, first, few_of(first));
+        if by_few.is_some() {
+            return by_few;
+        }
+        self.find_by(bytes, first, four_of(first))
+    }
+
+    /// The spelling with which the bytes begin, of which these are the first eight, if it is known and as long as the last
+    /// one that was noted of those that begin with the telling ones.
+    #[inline(always)]
+    fn find_by(&self, bytes: &[u8], first: u64, telling: u64) -> Option<Spelling>
+        requires { to_le_bytes w64 first ≡ take 8 bytes.now }
+        ensures { (map : OpcodeMap) → All (IsSpelling map) self.now.spellings.items → IfSome result (λ s. StandsInFront map bytes.now (insn_spelled s)) }
+    {
+        let len = *self.lengths.get(length_place(telling))?;
         let front = upper_of(first, len)?;
         let spelling = *self.spellings.get(self.place_of(front))?;
         if spelling.front == front && spelling.len == len {
@@ -90,7 +104,8 @@ impl Known {
         ensures { (map : OpcodeMap) → All (IsSpelling map) self.old.spellings.items → StandsInFront map bytes.now insn → All (IsSpelling map) self.new.spellings.items }
     {
         if let Some(first) = first_eight(bytes) {
-            note_length(&mut self.lengths, first, insn.len);
+            note_length(&mut self.lengths, few_of(first), insn.len);
+            note_length(&mut self.lengths, four_of(first), insn.len);
             if let Some(front) = upper_of(first, insn.len) {
                 let place = self.place_of(front);
                 if place < self.spellings.len() {
@@ -107,8 +122,8 @@ impl Known {
 }
 
 /// Keeps how many bytes an instruction has that begins with these.
-fn note_length(lengths: &mut [u8], first: u64, len: u8) {
-    let place = length_place(first);
+fn note_length(lengths: &mut [u8], telling: u64, len: u8) {
+    let place = length_place(telling);
     if place < lengths.len() {
         lengths[place] = len;
     }
@@ -134,17 +149,28 @@ fn upper_of(first: u64, len: u8) -> Option<u64>
     Some(first << (64 - 8 * u32::from(len)))
 }
 
-/// Where the length of an instruction is kept that begins with these bytes. Mostly the first one to three of them tell it.
+/// Those of the first bytes, one to three, that mostly tell how long the instruction is.
 #[inline(always)]
-fn length_place(first: u64) -> usize {
+fn few_of(first: u64) -> u64 {
     let telling = match first & 0xFF {
-        0x50..=0x5F | 0x70..=0x7F | 0x90 | 0xB0..=0xBF | 0xC3 | 0xC9 | 0xCC | 0xE8 | 0xE9 | 0xEB => {
-            0xFF
-        }
+        0x50..=0x5F | 0x70..=0x7F | 0x90 | 0xB0..=0xBF | 0xC3 | 0xC9 | 0xCC | 0xE8 | 0xE9 | 0xEB =>
+            { 0xFF }
         0x0F | 0x40..=0x4F | 0x65 | 0x66 | 0xF0 | 0xF2 | 0xF3 => 0xFF_FFFF,
         _ => 0xFFFF,
     };
-    let hash = (first & telling).wrapping_mul(0x9E37_79B9_7F4A_7C15) >> 48;
+    first & telling
+}
+
+/// The first four bytes, and a bit that those few haven't.
+#[inline(always)]
+fn four_of(first: u64) -> u64 {
+    (first & 0xFFFF_FFFF) | (1 << 32)
+}
+
+/// Where the length of an instruction is kept that begins with these bytes.
+#[inline(always)]
+fn length_place(telling: u64) -> usize {
+    let hash = telling.wrapping_mul(0x9E37_79B9_7F4A_7C15) >> 48;
     hash as usize & (LENGTHS - 1)
 }
 

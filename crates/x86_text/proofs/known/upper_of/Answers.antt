@@ -8,5 +8,5 @@ returns c = (
   omega (arith, c.if-len-eq0.false),
   omega (arith, c.if-len-gt8.false),
   ap (λ n. upper_bytes (c.args.first * 2 ^ (64 - 8 * n) % 2 ^ 64) c.args.len) c.from.ensures
-  ∙ moved_up c.args.first c.args.len (omega (arith, c.if-len-eq0.false)) (omega (arith, c.if-len-gt8.false)),
+      ∙ moved_up c.args.first c.args.len (omega (arith, c.if-len-eq0.false)) (omega (arith, c.if-len-gt8.false)),
 )

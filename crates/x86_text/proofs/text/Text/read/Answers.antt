@@ -22,12 +22,14 @@ pub loop-off-preserved : goal.loop-off-preserved
 loop-off-preserved c =
     let each : (k : ℕ) → get_or c.args.body.now k 0 < 256 = λ k. omega (arith, c.type_inv.body k) in
     let insn : Insn = c.in_ok-insn.insn in
-    let lengths = decoded_lengths c.args.body.now c.loop-off.off each c.args.map insn c.in_ok-insn.ensures.insn in
-    (kept_more (read_by c.args.map c.args.body.now) c.loop-off.offsets.items c.push.new.self.items c.loop-off.table_jumps.items c.push_table_jump.new.jumps.items c.args.insns.now c.loop-off.insns c.read_insn.new.insns c.loop-off.off insn c.loop-off.invariant.0 c.loop-off-test.true c.in_ok-insn.ensures.insn
-    (decoded_stands c.args.body.now c.loop-off.off each c.args.map insn c.in_ok-insn.ensures.insn)
-    (decoded_only c.args.body.now c.loop-off.off each c.args.map insn c.in_ok-insn.ensures.insn)
-    lengths.0 lengths.2
-    c.in_ok-push.ensures.items c.in_ok-push_table_jump.ensures.added c.in_ok-insn.ensures.added, c.in_ok-insn.ensures.known)
+    let lengths = decoded_lengths c.args.body.now c.loop-off.off each c.args.map insn c.in_ok-insn.ensures.insn in (
+      kept_more (read_by c.args.map c.args.body.now) c.loop-off.offsets.items c.push.new.self.items c.loop-off.table_jumps.items c.push_table_jump.new.jumps.items c.args.insns.now c.loop-off.insns c.read_insn.new.insns c.loop-off.off insn c.loop-off.invariant.0 c.loop-off-test.true c.in_ok-insn.ensures.insn
+          (decoded_stands c.args.body.now c.loop-off.off each c.args.map insn c.in_ok-insn.ensures.insn)
+          (decoded_only c.args.body.now c.loop-off.off each c.args.map insn c.in_ok-insn.ensures.insn)
+          lengths.0 lengths.2
+          c.in_ok-push.ensures.items c.in_ok-push_table_jump.ensures.added c.in_ok-insn.ensures.added,
+      c.in_ok-insn.ensures.known,
+    )
 
 -- all is kept
 all : (c : goal.After-loop-off) → IsKept (read_by c.args.map c.args.body.now) c.loop-off.offsets.items c.loop-off.table_jumps.items × (c.loop-off.insns ≡ c.args.insns.now ++ insns_of (read_by c.args.map c.args.body.now))
