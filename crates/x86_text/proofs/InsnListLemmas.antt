@@ -63,26 +63,3 @@ moved_insn kinds numbers insns is to from number inside read =
     ∙ ap (kind_of kinds) (sym read) in
     let found : slice_get insns from ≡ Some insn = slice_get-get_or insns from any_insn inside ∙ ap (λ (i : Insn). Some i) here in
     subst (λ (o : Option Insn). IfSome o (λ i. insns_numbered kinds (set numbers to number) ≡ set insns to i)) (sym found) (map-set (kind_of kinds) numbers to number ∙ ap (λ (xs : List Insn). set xs to insn) is)
-
--- the one with a number is added again
-module _ (kinds : List Insn) (numbers : List ℕ) (are : AreNumbers kinds numbers) (insns : List Insn) (is : insns_numbered kinds numbers ≡ insns) (n number : ℕ) (insn : Insn) (inside : n < length insns) (read : number ≡ get_or numbers n number) (told : insn ≡ get_or kinds number insn) where
-  within_numbers : n < length numbers
-  within_numbers = omega (arith, inside, ap (λ (xs : List Insn). length xs) is, length-map numbers (kind_of kinds))
-
-  within_kinds : number < length kinds
-  within_kinds = subst (λ m. m < length kinds) (sym read) (are n number within_numbers)
-
-  in_kinds : slice_get kinds number ≡ Some insn
-  in_kinds = slice_get-get_or kinds number insn within_kinds ∙ ap (λ (i : Insn). Some i) (sym told)
-
-  pub told_insn : slice_get insns n ≡ Some insn
-  told_insn =
-      slice_get-get_or insns n any_insn inside
-      ∙ ap (λ (i : Insn). Some i)
-      (ap (λ (xs : List Insn). get_or xs n any_insn) (sym is)
-      ∙ get_or-map (kind_of kinds) numbers n number any_insn within_numbers
-      ∙ ap (kind_of kinds) (sym read)
-      ∙ get_or_from_slice_get kinds number insn any_insn in_kinds)
-
-  pub told_again : (after : List ℕ) → after ≡ numbers ++ number ∷ [] → insns_numbered kinds after ≡ insns ++ insn ∷ []
-  told_again = pushed_insns kinds kinds (λ k kind at. at) numbers are insns is number insn in_kinds

@@ -1,11 +1,10 @@
--- What bytes that were read before tell of bytes that are the same.
-use Rattle.std.specs.Prelude.{◌↔◌, slice_get}
-use Rattle.std.proofs.Common.{◌≡◌, ℕ, ◌+◌, ◌-◌, ◌<◌, ◌≤◌, List, ◌++◌, take, drop, length, length-drop, get_or, Result, Ok, Err, Some, inl, inr, refl, sym, ap, ◌∙◌, subst, arith}
-use Rattle.std.proofs.Math.Seq.{take-add}
-use Rattle.std.specs.Int.{w64, from_le_bytes, to_le_bytes}
-use Rattle.std.proofs.lemmas.Bool.{cases_lt}
-use Rattle.std.proofs.lemmas.Nat.{le_bytes_8}
-use Rattle.std.proofs.lemmas.List.{get_or-drop, get_or-take, get_or_past, length-take, take_all, take-take}
+-- What is known of the bytes that were read before, and of those that are decoded.
+use Rattle.std.specs.Prelude.{◌↔◌}
+use Rattle.std.proofs.Common.{◌≡◌, ℕ, zero, suc, ◌+◌, ◌*◌, ◌-◌, ◌/◌, ◌%◌, ◌^◌, ◌<◌, ◌≤◌, List, [], ◌∷◌, take, drop, length, get_or, Result, Ok, Err, All, refl, sym, ap, ◌∙◌, subst, arith}
+use Rattle.std.specs.Int.{w64, to_le_bytes}
+use Rattle.std.proofs.Math.Pow.{mod-mod-pow}
+use Rattle.std.proofs.lemmas.Nat.{field_of, shl-shr, shr-shr}
+use Rattle.std.proofs.lemmas.List.{get_or-drop, take-take}
 use Rattle.operation_defs.specs.declared.insn.Insn.{Insn}
 use Rattle.x86_map.specs.declared.map.Map.{Map}
 use Rattle.x86_decode.specs.declared.DecodeFault.{DecodeFault}
@@ -14,19 +13,16 @@ use Rattle.x86_decode.specs.Decoding.{Outcome, StandsInFront, EndsOutside, IsCut
 use Rattle.x86_decode.specs.Spelling.{Spells}
 use Rattle.x86_decode.proofs.Decided.{bytes_from_each, decides, lengths, outcome}
 use Rattle.x86_decode.proofs.Languages.{IsBytes}
-use Rattle.x86_text.specs.Code.{read_by}
-use Rattle.x86_text.specs.Known.{AreRead, IsAlike}
+use Rattle.x86_text.specs.declared.known.Spelling.{Spelling}
+use Rattle.x86_text.specs.Known.{insn_spelled, upper_bytes, IsSpelling}
 
 module _ (bytes : List ℕ) (off : ℕ) (each : (k : ℕ) → get_or bytes k 0 < 256) where
   still_bytes : IsBytes (drop off bytes)
   still_bytes = bytes_from_each (drop off bytes) (λ k. subst (λ b. b < 256) (sym (get_or-drop off bytes k 0)) (each (off + k)))
 
-  -- the instruction of the same bytes is decoded
-  pub alike_decoded : (map : Map) (offsets : List ℕ) (insns : List Insn) (n : ℕ) (insn : Insn) → AreRead (read_by map bytes) offsets insns → IsAlike bytes off offsets insns n → slice_get insns n ≡ Some insn → decoded map (drop off bytes) ≡ Ok insn
-  alike_decoded map offsets insns n insn read alike told =
-      let there = read alike.k insn alike.among (subst (λ m. slice_get insns m ≡ Some insn) alike.is told) in
-      let here : StandsInFront map (drop off bytes) insn = (there.0, subst (λ front. Spells map front insn) (alike.same insn told) there.1) in
-      (decides map (drop off bytes) still_bytes (decoded map (drop off bytes)) (Ok insn) refl).1 here
+  -- what stands in front is decoded
+  pub stands_decoded : (map : Map) (insn : Insn) → StandsInFront map (drop off bytes) insn → decoded map (drop off bytes) ≡ Ok insn
+  stands_decoded map insn here = (decides map (drop off bytes) still_bytes (decoded map (drop off bytes)) (Ok insn) refl).1 here
 
   module _ (map : Map) (insn : Insn) (is : decoded map (drop off bytes) ≡ Ok insn) where
     same_ok : (a b : Insn) → (let r : Result Insn DecodeFault = Ok b in r ≡ Ok a) → a ≡ b
@@ -51,33 +47,63 @@ refusal map bytes (Cut have) outside cut long = (cut have).0 refl
 refusal map bytes (Outside seen) outside cut long = (outside seen).0 refl
 refusal map bytes Long outside cut long = long.0 refl
 
--- two chunks that overlap or meet
-pub two_chunks : (n len : ℕ) (xs ys : List ℕ) → n ≤ len → len ≤ n + n → take n xs ≡ take n ys → take n (drop (len - n) xs) ≡ take n (drop (len - n) ys) → take len xs ≡ take len ys
-two_chunks n len xs ys least most front back =
-    let parts : (zs : List ℕ) → take len zs ≡ take (len - n) (take n zs) ++ take n (drop (len - n) zs) = λ zs.
-    ap (λ m. take m zs) (omega arith)
-    ∙ take-add (len - n) n zs
-    ∙ ap (λ (ws : List ℕ). ws ++ take n (drop (len - n) zs)) (sym (take-take (len - n) n zs (omega arith))) in
-    parts xs
-    ∙ ap (λ (ws : List ℕ). take (len - n) ws ++ take n (drop (len - n) xs)) front
-    ∙ ap (λ (ws : List ℕ). take (len - n) (take n ys) ++ ws) back
-    ∙ sym (parts ys)
+-- ---- numbers that are filled from above
 
--- where the second ones lie in what is left
-pub two_chunks_left : (n len : ℕ) (xs ys : List ℕ) → n ≤ len → len ≤ n + n → len ≤ length xs → len ≤ length ys → take n xs ≡ take n ys → take n (take (length xs - (len - n)) (drop (len - n) xs)) ≡ take n (take (length ys - (len - n)) (drop (len - n) ys)) → take len xs ≡ take len ys
-two_chunks_left n len xs ys least most in_xs in_ys front back =
-    two_chunks n len xs ys least most front
-    (ap (take n) (sym (take_all (length xs - (len - n)) (drop (len - n) xs) (simp length-drop (omega arith)))) ∙ back ∙ ap (take n) (take_all (length ys - (len - n)) (drop (len - n) ys) (simp length-drop (omega arith))))
+-- a byte of a number that is moved up
+byte_above : (x s i : ℕ) → s + i + 8 ≤ 64 → x * 2 ^ s % 2 ^ 64 / 2 ^ (s + i) % 2 ^ 8 ≡ x / 2 ^ i % 2 ^ 8
+byte_above x s i fits =
+    let j : ℕ = 64 - (s + i) in
+    let whole : 64 ≡ j + (s + i) = omega arith in
+    let part : j ≡ j - 8 + 8 = omega arith in
+    ap (λ n. x * 2 ^ s % 2 ^ n / 2 ^ (s + i) % 2 ^ 8) whole
+    ∙ ap (λ n. n % 2 ^ 8) (field_of (x * 2 ^ s) j (s + i))
+    ∙ ap (λ n. x * 2 ^ s / 2 ^ (s + i) % 2 ^ n % 2 ^ 8) part
+    ∙ mod-mod-pow (x * 2 ^ s / 2 ^ (s + i)) (j - 8) 8
+    ∙ ap (λ n. n % 2 ^ 8) (sym (shr-shr (x * 2 ^ s) s i) ∙ ap (λ n. n / 2 ^ i) (shl-shr x s))
 
--- the bytes of eight that make one number
-pub same_eight : (xs ys : List ℕ) (n m : ℕ) → 8 ≤ length xs → 8 ≤ length ys → ((k : ℕ) → get_or xs k 0 < 256) → ((k : ℕ) → get_or ys k 0 < 256) → n ≡ from_le_bytes w64 (take 8 xs) → m ≡ from_le_bytes w64 (take 8 ys) → n ≡ m → take 8 xs ≡ take 8 ys
-same_eight xs ys n m some_xs some_ys each_xs each_ys is_n is_m same =
-    sym (le_bytes_8 (take 8 xs) n (omega (arith, length-take 8 xs)) (still_each xs each_xs) is_n)
-    ∙ ap (to_le_bytes w64) same
-    ∙ le_bytes_8 (take 8 ys) m (omega (arith, length-take 8 ys)) (still_each ys each_ys) is_m
-  where
-    still_each : (zs : List ℕ) → ((k : ℕ) → get_or zs k 0 < 256) → (k : ℕ) → get_or (take 8 zs) k 0 < 256
-    still_each zs each k = elim (cases_lt k 8) [
-      | inl less ↦ subst (λ b. b < 256) (sym (get_or-take 8 zs k 0 less)) (each k)
-      | inr past ↦ subst (λ b. b < 256) (sym (get_or_past (take 8 zs) k 0 (omega (arith, length-take 8 zs)))) (omega arith)
-    ]
+-- its lowest byte
+byte_first : (x s : ℕ) → s + 8 ≤ 64 → x * 2 ^ s % 2 ^ 64 / 2 ^ s % 2 ^ 8 ≡ x % 2 ^ 8
+byte_first x s fits =
+    let still : s ≡ s + 0 = omega arith in
+    let whole : x / 1 ≡ x = omega arith in
+    ap (λ n. x * 2 ^ s % 2 ^ 64 / 2 ^ n % 2 ^ 8) still ∙ byte_above x s 0 (omega arith) ∙ ap (λ n. n % 2 ^ 8) whole
+
+-- that of a number that isn't moved
+byte_kept : (x : ℕ) → x * 1 % 2 ^ 64 % 2 ^ 8 ≡ x % 2 ^ 8
+byte_kept x = let same : x * 1 ≡ x = omega arith in mod-mod-pow (x * 1) 56 8 ∙ ap (λ n. n % 2 ^ 8) same
+
+-- the lowest bytes are moved up to the end
+pub moved_up : (x len : ℕ) → 0 < len → len ≤ 8 → upper_bytes (x * 2 ^ (64 - 8 * len) % 2 ^ 64) len ≡ take len (to_le_bytes w64 x)
+moved_up x zero some few = absurd (omega arith)
+moved_up x (suc zero) some few = λ i. byte_first x 56 (omega arith) i ∷ []
+moved_up x (suc (suc zero)) some few = λ i. byte_first x 48 (omega arith) i ∷ byte_above x 48 8 (omega arith) i ∷ []
+moved_up x (suc (suc (suc zero))) some few = λ i. byte_first x 40 (omega arith) i ∷ byte_above x 40 8 (omega arith) i ∷ byte_above x 40 16 (omega arith) i ∷ []
+moved_up x (suc (suc (suc (suc zero)))) some few = λ i. byte_first x 32 (omega arith) i ∷ byte_above x 32 8 (omega arith) i ∷ byte_above x 32 16 (omega arith) i ∷ byte_above x 32 24 (omega arith) i ∷ []
+moved_up x (suc (suc (suc (suc (suc zero))))) some few = λ i. byte_first x 24 (omega arith) i ∷ byte_above x 24 8 (omega arith) i ∷ byte_above x 24 16 (omega arith) i ∷ byte_above x 24 24 (omega arith) i ∷ byte_above x 24 32 (omega arith) i ∷ []
+moved_up x (suc (suc (suc (suc (suc (suc zero)))))) some few = λ i. byte_first x 16 (omega arith) i ∷ byte_above x 16 8 (omega arith) i ∷ byte_above x 16 16 (omega arith) i ∷ byte_above x 16 24 (omega arith) i ∷ byte_above x 16 32 (omega arith) i ∷ byte_above x 16 40 (omega arith) i ∷ []
+moved_up x (suc (suc (suc (suc (suc (suc (suc zero))))))) some few = λ i. byte_first x 8 (omega arith) i ∷ byte_above x 8 8 (omega arith) i ∷ byte_above x 8 16 (omega arith) i ∷ byte_above x 8 24 (omega arith) i ∷ byte_above x 8 32 (omega arith) i ∷ byte_above x 8 40 (omega arith) i ∷ byte_above x 8 48 (omega arith) i ∷ []
+moved_up x (suc (suc (suc (suc (suc (suc (suc (suc zero)))))))) some few = λ i. byte_kept x i ∷ byte_above x 0 8 (omega arith) i ∷ byte_above x 0 16 (omega arith) i ∷ byte_above x 0 24 (omega arith) i ∷ byte_above x 0 32 (omega arith) i ∷ byte_above x 0 40 (omega arith) i ∷ byte_above x 0 48 (omega arith) i ∷ byte_above x 0 56 (omega arith) i ∷ []
+moved_up x (suc (suc (suc (suc (suc (suc (suc (suc (suc len))))))))) some few = absurd (omega arith)
+
+-- ---- spellings
+
+module _ (map : Map) (bytes : List ℕ) (first front len : ℕ) (is : to_le_bytes w64 first ≡ take 8 bytes) (few : len ≤ 8) (above : upper_bytes front len ≡ take len (to_le_bytes w64 first)) where
+  same_bytes : upper_bytes front len ≡ take len bytes
+  same_bytes = above ∙ ap (take len) is ∙ take-take len 8 bytes few
+
+  -- a known one stands in front
+  pub stands_known : (s : Spelling) → s.front ≡ front → s.len ≡ len → 0 < len → IsSpelling map s → StandsInFront map bytes (insn_spelled s)
+  stands_known s same_front same_len some known =
+      let same : upper_bytes s.front s.len ≡ take s.len bytes = ap (λ f. upper_bytes f s.len) same_front ∙ ap (upper_bytes front) same_len ∙ same_bytes ∙ ap (λ n. take n bytes) (sym same_len) in
+      (omega arith, subst (λ front. Spells map front (insn_spelled s)) same (known (omega arith)))
+
+  -- what stands in front is known from now on
+  pub known_now : (insn : Insn) (s : Spelling) → insn.len ≡ len → s.front ≡ front → insn_spelled s ≡ insn → StandsInFront map bytes insn → IsSpelling map s
+  known_now insn s same_len same_front is_insn stands some =
+      let s_len : s.len ≡ len = ap (λ (i : Insn). i.len) is_insn ∙ same_len in
+      let same : take insn.len bytes ≡ upper_bytes s.front s.len = ap (λ n. take n bytes) same_len ∙ sym same_bytes ∙ ap (λ f. upper_bytes f len) (sym same_front) ∙ ap (upper_bytes s.front) (sym s_len) in
+      subst (Spells map (upper_bytes s.front s.len)) (sym is_insn) (subst (λ front. Spells map front insn) same stands.1)
+
+-- one that is looked up is among those that are known
+pub looked_up : (map : Map) (spellings now : List Spelling) (place : ℕ) (s : Spelling) → now ≡ spellings → All (IsSpelling map) spellings → place < length now → s ≡ get_or now place s → IsSpelling map s
+looked_up map spellings now place s same all inside is = subst (IsSpelling map) (sym is) (subst (All (IsSpelling map)) (sym same) all place s inside)

@@ -4,15 +4,11 @@ use Rattle.std.specs.Prelude.{filter}
 use Rattle.std.specs.List.Sorted.{IsNonDecreasingBy}
 use Rattle.std.proofs.lemmas.List.Elements.{All-nil, All-push, filter-append}
 use Rattle.std.proofs.lemmas.List.Sorted.{IsNonDecreasingBy-short, IsNonDecreasingBy-push}
-use Rattle.std.proofs.Math.Seq.{get_or-append_right}
-use Rattle.std.proofs.lemmas.List.{drop-drop, drop_all, get_or-map, length-map, map-append}
-use Rattle.std.proofs.lemmas.Option.{get_or_from_slice_get}
+use Rattle.std.proofs.lemmas.List.{drop-drop, drop_all, map-append}
 use Rattle.operation_defs.specs.declared.insn.Insn.{Insn}
-use Rattle.operation_defs.specs.declared.op.Op.TheVariants.{Plain}
 use Rattle.x86_decode.specs.Decoding.{StandsInFront, decoded}
 use Rattle.x86_text.specs.declared.placed.PlacedInsn.{PlacedInsn}
 use Rattle.x86_text.specs.Code.{Body, IsBoundary, start, behind, code_from, code_of, insns_of, may_use_table, LeadsTo}
-use Rattle.x86_text.specs.Known.{AreRead, number_of}
 use Rattle.x86_text.specs.Listed.{StandsIn, IsListing, IsKept}
 use Rattle.x86_text.proofs.CodeLemmas.{code_from_more}
 
@@ -121,32 +117,6 @@ kept_more body offsets more_offsets jumps more_jumps before insns more_insns off
           ∙ append_assoc before (map (λ (q : PlacedInsn). q.insn) kept.code) (insn ∷ [])
           ∙ ap (λ is. before ++ is) (sym (map-append (λ (q : PlacedInsn). q.insn) kept.code (p ∷ [])));
     }
-
--- the instructions that were read stand where they begin
-pub kept_read : (body : Body) (offsets : List ℕ) (jumps : List PlacedInsn) (before insns : List Insn) (off : ℕ) → IsKeptTo body offsets jumps before insns off → AreRead body offsets insns × (length offsets ≤ length insns)
-kept_read body offsets jumps before insns off kept = (
-  λ k insn among told.
-      let any : Insn = record { len = 0; op = Plain } in
-      let d : PlacedInsn = record { off = 0; insn = any } in
-      let inside : k < length kept.code = omega (arith, among, as_many) in
-      let number : number_of offsets insns k ≡ length before + k = omega (arith, among, as_many, more) in
-      let at : get_or offsets k 0 ≡ (get_or kept.code k d).off = ap (λ (os : List ℕ). get_or os k 0) kept.all_offsets ∙ get_or-map (λ (p : PlacedInsn). p.off) kept.code k d 0 inside in
-      let same : (get_or kept.code k d).insn ≡ insn =
-      sym (get_or-map (λ (p : PlacedInsn). p.insn) kept.code k d any inside)
-      ∙ sym (get_or-append_right before (map (λ (p : PlacedInsn). p.insn) kept.code) (length before + k) any (omega arith) ∙ ap (λ i. get_or (map (λ (p : PlacedInsn). p.insn) kept.code) i any) (omega arith))
-      ∙ ap (λ (is : List Insn). get_or is (length before + k) any) (sym kept.all_insns)
-      ∙ ap (λ n. get_or insns n any) (sym number)
-      ∙ get_or_from_slice_get insns (number_of offsets insns k) insn any told in
-      let stands : StandsIn body (get_or kept.code k d) = kept.read.each k d inside in
-      subst (λ o. StandsInFront body.map (drop o body.bytes) insn) (sym at) (subst (λ (i : Insn). StandsInFront body.map (drop (get_or kept.code k d).off body.bytes) i) same stands.stands),
-  omega (arith, as_many, more),
-)
-  where
-    as_many : length offsets ≡ length kept.code
-    as_many = ap (λ (os : List ℕ). length os) kept.all_offsets ∙ length-map kept.code (λ (p : PlacedInsn). p.off)
-
-    more : length insns ≡ length before + length kept.code
-    more = ap (λ (is : List Insn). length is) kept.all_insns ∙ length-append before (map (λ (p : PlacedInsn). p.insn) kept.code) ∙ ap (λ n. length before + n) (length-map kept.code (λ (p : PlacedInsn). p.insn))
 
 -- at the end
 pub kept_all : (body : Body) (offsets : List ℕ) (jumps : List PlacedInsn) (before insns : List Insn) (off : ℕ) → IsKeptTo body offsets jumps before insns off → length body.bytes ≤ off → length body.bytes < 2 ^ 32 → IsKept body offsets jumps × (insns ≡ before ++ insns_of body)

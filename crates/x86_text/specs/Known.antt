@@ -1,21 +1,19 @@
--- Bytes of a body that were read before.
-use Rattle.std.specs.Prelude.{◌≡◌, ℕ, ◌-◌, ◌<◌, List, length, drop, take, Some, slice_get, slice_index}
+-- Spellings that were read before.
+use Rattle.std.specs.Prelude.{ℕ, ◌-◌, ◌<◌, List, drop}
+use Rattle.std.specs.Int.{w64, to_le_bytes}
 use Rattle.operation_defs.specs.declared.insn.Insn.{Insn}
-use Rattle.x86_decode.specs.Decoding.{StandsInFront}
-use Rattle.x86_text.specs.Code.{Body}
+use Rattle.x86_map.specs.declared.map.Map.{Map}
+use Rattle.x86_decode.specs.Spelling.{Spells}
+use Rattle.x86_text.specs.declared.known.Spelling.{Spelling}
 
--- of those instructions of a list that begin at these offsets, and are its last, the number of the one that begins at offset k
-abbrev pub number_of : List ℕ → List Insn → ℕ → ℕ
-number_of offsets insns k = length insns - (length offsets - k)
+-- the bytes of which so many fill the upper end of this number: the first of them stands lowest
+abbrev pub upper_bytes : ℕ → ℕ → List ℕ
+upper_bytes number len = drop (8 - len) (to_le_bytes w64 number)
 
--- they stand at these offsets
-abbrev pub AreRead : Body → List ℕ → List Insn → Type 0
-AreRead body offsets insns = (k : ℕ) (insn : Insn) → k < length offsets → slice_get insns (number_of offsets insns k) ≡ Some insn → StandsInFront body.map (drop (slice_index offsets k) body.bytes) insn
+-- the instruction that is spelled
+abbrev pub insn_spelled : Spelling → Insn
+insn_spelled s = record { len = s.len; op = s.op }
 
--- the instruction with this number in the list stands at one of these offsets, and its bytes at this offset too
-pub record IsAlike (bytes : List ℕ) (off : ℕ) (offsets : List ℕ) (insns : List Insn) (n : ℕ) : Type 0 where
-  pub k : ℕ
-  pub among : k < length offsets
-  pub is : n ≡ number_of offsets insns k
-  pub inside : n < length insns
-  pub same : (insn : Insn) → slice_get insns n ≡ Some insn → take insn.len (drop (slice_index offsets k) bytes) ≡ take insn.len (drop off bytes)
+-- its bytes spell its instruction; without a length it is none yet
+abbrev pub IsSpelling : Map → Spelling → Type 0
+IsSpelling map s = 0 < s.len → Spells map (upper_bytes s.front s.len) (insn_spelled s)

@@ -1,6 +1,6 @@
 //! Lists of instructions.
 
-ghost use Rattle.std.specs.Prelude.{◌≡◌, ◌<◌, ◌∷◌, ◌++◌, [], ℕ, Some, length, slice_get, slice_set, IfOk, IfSome, OnOk};
+ghost use Rattle.std.specs.Prelude.{◌≡◌, ◌<◌, ◌∷◌, ◌++◌, [], ℕ, true, Some, length, slice_get, slice_set, IfOk, IfSome, OnOk};
 ghost use Rattle.operation_defs.specs.declared.insn.Insn.{Insn};
 
 use operation_defs::{Insn, Op};
@@ -77,15 +77,22 @@ impl InsnList {
         Ok(())
     }
 
-    /// Adds the one with this number again, behind them, and tells it.
+    /// Adds one behind them, of which the number among those that came is guessed. As for `push`, there may be too many that
+    /// differ.
     #[inline(always)]
-    pub(crate) fn push_again(&mut self, n: usize) -> Result<Insn, NoMemory>
-        requires { n < length self.old }
-        ensures { IfOk result (λ insn. (slice_get self.old n ≡ Some insn) × (self.new ≡ self.old ++ insn ∷ [])) }
+    pub(crate) fn push_guessed(&mut self, insn: Insn, number: u32) -> Result<(), NoMemory>
+        ensures { OnOk result (self.new ≡ self.old ++ insn ∷ []) }
     {
-        let number = self.numbers[n];
+        if !has_number(&self.kinds, number, insn) {
+            return self.push(insn);
+        }
         self.numbers.push(number)?;
-        Ok(self.kinds[number as usize])
+        Ok(())
+    }
+
+    /// The number among those that came of the last one, to be guessed later. No contract says so.
+    pub(crate) fn last_number(&self) -> u32 {
+        self.numbers.last().copied().unwrap_or(0)
     }
 
     /// Puts one in the place of the one with this number. As for `push`, there may be too many that differ.
@@ -133,8 +140,22 @@ fn guessed(kinds: &[Insn], recent: &[u32], hash: usize, insn: Insn) -> Option<u3
     ensures { IfSome result (λ n. slice_get kinds.now n ≡ Some insn) }
 {
     let number = *recent.get(hash)?;
-    let kind = *kinds.get(number as usize)?;
-    if kind == insn { Some(number) } else { None }
+    if has_number(kinds, number, insn) {
+        Some(number)
+    } else {
+        None
+    }
+}
+
+/// Whether an instruction has this number among these.
+#[inline(always)]
+fn has_number(kinds: &[Insn], number: u32, insn: Insn) -> bool
+    ensures { result ≡ true → slice_get kinds.now number ≡ Some insn }
+{
+    match kinds.get(number as usize) {
+        Some(kind) => *kind == insn,
+        None => false,
+    }
 }
 
 /// A hash of an instruction, below 1,024. It is the instruction's alone, where its operation has no number and it has at most 15

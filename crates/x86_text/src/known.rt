@@ -1,185 +1,209 @@
 //! Reading instructions, where equal bytes were read before.
 
-ghost use Rattle.std.specs.Prelude.{◌≡◌, ◌++◌, ◌∷◌, [], ◌<◌, ◌≤◌, true, Ok, IfErr, IfOk, IfSome, length, drop, take};
-ghost use Rattle.x86_decode.specs.Decoding.{decoded};
+ghost use Rattle.std.specs.Prelude.{◌≡◌, ◌++◌, ◌∷◌, ◌<◌, ◌≤◌, [], All, Ok, IfErr, IfOk, IfSome, length, drop, take};
+ghost use Rattle.std.specs.Int.{w64, to_le_bytes};
+ghost use Rattle.x86_map.specs.declared.map.Map.{Map as OpcodeMap};
+ghost use Rattle.x86_decode.specs.Decoding.{StandsInFront, decoded};
 ghost use Rattle.x86_text.specs.Code.{read_by, IsBoundary};
-ghost use Rattle.x86_text.specs.Known.{AreRead, IsAlike};
+ghost use Rattle.x86_text.specs.Known.{insn_spelled, upper_bytes, IsSpelling};
 ghost use Rattle.x86_text.specs.Refused.{IsTextFault};
 
 use crate::fault::TextFault;
 use crate::insn_list::InsnList;
-use operation_defs::Insn;
+use operation_defs::{Insn, Op};
 use ot_base::NoMemory;
 use std::alloc::Global;
 use x86_decode::{Map, decode};
 
-/// How many places there are for hashes at most.
-const MOST: usize = 32_768;
+/// How many places there are for spellings at most.
+const MOST: usize = 16_384;
 
-/// Which instruction of a body was read last of those whose first bytes have a hash. It is a guess: what it tells is tried
-/// by comparison.
+/// How many places there are for lengths.
+const LENGTHS: usize = 8_192;
+
+/// An instruction of at most eight bytes, and how it is spelled.
+#[derive(Clone, Copy)]
+pub(crate) struct Spelling {
+    /// Its bytes at the upper end of the number, the first of them lowest, and zeros below.
+    pub(crate) front: u64,
+    /// What it does.
+    pub(crate) op: Op,
+    /// The number of such an instruction among those of the list that differ. It is a guess.
+    pub(crate) number: u32,
+    /// How many bytes it has: none before one is noted.
+    pub(crate) len: u8,
+}
+
+/// The spellings that were read last, of those with the same hash.
 #[derive(Drop)]
-pub(crate) struct Recent {
-    /// For each hash, the instruction's number among those of the body. Their count is a power of two.
-    numbers: Vec<u32>,
+pub(crate) struct Known {
+    /// For each hash of first bytes, how many bytes the last instruction has that was noted of those that begin so. It is a
+    /// guess.
+    lengths: Vec<u8>,
+    /// For each hash of a spelling, the last one that has it. Their count is a power of two.
+    pub(crate) spellings: Vec<Spelling>,
 }
 
-impl Recent {
-    /// Room for the hashes of a body of so many bytes.
-    pub(crate) fn new(alloc: Global, size: usize) -> Result<Recent, NoMemory> {
-        let places = (size / 4).clamp(1, MOST).next_power_of_two();
-        let numbers = vec![in alloc; 0; places]?;
-        Ok(Recent { numbers })
-    }
-
-    /// Where the number of an instruction with these first bytes is kept.
-    #[inline(always)]
-    fn place_of(&self, front: u32) -> usize {
-        let hash = front.wrapping_mul(0x9E37_79B1) >> 17;
-        hash as usize & self.numbers.len().wrapping_sub(1)
-    }
-
-    /// The number in the list of an instruction with the same bytes as the one at the offset, if one is known by its first
-    /// three, two or four bytes.
-    #[inline(always)]
-    fn find(&self, body: &[u8], off: usize, offsets: &[u32], insns: &InsnList) -> Option<usize>
-        requires inside { off ≤ length body.now }
-        requires all { length offsets.now ≤ length insns.now }
-        ensures { IfSome result (IsAlike body.now off offsets.now insns.now) }
+impl Known {
+    /// Room for the spellings of a body of so many bytes.
+    pub(crate) fn new(alloc: Global, size: usize) -> Result<Known, NoMemory>
+        ensures { IfOk result (λ known. (map : OpcodeMap) → All (IsSpelling map) known.spellings.items) }
     {
-        let by_three = self.find_by(8, body, off, offsets, insns);
-        if by_three.is_some() {
-            return by_three;
-        }
-        let by_two = self.find_by(16, body, off, offsets, insns);
-        if by_two.is_some() {
-            return by_two;
-        }
-        self.find_by(0, body, off, offsets, insns)
+        let places = (size / 8).clamp(1, MOST).next_power_of_two();
+        let none = Spelling {
+            front: 0,
+            op: Op::Plain,
+            number: 0,
+            len: 0,
+        };
+        Ok(Known {
+            lengths: vec![in alloc; 0; LENGTHS]?,
+            spellings: vec![in alloc; none; places]?,
+        })
     }
 
-    /// The number in the list of an instruction with the same bytes as the one at the offset, if one is known by its first
-    /// four bytes without so many bits.
+    /// Where a spelling with these bytes is kept.
     #[inline(always)]
-    fn find_by(
-        &self,
-        bits: u32,
-        body: &[u8],
-        off: usize,
-        offsets: &[u32],
-        insns: &InsnList,
-    ) -> Option<usize>
-        requires bits { bits < 32 }
-        requires inside { off ≤ length body.now }
-        requires all { length offsets.now ≤ length insns.now }
-        ensures { IfSome result (IsAlike body.now off offsets.now insns.now) }
+    fn place_of(&self, front: u64) -> usize {
+        let hash = front.wrapping_mul(0x9E37_79B9_7F4A_7C15) >> 48;
+        hash as usize & self.spellings.len().wrapping_sub(1)
+    }
+
+    /// The spelling with which the bytes begin, if it is known.
+    #[inline(always)]
+    fn find(&self, bytes: &[u8]) -> Option<Spelling>
+        ensures { (map : OpcodeMap) → All (IsSpelling map) self.now.spellings.items → IfSome result (λ s. StandsInFront map bytes.now (insn_spelled s)) }
     {
-        let here = &body[off..];
-        let front = front_of(here)? << bits;
-        let number = *self.numbers.get(self.place_of(front))? as usize;
-        let at = *offsets.get(number)? as usize;
-        if at > body.len() {
-            return None;
+        let first = first_eight(bytes)?;
+        let by_few = self.find_by(bytes, first, few_of(first));
+        if by_few.is_some() {
+            return by_few;
         }
-        let there = &body[at..];
-        if front_of(there)? << bits != front {
-            return None;
-        }
-        let n = insns.len() - (offsets.len() - number);
-        let len = insns.get(n).len as usize;
-        begin_alike(there, here, len).then_some(n)
+        self.find_by(bytes, first, four_of(first))
     }
 
-    /// Keeps the number of the instruction that begins with these bytes, if there is room for it.
-    fn note(&mut self, bytes: &[u8], number: u32) {
-        if let Some(front) = front_of(bytes) {
-            self.note_by(front << 8, number);
-            self.note_by(front << 16, number);
-            self.note_by(front, number);
+    /// The spelling with which the bytes begin, of which these are the first eight, if it is known and as long as the last
+    /// one that was noted of those that begin with the telling ones.
+    #[inline(always)]
+    fn find_by(&self, bytes: &[u8], first: u64, telling: u64) -> Option<Spelling>
+        requires { to_le_bytes w64 first ≡ take 8 bytes.now }
+        ensures { (map : OpcodeMap) → All (IsSpelling map) self.now.spellings.items → IfSome result (λ s. StandsInFront map bytes.now (insn_spelled s)) }
+    {
+        let len = *self.lengths.get(length_place(telling))?;
+        let front = upper_of(first, len)?;
+        let spelling = *self.spellings.get(self.place_of(front))?;
+        if spelling.front == front && spelling.len == len {
+            Some(spelling)
+        } else {
+            None
         }
     }
 
-    /// Keeps the number of the instruction with these first bytes, if there is room for it.
-    fn note_by(&mut self, front: u32, number: u32) {
-        let place = self.place_of(front);
-        if place < self.numbers.len() {
-            self.numbers[place] = number;
+    /// Keeps the spelling with which the bytes begin, where it has at most eight, with the guessed number of its instruction.
+    fn note(&mut self, bytes: &[u8], insn: Insn, number: u32)
+        ensures { (map : OpcodeMap) → All (IsSpelling map) self.old.spellings.items → StandsInFront map bytes.now insn → All (IsSpelling map) self.new.spellings.items }
+    {
+        if let Some(first) = first_eight(bytes) {
+            note_length(&mut self.lengths, few_of(first), insn.len);
+            note_length(&mut self.lengths, four_of(first), insn.len);
+            if let Some(front) = upper_of(first, insn.len) {
+                let place = self.place_of(front);
+                if place < self.spellings.len() {
+                    self.spellings[place] = Spelling {
+                        front,
+                        op: insn.op,
+                        number,
+                        len: insn.len,
+                    };
+                }
+            }
         }
     }
 }
 
-/// The first four bytes: the first of them is the lowest of the number.
-#[inline(always)]
-fn front_of(bytes: &[u8]) -> Option<u32> {
-    let front = bytes.first_chunk::<4>()?;
-    Some(u32::from_le_bytes(*front))
+/// Keeps how many bytes an instruction has that begins with these.
+fn note_length(lengths: &mut [u8], telling: u64, len: u8) {
+    let place = length_place(telling);
+    if place < lengths.len() {
+        lengths[place] = len;
+    }
 }
 
-/// Whether two slices begin with the same four bytes.
+/// The first eight bytes: the first of them is the lowest of the number.
 #[inline(always)]
-fn begin_with_four(a: &[u8], b: &[u8]) -> bool
-    ensures { result ≡ true → take 4 a.now ≡ take 4 b.now }
+fn first_eight(bytes: &[u8]) -> Option<u64>
+    ensures { IfSome result (λ first. to_le_bytes w64 first ≡ take 8 bytes.now) }
 {
-    match (a.first_chunk::<4>(), b.first_chunk::<4>()) {
-        (Some(one), Some(other)) => u32::from_le_bytes(*one) == u32::from_le_bytes(*other),
-        _ => false,
-    }
+    let first = bytes.first_chunk::<8>()?;
+    Some(u64::from_le_bytes(*first))
 }
 
-/// Whether two slices begin with the same eight bytes.
+/// The lowest bytes of a number, so many of them, moved to its upper end.
 #[inline(always)]
-fn begin_with_eight(a: &[u8], b: &[u8]) -> bool
-    ensures { result ≡ true → take 8 a.now ≡ take 8 b.now }
+fn upper_of(first: u64, len: u8) -> Option<u64>
+    ensures { IfSome result (λ front. (0 < len) × (len ≤ 8) × (upper_bytes front len ≡ take len (to_le_bytes w64 first))) }
 {
-    match (a.first_chunk::<8>(), b.first_chunk::<8>()) {
-        (Some(one), Some(other)) => u64::from_le_bytes(*one) == u64::from_le_bytes(*other),
-        _ => false,
+    if len == 0 || len > 8 {
+        return None;
     }
+    Some(first << (64 - 8 * u32::from(len)))
 }
 
-/// Whether two slices begin with the same bytes, so many of them: from 4 to 16 in two parts that meet or overlap.
+/// Those of the first bytes, one to three, that mostly tell how long the instruction is.
 #[inline(always)]
-fn begin_alike(a: &[u8], b: &[u8], len: usize) -> bool
-    ensures { result ≡ true → take len a.now ≡ take len b.now }
-{
-    if len > a.len() || len > b.len() {
-        return false;
-    }
-    match len {
-        4..=8 => begin_with_four(a, b) && begin_with_four(&a[len - 4..], &b[len - 4..]),
-        9..=16 => begin_with_eight(a, b) && begin_with_eight(&a[len - 8..], &b[len - 8..]),
-        _ => a[..len] == b[..len],
-    }
+fn few_of(first: u64) -> u64 {
+    let telling = match first & 0xFF {
+        0x50..=0x5F | 0x70..=0x7F | 0x90 | 0xB0..=0xBF | 0xC3 | 0xC9 | 0xCC | 0xE8 | 0xE9 | 0xEB =>
+            { 0xFF }
+        0x0F | 0x40..=0x4F | 0x65 | 0x66 | 0xF0 | 0xF2 | 0xF3 => 0xFF_FFFF,
+        _ => 0xFFFF,
+    };
+    first & telling
 }
 
-/// Reads the instruction at a boundary of a body, and adds it to a list, in which the last ones are those of the body that
-/// begin at the offsets. It is the one that `decode` gives.
+/// The first four bytes, and a bit that those few haven't.
+#[inline(always)]
+fn four_of(first: u64) -> u64 {
+    (first & 0xFFFF_FFFF) | (1 << 32)
+}
+
+/// Where the length of an instruction is kept that begins with these bytes.
+#[inline(always)]
+fn length_place(telling: u64) -> usize {
+    let hash = telling.wrapping_mul(0x9E37_79B9_7F4A_7C15) >> 48;
+    hash as usize & (LENGTHS - 1)
+}
+
+/// Reads the instruction at a boundary of a body, and adds it to a list. It is the one that `decode` gives.
+#[inline(always)]
 pub(crate) fn read_insn(
     map: Map,
     body: &[u8],
     off: usize,
-    recent: &mut Recent,
-    offsets: &[u32],
+    known: &mut Known,
     insns: &mut InsnList,
 ) -> Result<Insn, TextFault>
     requires boundary { IsBoundary (read_by map body.now) off }
     requires inside { off < length body.now }
-    requires read { AreRead (read_by map body.now) offsets.now insns.old }
-    requires all { length offsets.now ≤ length insns.old }
+    requires known { All (IsSpelling map) known.old.spellings.items }
+    ensures known { All (IsSpelling map) known.new.spellings.items }
     ensures insn { IfOk result (λ insn. decoded map (drop off body.now) ≡ Ok insn) }
     ensures added { IfOk result (λ insn. insns.new ≡ insns.old ++ insn ∷ []) }
     ensures fault { IfErr result (IsTextFault (read_by map body.now)) }
 {
-    if let Some(n) = recent.find(body, off, offsets, insns) {
-        return Ok(insns.push_again(n)?);
-    }
     let bytes = &body[off..];
+    if let Some(spelling) = known.find(bytes) {
+        let insn = Insn {
+            len: spelling.len,
+            op: spelling.op,
+        };
+        insns.push_guessed(insn, spelling.number)?;
+        return Ok(insn);
+    }
     match decode(map, bytes) {
         Ok(insn) => {
             insns.push(insn)?;
-            if let Ok(number) = u32::try_from(offsets.len()) {
-                recent.note(bytes, number);
-            }
+            known.note(bytes, insn, insns.last_number());
             Ok(insn)
         }
         Err(why) => {

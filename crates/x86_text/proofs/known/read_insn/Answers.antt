@@ -1,12 +1,16 @@
--- What is read again is what decoding gives.
+-- What is known is what decoding gives.
 use Rattle.std.proofs.Common.{◌≡◌, ℕ, ◌-◌, List, length, drop, take, Err, length-drop, arith, subst}
 use Rattle.std.proofs.lemmas.List.{take_all}
-use Rattle.x86_decode.specs.Decoding.{Outcome}
-use Rattle.x86_text.proofs.KnownLemmas.{alike_decoded, refusal}
+use Rattle.x86_decode.specs.Decoding.{Outcome, StandsInFront}
+use Rattle.x86_text.specs.Known.{insn_spelled}
+use Rattle.x86_text.proofs.KnownLemmas.{stands_decoded, refusal}
 use Rattle.x86_text.proofs.known.read_insn.Goals as goal
 
 pub returns-in-Some-clause-insn : goal.returns-in-Some-clause-insn
-returns-in-Some-clause-insn c = alike_decoded c.args.body.now c.args.off (λ k. omega (arith, c.type_inv.body k)) c.args.map c.args.offsets.now c.args.insns.now c.in-Some.n c.in_ok-push_again.field-0 c.requires.read c.in-Some.ensures c.in_ok-push_again.ensures.0
+returns-in-Some-clause-insn c =
+    let whole : take (length c.args.body.now - c.args.off) (drop c.args.off c.args.body.now) ≡ drop c.args.off c.args.body.now = take_all _ _ (simp length-drop (omega arith)) in
+    stands_decoded c.args.body.now c.args.off (λ k. omega (arith, c.type_inv.body k)) c.args.map (insn_spelled c.in-Some.spelling)
+    (subst (λ (bytes : List ℕ). StandsInFront c.args.map bytes (insn_spelled c.in-Some.spelling)) whole (c.in-Some.ensures c.args.map c.requires.known))
 
 pub returns-in-Err-clause-fault : goal.returns-in-Err-clause-fault
 returns-in-Err-clause-fault c =
