@@ -1,5 +1,6 @@
 -- How gains add up.
-use Rattle.std.proofs.Common.{◌≡◌, ◌↔◌, ℕ, ◌+◌, ◌<◌, Bool, IsTrue, Option, Some, List, [], ◌∷◌, ◌++◌, ◌⊎◌, inl, inr, Contains, length, take, get_or, sym, subst, arith}
+use Rattle.std.proofs.Common.{◌≡◌, ◌↔◌, ℕ, ◌+◌, ◌<◌, ◌≤◌, Bool, IsTrue, Option, Some, List, [], ◌∷◌, ◌++◌, ◌⊎◌, inl, inr, Contains, length, take, get_or, sym, subst, arith}
+use Rattle.std.proofs.lemmas.Bool.{cases_lt}
 use Rattle.std.proofs.lemmas.List.{take_more}
 use Rattle.std.proofs.lemmas.List.Elements.{Contains-append_left, Contains-append_right, Contains-append_cases}
 use Rattle.ot_base.specs.declared.warning.Warning.{Warning}
@@ -62,6 +63,13 @@ OfBelow n P w = (q : ℕ) × (q < n) × P q w
 
 pub gains_no_number : (old : List Warning) (P : ℕ → Warning → Type 0) → Gains old old (OfBelow 0 P)
 gains_no_number old P = gains_none old (OfBelow 0 P) (λ w k. let l : k.0 < 0 = k.1 in omega (arith, l))
+
+-- the same, where those from one number on give nothing
+pub gains_passed : (old new : List Warning) (P : ℕ → Warning → Type 0) (n m : ℕ) → n ≤ m → ((k : ℕ) → n ≤ k → k < m → (w : Warning) → P k w → ⊥) → Gains old new (OfBelow n P) → Gains old new (OfBelow m P)
+gains_passed old new P n m order none gains = gains_same old new (OfBelow n P) (OfBelow m P) gains (λ w. (λ k. (k.0, omega (arith, order, k.1), k.2), λ k. from w k))
+  where
+    from : (w : Warning) → OfBelow m P w → OfBelow n P w
+    from w (q, l, h) = elim (cases_lt q n) [ inl k ↦ (q, k, h) | inr far ↦ absurd (none q far l w h) ]
 
 pub gains_number : (old mid new : List Warning) (P : ℕ → Warning → Type 0) (n : ℕ) → Gains old mid (OfBelow n P) → Gains mid new (P n) → Gains old new (OfBelow (n + 1) P)
 gains_number old mid new P n one two = gains_same old new (λ w. OfBelow n P w ⊎ P n w) (OfBelow (n + 1) P) (gains_both old mid new (OfBelow n P) (P n) one two) (λ w. (λ k. to w k, λ k. from w k))

@@ -15,3 +15,4 @@ pub mod Places
 pub mod OneInForce
 pub mod Disagreeing
 pub mod Pushed
+pub mod Lookups

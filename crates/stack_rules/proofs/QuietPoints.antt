@@ -1,6 +1,6 @@
 -- At a quiet point no rule is broken.
 use Rattle.std.proofs.Common.{◌≡◌, ◌≢◌, ℕ, Bool, true, false, ◌<◌, All, ap, get_or, length, arith, Option, Some, None, List, [], ◌∷◌, inl, inr, Ok, refl, sym, ◌∙◌, subst}
-use Rattle.std.specs.Prelude.{option_to_list}
+use Rattle.std.specs.Prelude.{IsSome, is_some, option_to_list}
 use Rattle.std.proofs.lemmas.List.{get_or_default}
 use Rattle.std.proofs.lemmas.List.Elements.{All-contains}
 use Rattle.ot_base.specs.declared.place.Place.{Place}
@@ -14,13 +14,15 @@ use Rattle.machine_defs.specs.declared.flow.Marks.{Marks}
 use Rattle.machine_defs.specs.declared.flow.Role.{Role}
 use Rattle.machine_defs.specs.declared.flow.Role.TheVariants.{Return, JumpOut, JumpAny}
 use Rattle.state_defs.specs.declared.state.State.{State}
-use Rattle.state_defs.specs.Move.{move, to}
+use Rattle.state_defs.specs.declared.state.HintState.TheVariants.{Restore}
+use Rattle.state_defs.specs.Move.{has_near_numbers, move, to}
 use Rattle.state_defs.specs.Row.{unfit_offset}
 use Rattle.machine_defs.specs.Program.{Program}
-use Rattle.machine_defs.specs.Kept.{brought_along, edges_of}
+use Rattle.machine_defs.specs.Kept.{brought_along, edges_of, is_at_entry}
 use Rattle.machine_defs.specs.Ways.{is_before_hint, may_leave}
 use Rattle.kept_states.specs.LevelStates.{at}
 use Rattle.kept_states.specs.Neutral.{is_neutral}
+use Rattle.kept_states.proofs.NeutralMoves.{move_stays}
 use Rattle.stack_rules.specs.PointWarns.{ArrivalWarns, EdgeWarns, IsBrought, KeptWarns, MarksWarn, OperationWarns, PointWarns, RoleWarns, RowWarns}
 use Rattle.stack_rules.specs.Quiet.{IsQuiet, Leads, Passes, is_exit, is_unmarked, stays}
 
@@ -96,9 +98,28 @@ module _ (p : Program) (states : List (Option State)) (q : ℕ) where
   quiet_warns_nothing w quiet (inl (s, some, k)) = no_kept s w quiet some k
   quiet_warns_nothing w quiet (inr (none, k)) = let some = quiet.some in grind arith
 
+  -- nothing is told of a point without a state that is no entered RESTORE
+  pub unkept_warns_nothing : (w : Warning) → (IsSome (at states q) → ⊥) → (p.hint q ≡ Some Restore × is_at_entry p q ≡ true → ⊥) → PointWarns p states q w → ⊥
+  unkept_warns_nothing w none free (inl (s, some, k)) = none (ap is_some some)
+  unkept_warns_nothing w none free (inr (unkept, k)) = free k.0
+
   -- where the operation leaves the state as it is, an edge leads on that passes
   pub pass_leads : (s : State) (edges : List Edge) → at states q ≡ Some s → move s (p.insn q).op ≡ Ok s → All (Passes p states q) edges → All (Leads p states q s) edges
   pass_leads s edges some m all = λ i d l. (let passes = all i d l in (passes.0, passes.1, (s, passes.2 ∙ some, same_along s (p.insn q).op (get_or edges i d).kind passes.0 m)))
+
+  -- a point is quiet whose operation leaves the state as it is, where all edges pass and nothing else is asked of the state
+  pub quiet_where_still : is_neutral (p.insn q).op ≡ true → IsSome (at states q) → ((s : State) → at states q ≡ Some s → has_near_numbers s ≡ true) → ((s : State) → at states q ≡ Some s → unfit_offset s ≡ None) → stays (p.role q) ≡ true → is_unmarked (p.marks q) ≡ true → All (Passes p states q) (edges_of p q) → IsQuiet p states q
+  quiet_where_still neutral some near fit stays unmarked passes =
+      let same : (s : State) → at states q ≡ Some s → move s (p.insn q).op ≡ Ok s = λ s is. move_stays s (p.insn q).op neutral (near s is) in
+      record {
+        exit = neutral_stays (p.insn q).op neutral;
+        some = some;
+        moves = λ s is. (s, same s is);
+        fit = fit;
+        stays = stays;
+        unmarked = unmarked;
+        leads = λ s is. pass_leads s (edges_of p q) is (same s is) passes;
+      }
 
   -- the edge to the next instruction leads on, where the moved state is kept there
   pub next_leads : (s t : State) (e : Edge) → e.kind ≡ Next → p.owner e.to ≡ p.owner q → move s (p.insn q).op ≡ Ok t → at states e.to ≡ Some t → Leads p states q s e

@@ -1,6 +1,6 @@
 //! The rules at each point, and at functions without a size.
 
-ghost use Rattle.std.specs.Prelude.{◌≡◌, ◌≢◌, ◌<◌, ◌⊎◌, ◌↔◌, true, IsTrue, OnOk, Some, Contains, length};
+ghost use Rattle.std.specs.Prelude.{◌≡◌, ◌≢◌, ◌<◌, ◌≤◌, ◌⊎◌, ◌↔◌, ℕ, true, IfSome, IsTrue, MatchOption, OnOk, Some, Contains, length};
 ghost use Rattle.ot_base.specs.declared.warning.Warning.{Warning as WarningValue};
 ghost use Rattle.ot_base.specs.declared.rules.TheConstants.{ALTERNATIVES_DISAGREE};
 ghost use Rattle.machine_defs.specs.Program.{Program};
@@ -17,7 +17,7 @@ use crate::arrivals::push_edge;
 use crate::exits::{push_marks, push_operation, push_role};
 use crate::listing::{bare_warning, is_restore, push};
 use crate::numbers::push_row;
-use crate::quiet::is_quiet;
+use crate::quiet::{is_quiet, is_quiet_jump};
 use crate::ways::{is_before_hint, may_leave};
 use kept_states::Kept;
 use ot_base::rules::{FUNCTION_WITHOUT_SIZE, RESTORE_WITHOUT_SAVE};
@@ -116,10 +116,38 @@ fn push_point(
     ensures passing { OnOk result ((p : Program) → Tells p graph.now.parts → ArePassing p kept.now passing.new) }
     ensures warnings { OnOk result ((p : Program) → Checks p graph.now.parts kept.now → Gains into.old.items into.new.items (PointWarns p kept.now n)) }
 {
-    if is_quiet(graph, kept, passing, n)? {
+    if is_quiet_jump(graph, kept, passing, n)? {
         return Ok(());
     }
     push_by_state(graph, kept, into, n)
+}
+
+/// Whether it is quickly seen that nothing is told of a point.
+#[inline(always)]
+fn tells_nothing(graph: &Graph, kept: &Kept, n: u32) -> bool
+    requires points { length kept.now ≡ length graph.now.parts.points.items }
+    requires point { n < length graph.now.parts.points.items }
+    ensures { IsTrue result → (p : Program) → Tells p graph.now.parts → (w : WarningValue) → PointWarns p kept.now n w → ⊥ }
+{
+    if !kept.is_kept(n) {
+        return !is_entered_restore(graph, n);
+    }
+    is_quiet(graph, kept, n)
+}
+
+/// The first point from one on of which something may be told, if there is one.
+#[inline(never)]
+fn next_to_tell(graph: &Graph, kept: &Kept, from: u32) -> Option<u32>
+    requires { length kept.now ≡ length graph.now.parts.points.items }
+    ensures within { IfSome result (λ n. (from ≤ n) × (n < length graph.now.parts.points.items)) }
+    ensures nothing { (p : Program) → Tells p graph.now.parts → (k : ℕ) → from ≤ k → MatchOption result (k < length graph.now.parts.points.items) (λ n. k < n) → (w : WarningValue) → PointWarns p kept.now k w → ⊥ }
+{
+    for n in from..graph.points() {
+        if !tells_nothing(graph, kept, n) {
+            return Some(n);
+        }
+    }
+    None
 }
 
 /// Rule 17: functions at these places have no size.
@@ -142,8 +170,10 @@ pub fn push_warnings(graph: &Graph, kept: &Kept, into: &mut Vec<Warning>) -> Res
     ensures { OnOk result ((p : Program) → Checks p graph.now.parts kept.now → (w : WarningValue) → Contains into.new.items w ↔ (Contains into.old.items w ⊎ Warns p w.place w.rule w.a w.b × w.rule ≢ ALTERNATIVES_DISAGREE)) }
 {
     let mut passing = BTreeSet::new(*into.allocator());
-    for n in 0..graph.points() {
+    let mut from = 0u32;
+    while let Some(n) = next_to_tell(graph, kept, from) {
         push_point(graph, kept, &mut passing, into, n)?;
+        from = n + 1;
     }
     push_sizes(into, graph.without_size())
 }

@@ -8,6 +8,7 @@ ghost use Rattle.machine_defs.specs.Program.{Program};
 ghost use Rattle.machine_defs.specs.Kept.{brought_along, edges_of};
 ghost use Rattle.program_graph.specs.Tells.{Tells};
 ghost use Rattle.kept_states.specs.LevelStates.{at};
+ghost use Rattle.kept_states.specs.Neutral.{is_neutral as is_neutral_op};
 ghost use Rattle.stack_rules.specs.Quiet.{ArePassing, IsQuiet, Leads, Passes, is_exit as is_exit_op, is_unmarked as is_unmarked_by, stays as stays_by};
 
 use crate::arrivals::falls_out;
@@ -198,7 +199,9 @@ fn moves_on(graph: &Graph, kept: &Kept, n: u32) -> bool
 }
 
 /// Whether an operation is an indirect jump.
-fn is_indirect_jump(op: Op) -> bool {
+fn is_indirect_jump(op: Op) -> bool
+    ensures { IsTrue result → is_neutral_op op ≡ true }
+{
     matches!(op, Op::JmpInd { .. })
 }
 
@@ -225,9 +228,29 @@ fn is_allowed(graph: &Graph, kept: &Kept, n: u32) -> bool
     kept.is_short(n) && asks_nothing(graph, n)
 }
 
-/// Whether it is quickly seen that no rule is broken at a point. Points are known all of whose edges pass, of those that
-/// others have the edges of.
-pub(crate) fn is_quiet(
+/// Whether it is quickly seen that no rule is broken at a point that is no indirect jump.
+#[inline(always)]
+pub(crate) fn is_quiet(graph: &Graph, kept: &Kept, n: u32) -> bool
+    requires points { length kept.now ≡ length graph.now.parts.points.items }
+    requires point { n < length graph.now.parts.points.items }
+    ensures { IsTrue result → (p : Program) → Tells p graph.now.parts → IsQuiet p kept.now n }
+{
+    if !is_allowed(graph, kept, n) {
+        return false;
+    }
+    let op = graph.insn(n).op;
+    if !is_neutral(op) {
+        return moves_on(graph, kept, n);
+    }
+    if is_indirect_jump(op) {
+        return false;
+    }
+    all_pass(graph, kept, n)
+}
+
+/// Whether a point is an indirect jump at which it is quickly seen that no rule is broken. Points are known all of whose
+/// edges pass, of those that others have the edges of.
+pub(crate) fn is_quiet_jump(
     graph: &Graph,
     kept: &Kept,
     passing: &mut BTreeSet<u32>,
@@ -243,11 +266,8 @@ pub(crate) fn is_quiet(
         return Ok(false);
     }
     let op = graph.insn(n).op;
-    if !is_neutral(op) {
-        return Ok(moves_on(graph, kept, n));
+    if !is_indirect_jump(op) {
+        return Ok(false);
     }
-    if is_indirect_jump(op) {
-        return all_pass_by_table(graph, kept, passing, n);
-    }
-    Ok(all_pass(graph, kept, n))
+    all_pass_by_table(graph, kept, passing, n)
 }

@@ -1,12 +1,12 @@
 //! Kept points that run in sites.
 
-ghost use Rattle.std.specs.Prelude.{◌≡◌, ◌++◌, ◌⊎◌, ℕ, ◌<◌, [], false, true, All, AllPairs, IsPermutation, Contains, IfOk, IfSome, IfNone, IsSome, IsTrue, OnOk, length, map};
+ghost use Rattle.std.specs.Prelude.{◌≡◌, ◌++◌, ◌⊎◌, ℕ, ◌<◌, ◌≤◌, [], false, true, All, AllPairs, IsPermutation, Contains, IfOk, IfSome, IfNone, IsSome, IsTrue, MatchOption, OnOk, length, map};
 ghost use Rattle.machine_defs.specs.Program.{Program};
 ghost use Rattle.program_graph.specs.declared.parts.GraphSite.{GraphSite};
 ghost use Rattle.program_graph.specs.Tells.{Tells};
 ghost use Rattle.kept_states.specs.LevelStates.{at};
 ghost use Rattle.stack_rules.specs.Sites.{AreApart, in_own_site};
-ghost use Rattle.stack_rules.specs.Gaps.{IsClear};
+ghost use Rattle.stack_rules.specs.Gaps.{IsClear, is_in_gap};
 ghost use Rattle.stack_rules.specs.Points.{AreAmong, AreInOrder, AreKeptIn, ArePointsIn, AreSitePointsOf, IsStartOf, RunsIn, address_by_number, key_by_number};
 
 use crate::gap::{Gap, NO_GAP};
@@ -124,6 +124,20 @@ fn push_start(
     Ok(())
 }
 
+/// The first point from one on that doesn't run in a gap, if there is one.
+#[inline(never)]
+fn next_outside(graph: &Graph, gap: Gap, from: u32) -> Option<u32>
+    ensures within { IfSome result (λ n. (from ≤ n) × (n < length graph.now.parts.points.items)) }
+    ensures inside { (p : Program) → Tells p graph.now.parts → (k : ℕ) → from ≤ k → MatchOption result (k < length graph.now.parts.points.items) (λ n. k < n) → is_in_gap gap (p.address k) ≡ true }
+{
+    for n in from..graph.points() {
+        if !gap.has(graph.address(n)) {
+            return Some(n);
+        }
+    }
+    None
+}
+
 /// The kept points that run in these sites, by their numbers. Adds the sites at whose starts plain ones of them run.
 fn points_in(
     alloc: Global,
@@ -144,11 +158,13 @@ fn points_in(
     let mut points = Vec::new(alloc);
     let mut near = 0usize;
     let mut gap = NO_GAP;
-    for n in 0..graph.points() {
+    let mut from = 0u32;
+    while let Some(n) = next_outside(graph, gap, from) {
         if let Some(site) = site_of_kept(graph, kept, sites, &mut near, &mut gap, n) {
             points.push(n)?;
             push_start(graph, starts, site, n)?;
         }
+        from = n + 1;
     }
     Ok(points)
 }

@@ -6,4 +6,4 @@ use Rattle.stack_rules.proofs.point_rules.push_point.Goals as goal
 
 pub returns-then-branch-clause-warnings : goal.returns-then-branch-clause-warnings
 returns-then-branch-clause-warnings c p ch =
-    gains_none c.args.into.now.items (PointWarns p c.args.kept.now c.args.n) (λ w. quiet_warns_nothing p c.args.kept.now c.args.n w (c.in_ok-is_quiet.ensures.quiet c.if-branch.true p ch.tells))
+    gains_none c.args.into.now.items (PointWarns p c.args.kept.now c.args.n) (λ w. quiet_warns_nothing p c.args.kept.now c.args.n w (c.in_ok-is_quiet_jump.ensures.quiet c.if-branch.true p ch.tells))
