@@ -15,3 +15,6 @@ loop-n-preserved c p t k low high w told =
       | inl before ↦ c.loop-n.invariant p t k low before w told
       | inr same ↦ let e : k ≡ n = omega arith in c.tells_nothing.ensures nothing p t w (subst (λ (q : ℕ). PointWarns p c.args.kept.now q w) e told)
     ]
+
+pub returns-clause-nothing : goal.returns-clause-nothing
+returns-clause-nothing c p t k low high = c.loop-n.invariant p t k low (omega (arith, high, c.loop-n-test.false, c.loop-n.auto.n-end, c.points-n-end.ensures.points))
