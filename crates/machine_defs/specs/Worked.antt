@@ -6,7 +6,7 @@ use Rattle.ot_base.specs.Places.{same_place}
 use Rattle.operation_defs.specs.declared.op.Op.{Op}
 use Rattle.operation_defs.specs.declared.op.Op.TheVariants.{PushBp, LeaBpSp, PopBp, Ret}
 use Rattle.operation_defs.specs.declared.insn.Insn.{Insn}
-use Rattle.machine_defs.specs.declared.flow.EdgeKind.TheVariants.{Next}
+use Rattle.machine_defs.specs.declared.flow.EdgeKind.TheVariants.{Next, Fixup}
 use Rattle.machine_defs.specs.declared.flow.Role.TheVariants.{Plain, Return}
 use Rattle.state_defs.specs.declared.state.Depth.TheVariants.{Known}
 use Rattle.state_defs.specs.declared.state.BpHome.TheVariants.{Saved}
@@ -20,7 +20,7 @@ use Rattle.state_defs.specs.Row.{zero_row, row_of}
 use Rattle.machine_defs.specs.Program.{Program, edge}
 use Rattle.machine_defs.specs.Machine.{Standing, At}
 use Rattle.machine_defs.specs.Run.{outermost, Run}
-use Rattle.machine_defs.specs.Kept.{state_at}
+use Rattle.machine_defs.specs.Kept.{brought_along, state_at}
 use Rattle.machine_defs.specs.Rows.{rows_of, placed}
 
 -- the place at an offset of section 1
@@ -76,6 +76,8 @@ pub record HasWorkedStates : Type 0 where
   pub pushed : state_at framed 1 1 ≡ Some (Live (Known (pos 16)) None (Saved (pos 16)))
   pub framed_at_pop : state_at framed 2 2 ≡ Some (Live (Known (pos 16)) (Some (pos 16)) (Saved (pos 16)))
   pub at_return : state_at framed 3 3 ≡ Some initial
+  -- a fixup gets the state before the push
+  pub at_fixup : brought_along initial PushBp Fixup ≡ initial ∷ []
 
 -- its rows: sp+8; sp+16 with rbp saved; bp+16 with rbp saved; sp+8; and the end
 pub record HasWorkedRows : Type 0 where

@@ -37,4 +37,6 @@ worked_rows = record {
   returns = refl;
   returns_deep = refl;
   iret = refl;
+  least_is_first = refl;
+  least_is_last = refl;
 }

@@ -1,6 +1,6 @@
 -- Worked moves and rows: the states of the code 55 48 89 E5 5D C3 (push rbp; mov rsp to rbp; pop rbp;
 -- ret), and of code over saved registers.
-use Rattle.std.specs.Prelude.{◌≡◌, true, false, Some, None, Ok, Err, pos, negsuc}
+use Rattle.std.specs.Prelude.{◌≡◌, true, false, [], ◌∷◌, Some, None, Ok, Err, pos, negsuc}
 use Rattle.ot_base.specs.declared.rules.TheConstants.{MODIFIED_RETURN, UNSUPPORTED_SP_WRITE, BP_NOT_SAVED, STACK_POINTER_LOST, OFFSET_OUT_OF_RANGE, SAVED_SLOT_DROPPED, EXIT_NOT_ALLOWED}
 use Rattle.ot_base.specs.declared.codes.TheConstants.{REG_UNDEFINED, REG_PREV_SP, REG_BP, REG_SP, KIND_CALL, KIND_REGS_PARTIAL}
 use Rattle.operation_defs.specs.declared.op.Op.TheVariants.{PushBp, Pop, PopBp, LeaBpSp, LeaBpRoom, SubSp, SpReg, BpOther, AddSp, Leave, Hop, IretNext}
@@ -10,6 +10,7 @@ use Rattle.state_defs.specs.declared.state.State.TheVariants.{Live, Regs}
 use Rattle.state_defs.specs.State.{initial}
 use Rattle.state_defs.specs.Move.{move}
 use Rattle.state_defs.specs.Row.{row_of, unfit_offset}
+use Rattle.state_defs.specs.Order.{least}
 use Rattle.state_defs.specs.Rules.{return_rule, iret_rule}
 
 pub record HasWorkedMoves : Type 0 where
@@ -52,3 +53,6 @@ pub record HasWorkedRows : Type 0 where
   pub returns : return_rule initial ≡ None
   pub returns_deep : return_rule (Live (Known (pos 16)) None Same) ≡ Some MODIFIED_RETURN
   pub iret : iret_rule (Regs false (pos 0)) ≡ None
+  -- of two depths the lesser one's state is kept, in whichever order they come
+  pub least_is_first : least (initial ∷ Live (Known (pos 16)) None Same ∷ []) ≡ Some initial
+  pub least_is_last : least (Live (Known (pos 16)) None Same ∷ initial ∷ []) ≡ Some initial

@@ -8,7 +8,7 @@ pub fn worked_moves()
     ensures { HasWorkedMoves }
 {}
 
-/// The rows of some states, and the rules that they meet.
+/// The rows of some states, the rules that they meet, and which of two is the least.
 pub fn worked_rows()
     ensures { HasWorkedRows }
 {}
