@@ -70,8 +70,30 @@ fn ends_with(kept: &Kept, held: Option<Held>, point: u32, place: Place) -> bool
     }
 }
 
-/// Adds the row of a point that begins at a place, unless it is equal to the one before in its section. Where the point keeps the
-/// same state as the one whose row is held, its row isn't made.
+/// Adds the row of a point that begins at a place, unless it is equal to the one before in its section.
+fn put_row(
+    kept: &Kept,
+    rows: &mut Vec<PlacedRow>,
+    held: &mut Option<Held>,
+    point: u32,
+    place: Place,
+) -> Result<(), NoMemory>
+    requires point { point < length kept.now }
+    requires fit { Fit (at kept.now) }
+    ensures pushed { OnOk result (rows.new.items ≡ after_row rows.old.items (placed place (row_of_point (at kept.now) point))) }
+    ensures inside { OnOk result (IfSome held.new (λ h. h.point < length kept.now)) }
+    ensures held { OnOk result (IfSome held.new (λ h. is_row_held rows.new.items h.sec (row_of_point (at kept.now) h.point) ≡ true)) }
+{
+    let row = row_or_zero(kept.state(point));
+    push_change(rows, PlacedRow { place, row })?;
+    *held = Some(Held {
+        point,
+        sec: place.sec,
+    });
+    Ok(())
+}
+
+/// The same, but where the point keeps the same state as the one whose row is held, its row isn't made.
 #[inline(always)]
 fn push_row(
     kept: &Kept,
@@ -91,13 +113,7 @@ fn push_row(
     if ends_with(kept, *held, point, place) {
         return Ok(());
     }
-    let row = row_or_zero(kept.state(point));
-    push_change(rows, PlacedRow { place, row })?;
-    *held = Some(Held {
-        point,
-        sec: place.sec,
-    });
-    Ok(())
+    put_row(kept, rows, held, point, place)
 }
 
 /// Adds the rows of kept points of sites that run before a place, from one on, and says where those end.
@@ -311,7 +327,7 @@ pub(crate) fn list_changes(
                 &mut waiting,
                 place,
             )?;
-            push_row(kept, &mut rows, &mut held, n, place)?;
+            put_row(kept, &mut rows, &mut held, n, place)?;
         }
         from = n + 1;
     }

@@ -18,7 +18,7 @@ use Rattle.program_check.proofs.Kept.{kept_is_point}
 use Rattle.program_check.proofs.Staying.{same_rows}
 use Rattle.program_check.proofs.SiteRows.{row_there, rows_of_range}
 use Rattle.program_check.proofs.changes.list_changes.Goals as goal
-use Rattle.program_check.proofs.changes.list_changes.Goals.{in-Some-plain_place+in_ok-next+in_ok-push_row, in_default-plain_place}
+use Rattle.program_check.proofs.changes.list_changes.Goals.{in-Some-plain_place+in_ok-next+in_ok-put_row, in_default-plain_place}
 
 none : PlacedRow
 none = record { place = record { sec = 0; off = 0 }; row = record { sp_offset = pos 0; bp_offset = pos 0; sp_reg = 0; bp_reg = 0; kind = 0; signal = false } }
@@ -62,15 +62,15 @@ loop-n-preserved c =
     (λ k low high. c.next_change.ensures.row p checked.tells c.loop-n.rows.items c.loop-n.invariant.held k low (where_some c.next_change.result (far k) (λ m. k < m) n c.in-Some.is high))
     h.2 in
     elim c.match-plain_place.branch [
-      | in-Some-plain_place+in_ok-next+in_ok-push_row w ↦
+      | in-Some-plain_place+in_ok-next+in_ok-put_row w ↦
           let rows_is = w.rows-is in
           let next_is = w.next-is in
           let held_is = w.held-is in
           let waiting_is = w.waiting-is in
           let end : ℕ = w.in_ok-next.next in
           rw (rows_is, next_is, held_is, waiting_is) (record {
-            inside = w.in_ok-push_row.ensures.inside;
-            held = w.in_ok-push_row.ensures.held;
+            inside = w.in_ok-put_row.ensures.inside;
+            held = w.in_ok-put_row.ensures.held;
             to = omega (arith, c.in-Some.ensures.within.1);
             waiting = w.in_ok-next.ensures.waiting;
             within = w.in_ok-next.ensures.within;
@@ -90,7 +90,7 @@ loop-n-preserved c =
                 (omega (arith, c.in-Some.ensures.within.1, checked.tells.count)) row.0 in (
                   r.0,
                   r.1,
-                  w.in_ok-push_row.ensures.pushed
+                  w.in_ok-put_row.ensures.pushed
                       ∙ ap (λ (xs : List PlacedRow). after_row xs added) (w.in_ok-next.ensures.pushed p checked.tells)
                       ∙ ap (λ (xs : List PlacedRow). after_row (add_all c.loop-n.rows.items xs) added) (sym (rows_of_range p states points next end))
                       ∙ ap (λ (xs : List PlacedRow). after_row (add_all xs (slice_range in_sites next end)) added) h.2
