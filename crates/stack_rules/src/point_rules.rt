@@ -163,7 +163,7 @@ fn push_sizes(into: &mut Vec<Warning>, places: &[Place]) -> Result<(), NoMemory>
 /// Adds a program's warnings of the rules 1 to 11, 13 and 15 to 19, in no certain order. A warning may be added more
 /// than once.
 ///
-/// Each point is looked at once, and so is each edge, but those of a point that has the edges of another mostly aren't. An
+/// Each point is looked at once or twice, and each edge once, but those of a point that has the edges of another mostly aren't. An
 /// error says that memory ran out.
 pub fn push_warnings(graph: &Graph, kept: &Kept, into: &mut Vec<Warning>) -> Result<(), NoMemory>
     requires { length kept.now ≡ length graph.now.parts.points.items }
