@@ -21,20 +21,18 @@ pub(crate) struct Blocks {
 }
 
 impl Blocks {
-    /// Counts a place, which comes behind so many others.
+    /// Counts the places of a block, of which one is given: so many stand before the block, and so many up to its end.
     #[inline(always)]
-    fn count(&mut self, place: Place, others: u32) -> Result<(), NoMemory>
-        requires { others + 1 < 2 ^ 32 }
-    {
+    fn count(&mut self, place: Place, before: u32, upto: u32) -> Result<(), NoMemory> {
         let sec = place.sec as usize;
         while self.before.len() <= sec {
             self.before.push(self.upto.len() as u64)?;
         }
         let block = self.before[sec].wrapping_add(place.off / BYTES) as usize;
         while self.upto.len() <= block {
-            self.upto.push(others)?;
+            self.upto.push(before)?;
         }
-        self.upto[block] = others + 1;
+        self.upto[block] = upto;
         Ok(())
     }
 
@@ -46,8 +44,13 @@ impl Blocks {
         let before = Vec::new(alloc);
         let upto = Vec::new(alloc);
         let mut blocks = Blocks { before, upto };
+        let mut first = 0;
         for n in 0..points.len() {
-            blocks.count(points[n].place(), n as u32)?;
+            if ends_block(points, n) {
+                let end = n as u32 + 1;
+                blocks.count(points[n].place(), first, end)?;
+                first = end;
+            }
         }
         Ok(blocks)
     }
@@ -60,7 +63,7 @@ impl Blocks {
         let upto = Vec::new(alloc);
         let mut blocks = Blocks { before, upto };
         for n in 0..sites.len() {
-            blocks.count(sites[n].start, n as u32)?;
+            blocks.count(sites[n].start, n as u32, n as u32 + 1)?;
         }
         Ok(blocks)
     }
@@ -98,6 +101,20 @@ impl Blocks {
             None
         }
     }
+}
+
+/// Whether the point with a number is the last one of its block, of points that ascend by place.
+#[inline(always)]
+fn ends_block(points: &[StoredPoint], n: usize) -> bool
+    requires { n < length points.now }
+{
+    let next = n + 1;
+    if next >= points.len() {
+        return true;
+    }
+    let place = points[n].place();
+    let behind = points[next].place();
+    place.sec != behind.sec || place.off / BYTES != behind.off / BYTES
 }
 
 /// The last of these points, of those between two numbers, that isn't behind a point, where they ascend.

@@ -204,13 +204,12 @@ fn push_text(
     let offsets = text.text.offsets();
     for off in offsets {
         let off = u64::from(*off);
-        let place = Place { sec, off };
-        let point = Point { place, variant: 0 };
         if off >= limit {
-            next = push_before(points, others, next, point)?;
+            let place = Place { sec, off };
+            next = push_before(points, others, next, Point { place, variant: 0 })?;
             limit = limit_of(others, next, sec);
         }
-        points.push(StoredPoint::new(point))?;
+        points.push(StoredPoint::plain(sec, off))?;
     }
     Ok(next)
 }

@@ -37,6 +37,18 @@ impl StoredPoint {
         }
     }
 
+    /// The plain point at an offset of 32 bits.
+    pub(crate) fn plain(sec: u32, off: u64) -> StoredPoint
+        requires { off < 2 ^ 32 }
+        ensures { result ≡ record { place = record { sec = sec; off = off }; variant = 0 } }
+    {
+        StoredPoint {
+            sec,
+            off: off as u32,
+            variant: 0,
+        }
+    }
+
     /// The point.
     pub(crate) fn point(&self) -> Point
         ensures { result ≡ self.now }

@@ -113,12 +113,21 @@ impl<'l, 'o, 'a> PointPlaces<'l, 'o, 'a> {
     }
 
     /// The number of a point, found at once where it is the guessed one. A wrong guess costs time and nothing else.
+    #[inline(always)]
     pub fn number_by_guess(&self, point: Point, guess: u32) -> Option<u32>
         ensures { result ≡ number_of_point self.now point }
     {
         if let Some(n) = guessed(self.linked.sites(), point, guess) {
             return Some(n);
         }
+        self.search_number(point)
+    }
+
+    /// The number of a point, by a search.
+    #[inline(never)]
+    fn search_number(&self, point: Point) -> Option<u32>
+        ensures { result ≡ number_of_point self.now point }
+    {
         self.number_of(point)
     }
 

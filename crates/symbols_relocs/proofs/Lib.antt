@@ -9,6 +9,7 @@ mod Listed
 mod Found
 mod NamePlaces
 mod Stems
+mod ThunkTargets
 mod Numbers
 mod Counted
 mod Spans

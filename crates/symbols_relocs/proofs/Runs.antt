@@ -1,5 +1,6 @@
 -- The relocations at an offset, among those in the order of their offsets.
-use Rattle.std.proofs.Common.{◌≡◌, ℕ, zero, suc, ◌<◌, ◌≤◌, cond, List, [], ◌∷◌, length, take, drop, get_or, arith, refl, ap, ◌∙◌}
+use Rattle.std.proofs.Common.{◌≡◌, ℕ, zero, suc, ◌<◌, ◌≤◌, cond, List, [], ◌∷◌, Some, length, take, drop, get_or, arith, refl, ap, ◌∙◌}
+use Rattle.std.specs.Prelude.{slice_get}
 use Rattle.std.proofs.lemmas.Bool.{eq-eqb, ne_eqb}
 use Rattle.elf_objects.specs.declared.symbol.Reloc.{Reloc}
 use Rattle.symbols_relocs.specs.Relocs.{at_offset}
@@ -40,3 +41,30 @@ below_first off relocs d start end inside below above = at_most start end (λ la
   where
     at_most : (m n : ℕ) → (n < m → ⊥) → m ≤ n
     at_most m n not = omega arith
+
+-- none is at an offset, where those before `start` are below it and the others above
+pub none_is : (off : ℕ) (relocs : List Reloc) (start : ℕ)
+    → ((k : ℕ) (d : Reloc) → k < start → (get_or relocs k d).offset < off)
+    → ((k : ℕ) (d : Reloc) → start ≤ k → k < length relocs → off < (get_or relocs k d).offset)
+    → at_offset off relocs ≡ []
+none_is off [] start below above = refl
+none_is off (r ∷ relocs) zero below above =
+    let first : off < r.offset = above 0 r (omega arith) (omega arith) in
+    at_offset_other off r relocs (λ same. omega arith)
+    ∙ none_is off relocs zero (λ k d h. absurd (omega arith)) (λ k d l h. above (suc k) d (omega arith) (omega arith))
+none_is off (r ∷ relocs) (suc start) below above =
+    let first : r.offset < off = below 0 r (omega arith) in
+    at_offset_other off r relocs (λ same. omega arith)
+    ∙ none_is off relocs start (λ k d h. below (suc k) d (omega arith)) (λ k d l h. above (suc k) d (omega arith) (omega arith))
+
+-- the first at an offset is that at `start`, where those before are below it
+pub first_is : (off : ℕ) (relocs : List Reloc) (start : ℕ) (d : Reloc) → start < length relocs
+    → ((k : ℕ) (d : Reloc) → k < start → (get_or relocs k d).offset < off)
+    → (get_or relocs start d).offset ≡ off
+    → slice_get (at_offset off relocs) 0 ≡ Some (get_or relocs start d)
+first_is off [] start d inside below here = absurd (omega arith)
+first_is off (r ∷ relocs) zero d inside below here = ap (λ rs. slice_get rs 0) (at_offset_here off r relocs here)
+first_is off (r ∷ relocs) (suc start) d inside below here =
+    let first : r.offset < off = below 0 r (omega arith) in
+    ap (λ rs. slice_get rs 0) (at_offset_other off r relocs (λ same. omega arith))
+    ∙ first_is off relocs start d (omega arith) (λ k d h. below (suc k) d (omega arith)) here

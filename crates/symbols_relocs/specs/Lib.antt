@@ -4,6 +4,7 @@ pub mod Places
 pub mod Functions
 pub mod Parts
 pub mod Targets
+pub mod NameKinds
 pub mod Lists
 pub mod Names
 pub mod Faults

@@ -8,6 +8,8 @@ use Rattle.elf_objects.specs.Elf.{Elf}
 use Rattle.elf_objects.specs.Contents.{relocs_at, symbol_at}
 use Rattle.symbols_relocs.specs.Relocs.{IsIndexOf}
 use Rattle.symbols_relocs.specs.declared.function.Function.{Function}
+use Rattle.symbols_relocs.specs.declared.name_kind.NameKind.{NameKind}
+use Rattle.symbols_relocs.specs.NameKinds.{AreNameKinds}
 use Rattle.symbols_relocs.specs.Functions.{is_function, is_symbol_at, start_of, starts_at}
 use Rattle.symbols_relocs.specs.Parts.{parent_of}
 
@@ -139,7 +141,7 @@ pub record AreSame (fs gs : List Function) : Type 0 where
   pub sym : (i : ℕ) → i < length fs → (function gs i).sym ≡ (function fs i).sym
 
 -- what is kept beside an object
-pub record IsIndexed (o : Elf) (fs : List Function) (links : List ℕ) (indices : List (List Reloc)) : Type 0 where
+pub record IsIndexed (o : Elf) (fs : List Function) (links : List ℕ) (indices : List (List Reloc)) (kinds : List NameKind) : Type 0 where
   pub functions : AreFunctions o fs
   pub parents : HaveParents o fs
   pub few : length fs ≤ 4194304
@@ -147,6 +149,7 @@ pub record IsIndexed (o : Elf) (fs : List Function) (links : List ℕ) (indices 
   pub outer : AreOuter fs links
   pub sections : length indices ≡ length o.sections
   pub relocs : (i : ℕ) → i < length o.sections → IsIndexOf (relocs_at o i) (slice_index_or indices i [])
+  pub names : AreNameKinds o kinds
 
 -- functions in order, with one more symbol that starts at the last of them or behind it
 abbrev pub with_symbol : List Function → Function → List Function

@@ -15,6 +15,7 @@ use crate::RelocIndex;
 use crate::fault::IndexFault;
 use crate::function::Function;
 use crate::merge::merge_symbols;
+use crate::name_kind::{NameKind, list_name_kinds};
 use crate::near::list_counts;
 use crate::order::find_start;
 use crate::outer::{find_holder, link_outer};
@@ -42,6 +43,8 @@ pub struct Index<'o, 'a> {
     near: Vec<u32>,
     /// The relocations of each section.
     relocs: Vec<RelocIndex>,
+    /// What the name of each symbol says of branches to it.
+    kinds: Vec<NameKind>,
 }
 
 impl<'o, 'a> Model for Index<'o, 'a> {
@@ -51,7 +54,7 @@ impl<'o, 'a> Model for Index<'o, 'a> {
 
     ghost view = { λ i. record { elf = i.object.now; functions = i.functions.items } };
 
-    ghost invariant = { λ i. IsIndexed i.object.now i.functions.items i.outer.items i.relocs.items };
+    ghost invariant = { λ i. IsIndexed i.object.now i.functions.items i.outer.items i.relocs.items i.kinds.items };
 }
 
 impl<'o, 'a> Index<'o, 'a> {
@@ -72,12 +75,14 @@ impl<'o, 'a> Index<'o, 'a> {
         let outer = link_outer(alloc, &functions)?;
         let near = list_counts(alloc, &functions)?;
         let relocs = index_relocs(alloc, object)?;
+        let kinds = list_name_kinds(alloc, object)?;
         Ok(Index {
             object,
             functions,
             outer,
             near,
             relocs,
+            kinds,
         })
     }
 
@@ -179,7 +184,7 @@ impl<'o, 'a> Index<'o, 'a> {
         ensures { result ≡ branch_target_of self.now.elf place insn }
     {
         match insn.op {
-            Op::Call { rel } => self.wide_target(place, insn.len, rel),
+            Op::Call { rel } => self.jump_target(place, insn.len, rel, true),
             Op::Jmp { rel, wide } => self.jump_target(place, insn.len, rel, wide),
             Op::Jcc { rel, wide } => self.jump_target(place, insn.len, rel, wide),
             _ => Target::Bad,
@@ -204,7 +209,7 @@ impl<'o, 'a> Index<'o, 'a> {
         ensures { result ≡ wide_target_of self.now.elf place len rel }
     {
         match self.reloc_at(last_bytes(place, len, 4)) {
-            Some(reloc) => reloc_target(self.object, reloc),
+            Some(reloc) => reloc_target(self.object, &self.kinds, reloc),
             None => relative_target(self.object, place, len, rel),
         }
     }

@@ -12,6 +12,7 @@ mod fault;
 mod function;
 mod index;
 mod merge;
+mod name_kind;
 mod names;
 mod near;
 mod near_relocs;

@@ -62,7 +62,7 @@ impl RelocIndex {
     pub fn reloc_at(&self, off: u64) -> Option<Reloc>
         ensures { result ≡ first_at_offset off self.now }
     {
-        self.at(off).first().copied()
+        first_at(self.relocs.as_slice(), near_count(&self.near, off), off)
     }
 
     /// The first of them whose type stands for a place: `R_X86_64_64`, `R_X86_64_PC32`, `R_X86_64_32` or
@@ -113,6 +113,18 @@ fn run_at(relocs: &[Reloc], near: usize, off: u64) -> &[Reloc]
     let (to_end, _) = relocs.split_at(end);
     let (_, run) = to_end.split_at(start);
     run
+}
+
+/// The first at an offset, of relocations in the order of their offsets, where so many may be below it.
+fn first_at(relocs: &[Reloc], near: usize, off: u64) -> Option<Reloc>
+    requires { IsNonDecreasingBy (λ r. r.offset) relocs.now }
+    ensures { result ≡ first_at_offset off relocs.now }
+{
+    let start = count_near(relocs, near, off);
+    if are_above(relocs, start, off) {
+        return None;
+    }
+    Some(relocs[start])
 }
 
 /// The first relocation whose type stands for a place.

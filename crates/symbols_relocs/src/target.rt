@@ -1,12 +1,14 @@
 //! The targets of direct calls and branches.
 
-ghost use Rattle.std.specs.Prelude.{◌≡◌, ◌<◌, ◌+ℤ◌, pos, false, length, bytes_eq};
+ghost use Rattle.std.specs.Prelude.{◌≡◌, ◌<◌, ◌+ℤ◌, pos, length};
 ghost use Rattle.elf_objects.specs.Contents.{symbol_at};
 ghost use Rattle.elf_objects.specs.Lent.{lent_symbol};
 ghost use Rattle.symbols_relocs.specs.NamedPlaces.{offset_of};
+ghost use Rattle.symbols_relocs.specs.NameKinds.{AreNameKinds};
 ghost use Rattle.symbols_relocs.specs.Places.{is_in_text as is_in_text_of};
-ghost use Rattle.symbols_relocs.specs.Targets.{either as either_at, inside as inside_at, is_branch_kind as is_branch_type, is_indirect_thunk as is_indirect_thunk_name, relative_target as relative_target_of, reloc_target as reloc_target_of, return_thunk, symbol_target as symbol_target_of};
+ghost use Rattle.symbols_relocs.specs.Targets.{either as either_at, inside as inside_at, is_branch_kind as is_branch_type, relative_target as relative_target_of, reloc_target as reloc_target_of, symbol_target as symbol_target_of};
 
+use crate::name_kind::NameKind;
 use crate::symbols::section_size;
 use elf_objects::{Home, Object, R_X86_64_PC32, R_X86_64_PLT32, Reloc, STB_WEAK, Symbol};
 use ot_base::Place;
@@ -28,18 +30,6 @@ pub enum Target {
     /// To no place of a text section, or by a relocation that isn't one of a branch.
     Bad,
 }
-
-/// What the names of the thunks that jump to where a register points begin with.
-const INDIRECT_THUNK: &[u8] = b"__x86_indirect_thunk_";
-
-/// What of that tells them from the thunk that returns.
-const INDIRECT_START: &[u8] = b"__x86_i";
-
-/// The name of the thunk that returns.
-const RETURN_THUNK: &[u8] = b"__x86_return_thunk";
-
-/// What the names of all these thunks begin with, and few other names.
-const THUNK_START: &[u8] = b"__x";
 
 /// Whether a relocation of this type is one of a branch.
 fn is_branch_kind(kind: u32) -> bool
@@ -124,48 +114,22 @@ fn symbol_target(object: &Object<'_>, reloc: Reloc) -> Target
     }
 }
 
-/// Whether the name of a symbol may be that of a thunk, told by its first bytes.
-fn may_be_thunk(object: &Object<'_>, sym: u32) -> bool
-    requires { sym < length object.now.symbols }
-    ensures indirect { result ≡ false → is_indirect_thunk_name (symbol_at object.now sym).name ≡ false }
-    ensures returning { result ≡ false → bytes_eq (symbol_at object.now sym).name return_thunk ≡ false }
-{
-    object.symbol_name_begins(sym, THUNK_START)
-}
-
-/// Whether the name of a symbol is that of a thunk that jumps to where a register points.
-fn is_indirect_thunk(object: &Object<'_>, sym: u32) -> bool
-    requires { sym < length object.now.symbols }
-    ensures { result ≡ is_indirect_thunk_name (symbol_at object.now sym).name }
-{
-    object.symbol_name_begins(sym, INDIRECT_START) && object.symbol_name_begins(sym, INDIRECT_THUNK)
-}
-
-/// Whether the name of a symbol is that of the thunk that returns.
-fn is_return_thunk(object: &Object<'_>, sym: u32) -> bool
-    requires { sym < length object.now.symbols }
-    ensures { result ≡ bytes_eq (symbol_at object.now sym).name return_thunk }
-{
-    object.symbol_is_named(sym, RETURN_THUNK)
-}
-
-/// The target that a relocation on the displacement names.
-pub(crate) fn reloc_target(object: &Object<'_>, reloc: Reloc) -> Target
+/// The target that a relocation on the displacement names, where what the names of symbols say is told.
+pub(crate) fn reloc_target(object: &Object<'_>, kinds: &[NameKind], reloc: Reloc) -> Target
+    requires { AreNameKinds object.now kinds.now }
     ensures { result ≡ reloc_target_of object.now reloc }
 {
     if !is_branch_kind(reloc.kind) {
-        Target::Bad
-    } else if reloc.sym >= object.symbols() {
+        return Target::Bad;
+    }
+    if reloc.sym >= object.symbols() {
         // A symbol that isn't there is undefined.
-        Target::Outside(reloc.sym)
-    } else if !may_be_thunk(object, reloc.sym) {
-        symbol_target(object, reloc)
-    } else if is_indirect_thunk(object, reloc.sym) {
-        Target::ThunkIndirect
-    } else if is_return_thunk(object, reloc.sym) {
-        Target::ThunkReturn
-    } else {
-        symbol_target(object, reloc)
+        return Target::Outside(reloc.sym);
+    }
+    match kinds[reloc.sym as usize] {
+        NameKind::IndirectThunk => Target::ThunkIndirect,
+        NameKind::ReturnThunk => Target::ThunkReturn,
+        NameKind::Other => symbol_target(object, reloc),
     }
 }
 

@@ -56,7 +56,7 @@ loop-off-preserved c =
       within = within;
       points = λ rest.
           let left : List Point = map (plain_begin sec) (drop (k + 1) offsets) in
-          ap (λ ps. ps ++ woven (left ++ rest) (drop next others)) (c.in_ok-push.ensures.items ∙ ap (λ (q : Point). added ++ q ∷ []) c.new.ensures)
+          ap (λ ps. ps ++ woven (left ++ rest) (drop next others)) (c.in_ok-push.ensures.items ∙ ap (λ (q : Point). added ++ q ∷ []) c.plain.ensures)
           ∙ append_assoc added (p ∷ []) (woven (left ++ rest) (drop next others))
           ∙ turn (left ++ rest)
           ∙ ap (λ os. c.loop-off.points.items ++ woven (map (plain_begin sec) os ++ rest) (drop c.loop-off.next others)) (sym (dropped offsets k off inside is))

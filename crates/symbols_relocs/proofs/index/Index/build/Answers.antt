@@ -28,6 +28,7 @@ invariant_of-result c =
       outer = subst Q c.deref-2.ensures.value c.in_ok-outer.ensures.links;
       sections = c.in_ok-relocs.ensures.len;
       relocs = c.in_ok-relocs.ensures.each;
+      names = c.in_ok-kinds.ensures;
     }
 
 pub list_counts-requires : goal.list_counts-requires
