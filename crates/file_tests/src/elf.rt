@@ -1,12 +1,8 @@
-//! Objects from outside, what `elf_objects` answers of them, and what `elf_write` and `demo_objects` make.
+//! What `demo_objects` makes, and what `elf_write` answers where no command asks it.
 
 mod adding;
-mod built;
 mod functions;
 mod insertion;
 mod leaf;
 mod making;
-mod plain;
-mod reading;
-pub mod readings;
-mod tables;
+mod readings;

@@ -1,5 +1,5 @@
-//! Tests of what is read and written: objects that are made, read and changed; their tables, stacks and walks; files of
-//! names, words, printed texts and files.
+//! Tests of what no command shows: objects that are made, what a look-up reads, the help text beside what `clap` renders,
+//! and files in memory.
 #![tactic(auto)]
 
 #[cfg(test)]

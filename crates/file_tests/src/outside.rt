@@ -1,6 +1,4 @@
-//! Printed texts and lists of `ot_base`, what lists of words mean (`cli_matches`), and files (`ot_files`).
+//! The help text (`cli_matches`), and files in memory (`ot_files`).
 
 mod files;
-mod lists;
-mod printed;
-mod words;
+mod help;

@@ -1,7 +1,4 @@
-//! Tables of `orc_bytes` and their bytes, walks and images of `orc_walk`.
+//! Tables of `orc_walk`.
 
-mod bodies;
-mod images;
 mod made;
 mod tables;
-mod walks;

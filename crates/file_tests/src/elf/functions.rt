@@ -3,13 +3,9 @@
 ghost use Rattle.std.specs.Prelude.{◌≤◌};
 
 use super::leaf::leaf;
-use super::reading::{F0, put};
-use super::readings::{numbers_of, object_of, symbol_of};
 use demo_objects::demo;
-use elf_objects::{Object, Symbol};
 use ot_base::NoMemory;
 use std::alloc::{AllocError, Global};
-use std::process::Abort;
 use std::test::Fail;
 
 /// Bytes at an offset. Those that no part has are zero.
@@ -86,6 +82,15 @@ const THREE: [Part; 31] = [
     (583, b"\0"),
 ];
 
+/// Puts other bytes at an offset.
+fn put(bytes: &mut Vec<u8>, at: usize, values: &[u8]) {
+    for (i, value) in values.iter().enumerate() {
+        if let Some(place) = bytes.get_mut(at.wrapping_add(i)) {
+            *place = *value;
+        }
+    }
+}
+
 /// So many bytes with these parts.
 fn bytes_of(alloc: Global, size: usize, parts: &[Part]) -> Result<Vec<u8>, AllocError> {
     let mut bytes = vec![in alloc; 0; size]?;
@@ -125,30 +130,5 @@ fn three_byte_by_byte(rt: HostRuntime) {
 #[test]
 fn one_is_the_leaf(rt: HostRuntime) -> Result<(), Fail> {
     assert!(rt; functions(rt.alloc(), 1)?.as_slice() == leaf());
-    Ok(())
-}
-
-/// The last of 100,000 functions.
-const LAST: Symbol = Symbol {
-    value: 966_657,
-    ..F0
-};
-
-/// It stands where those before it end.
-fn expect_last(rt: &impl Abort, object: &Object<'_>) {
-    assert!(rt; (object.sections(), object.symbols()) == (5, 100_002));
-    assert!(rt; numbers_of(object, 1) == Some([1, 6, 64, 966_663, 0, 0, 1, 0]));
-    assert!(rt; symbol_of(object, 100_001) == Some(LAST));
-}
-
-fn expect_read(rt: &impl Abort, alloc: Global, file: &[u8]) {
-    let object = object_of(alloc, file).expect(rt, "an object");
-    expect_last(rt, &object);
-}
-
-#[test]
-fn as_many_as_there_may_be(rt: HostRuntime) -> Result<(), Fail> {
-    let file = functions(rt.alloc(), 100_000)?;
-    expect_read(&rt, rt.alloc(), &file);
     Ok(())
 }

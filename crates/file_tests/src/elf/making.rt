@@ -1,24 +1,23 @@
 //! Objects that are made, and what cannot be made.
 
 use super::leaf::leaf;
-use super::reading::expect_section_names;
-use super::readings::{body_of, numbers_of, object_of, reloc_count, reloc_of};
 use demo_objects::{RelSpec, Spec, SymSpec, build, section};
 use elf_objects::{
-    Home, Object, R_X86_64_PC32, Reloc, SHF_ALLOC, SHF_EXECINSTR, SHF_WRITE, SHT_NOBITS,
-    SHT_PROGBITS, STB_GLOBAL, STB_LOCAL, STT_FUNC, STT_SECTION,
+    Home, R_X86_64_PC32, Reloc, SHF_ALLOC, SHF_EXECINSTR, SHT_NOBITS, SHT_PROGBITS, STB_GLOBAL,
+    STB_LOCAL, STT_FUNC, STT_SECTION,
 };
 use elf_write::NewSection;
 use ot_base::NoMemory;
 use std::alloc::Global;
 use std::process::Abort;
 
-/// The code `55 48 89 E5 5D C3` in a section, the symbol of the section, another symbol, and a relocation.
+/// The code `55 48 89 E5 5D C3` in a section, the symbol of the section, by its binding, another symbol, and a relocation.
 #[derive(Clone, Copy)]
 struct Parts {
     section: &'static [u8],
     kind: u32,
     align: u64,
+    first: u8,
     symbol: &'static [u8],
     bind: u8,
     of: u8,
@@ -31,6 +30,7 @@ const RIGHT: Parts = Parts {
     section: b".text",
     kind: SHT_PROGBITS,
     align: 1,
+    first: STB_LOCAL,
     symbol: b"f0",
     bind: STB_GLOBAL,
     of: STT_FUNC,
@@ -72,13 +72,6 @@ fn text(alloc: Global, parts: &Parts) -> Result<NewSection, NoMemory> {
     Ok(text)
 }
 
-/// The section `.data` of four bytes.
-fn data(alloc: Global) -> Result<NewSection, NoMemory> {
-    let mut data = section(alloc, b".data", SHF_ALLOC + SHF_WRITE, b"1234")?;
-    data.align = 16;
-    Ok(data)
-}
-
 fn sections(alloc: Global, parts: &Parts) -> Result<Vec<NewSection>, NoMemory> {
     let mut all = Vec::new(alloc);
     all.push(text(alloc, parts)?)?;
@@ -88,7 +81,7 @@ fn sections(alloc: Global, parts: &Parts) -> Result<Vec<NewSection>, NoMemory> {
 fn symbols(alloc: Global, parts: &Parts) -> Result<Vec<SymSpec>, NoMemory> {
     let mut all = Vec::new(alloc);
     let home = Home::Section(1);
-    all.push(symbol(alloc, b"", STB_LOCAL, STT_SECTION, home)?)?;
+    all.push(symbol(alloc, b"", parts.first, STT_SECTION, home)?)?;
     all.push(symbol(alloc, parts.symbol, parts.bind, parts.of, parts.home)?)?;
     Ok(all)
 }
@@ -130,58 +123,14 @@ fn the_leaf_byte_by_byte(rt: HostRuntime) {
     assert!(rt; file.as_slice() == leaf());
 }
 
-/// The names of the sections of the leaf with `.data` and a relocation.
-const SECTION_NAMES: [&[u8]; 7] = [
-    b"",
-    b".text",
-    b".data",
-    b".rela.text",
-    b".symtab",
-    b".strtab",
-    b".shstrtab",
-];
-
-/// What the leaf with `.data` and a relocation of `.text` is made of.
-fn spec_with_data(alloc: Global) -> Result<Spec, NoMemory> {
-    let mut spec = spec_of(alloc, &RIGHT)?;
-    spec.sections.push(data(alloc)?)?;
-    spec.relocs.push(CALL)?;
-    Ok(spec)
-}
-
-/// The leaf with `.data` and a relocation of `.text`.
-fn with_data(alloc: Global) -> Option<Vec<u8>> {
-    let spec = spec_with_data(alloc).ok()?;
-    built(alloc, &spec).ok()?
-}
-
-fn expect_data(rt: &impl Abort, object: &Object<'_>) {
-    assert!(rt; object.sections() == 7);
-    assert!(rt; numbers_of(object, 2) == Some([1, 3, 80, 4, 0, 0, 16, 0]));
-    assert!(rt; body_of(object, 2) == Some(b"1234".as_slice()));
-}
-
-fn expect_call(rt: &impl Abort, object: &Object<'_>) {
-    assert!(rt; (reloc_count(object, 2), reloc_count(object, 1)) == (Some(0), Some(1)));
-    assert!(rt; reloc_of(object, 1, 0) == Some(BY_F0));
-}
-
-/// What is read of the leaf with `.data` and a relocation.
-fn expect_read(rt: &impl Abort, alloc: Global, file: &[u8]) {
-    let object = object_of(alloc, file).expect(rt, "an object");
-    expect_section_names(rt, &object, &SECTION_NAMES);
-    expect_data(rt, &object);
-    expect_call(rt, &object);
-}
-
-#[test]
-fn an_object_with_relocations(rt: HostRuntime) {
-    let file = with_data(rt.alloc()).expect(&rt, "it can be made");
-    expect_read(&rt, rt.alloc(), &file);
-}
-
 /// Parts of which no object is made.
-const WRONG: [Parts; 12] = [
+const WRONG: [Parts; 13] = [
+    // A local symbol behind a global one.
+    Parts {
+        first: STB_GLOBAL,
+        bind: STB_LOCAL,
+        ..RIGHT
+    },
     Parts {
         section: b"a\0",
         ..RIGHT
@@ -240,23 +189,4 @@ fn expect_unmade(rt: &impl Abort, alloc: Global, wrong: &[Parts]) {
 fn what_cannot_be_made(rt: HostRuntime) {
     assert!(rt; is_made(rt.alloc(), &RIGHT, &[CALL]) == Some(true));
     expect_unmade(&rt, rt.alloc(), &WRONG);
-}
-
-/// What the leaf with a local symbol behind the global one would be made of.
-fn spec_with_local(alloc: Global) -> Result<Spec, NoMemory> {
-    let mut spec = spec_of(alloc, &RIGHT)?;
-    let local = symbol(alloc, b"f1", STB_LOCAL, STT_FUNC, Home::Section(1))?;
-    spec.symbols.push(local)?;
-    Ok(spec)
-}
-
-/// Whether it is made.
-fn is_made_with_local(alloc: Global) -> Option<bool> {
-    let spec = spec_with_local(alloc).ok()?;
-    Some(built(alloc, &spec).ok()?.is_some())
-}
-
-#[test]
-fn a_local_symbol_behind_a_global_one(rt: HostRuntime) {
-    assert!(rt; is_made_with_local(rt.alloc()) == Some(false));
 }

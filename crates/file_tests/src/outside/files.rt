@@ -1,10 +1,9 @@
-//! Files and outputs in memory by tables of calls, and the files of the system.
+//! Files and outputs in memory by tables of calls.
 ghost use Rattle.std.specs.Prelude.{IfOk, IsTrue};
 ghost use Rattle.ot_files.specs.Memory.{names_of, names_differ};
 
 use ot_files::{
-    FileError, Files, MemFiles, MemSink, Sink, SinkError, StdFiles, StdSink, SureFiles, SureSink,
-    write_line,
+    FileError, Files, MemFiles, MemSink, Sink, SinkError, SureFiles, SureSink, write_line,
 };
 use std::alloc::{AllocError, Global};
 use std::process::Abort;
@@ -184,38 +183,4 @@ fn an_output_takes_its_most(rt: HostRuntime) {
     for (piece, taken, written) in [("abc", 3, "abc"), ("", 0, "abc"), ("defghi", 4, "abcdefg")] {
         assert!(rt; takes(&mut out, piece, taken, written), "{piece}");
     }
-}
-
-const SYSTEM_WRITES: [WriteRow; 2] = [
-    ("out.o", "first and longer", Ok(())),
-    ("out.o", "written", Ok(())),
-];
-
-const SYSTEM_READS: [ReadRow; 6] = [
-    ("out.o", 7, Ok(()), "written"),
-    ("out.o", u64::MAX, Ok(()), "written"),
-    ("out.o", 6, Err(FileError::TooLong { limit: 6 }), ""),
-    ("no.o", 9, Err(FileError::Missing), ""),
-    ("no/out.o", 9, Err(FileError::Missing), ""),
-    // A folder can be opened, but not read.
-    (".", 9, Err(FileError::Failed), ""),
-];
-
-#[test]
-fn files_of_the_system_are_read_back(rt: HostRuntime) {
-    let mut files = StdFiles::new(rt.alloc(), rt);
-    expect_writes(&rt, &mut files, &SYSTEM_WRITES);
-    expect_reads(&rt, rt.alloc(), &mut files, &SYSTEM_READS);
-    expect_writes(
-        &rt,
-        &mut files,
-        &[("no/out.o", "x", Err(FileError::Failed))],
-    );
-}
-
-#[test]
-fn the_standard_output_takes_a_line(rt: HostRuntime) {
-    let mut out = StdSink::new(rt);
-    assert!(rt; write_line(&mut out, b"a line\n") == Ok(()));
-    assert!(rt; out.write(b"") == Ok(0));
 }

@@ -1,11 +1,11 @@
-//! Tables and memories of examples.
+//! Tables of examples.
 
-ghost use Rattle.std.specs.Prelude.{◌≡◌, ◌==◌, ◌<◌, ◌^◌, find, length, true};
+ghost use Rattle.std.specs.Prelude.{◌≡◌, ◌==◌, find, true};
 ghost use Rattle.orc_walk.specs.Table.{IsWithin};
 
-use orc_walk::{Memory, PlaceFault, Range, Table};
+use orc_walk::{PlaceFault, Range, Table};
 use ot_base::{Place, PlacedRow, Row};
-use std::alloc::{AllocError, Global};
+use std::alloc::Global;
 
 fn range_of(ranges: &[Range], sec: u32) -> Option<Range>
     ensures { result ≡ find (λ range. range.sec == sec) ranges.now }
@@ -41,26 +41,6 @@ pub fn place(
     }
 }
 
-/// The memory of these bytes from an address on.
-pub fn memory(alloc: Global, base: u64, bytes: &[u8]) -> Option<Memory> {
-    let size = bytes.len();
-    if size == 0 || size >= 0x1000 || base >= 0x1_0000_0000 {
-        return None;
-    }
-    memory_of(alloc, base, bytes).ok()
-}
-
-fn memory_of(alloc: Global, base: u64, bytes: &[u8]) -> Result<Memory, AllocError>
-    requires some { 0 < length bytes.now }
-    requires short { length bytes.now < 4096 }
-    requires low { base < 2 ^ 32 }
-{
-    let items = Vec::from_slice(alloc, bytes)?;
-    let mut ranges = Vec::new(alloc);
-    ranges.push((base, items))?;
-    Ok(Memory::new(ranges))
-}
-
 /// The fields of a row, in the order of `struct orc_entry`.
 pub type Fields = (i16, i16, u8, u8, u8, bool);
 
@@ -80,7 +60,7 @@ pub fn row(sec: u32, off: u64, fields: Fields) -> PlacedRow {
     }
 }
 
-pub const CALL: Fields = (8, 0, 5, 0, 2, false);
+const CALL: Fields = (8, 0, 5, 0, 2, false);
 
 pub const ZERO: Fields = (0, 0, 0, 0, 0, false);
 
