@@ -1,9 +1,9 @@
-//! Files and outputs in memory by tables of calls.
+//! Files and outputs in memory by tables of calls, and what the program never writes.
 ghost use Rattle.std.specs.Prelude.{IfOk, IsTrue};
 ghost use Rattle.ot_files.specs.Memory.{names_of, names_differ};
 
 use ot_files::{
-    FileError, Files, MemFiles, MemSink, Sink, SinkError, SureFiles, SureSink, write_line,
+    FileError, Files, MemFiles, MemSink, Sink, SinkError, StdSink, SureFiles, SureSink, write_line,
 };
 use std::alloc::{AllocError, Global};
 use std::process::Abort;
@@ -183,4 +183,10 @@ fn an_output_takes_its_most(rt: HostRuntime) {
     for (piece, taken, written) in [("abc", 3, "abc"), ("", 0, "abc"), ("defghi", 4, "abcdefg")] {
         assert!(rt; takes(&mut out, piece, taken, written), "{piece}");
     }
+}
+
+#[test]
+fn the_standard_output_takes_nothing(rt: HostRuntime) {
+    let mut out = StdSink::new(rt);
+    assert!(rt; out.write(b"") == Ok(0));
 }
