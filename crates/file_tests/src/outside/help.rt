@@ -8,63 +8,64 @@ use cli_matches::definition::{
 use cli_matches::help_text;
 use std::alloc::{AllocError, Global};
 
-/// Adds what `clap` renders of a command, as lines.
-fn push_help(into: &mut String, mut command: Definition<'_>) -> Result<(), AllocError> {
-    let help = command.render_help()?;
-    into.push_str(help.as_str())?;
-    into.push_str("\n")
+/// What `clap` renders of a command.
+fn help_of(command: Result<Definition<'_>, AllocError>) -> Option<String> {
+    let mut command = command.ok()?;
+    command.render_help().ok()
 }
 
-/// Adds what it renders of a command that has options. One whose value stands behind `=` alone is shown so.
-fn push_with_options(into: &mut String, command: Definition<'_>) -> Result<(), AllocError> {
-    let shown = command.mut_arg("names", |names| Ok(names.require_equals(true)))?;
-    push_help(into, shown)
+/// What it renders of a command that has options. One whose value stands behind `=` alone is shown so.
+fn help_with_options(command: Result<Definition<'_>, AllocError>) -> Option<String> {
+    let command = command.ok()?;
+    help_of(command.mut_arg("names", |names| Ok(names.require_equals(true))))
 }
 
-/// Adds what it renders of `show`, whose options that have a value are two.
-fn push_show(into: &mut String, command: Definition<'_>) -> Result<(), AllocError> {
-    let shown = command.mut_arg("function", |function| Ok(function.require_equals(true)))?;
-    push_with_options(into, shown)
+/// What it renders of `show`, whose options that have a value are two.
+fn help_of_show(command: Result<Definition<'_>, AllocError>) -> Option<String> {
+    let command = command.ok()?;
+    help_with_options(command.mut_arg("function", |function| Ok(function.require_equals(true))))
 }
 
-/// Adds what it renders of the program, and then of the commands that make and read ORC tables.
-fn push_first(alloc: Global, into: &mut String) -> Result<(), AllocError> {
-    push_help(into, command_line(alloc)?)?;
-    push_with_options(into, check(alloc)?)?;
-    push_help(into, dump(alloc)?)?;
-    push_help(into, unwind(alloc)?)
+/// What stands in a text behind another and an empty line.
+fn rest<'a>(text: &'a str, help: &str) -> Option<&'a str> {
+    text.strip_prefix(help)?.strip_prefix("\n")
 }
 
-/// Adds what it renders of those of site lists and entry rules, and of the one that makes call frame information.
-fn push_next(alloc: Global, into: &mut String) -> Result<(), AllocError> {
-    push_with_options(into, sites(alloc)?)?;
-    push_help(into, list(alloc)?)?;
-    push_with_options(into, entry(alloc)?)?;
-    push_with_options(into, cfi(alloc)?)
+/// The same, where both are there.
+fn behind<'a>(text: Option<&'a str>, help: Option<String>) -> Option<&'a str> {
+    rest(text?, help?.as_str())
 }
 
-/// Adds what it renders of the rest.
-fn push_last(alloc: Global, into: &mut String) -> Result<(), AllocError> {
-    push_help(into, cfa(alloc)?)?;
-    push_help(into, merge(alloc)?)?;
-    push_help(into, find(alloc)?)?;
-    push_show(into, show(alloc)?)?;
-    push_help(into, explain(alloc)?)?;
-    push_help(into, demo(alloc)?)
+/// What stands behind what is rendered of the program, and then of the commands that make and read ORC tables.
+fn behind_first(alloc: Global, text: Option<&str>) -> Option<&str> {
+    let text = behind(text, help_of(command_line(alloc)));
+    let text = behind(text, help_with_options(check(alloc)));
+    let text = behind(text, help_of(dump(alloc)));
+    behind(text, help_of(unwind(alloc)))
 }
 
-/// What it renders of the program, and then of each command.
-fn rendered(alloc: Global) -> Option<String> {
-    let mut text = String::new(alloc);
-    push_first(alloc, &mut text).ok()?;
-    push_next(alloc, &mut text).ok()?;
-    push_last(alloc, &mut text).ok()?;
-    Some(text)
+/// Behind that of those of site lists and entry rules, and of the one that makes call frame information.
+fn behind_next(alloc: Global, text: Option<&str>) -> Option<&str> {
+    let text = behind(text, help_with_options(sites(alloc)));
+    let text = behind(text, help_of(list(alloc)));
+    let text = behind(text, help_with_options(entry(alloc)));
+    behind(text, help_with_options(cfi(alloc)))
+}
+
+/// Behind that of the rest.
+fn behind_last(alloc: Global, text: Option<&str>) -> Option<&str> {
+    let text = behind(text, help_of(cfa(alloc)));
+    let text = behind(text, help_of(merge(alloc)));
+    let text = behind(text, help_of(find(alloc)));
+    let text = behind(text, help_of_show(show(alloc)));
+    let text = behind(text, help_of(explain(alloc)));
+    behind(text, help_of(demo(alloc)))
 }
 
 #[test]
 fn help_is_what_clap_renders(rt: HostRuntime) {
-    let usage = rendered(rt.alloc()).expect(&rt, "memory");
-    let rest = help_text().strip_prefix(usage.as_str());
-    assert!(rt; rest.is_some_and(|rest| rest.starts_with("Statuses:\n")));
+    let text = behind_first(rt.alloc(), Some(help_text()));
+    let text = behind_next(rt.alloc(), text);
+    let text = behind_last(rt.alloc(), text);
+    assert!(rt; text.is_some_and(|text| text.starts_with("Statuses:\n")));
 }
