@@ -4,7 +4,6 @@ use Rattle.std.specs.Prelude.{◌≢◌, ◌⊎◌, Option, Some, None, Ok}
 use Rattle.std.specs.FinMap.{get}
 use Rattle.ot_base.specs.NameLists.{NameLists, lists_with}
 use Rattle.ot_base.specs.NamesFile.{IsNamesFile}
-use Rattle.ot_base.specs.declared.lists.ListsFault.TheVariants as lists_fault
 use Rattle.ot_base.specs.declared.row.PlacedRow.{PlacedRow}
 use Rattle.ot_files.specs.Content.{Content, reading, writing}
 use Rattle.elf_objects.specs.declared.TheConstants.{MAX_FILE_BYTES}
@@ -12,11 +11,10 @@ use Rattle.elf_objects.specs.Elf.{Elf}
 use Rattle.x86_decode.specs.Decoding.{OneOutcome}
 use Rattle.x86_map.specs.declared.map.Map.{Map}
 use Rattle.command_base.specs.Dump.{IsAnswered}
-use Rattle.command_base.specs.Names.{HasNames, IsListsStop, StopsAtNames, names_unread, no_lists, no_names}
+use Rattle.command_base.specs.Names.{HasNames}
 use Rattle.command_base.specs.Outside.{Outside, Output}
 use Rattle.command_base.specs.Printing.{Concludes}
 use Rattle.command_base.specs.Stop.{status_of}
-use Rattle.command_base.specs.declared.refusal.Refusal.TheVariants as refusal
 use Rattle.command_base.specs.declared.status.Status.{Status}
 use Rattle.command_base.specs.declared.status.Status.TheVariants.{Done, Warnings, Refused, Usage, FileFault, NoMemory}
 use Rattle.command_base.specs.declared.stop.CommandStop.{CommandStop}
@@ -29,7 +27,7 @@ use Rattle.objtool_cli.specs.FramesRefused.{RefusesCfi, input_refused, input_unr
 use Rattle.objtool_cli.specs.Written.{OutTellsFrames}
 use Rattle.command_base.proofs.Content.{get-insert_same, held_is, written_others}
 use Rattle.objtool_cli.proofs.FramesGets.{breaks_unbroken, broken_excluded, gets_excluded, gets_unwarned, warns_breaks}
-use Rattle.command_base.proofs.Stops.{concluded_usage, done_not_refused, done_not_warned, given_names, is_read, left, left_warned, names_left, names_no_usage, neither, no_faulty_line, not_memory, of_stop, one_text, read_no_usage, readable, unreadable, warned_no_usage, warned_not_done, warned_not_refused, warned_text, write_no_usage, write_not_refused, write_told}
+use Rattle.command_base.proofs.Stops.{concluded_usage, done_not_refused, done_not_warned, given_names, is_read, left, left_warned, names_left, names_no_usage, neither, no_faulty_line, not_memory, of_names, of_stop, one_text, read_no_usage, readable, unreadable, warned_no_usage, warned_not_done, warned_not_refused, warned_text, write_no_usage, write_not_refused, write_told}
 
 -- ---- what it leaves
 
@@ -159,44 +157,11 @@ cfi_warns one map input output names read lists held before after out out' x c i
 
 -- ---- where a step refuses
 
-faulty_line : (s : CommandStop) (map : Map) (input : List ℕ) (names : Option (List ℕ)) (held : Content) (read file text : List ℕ) → reading held input MAX_FILE_BYTES ≡ Ok read → names ≡ Some file → reading held file MAX_FILE_BYTES ≡ Ok text → IsListsStop text s → status_of s ≡ Refused → RefusesCfi map input names held s
-faulty_line (stop.Refused (refusal.Malformed fault)) map input names held read file text is given said h e = absurd h
-faulty_line (stop.Refused (refusal.Orc fault)) map input names held read file text is given said h e = absurd h
-faulty_line (stop.Refused (refusal.Lists (lists_fault.Line line why))) map input names held read file text is given said h e = list_faulty read file text is given said h
-faulty_line (stop.Refused (refusal.Lists lists_fault.NoMemory)) map input names held read file text is given said h e = absurd h
-faulty_line (stop.Refused (refusal.Image fault)) map input names held read file text is given said h e = absurd h
-faulty_line (stop.Refused (refusal.NoText sec)) map input names held read file text is given said h e = absurd h
-faulty_line (stop.Refused (refusal.Unplaced fault)) map input names held read file text is given said h e = absurd h
-faulty_line (stop.Refused (refusal.Unlinked told)) map input names held read file text is given said h e = absurd h
-faulty_line (stop.Refused (refusal.Unflowed told)) map input names held read file text is given said h e = absurd h
-faulty_line (stop.Refused (refusal.HasOrc sec)) map input names held read file text is given said h e = absurd h
-faulty_line (stop.Refused (refusal.HasSites sec)) map input names held read file text is given said h e = absurd h
-faulty_line (stop.Refused (refusal.Sites fault)) map input names held read file text is given said h e = absurd h
-faulty_line (stop.Refused (refusal.HasFrames sec)) map input names held read file text is given said h e = absurd h
-faulty_line (stop.Refused (refusal.Frames fault)) map input names held read file text is given said h e = absurd h
-faulty_line (stop.Refused (refusal.TooMany what count)) map input names held read file text is given said h e = absurd h
-faulty_line (stop.Refused (refusal.Layout fault)) map input names held read file text is given said h e = absurd h
-faulty_line (stop.Refused (refusal.TooManyFiles count)) map input names held read file text is given said h e = absurd h
-faulty_line (stop.Refused (refusal.Merge fault)) map input names held read file text is given said h e = absurd h
-faulty_line (stop.Refused (refusal.Table fault)) map input names held read file text is given said h e = absurd h
-faulty_line (stop.Refused (refusal.NoFunction function)) map input names held read file text is given said h e = absurd h
-faulty_line (stop.Usage usage) map input names held read file text is given said h e = absurd h
-faulty_line (stop.Missing told) map input names held read file text is given said h e = absurd h
-faulty_line (stop.TooLong told at) map input names held read file text is given said h e = absurd h
-faulty_line (stop.PartMissing part told) map input names held read file text is given said h e = absurd h
-faulty_line (stop.PartTooLong part told at) map input names held read file text is given said h e = absurd h
-faulty_line (stop.PartRefused part why) map input names held read file text is given said h e = absurd h
-faulty_line (stop.FileFault told) map input names held read file text is given said h e = absurd h
-faulty_line stop.NoMemory map input names held read file text is given said h e = absurd (not_memory stop.NoMemory e refl)
-
-names_refuse : (s : CommandStop) (map : Map) (input : List ℕ) (names : Option (List ℕ)) (held : Content) (read : List ℕ) (before after : Outside) → before.content ≡ Some held → reading held input MAX_FILE_BYTES ≡ Ok read → StopsAtNames names before after s → status_of s ≡ Refused → RefusesCfi map input names held s
-names_refuse s map input names held read before after c is (names_unread file given h) e = list_unread read file is given (unreadable MAX_FILE_BYTES s file held before after c h e)
-names_refuse s map input names held read before after c is (no_names file text given may h) e = faulty_line s map input names held read file text is given (is_read MAX_FILE_BYTES file text held before.content c may) h e
-names_refuse stop.NoMemory map input names held read before after c is no_lists e = absurd (not_memory stop.NoMemory e refl)
-
 cfi_refuse : (s : CommandStop) (map : Map) (input output : List ℕ) (names : Option (List ℕ)) (held : Content) (before after : Outside) → before.content ≡ Some held → StopsCfi map input output names before after s → status_of s ≡ Refused → RefusesCfi map input names held s
 cfi_refuse s map input output names held before after c (unread h kept) e = input_unread (unreadable MAX_FILE_BYTES s input held before after c h e)
-cfi_refuse s map input output names held before after c (without_names read may h kept) e = names_refuse s map input names held read before after c (is_read MAX_FILE_BYTES input read held before.content c may) h e
+cfi_refuse s map input output names held before after c (without_names read may h kept) e =
+    let is = is_read MAX_FILE_BYTES input read held before.content c may in
+    of_names (RefusesCfi map input names held) s names held before after c (λ file given gone. list_unread read file is given gone) (λ file text line why given said fault. list_faulty read file text is given said fault) h e
 cfi_refuse s map input output names held before after c (refused read lists was h kept) e =
     input_refused read lists (is_read MAX_FILE_BYTES input read held before.content c was.may) (subst (λ (content : Option Content). HasNames content names lists) c was.named) h (not_memory s e)
 cfi_refuse s map input output names held before after c (unwritten o rows file may h others) e = absurd (write_not_refused s output before after h e)

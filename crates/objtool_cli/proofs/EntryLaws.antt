@@ -6,7 +6,6 @@ use Rattle.ot_base.specs.NameLists.{NameLists, lists_with}
 use Rattle.ot_base.specs.NamesFile.{IsNamesFile}
 use Rattle.ot_base.specs.Warnings.{numbered_warning}
 use Rattle.ot_base.specs.declared.warning.Warning.{Warning}
-use Rattle.ot_base.specs.declared.lists.ListsFault.TheVariants as lists_fault
 use Rattle.ot_files.specs.Causes.{Rose}
 use Rattle.ot_files.specs.Content.{Content, reading}
 use Rattle.ot_files.specs.Output.{appending}
@@ -19,15 +18,13 @@ use Rattle.flow_defs.specs.Coded.{Coded, coded_by}
 use Rattle.unwinding_law.proofs.Lists.{here, nowhere}
 use Rattle.entry_rules.specs.declared.options.EntryOptions.{EntryOptions}
 use Rattle.command_base.specs.Dump.{IsAnswered}
-use Rattle.command_base.specs.Names.{HasNames, IsListsStop, StopsAtNames, names_unread, no_lists, no_names}
+use Rattle.command_base.specs.Names.{HasNames}
 use Rattle.command_base.specs.Outside.{Outside, Output}
 use Rattle.command_base.specs.Printing.{Concludes, Prints, fails, fault_stays, runs_out, whole}
 use Rattle.command_base.specs.Stop.{status_of}
-use Rattle.command_base.specs.declared.refusal.Refusal.TheVariants as refusal
 use Rattle.command_base.specs.declared.status.Status.{Status}
 use Rattle.command_base.specs.declared.status.Status.TheVariants.{Done, Warnings, Refused, Usage, FileFault, SinkFault, NoMemory}
 use Rattle.command_base.specs.declared.stop.CommandStop.{CommandStop}
-use Rattle.command_base.specs.declared.stop.CommandStop.TheVariants as stop
 use Rattle.command_base.proofs.ConcludeLemmas.{concluded_fault, concluded_no_warnings, concluded_not_done, concluded_sink_fault, printed_done, printed_fault, printed_sink_fault}
 use Rattle.command_base.proofs.DumpLaws.{no_memory_left, not_file_fault, not_sink_fault, not_warnings, one_object, read_fault, unread_left}
 use Rattle.command_base.specs.Code.{IsInOrder}
@@ -35,7 +32,7 @@ use Rattle.objtool_cli.specs.Entry.{AreEntryWarnings, BreaksEntryRule, EndsEntry
 use Rattle.command_base.specs.Refusing.{IsRefusedOrFails, IsWarnedOrFails, Tells}
 use Rattle.objtool_cli.specs.EntryRefused.{RefusesEntry, input_refused, input_unread, list_faulty, list_unread}
 use Rattle.command_base.proofs.Content.{held_is}
-use Rattle.command_base.proofs.Stops.{concluded_usage, done_not_refused, given_names, is_read, left, names_fault, names_left, names_no_usage, no_faulty_line, not_memory, of_stop, one_text, read_no_usage, readable, unreadable, whole_text}
+use Rattle.command_base.proofs.Stops.{concluded_usage, done_not_refused, given_names, is_read, left, names_fault, names_left, names_no_usage, no_faulty_line, not_memory, of_names, of_stop, one_text, read_no_usage, readable, unreadable, whole_text}
 use Rattle.objtool_cli.proofs.EntryUncheckable.{order_excluded}
 
 -- ---- statuses
@@ -176,44 +173,11 @@ entry_warns one map options input names read o lists held before after out out' 
 
 -- ---- where a step refuses
 
-faulty_line : (s : CommandStop) (map : Map) (input : List ℕ) (names : Option (List ℕ)) (held : Content) (read file text : List ℕ) → reading held input MAX_FILE_BYTES ≡ Ok read → names ≡ Some file → reading held file MAX_FILE_BYTES ≡ Ok text → IsListsStop text s → status_of s ≡ Refused → RefusesEntry map input names held s
-faulty_line (stop.Refused (refusal.Malformed fault)) map input names held read file text is given said h e = absurd h
-faulty_line (stop.Refused (refusal.Orc fault)) map input names held read file text is given said h e = absurd h
-faulty_line (stop.Refused (refusal.Lists (lists_fault.Line line why))) map input names held read file text is given said h e = list_faulty read file text is given said h
-faulty_line (stop.Refused (refusal.Lists lists_fault.NoMemory)) map input names held read file text is given said h e = absurd h
-faulty_line (stop.Refused (refusal.Image fault)) map input names held read file text is given said h e = absurd h
-faulty_line (stop.Refused (refusal.NoText sec)) map input names held read file text is given said h e = absurd h
-faulty_line (stop.Refused (refusal.Unplaced fault)) map input names held read file text is given said h e = absurd h
-faulty_line (stop.Refused (refusal.Unlinked told)) map input names held read file text is given said h e = absurd h
-faulty_line (stop.Refused (refusal.Unflowed told)) map input names held read file text is given said h e = absurd h
-faulty_line (stop.Refused (refusal.HasOrc sec)) map input names held read file text is given said h e = absurd h
-faulty_line (stop.Refused (refusal.HasSites sec)) map input names held read file text is given said h e = absurd h
-faulty_line (stop.Refused (refusal.Sites fault)) map input names held read file text is given said h e = absurd h
-faulty_line (stop.Refused (refusal.HasFrames sec)) map input names held read file text is given said h e = absurd h
-faulty_line (stop.Refused (refusal.Frames fault)) map input names held read file text is given said h e = absurd h
-faulty_line (stop.Refused (refusal.TooMany what count)) map input names held read file text is given said h e = absurd h
-faulty_line (stop.Refused (refusal.Layout fault)) map input names held read file text is given said h e = absurd h
-faulty_line (stop.Refused (refusal.TooManyFiles count)) map input names held read file text is given said h e = absurd h
-faulty_line (stop.Refused (refusal.Merge fault)) map input names held read file text is given said h e = absurd h
-faulty_line (stop.Refused (refusal.Table fault)) map input names held read file text is given said h e = absurd h
-faulty_line (stop.Refused (refusal.NoFunction function)) map input names held read file text is given said h e = absurd h
-faulty_line (stop.Usage usage) map input names held read file text is given said h e = absurd h
-faulty_line (stop.Missing told) map input names held read file text is given said h e = absurd h
-faulty_line (stop.TooLong told at) map input names held read file text is given said h e = absurd h
-faulty_line (stop.PartMissing part told) map input names held read file text is given said h e = absurd h
-faulty_line (stop.PartTooLong part told at) map input names held read file text is given said h e = absurd h
-faulty_line (stop.PartRefused part why) map input names held read file text is given said h e = absurd h
-faulty_line (stop.FileFault told) map input names held read file text is given said h e = absurd h
-faulty_line stop.NoMemory map input names held read file text is given said h e = absurd (not_memory stop.NoMemory e refl)
-
-names_refuse : (s : CommandStop) (map : Map) (input : List ℕ) (names : Option (List ℕ)) (held : Content) (read : List ℕ) (before after : Outside) → before.content ≡ Some held → reading held input MAX_FILE_BYTES ≡ Ok read → StopsAtNames names before after s → status_of s ≡ Refused → RefusesEntry map input names held s
-names_refuse s map input names held read before after c is (names_unread file given h) e = list_unread read file is given (unreadable MAX_FILE_BYTES s file held before after c h e)
-names_refuse s map input names held read before after c is (no_names file text given may h) e = faulty_line s map input names held read file text is given (is_read MAX_FILE_BYTES file text held before.content c may) h e
-names_refuse stop.NoMemory map input names held read before after c is no_lists e = absurd (not_memory stop.NoMemory e refl)
-
 pub entry_refuse : (s : CommandStop) (map : Map) (input : List ℕ) (names : Option (List ℕ)) (held : Content) (before after : Outside) → before.content ≡ Some held → StopsEntry map input names before after s → status_of s ≡ Refused → RefusesEntry map input names held s
 entry_refuse s map input names held before after c (unread h) e = input_unread (unreadable MAX_FILE_BYTES s input held before after c h e)
-entry_refuse s map input names held before after c (without_names read may h) e = names_refuse s map input names held read before after c (is_read MAX_FILE_BYTES input read held before.content c may) h e
+entry_refuse s map input names held before after c (without_names read may h) e =
+    let is = is_read MAX_FILE_BYTES input read held before.content c may in
+    of_names (RefusesEntry map input names held) s names held before after c (λ file given gone. list_unread read file is given gone) (λ file text line why given said fault. list_faulty read file text is given said fault) h e
 entry_refuse s map input names held before after c (refused read lists was h) e =
     input_refused read lists (is_read MAX_FILE_BYTES input read held before.content c was.may) (named_in names held before.content lists c was.named) h (not_memory s e)
 

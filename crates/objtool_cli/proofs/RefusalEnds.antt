@@ -3,16 +3,14 @@ use Rattle.std.proofs.Common.{◌≡◌, ℕ, List, sym, subst, inl, inr}
 use Rattle.std.specs.Prelude.{◌≢◌, Option, Some, Ok}
 use Rattle.ot_base.specs.NameLists.{NameLists}
 use Rattle.ot_base.specs.NamesFile.{IsNamesFile}
-use Rattle.ot_base.specs.declared.lists.ListsFault.TheVariants as lists_fault
 use Rattle.ot_files.specs.Content.{Content, reading}
 use Rattle.cli_words.specs.Grammar.{Command, cfa, cfi, check, demo, dump, entry, explain, find, help, list, merge, show, sites, unwind, version}
 use Rattle.cli_words.specs.declared.options.CheckOptions.{CheckOptions}
 use Rattle.elf_objects.specs.declared.TheConstants.{MAX_FILE_BYTES}
 use Rattle.x86_decode.specs.Decoding.{OneOutcome}
 use Rattle.command_base.specs.declared.reading.TheConstants.{MAX_IMAGE_BYTES}
-use Rattle.command_base.specs.declared.refusal.Refusal.TheVariants as refusal
 use Rattle.command_base.specs.declared.status.Status.{Status}
-use Rattle.command_base.specs.declared.status.Status.TheVariants.{Done, Warnings, Refused, Usage, FileFault, NoMemory}
+use Rattle.command_base.specs.declared.status.Status.TheVariants.{Done, Warnings, Refused, Usage}
 use Rattle.command_base.specs.declared.stop.CommandStop.{CommandStop}
 use Rattle.command_base.specs.declared.stop.CommandStop.TheVariants as stop
 use Rattle.command_base.specs.Dump.{Dumps, EndsDump, HoldsRows, IsDumped, printed, read as file_read, stopped as dump_stopped, unread as file_unread}
@@ -21,11 +19,11 @@ use Rattle.command_base.specs.Stop.{status_of, usage_at}
 use Rattle.command_base.specs.Unwind.{EndsUnwind, IsPlaced, IsUnwound, Unwinds, no_file, no_text, read as files_read, stopped as unwind_stopped, walked}
 use Rattle.command_base.proofs.ConcludeLemmas.{concluded_no_memory, concluded_no_warnings, concluded_not_done, printed_done}
 use Rattle.command_base.proofs.DumpLaws.{dump_no_warnings, dumped as file_dumped, no_rows_excluded}
-use Rattle.command_base.proofs.Stops.{done_not_refused, given_names, is_read, left, memory_not_refused, no_faulty_line, not_memory, of_stop, one_text, readable, unreadable, whole_line, whole_text, write_not_refused}
+use Rattle.command_base.proofs.Stops.{done_not_refused, given_names, is_read, left, memory_not_refused, no_faulty_line, not_memory, of_names, of_stop, one_text, readable, unreadable, whole_line, whole_text, write_not_refused}
 use Rattle.command_base.proofs.UnwindLaws.{unwind_no_warnings, unwound as files_unwound, walk_excluded}
 use Rattle.objtool_cli.specs.Checked.{IsRefusal, Refuses}
 use Rattle.objtool_cli.specs.Command.{Ends, EndsAs, EndsCheck, Stops, done, ended, faulty, refused, stopped, unfinished, unread, unwritten, warned, without_names}
-use Rattle.command_base.specs.Names.{HasNames, IsListsStop, StopsAtNames, names_unread, no_lists, no_names}
+use Rattle.command_base.specs.Names.{HasNames}
 use Rattle.command_base.specs.Refusing.{IsRefusedOrFails, Tells}
 use Rattle.objtool_cli.specs.Refused.{IsRefused, RefusesAs, RefusesCheck, RefusesDemo, RefusesDump, RefusesUnwind, TellsRefusal, image_unread, input_refused, input_unread, list_faulty, list_unread, object_unread, tables_unread, without_rows, without_walk}
 use Rattle.objtool_cli.specs.Summary.{IsOrFails, SumsUp, demo_bytes, demo_title}
@@ -55,41 +53,6 @@ usage_not_refused e = cc
 
 -- ---- each step that refuses
 
-faulty_line : (s : CommandStop) (input : List ℕ) (options : CheckOptions) (names : Option (List ℕ)) (held : Content) (read file text : List ℕ) → reading held input MAX_FILE_BYTES ≡ Ok read → names ≡ Some file → reading held file MAX_FILE_BYTES ≡ Ok text → IsListsStop text s → status_of s ≡ Refused → RefusesCheck input options names held s
-faulty_line (stop.Refused (refusal.Lists (lists_fault.Line line why))) input options names held read file text is given said h e = list_faulty read file text is given said h
-faulty_line (stop.Refused (refusal.Lists lists_fault.NoMemory)) input options names held read file text is given said h e = absurd h
-faulty_line (stop.Refused (refusal.Malformed fault)) input options names held read file text is given said h e = absurd h
-faulty_line (stop.Refused (refusal.Orc fault)) input options names held read file text is given said h e = absurd h
-faulty_line (stop.Refused (refusal.Image fault)) input options names held read file text is given said h e = absurd h
-faulty_line (stop.Refused (refusal.NoText sec)) input options names held read file text is given said h e = absurd h
-faulty_line (stop.Refused (refusal.Unplaced fault)) input options names held read file text is given said h e = absurd h
-faulty_line (stop.Refused (refusal.Unlinked told)) input options names held read file text is given said h e = absurd h
-faulty_line (stop.Refused (refusal.Unflowed told)) input options names held read file text is given said h e = absurd h
-faulty_line (stop.Refused (refusal.HasOrc sec)) input options names held read file text is given said h e = absurd h
-faulty_line (stop.Refused (refusal.HasSites sec)) input options names held read file text is given said h e = absurd h
-faulty_line (stop.Refused (refusal.Sites why)) input options names held read file text is given said h e = absurd h
-faulty_line (stop.Refused (refusal.HasFrames sec)) input options names held read file text is given said h e = absurd h
-faulty_line (stop.Refused (refusal.Frames why)) input options names held read file text is given said h e = absurd h
-faulty_line (stop.Refused (refusal.Layout why)) input options names held read file text is given said h e = absurd h
-faulty_line (stop.Refused (refusal.TooManyFiles count)) input options names held read file text is given said h e = absurd h
-faulty_line (stop.Refused (refusal.Merge why)) input options names held read file text is given said h e = absurd h
-faulty_line (stop.Refused (refusal.Table why)) input options names held read file text is given said h e = absurd h
-faulty_line (stop.Refused (refusal.NoFunction function)) input options names held read file text is given said h e = absurd h
-faulty_line (stop.Refused (refusal.TooMany what count)) input options names held read file text is given said h e = absurd h
-faulty_line stop.NoMemory input options names held read file text is given said h e = absurd (memory_not_refused e)
-faulty_line (stop.Usage usage) input options names held read file text is given said h e = absurd h
-faulty_line (stop.PartMissing part told_file) input options names held read file text is given said h e = absurd h
-faulty_line (stop.PartTooLong part told_file limit) input options names held read file text is given said h e = absurd h
-faulty_line (stop.PartRefused part refusal) input options names held read file text is given said h e = absurd h
-faulty_line (stop.Missing told) input options names held read file text is given said h e = absurd h
-faulty_line (stop.TooLong told limit) input options names held read file text is given said h e = absurd h
-faulty_line (stop.FileFault told) input options names held read file text is given said h e = absurd h
-
-names_refuse : (s : CommandStop) (input : List ℕ) (options : CheckOptions) (names : Option (List ℕ)) (held : Content) (read : List ℕ) (before after : Outside) → before.content ≡ Some held → reading held input MAX_FILE_BYTES ≡ Ok read → StopsAtNames names before after s → status_of s ≡ Refused → RefusesCheck input options names held s
-names_refuse s input options names held read before after c is (names_unread file given h) e = list_unread read file is given (unreadable MAX_FILE_BYTES s file held before after c h e)
-names_refuse s input options names held read before after c is (no_names file text given may h) e = faulty_line s input options names held read file text is given (is_read MAX_FILE_BYTES file text held before.content c may) h e
-names_refuse stop.NoMemory input options names held read before after c is no_lists e = absurd (memory_not_refused e)
-
 bytes_refuse : (s : CommandStop) (input : List ℕ) (options : CheckOptions) (names : Option (List ℕ)) (held : Content) (read : List ℕ) (lists : NameLists) → reading held input MAX_FILE_BYTES ≡ Ok read → HasNames (Some held) names lists → IsRefusal read lists options s → status_of s ≡ Refused → RefusesCheck input options names held s
 bytes_refuse (stop.Refused why) input options names held read lists is has h e = input_refused read lists is has h
 bytes_refuse stop.NoMemory input options names held read lists is has h e = absurd (memory_not_refused e)
@@ -103,7 +66,9 @@ bytes_refuse (stop.FileFault told) input options names held read lists is has h 
 
 check_refuses : (s : CommandStop) (input output : List ℕ) (options : CheckOptions) (names : Option (List ℕ)) (held : Content) (before after : Outside) → before.content ≡ Some held → Stops input output options names before after s → status_of s ≡ Refused → RefusesCheck input options names held s
 check_refuses s input output options names held before after c (unread h kept) e = input_unread (unreadable MAX_FILE_BYTES s input held before after c h e)
-check_refuses s input output options names held before after c (without_names read may h kept) e = names_refuse s input options names held read before after c (is_read MAX_FILE_BYTES input read held before.content c may) h e
+check_refuses s input output options names held before after c (without_names read may h kept) e =
+    let is = is_read MAX_FILE_BYTES input read held before.content c may in
+    of_names (RefusesCheck input options names held) s names held before after c (λ file given gone. list_unread read file is given gone) (λ file text line why given said fault. list_faulty read file text is given said fault) h e
 check_refuses s input output options names held before after c (refused read lists is h kept) e =
     bytes_refuse s input options names held read lists (is_read MAX_FILE_BYTES input read held before.content c is.may) (subst (λ (content : Option Content). HasNames content names lists) c is.named) h e
 check_refuses s input output options names held before after c (unwritten table accepted h others) e = absurd (write_not_refused s output before after h e)
