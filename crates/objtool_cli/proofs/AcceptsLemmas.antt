@@ -1,6 +1,6 @@
 -- An input that is accepted is refused by no stop, and one whose program breaks a rule is neither refused nor done.
-use Rattle.std.proofs.Common.{◌≡◌, ℕ, ◌<◌, ◌≤◌, List, refl, sym, ◌∙◌, subst, arith, inl, inr}
-use Rattle.std.specs.Prelude.{◌⊎◌, Some, None, Option, Ok}
+use Rattle.std.proofs.Common.{◌≡◌, ℕ, ◌<◌, ◌≤◌, List, refl, subst, arith, inl, inr}
+use Rattle.std.specs.Prelude.{◌⊎◌, Some, Option, Ok}
 use Rattle.elf_objects.specs.Elf.{Elf}
 use Rattle.elf_objects.specs.Object.{IsObject}
 use Rattle.elf_objects.specs.declared.TheConstants.{MAX_FILE_BYTES, MAX_SYMBOLS}
@@ -14,13 +14,13 @@ use Rattle.command_base.specs.Outside.{Outside, Output}
 use Rattle.command_base.specs.Printing.{Concludes, Prints, fails, fault_stays, runs_out, whole}
 use Rattle.command_base.proofs.ConcludeLemmas.{concluded_no_memory}
 use Rattle.objtool_cli.specs.Checked.{Accepts, BreaksRule, HasWarnings, IsRefusal, Refuses, crowded, uncheckable}
-use Rattle.objtool_cli.specs.Command.{Ends, EndsCheck, IsRead, Stops, done, refused, stopped, unread, unwritten, warned, without_names}
+use Rattle.objtool_cli.specs.Command.{Ends, EndsCheck, Stops, done, refused, stopped, unread, unwritten, warned, without_names}
 use Rattle.command_base.specs.Names.{HasNames}
 use Rattle.cli_words.specs.Grammar.{check}
 use Rattle.cli_words.specs.declared.options.CheckOptions.{CheckOptions}
 use Rattle.ot_base.specs.declared.row.PlacedRow.{PlacedRow}
 use Rattle.ot_base.specs.declared.warning.Warning.{Warning}
-use Rattle.ot_base.specs.NameLists.{NameLists, lists_with}
+use Rattle.ot_base.specs.NameLists.{NameLists}
 use Rattle.objtool_cli.specs.Words.{Meaning}
 use Rattle.x86_decode.specs.Decoding.{OneOutcome}
 use Rattle.flow_defs.specs.Coded.{coded_by}
@@ -28,8 +28,9 @@ use Rattle.flow_defs.specs.Program.{program_of}
 use Rattle.object_check.specs.Allowances.{allowances_of}
 use Rattle.object_check.specs.Outcome.{HasRows, IsUnbroken}
 use Rattle.orc_output.specs.Tables.{symbols_needed}
-use Rattle.command_base.proofs.DumpLaws.{one_object, same_read, told_read, unread_told}
+use Rattle.command_base.proofs.DumpLaws.{one_object, unread_told}
 use Rattle.objtool_cli.proofs.CheckableLemmas.{checkable_unrefused, one_rows, some_contained}
+use Rattle.objtool_cli.proofs.InputLemmas.{IsKnown, one_reading}
 use Rattle.objtool_cli.proofs.SameCommand.{ends_as}
 use Rattle.command_base.proofs.Stops.{names_told, write_told}
 
@@ -76,51 +77,31 @@ warns_breaks bytes lists options o warnings warns =
 accepted_unwarned : (bytes table : List ℕ) (lists : NameLists) (options : CheckOptions) (o : Elf) (warnings : List Warning) → Accepts bytes lists options table → HasWarnings bytes lists options o warnings → ⊥
 accepted_unwarned bytes table lists options o warnings accepts warns = breaks_unbroken bytes lists options accepts.object (warns_breaks bytes lists options o warnings warns) accepts.is accepts.unbroken
 
--- ---- what was read
-
-pub same_names : (held : Content) (names : Option (List ℕ)) (one other : NameLists) → HasNames (Some held) names one → HasNames (Some held) names other → one ≡ other
-same_names held None one other h k = h ∙ sym k
-same_names held (Some file) one other h k =
-    let same = same_read h.text k.text (h.may ∙ sym k.may) in
-    h.are ∙ subst (λ (text : List ℕ). lists_with h.text ≡ lists_with text) same refl ∙ sym k.are
-
--- what is known of a run: what IN and the names file hold
-record IsKnown (before : Outside) (input : List ℕ) (names : Option (List ℕ)) (read : List ℕ) (lists : NameLists) : Type 0 where
-  held : Content
-  told : before.content ≡ Some held
-  is : reading held input MAX_FILE_BYTES ≡ Ok read
-  named : HasNames (Some held) names lists
-
--- other bytes and lists that it may have read are these
-one_reading : (P : List ℕ → NameLists → Type 0) (before : Outside) (input : List ℕ) (names : Option (List ℕ)) (read other : List ℕ) (lists others : NameLists) → IsKnown before input names read lists → IsRead before.content input names other others → P other others → P read lists
-one_reading P before input names read other lists others known is h =
-    let bytes = same_read other read (told_read MAX_FILE_BYTES before.content known.held input _ known.told is.may ∙ known.is) in
-    let named = same_names known.held names others lists (subst (λ (c : Option Content). HasNames c names others) known.told is.named) known.named in
-    subst (λ (l : NameLists). P read l) named (subst (λ (b : List ℕ). P b others) bytes h)
-
 -- ---- what stops it
 
 -- a file's fault, or want of memory
 abbrev Faults : Status → Type 0
 Faults x = (x ≡ status.FileFault) ⊎ (x ≡ status.NoMemory)
 
-stopped_refused : (s : CommandStop) (read : List ℕ) (lists : NameLists) (options : CheckOptions) (out out' : Output) (x : Status) → IsUnrefused read lists options → IsRefusal read lists options s → Concludes s out out' x → Faults x
-stopped_refused (stop.Refused told) read lists options out out' x never h t = absurd (never told h)
-stopped_refused (stop.Usage usage) read lists options out out' x never h t = absurd h
-stopped_refused (stop.PartMissing part file) read lists options out out' x never h t = absurd h
-stopped_refused (stop.PartTooLong part file limit) read lists options out out' x never h t = absurd h
-stopped_refused (stop.PartRefused part refusal) read lists options out out' x never h t = absurd h
-stopped_refused (stop.Missing told) read lists options out out' x never h t = absurd h
-stopped_refused (stop.TooLong told limit) read lists options out out' x never h t = absurd h
-stopped_refused (stop.FileFault told) read lists options out out' x never h t = absurd h
-stopped_refused stop.NoMemory read lists options out out' x never h t = inr (concluded_no_memory out out' x t)
+-- bytes that are refused in no way are stopped by want of memory alone
+pub refused_memory : (s : CommandStop) (read : List ℕ) (lists : NameLists) (options : CheckOptions) → IsUnrefused read lists options → IsRefusal read lists options s → s ≡ stop.NoMemory
+refused_memory (stop.Refused told) read lists options never h = absurd (never told h)
+refused_memory (stop.Usage usage) read lists options never h = absurd h
+refused_memory (stop.PartMissing part file) read lists options never h = absurd h
+refused_memory (stop.PartTooLong part file limit) read lists options never h = absurd h
+refused_memory (stop.PartRefused part refusal) read lists options never h = absurd h
+refused_memory (stop.Missing told) read lists options never h = absurd h
+refused_memory (stop.TooLong told limit) read lists options never h = absurd h
+refused_memory (stop.FileFault told) read lists options never h = absurd h
+refused_memory stop.NoMemory read lists options never h = refl
 
 -- where the bytes are refused in no way, only faults and want of memory stop the command
 stop_faults : (s : CommandStop) (input output : List ℕ) (options : CheckOptions) (names : Option (List ℕ)) (read : List ℕ) (lists : NameLists) (before after : Outside) (out out' : Output) (x : Status) → IsKnown before input names read lists → IsUnrefused read lists options → Stops input output options names before after s → Concludes s out out' x → Faults x
 stop_faults s input output options names read lists before after out out' x known never (unread h kept) t = unread_told MAX_FILE_BYTES s input read known.held before after out out' x known.told known.is h t
 stop_faults s input output options names read lists before after out out' x known never (without_names other may h kept) t = names_told s names lists known.held before after out out' x known.told known.named h t
 stop_faults s input output options names read lists before after out out' x known never (refused other others is h kept) t =
-    stopped_refused s read lists options out out' x never (one_reading (λ b l. IsRefusal b l options s) before input names read other lists others known is h) t
+    let none = refused_memory s read lists options never (one_reading (λ b l. IsRefusal b l options s) before input names read other lists others known is h) in
+    inr (concluded_no_memory out out' x (subst (λ (u : CommandStop). Concludes u out out' x) none t))
 stop_faults s input output options names read lists before after out out' x known never (unwritten table accepted h others) t = write_told s output before after out out' x h t
 
 -- ---- how `check` ends

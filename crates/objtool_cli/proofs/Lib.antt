@@ -10,6 +10,7 @@ pub mod DemoBytes
 pub mod DemoEnds
 pub mod DemoWords
 pub mod FaultEnds
+pub mod InputLemmas
 pub mod LaterLemmas
 pub mod NoFault
 pub mod ParseLemmas

@@ -3,7 +3,6 @@ use Rattle.std.proofs.Common.{◌≡◌, ℕ, List, refl, sym, ap, subst, inl, i
 use Rattle.std.specs.Prelude.{◌≢◌, ◌⊎◌, Option, Some, None, Ok}
 use Rattle.std.specs.FinMap.{get}
 use Rattle.ot_base.specs.NameLists.{NameLists}
-use Rattle.ot_base.specs.NamesFile.{IsNamesFile}
 use Rattle.ot_files.specs.Causes.{Rose}
 use Rattle.ot_files.specs.Content.{Content, reading, writing}
 use Rattle.elf_objects.specs.declared.TheConstants.{MAX_FILE_BYTES}
@@ -24,11 +23,13 @@ use Rattle.command_base.proofs.ConcludeLemmas.{concluded_fault, concluded_no_war
 use Rattle.command_base.proofs.DumpLaws.{fault_left, no_memory_left, read_fault, unread_left}
 use Rattle.objtool_cli.specs.SitesOrder.{GetsSites}
 use Rattle.command_base.specs.Refusing.{IsRefusedOrFails, Tells}
-use Rattle.objtool_cli.specs.SitesRefused.{RefusesSites, input_refused, input_unread, list_faulty, list_unread}
+use Rattle.objtool_cli.specs.Inputs.{input_refused, input_unread}
+use Rattle.objtool_cli.specs.SitesRefused.{RefusesSites}
+use Rattle.objtool_cli.proofs.InputLemmas.{named_in, names_refuse, unrefused}
 use Rattle.objtool_cli.specs.Sites.{EndsSites, GetNoSites, MayGetSites, OutListsSites, SitesMayChange, StopsSites, done, has_sites, malformed, no_memory, refused, stopped, too_many_sections, too_many_symbols, unflowed, unlinked, unread, unwritten, without_names}
 use Rattle.command_base.proofs.Content.{get-insert_same, held_is, written_others}
 use Rattle.objtool_cli.proofs.SitesGets.{gets_excluded}
-use Rattle.command_base.proofs.Stops.{concluded_usage, done_not_refused, given_names, is_read, left, names_fault, names_left, names_no_usage, neither, no_faulty_line, not_memory, of_names, of_stop, one_text, read_no_usage, readable, unreadable, write_fault, write_no_usage, write_not_refused, write_told}
+use Rattle.command_base.proofs.Stops.{concluded_usage, done_not_refused, is_read, left, names_fault, names_left, names_no_usage, neither, not_memory, of_stop, one_text, read_no_usage, unreadable, write_fault, write_no_usage, write_not_refused, write_told}
 
 -- ---- what it leaves
 
@@ -95,10 +96,9 @@ sites_left one map input output names read o lists held before after out out' x 
 sites_refuse : (s : CommandStop) (map : Map) (input output : List ℕ) (names : Option (List ℕ)) (held : Content) (before after : Outside) → before.content ≡ Some held → StopsSites map input output names before after s → status_of s ≡ Refused → RefusesSites map input names held s
 sites_refuse s map input output names held before after c (unread h kept) e = input_unread (unreadable MAX_FILE_BYTES s input held before after c h e)
 sites_refuse s map input output names held before after c (without_names read may h kept) e =
-    let is = is_read MAX_FILE_BYTES input read held before.content c may in
-    of_names (RefusesSites map input names held) s names held before after c (λ file given gone. list_unread read file is given gone) (λ file text line why given said fault. list_faulty read file text is given said fault) h e
+    names_refuse (λ b l t. GetNoSites map b t) s input names held read before after c may h e
 sites_refuse s map input output names held before after c (refused read was h kept) e =
-    input_refused read was.lists (is_read MAX_FILE_BYTES input read held before.content c was.may) (subst (λ (content : Option Content). HasNames content names was.lists) c was.named) h (not_memory s e)
+    input_refused read was.lists (is_read MAX_FILE_BYTES input read held before.content c was.may) (named_in names held before.content was.lists c was.named) h (not_memory s e)
 sites_refuse s map input output names held before after c (unwritten o file may h others) e = absurd (write_not_refused s output before after h e)
 
 pub sites_told : (map : Map) (input output : List ℕ) (names : Option (List ℕ)) (held : Content) (before after : Outside) (out out' : Output) (x : Status) → before.content ≡ Some held → EndsSites map input output names before after out out' x → x ≡ Refused → Tells (RefusesSites map input names held) out.written out'.written
@@ -106,22 +106,10 @@ sites_told map input output names held before after out out' Done c (done o file
 sites_told map input output names held before after out out' x c (stopped s h t) is =
     of_stop (RefusesSites map input names held) s out out' x t is (λ at. sites_refuse s map input output names held before after c h at)
 
--- bytes that get site lists are refused by no step
-unrefused : OneOutcome → (s : CommandStop) (map : Map) (input : List ℕ) (names : Option (List ℕ)) (held : Content) (read : List ℕ) (o : Elf) (lists : NameLists) → reading held input MAX_FILE_BYTES ≡ Ok read → HasNames (Some held) names lists → IsObject read o → GetsSites (coded_by map o) → RefusesSites map input names held s → ⊥
-unrefused one s map input names held read o lists is has of gets (input_unread h) = readable MAX_FILE_BYTES s held input read h is
-unrefused one s map input names held read o lists is has of gets (list_unread other file was given h) =
-    let names_are = given_names held names file lists given has in
-    readable MAX_FILE_BYTES s held file names_are.text h (sym names_are.may)
-unrefused one s map input names held read o lists is has of gets (list_faulty other file text was given said fault) =
-    let names_are = given_names held names file lists given has in
-    no_faulty_line text _ _ (subst IsNamesFile (one_text MAX_FILE_BYTES held file names_are.text text (sym names_are.may) said) names_are.right) fault
-unrefused one s map input names held read o lists is has of gets (input_refused other others was had h some) =
-    some (gets_excluded one s map read o of gets (subst (λ (b : List ℕ). GetNoSites map b s) (one_text MAX_FILE_BYTES held input other read was is) h))
-
 refused_not_done : OneOutcome → (s : CommandStop) (map : Map) (input output : List ℕ) (names : Option (List ℕ)) (held : Content) (before after : Outside) (out out' : Output) (x : Status) → before.content ≡ Some held → RefusesSites map input names held s → EndsSites map input output names before after out out' x → x ≢ Done
 refused_not_done one s map input output names held before after out out' Done c why (done o file may e same) is =
-    unrefused one s map input names held may.read o may.is_read.lists (is_read MAX_FILE_BYTES input may.read held before.content c may.is_read.may) (subst (λ (content : Option Content). HasNames content names may.is_read.lists) c may.is_read.named)
-    may.is may.gets why
+    unrefused (λ b l t. GetNoSites map b t) s input names held may.read may.is_read.lists (is_read MAX_FILE_BYTES input may.read held before.content c may.is_read.may) (named_in names held before.content may.is_read.lists c may.is_read.named)
+    (λ t no. gets_excluded one t map may.read o may.is may.gets no) why
 refused_not_done one s map input output names held before after out out' x c why (stopped told h t) is = concluded_not_done told out out' x t is
 
 -- ---- the other statuses
