@@ -1,5 +1,5 @@
 -- What follows from how `dump` ends.
-use Rattle.std.proofs.Common.{◌≡◌, ℕ, List, refl, sym, ap, ◌∙◌, subst, inl, inr}
+use Rattle.std.proofs.Common.{◌≡◌, ℕ, List, refl, sym, ◌∙◌, subst, inl, inr}
 use Rattle.std.specs.Prelude.{◌≢◌, ◌⊎◌, Option, Some, Result, Ok, Err}
 use Rattle.ot_base.specs.declared.row.PlacedRow.{PlacedRow}
 use Rattle.ot_files.specs.Causes.{Rose}
@@ -68,16 +68,20 @@ pub fault_left : (x : Status) → (x ≡ FileFault) ⊎ (x ≡ NoMemory) → IsA
 fault_left x (inl e) = inr (inl e)
 fault_left x (inr e) = inr (inr (inr e))
 
+-- where a file is there and within the limit, only a fault or want of memory keeps it from being read
+pub unread_told : (limit : ℕ) (s : CommandStop) (file bytes : List ℕ) (content : Content) (before after : Outside) (out out' : Output) (x : Status) → before.content ≡ Some content → reading content file limit ≡ Ok bytes → StopsAtRead limit file before after s → Concludes s out out' x → (x ≡ FileFault) ⊎ (x ≡ NoMemory)
+unread_told limit (stop.Usage usage) file bytes content before after out out' x c is h t = absurd h
+unread_told limit (stop.PartMissing part told_file) file bytes content before after out out' x c is h t = absurd h
+unread_told limit (stop.PartTooLong part told_file told_limit) file bytes content before after out out' x c is h t = absurd h
+unread_told limit (stop.PartRefused part refusal) file bytes content before after out out' x c is h t = absurd h
+unread_told limit (stop.Missing told) file bytes content before after out out' x c is h t = let u : ◌≡◌ {A = Result (List ℕ) FileError} (Err file_error.Missing) (Ok bytes) = told_read limit before.content content file _ c h.1 ∙ is in cc
+unread_told limit (stop.TooLong told at) file bytes content before after out out' x c is h t = let u : ◌≡◌ {A = Result (List ℕ) FileError} (Err (file_error.TooLong limit)) (Ok bytes) = told_read limit before.content content file _ c h.1.1 ∙ is in cc
+unread_told limit (stop.Refused refusal) file bytes content before after out out' x c is h t = absurd h
+unread_told limit (stop.FileFault told) file bytes content before after out out' x c is h t = concluded_after_fault (stop.FileFault told) out out' x refl t
+unread_told limit stop.NoMemory file bytes content before after out out' x c is h t = inr (concluded_no_memory out out' x t)
+
 pub unread_left : (limit : ℕ) (s : CommandStop) (file bytes : List ℕ) (content : Content) (before after : Outside) (out out' : Output) (x : Status) → before.content ≡ Some content → reading content file limit ≡ Ok bytes → StopsAtRead limit file before after s → Concludes s out out' x → IsAnswered x
-unread_left limit (stop.Usage usage) file bytes content before after out out' x c is h t = absurd h
-unread_left limit (stop.PartMissing part told_file) file bytes content before after out out' x c is h t = absurd h
-unread_left limit (stop.PartTooLong part told_file told_limit) file bytes content before after out out' x c is h t = absurd h
-unread_left limit (stop.PartRefused part refusal) file bytes content before after out out' x c is h t = absurd h
-unread_left limit (stop.Missing told) file bytes content before after out out' x c is h t = let u : ◌≡◌ {A = Result (List ℕ) FileError} (Err file_error.Missing) (Ok bytes) = told_read limit before.content content file _ c h.1 ∙ is in cc
-unread_left limit (stop.TooLong told at) file bytes content before after out out' x c is h t = let u : ◌≡◌ {A = Result (List ℕ) FileError} (Err (file_error.TooLong limit)) (Ok bytes) = told_read limit before.content content file _ c h.1.1 ∙ is in cc
-unread_left limit (stop.Refused refusal) file bytes content before after out out' x c is h t = absurd h
-unread_left limit (stop.FileFault told) file bytes content before after out out' x c is h t = fault_left x (concluded_after_fault (stop.FileFault told) out out' x refl t)
-unread_left limit stop.NoMemory file bytes content before after out out' x c is h t = no_memory_left stop.NoMemory out out' x refl t
+unread_left limit s file bytes content before after out out' x c is h t = fault_left x (unread_told limit s file bytes content before after out out' x c is h t)
 
 pub same_read : (a b : List ℕ) → ◌≡◌ {A = Result (List ℕ) FileError} (Ok a) (Ok b) → a ≡ b
 same_read a b e = cc

@@ -59,7 +59,7 @@ part_failed before middle after s same only risen =
 
 -- ---- texts
 
-nothing_appended : (told : Option (List ℕ)) → told ≡ appending told []
+pub nothing_appended : (told : Option (List ℕ)) → told ≡ appending told []
 nothing_appended None = refl
 nothing_appended (Some written) = ap Some (sym (append-nil written))
 
@@ -93,18 +93,29 @@ prefix_of_whole before middle after front part rest so h = (
   },
 )
 
--- the text ends early so where one of its parts fails
-pub part_fails_of : (end : Status) (front part rest : List ℕ) (before middle after : Output) (s : Status) → end ≢ status.FileFault → middle.written ≡ appending before.written front → before.faults ≤ middle.faults → FailsToPrint part middle after s → Prints end (front ++ part ++ rest) before after s
-part_fails_of end front part rest before middle after status.SinkFault other so later h = fails (prefix_of_whole before.written middle.written after.written front part rest so h.0) (rose_before before.faults middle.faults after.faults later h.1) other
-part_fails_of end front part rest before middle after status.NoMemory other so later h = runs_out (prefix_of_whole before.written middle.written after.written front part rest so h)
-part_fails_of end front part rest before middle after status.Done other so later h = absurd h
-part_fails_of end front part rest before middle after status.Warnings other so later h = absurd h
-part_fails_of end front part rest before middle after status.Refused other so later h = absurd h
-part_fails_of end front part rest before middle after status.Usage other so later h = absurd h
-part_fails_of end front part rest before middle after status.FileFault other so later h = absurd h
+-- a text isn't printed whole where one of its parts isn't
+pub part_unprinted : (front part rest : List ℕ) (before middle after : Output) (s : Status) → middle.written ≡ appending before.written front → before.faults ≤ middle.faults → FailsToPrint part middle after s → FailsToPrint (front ++ part ++ rest) before after s
+part_unprinted front part rest before middle after status.SinkFault so later h = (prefix_of_whole before.written middle.written after.written front part rest so h.0, rose_before before.faults middle.faults after.faults later h.1)
+part_unprinted front part rest before middle after status.NoMemory so later h = prefix_of_whole before.written middle.written after.written front part rest so h
+part_unprinted front part rest before middle after status.Done so later h = absurd h
+part_unprinted front part rest before middle after status.Warnings so later h = absurd h
+part_unprinted front part rest before middle after status.Refused so later h = absurd h
+part_unprinted front part rest before middle after status.Usage so later h = absurd h
+part_unprinted front part rest before middle after status.FileFault so later h = absurd h
 
+-- a text that isn't printed whole ends the command so
+pub text_fails : (end : Status) (text : List ℕ) (before after : Output) (s : Status) → end ≢ status.FileFault → FailsToPrint text before after s → Prints end text before after s
+text_fails end text before after status.SinkFault other h = fails h.0 h.1 other
+text_fails end text before after status.NoMemory other h = runs_out h
+text_fails end text before after status.Done other h = absurd h
+text_fails end text before after status.Warnings other h = absurd h
+text_fails end text before after status.Refused other h = absurd h
+text_fails end text before after status.Usage other h = absurd h
+text_fails end text before after status.FileFault other h = absurd h
+
+-- the text ends early so where one of its parts fails
 pub part_fails : (front part rest : List ℕ) (before middle after : Output) (s : Status) → middle.written ≡ appending before.written front → before.faults ≤ middle.faults → FailsToPrint part middle after s → Prints status.Done (front ++ part ++ rest) before after s
-part_fails front part rest before middle after s so later h = part_fails_of status.Done front part rest before middle after s (λ e. cc) so later h
+part_fails front part rest before middle after s so later h = text_fails status.Done (front ++ part ++ rest) before after s (λ e. cc) (part_unprinted front part rest before middle after s so later h)
 
 -- and where memory runs out before a part
 pub stops_short : (front rest : List ℕ) (before after : Output) → after.written ≡ appending before.written front → Prints status.Done (front ++ rest) before after status.NoMemory

@@ -25,7 +25,7 @@ use Rattle.command_base.specs.declared.stop.CommandStop.{CommandStop}
 use Rattle.command_base.specs.declared.stop.CommandStop.TheVariants as stop
 use Rattle.command_base.proofs.ConcludeLemmas.{concluded_after_fault, concluded_no_memory, printed_done}
 use Rattle.command_base.proofs.PrintLemmas.{rose_before}
-use Rattle.command_base.proofs.DumpLaws.{no_memory_left, read_fault, same_read, told_read, unread_left}
+use Rattle.command_base.proofs.DumpLaws.{fault_left, read_fault, same_read, told_read, unread_told}
 use Rattle.command_base.specs.Refusing.{IsRefusedOrFails, IsWarnedOrFails, Tells}
 
 -- ---- statuses
@@ -215,58 +215,53 @@ no_faulty_line text line why right h =
     let same : ◌≡◌ {A = Option ListsWhy} None (Some why) = sym (right (line - 1) [] inside) ∙ h.fault in
     cc
 
+-- what holds of a stop that tells the first faulty line, and of want of memory, holds of a stop of the names file
+of_lists : (P : CommandStop → Type 0) (text : List ℕ) (s : CommandStop) → ((line : ℕ) (why : ListsWhy) → IsFirstFault text line why → P (stop.Refused (refusal.Lists (lists_fault.Line line why)))) → P stop.NoMemory → IsListsStop text s → P s
+of_lists P text (stop.Usage usage) told memory h = absurd h
+of_lists P text (stop.Missing told) told memory h = absurd h
+of_lists P text (stop.TooLong told at) told memory h = absurd h
+of_lists P text (stop.Refused (refusal.Malformed fault)) told memory h = absurd h
+of_lists P text (stop.Refused (refusal.Orc fault)) told memory h = absurd h
+of_lists P text (stop.Refused (refusal.Lists (lists_fault.Line line why))) told memory h = told line why h
+of_lists P text (stop.Refused (refusal.Lists lists_fault.NoMemory)) told memory h = absurd h
+of_lists P text (stop.Refused (refusal.Image fault)) told memory h = absurd h
+of_lists P text (stop.Refused (refusal.NoText sec)) told memory h = absurd h
+of_lists P text (stop.Refused (refusal.Unplaced fault)) told memory h = absurd h
+of_lists P text (stop.Refused (refusal.Unlinked told)) told memory h = absurd h
+of_lists P text (stop.Refused (refusal.Unflowed told)) told memory h = absurd h
+of_lists P text (stop.Refused (refusal.HasOrc sec)) told memory h = absurd h
+of_lists P text (stop.Refused (refusal.HasSites sec)) told memory h = absurd h
+of_lists P text (stop.Refused (refusal.Sites fault)) told memory h = absurd h
+of_lists P text (stop.Refused (refusal.HasFrames sec)) told memory h = absurd h
+of_lists P text (stop.Refused (refusal.Frames fault)) told memory h = absurd h
+of_lists P text (stop.Refused (refusal.TooMany what count)) told memory h = absurd h
+of_lists P text (stop.Refused (refusal.Layout fault)) told memory h = absurd h
+of_lists P text (stop.Refused (refusal.TooManyFiles count)) told memory h = absurd h
+of_lists P text (stop.Refused (refusal.Merge fault)) told memory h = absurd h
+of_lists P text (stop.Refused (refusal.Table fault)) told memory h = absurd h
+of_lists P text (stop.Refused (refusal.NoFunction function)) told memory h = absurd h
+of_lists P text (stop.PartMissing part told) told memory h = absurd h
+of_lists P text (stop.PartTooLong part told at) told memory h = absurd h
+of_lists P text (stop.PartRefused part why) told memory h = absurd h
+of_lists P text (stop.FileFault told) told memory h = absurd h
+of_lists P text stop.NoMemory told memory h = memory
+
 -- so want of memory alone keeps it from being read
 lists_memory : (s : CommandStop) (text : List ℕ) → IsNamesFile text → IsListsStop text s → s ≡ stop.NoMemory
-lists_memory (stop.Usage usage) text right h = absurd h
-lists_memory (stop.Missing told) text right h = absurd h
-lists_memory (stop.TooLong told at) text right h = absurd h
-lists_memory (stop.Refused (refusal.Malformed fault)) text right h = absurd h
-lists_memory (stop.Refused (refusal.Orc fault)) text right h = absurd h
-lists_memory (stop.Refused (refusal.Lists (lists_fault.Line line why))) text right h = absurd (no_faulty_line text line why right h)
-lists_memory (stop.Refused (refusal.Lists lists_fault.NoMemory)) text right h = absurd h
-lists_memory (stop.Refused (refusal.Image fault)) text right h = absurd h
-lists_memory (stop.Refused (refusal.NoText sec)) text right h = absurd h
-lists_memory (stop.Refused (refusal.Unplaced fault)) text right h = absurd h
-lists_memory (stop.Refused (refusal.Unlinked told)) text right h = absurd h
-lists_memory (stop.Refused (refusal.Unflowed told)) text right h = absurd h
-lists_memory (stop.Refused (refusal.HasOrc sec)) text right h = absurd h
-lists_memory (stop.Refused (refusal.HasSites sec)) text right h = absurd h
-lists_memory (stop.Refused (refusal.Sites fault)) text right h = absurd h
-lists_memory (stop.Refused (refusal.HasFrames sec)) text right h = absurd h
-lists_memory (stop.Refused (refusal.Frames fault)) text right h = absurd h
-lists_memory (stop.Refused (refusal.TooMany what count)) text right h = absurd h
-lists_memory (stop.Refused (refusal.Layout fault)) text right h = absurd h
-lists_memory (stop.Refused (refusal.TooManyFiles count)) text right h = absurd h
-lists_memory (stop.Refused (refusal.Merge fault)) text right h = absurd h
-lists_memory (stop.Refused (refusal.Table fault)) text right h = absurd h
-lists_memory (stop.Refused (refusal.NoFunction function)) text right h = absurd h
-lists_memory (stop.PartMissing part told) text right h = absurd h
-lists_memory (stop.PartTooLong part told at) text right h = absurd h
-lists_memory (stop.PartRefused part why) text right h = absurd h
-lists_memory (stop.FileFault told) text right h = absurd h
-lists_memory stop.NoMemory text right h = refl
+lists_memory s text right h = of_lists (λ (t : CommandStop). t ≡ stop.NoMemory) text s (λ line why fault. absurd (no_faulty_line text line why right fault)) refl h
 
 lists_no_fault : (s : CommandStop) (text : List ℕ) → IsListsStop text s → status_of s ≢ FileFault
-lists_no_fault (stop.Usage usage) text h e = absurd h
-lists_no_fault (stop.Missing told) text h e = absurd h
-lists_no_fault (stop.TooLong told at) text h e = absurd h
-lists_no_fault (stop.Refused why) text h e = cc
-lists_no_fault (stop.PartMissing part told) text h e = absurd h
-lists_no_fault (stop.PartTooLong part told at) text h e = absurd h
-lists_no_fault (stop.PartRefused part why) text h e = absurd h
-lists_no_fault (stop.FileFault told) text h e = absurd h
-lists_no_fault stop.NoMemory text h e = cc
+lists_no_fault s text h = of_lists (λ (t : CommandStop). status_of t ≢ FileFault) text s (λ line why fault e. cc) (λ e. cc) h
 
 lists_no_usage : (s : CommandStop) (text : List ℕ) → IsListsStop text s → status_of s ≢ Usage
-lists_no_usage (stop.Usage usage) text h e = absurd h
-lists_no_usage (stop.Missing told) text h e = absurd h
-lists_no_usage (stop.TooLong told at) text h e = absurd h
-lists_no_usage (stop.Refused why) text h e = cc
-lists_no_usage (stop.PartMissing part told) text h e = absurd h
-lists_no_usage (stop.PartTooLong part told at) text h e = absurd h
-lists_no_usage (stop.PartRefused part why) text h e = absurd h
-lists_no_usage (stop.FileFault told) text h e = absurd h
-lists_no_usage stop.NoMemory text h e = cc
+lists_no_usage s text h = of_lists (λ (t : CommandStop). status_of t ≢ Usage) text s (λ line why fault e. cc) (λ e. cc) h
+
+-- a refusal at the names file tells that the file isn't read, or its first faulty line
+pub of_names : (R : CommandStop → Type 0) (s : CommandStop) (names : Option (List ℕ)) (held : Content) (before after : Outside) → before.content ≡ Some held → ((file : List ℕ) → names ≡ Some file → IsUnreadable MAX_FILE_BYTES held file s → R s) → ((file text : List ℕ) (line : ℕ) (why : ListsWhy) → names ≡ Some file → reading held file MAX_FILE_BYTES ≡ Ok text → IsFirstFault text line why → R (stop.Refused (refusal.Lists (lists_fault.Line line why)))) → StopsAtNames names before after s → status_of s ≡ Refused → R s
+of_names R s names held before after c unread faulty (names_unread file given h) e = unread file given (unreadable MAX_FILE_BYTES s file held before after c h e)
+of_names R s names held before after c unread faulty (no_names file text given may h) e =
+    of_lists (λ (t : CommandStop). status_of t ≡ Refused → R t) text s (λ line why fault same. faulty file text line why given (is_read MAX_FILE_BYTES file text held before.content c may) fault) (λ same. absurd (memory_not_refused same)) h e
+of_names R stop.NoMemory names held before after c unread faulty no_lists e = absurd (memory_not_refused e)
 
 pub names_fault : (s : CommandStop) (names : Option (List ℕ)) (before after : Outside) → StopsAtNames names before after s → status_of s ≡ FileFault → Rose before.faults after.faults
 names_fault s names before after (names_unread file is h) e = read_fault MAX_FILE_BYTES s file before after h e
@@ -284,15 +279,18 @@ names_earlier s names content before middle after later (no_names file text is m
 names_earlier stop.NoMemory names content before middle after later no_lists = no_lists
 
 -- where the names file is in order, only faults and want of memory stop there
-pub names_left : (s : CommandStop) (names : Option (List ℕ)) (lists : NameLists) (held : Content) (before after : Outside) (out out' : Output) (x : Status) → before.content ≡ Some held → HasNames (Some held) names lists → StopsAtNames names before after s → Concludes s out out' x → IsAnswered x
-names_left s names lists held before after out out' x c has (names_unread file is h) t =
+pub names_told : (s : CommandStop) (names : Option (List ℕ)) (lists : NameLists) (held : Content) (before after : Outside) (out out' : Output) (x : Status) → before.content ≡ Some held → HasNames (Some held) names lists → StopsAtNames names before after s → Concludes s out out' x → (x ≡ FileFault) ⊎ (x ≡ NoMemory)
+names_told s names lists held before after out out' x c has (names_unread file is h) t =
     let given = given_names held names file lists is has in
-    unread_left MAX_FILE_BYTES s file given.text held before after out out' x c (sym given.may) h t
-names_left s names lists held before after out out' x c has (no_names file text is may h) t =
+    unread_told MAX_FILE_BYTES s file given.text held before after out out' x c (sym given.may) h t
+names_told s names lists held before after out out' x c has (no_names file text is may h) t =
     let given = given_names held names file lists is has in
     let same = one_text MAX_FILE_BYTES held file given.text text (sym given.may) (is_read MAX_FILE_BYTES file text held before.content c may) in
-    no_memory_left s out out' x (lists_memory s text (subst IsNamesFile same given.right) h) t
-names_left stop.NoMemory names lists held before after out out' x c has no_lists t = no_memory_left stop.NoMemory out out' x refl t
+    inr (concluded_no_memory out out' x (subst (λ (y : CommandStop). Concludes y out out' x) (lists_memory s text (subst IsNamesFile same given.right) h) t))
+names_told stop.NoMemory names lists held before after out out' x c has no_lists t = inr (concluded_no_memory out out' x t)
+
+pub names_left : (s : CommandStop) (names : Option (List ℕ)) (lists : NameLists) (held : Content) (before after : Outside) (out out' : Output) (x : Status) → before.content ≡ Some held → HasNames (Some held) names lists → StopsAtNames names before after s → Concludes s out out' x → IsAnswered x
+names_left s names lists held before after out out' x c has h t = fault_left x (names_told s names lists held before after out out' x c has h t)
 
 -- ---- warnings
 

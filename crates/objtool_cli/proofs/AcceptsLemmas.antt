@@ -1,12 +1,10 @@
 -- An input that is accepted is refused by no stop, and one whose program breaks a rule is neither refused nor done.
-use Rattle.std.proofs.Common.{◌≡◌, ℕ, ◌<◌, ◌≤◌, List, [], ◌∷◌, refl, sym, ◌∙◌, subst, arith, inl, inr}
-use Rattle.std.specs.Prelude.{◌≢◌, ◌⊎◌, Contains, Some, None, Option, Result, Ok, Err}
+use Rattle.std.proofs.Common.{◌≡◌, ℕ, ◌<◌, ◌≤◌, List, refl, subst, arith, inl, inr}
+use Rattle.std.specs.Prelude.{◌⊎◌, Some, Option, Ok}
 use Rattle.elf_objects.specs.Elf.{Elf}
 use Rattle.elf_objects.specs.Object.{IsObject}
 use Rattle.elf_objects.specs.declared.TheConstants.{MAX_FILE_BYTES, MAX_SYMBOLS}
 use Rattle.ot_files.specs.Content.{Content, reading}
-use Rattle.ot_files.specs.declared.access.FileError.{FileError}
-use Rattle.ot_files.specs.declared.access.FileError.TheVariants as file
 use Rattle.command_base.specs.declared.status.Status.{Status}
 use Rattle.command_base.specs.declared.status.Status.TheVariants as status
 use Rattle.command_base.specs.declared.refusal.Refusal.{Refusal}
@@ -14,20 +12,15 @@ use Rattle.command_base.specs.declared.stop.CommandStop.{CommandStop}
 use Rattle.command_base.specs.declared.stop.CommandStop.TheVariants as stop
 use Rattle.command_base.specs.Outside.{Outside, Output}
 use Rattle.command_base.specs.Printing.{Concludes, Prints, fails, fault_stays, runs_out, whole}
-use Rattle.command_base.specs.Reading.{MayRead, StopsAtRead}
-use Rattle.command_base.proofs.ConcludeLemmas.{concluded_after_fault, concluded_no_memory}
+use Rattle.command_base.proofs.ConcludeLemmas.{concluded_no_memory}
 use Rattle.objtool_cli.specs.Checked.{Accepts, BreaksRule, HasWarnings, IsRefusal, Refuses, crowded, uncheckable}
-use Rattle.objtool_cli.specs.Command.{Ends, EndsCheck, IsRead, Stops, done, refused, stopped, unread, unwritten, warned, without_names}
-use Rattle.command_base.specs.Names.{HasNames, IsListsStop, StopsAtNames, names_unread, no_lists, no_names}
-use Rattle.command_base.specs.Writing.{StopsAtWrite}
+use Rattle.objtool_cli.specs.Command.{Ends, EndsCheck, Stops, done, refused, stopped, unread, unwritten, warned, without_names}
+use Rattle.command_base.specs.Names.{HasNames}
 use Rattle.cli_words.specs.Grammar.{check}
 use Rattle.cli_words.specs.declared.options.CheckOptions.{CheckOptions}
 use Rattle.ot_base.specs.declared.row.PlacedRow.{PlacedRow}
 use Rattle.ot_base.specs.declared.warning.Warning.{Warning}
-use Rattle.ot_base.specs.NameLists.{NameLists, lists_with}
-use Rattle.ot_base.specs.NamesFile.{IsNamesFile}
-use Rattle.ot_base.specs.declared.lists.ListsFault.TheVariants as lists_fault
-use Rattle.command_base.specs.declared.refusal.Refusal.TheVariants as refusal
+use Rattle.ot_base.specs.NameLists.{NameLists}
 use Rattle.objtool_cli.specs.Words.{Meaning}
 use Rattle.x86_decode.specs.Decoding.{OneOutcome}
 use Rattle.flow_defs.specs.Coded.{coded_by}
@@ -35,9 +28,11 @@ use Rattle.flow_defs.specs.Program.{program_of}
 use Rattle.object_check.specs.Allowances.{allowances_of}
 use Rattle.object_check.specs.Outcome.{HasRows, IsUnbroken}
 use Rattle.orc_output.specs.Tables.{symbols_needed}
-use Rattle.objtool_cli.proofs.CheckableLemmas.{checkable_unrefused, one_object, one_rows}
+use Rattle.command_base.proofs.DumpLaws.{one_object, unread_told}
+use Rattle.objtool_cli.proofs.CheckableLemmas.{checkable_unrefused, one_rows, some_contained}
+use Rattle.objtool_cli.proofs.InputLemmas.{IsKnown, one_reading}
 use Rattle.objtool_cli.proofs.SameCommand.{ends_as}
-use Rattle.command_base.proofs.Stops.{given_names, no_faulty_line}
+use Rattle.command_base.proofs.Stops.{names_told, write_told}
 
 -- ---- what is known of the bytes
 
@@ -63,10 +58,6 @@ pub broken_unrefused : OneOutcome → (bytes : List ℕ) (lists : NameLists) (op
 broken_unrefused one bytes lists options breaks told (uncheckable why) = checkable_unrefused one options.map bytes breaks.object told breaks.is breaks.checkable why
 broken_unrefused one bytes lists options breaks told (crowded o others is checkable unbroken has many count) = breaks_unbroken bytes lists options o breaks is unbroken
 
-some_contained : (warnings : List Warning) → warnings ≢ [] → (w : Warning) × Contains warnings w
-some_contained [] some = absurd (some refl)
-some_contained (w ∷ warnings) some = (w, (0, omega arith, refl))
-
 -- where there are warnings a rule is broken
 pub warns_breaks : (bytes : List ℕ) (lists : NameLists) (options : CheckOptions) (o : Elf) (warnings : List Warning) → HasWarnings bytes lists options o warnings → BreaksRule bytes lists options
 warns_breaks bytes lists options o warnings warns =
@@ -86,123 +77,32 @@ warns_breaks bytes lists options o warnings warns =
 accepted_unwarned : (bytes table : List ℕ) (lists : NameLists) (options : CheckOptions) (o : Elf) (warnings : List Warning) → Accepts bytes lists options table → HasWarnings bytes lists options o warnings → ⊥
 accepted_unwarned bytes table lists options o warnings accepts warns = breaks_unbroken bytes lists options accepts.object (warns_breaks bytes lists options o warnings warns) accepts.is accepts.unbroken
 
--- ---- what was read
-
--- what may be read is one thing, where the content is told
-told_read : (limit : ℕ) (content : Option Content) (held : Content) (name : List ℕ) (r : Result (List ℕ) FileError) → content ≡ Some held → MayRead limit content name r → r ≡ reading held name limit
-told_read limit content held name r is may = subst (λ (c : Option Content). MayRead limit c name r) is may
-
-same_read : (a b : List ℕ) → ◌≡◌ {A = Result (List ℕ) FileError} (Ok a) (Ok b) → a ≡ b
-same_read a b e = cc
-
-pub same_names : (held : Content) (names : Option (List ℕ)) (one other : NameLists) → HasNames (Some held) names one → HasNames (Some held) names other → one ≡ other
-same_names held None one other h k = h ∙ sym k
-same_names held (Some file) one other h k =
-    let same = same_read h.text k.text (h.may ∙ sym k.may) in
-    h.are ∙ subst (λ (text : List ℕ). lists_with h.text ≡ lists_with text) same refl ∙ sym k.are
-
--- what is known of a run: what IN and the names file hold
-record IsKnown (before : Outside) (input : List ℕ) (names : Option (List ℕ)) (read : List ℕ) (lists : NameLists) : Type 0 where
-  held : Content
-  told : before.content ≡ Some held
-  is : reading held input MAX_FILE_BYTES ≡ Ok read
-  named : HasNames (Some held) names lists
-
--- other bytes and lists that it may have read are these
-one_reading : (P : List ℕ → NameLists → Type 0) (before : Outside) (input : List ℕ) (names : Option (List ℕ)) (read other : List ℕ) (lists others : NameLists) → IsKnown before input names read lists → IsRead before.content input names other others → P other others → P read lists
-one_reading P before input names read other lists others known is h =
-    let bytes = same_read other read (told_read MAX_FILE_BYTES before.content known.held input _ known.told is.may ∙ known.is) in
-    let named = same_names known.held names others lists (subst (λ (c : Option Content). HasNames c names others) known.told is.named) known.named in
-    subst (λ (l : NameLists). P read l) named (subst (λ (b : List ℕ). P b others) bytes h)
-
 -- ---- what stops it
 
 -- a file's fault, or want of memory
 abbrev Faults : Status → Type 0
 Faults x = (x ≡ status.FileFault) ⊎ (x ≡ status.NoMemory)
 
-stopped_unread : (s : CommandStop) (name read : List ℕ) (held : Content) (before after : Outside) (out out' : Output) (x : Status) → before.content ≡ Some held → reading held name MAX_FILE_BYTES ≡ Ok read → StopsAtRead MAX_FILE_BYTES name before after s → Concludes s out out' x → Faults x
-stopped_unread (stop.Usage usage) name read held before after out out' x c is h t = absurd h
-stopped_unread (stop.PartMissing part file) name read held before after out out' x c is h t = absurd h
-stopped_unread (stop.PartTooLong part file limit) name read held before after out out' x c is h t = absurd h
-stopped_unread (stop.PartRefused part refusal) name read held before after out out' x c is h t = absurd h
-stopped_unread (stop.Missing told) name read held before after out out' x c is h t = let u : ◌≡◌ {A = Result (List ℕ) FileError} (Err file.Missing) (Ok read) = told_read MAX_FILE_BYTES before.content held name _ c h.1 ∙ is in cc
-stopped_unread (stop.TooLong told limit) name read held before after out out' x c is h t = let u : ◌≡◌ {A = Result (List ℕ) FileError} (Err (file.TooLong MAX_FILE_BYTES)) (Ok read) = told_read MAX_FILE_BYTES before.content held name _ c h.1.1 ∙ is in cc
-stopped_unread (stop.Refused refusal) name read held before after out out' x c is h t = absurd h
-stopped_unread (stop.FileFault told) name read held before after out out' x c is h t = concluded_after_fault (stop.FileFault told) out out' x refl t
-stopped_unread stop.NoMemory name read held before after out out' x c is h t = inr (concluded_no_memory out out' x t)
-
-stopped_refused : (s : CommandStop) (read : List ℕ) (lists : NameLists) (options : CheckOptions) (out out' : Output) (x : Status) → IsUnrefused read lists options → IsRefusal read lists options s → Concludes s out out' x → Faults x
-stopped_refused (stop.Refused told) read lists options out out' x never h t = absurd (never told h)
-stopped_refused (stop.Usage usage) read lists options out out' x never h t = absurd h
-stopped_refused (stop.PartMissing part file) read lists options out out' x never h t = absurd h
-stopped_refused (stop.PartTooLong part file limit) read lists options out out' x never h t = absurd h
-stopped_refused (stop.PartRefused part refusal) read lists options out out' x never h t = absurd h
-stopped_refused (stop.Missing told) read lists options out out' x never h t = absurd h
-stopped_refused (stop.TooLong told limit) read lists options out out' x never h t = absurd h
-stopped_refused (stop.FileFault told) read lists options out out' x never h t = absurd h
-stopped_refused stop.NoMemory read lists options out out' x never h t = inr (concluded_no_memory out out' x t)
-
-stopped_unwritten : (s : CommandStop) (name : List ℕ) (before after : Outside) (out out' : Output) (x : Status) → StopsAtWrite name before after s → Concludes s out out' x → Faults x
-stopped_unwritten (stop.Usage usage) name before after out out' x h t = absurd h
-stopped_unwritten (stop.PartMissing part file) name before after out out' x h t = absurd h
-stopped_unwritten (stop.PartTooLong part file limit) name before after out out' x h t = absurd h
-stopped_unwritten (stop.PartRefused part refusal) name before after out out' x h t = absurd h
-stopped_unwritten (stop.Missing told) name before after out out' x h t = absurd h
-stopped_unwritten (stop.TooLong told limit) name before after out out' x h t = absurd h
-stopped_unwritten (stop.Refused refusal) name before after out out' x h t = absurd h
-stopped_unwritten (stop.FileFault told) name before after out out' x h t = concluded_after_fault (stop.FileFault told) out out' x refl t
-stopped_unwritten stop.NoMemory name before after out out' x h t = inr (concluded_no_memory out out' x t)
-
--- ---- the names file
-
-stopped_unlisted : (s : CommandStop) (text : List ℕ) (out out' : Output) (x : Status) → IsNamesFile text → IsListsStop text s → Concludes s out out' x → Faults x
-stopped_unlisted (stop.Refused (refusal.Lists (lists_fault.Line line why))) text out out' x right h t = absurd (no_faulty_line text line why right h)
-stopped_unlisted (stop.Refused (refusal.Lists lists_fault.NoMemory)) text out out' x right h t = absurd h
-stopped_unlisted (stop.Refused (refusal.Malformed fault)) text out out' x right h t = absurd h
-stopped_unlisted (stop.Refused (refusal.Orc fault)) text out out' x right h t = absurd h
-stopped_unlisted (stop.Refused (refusal.Image fault)) text out out' x right h t = absurd h
-stopped_unlisted (stop.Refused (refusal.NoText sec)) text out out' x right h t = absurd h
-stopped_unlisted (stop.Refused (refusal.Unplaced fault)) text out out' x right h t = absurd h
-stopped_unlisted (stop.Refused (refusal.Unlinked told)) text out out' x right h t = absurd h
-stopped_unlisted (stop.Refused (refusal.Unflowed told)) text out out' x right h t = absurd h
-stopped_unlisted (stop.Refused (refusal.HasOrc sec)) text out out' x right h t = absurd h
-stopped_unlisted (stop.Refused (refusal.HasSites sec)) text out out' x right h t = absurd h
-stopped_unlisted (stop.Refused (refusal.Sites why)) text out out' x right h t = absurd h
-stopped_unlisted (stop.Refused (refusal.HasFrames sec)) text out out' x right h t = absurd h
-stopped_unlisted (stop.Refused (refusal.Frames why)) text out out' x right h t = absurd h
-stopped_unlisted (stop.Refused (refusal.Layout why)) text out out' x right h t = absurd h
-stopped_unlisted (stop.Refused (refusal.TooManyFiles count)) text out out' x right h t = absurd h
-stopped_unlisted (stop.Refused (refusal.Merge why)) text out out' x right h t = absurd h
-stopped_unlisted (stop.Refused (refusal.Table why)) text out out' x right h t = absurd h
-stopped_unlisted (stop.Refused (refusal.NoFunction function)) text out out' x right h t = absurd h
-stopped_unlisted (stop.Refused (refusal.TooMany what count)) text out out' x right h t = absurd h
-stopped_unlisted stop.NoMemory text out out' x right h t = inr (concluded_no_memory out out' x t)
-stopped_unlisted (stop.Usage usage) text out out' x right h t = absurd h
-stopped_unlisted (stop.PartMissing part file) text out out' x right h t = absurd h
-stopped_unlisted (stop.PartTooLong part file limit) text out out' x right h t = absurd h
-stopped_unlisted (stop.PartRefused part refusal) text out out' x right h t = absurd h
-stopped_unlisted (stop.Missing told) text out out' x right h t = absurd h
-stopped_unlisted (stop.TooLong told limit) text out out' x right h t = absurd h
-stopped_unlisted (stop.FileFault told) text out out' x right h t = absurd h
-
-stopped_by_names : (s : CommandStop) (names : Option (List ℕ)) (lists : NameLists) (held : Content) (before after : Outside) (out out' : Output) (x : Status) → before.content ≡ Some held → HasNames (Some held) names lists → StopsAtNames names before after s → Concludes s out out' x → Faults x
-stopped_by_names s names lists held before after out out' x c has (names_unread file is h) t =
-    let given = given_names held names file lists is has in
-    stopped_unread s file given.text held before after out out' x c (sym given.may) h t
-stopped_by_names s names lists held before after out out' x c has (no_names file text is may h) t =
-    let given = given_names held names file lists is has in
-    let same = same_read given.text text (given.may ∙ sym (told_read MAX_FILE_BYTES before.content held file _ c may)) in
-    stopped_unlisted s text out out' x (subst IsNamesFile same given.right) h t
-stopped_by_names stop.NoMemory names lists held before after out out' x c has no_lists t = inr (concluded_no_memory out out' x t)
+-- bytes that are refused in no way are stopped by want of memory alone
+pub refused_memory : (s : CommandStop) (read : List ℕ) (lists : NameLists) (options : CheckOptions) → IsUnrefused read lists options → IsRefusal read lists options s → s ≡ stop.NoMemory
+refused_memory (stop.Refused told) read lists options never h = absurd (never told h)
+refused_memory (stop.Usage usage) read lists options never h = absurd h
+refused_memory (stop.PartMissing part file) read lists options never h = absurd h
+refused_memory (stop.PartTooLong part file limit) read lists options never h = absurd h
+refused_memory (stop.PartRefused part refusal) read lists options never h = absurd h
+refused_memory (stop.Missing told) read lists options never h = absurd h
+refused_memory (stop.TooLong told limit) read lists options never h = absurd h
+refused_memory (stop.FileFault told) read lists options never h = absurd h
+refused_memory stop.NoMemory read lists options never h = refl
 
 -- where the bytes are refused in no way, only faults and want of memory stop the command
 stop_faults : (s : CommandStop) (input output : List ℕ) (options : CheckOptions) (names : Option (List ℕ)) (read : List ℕ) (lists : NameLists) (before after : Outside) (out out' : Output) (x : Status) → IsKnown before input names read lists → IsUnrefused read lists options → Stops input output options names before after s → Concludes s out out' x → Faults x
-stop_faults s input output options names read lists before after out out' x known never (unread h kept) t = stopped_unread s input read known.held before after out out' x known.told known.is h t
-stop_faults s input output options names read lists before after out out' x known never (without_names other may h kept) t = stopped_by_names s names lists known.held before after out out' x known.told known.named h t
+stop_faults s input output options names read lists before after out out' x known never (unread h kept) t = unread_told MAX_FILE_BYTES s input read known.held before after out out' x known.told known.is h t
+stop_faults s input output options names read lists before after out out' x known never (without_names other may h kept) t = names_told s names lists known.held before after out out' x known.told known.named h t
 stop_faults s input output options names read lists before after out out' x known never (refused other others is h kept) t =
-    stopped_refused s read lists options out out' x never (one_reading (λ b l. IsRefusal b l options s) before input names read other lists others known is h) t
-stop_faults s input output options names read lists before after out out' x known never (unwritten table accepted h others) t = stopped_unwritten s output before after out out' x h t
+    let none = refused_memory s read lists options never (one_reading (λ b l. IsRefusal b l options s) before input names read other lists others known is h) in
+    inr (concluded_no_memory out out' x (subst (λ (u : CommandStop). Concludes u out out' x) none t))
+stop_faults s input output options names read lists before after out out' x known never (unwritten table accepted h others) t = write_told s output before after out out' x h t
 
 -- ---- how `check` ends
 

@@ -1,11 +1,10 @@
 -- What follows from how `cfa` ends.
-use Rattle.std.proofs.Common.{◌≡◌, ℕ, List, refl, sym, ◌∙◌, subst, inl, inr}
+use Rattle.std.proofs.Common.{◌≡◌, ℕ, List, refl, ◌∙◌, subst}
 use Rattle.std.specs.Prelude.{◌≢◌, Option, Some, Ok}
 use Rattle.ot_files.specs.Causes.{Rose}
 use Rattle.ot_files.specs.Content.{Content, reading}
 use Rattle.elf_objects.specs.declared.TheConstants.{MAX_FILE_BYTES}
 use Rattle.elf_objects.specs.declared.fault.ElfFault.{ElfFault}
-use Rattle.elf_objects.specs.declared.fault.ElfFault.TheVariants as elf
 use Rattle.elf_objects.specs.Elf.{Elf}
 use Rattle.elf_objects.specs.Object as object
 use Rattle.elf_objects.specs.Object.{IsObject}
@@ -26,40 +25,23 @@ use Rattle.command_base.specs.declared.status.Status.TheVariants.{Done, Warnings
 use Rattle.command_base.specs.declared.stop.CommandStop.{CommandStop}
 use Rattle.command_base.specs.declared.stop.CommandStop.TheVariants as stop
 use Rattle.command_base.proofs.ConcludeLemmas.{concluded_fault, concluded_no_warnings, concluded_not_done, concluded_sink_fault, printed_fault, printed_sink_fault, printed_warnings}
-use Rattle.command_base.proofs.DumpLaws.{no_memory_left, not_file_fault, not_sink_fault, not_warnings, printed_done, read_fault, same_read, text_left, told_read, unread_left}
+use Rattle.command_base.proofs.DumpLaws.{no_memory_left, not_file_fault, not_sink_fault, not_warnings, one_object, printed_done, read_fault, same_read, text_left, told_read, unread_left}
+use Rattle.command_base.proofs.FaultStops.{fault_of, of_parse}
 use Rattle.objtool_cli.specs.Cfa.{EndsCfa, IsTold, SaysNoRules, SaysRules, TellsBytes, rules_text, malformed, no_rules, no_memory, printed, read, stopped, unread}
 use Rattle.command_base.specs.Refusing.{IsRefusedOrFails, Tells}
 use Rattle.objtool_cli.specs.FramesRefused.{RefusesCfa, object_unread, without_rules}
-use Rattle.objtool_cli.proofs.FramesGets.{one_object}
 use Rattle.command_base.proofs.Stops.{concluded_usage, done_no_usage, done_not_refused, is_read, left, not_memory, of_stop, one_text, read_no_usage, readable, unreadable, whole_text}
 
 -- ---- from the faults of those who read FILE
 
-object_fault : (bytes : List ℕ) (e : ElfFault) → object.Refuses (object.FirstFault bytes) e → e ≢ elf.NoMemory → object.FirstFault bytes e
-object_fault bytes e (inl none) other = absurd (other none)
-object_fault bytes e (inr fault) other = fault
-
 pub no_object : (bytes : List ℕ) (e : ElfFault) → object.Refuses (object.FirstFault bytes) e → SaysNoRules bytes (parse_stop e)
-no_object bytes (elf.Short need have) h = malformed (object_fault bytes _ h (λ x. cc))
-no_object bytes (elf.NotElfRel64 at) h = malformed (object_fault bytes _ h (λ x. cc))
-no_object bytes (elf.BadTable sec) h = malformed (object_fault bytes _ h (λ x. cc))
-no_object bytes (elf.BadRange sec) h = malformed (object_fault bytes _ h (λ x. cc))
-no_object bytes (elf.BadName what number) h = malformed (object_fault bytes _ h (λ x. cc))
-no_object bytes (elf.BadLink sec) h = malformed (object_fault bytes _ h (λ x. cc))
-no_object bytes (elf.BadSymbol sym) h = malformed (object_fault bytes _ h (λ x. cc))
-no_object bytes (elf.BadReloc sec number) h = malformed (object_fault bytes _ h (λ x. cc))
-no_object bytes (elf.TooMany what count) h = malformed (object_fault bytes _ h (λ x. cc))
-no_object bytes elf.NoMemory h = no_memory
-
-frame_fault : (o : Elf) (e : EhFault) → frames.Refuses o e → e ≢ fault.NoMemory → frames.FirstFault o e
-frame_fault o e (inl none) other = absurd (other none)
-frame_fault o e (inr first) other = first
+no_object bytes e h = of_parse (SaysNoRules bytes) bytes e (λ first fault. malformed fault) no_memory h
 
 pub no_rules_said : (bytes : List ℕ) (o : Elf) (e : EhFault) → IsObject bytes o → frames.Refuses o e → SaysNoRules bytes (frames_stop e)
-no_rules_said bytes o fault.NoSection is h = no_rules o is (frame_fault o _ h (λ x. cc))
-no_rules_said bytes o (fault.BadRecord off) is h = no_rules o is (frame_fault o _ h (λ x. cc))
-no_rules_said bytes o (fault.BadReloc off) is h = no_rules o is (frame_fault o _ h (λ x. cc))
-no_rules_said bytes o (fault.BadOp off) is h = no_rules o is (frame_fault o _ h (λ x. cc))
+no_rules_said bytes o fault.NoSection is h = no_rules o is (fault_of h (λ x. cc))
+no_rules_said bytes o (fault.BadRecord off) is h = no_rules o is (fault_of h (λ x. cc))
+no_rules_said bytes o (fault.BadReloc off) is h = no_rules o is (fault_of h (λ x. cc))
+no_rules_said bytes o (fault.BadOp off) is h = no_rules o is (fault_of h (λ x. cc))
 no_rules_said bytes o fault.NoMemory is h = no_memory
 
 -- ---- where it is done

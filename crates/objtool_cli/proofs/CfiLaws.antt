@@ -1,10 +1,8 @@
 -- What follows from how `cfi` ends.
-use Rattle.std.proofs.Common.{◌≡◌, ℕ, List, refl, sym, ap, ◌∙◌, subst, inl, inr}
+use Rattle.std.proofs.Common.{◌≡◌, ℕ, List, refl, sym, ap, subst, inl, inr}
 use Rattle.std.specs.Prelude.{◌≢◌, ◌⊎◌, Option, Some, None, Ok}
 use Rattle.std.specs.FinMap.{get}
-use Rattle.ot_base.specs.NameLists.{NameLists, lists_with}
-use Rattle.ot_base.specs.NamesFile.{IsNamesFile}
-use Rattle.ot_base.specs.declared.lists.ListsFault.TheVariants as lists_fault
+use Rattle.ot_base.specs.NameLists.{NameLists}
 use Rattle.ot_base.specs.declared.row.PlacedRow.{PlacedRow}
 use Rattle.ot_files.specs.Content.{Content, reading, writing}
 use Rattle.elf_objects.specs.declared.TheConstants.{MAX_FILE_BYTES}
@@ -12,24 +10,25 @@ use Rattle.elf_objects.specs.Elf.{Elf}
 use Rattle.x86_decode.specs.Decoding.{OneOutcome}
 use Rattle.x86_map.specs.declared.map.Map.{Map}
 use Rattle.command_base.specs.Dump.{IsAnswered}
-use Rattle.command_base.specs.Names.{HasNames, IsListsStop, StopsAtNames, names_unread, no_lists, no_names}
+use Rattle.command_base.specs.Names.{HasNames}
 use Rattle.command_base.specs.Outside.{Outside, Output}
 use Rattle.command_base.specs.Printing.{Concludes}
 use Rattle.command_base.specs.Stop.{status_of}
-use Rattle.command_base.specs.declared.refusal.Refusal.TheVariants as refusal
 use Rattle.command_base.specs.declared.status.Status.{Status}
 use Rattle.command_base.specs.declared.status.Status.TheVariants.{Done, Warnings, Refused, Usage, FileFault, NoMemory}
 use Rattle.command_base.specs.declared.stop.CommandStop.{CommandStop}
 use Rattle.command_base.specs.declared.stop.CommandStop.TheVariants as stop
 use Rattle.command_base.proofs.ConcludeLemmas.{concluded_no_warnings, concluded_not_done}
 use Rattle.command_base.proofs.DumpLaws.{fault_left, no_memory_left, unread_left}
-use Rattle.objtool_cli.specs.Cfi.{BreaksRule, CfiMayChange, EndsCfi, GetNoFrames, Gets, HasWarnings, IsRead, IsUnchecked, MayGetFrames, StopsCfi, TellsWarnings, done, has_frames, malformed, no_memory, out_of_memory, refused, stopped, too_many_sections, too_many_symbols, unchecked, unflowed, unlinked, unread, unwritten, warned, without_names}
+use Rattle.objtool_cli.specs.Cfi.{BreaksRule, CfiMayChange, EndsCfi, GetNoFrames, Gets, HasWarnings, IsUnchecked, MayGetFrames, StopsCfi, TellsWarnings, done, has_frames, malformed, no_memory, out_of_memory, refused, stopped, too_many_sections, too_many_symbols, unchecked, unflowed, unlinked, unread, unwritten, warned, without_names}
 use Rattle.command_base.specs.Refusing.{IsRefusedOrFails, IsWarnedOrFails, Tells}
-use Rattle.objtool_cli.specs.FramesRefused.{RefusesCfi, input_refused, input_unread, list_faulty, list_unread}
+use Rattle.objtool_cli.specs.Inputs.{input_refused, input_unread}
+use Rattle.objtool_cli.specs.FramesRefused.{RefusesCfi}
+use Rattle.objtool_cli.proofs.InputLemmas.{IsKnown, named_in, names_refuse, one_reading, unrefused}
 use Rattle.objtool_cli.specs.Written.{OutTellsFrames}
 use Rattle.command_base.proofs.Content.{get-insert_same, held_is, written_others}
 use Rattle.objtool_cli.proofs.FramesGets.{breaks_unbroken, broken_excluded, gets_excluded, gets_unwarned, warns_breaks}
-use Rattle.command_base.proofs.Stops.{concluded_usage, done_not_refused, done_not_warned, given_names, is_read, left, left_warned, names_left, names_no_usage, neither, no_faulty_line, not_memory, of_stop, one_text, read_no_usage, readable, unreadable, warned_no_usage, warned_not_done, warned_not_refused, warned_text, write_no_usage, write_not_refused, write_told}
+use Rattle.command_base.proofs.Stops.{concluded_usage, done_not_refused, done_not_warned, is_read, left, left_warned, names_left, names_no_usage, neither, not_memory, of_stop, read_no_usage, unreadable, warned_no_usage, warned_not_done, warned_not_refused, warned_text, write_no_usage, write_not_refused, write_told}
 
 -- ---- what it leaves
 
@@ -86,27 +85,6 @@ cfi_changes map input output names before after out out' Done (done o rows file 
 cfi_changes map input output names before after out out' x (warned o warnings may kept t) = inl kept
 cfi_changes map input output names before after out out' x (stopped s h t) = stop_changes s map input output names before after h
 
--- ---- what is known of the files
-
-record IsKnown (before : Outside) (input : List ℕ) (names : Option (List ℕ)) (read : List ℕ) (lists : NameLists) : Type 0 where
-  held : Content
-  told : before.content ≡ Some held
-  is : reading held input MAX_FILE_BYTES ≡ Ok read
-  named : HasNames (Some held) names lists
-
-one_names : (names : Option (List ℕ)) (held : Content) (others lists : NameLists) → HasNames (Some held) names others → HasNames (Some held) names lists → others ≡ lists
-one_names None held others lists h k = h ∙ sym k
-one_names (Some file) held others lists h k =
-    let same = one_text MAX_FILE_BYTES held file h.text k.text (sym h.may) (sym k.may) in
-    h.are ∙ ap lists_with same ∙ sym k.are
-
--- what may have been read is what was read
-one_reading : (P : List ℕ → NameLists → Type 0) (before : Outside) (input : List ℕ) (names : Option (List ℕ)) (read other : List ℕ) (lists others : NameLists) → IsKnown before input names read lists → IsRead before.content input names other others → P other others → P read lists
-one_reading P before input names read other lists others known was h =
-    let bytes = one_text MAX_FILE_BYTES known.held input other read (is_read MAX_FILE_BYTES input other known.held before.content known.told was.may) known.is in
-    let named = one_names names known.held others lists (subst (λ (c : Option Content). HasNames c names others) known.told was.named) known.named in
-    subst (λ (l : NameLists). P read l) named (subst (λ (b : List ℕ). P b others) bytes h)
-
 -- bytes that nothing but want of memory keeps from call frame information, or from their warnings
 abbrev IsUnrefused : Map → List ℕ → NameLists → Type 0
 IsUnrefused map bytes lists = (s : CommandStop) → GetNoFrames map bytes lists s → s ≡ stop.NoMemory
@@ -159,46 +137,12 @@ cfi_warns one map input output names read lists held before after out out' x c i
 
 -- ---- where a step refuses
 
-faulty_line : (s : CommandStop) (map : Map) (input : List ℕ) (names : Option (List ℕ)) (held : Content) (read file text : List ℕ) → reading held input MAX_FILE_BYTES ≡ Ok read → names ≡ Some file → reading held file MAX_FILE_BYTES ≡ Ok text → IsListsStop text s → status_of s ≡ Refused → RefusesCfi map input names held s
-faulty_line (stop.Refused (refusal.Malformed fault)) map input names held read file text is given said h e = absurd h
-faulty_line (stop.Refused (refusal.Orc fault)) map input names held read file text is given said h e = absurd h
-faulty_line (stop.Refused (refusal.Lists (lists_fault.Line line why))) map input names held read file text is given said h e = list_faulty read file text is given said h
-faulty_line (stop.Refused (refusal.Lists lists_fault.NoMemory)) map input names held read file text is given said h e = absurd h
-faulty_line (stop.Refused (refusal.Image fault)) map input names held read file text is given said h e = absurd h
-faulty_line (stop.Refused (refusal.NoText sec)) map input names held read file text is given said h e = absurd h
-faulty_line (stop.Refused (refusal.Unplaced fault)) map input names held read file text is given said h e = absurd h
-faulty_line (stop.Refused (refusal.Unlinked told)) map input names held read file text is given said h e = absurd h
-faulty_line (stop.Refused (refusal.Unflowed told)) map input names held read file text is given said h e = absurd h
-faulty_line (stop.Refused (refusal.HasOrc sec)) map input names held read file text is given said h e = absurd h
-faulty_line (stop.Refused (refusal.HasSites sec)) map input names held read file text is given said h e = absurd h
-faulty_line (stop.Refused (refusal.Sites fault)) map input names held read file text is given said h e = absurd h
-faulty_line (stop.Refused (refusal.HasFrames sec)) map input names held read file text is given said h e = absurd h
-faulty_line (stop.Refused (refusal.Frames fault)) map input names held read file text is given said h e = absurd h
-faulty_line (stop.Refused (refusal.TooMany what count)) map input names held read file text is given said h e = absurd h
-faulty_line (stop.Refused (refusal.Layout fault)) map input names held read file text is given said h e = absurd h
-faulty_line (stop.Refused (refusal.TooManyFiles count)) map input names held read file text is given said h e = absurd h
-faulty_line (stop.Refused (refusal.Merge fault)) map input names held read file text is given said h e = absurd h
-faulty_line (stop.Refused (refusal.Table fault)) map input names held read file text is given said h e = absurd h
-faulty_line (stop.Refused (refusal.NoFunction function)) map input names held read file text is given said h e = absurd h
-faulty_line (stop.Usage usage) map input names held read file text is given said h e = absurd h
-faulty_line (stop.Missing told) map input names held read file text is given said h e = absurd h
-faulty_line (stop.TooLong told at) map input names held read file text is given said h e = absurd h
-faulty_line (stop.PartMissing part told) map input names held read file text is given said h e = absurd h
-faulty_line (stop.PartTooLong part told at) map input names held read file text is given said h e = absurd h
-faulty_line (stop.PartRefused part why) map input names held read file text is given said h e = absurd h
-faulty_line (stop.FileFault told) map input names held read file text is given said h e = absurd h
-faulty_line stop.NoMemory map input names held read file text is given said h e = absurd (not_memory stop.NoMemory e refl)
-
-names_refuse : (s : CommandStop) (map : Map) (input : List ℕ) (names : Option (List ℕ)) (held : Content) (read : List ℕ) (before after : Outside) → before.content ≡ Some held → reading held input MAX_FILE_BYTES ≡ Ok read → StopsAtNames names before after s → status_of s ≡ Refused → RefusesCfi map input names held s
-names_refuse s map input names held read before after c is (names_unread file given h) e = list_unread read file is given (unreadable MAX_FILE_BYTES s file held before after c h e)
-names_refuse s map input names held read before after c is (no_names file text given may h) e = faulty_line s map input names held read file text is given (is_read MAX_FILE_BYTES file text held before.content c may) h e
-names_refuse stop.NoMemory map input names held read before after c is no_lists e = absurd (not_memory stop.NoMemory e refl)
-
 cfi_refuse : (s : CommandStop) (map : Map) (input output : List ℕ) (names : Option (List ℕ)) (held : Content) (before after : Outside) → before.content ≡ Some held → StopsCfi map input output names before after s → status_of s ≡ Refused → RefusesCfi map input names held s
 cfi_refuse s map input output names held before after c (unread h kept) e = input_unread (unreadable MAX_FILE_BYTES s input held before after c h e)
-cfi_refuse s map input output names held before after c (without_names read may h kept) e = names_refuse s map input names held read before after c (is_read MAX_FILE_BYTES input read held before.content c may) h e
+cfi_refuse s map input output names held before after c (without_names read may h kept) e =
+    names_refuse (λ b l t. GetNoFrames map b l t) s input names held read before after c may h e
 cfi_refuse s map input output names held before after c (refused read lists was h kept) e =
-    input_refused read lists (is_read MAX_FILE_BYTES input read held before.content c was.may) (subst (λ (content : Option Content). HasNames content names lists) c was.named) h (not_memory s e)
+    input_refused read lists (is_read MAX_FILE_BYTES input read held before.content c was.may) (named_in names held before.content lists c was.named) h (not_memory s e)
 cfi_refuse s map input output names held before after c (unwritten o rows file may h others) e = absurd (write_not_refused s output before after h e)
 
 pub cfi_told : (map : Map) (input output : List ℕ) (names : Option (List ℕ)) (held : Content) (before after : Outside) (out out' : Output) (x : Status) → before.content ≡ Some held → EndsCfi map input output names before after out out' x → x ≡ Refused → Tells (RefusesCfi map input names held) out.written out'.written
@@ -207,26 +151,9 @@ cfi_told map input output names held before after out out' x c (warned o warning
 cfi_told map input output names held before after out out' x c (stopped s h t) is =
     of_stop (RefusesCfi map input names held) s out out' x t is (λ at. cfi_refuse s map input output names held before after c h at)
 
--- bytes that nothing but want of memory keeps from call frame information, or from their warnings, are refused by no step
-unrefused : (s : CommandStop) (map : Map) (input : List ℕ) (names : Option (List ℕ)) (held : Content) (read : List ℕ) (lists : NameLists) → reading held input MAX_FILE_BYTES ≡ Ok read → HasNames (Some held) names lists → IsUnrefused map read lists → RefusesCfi map input names held s → ⊥
-unrefused s map input names held read lists is has never (input_unread h) = readable MAX_FILE_BYTES s held input read h is
-unrefused s map input names held read lists is has never (list_unread other file was given h) =
-    let names_are = given_names held names file lists given has in
-    readable MAX_FILE_BYTES s held file names_are.text h (sym names_are.may)
-unrefused s map input names held read lists is has never (list_faulty other file text was given said fault) =
-    let names_are = given_names held names file lists given has in
-    no_faulty_line text _ _ (subst IsNamesFile (one_text MAX_FILE_BYTES held file names_are.text text (sym names_are.may) said) names_are.right) fault
-unrefused s map input names held read lists is has never (input_refused other others was had h some) =
-    let bytes = one_text MAX_FILE_BYTES held input other read was is in
-    let named = one_names names held others lists had has in
-    some (never s (subst (λ (l : NameLists). GetNoFrames map read l s) named (subst (λ (b : List ℕ). GetNoFrames map b others s) bytes h)))
-
-known_names : (names : Option (List ℕ)) (lists : NameLists) (held : Content) (content : Option Content) → content ≡ Some held → HasNames content names lists → HasNames (Some held) names lists
-known_names names lists held content c has = subst (λ (k : Option Content). HasNames k names lists) c has
-
 refused_not_done : OneOutcome → (s : CommandStop) (map : Map) (input output : List ℕ) (names : Option (List ℕ)) (held : Content) (before after : Outside) (out out' : Output) (x : Status) → before.content ≡ Some held → RefusesCfi map input names held s → EndsCfi map input output names before after out out' x → x ≢ Done
 refused_not_done one s map input output names held before after out out' Done c why (done o rows file may e same) is =
-    unrefused s map input names held may.read may.lists (is_read MAX_FILE_BYTES input may.read held before.content c may.is_read.may) (known_names names may.lists held before.content c may.is_read.named)
+    unrefused (λ b l t. GetNoFrames map b l t) s input names held may.read may.lists (is_read MAX_FILE_BYTES input may.read held before.content c may.is_read.may) (named_in names held before.content may.lists c may.is_read.named)
     (λ u no. gets_excluded one u map may.read may.lists o rows may.gets no) why
 refused_not_done one s map input output names held before after out out' x c why (warned o warnings may kept t) is = warned_not_done _ out out' x t is
 refused_not_done one s map input output names held before after out out' x c why (stopped told h t) is = concluded_not_done told out out' x t is
@@ -234,7 +161,7 @@ refused_not_done one s map input output names held before after out out' x c why
 refused_not_warned : OneOutcome → (s : CommandStop) (map : Map) (input output : List ℕ) (names : Option (List ℕ)) (held : Content) (before after : Outside) (out out' : Output) (x : Status) → before.content ≡ Some held → RefusesCfi map input names held s → EndsCfi map input output names before after out out' x → x ≢ Warnings
 refused_not_warned one s map input output names held before after out out' Done c why (done o rows file may e same) is = done_not_warned is
 refused_not_warned one s map input output names held before after out out' x c why (warned o warnings may kept t) is =
-    unrefused s map input names held may.read may.lists (is_read MAX_FILE_BYTES input may.read held before.content c may.is_read.may) (known_names names may.lists held before.content c may.is_read.named)
+    unrefused (λ b l t. GetNoFrames map b l t) s input names held may.read may.lists (is_read MAX_FILE_BYTES input may.read held before.content c may.is_read.may) (named_in names held before.content may.lists c may.is_read.named)
     (λ u no. broken_excluded one u map may.read may.lists (warns_breaks map may.read may.lists o warnings may.warns) no) why
 refused_not_warned one s map input output names held before after out out' x c why (stopped told h t) is = concluded_no_warnings told out out' x t is
 

@@ -17,7 +17,8 @@ use Rattle.command_base.specs.declared.status.Status.{Status}
 use Rattle.command_base.specs.declared.status.Status.TheVariants as status
 use Rattle.command_base.specs.declared.stop.CommandStop.{CommandStop}
 use Rattle.command_base.specs.Code.{IsInOrder}
-use Rattle.objtool_cli.specs.Entry.{EndsEntry, IsRead, IsUnbroken, KeepsEntryRules, MayBeChecked, done}
+use Rattle.objtool_cli.specs.Entry.{EndsEntry, IsUnbroken, KeepsEntryRules, MayBeChecked, done}
+use Rattle.objtool_cli.specs.Inputs.{IsRead}
 use Rattle.command_base.proofs.Stops.{names_earlier, outside}
 
 pub may_check : (map : Map) (content : Option Content) (input : List ℕ) (names : Option (List ℕ)) (read : List ℕ) (o : Elf) (lists : NameLists) → IsRead content input names read lists → IsObject read o → IsInOrder (coded_by map o) → MayBeChecked map content input names o lists

@@ -1,15 +1,12 @@
 -- What follows from how `entry` ends.
-use Rattle.std.proofs.Common.{◌≡◌, ℕ, List, [], ◌∷◌, Contains, refl, sym, ap, ◌∙◌, subst, inl, inr}
+use Rattle.std.proofs.Common.{◌≡◌, ℕ, List, [], ◌∷◌, Contains, refl, sym, ap, subst, inl, inr}
 use Rattle.std.specs.Prelude.{◌≢◌, Option, Some, None, Ok}
 use Rattle.std.specs.FinMap.{get}
-use Rattle.ot_base.specs.NameLists.{NameLists, lists_with}
-use Rattle.ot_base.specs.NamesFile.{IsNamesFile}
+use Rattle.ot_base.specs.NameLists.{NameLists}
 use Rattle.ot_base.specs.Warnings.{numbered_warning}
 use Rattle.ot_base.specs.declared.warning.Warning.{Warning}
-use Rattle.ot_base.specs.declared.lists.ListsFault.TheVariants as lists_fault
 use Rattle.ot_files.specs.Causes.{Rose}
 use Rattle.ot_files.specs.Content.{Content, reading}
-use Rattle.ot_files.specs.Output.{appending}
 use Rattle.elf_objects.specs.declared.TheConstants.{MAX_FILE_BYTES}
 use Rattle.elf_objects.specs.Elf.{Elf}
 use Rattle.elf_objects.specs.Object.{IsObject}
@@ -19,23 +16,23 @@ use Rattle.flow_defs.specs.Coded.{Coded, coded_by}
 use Rattle.unwinding_law.proofs.Lists.{here, nowhere}
 use Rattle.entry_rules.specs.declared.options.EntryOptions.{EntryOptions}
 use Rattle.command_base.specs.Dump.{IsAnswered}
-use Rattle.command_base.specs.Names.{HasNames, IsListsStop, StopsAtNames, names_unread, no_lists, no_names}
+use Rattle.command_base.specs.Names.{HasNames}
 use Rattle.command_base.specs.Outside.{Outside, Output}
 use Rattle.command_base.specs.Printing.{Concludes, Prints, fails, fault_stays, runs_out, whole}
 use Rattle.command_base.specs.Stop.{status_of}
-use Rattle.command_base.specs.declared.refusal.Refusal.TheVariants as refusal
 use Rattle.command_base.specs.declared.status.Status.{Status}
 use Rattle.command_base.specs.declared.status.Status.TheVariants.{Done, Warnings, Refused, Usage, FileFault, SinkFault, NoMemory}
 use Rattle.command_base.specs.declared.stop.CommandStop.{CommandStop}
-use Rattle.command_base.specs.declared.stop.CommandStop.TheVariants as stop
 use Rattle.command_base.proofs.ConcludeLemmas.{concluded_fault, concluded_no_warnings, concluded_not_done, concluded_sink_fault, printed_done, printed_fault, printed_sink_fault}
 use Rattle.command_base.proofs.DumpLaws.{no_memory_left, not_file_fault, not_sink_fault, not_warnings, one_object, read_fault, unread_left}
 use Rattle.command_base.specs.Code.{IsInOrder}
 use Rattle.objtool_cli.specs.Entry.{AreEntryWarnings, BreaksEntryRule, EndsEntry, InKeepsEntryRules, IsUnbroken, IsUncheckable, KeepsEntryRules, MayBeChecked, PrintsEntryWarnings, StopsEntry, done, malformed, no_memory, refused, stopped, unflowed, unlinked, unread, warned, without_names}
 use Rattle.command_base.specs.Refusing.{IsRefusedOrFails, IsWarnedOrFails, Tells}
-use Rattle.objtool_cli.specs.EntryRefused.{RefusesEntry, input_refused, input_unread, list_faulty, list_unread}
+use Rattle.objtool_cli.specs.Inputs.{input_refused, input_unread}
+use Rattle.objtool_cli.specs.EntryRefused.{RefusesEntry}
+use Rattle.objtool_cli.proofs.InputLemmas.{named_in, names_refuse, one_names, unrefused}
 use Rattle.command_base.proofs.Content.{held_is}
-use Rattle.command_base.proofs.Stops.{concluded_usage, done_not_refused, given_names, is_read, left, names_fault, names_left, names_no_usage, no_faulty_line, not_memory, of_stop, one_text, read_no_usage, readable, unreadable, whole_text}
+use Rattle.command_base.proofs.Stops.{concluded_usage, done_not_refused, is_read, left, names_fault, names_left, names_no_usage, not_memory, of_stop, one_text, read_no_usage, unreadable, warned_text, whole_text}
 use Rattle.objtool_cli.proofs.EntryUncheckable.{order_excluded}
 
 -- ---- statuses
@@ -58,31 +55,11 @@ warnings_no_sink_fault e = cc
 done_not_usage : Done ≢ Usage
 done_not_usage e = cc
 
--- what was to be printed before warnings are answered was printed whole
-told_whole : (text : List ℕ) (out out' : Output) (x : Status) → Prints Warnings text out out' x → x ≡ Warnings → out'.written ≡ appending out.written text
-told_whole text out out' x (whole at all) e = all
-told_whole text out out' FileFault (fault_stays prefix rose at) e = absurd (warnings_no_file_fault at)
-told_whole text out out' SinkFault (fails prefix rose other) e = absurd (warnings_no_sink_fault (sym e))
-told_whole text out out' NoMemory (runs_out prefix) e = let z : ⊥ = cc in absurd z
-
 printed_left : (text : List ℕ) (out out' : Output) (x : Status) → Prints Warnings text out out' x → IsWarnedOrFails x
 printed_left text out out' x (whole at all) = inl at
 printed_left text out out' FileFault (fault_stays prefix rose at) = inr (inl refl)
 printed_left text out out' SinkFault (fails prefix rose other) = inr (inr (inl refl))
 printed_left text out out' NoMemory (runs_out prefix) = inr (inr (inr refl))
-
--- ---- what is read of a name
-
-module _ (names : Option (List ℕ)) (held : Content) where
-  one_lists : (lists others : NameLists) → HasNames (Some held) names lists → HasNames (Some held) names others → lists ≡ others
-  one_lists lists others one other = by_name names refl one other
-    where
-      by_name : (given : Option (List ℕ)) → given ≡ names → HasNames (Some held) given lists → HasNames (Some held) given others → lists ≡ others
-      by_name None same a b = a ∙ sym b
-      by_name (Some file) same a b = a.are ∙ ap lists_with (one_text MAX_FILE_BYTES held file a.text b.text (sym a.may) (sym b.may)) ∙ sym b.are
-
-  pub named_in : (content : Option Content) (lists : NameLists) → content ≡ Some held → HasNames content names lists → HasNames (Some held) names lists
-  named_in content lists c h = subst (λ (k : Option Content). HasNames k names lists) c h
 
 -- ---- what it promises
 
@@ -119,7 +96,7 @@ entry_warned map options input names before after out out' x (warned o lists war
   may = may;
   are = are;
   some = some;
-  printed = told_whole _ out out' x t is;
+  printed = warned_text _ out out' x t is;
 }
 entry_warned map options input names before after out out' x (stopped s h t) is = absurd (concluded_no_warnings s out out' x t is)
 
@@ -132,7 +109,7 @@ same_object map input names read o p others held content c is of may =
     one_object read p o (subst (λ (b : List ℕ). IsObject b p) same may.is) of
 
 pub same_lists : (map : Map) (input : List ℕ) (names : Option (List ℕ)) (p : Elf) (lists others : NameLists) (held : Content) (content : Option Content) → content ≡ Some held → HasNames (Some held) names lists → MayBeChecked map content input names p others → others ≡ lists
-same_lists map input names p lists others held content c has may = one_lists names held others lists (named_in names held content others c may.is_read.named) has
+same_lists map input names p lists others held content c has may = one_names held names others lists (named_in names held content others c may.is_read.named) has
 
 -- where there are no warnings no rule is broken
 pub none_broken : (o : Coded) (lists : NameLists) (options : EntryOptions) (warnings : List Warning) → AreEntryWarnings o lists options warnings → warnings ≡ [] → IsUnbroken o lists options
@@ -176,44 +153,10 @@ entry_warns one map options input names read o lists held before after out out' 
 
 -- ---- where a step refuses
 
-faulty_line : (s : CommandStop) (map : Map) (input : List ℕ) (names : Option (List ℕ)) (held : Content) (read file text : List ℕ) → reading held input MAX_FILE_BYTES ≡ Ok read → names ≡ Some file → reading held file MAX_FILE_BYTES ≡ Ok text → IsListsStop text s → status_of s ≡ Refused → RefusesEntry map input names held s
-faulty_line (stop.Refused (refusal.Malformed fault)) map input names held read file text is given said h e = absurd h
-faulty_line (stop.Refused (refusal.Orc fault)) map input names held read file text is given said h e = absurd h
-faulty_line (stop.Refused (refusal.Lists (lists_fault.Line line why))) map input names held read file text is given said h e = list_faulty read file text is given said h
-faulty_line (stop.Refused (refusal.Lists lists_fault.NoMemory)) map input names held read file text is given said h e = absurd h
-faulty_line (stop.Refused (refusal.Image fault)) map input names held read file text is given said h e = absurd h
-faulty_line (stop.Refused (refusal.NoText sec)) map input names held read file text is given said h e = absurd h
-faulty_line (stop.Refused (refusal.Unplaced fault)) map input names held read file text is given said h e = absurd h
-faulty_line (stop.Refused (refusal.Unlinked told)) map input names held read file text is given said h e = absurd h
-faulty_line (stop.Refused (refusal.Unflowed told)) map input names held read file text is given said h e = absurd h
-faulty_line (stop.Refused (refusal.HasOrc sec)) map input names held read file text is given said h e = absurd h
-faulty_line (stop.Refused (refusal.HasSites sec)) map input names held read file text is given said h e = absurd h
-faulty_line (stop.Refused (refusal.Sites fault)) map input names held read file text is given said h e = absurd h
-faulty_line (stop.Refused (refusal.HasFrames sec)) map input names held read file text is given said h e = absurd h
-faulty_line (stop.Refused (refusal.Frames fault)) map input names held read file text is given said h e = absurd h
-faulty_line (stop.Refused (refusal.TooMany what count)) map input names held read file text is given said h e = absurd h
-faulty_line (stop.Refused (refusal.Layout fault)) map input names held read file text is given said h e = absurd h
-faulty_line (stop.Refused (refusal.TooManyFiles count)) map input names held read file text is given said h e = absurd h
-faulty_line (stop.Refused (refusal.Merge fault)) map input names held read file text is given said h e = absurd h
-faulty_line (stop.Refused (refusal.Table fault)) map input names held read file text is given said h e = absurd h
-faulty_line (stop.Refused (refusal.NoFunction function)) map input names held read file text is given said h e = absurd h
-faulty_line (stop.Usage usage) map input names held read file text is given said h e = absurd h
-faulty_line (stop.Missing told) map input names held read file text is given said h e = absurd h
-faulty_line (stop.TooLong told at) map input names held read file text is given said h e = absurd h
-faulty_line (stop.PartMissing part told) map input names held read file text is given said h e = absurd h
-faulty_line (stop.PartTooLong part told at) map input names held read file text is given said h e = absurd h
-faulty_line (stop.PartRefused part why) map input names held read file text is given said h e = absurd h
-faulty_line (stop.FileFault told) map input names held read file text is given said h e = absurd h
-faulty_line stop.NoMemory map input names held read file text is given said h e = absurd (not_memory stop.NoMemory e refl)
-
-names_refuse : (s : CommandStop) (map : Map) (input : List ℕ) (names : Option (List ℕ)) (held : Content) (read : List ℕ) (before after : Outside) → before.content ≡ Some held → reading held input MAX_FILE_BYTES ≡ Ok read → StopsAtNames names before after s → status_of s ≡ Refused → RefusesEntry map input names held s
-names_refuse s map input names held read before after c is (names_unread file given h) e = list_unread read file is given (unreadable MAX_FILE_BYTES s file held before after c h e)
-names_refuse s map input names held read before after c is (no_names file text given may h) e = faulty_line s map input names held read file text is given (is_read MAX_FILE_BYTES file text held before.content c may) h e
-names_refuse stop.NoMemory map input names held read before after c is no_lists e = absurd (not_memory stop.NoMemory e refl)
-
 pub entry_refuse : (s : CommandStop) (map : Map) (input : List ℕ) (names : Option (List ℕ)) (held : Content) (before after : Outside) → before.content ≡ Some held → StopsEntry map input names before after s → status_of s ≡ Refused → RefusesEntry map input names held s
 entry_refuse s map input names held before after c (unread h) e = input_unread (unreadable MAX_FILE_BYTES s input held before after c h e)
-entry_refuse s map input names held before after c (without_names read may h) e = names_refuse s map input names held read before after c (is_read MAX_FILE_BYTES input read held before.content c may) h e
+entry_refuse s map input names held before after c (without_names read may h) e =
+    names_refuse (λ b l t. IsUncheckable map b t) s input names held read before after c may h e
 entry_refuse s map input names held before after c (refused read lists was h) e =
     input_refused read lists (is_read MAX_FILE_BYTES input read held before.content c was.may) (named_in names held before.content lists c was.named) h (not_memory s e)
 
@@ -224,20 +167,10 @@ entry_told map options input names held before after out out' x c (stopped s h t
     of_stop (RefusesEntry map input names held) s out out' x t is (λ at. entry_refuse s map input names held before after c h at)
 
 -- bytes of an object in order are refused by no step
-unrefused : OneOutcome → (s : CommandStop) (map : Map) (input : List ℕ) (names : Option (List ℕ)) (held : Content) (read : List ℕ) (o : Elf) (lists : NameLists) → reading held input MAX_FILE_BYTES ≡ Ok read → HasNames (Some held) names lists → IsObject read o → IsInOrder (coded_by map o) → RefusesEntry map input names held s → ⊥
-unrefused one s map input names held read o lists is has of order (input_unread h) = readable MAX_FILE_BYTES s held input read h is
-unrefused one s map input names held read o lists is has of order (list_unread other file was given h) =
-    let names_are = given_names held names file lists given has in
-    readable MAX_FILE_BYTES s held file names_are.text h (sym names_are.may)
-unrefused one s map input names held read o lists is has of order (list_faulty other file text was given said fault) =
-    let names_are = given_names held names file lists given has in
-    no_faulty_line text _ _ (subst IsNamesFile (one_text MAX_FILE_BYTES held file names_are.text text (sym names_are.may) said) names_are.right) fault
-unrefused one s map input names held read o lists is has of order (input_refused other others was had h some) =
-    some (order_excluded one s map read o of order (subst (λ (b : List ℕ). IsUncheckable map b s) (one_text MAX_FILE_BYTES held input other read was is) h))
-
 pub unrefused_in : OneOutcome → (s : CommandStop) (map : Map) (input : List ℕ) (names : Option (List ℕ)) (held : Content) (o : Elf) (lists : NameLists) (content : Option Content) → content ≡ Some held → MayBeChecked map content input names o lists → RefusesEntry map input names held s → ⊥
 unrefused_in one s map input names held o lists content c may why =
-    unrefused one s map input names held may.read o lists (is_read MAX_FILE_BYTES input may.read held content c may.is_read.may) (named_in names held content lists c may.is_read.named) may.is may.in_order why
+    unrefused (λ b l t. IsUncheckable map b t) s input names held may.read lists (is_read MAX_FILE_BYTES input may.read held content c may.is_read.may) (named_in names held content lists c may.is_read.named)
+    (λ t no. order_excluded one t map may.read o may.is may.in_order no) why
 
 unchecked_no_usage : (s : CommandStop) (map : Map) (bytes : List ℕ) → IsUncheckable map bytes s → status_of s ≢ Usage
 unchecked_no_usage s map bytes (malformed fault) e = cc

@@ -10,7 +10,9 @@ pub mod DemoBytes
 pub mod DemoEnds
 pub mod DemoWords
 pub mod FaultEnds
+pub mod InputLemmas
 pub mod LaterLemmas
+pub mod NoFault
 pub mod ParseLemmas
 pub mod PlacementLemmas
 pub mod ReadBackEnds
@@ -36,7 +38,6 @@ mod FramesGets
 mod FramesEnds
 pub mod CfiLaws
 pub mod CfaLaws
-mod RuleLines
 mod OneRule
 mod Begun
 mod LastRule
@@ -59,7 +60,6 @@ pub mod FoundLemmas
 mod PlaceOrder
 mod SpotLemmas
 mod HolderLemmas
-mod PartLemmas
 mod CaseLemmas
 mod PrintingLemmas
 mod NumberLemmas

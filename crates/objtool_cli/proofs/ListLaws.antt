@@ -1,11 +1,10 @@
 -- What follows from how `list` ends.
-use Rattle.std.proofs.Common.{◌≡◌, ℕ, List, refl, sym, ◌∙◌, subst, inl, inr}
+use Rattle.std.proofs.Common.{◌≡◌, ℕ, List, refl, ◌∙◌, subst}
 use Rattle.std.specs.Prelude.{◌≢◌, Option, Some, Ok}
 use Rattle.ot_files.specs.Causes.{Rose}
 use Rattle.ot_files.specs.Content.{Content, reading}
 use Rattle.elf_objects.specs.declared.TheConstants.{MAX_FILE_BYTES}
 use Rattle.elf_objects.specs.declared.fault.ElfFault.{ElfFault}
-use Rattle.elf_objects.specs.declared.fault.ElfFault.TheVariants as elf
 use Rattle.elf_objects.specs.Elf.{Elf}
 use Rattle.elf_objects.specs.Object as object
 use Rattle.elf_objects.specs.Object.{IsObject}
@@ -25,39 +24,22 @@ use Rattle.command_base.specs.declared.status.Status.TheVariants.{Done, Warnings
 use Rattle.command_base.specs.declared.stop.CommandStop.{CommandStop}
 use Rattle.command_base.specs.declared.stop.CommandStop.TheVariants as stop
 use Rattle.command_base.proofs.ConcludeLemmas.{concluded_fault, concluded_no_warnings, concluded_not_done, concluded_sink_fault, printed_fault, printed_sink_fault, printed_warnings}
-use Rattle.command_base.proofs.DumpLaws.{no_memory_left, not_file_fault, not_sink_fault, not_warnings, printed_done, read_fault, same_read, text_left, told_read, unread_left}
+use Rattle.command_base.proofs.DumpLaws.{no_memory_left, not_file_fault, not_sink_fault, not_warnings, one_object, printed_done, read_fault, same_read, text_left, told_read, unread_left}
+use Rattle.command_base.proofs.FaultStops.{fault_of, of_parse}
 use Rattle.objtool_cli.specs.List.{EndsList, HoldsLists, HoldsNoLists, IsListed, ListsBytes, lists_text, malformed, no_lists, no_memory, printed, read, stopped, unread}
 use Rattle.command_base.specs.Refusing.{IsRefusedOrFails, Tells}
 use Rattle.objtool_cli.specs.SitesRefused.{RefusesList, object_unread, without_lists}
-use Rattle.objtool_cli.proofs.SitesGets.{one_object}
 use Rattle.command_base.proofs.Stops.{concluded_usage, done_no_usage, done_not_refused, is_read, left, not_memory, of_stop, one_text, read_no_usage, readable, unreadable, whole_text}
 
 -- ---- from the faults of those who read FILE
 
-object_fault : (bytes : List ℕ) (e : ElfFault) → object.Refuses (object.FirstFault bytes) e → e ≢ elf.NoMemory → object.FirstFault bytes e
-object_fault bytes e (inl none) other = absurd (other none)
-object_fault bytes e (inr fault) other = fault
-
 pub no_object : (bytes : List ℕ) (e : ElfFault) → object.Refuses (object.FirstFault bytes) e → HoldsNoLists bytes (parse_stop e)
-no_object bytes (elf.Short need have) h = malformed (object_fault bytes _ h (λ x. cc))
-no_object bytes (elf.NotElfRel64 at) h = malformed (object_fault bytes _ h (λ x. cc))
-no_object bytes (elf.BadTable sec) h = malformed (object_fault bytes _ h (λ x. cc))
-no_object bytes (elf.BadRange sec) h = malformed (object_fault bytes _ h (λ x. cc))
-no_object bytes (elf.BadName what index) h = malformed (object_fault bytes _ h (λ x. cc))
-no_object bytes (elf.BadLink sec) h = malformed (object_fault bytes _ h (λ x. cc))
-no_object bytes (elf.BadSymbol sym) h = malformed (object_fault bytes _ h (λ x. cc))
-no_object bytes (elf.BadReloc sec index) h = malformed (object_fault bytes _ h (λ x. cc))
-no_object bytes (elf.TooMany what count) h = malformed (object_fault bytes _ h (λ x. cc))
-no_object bytes elf.NoMemory h = no_memory
-
-lists_fault : (o : Elf) (e : SitesFault) → sites.Refuses o e → e ≢ sites_fault.NoMemory → sites.FirstFault o e
-lists_fault o e (inl none) other = absurd (other none)
-lists_fault o e (inr fault) other = fault
+no_object bytes e h = of_parse (HoldsNoLists bytes) bytes e (λ first fault. malformed fault) no_memory h
 
 pub no_lists_held : (bytes : List ℕ) (o : Elf) (e : SitesFault) → IsObject bytes o → sites.Refuses o e → HoldsNoLists bytes (sites_stop e)
-no_lists_held bytes o (sites_fault.NoSection which) is h = no_lists o is (lists_fault o _ h (λ x. cc))
-no_lists_held bytes o (sites_fault.BadLength which len) is h = no_lists o is (lists_fault o _ h (λ x. cc))
-no_lists_held bytes o (sites_fault.BadSlot which slot why) is h = no_lists o is (lists_fault o _ h (λ x. cc))
+no_lists_held bytes o (sites_fault.NoSection which) is h = no_lists o is (fault_of h (λ x. cc))
+no_lists_held bytes o (sites_fault.BadLength which len) is h = no_lists o is (fault_of h (λ x. cc))
+no_lists_held bytes o (sites_fault.BadSlot which slot why) is h = no_lists o is (fault_of h (λ x. cc))
 no_lists_held bytes o sites_fault.NoMemory is h = no_memory
 
 -- what is told of the bytes that were read

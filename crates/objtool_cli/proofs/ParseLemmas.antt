@@ -1,35 +1,20 @@
 -- Why bytes can't be checked, and are refused.
-use Rattle.std.proofs.Common.{ℕ, List, inl, inr}
-use Rattle.std.specs.Prelude.{◌≢◌}
+use Rattle.std.proofs.Common.{ℕ, List}
 use Rattle.ot_base.specs.NameLists.{NameLists}
 use Rattle.cli_words.specs.declared.options.CheckOptions.{CheckOptions}
 use Rattle.elf_objects.specs.Elf.{Elf}
 use Rattle.elf_objects.specs.Object.{FirstFault, IsObject, Refuses}
 use Rattle.elf_objects.specs.declared.fault.ElfFault.{ElfFault}
-use Rattle.elf_objects.specs.declared.fault.ElfFault.TheVariants.{Short, NotElfRel64, BadTable, BadRange, BadName, BadLink, BadSymbol, BadReloc, TooMany, NoMemory}
 use Rattle.x86_map.specs.declared.map.Map.{Map}
 use Rattle.flow_defs.specs.Coded.{coded_by}
 use Rattle.command_base.specs.declared.stop.CommandStop.{CommandStop}
 use Rattle.command_base.specs.declared.stop.CommandStop.TheVariants as stop
 use Rattle.command_base.specs.Reading.{parse_stop}
+use Rattle.command_base.proofs.FaultStops.{of_parse}
 use Rattle.objtool_cli.specs.Checked.{IsRefusal, IsUnchecked, IsUncheckableStop, malformed, uncheckable, unchecked}
 
--- a refusal is a fault where it isn't want of memory
-fault_of : (bytes : List ℕ) (e : ElfFault) → Refuses (FirstFault bytes) e → e ≢ NoMemory → FirstFault bytes e
-fault_of bytes e (inl none) other = absurd (other none)
-fault_of bytes e (inr fault) other = fault
-
 pub parse_uncheckable : (map : Map) (bytes : List ℕ) (e : ElfFault) → Refuses (FirstFault bytes) e → IsUncheckableStop map bytes (parse_stop e)
-parse_uncheckable map bytes (Short need have) h = malformed (fault_of bytes _ h (λ x. cc))
-parse_uncheckable map bytes (NotElfRel64 at) h = malformed (fault_of bytes _ h (λ x. cc))
-parse_uncheckable map bytes (BadTable sec) h = malformed (fault_of bytes _ h (λ x. cc))
-parse_uncheckable map bytes (BadRange sec) h = malformed (fault_of bytes _ h (λ x. cc))
-parse_uncheckable map bytes (BadName what index) h = malformed (fault_of bytes _ h (λ x. cc))
-parse_uncheckable map bytes (BadLink sec) h = malformed (fault_of bytes _ h (λ x. cc))
-parse_uncheckable map bytes (BadSymbol sym) h = malformed (fault_of bytes _ h (λ x. cc))
-parse_uncheckable map bytes (BadReloc sec index) h = malformed (fault_of bytes _ h (λ x. cc))
-parse_uncheckable map bytes (TooMany what count) h = malformed (fault_of bytes _ h (λ x. cc))
-parse_uncheckable map bytes NoMemory h = tt
+parse_uncheckable map bytes e h = of_parse (IsUncheckableStop map bytes) bytes e (λ first fault. malformed fault) tt h
 
 -- what is told of an object that isn't checked is why its bytes can't be
 pub check_uncheckable : (map : Map) (bytes : List ℕ) (o : Elf) (s : CommandStop) → IsObject bytes o → IsUnchecked (coded_by map o) s → IsUncheckableStop map bytes s

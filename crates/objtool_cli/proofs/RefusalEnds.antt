@@ -1,18 +1,14 @@
 -- A command ends with a refusal exactly where a step refuses it, and prints the line of one that does.
-use Rattle.std.proofs.Common.{◌≡◌, ℕ, List, sym, subst, inl, inr}
+use Rattle.std.proofs.Common.{◌≡◌, ℕ, List, subst, inl, inr}
 use Rattle.std.specs.Prelude.{◌≢◌, Option, Some, Ok}
-use Rattle.ot_base.specs.NameLists.{NameLists}
-use Rattle.ot_base.specs.NamesFile.{IsNamesFile}
-use Rattle.ot_base.specs.declared.lists.ListsFault.TheVariants as lists_fault
 use Rattle.ot_files.specs.Content.{Content, reading}
 use Rattle.cli_words.specs.Grammar.{Command, cfa, cfi, check, demo, dump, entry, explain, find, help, list, merge, show, sites, unwind, version}
 use Rattle.cli_words.specs.declared.options.CheckOptions.{CheckOptions}
 use Rattle.elf_objects.specs.declared.TheConstants.{MAX_FILE_BYTES}
 use Rattle.x86_decode.specs.Decoding.{OneOutcome}
 use Rattle.command_base.specs.declared.reading.TheConstants.{MAX_IMAGE_BYTES}
-use Rattle.command_base.specs.declared.refusal.Refusal.TheVariants as refusal
 use Rattle.command_base.specs.declared.status.Status.{Status}
-use Rattle.command_base.specs.declared.status.Status.TheVariants.{Done, Warnings, Refused, Usage, FileFault, NoMemory}
+use Rattle.command_base.specs.declared.status.Status.TheVariants.{Done, Warnings, Refused, Usage}
 use Rattle.command_base.specs.declared.stop.CommandStop.{CommandStop}
 use Rattle.command_base.specs.declared.stop.CommandStop.TheVariants as stop
 use Rattle.command_base.specs.Dump.{Dumps, EndsDump, HoldsRows, IsDumped, printed, read as file_read, stopped as dump_stopped, unread as file_unread}
@@ -21,13 +17,13 @@ use Rattle.command_base.specs.Stop.{status_of, usage_at}
 use Rattle.command_base.specs.Unwind.{EndsUnwind, IsPlaced, IsUnwound, Unwinds, no_file, no_text, read as files_read, stopped as unwind_stopped, walked}
 use Rattle.command_base.proofs.ConcludeLemmas.{concluded_no_memory, concluded_no_warnings, concluded_not_done, printed_done}
 use Rattle.command_base.proofs.DumpLaws.{dump_no_warnings, dumped as file_dumped, no_rows_excluded}
-use Rattle.command_base.proofs.Stops.{done_not_refused, given_names, is_read, left, memory_not_refused, no_faulty_line, not_memory, of_stop, one_text, readable, unreadable, whole_line, whole_text, write_not_refused}
+use Rattle.command_base.proofs.Stops.{done_not_refused, is_read, left, memory_not_refused, not_memory, of_stop, one_text, readable, unreadable, whole_line, whole_text, write_not_refused}
 use Rattle.command_base.proofs.UnwindLaws.{unwind_no_warnings, unwound as files_unwound, walk_excluded}
-use Rattle.objtool_cli.specs.Checked.{IsRefusal, Refuses}
+use Rattle.objtool_cli.specs.Checked.{IsRefusal}
 use Rattle.objtool_cli.specs.Command.{Ends, EndsAs, EndsCheck, Stops, done, ended, faulty, refused, stopped, unfinished, unread, unwritten, warned, without_names}
-use Rattle.command_base.specs.Names.{HasNames, IsListsStop, StopsAtNames, names_unread, no_lists, no_names}
 use Rattle.command_base.specs.Refusing.{IsRefusedOrFails, Tells}
-use Rattle.objtool_cli.specs.Refused.{IsRefused, RefusesAs, RefusesCheck, RefusesDemo, RefusesDump, RefusesUnwind, TellsRefusal, image_unread, input_refused, input_unread, list_faulty, list_unread, object_unread, tables_unread, without_rows, without_walk}
+use Rattle.objtool_cli.specs.Inputs.{input_refused, input_unread}
+use Rattle.objtool_cli.specs.Refused.{IsRefused, RefusesAs, RefusesCheck, RefusesDemo, RefusesDump, RefusesUnwind, TellsRefusal, image_unread, object_unread, tables_unread, without_rows, without_walk}
 use Rattle.objtool_cli.specs.Summary.{IsOrFails, SumsUp, demo_bytes, demo_title}
 use Rattle.objtool_cli.specs.Words.{Meaning, entry_options}
 use Rattle.objtool_cli.proofs.EntryLaws.{entry_refused, entry_told}
@@ -38,7 +34,8 @@ use Rattle.objtool_cli.proofs.CfiLaws.{cfi_refused, cfi_told}
 use Rattle.objtool_cli.proofs.MergeLaws.{merge_refused, merge_told}
 use Rattle.objtool_cli.proofs.FindLaws.{find_refused, find_told}
 use Rattle.objtool_cli.proofs.ShowLaws.{show_refused, show_told}
-use Rattle.objtool_cli.proofs.AcceptsLemmas.{IsUnrefused, accepted_unrefused, broken_unrefused, same_names, warns_breaks}
+use Rattle.objtool_cli.proofs.AcceptsLemmas.{accepted_unrefused, broken_unrefused, refused_memory, warns_breaks}
+use Rattle.objtool_cli.proofs.InputLemmas.{named_in, names_refuse, unrefused}
 use Rattle.objtool_cli.proofs.SameCommand.{ends_as}
 use Rattle.objtool_cli.proofs.StatusLemmas.{done_no_warnings, warnings_not_done}
 use Rattle.objtool_cli.proofs.SummaryEnds.{sums_refused}
@@ -55,57 +52,12 @@ usage_not_refused e = cc
 
 -- ---- each step that refuses
 
-faulty_line : (s : CommandStop) (input : List ℕ) (options : CheckOptions) (names : Option (List ℕ)) (held : Content) (read file text : List ℕ) → reading held input MAX_FILE_BYTES ≡ Ok read → names ≡ Some file → reading held file MAX_FILE_BYTES ≡ Ok text → IsListsStop text s → status_of s ≡ Refused → RefusesCheck input options names held s
-faulty_line (stop.Refused (refusal.Lists (lists_fault.Line line why))) input options names held read file text is given said h e = list_faulty read file text is given said h
-faulty_line (stop.Refused (refusal.Lists lists_fault.NoMemory)) input options names held read file text is given said h e = absurd h
-faulty_line (stop.Refused (refusal.Malformed fault)) input options names held read file text is given said h e = absurd h
-faulty_line (stop.Refused (refusal.Orc fault)) input options names held read file text is given said h e = absurd h
-faulty_line (stop.Refused (refusal.Image fault)) input options names held read file text is given said h e = absurd h
-faulty_line (stop.Refused (refusal.NoText sec)) input options names held read file text is given said h e = absurd h
-faulty_line (stop.Refused (refusal.Unplaced fault)) input options names held read file text is given said h e = absurd h
-faulty_line (stop.Refused (refusal.Unlinked told)) input options names held read file text is given said h e = absurd h
-faulty_line (stop.Refused (refusal.Unflowed told)) input options names held read file text is given said h e = absurd h
-faulty_line (stop.Refused (refusal.HasOrc sec)) input options names held read file text is given said h e = absurd h
-faulty_line (stop.Refused (refusal.HasSites sec)) input options names held read file text is given said h e = absurd h
-faulty_line (stop.Refused (refusal.Sites why)) input options names held read file text is given said h e = absurd h
-faulty_line (stop.Refused (refusal.HasFrames sec)) input options names held read file text is given said h e = absurd h
-faulty_line (stop.Refused (refusal.Frames why)) input options names held read file text is given said h e = absurd h
-faulty_line (stop.Refused (refusal.Layout why)) input options names held read file text is given said h e = absurd h
-faulty_line (stop.Refused (refusal.TooManyFiles count)) input options names held read file text is given said h e = absurd h
-faulty_line (stop.Refused (refusal.Merge why)) input options names held read file text is given said h e = absurd h
-faulty_line (stop.Refused (refusal.Table why)) input options names held read file text is given said h e = absurd h
-faulty_line (stop.Refused (refusal.NoFunction function)) input options names held read file text is given said h e = absurd h
-faulty_line (stop.Refused (refusal.TooMany what count)) input options names held read file text is given said h e = absurd h
-faulty_line stop.NoMemory input options names held read file text is given said h e = absurd (memory_not_refused e)
-faulty_line (stop.Usage usage) input options names held read file text is given said h e = absurd h
-faulty_line (stop.PartMissing part told_file) input options names held read file text is given said h e = absurd h
-faulty_line (stop.PartTooLong part told_file limit) input options names held read file text is given said h e = absurd h
-faulty_line (stop.PartRefused part refusal) input options names held read file text is given said h e = absurd h
-faulty_line (stop.Missing told) input options names held read file text is given said h e = absurd h
-faulty_line (stop.TooLong told limit) input options names held read file text is given said h e = absurd h
-faulty_line (stop.FileFault told) input options names held read file text is given said h e = absurd h
-
-names_refuse : (s : CommandStop) (input : List ℕ) (options : CheckOptions) (names : Option (List ℕ)) (held : Content) (read : List ℕ) (before after : Outside) → before.content ≡ Some held → reading held input MAX_FILE_BYTES ≡ Ok read → StopsAtNames names before after s → status_of s ≡ Refused → RefusesCheck input options names held s
-names_refuse s input options names held read before after c is (names_unread file given h) e = list_unread read file is given (unreadable MAX_FILE_BYTES s file held before after c h e)
-names_refuse s input options names held read before after c is (no_names file text given may h) e = faulty_line s input options names held read file text is given (is_read MAX_FILE_BYTES file text held before.content c may) h e
-names_refuse stop.NoMemory input options names held read before after c is no_lists e = absurd (memory_not_refused e)
-
-bytes_refuse : (s : CommandStop) (input : List ℕ) (options : CheckOptions) (names : Option (List ℕ)) (held : Content) (read : List ℕ) (lists : NameLists) → reading held input MAX_FILE_BYTES ≡ Ok read → HasNames (Some held) names lists → IsRefusal read lists options s → status_of s ≡ Refused → RefusesCheck input options names held s
-bytes_refuse (stop.Refused why) input options names held read lists is has h e = input_refused read lists is has h
-bytes_refuse stop.NoMemory input options names held read lists is has h e = absurd (memory_not_refused e)
-bytes_refuse (stop.Usage usage) input options names held read lists is has h e = absurd h
-bytes_refuse (stop.PartMissing part file) input options names held read lists is has h e = absurd h
-bytes_refuse (stop.PartTooLong part file limit) input options names held read lists is has h e = absurd h
-bytes_refuse (stop.PartRefused part refusal) input options names held read lists is has h e = absurd h
-bytes_refuse (stop.Missing told) input options names held read lists is has h e = absurd h
-bytes_refuse (stop.TooLong told limit) input options names held read lists is has h e = absurd h
-bytes_refuse (stop.FileFault told) input options names held read lists is has h e = absurd h
-
 check_refuses : (s : CommandStop) (input output : List ℕ) (options : CheckOptions) (names : Option (List ℕ)) (held : Content) (before after : Outside) → before.content ≡ Some held → Stops input output options names before after s → status_of s ≡ Refused → RefusesCheck input options names held s
 check_refuses s input output options names held before after c (unread h kept) e = input_unread (unreadable MAX_FILE_BYTES s input held before after c h e)
-check_refuses s input output options names held before after c (without_names read may h kept) e = names_refuse s input options names held read before after c (is_read MAX_FILE_BYTES input read held before.content c may) h e
+check_refuses s input output options names held before after c (without_names read may h kept) e =
+    names_refuse (λ b l t. IsRefusal b l options t) s input names held read before after c may h e
 check_refuses s input output options names held before after c (refused read lists is h kept) e =
-    bytes_refuse s input options names held read lists (is_read MAX_FILE_BYTES input read held before.content c is.may) (subst (λ (content : Option Content). HasNames content names lists) c is.named) h e
+    input_refused read lists (is_read MAX_FILE_BYTES input read held before.content c is.may) (named_in names held before.content lists c is.named) h (not_memory s e)
 check_refuses s input output options names held before after c (unwritten table accepted h others) e = absurd (write_not_refused s output before after h e)
 
 -- ---- the line that is printed
@@ -165,30 +117,18 @@ refusal_told meaning held before after out out' x (ended command is h) e c = by 
 
 -- ---- what is refused isn't done, nor warned of
 
-unrefused : (s : CommandStop) (input : List ℕ) (options : CheckOptions) (names : Option (List ℕ)) (held : Content) (read : List ℕ) (lists : NameLists) → reading held input MAX_FILE_BYTES ≡ Ok read → HasNames (Some held) names lists → IsUnrefused read lists options → RefusesCheck input options names held s → ⊥
-unrefused s input options names held read lists is has never (input_unread h) = readable MAX_FILE_BYTES s held input read h is
-unrefused s input options names held read lists is has never (list_unread other file was given h) =
-    let names_are = given_names held names file lists given has in
-    readable MAX_FILE_BYTES s held file names_are.text h (sym names_are.may)
-unrefused s input options names held read lists is has never (list_faulty other file text was given said fault) =
-    let names_are = given_names held names file lists given has in
-    no_faulty_line text _ _ (subst IsNamesFile (one_text MAX_FILE_BYTES held file names_are.text text (sym names_are.may) said) names_are.right) fault
-unrefused s input options names held read lists is has never (input_refused {refusal = told} other others was had h) =
-    never told (subst (λ (l : NameLists). Refuses read l options told) (same_names held names others lists had has)
-    (subst (λ (b : List ℕ). Refuses b others options told) (one_text MAX_FILE_BYTES held input other read was is) h))
-
 check_not_done : OneOutcome → (s : CommandStop) (input output : List ℕ) (options : CheckOptions) (names : Option (List ℕ)) (held : Content) (before after : Outside) (out out' : Output) (x : Status) → before.content ≡ Some held → RefusesCheck input options names held s → EndsCheck input output options names before after out out' x → x ≢ Done
 check_not_done one s input output options names held before after out out' Done c why (done d same) e =
-    unrefused s input options names held d.accepted.read d.accepted.lists (is_read MAX_FILE_BYTES input d.accepted.read held before.content c d.accepted.is_read.may) (subst (λ (content : Option Content). HasNames content names d.accepted.lists) c d.accepted.is_read.named)
-    (accepted_unrefused one d.accepted.read d.table d.accepted.lists options d.accepted.accepts) why
+    unrefused (λ b l t. IsRefusal b l options t) s input names held d.accepted.read d.accepted.lists (is_read MAX_FILE_BYTES input d.accepted.read held before.content c d.accepted.is_read.may) (named_in names held before.content d.accepted.lists c d.accepted.is_read.named)
+    (λ t no. refused_memory t d.accepted.read d.accepted.lists options (accepted_unrefused one d.accepted.read d.table d.accepted.lists options d.accepted.accepts) no) why
 check_not_done one s input output options names held before after out out' x c why (warned o warnings is kept t) e = warnings_not_done (printed_done Warnings _ out out' x t e)
 check_not_done one s input output options names held before after out out' x c why (stopped told h t) e = concluded_not_done told out out' x t e
 
 check_not_warned : OneOutcome → (s : CommandStop) (input output : List ℕ) (options : CheckOptions) (names : Option (List ℕ)) (held : Content) (before after : Outside) (out out' : Output) (x : Status) → before.content ≡ Some held → RefusesCheck input options names held s → EndsCheck input output options names before after out out' x → x ≢ Warnings
 check_not_warned one s input output options names held before after out out' Done c why (done d same) e = done_no_warnings e
 check_not_warned one s input output options names held before after out out' x c why (warned o warnings is kept t) e =
-    unrefused s input options names held is.read is.lists (is_read MAX_FILE_BYTES input is.read held before.content c is.is_read.may) (subst (λ (content : Option Content). HasNames content names is.lists) c is.is_read.named)
-    (broken_unrefused one is.read is.lists options (warns_breaks is.read is.lists options o warnings is.warns)) why
+    unrefused (λ b l t. IsRefusal b l options t) s input names held is.read is.lists (is_read MAX_FILE_BYTES input is.read held before.content c is.is_read.may) (named_in names held before.content is.lists c is.is_read.named)
+    (λ t no. refused_memory t is.read is.lists options (broken_unrefused one is.read is.lists options (warns_breaks is.read is.lists options o warnings is.warns)) no) why
 check_not_warned one s input output options names held before after out out' x c why (stopped told h t) e = concluded_no_warnings told out out' x t e
 
 dump_not_done : (s : CommandStop) (file : List ℕ) (held : Content) (content : Option Content) (before after : Option (List ℕ)) → content ≡ Some held → RefusesDump file held s → IsDumped file content before after → ⊥

@@ -32,7 +32,8 @@ use Rattle.objtool_cli.specs.Entry.{MayBeChecked}
 use Rattle.objtool_cli.specs.Show.{EndsShow, HasCode, HasFunction, IsNoFunction, MayBeShown, PrintsListing, StopsShow, no_function, shown, stopped, unchecked}
 use Rattle.objtool_cli.specs.ShowRefused as refused
 use Rattle.objtool_cli.specs.ShowRefused.{RefusesShow}
-use Rattle.objtool_cli.proofs.EntryLaws.{entry_refuse, named_in, same_lists, same_object, stop_fault, stop_left, stop_no_usage, unrefused_in}
+use Rattle.objtool_cli.proofs.InputLemmas.{named_in}
+use Rattle.objtool_cli.proofs.EntryLaws.{entry_refuse, same_lists, same_object, stop_fault, stop_left, stop_no_usage, unrefused_in}
 
 -- ---- a function that isn't there
 

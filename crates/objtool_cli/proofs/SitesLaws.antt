@@ -3,8 +3,6 @@ use Rattle.std.proofs.Common.{◌≡◌, ℕ, List, refl, sym, ap, subst, inl, i
 use Rattle.std.specs.Prelude.{◌≢◌, ◌⊎◌, Option, Some, None, Ok}
 use Rattle.std.specs.FinMap.{get}
 use Rattle.ot_base.specs.NameLists.{NameLists}
-use Rattle.ot_base.specs.NamesFile.{IsNamesFile}
-use Rattle.ot_base.specs.declared.lists.ListsFault.TheVariants as lists_fault
 use Rattle.ot_files.specs.Causes.{Rose}
 use Rattle.ot_files.specs.Content.{Content, reading, writing}
 use Rattle.elf_objects.specs.declared.TheConstants.{MAX_FILE_BYTES}
@@ -14,24 +12,24 @@ use Rattle.x86_decode.specs.Decoding.{OneOutcome}
 use Rattle.x86_map.specs.declared.map.Map.{Map}
 use Rattle.flow_defs.specs.Coded.{coded_by}
 use Rattle.command_base.specs.Dump.{IsAnswered}
-use Rattle.command_base.specs.Names.{HasNames, IsListsStop, StopsAtNames, names_unread, no_lists, no_names}
+use Rattle.command_base.specs.Names.{HasNames}
 use Rattle.command_base.specs.Outside.{Outside, Output}
 use Rattle.command_base.specs.Printing.{Concludes}
 use Rattle.command_base.specs.Stop.{status_of}
-use Rattle.command_base.specs.declared.refusal.Refusal.TheVariants as refusal
 use Rattle.command_base.specs.declared.status.Status.{Status}
 use Rattle.command_base.specs.declared.status.Status.TheVariants.{Done, Warnings, Refused, Usage, FileFault, SinkFault, NoMemory}
 use Rattle.command_base.specs.declared.stop.CommandStop.{CommandStop}
-use Rattle.command_base.specs.declared.stop.CommandStop.TheVariants as stop
 use Rattle.command_base.proofs.ConcludeLemmas.{concluded_fault, concluded_no_warnings, concluded_not_done, concluded_sink_fault}
 use Rattle.command_base.proofs.DumpLaws.{fault_left, no_memory_left, read_fault, unread_left}
 use Rattle.objtool_cli.specs.SitesOrder.{GetsSites}
 use Rattle.command_base.specs.Refusing.{IsRefusedOrFails, Tells}
-use Rattle.objtool_cli.specs.SitesRefused.{RefusesSites, input_refused, input_unread, list_faulty, list_unread}
+use Rattle.objtool_cli.specs.Inputs.{input_refused, input_unread}
+use Rattle.objtool_cli.specs.SitesRefused.{RefusesSites}
+use Rattle.objtool_cli.proofs.InputLemmas.{named_in, names_refuse, unrefused}
 use Rattle.objtool_cli.specs.Sites.{EndsSites, GetNoSites, MayGetSites, OutListsSites, SitesMayChange, StopsSites, done, has_sites, malformed, no_memory, refused, stopped, too_many_sections, too_many_symbols, unflowed, unlinked, unread, unwritten, without_names}
 use Rattle.command_base.proofs.Content.{get-insert_same, held_is, written_others}
 use Rattle.objtool_cli.proofs.SitesGets.{gets_excluded}
-use Rattle.command_base.proofs.Stops.{concluded_usage, done_not_refused, given_names, is_read, left, names_fault, names_left, names_no_usage, neither, no_faulty_line, not_memory, of_stop, one_text, read_no_usage, readable, unreadable, write_fault, write_no_usage, write_not_refused, write_told}
+use Rattle.command_base.proofs.Stops.{concluded_usage, done_not_refused, is_read, left, names_fault, names_left, names_no_usage, neither, not_memory, of_stop, one_text, read_no_usage, unreadable, write_fault, write_no_usage, write_not_refused, write_told}
 
 -- ---- what it leaves
 
@@ -95,46 +93,12 @@ sites_left one map input output names read o lists held before after out out' x 
 
 -- ---- where a step refuses
 
-faulty_line : (s : CommandStop) (map : Map) (input : List ℕ) (names : Option (List ℕ)) (held : Content) (read file text : List ℕ) → reading held input MAX_FILE_BYTES ≡ Ok read → names ≡ Some file → reading held file MAX_FILE_BYTES ≡ Ok text → IsListsStop text s → status_of s ≡ Refused → RefusesSites map input names held s
-faulty_line (stop.Refused (refusal.Malformed fault)) map input names held read file text is given said h e = absurd h
-faulty_line (stop.Refused (refusal.Orc fault)) map input names held read file text is given said h e = absurd h
-faulty_line (stop.Refused (refusal.Lists (lists_fault.Line line why))) map input names held read file text is given said h e = list_faulty read file text is given said h
-faulty_line (stop.Refused (refusal.Lists lists_fault.NoMemory)) map input names held read file text is given said h e = absurd h
-faulty_line (stop.Refused (refusal.Image fault)) map input names held read file text is given said h e = absurd h
-faulty_line (stop.Refused (refusal.NoText sec)) map input names held read file text is given said h e = absurd h
-faulty_line (stop.Refused (refusal.Unplaced fault)) map input names held read file text is given said h e = absurd h
-faulty_line (stop.Refused (refusal.Unlinked told)) map input names held read file text is given said h e = absurd h
-faulty_line (stop.Refused (refusal.Unflowed told)) map input names held read file text is given said h e = absurd h
-faulty_line (stop.Refused (refusal.HasOrc sec)) map input names held read file text is given said h e = absurd h
-faulty_line (stop.Refused (refusal.HasSites sec)) map input names held read file text is given said h e = absurd h
-faulty_line (stop.Refused (refusal.Sites fault)) map input names held read file text is given said h e = absurd h
-faulty_line (stop.Refused (refusal.HasFrames sec)) map input names held read file text is given said h e = absurd h
-faulty_line (stop.Refused (refusal.Frames fault)) map input names held read file text is given said h e = absurd h
-faulty_line (stop.Refused (refusal.TooMany what count)) map input names held read file text is given said h e = absurd h
-faulty_line (stop.Refused (refusal.Layout fault)) map input names held read file text is given said h e = absurd h
-faulty_line (stop.Refused (refusal.TooManyFiles count)) map input names held read file text is given said h e = absurd h
-faulty_line (stop.Refused (refusal.Merge fault)) map input names held read file text is given said h e = absurd h
-faulty_line (stop.Refused (refusal.Table fault)) map input names held read file text is given said h e = absurd h
-faulty_line (stop.Refused (refusal.NoFunction function)) map input names held read file text is given said h e = absurd h
-faulty_line (stop.Usage usage) map input names held read file text is given said h e = absurd h
-faulty_line (stop.Missing told) map input names held read file text is given said h e = absurd h
-faulty_line (stop.TooLong told at) map input names held read file text is given said h e = absurd h
-faulty_line (stop.PartMissing part told) map input names held read file text is given said h e = absurd h
-faulty_line (stop.PartTooLong part told at) map input names held read file text is given said h e = absurd h
-faulty_line (stop.PartRefused part why) map input names held read file text is given said h e = absurd h
-faulty_line (stop.FileFault told) map input names held read file text is given said h e = absurd h
-faulty_line stop.NoMemory map input names held read file text is given said h e = absurd (not_memory stop.NoMemory e refl)
-
-names_refuse : (s : CommandStop) (map : Map) (input : List ℕ) (names : Option (List ℕ)) (held : Content) (read : List ℕ) (before after : Outside) → before.content ≡ Some held → reading held input MAX_FILE_BYTES ≡ Ok read → StopsAtNames names before after s → status_of s ≡ Refused → RefusesSites map input names held s
-names_refuse s map input names held read before after c is (names_unread file given h) e = list_unread read file is given (unreadable MAX_FILE_BYTES s file held before after c h e)
-names_refuse s map input names held read before after c is (no_names file text given may h) e = faulty_line s map input names held read file text is given (is_read MAX_FILE_BYTES file text held before.content c may) h e
-names_refuse stop.NoMemory map input names held read before after c is no_lists e = absurd (not_memory stop.NoMemory e refl)
-
 sites_refuse : (s : CommandStop) (map : Map) (input output : List ℕ) (names : Option (List ℕ)) (held : Content) (before after : Outside) → before.content ≡ Some held → StopsSites map input output names before after s → status_of s ≡ Refused → RefusesSites map input names held s
 sites_refuse s map input output names held before after c (unread h kept) e = input_unread (unreadable MAX_FILE_BYTES s input held before after c h e)
-sites_refuse s map input output names held before after c (without_names read may h kept) e = names_refuse s map input names held read before after c (is_read MAX_FILE_BYTES input read held before.content c may) h e
+sites_refuse s map input output names held before after c (without_names read may h kept) e =
+    names_refuse (λ b l t. GetNoSites map b t) s input names held read before after c may h e
 sites_refuse s map input output names held before after c (refused read was h kept) e =
-    input_refused read was.lists (is_read MAX_FILE_BYTES input read held before.content c was.may) (subst (λ (content : Option Content). HasNames content names was.lists) c was.named) h (not_memory s e)
+    input_refused read was.lists (is_read MAX_FILE_BYTES input read held before.content c was.may) (named_in names held before.content was.lists c was.named) h (not_memory s e)
 sites_refuse s map input output names held before after c (unwritten o file may h others) e = absurd (write_not_refused s output before after h e)
 
 pub sites_told : (map : Map) (input output : List ℕ) (names : Option (List ℕ)) (held : Content) (before after : Outside) (out out' : Output) (x : Status) → before.content ≡ Some held → EndsSites map input output names before after out out' x → x ≡ Refused → Tells (RefusesSites map input names held) out.written out'.written
@@ -142,22 +106,10 @@ sites_told map input output names held before after out out' Done c (done o file
 sites_told map input output names held before after out out' x c (stopped s h t) is =
     of_stop (RefusesSites map input names held) s out out' x t is (λ at. sites_refuse s map input output names held before after c h at)
 
--- bytes that get site lists are refused by no step
-unrefused : OneOutcome → (s : CommandStop) (map : Map) (input : List ℕ) (names : Option (List ℕ)) (held : Content) (read : List ℕ) (o : Elf) (lists : NameLists) → reading held input MAX_FILE_BYTES ≡ Ok read → HasNames (Some held) names lists → IsObject read o → GetsSites (coded_by map o) → RefusesSites map input names held s → ⊥
-unrefused one s map input names held read o lists is has of gets (input_unread h) = readable MAX_FILE_BYTES s held input read h is
-unrefused one s map input names held read o lists is has of gets (list_unread other file was given h) =
-    let names_are = given_names held names file lists given has in
-    readable MAX_FILE_BYTES s held file names_are.text h (sym names_are.may)
-unrefused one s map input names held read o lists is has of gets (list_faulty other file text was given said fault) =
-    let names_are = given_names held names file lists given has in
-    no_faulty_line text _ _ (subst IsNamesFile (one_text MAX_FILE_BYTES held file names_are.text text (sym names_are.may) said) names_are.right) fault
-unrefused one s map input names held read o lists is has of gets (input_refused other others was had h some) =
-    some (gets_excluded one s map read o of gets (subst (λ (b : List ℕ). GetNoSites map b s) (one_text MAX_FILE_BYTES held input other read was is) h))
-
 refused_not_done : OneOutcome → (s : CommandStop) (map : Map) (input output : List ℕ) (names : Option (List ℕ)) (held : Content) (before after : Outside) (out out' : Output) (x : Status) → before.content ≡ Some held → RefusesSites map input names held s → EndsSites map input output names before after out out' x → x ≢ Done
 refused_not_done one s map input output names held before after out out' Done c why (done o file may e same) is =
-    unrefused one s map input names held may.read o may.is_read.lists (is_read MAX_FILE_BYTES input may.read held before.content c may.is_read.may) (subst (λ (content : Option Content). HasNames content names may.is_read.lists) c may.is_read.named)
-    may.is may.gets why
+    unrefused (λ b l t. GetNoSites map b t) s input names held may.read may.is_read.lists (is_read MAX_FILE_BYTES input may.read held before.content c may.is_read.may) (named_in names held before.content may.is_read.lists c may.is_read.named)
+    (λ t no. gets_excluded one t map may.read o may.is may.gets no) why
 refused_not_done one s map input output names held before after out out' x c why (stopped told h t) is = concluded_not_done told out out' x t is
 
 -- ---- the other statuses

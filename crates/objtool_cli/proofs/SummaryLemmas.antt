@@ -28,7 +28,8 @@ use Rattle.objtool_cli.specs.Checked.{BreaksRule, IsUncheckable, IsUncheckableSt
 use Rattle.objtool_cli.specs.Summary.{IsOrFails, Passes, SumsUp, no_options, passed, stopped, summary_line, warned}
 use Rattle.command_base.specs.Warnings.{warnings_text}
 use Rattle.objtool_cli.proofs.AcceptsLemmas.{breaks_unbroken, warns_breaks}
-use Rattle.objtool_cli.proofs.CheckableLemmas.{checkable_unrefused, one_object, one_rows}
+use Rattle.command_base.proofs.DumpLaws.{one_object}
+use Rattle.objtool_cli.proofs.CheckableLemmas.{checkable_unrefused, one_rows}
 
 -- ---- what the check comes to
 

@@ -22,7 +22,7 @@ use Rattle.object_check.specs.declared.fault.CodeFault.TheVariants as fault
 use Rattle.orc_output.specs.Tables.{symbols_needed}
 use Rattle.eh_frame.specs.FrameOutput.{first_frame}
 use Rattle.command_base.specs.Code.{IsWorded}
-use Rattle.command_base.specs.Names.{HasNames, StopsAtNames}
+use Rattle.command_base.specs.Names.{StopsAtNames}
 use Rattle.command_base.specs.Outside.{Outside, Output}
 use Rattle.command_base.specs.Printing.{Concludes, Prints}
 use Rattle.command_base.specs.Reading.{MayRead, StopsAtRead}
@@ -37,6 +37,7 @@ use Rattle.command_base.specs.declared.stop.CommandStop.TheVariants.{NoMemory, R
 use Rattle.objtool_cli.specs.FramesOrder.{GetsFrames, IsCheckable, allowances_under, default_rules, most_sections, program_under}
 use Rattle.objtool_cli.specs.Undone.{RulesUndo}
 use Rattle.objtool_cli.specs.Written.{TellsRows}
+use Rattle.objtool_cli.specs.Inputs.{IsRead}
 
 -- ---- what the command makes of the bytes of IN
 
@@ -94,11 +95,6 @@ pub record BreaksRule (map : Map) (bytes : List ℕ) (lists : NameLists) : Type 
   pub broken : IsWarned (program_under map lists object) (allowances_under map lists object) default_rules place rule a b
 
 -- ---- what it may have read
-
--- The file IN may read as these bytes, and these are the lists of names of the names file, or the built-in ones where none is given.
-pub record IsRead (content : Option Content) (input : List ℕ) (names : Option (List ℕ)) (read : List ℕ) (lists : NameLists) : Type 0 where
-  pub may : MayRead MAX_FILE_BYTES content input (Ok read)
-  pub named : HasNames content names lists
 
 -- IN may read as the bytes of this object, which gets the call frame information of these rows; and these bytes are it with them, by
 -- which the frames of its program's runs are undone.

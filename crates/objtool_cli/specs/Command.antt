@@ -25,7 +25,7 @@ use Rattle.cli_words.specs.declared.fault.UsageKind.{UsageKind}
 use Rattle.ot_base.specs.NameLists.{NameLists}
 use Rattle.cli_words.specs.declared.options.CheckOptions.{CheckOptions}
 use Rattle.ot_base.specs.declared.warning.Warning.{Warning}
-use Rattle.command_base.specs.Names.{HasNames, StopsAtNames}
+use Rattle.command_base.specs.Names.{StopsAtNames}
 use Rattle.objtool_cli.specs.Summary.{PrintsWarningsOf, SumsUp, demo_bytes, demo_title}
 use Rattle.cli_words.specs.declared.options.EntryRules.{EntryRules}
 use Rattle.objtool_cli.specs.Words.{Meaning, entry_options, explained}
@@ -38,12 +38,7 @@ use Rattle.objtool_cli.specs.Cfa.{EndsCfa}
 use Rattle.objtool_cli.specs.Merge.{EndsMerge, MayBeMerged}
 use Rattle.objtool_cli.specs.Find.{EndsFind}
 use Rattle.objtool_cli.specs.Show.{EndsShow}
-
--- The file of this name may read as these bytes, and these are the lists of names of the names file, or the built-in ones
--- where none is given.
-pub record IsRead (content : Option Content) (input : List ℕ) (names : Option (List ℕ)) (read : List ℕ) (lists : NameLists) : Type 0 where
-  pub may : MayRead MAX_FILE_BYTES content input (Ok read)
-  pub named : HasNames content names lists
+use Rattle.objtool_cli.specs.Inputs.{IsRead}
 
 -- the file may read as bytes that are accepted, and for which these are to be written
 pub record MayBeAccepted (content : Option Content) (input : List ℕ) (options : CheckOptions) (names : Option (List ℕ)) (table : List ℕ) : Type 0 where

@@ -35,6 +35,7 @@ use Rattle.command_base.specs.declared.status.Status.{Status}
 use Rattle.command_base.specs.declared.status.Status.TheVariants as status
 use Rattle.command_base.specs.declared.stop.CommandStop.{CommandStop}
 use Rattle.command_base.specs.declared.stop.CommandStop.TheVariants.{NoMemory, Refused}
+use Rattle.objtool_cli.specs.Inputs.{IsRead}
 
 -- ---- what the rules say of an object
 
@@ -79,11 +80,6 @@ pub data IsUncheckable (map : Map) (bytes : List ℕ) : CommandStop → Type 0 w
       → IsFirstFlowFault (coded_by map o) told.fault
       → IsUncheckable map bytes (Refused (Unflowed told))
   no_memory : IsUncheckable map bytes NoMemory
-
--- The file IN may read as these bytes, and these are the lists of names of the names file, or the built-in ones where none is given.
-pub record IsRead (content : Option Content) (input : List ℕ) (names : Option (List ℕ)) (read : List ℕ) (lists : NameLists) : Type 0 where
-  pub may : MayRead MAX_FILE_BYTES content input (Ok read)
-  pub named : HasNames content names lists
 
 -- IN may read as the bytes of this object, which is in order, under these lists of names.
 pub record MayBeChecked (map : Map) (content : Option Content) (input : List ℕ) (names : Option (List ℕ)) (o : Elf) (lists : NameLists) : Type 0 where

@@ -1,4 +1,5 @@
 pub mod Checked
+pub mod Inputs
 pub mod Telling
 pub mod Command
 pub mod Promises

@@ -1,25 +1,19 @@
 -- Which commands are refused on files that hold this, and why: what the first step finds that fails, in the order of the steps.
 -- Faults of files and of the output, and want of memory, are no refusals.
-use Rattle.std.specs.Prelude.{◌≡◌, ◌≢◌, ℕ, List, Option, Some, Ok}
-use Rattle.ot_base.specs.NameLists.{NameLists}
-use Rattle.ot_base.specs.NamesFile.{IsFirstFault}
-use Rattle.ot_base.specs.declared.lists.ListsFault.TheVariants.{Line}
-use Rattle.ot_base.specs.declared.lists.ListsWhy.{ListsWhy}
+use Rattle.std.specs.Prelude.{◌≡◌, ◌≢◌, ℕ, List, Option, Ok}
 use Rattle.ot_files.specs.Content.{Content, reading}
 use Rattle.cli_words.specs.Grammar.{Command, cfa, cfi, check, demo, dump, entry, explain, find, help, list, merge, show, sites, unwind, version}
 use Rattle.cli_words.specs.declared.options.CheckOptions.{CheckOptions}
 use Rattle.elf_objects.specs.declared.TheConstants.{MAX_FILE_BYTES}
 use Rattle.command_base.specs.declared.reading.TheConstants.{MAX_IMAGE_BYTES}
-use Rattle.command_base.specs.declared.refusal.Refusal.{Refusal}
-use Rattle.command_base.specs.declared.refusal.Refusal.TheVariants.{Lists}
 use Rattle.command_base.specs.declared.stop.CommandStop.{CommandStop}
 use Rattle.command_base.specs.declared.stop.CommandStop.TheVariants.{Refused, NoMemory}
 use Rattle.command_base.specs.Dump.{HoldsNoRows}
-use Rattle.command_base.specs.Names.{HasNames}
 use Rattle.command_base.specs.Reading.{IsUnreadable}
 use Rattle.command_base.specs.Refusing.{Tells}
 use Rattle.command_base.specs.Unwind.{HasNoWalk}
-use Rattle.objtool_cli.specs.Checked.{IsUncheckable, Refuses}
+use Rattle.objtool_cli.specs.Inputs.{RefusesInput}
+use Rattle.objtool_cli.specs.Checked.{IsRefusal, IsUncheckable}
 use Rattle.objtool_cli.specs.SitesRefused.{RefusesList, RefusesSites}
 use Rattle.objtool_cli.specs.EntryRefused.{RefusesEntry}
 use Rattle.objtool_cli.specs.FramesRefused.{RefusesCfa, RefusesCfi}
@@ -30,27 +24,8 @@ use Rattle.objtool_cli.specs.Words.{Meaning}
 
 -- `check IN OUT`: IN is read; then the names file, where one is given, and its lines; then the bytes of IN are parsed, their code
 -- is read and checked, and the tables are made of what breaks no rule.
-pub data RefusesCheck (input : List ℕ) (options : CheckOptions) (names : Option (List ℕ)) (held : Content) : CommandStop → Type 0 where
-  input_unread : {stop : CommandStop} → IsUnreadable MAX_FILE_BYTES held input stop → RefusesCheck input options names held stop
-  list_unread :
-      {stop : CommandStop} (read file : List ℕ)
-      → reading held input MAX_FILE_BYTES ≡ Ok read
-      → names ≡ Some file
-      → IsUnreadable MAX_FILE_BYTES held file stop
-      → RefusesCheck input options names held stop
-  list_faulty :
-      {line : ℕ} {why : ListsWhy} (read file text : List ℕ)
-      → reading held input MAX_FILE_BYTES ≡ Ok read
-      → names ≡ Some file
-      → reading held file MAX_FILE_BYTES ≡ Ok text
-      → IsFirstFault text line why
-      → RefusesCheck input options names held (Refused (Lists (Line line why)))
-  input_refused :
-      {refusal : Refusal} (read : List ℕ) (lists : NameLists)
-      → reading held input MAX_FILE_BYTES ≡ Ok read
-      → HasNames (Some held) names lists
-      → Refuses read lists options refusal
-      → RefusesCheck input options names held (Refused refusal)
+abbrev pub RefusesCheck : List ℕ → CheckOptions → Option (List ℕ) → Content → CommandStop → Type 0
+RefusesCheck input options names held = RefusesInput (λ read lists stop. IsRefusal read lists options stop) input names held
 
 -- `dump FILE`: FILE is read and parsed, and then its ORC sections are.
 pub data RefusesDump (file : List ℕ) (held : Content) : CommandStop → Type 0 where

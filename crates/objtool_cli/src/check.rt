@@ -6,7 +6,8 @@ ghost use Rattle.flow_defs.specs.Coded.{coded_by};
 ghost use Rattle.x86_map.specs.declared.map.Map.{Map};
 ghost use Rattle.object_check.specs.Order.{IsCheckFault};
 ghost use Rattle.objtool_cli.specs.Checked.{IsUnchecked};
-ghost use Rattle.objtool_cli.specs.Command.{EndsCheck, IsRead};
+ghost use Rattle.objtool_cli.specs.Command.{EndsCheck};
+ghost use Rattle.objtool_cli.specs.Inputs.{IsRead};
 
 use crate::telling::tell_warnings;
 use crate::words::Check;

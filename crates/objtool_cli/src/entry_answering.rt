@@ -3,7 +3,8 @@
 ghost use Rattle.std.specs.Prelude.{◌<◌, ◌≤◌, length, option_map};
 ghost use Rattle.command_base.specs.Outside.{Outside};
 ghost use Rattle.command_base.specs.Printing.{IsOutputFault};
-ghost use Rattle.objtool_cli.specs.Entry.{EndsEntry, IsRead};
+ghost use Rattle.objtool_cli.specs.Entry.{EndsEntry};
+ghost use Rattle.objtool_cli.specs.Inputs.{IsRead};
 
 use crate::entry_finding::warnings_of;
 use crate::entry_words::EntryAsked;

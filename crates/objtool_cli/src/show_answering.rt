@@ -3,7 +3,7 @@
 ghost use Rattle.std.specs.Prelude.{◌<◌, ◌≤◌, length, option_map};
 ghost use Rattle.command_base.specs.Outside.{Outside};
 ghost use Rattle.command_base.specs.Printing.{IsOutputFault};
-ghost use Rattle.objtool_cli.specs.Entry.{IsRead};
+ghost use Rattle.objtool_cli.specs.Inputs.{IsRead};
 ghost use Rattle.objtool_cli.specs.Show.{EndsShow};
 
 use crate::show_code::{code_of, missing_function};

@@ -2,7 +2,6 @@
 
 ghost use Rattle.std.specs.Prelude.{◌≡◌};
 ghost use Rattle.symbols_relocs.specs.Parts.{owner_at as owner_of_place};
-ghost use Rattle.jump_tables.specs.Tables.{same_owner};
 
 use object_points::PointPlaces;
 use ot_base::Place;
@@ -22,15 +21,4 @@ pub fn owner_at(places: &PointPlaces<'_, '_, '_>, place: Place) -> Option<u32>
     ensures { result ≡ owner_of_place places.now.elf place }
 {
     indexed_owner(places.linked().index(), place)
-}
-
-/// Whether two owners are one, or neither is there.
-pub(crate) fn is_same_owner(owner: Option<u32>, other: Option<u32>) -> bool
-    ensures { result ≡ same_owner owner other }
-{
-    match (owner, other) {
-        (Some(sym), Some(second)) => sym == second,
-        (None, None) => true,
-        _ => false,
-    }
 }

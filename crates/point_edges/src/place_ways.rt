@@ -4,7 +4,7 @@ ghost use Rattle.std.specs.Prelude.{◌≡◌};
 ghost use Rattle.symbols_relocs.specs.Parts.{owner_at as owner_of_place};
 ghost use Rattle.flow_defs.specs.Ways.{branch_way as branch_way_of, checked_way as checked_way_of, is_crossing as is_crossing_of, listed_way as listed_way_of, may_cross as may_cross_of};
 
-use crate::place_owner::is_same_owner;
+use crate::same_owner::is_same_owner;
 use alternatives::Point;
 use flow_defs::{Crossing, Way};
 use machine_defs::EdgeKind;

@@ -93,7 +93,8 @@ fn put_row(
     Ok(())
 }
 
-/// The same, but where the point keeps the same state as the one whose row is held, its row isn't made.
+/// Adds the row of a point that begins at a place, unless it is equal to the one before in its section. Where the point keeps the
+/// same state as the one whose row is held, there in that section, its row isn't even made.
 #[inline(always)]
 fn push_row(
     kept: &Kept,

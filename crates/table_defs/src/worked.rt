@@ -62,4 +62,8 @@ pub fn worked_walks()
     ensures not_rising { Walks (at_place 1 0 frame_pointer_row ∷ []) (placed_at 1 0x1000 2 ∷ [])
         (memory_of ((0x7000, 0) ∷ (0x7008, 0) ∷ []))
         (registers 0x1000 0x8000 0x7000) [] (NotRising 0x8000 0x7010) }
+    // A stack pointer that stays doesn't rise.
+    ensures staying { Walks (at_place 1 0 frame_pointer_row ∷ []) (placed_at 1 0x1000 2 ∷ [])
+        (memory_of ((0x7FF0, 0) ∷ (0x7FF8, 0) ∷ []))
+        (registers 0x1000 0x8000 0x7FF0) [] (NotRising 0x8000 0x8000) }
 {}

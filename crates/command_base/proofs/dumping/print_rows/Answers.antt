@@ -1,22 +1,26 @@
-use Rattle.std.proofs.Common.{◌∙◌}
+use Rattle.std.proofs.Common.{refl, ◌∙◌}
+use Rattle.ot_base.specs.RowText.{row_line}
+use Rattle.ot_base.specs.declared.row.PlacedRow.{PlacedRow}
+use Rattle.elf_objects.specs.Contents.{section_at}
 use Rattle.command_base.specs.declared.status.Status.TheVariants as status
-use Rattle.command_base.proofs.DumpLemmas.{all_printed, line_fails, line_printed}
-use Rattle.command_base.proofs.PrintLemmas.{no_lower, part_failed, stands_still}
+use Rattle.command_base.specs.Printing.{whole}
+use Rattle.command_base.proofs.PartLemmas.{all_printed, part_fails_at, part_printed}
+use Rattle.command_base.proofs.PrintLemmas.{no_lower, part_failed, stands_still, text_fails}
 use Rattle.command_base.proofs.dumping.print_rows.Goals as goal
 
 pub returns-in-Err-clause-printed : goal.returns-in-Err-clause-printed
 returns-in-Err-clause-printed g c =
     let later = no_lower _ _ c.loop-placed.invariant.unfailed in
-    line_fails c.args.object.now c.args.rows.now c.loop-placed.placed-index _ _ _ _ _ c.loop-placed-test.true c.loop-placed.invariant.so_far later c.in-Err.ensures.err
+    text_fails status.Done _ _ _ _ (λ e. cc) (part_fails_at (λ (placed : PlacedRow). row_line (section_at c.args.object.now placed.place.sec).name placed) c.args.rows.now c.loop-placed.placed-index _ _ _ _ _ c.loop-placed-test.true c.loop-placed.invariant.so_far later c.in-Err.ensures.err)
 
 pub returns-in-Err-clause-output_failed : goal.returns-in-Err-clause-output_failed
 returns-in-Err-clause-output_failed g c risen = part_failed _ _ _ _ c.loop-placed.invariant.unfailed c.in-Err.ensures.output_failed risen
 
 pub loop-placed-preserved : goal.loop-placed-preserved
 loop-placed-preserved g c = record {
-  so_far = line_printed c.args.object.now c.args.rows.now c.loop-placed.placed-index _ _ _ _ c.loop-placed-test.true c.loop-placed.invariant.so_far c.in-Ok.ensures.ok;
+  so_far = part_printed (λ (placed : PlacedRow). row_line (section_at c.args.object.now placed.place.sec).name placed) c.args.rows.now c.loop-placed.placed-index _ _ _ _ c.loop-placed-test.true c.loop-placed.invariant.so_far c.in-Ok.ensures.ok;
   unfailed = stands_still status.SinkFault _ _ _ c.print_row.ensures.later c.in-Ok.ensures.output_failed ∙ c.loop-placed.invariant.unfailed;
 }
 
 pub returns-clause-printed : goal.returns-clause-printed
-returns-clause-printed g c = all_printed c.args.object.now c.args.rows.now c.loop-placed.placed-index _ _ c.loop-placed-test.false c.loop-placed.invariant.so_far
+returns-clause-printed g c = whole refl (all_printed (λ (placed : PlacedRow). row_line (section_at c.args.object.now placed.place.sec).name placed) c.args.rows.now c.loop-placed.placed-index _ _ c.loop-placed-test.false c.loop-placed.invariant.so_far)

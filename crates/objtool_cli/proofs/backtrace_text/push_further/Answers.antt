@@ -1,7 +1,7 @@
 use Rattle.std.proofs.Common.{◌++◌, refl}
 use Rattle.std.specs.Prelude.{codes}
 use Rattle.objtool_cli.specs.BacktraceText.{step_text}
-use Rattle.objtool_cli.proofs.PartLemmas.{pushed_more}
+use Rattle.command_base.proofs.PartLemmas.{pushed_more}
 use Rattle.objtool_cli.proofs.backtrace_text.push_further.Goals as goal
 
 pub loop-step-preserved : goal.loop-step-preserved

@@ -31,3 +31,6 @@ returns-clause-base_unknown c = stops refl refl refl
 
 pub returns-clause-not_rising : goal.returns-clause-not_rising
 returns-clause-not_rising c = stops refl refl refl
+
+pub returns-clause-staying : goal.returns-clause-staying
+returns-clause-staying c = stops refl refl refl
