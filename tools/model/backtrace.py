@@ -16,7 +16,7 @@ from program import Run
 from rules import Options, Warning, broken_rules, depth_number
 from show import Listing, state_words
 from sites import Point
-from states import State, brought_along, kept_levels, set_state
+from states import State, brought_along, kept_levels, kept_states, set_state
 from texts import Refused, escaped, place_text, warning_text
 
 MISMATCH = 4
@@ -30,7 +30,7 @@ class Ways:
         self.flow = flow
         levels = kept_levels(flow)
         self.level = {point: number for number, level in enumerate(levels) for point in level}
-        self.kept: dict[Point, State] = {point: state for level in levels for point, state in level.items()}
+        self.kept: dict[Point, State] = kept_states(flow)
         self.listing = Listing(flow, self.kept)
         # What tells a point in a text: several sections may have one name.
         self.points: dict[str, list[Point]] = {}
@@ -183,7 +183,7 @@ def broken(data: bytes, options: Options, names_file: Optional[bytes]) -> tuple[
     object, names = object_of(data, names_file)
     flow = graph_of(object, names, options.all_opcodes)
     ways = Ways(flow)
-    return ways, broken_rules(flow, ways.kept, options)
+    return ways, broken_rules(flow, options)
 
 
 def backtrace_faults(run: Run, name: str, data: bytes, options: Options, names_file: Optional[bytes], answer: Answer) -> list[str]:

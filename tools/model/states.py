@@ -7,6 +7,7 @@ the same under `state_defs`, and the states that are kept under `machine_defs`.
 from typing import NamedTuple, Optional, Union
 
 from opcodes import Insn
+from remembered import remembered
 from special import CALL, END_OF_STACK, FUNC, REGS, REGS_PARTIAL, RESTORE, SAVE, UNDEFINED, Hint
 
 MOST_DEPTH = 1_073_741_824
@@ -221,11 +222,13 @@ def brought(flow, point, state: State):
         yield edge.to, there
 
 
+@remembered
 def kept_states(flow) -> dict:
     """The state that is kept for each point that is reached."""
     return {point: state for level in kept_levels(flow) for point, state in level.items()}
 
 
+@remembered
 def kept_levels(flow) -> list[dict]:
     """The points that are kept, each with its state, by the level on which it is kept first.
 
