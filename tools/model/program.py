@@ -63,11 +63,12 @@ class Program:
         self.nothing = os.open(os.devnull, os.O_RDONLY)
         streams = {0: self.nothing, 1: self.output.file, 2: self.errors.file}
         self.actions = [(os.POSIX_SPAWN_DUP2, file, number) for number, file in streams.items()]
+        self.environment = dict(os.environ)
 
     def ended(self, words: tuple[str, ...]) -> int:
         """Runs it with these words; tells its status."""
         os.chdir(self.folder.name)
-        process = os.posix_spawn(self.path, (self.path, *words), os.environ, file_actions=self.actions)
+        process = os.posix_spawn(self.path, (self.path, *words), self.environment, file_actions=self.actions)
         end = os.pidfd_open(process)
         try:
             if not select.select([end], [], [], SECONDS)[0]:

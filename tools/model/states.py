@@ -4,6 +4,7 @@ A state tells of the innermost frame where rsp and rbp are. `cfa` is the value o
 the same under `state_defs`, and the states that are kept under `machine_defs`.
 """
 
+from functools import lru_cache
 from typing import NamedTuple, Optional, Union
 
 from opcodes import Insn
@@ -60,17 +61,23 @@ class Broken(Exception):
 
 def move(state: State, insn: Insn) -> State:
     """The state after the instruction. Raises Broken."""
+    after = moved(state, insn.op, insn.value)
+    if isinstance(after, Broken):
+        raise Broken(after.rule)
+    return after
+
+
+@lru_cache(maxsize=10_000)
+def moved(state: State, op: str, value: Optional[int]) -> Union[State, Broken]:
+    """The state after an instruction with this operation and number, or what it breaks."""
     if isinstance(state, Ended):
         return state
-    if isinstance(state, Regs):
-        after = move_regs(state, insn.op, insn.value)
-        numbers = [after.depth]
-    else:
-        after = move_live(state, insn.op, insn.value)
-        numbers = [after.depth, after.fp or 0, after.saved or 0]
-    if any(abs(number) > MOST_DEPTH for number in numbers):
-        raise Broken(10)
-    return after
+    try:
+        after = move_regs(state, op, value) if isinstance(state, Regs) else move_live(state, op, value)
+    except Broken as broken:
+        return Broken(broken.rule)
+    numbers = [after.depth] if isinstance(after, Regs) else [after.depth, after.fp or 0, after.saved or 0]
+    return Broken(10) if any(abs(number) > MOST_DEPTH for number in numbers) else after
 
 
 def move_live(state: Live, op: str, value: Optional[int]) -> Live:
