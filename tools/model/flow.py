@@ -149,17 +149,20 @@ class Flow:
         the stack.
         """
         insn = self.sites.insn(point)
-        owner, after = self.owner[point], self.after[point]
-        within = owner is not None and after is not None and all(self.owner[other] == owner for other in after)
         if insn.op == "Call" and self._own(point, self.intra_calls):
             return insn._replace(op="Hop")
-        if insn.op == "LeaBpSp" and owner in self.roomy:
+        if insn.op == "LeaBpSp" and self.owner[point] in self.roomy:
             return insn._replace(op="LeaBpRoom")
-        if insn.op == "Iret" and within:
+        if insn.op == "Iret" and self._is_within(point):
             return insn._replace(op="IretNext")
-        if insn.op == "Switch" and within and all(self._tells_frame(other) for other in after):
+        if insn.op == "Switch" and self._is_within(point) and all(self._tells_frame(other) for other in self.after[point]):
             return insn._replace(op="SpOther")
         return insn
+
+    def _is_within(self, point: Point) -> bool:
+        """Whether instructions of its own function stand right behind it."""
+        owner, after = self.owner[point], self.after[point]
+        return owner is not None and after is not None and all(self.owner[other] == owner for other in after)
 
     def _tells_frame(self, point: Point) -> bool:
         hint = self.hint(point)
@@ -168,8 +171,10 @@ class Flow:
     def _is_relocated(self, point: Point) -> bool:
         """Whether a relocation of any type but 0 begins at a byte of an instruction that moves the stack by a number."""
         insn = self.insn[point]
+        if insn.op not in STACK_OFFSETS:
+            return False
         fields = (self.object.relocs_at(Place(point.place.sec, point.place.off + at)) for at in range(insn.length))
-        return insn.op in STACK_OFFSETS and any(reloc.kind != 0 for relocs in fields for reloc in relocs)
+        return any(reloc.kind != 0 for relocs in fields for reloc in relocs)
 
     def _is_dead_end(self, point: Point) -> bool:
         insn = self.insn[point]

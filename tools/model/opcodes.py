@@ -229,9 +229,9 @@ class Known:
     def find(self, code: bytes, start: int) -> Optional[Insn]:
         """The known instruction in front of the bytes from `start` on."""
         insns = self.insns
-        for end in range(start + 1, start + LONGEST + 1):
-            insn = insns.get(code[start:end])
-            if insn is not None and insn.length == end - start:
+        for length in range(1, min(LONGEST, len(code) - start) + 1):
+            insn = insns.get(code[start : start + length])
+            if insn is not None:
                 return insn
         return None
 

@@ -5,7 +5,7 @@ from functools import lru_cache, wraps
 from texts import Refused
 
 # Of how many calls the answers are remembered: what is asked of an object is asked before the next ones come.
-MOST = 4
+MOST = 8
 
 
 def remembered(make):

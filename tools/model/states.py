@@ -43,6 +43,7 @@ State = Union[Live, Ended, Regs]
 INITIAL = Live(False, 8, None, None)
 
 
+@lru_cache(maxsize=10_000)
 def order(state: State) -> tuple:
     """States come in the order of their kinds and fields; what is absent comes first."""
     if isinstance(state, Live):
