@@ -11,12 +11,13 @@ from typing import Iterator, Optional
 
 from check import graph_of, options_of, read_file
 from commands import WARNINGS, Answer, object_of
+from elf import Place
 from flow import Flow
 from program import Run
 from rules import Options, Warning, broken_rules, depth_number
 from show import Listing, state_words
 from sites import Point
-from states import State, brought_along, kept_levels, set_state
+from states import State, brought_along, kept_levels, kept_states, set_state
 from texts import Refused, escaped, place_text, warning_text
 
 MISMATCH = 4
@@ -30,8 +31,11 @@ class Ways:
         self.flow = flow
         levels = kept_levels(flow)
         self.level = {point: number for number, level in enumerate(levels) for point in level}
-        self.kept: dict[Point, State] = {point: state for level in levels for point, state in level.items()}
+        self.kept: dict[Point, State] = kept_states(flow)
         self.listing = Listing(flow, self.kept)
+        self.at_place: dict[Place, list[Point]] = {}
+        for point in flow.points:
+            self.at_place.setdefault(point.place, []).append(point)
         # What tells a point in a text: several sections may have one name.
         self.points: dict[str, list[Point]] = {}
         for point in flow.points:
@@ -103,7 +107,7 @@ class Ways:
         return next((point for point in self.points_at(warning) if point in self.kept), None)
 
     def points_at(self, warning: Warning) -> list[Point]:
-        return [point for point in self.flow.points if point.place == warning.place]
+        return self.at_place.get(warning.place, [])
 
     def inside(self, warning: Warning) -> str:
         """The function that holds the place where the point of the warning runs; where none is kept, the first point there."""
@@ -183,7 +187,7 @@ def broken(data: bytes, options: Options, names_file: Optional[bytes]) -> tuple[
     object, names = object_of(data, names_file)
     flow = graph_of(object, names, options.all_opcodes)
     ways = Ways(flow)
-    return ways, broken_rules(flow, ways.kept, options)
+    return ways, broken_rules(flow, options)
 
 
 def backtrace_faults(run: Run, name: str, data: bytes, options: Options, names_file: Optional[bytes], answer: Answer) -> list[str]:

@@ -13,6 +13,7 @@ from elf import Object
 from flow import Flow
 from names import Names
 from output import with_rows
+from remembered import remembered
 from rows import all_rows
 from rules import Options, broken_rules
 from states import kept_states
@@ -21,6 +22,7 @@ from texts import row_text, warning_text
 ORC_SECTIONS = (b".orc_unwind", b".orc_unwind_ip", b".rela.orc_unwind_ip")
 
 
+@remembered
 def graph_of(object: Object, names: Names, whole: bool = False) -> Flow:
     """The control-flow graph of the object's code, which the base map or the whole one reads. Raises Refused."""
     return Flow(*read_code(object, whole), names)
@@ -33,8 +35,7 @@ def check(data: bytes, options: Options = Options(), names_file: Optional[bytes]
         object, names = object_of(data, names_file)
         flow = graph_of(object, names, options.all_opcodes)
         refuse_sections(object, ORC_SECTIONS, "an ORC section", 3)
-        kept = kept_states(flow)
-        warnings = broken_rules(flow, kept, options)
+        kept, warnings = kept_states(flow), broken_rules(flow, options)
         if warnings:
             return Answer(WARNINGS, [warning_text(object, warning) for warning in warnings])
         rows = all_rows(flow, kept)

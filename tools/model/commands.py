@@ -9,6 +9,7 @@ from flow import check_places
 from functions import Functions
 from instructions import Code
 from names import Names
+from remembered import remembered
 from sites import Sites
 from special import Special
 from texts import Refused
@@ -48,6 +49,7 @@ class ReadCode(NamedTuple):
     sites: Sites
 
 
+@remembered
 def read_code(object: Object, whole: bool) -> ReadCode:
     """The object's code, in order up to the lists of places. Raises Refused."""
     code = Code(object, whole)
@@ -75,6 +77,7 @@ def lacking_symbols(object: Object, places: list[Place]) -> list[int]:
     return secs
 
 
+@remembered
 def object_of(data: bytes, names_file: Optional[bytes]) -> tuple[Object, Names]:
     refuse_long_files(data, names_file)
     names = Names(names_file or b"")

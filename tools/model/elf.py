@@ -8,6 +8,7 @@ the steps those of docs/FORMATS.md.
 import struct
 from typing import NamedTuple, Optional, Union
 
+from remembered import remembered
 from texts import Refused
 
 # Types of sections.
@@ -134,6 +135,7 @@ SYMBOL = struct.Struct("<IBBHQQ")
 ENTRY = struct.Struct("<QQq")
 
 
+@remembered
 def parse(data: bytes) -> Object:
     """The object that the bytes are. Raises Refused."""
     check_file_header(data)

@@ -85,6 +85,8 @@ class Flow:
         self.unchecked_owners = {functions.owner_of(functions.at_start[place]) for place in special.unchecked}
         self.tables = JumpTables(object, code, functions, sites)
         self._by_place()
+        self.hint_at: dict[Point, Hint] = {point: hint for point in self.points if (hint := self._own(point, self.hints)) is not None}
+        self.restores: set[Point] = {point for point, hint in self.hint_at.items() if hint.kind == RESTORE}
         self.entries: list[Place] = [f.start for f in functions.list if self.is_entry(f.start)]
         # The points behind each, None at a section's end.
         self.after: dict[Point, Optional[list[Point]]] = {point: sites.next_points(point) for point in self.points}
@@ -147,17 +149,20 @@ class Flow:
         the stack.
         """
         insn = self.sites.insn(point)
-        owner, after = self.owner[point], self.after[point]
-        within = owner is not None and after is not None and all(self.owner[other] == owner for other in after)
         if insn.op == "Call" and self._own(point, self.intra_calls):
             return insn._replace(op="Hop")
-        if insn.op == "LeaBpSp" and owner in self.roomy:
+        if insn.op == "LeaBpSp" and self.owner[point] in self.roomy:
             return insn._replace(op="LeaBpRoom")
-        if insn.op == "Iret" and within:
+        if insn.op == "Iret" and self._is_within(point):
             return insn._replace(op="IretNext")
-        if insn.op == "Switch" and within and all(self._tells_frame(other) for other in after):
+        if insn.op == "Switch" and self._is_within(point) and all(self._tells_frame(other) for other in self.after[point]):
             return insn._replace(op="SpOther")
         return insn
+
+    def _is_within(self, point: Point) -> bool:
+        """Whether instructions of its own function stand right behind it."""
+        owner, after = self.owner[point], self.after[point]
+        return owner is not None and after is not None and all(self.owner[other] == owner for other in after)
 
     def _tells_frame(self, point: Point) -> bool:
         hint = self.hint(point)
@@ -166,13 +171,15 @@ class Flow:
     def _is_relocated(self, point: Point) -> bool:
         """Whether a relocation of any type but 0 begins at a byte of an instruction that moves the stack by a number."""
         insn = self.insn[point]
+        if insn.op not in STACK_OFFSETS:
+            return False
         fields = (self.object.relocs_at(Place(point.place.sec, point.place.off + at)) for at in range(insn.length))
-        return insn.op in STACK_OFFSETS and any(reloc.kind != 0 for relocs in fields for reloc in relocs)
+        return any(reloc.kind != 0 for relocs in fields for reloc in relocs)
 
     def _is_dead_end(self, point: Point) -> bool:
-        if self.sites.is_padding(point):
-            return False
         insn = self.insn[point]
+        if insn.op != "Ud2" and not self.unreachable or self.sites.is_padding(point):
+            return False
         end = Place(point.place.sec, point.place.off + insn.length)
         return (insn.op == "Ud2" or end in self.unreachable) and end not in self.reachable
 
@@ -181,16 +188,16 @@ class Flow:
 
     def _own(self, point: Point, by_place: dict):
         """What the table has for the point's own place; padding has none."""
-        return None if self.sites.is_padding(point) else by_place.get(point.place)
+        found = by_place.get(point.place)
+        return None if found is None or self.sites.is_padding(point) else found
 
     # Hints
 
     def hint(self, point: Point) -> Optional[Hint]:
-        return self._own(point, self.hints)
+        return self.hint_at.get(point)
 
     def is_restore(self, point: Point) -> bool:
-        hint = self.hint(point)
-        return hint is not None and hint.kind == RESTORE
+        return point in self.restores
 
     def is_save(self, point: Point) -> bool:
         hint = self.hint(point)
@@ -198,9 +205,9 @@ class Flow:
 
     def saves(self) -> dict[Point, Point]:
         """For each RESTORE the SAVE whose state it takes up: of its owner, at the greatest address below its own, of the least variant."""
-        saves = [point for point in self.points if self.is_save(point)]
+        saves = [point for point in self.hint_at if self.is_save(point)]
         found = {}
-        for point in filter(self.is_restore, self.points):
+        for point in filter(self.is_restore, self.hint_at):
             at = self.address[point]
             fitting = [s for s in saves if self.owner[s] == self.owner[point] and self.address[s].sec == at.sec and self.address[s].off < at.off]
             if fitting:

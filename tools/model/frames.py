@@ -96,8 +96,7 @@ def cfi(data: bytes, whole: bool = False, names_file: Optional[bytes] = None) ->
         object, names = object_of(data, names_file)
         flow = graph_of(object, names, whole)
         refuse_sections(object, (NAME, b".rela" + NAME), "a frame section", 2)
-        kept = kept_states(flow)
-        warnings = broken_rules(flow, kept, Options(all_opcodes=whole))
+        kept, warnings = kept_states(flow), broken_rules(flow, Options(all_opcodes=whole))
         if warnings:
             return Answer(WARNINGS, [warning_text(object, warning) for warning in warnings])
         written = with_frames(object, all_rows(flow, kept))

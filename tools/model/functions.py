@@ -57,6 +57,8 @@ class Functions:
             for number in by_start[start]:
                 name = object.symbols[number].name
                 named[name] = min(named.get(name, (number, start)), (number, start))
+        # What `at` told so far.
+        self._at: dict[Place, Optional[int]] = {}
         self.list: list[Function] = []
         for start in starts:
             numbers = by_start[start]
@@ -72,6 +74,11 @@ class Functions:
 
     def at(self, place: Place) -> Optional[int]:
         """The function that holds the place; of several the one with the greatest start."""
+        if place not in self._at:
+            self._at[place] = self._holding(place)
+        return self._at[place]
+
+    def _holding(self, place: Place) -> Optional[int]:
         for i in reversed(range(bisect_right(self.starts, place))):
             function = self.list[i]
             if function.start.sec != place.sec:

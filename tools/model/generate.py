@@ -10,7 +10,7 @@ from typing import Optional
 from assemble import Assembler, Label
 from bodies import PLAIN, Body, Frame
 from elf import FUNC, GLOBAL, LOCAL, NOTYPE, WEAK
-from layout import Layout, TooFar
+from layout import Layout, TooFar, all_reach
 from mutate import spoil
 from stray import misplace, stray
 from world import World
@@ -165,11 +165,9 @@ class Maker:
 def built(seed, wrong_at: Optional[int] = None) -> Assembler:
     """The object before it is put together, with short branches where they reach."""
     for short in (True, False):
-        try:
-            Layout(Maker(seed, short, wrong_at).make(), seed)
-            return Maker(seed, short, wrong_at).make()
-        except TooFar:
-            continue
+        asm = Maker(seed, short, wrong_at).make()
+        if all_reach(asm):
+            return asm
     raise TooFar
 
 

@@ -11,6 +11,16 @@ class TooFar(Exception):
     """A branch of one byte doesn't reach its label."""
 
 
+def distance(sec: int, at: int, count: int, label: Label) -> int:
+    """What stands in a branch's field at this place; nothing of another section."""
+    return label.off - at - count if label.sec == sec else 0
+
+
+def all_reach(asm: Assembler) -> bool:
+    """Whether each branch of one byte reaches its label."""
+    return all(-128 <= distance(sec, at, count, label) <= 127 for sec, at, count, label in asm.distances if at >= 0 and count == 1)
+
+
 # Outside symbols that have a home of their own.
 HOMES = {"absolute": ABSOLUTE, "common": COMMON}
 
@@ -36,12 +46,12 @@ class Layout:
         self._list_symbols()
 
     def _resolve(self) -> None:
+        if not all_reach(self.asm):
+            raise TooFar
         for sec, at, count, label in self.asm.distances:
             if at < 0:
                 continue
-            value = label.off - at - count if label.sec == sec else 0
-            if count == 1 and not -128 <= value <= 127:
-                raise TooFar
+            value = distance(sec, at, count, label)
             self.asm.parts[sec].body[at : at + count] = value.to_bytes(count, "little", signed=True)
 
     def _home(self, label) -> int:

@@ -177,6 +177,8 @@ def compare(path: str, count: int, seed: str, kept: str, real: list[str], part: 
 
 
 def main(path: str, count: str, seed: str, kept: str, folder: str = "") -> int:
+    # (each part's process goes to a folder of its own)
+    folder, kept = os.path.abspath(folder) if folder else "", os.path.abspath(kept)
     real = sorted(f"{folder}/{name}" for name in os.listdir(folder) if name.endswith(".o")) if folder else []
     parts = int(os.environ.get("JOBS") or os.cpu_count() or 1)
     with multiprocessing.Pool(parts) as pool:

@@ -8,6 +8,7 @@ import elf
 from commands import DONE, LONGEST_FILE, Answer, answered, first_named, text_of_symbol
 from elf import R_PC32, Object, Place
 from output import orc_row
+from remembered import remembered
 from rows import ZERO, Row
 from texts import KINDS, REGISTERS, Refused
 
@@ -40,6 +41,7 @@ def place_fault(object: Object, i: int, relocs: list, count: int, slot: bytes) -
     return "NotZero" if slot != bytes(4) else ""
 
 
+@remembered
 def orc_rows(object: Object) -> list[tuple[Place, Row]]:
     """The rows that the object's ORC sections hold. Raises Refused."""
     secs = []

@@ -189,6 +189,10 @@ def exchange_entry(modrm: int, prefixes: Prefixes) -> Optional[Entry]:
 BY_MODRM = {0x01: system_entry, 0x1E: control_flow_entry, 0xAE: state_entry, 0xC7: exchange_entry}
 
 
+# The opcodes behind `0F 38` that have any.
+THREE_BYTE_OPCODES = {0xF0, 0xF1, 0xF6, 0x82}
+
+
 def three_byte_entry(opcode: int, modrm: int, prefixes: Prefixes) -> Optional[Entry]:
     """The entries behind `0F 38`."""
     opsize, _, repne, rep = prefixes
@@ -230,6 +234,8 @@ def base_lookup(prefixes: Prefixes, number: int, opcode: int):
     if number > 3:
         return None
     if number == 3:
+        if opcode not in THREE_BYTE_OPCODES:
+            return None
         found = {modrm: three_byte_entry(opcode, modrm, prefixes) for modrm in range(256)}
     elif number == 2 and opcode in BY_MODRM:
         found = {modrm: BY_MODRM[opcode](modrm, prefixes) for modrm in range(256)}

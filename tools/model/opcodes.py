@@ -62,7 +62,10 @@ class Reader:
 
     def number(self, count: int) -> int:
         """A signed number."""
-        return int.from_bytes(bytes(self.byte() for _ in range(count)), "little", signed=True)
+        for _ in range(count):
+            self.byte()
+        end = self.start + self.at
+        return int.from_bytes(self.code[end - count : end], "little", signed=True)
 
     def outside(self) -> Stop:
         """The byte that was read last begins no spelling with those before it."""
@@ -214,14 +217,45 @@ def read_immediate(reader: Reader, imm: str, opsize: bool, wide: bool) -> Option
     return reader.number(count)
 
 
+class Known:
+    """The instructions of a map that were read so far, by their bytes: an instruction is told by these alone, whatever stands behind."""
+
+    # How many they are at most.
+    MOST = 50_000
+
+    def __init__(self) -> None:
+        self.insns: dict[bytes, Insn] = {}
+
+    def find(self, code: bytes, start: int) -> Optional[Insn]:
+        """The known instruction in front of the bytes from `start` on."""
+        insns = self.insns
+        for length in range(1, min(LONGEST, len(code) - start) + 1):
+            insn = insns.get(code[start : start + length])
+            if insn is not None:
+                return insn
+        return None
+
+    def add(self, code: bytes, insn: Insn) -> None:
+        if len(self.insns) == self.MOST:
+            self.insns.clear()
+        self.insns[code] = insn
+
+
+KNOWN = {False: Known(), True: Known()}
+
+
 def decode(code: bytes, start: int = 0, whole: bool = False):
     """The instruction in front of the bytes from `start` on, by the base map or the whole one, or the Fault: why there is none."""
+    known = KNOWN[whole].find(code, start)
+    if known is not None:
+        return known
     try:
         spelling = read_spelling(code, start, whole)
     except Stop as stop:
         return stop.fault
-    op, *rest = operation(spelling)
-    return Insn(spelling.length, op, *rest)
+    insn = Insn(spelling.length, *operation(spelling))
+    KNOWN[whole].add(code[start : start + insn.length], insn)
+    return insn
 
 
 def written(s: Spelling) -> set[int]:

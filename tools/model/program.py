@@ -3,9 +3,7 @@
 import os
 import re
 import select
-import shlex
 import signal
-import subprocess
 import tempfile
 from typing import NamedTuple, Optional
 
@@ -33,36 +31,66 @@ class NoAnswer(Exception):
     """The program didn't end in time."""
 
 
+# Where the files of a run are: in memory, where there is such a folder.
+MEMORY = "/dev/shm"
+
+
+class Stream:
+    """What a program prints: a file in memory that has no name."""
+
+    def __init__(self) -> None:
+        self.file = os.memfd_create("stream")
+
+    def taken(self) -> bytes:
+        """All that was written, which is gone then."""
+        size = os.lseek(self.file, 0, os.SEEK_CUR)
+        if size == 0:
+            return b""
+        body = os.pread(self.file, size, 0)
+        os.ftruncate(self.file, 0)
+        os.lseek(self.file, 0, os.SEEK_SET)
+        return body
+
+
 class Program:
-    """The program at a path, run in a folder of its own by a shell that stays: an interpreter that forked itself for each run
-    would copy the tables of all that it holds."""
+    """The program at a path, run in a folder of its own, which is this process's folder while it runs. It is spawned: an interpreter
+    that forked itself for each run would copy the tables of all that it holds."""
 
     def __init__(self, path: str):
         self.path = os.path.abspath(path)
-        self.folder = tempfile.TemporaryDirectory()
-        self.output, self.errors = tempfile.NamedTemporaryFile(), tempfile.NamedTemporaryFile()
-        self.shell = self.started()
+        self.folder = tempfile.TemporaryDirectory(dir=MEMORY if os.access(MEMORY, os.W_OK) else None)
+        self.output, self.errors = Stream(), Stream()
+        self.nothing = os.open(os.devnull, os.O_RDONLY)
+        streams = {0: self.nothing, 1: self.output.file, 2: self.errors.file}
+        self.actions = [(os.POSIX_SPAWN_DUP2, file, number) for number, file in streams.items()]
+        self.environment = dict(os.environ)
 
-    def started(self) -> subprocess.Popen:
-        """A shell in the folder."""
-        pipe = subprocess.PIPE
-        return subprocess.Popen(["sh"], cwd=self.folder.name, stdin=pipe, stdout=pipe, bufsize=0, start_new_session=True)
+    def ended(self, words: tuple[str, ...]) -> int:
+        """Runs it with these words; tells its status."""
+        os.chdir(self.folder.name)
+        process = os.posix_spawn(self.path, (self.path, *words), self.environment, file_actions=self.actions)
+        end = os.pidfd_open(process)
+        try:
+            if not select.select([end], [], [], SECONDS)[0]:
+                os.kill(process, signal.SIGKILL)
+                os.waitpid(process, 0)
+                raise NoAnswer
+        finally:
+            os.close(end)
+        status = os.waitstatus_to_exitcode(os.waitpid(process, 0)[1])
+        # (as a shell tells the signal that ended a program)
+        return status if status >= 0 else 128 - status
 
     def call(self, *words: str) -> tuple[int, list[str]]:
         """Its status and lines."""
-        self.shell.stdin.write(f"{shlex.join([self.path, *words])} >{self.output.name} 2>{self.errors.name}; echo $?\n".encode())
-        if not select.select([self.shell.stdout], [], [], SECONDS)[0]:
-            os.killpg(self.shell.pid, signal.SIGKILL)
-            self.shell.wait()
-            self.shell = self.started()
-            raise NoAnswer
-        status = int(self.shell.stdout.readline())
-        lines = read_file(self.output.name).decode("ascii", "replace").splitlines()
-        return status, lines + self.complaints(status)
+        try:
+            status = self.ended(words)
+        finally:
+            printed, errors = self.output.taken(), self.errors.taken()
+        return status, printed.decode("ascii", "replace").splitlines() + self.complaints(status, errors)
 
-    def complaints(self, status: int) -> list[str]:
+    def complaints(self, status: int, errors: bytes) -> list[str]:
         """What stands on the standard error and doesn't belong there."""
-        errors = read_file(self.errors.name)
         is_right = POINTER.fullmatch(errors) if status == REFUSED else not errors
         return [] if is_right else [f"standard error: {line}" for line in errors.decode("ascii", "replace").splitlines()]
 

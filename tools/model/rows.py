@@ -1,5 +1,6 @@
 """The rows of the unwind tables (docs/FORMATS.md): where the caller's frame is found at each instruction."""
 
+from functools import lru_cache
 from typing import NamedTuple, Optional
 
 from elf import Place
@@ -23,6 +24,7 @@ class Row(NamedTuple):
 ZERO = Row(0, 0, 0, 0, 0, False)
 
 
+@lru_cache(maxsize=10_000)
 def row_of(state: Optional[State]) -> Row:
     """The row of a state; where there is none, the zero row."""
     if state is None:

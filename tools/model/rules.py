@@ -3,9 +3,10 @@
 from typing import NamedTuple, Optional
 
 from elf import FUNC, Place
+from remembered import remembered
 from rows import offset_that_does_not_fit, row_of, site_rows
 from sites import Point
-from states import INITIAL, Broken, Ended, Live, Regs, State, brought, move, set_state
+from states import INITIAL, Broken, Ended, Live, Regs, State, brought, kept_states, move, set_state
 from uaccess import access_warnings
 
 
@@ -26,15 +27,24 @@ class Warning(NamedTuple):
     b: int = 0
 
 
-def broken_rules(flow, kept: dict, options: Options) -> list[Warning]:
-    """All warnings, sorted."""
+@remembered
+def broken_without_options(flow) -> set[Warning]:
+    """The warnings that are told whatever the options are."""
     found: set[Warning] = set()
+    kept = kept_states(flow)
     for point, state in kept.items():
         found.update(Warning(point.place, *rest) for rest in point_warnings(flow, point, state))
     found.update(join_warnings(flow, kept))
     found.update(site_warnings(flow, kept))
     found.update(unsized_functions(flow))
     found.update(lost_restores(flow, kept))
+    return found
+
+
+@remembered
+def broken_rules(flow, options: Options) -> list[Warning]:
+    """All warnings, sorted."""
+    kept, found = kept_states(flow), set(broken_without_options(flow))
     if options.unreachable and not found:
         found.update(unreachable_code(flow, kept))
     if options.fp:

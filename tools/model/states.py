@@ -4,9 +4,11 @@ A state tells of the innermost frame where rsp and rbp are. `cfa` is the value o
 the same under `state_defs`, and the states that are kept under `machine_defs`.
 """
 
+from functools import lru_cache
 from typing import NamedTuple, Optional, Union
 
 from opcodes import Insn
+from remembered import remembered
 from special import CALL, END_OF_STACK, FUNC, REGS, REGS_PARTIAL, RESTORE, SAVE, UNDEFINED, Hint
 
 MOST_DEPTH = 1_073_741_824
@@ -41,6 +43,7 @@ State = Union[Live, Ended, Regs]
 INITIAL = Live(False, 8, None, None)
 
 
+@lru_cache(maxsize=10_000)
 def order(state: State) -> tuple:
     """States come in the order of their kinds and fields; what is absent comes first."""
     if isinstance(state, Live):
@@ -59,17 +62,23 @@ class Broken(Exception):
 
 def move(state: State, insn: Insn) -> State:
     """The state after the instruction. Raises Broken."""
+    after = moved(state, insn.op, insn.value)
+    if isinstance(after, Broken):
+        raise Broken(after.rule)
+    return after
+
+
+@lru_cache(maxsize=10_000)
+def moved(state: State, op: str, value: Optional[int]) -> Union[State, Broken]:
+    """The state after an instruction with this operation and number, or what it breaks."""
     if isinstance(state, Ended):
         return state
-    if isinstance(state, Regs):
-        after = move_regs(state, insn.op, insn.value)
-        numbers = [after.depth]
-    else:
-        after = move_live(state, insn.op, insn.value)
-        numbers = [after.depth, after.fp or 0, after.saved or 0]
-    if any(abs(number) > MOST_DEPTH for number in numbers):
-        raise Broken(10)
-    return after
+    try:
+        after = move_regs(state, op, value) if isinstance(state, Regs) else move_live(state, op, value)
+    except Broken as broken:
+        return Broken(broken.rule)
+    numbers = [after.depth] if isinstance(after, Regs) else [after.depth, after.fp or 0, after.saved or 0]
+    return Broken(10) if any(abs(number) > MOST_DEPTH for number in numbers) else after
 
 
 def move_live(state: Live, op: str, value: Optional[int]) -> Live:
@@ -221,11 +230,13 @@ def brought(flow, point, state: State):
         yield edge.to, there
 
 
+@remembered
 def kept_states(flow) -> dict:
     """The state that is kept for each point that is reached."""
     return {point: state for level in kept_levels(flow) for point, state in level.items()}
 
 
+@remembered
 def kept_levels(flow) -> list[dict]:
     """The points that are kept, each with its state, by the level on which it is kept first.
 

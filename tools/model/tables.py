@@ -21,6 +21,8 @@ class JumpTables:
         self._of_jump: dict[Place, Place] = {}
         for sec, insns in code.insns.items():
             for off, insn in insns.items():
+                if insn.op not in ("JmpInd", "Jmp"):
+                    continue
                 begin = self._begin(Place(sec, off), insn)
                 if begin is not None:
                     self._of_jump[Place(sec, off)] = begin
