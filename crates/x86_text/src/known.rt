@@ -16,10 +16,10 @@ use std::alloc::Global;
 use x86_decode::{Map, decode};
 
 /// How many places there are for spellings at most.
-const MOST: usize = 16_384;
+const SPELLINGS: usize = 65_536;
 
-/// How many places there are for lengths.
-const LENGTHS: usize = 8_192;
+/// How many places there are for lengths at most.
+const LENGTHS: usize = 32_768;
 
 /// An instruction of at most eight bytes, and how it is spelled.
 #[derive(Clone, Copy)]
@@ -40,7 +40,7 @@ pub(crate) struct Known {
     /// For each hash of first bytes, how many bytes the last instruction has that was noted of those that begin so. It is a
     /// guess.
     lengths: Vec<u8>,
-    /// For each hash of a spelling, the last one that has it. Their count is a power of two.
+    /// For each hash of a spelling, the last one that has it.
     pub(crate) spellings: Vec<Spelling>,
 }
 
@@ -49,7 +49,7 @@ impl Known {
     pub(crate) fn new(alloc: Global, size: usize) -> Result<Known, NoMemory>
         ensures { IfOk result (λ known. (map : OpcodeMap) → All (IsSpelling map) known.spellings.items) }
     {
-        let places = (size / 8).clamp(1, MOST).next_power_of_two();
+        let places = size / 8 + 1;
         let none = Spelling {
             front: 0,
             op: Op::Plain,
@@ -57,16 +57,15 @@ impl Known {
             len: 0,
         };
         Ok(Known {
-            lengths: vec![in alloc; 0; LENGTHS]?,
-            spellings: vec![in alloc; none; places]?,
+            lengths: vec![in alloc; 0; places.min(LENGTHS)]?,
+            spellings: vec![in alloc; none; places.min(SPELLINGS)]?,
         })
     }
 
     /// Where a spelling with these bytes is kept.
     #[inline(always)]
     fn place_of(&self, front: u64) -> usize {
-        let hash = front.wrapping_mul(0x9E37_79B9_7F4A_7C15) >> 48;
-        hash as usize & self.spellings.len().wrapping_sub(1)
+        place_among(self.spellings.len(), front)
     }
 
     /// The spelling with which the bytes begin, if it is known.
@@ -89,7 +88,7 @@ impl Known {
         requires { to_le_bytes w64 first ≡ take 8 bytes.now }
         ensures { (map : OpcodeMap) → All (IsSpelling map) self.now.spellings.items → IfSome result (λ s. StandsInFront map bytes.now (insn_spelled s)) }
     {
-        let len = *self.lengths.get(length_place(telling))?;
+        let len = *self.lengths.get(place_among(self.lengths.len(), telling))?;
         let front = upper_of(first, len)?;
         let spelling = *self.spellings.get(self.place_of(front))?;
         if spelling.front == front && spelling.len == len {
@@ -123,7 +122,7 @@ impl Known {
 
 /// Keeps how many bytes an instruction has that begins with these.
 fn note_length(lengths: &mut [u8], telling: u64, len: u8) {
-    let place = length_place(telling);
+    let place = place_among(lengths.len(), telling);
     if place < lengths.len() {
         lengths[place] = len;
     }
@@ -167,11 +166,11 @@ fn four_of(first: u64) -> u64 {
     (first & 0xFFFF_FFFF) | (1 << 32)
 }
 
-/// Where the length of an instruction is kept that begins with these bytes.
+/// A hash of a number, below so many places. No contract says so.
 #[inline(always)]
-fn length_place(telling: u64) -> usize {
-    let hash = telling.wrapping_mul(0x9E37_79B9_7F4A_7C15) >> 48;
-    hash as usize & (LENGTHS - 1)
+fn place_among(places: usize, number: u64) -> usize {
+    let hash = number.wrapping_mul(0x9E37_79B9_7F4A_7C15) >> 32;
+    (hash.wrapping_mul(places as u64) >> 32) as usize
 }
 
 /// Reads the instruction at a boundary of a body, and adds it to a list. It is the one that `decode` gives.
