@@ -1,8 +1,9 @@
 -- What is known of the bytes that were read before, and of those that are decoded.
 use Rattle.std.specs.Prelude.{◌↔◌}
-use Rattle.std.proofs.Common.{◌≡◌, ℕ, zero, suc, ◌+◌, ◌*◌, ◌-◌, ◌/◌, ◌%◌, ◌^◌, ◌<◌, ◌≤◌, List, [], ◌∷◌, take, drop, length, get_or, Result, Ok, Err, All, refl, sym, ap, ◌∙◌, subst, arith}
+use Rattle.std.proofs.Common.{◌≡◌, ℕ, zero, suc, ◌+◌, ◌*◌, ◌-◌, ◌/◌, ◌%◌, ◌^◌, ◌<◌, ◌≤◌, List, [], ◌∷◌, ◌++◌, take, drop, length, get_or, Result, Ok, Err, All, refl, sym, ap, ◌∙◌, subst, arith}
 use Rattle.std.specs.Int.{w64, to_le_bytes}
 use Rattle.std.proofs.Math.Pow.{mod-mod-pow}
+use Rattle.std.proofs.Math.Seq.{take-add}
 use Rattle.std.proofs.lemmas.Nat.{field_of, shl-shr, shr-shr}
 use Rattle.std.proofs.lemmas.List.{get_or-drop, take-take}
 use Rattle.operation_defs.specs.declared.insn.Insn.{Insn}
@@ -13,8 +14,9 @@ use Rattle.x86_decode.specs.Decoding.{Outcome, StandsInFront, EndsOutside, IsCut
 use Rattle.x86_decode.specs.Spelling.{Spells}
 use Rattle.x86_decode.proofs.Decided.{bytes_from_each, decides, lengths, outcome}
 use Rattle.x86_decode.proofs.Languages.{IsBytes}
+use Rattle.x86_text.specs.declared.known.LongSpelling.{LongSpelling}
 use Rattle.x86_text.specs.declared.known.Spelling.{Spelling}
-use Rattle.x86_text.specs.Known.{insn_spelled, upper_bytes, IsSpelling}
+use Rattle.x86_text.specs.Known.{insn_spelled, long_bytes, long_insn_spelled, upper_bytes, IsLongSpelling, IsSpelling}
 
 module _ (bytes : List ℕ) (off : ℕ) (each : (k : ℕ) → get_or bytes k 0 < 256) where
   still_bytes : IsBytes (drop off bytes)
@@ -92,10 +94,10 @@ module _ (map : Map) (bytes : List ℕ) (first front len : ℕ) (is : to_le_byte
   same_bytes = above ∙ ap (take len) is ∙ take-take len 8 bytes few
 
   -- a known one stands in front
-  pub stands_known : (s : Spelling) → s.front ≡ front → s.len ≡ len → 0 < len → IsSpelling map s → StandsInFront map bytes (insn_spelled s)
+  pub stands_known : (s : Spelling) → s.front ≡ front → s.len ≡ len → 0 < len → IsSpelling map s → StandsInFront map bytes (record { len = len; op = s.op })
   stands_known s same_front same_len some known =
       let same : upper_bytes s.front s.len ≡ take s.len bytes = ap (λ f. upper_bytes f s.len) same_front ∙ ap (upper_bytes front) same_len ∙ same_bytes ∙ ap (λ n. take n bytes) (sym same_len) in
-      (omega arith, subst (λ front. Spells map front (insn_spelled s)) same (known (omega arith)))
+      subst (λ n. StandsInFront map bytes (record { len = n; op = s.op })) same_len (omega arith, subst (λ front. Spells map front (insn_spelled s)) same (known (omega arith)))
 
   -- what stands in front is known from now on
   pub known_now : (insn : Insn) (s : Spelling) → insn.len ≡ len → s.front ≡ front → insn_spelled s ≡ insn → StandsInFront map bytes insn → IsSpelling map s
@@ -107,3 +109,30 @@ module _ (map : Map) (bytes : List ℕ) (first front len : ℕ) (is : to_le_byte
 -- one that is looked up is among those that are known
 pub looked_up : (map : Map) (spellings now : List Spelling) (place : ℕ) (s : Spelling) → now ≡ spellings → All (IsSpelling map) spellings → place < length now → s ≡ get_or now place s → IsSpelling map s
 looked_up map spellings now place s same all inside is = subst (IsSpelling map) (sym is) (subst (All (IsSpelling map)) (sym same) all place s inside)
+
+-- ---- longer spellings
+
+module _ (map : Map) (bytes : List ℕ) (front back len : ℕ) (many : 8 < len) (few : len ≤ 15) (first : to_le_bytes w64 front ≡ take 8 bytes) (last : to_le_bytes w64 back ≡ take 8 (drop (len - 8) bytes)) where
+  same_long : long_bytes front back len ≡ take len bytes
+  same_long =
+      let sum : len - 8 + 8 ≡ len = omega arith in
+      ap (λ xs. take (len - 8) xs ++ to_le_bytes w64 back) first
+      ∙ ap (λ xs. xs ++ to_le_bytes w64 back) (take-take (len - 8) 8 bytes (omega arith))
+      ∙ ap (λ xs. take (len - 8) bytes ++ xs) last
+      ∙ sym (take-add (len - 8) 8 bytes)
+      ∙ ap (λ n. take n bytes) sum
+
+  -- a known one stands in front
+  pub stands_long : (s : LongSpelling) → s.front ≡ front → s.back ≡ back → s.len ≡ len → IsLongSpelling map s → StandsInFront map bytes (record { len = len; op = s.op })
+  stands_long s same_front same_back same_len known =
+      let same : long_bytes s.front s.back s.len ≡ take s.len bytes = ap (λ f. long_bytes f s.back s.len) same_front ∙ ap (λ b. long_bytes front b s.len) same_back ∙ ap (long_bytes front back) same_len ∙ same_long ∙ ap (λ n. take n bytes) (sym same_len) in
+      subst (λ n. StandsInFront map bytes (record { len = n; op = s.op })) same_len (omega arith, subst (λ front. Spells map front (long_insn_spelled s)) same (known (omega arith)))
+
+  -- what stands in front is known from now on
+  pub long_known_now : (insn : Insn) (number : ℕ) → insn.len ≡ len → StandsInFront map bytes insn → IsLongSpelling map (record { front = front; back = back; op = insn.op; number = number; len = insn.len })
+  long_known_now insn number same_len stands some =
+      subst (λ front. Spells map front insn) (ap (λ n. take n bytes) same_len ∙ sym same_long ∙ ap (long_bytes front back) (sym same_len)) stands.1
+
+-- one that is looked up is among those that are known
+pub long_looked_up : (map : Map) (spellings now : List LongSpelling) (place : ℕ) (s : LongSpelling) → now ≡ spellings → All (IsLongSpelling map) spellings → place < length now → s ≡ get_or now place s → IsLongSpelling map s
+long_looked_up map spellings now place s same all inside is = subst (IsLongSpelling map) (sym is) (subst (All (IsLongSpelling map)) (sym same) all place s inside)

@@ -1,11 +1,11 @@
 //! Reading instructions, where equal bytes were read before.
 
-ghost use Rattle.std.specs.Prelude.{◌≡◌, ◌++◌, ◌∷◌, ◌<◌, ◌≤◌, [], All, Ok, IfErr, IfOk, IfSome, length, drop, take};
+ghost use Rattle.std.specs.Prelude.{◌≡◌, ◌++◌, ◌∷◌, ◌-◌, ◌<◌, ◌≤◌, [], Ok, IfErr, IfOk, IfSome, length, drop, take};
 ghost use Rattle.std.specs.Int.{w64, to_le_bytes};
 ghost use Rattle.x86_map.specs.declared.map.Map.{Map as OpcodeMap};
 ghost use Rattle.x86_decode.specs.Decoding.{StandsInFront, decoded};
 ghost use Rattle.x86_text.specs.Code.{read_by, IsBoundary};
-ghost use Rattle.x86_text.specs.Known.{insn_spelled, upper_bytes, IsSpelling};
+ghost use Rattle.x86_text.specs.Known.{upper_bytes, AreSpellings};
 ghost use Rattle.x86_text.specs.Refused.{IsTextFault};
 
 use crate::fault::TextFault;
@@ -17,6 +17,9 @@ use x86_decode::{Map, decode};
 
 /// How many places there are for spellings at most.
 const SPELLINGS: usize = 65_536;
+
+/// How many places there are for longer spellings at most.
+const LONG: usize = 2_048;
 
 /// How many places there are for lengths at most.
 const LENGTHS: usize = 32_768;
@@ -34,6 +37,21 @@ pub(crate) struct Spelling {
     pub(crate) len: u8,
 }
 
+/// An instruction of nine to fifteen bytes, and how it is spelled.
+#[derive(Clone, Copy)]
+pub(crate) struct LongSpelling {
+    /// Its first eight bytes: the first of them is the lowest of the number.
+    pub(crate) front: u64,
+    /// Its last eight bytes, in the same order. Some are of the first eight too.
+    pub(crate) back: u64,
+    /// What it does.
+    pub(crate) op: Op,
+    /// The number of such an instruction among those of the list that differ. It is a guess.
+    pub(crate) number: u32,
+    /// How many bytes it has: none before one is noted.
+    pub(crate) len: u8,
+}
+
 /// The spellings that were read last, of those with the same hash.
 #[derive(Drop)]
 pub(crate) struct Known {
@@ -42,12 +60,14 @@ pub(crate) struct Known {
     lengths: Vec<u8>,
     /// For each hash of a spelling, the last one that has it.
     pub(crate) spellings: Vec<Spelling>,
+    /// In the same way, those of more than eight bytes.
+    pub(crate) long: Vec<LongSpelling>,
 }
 
 impl Known {
     /// Room for the spellings of a body of so many bytes.
     pub(crate) fn new(alloc: Global, size: usize) -> Result<Known, NoMemory>
-        ensures { IfOk result (λ known. (map : OpcodeMap) → All (IsSpelling map) known.spellings.items) }
+        ensures { IfOk result (λ known. (map : OpcodeMap) → AreSpellings map known) }
     {
         let places = size / 8 + 1;
         let none = Spelling {
@@ -56,9 +76,17 @@ impl Known {
             number: 0,
             len: 0,
         };
+        let no_long = LongSpelling {
+            front: 0,
+            back: 0,
+            op: Op::Plain,
+            number: 0,
+            len: 0,
+        };
         Ok(Known {
             lengths: vec![in alloc; 0; places.min(LENGTHS)]?,
             spellings: vec![in alloc; none; places.min(SPELLINGS)]?,
+            long: vec![in alloc; no_long; (size / 64 + 1).min(LONG)]?,
         })
     }
 
@@ -68,10 +96,16 @@ impl Known {
         place_among(self.spellings.len(), front)
     }
 
-    /// The spelling with which the bytes begin, if it is known.
+    /// Where a longer one with these first and last bytes is kept.
     #[inline(always)]
-    fn find(&self, bytes: &[u8]) -> Option<Spelling>
-        ensures { (map : OpcodeMap) → All (IsSpelling map) self.now.spellings.items → IfSome result (λ s. StandsInFront map bytes.now (insn_spelled s)) }
+    fn long_place_of(&self, front: u64, back: u64) -> usize {
+        place_among(self.long.len(), front ^ back)
+    }
+
+    /// The instruction with which the bytes begin, if its spelling is known, and its guessed number.
+    #[inline(always)]
+    fn find(&self, bytes: &[u8]) -> Option<(Insn, u32)>
+        ensures { (map : OpcodeMap) → AreSpellings map self.now → IfSome result (λ found. StandsInFront map bytes.now found.0) }
     {
         let first = first_eight(bytes)?;
         let by_few = self.find_by(bytes, first, few_of(first));
@@ -81,26 +115,46 @@ impl Known {
         self.find_by(bytes, first, four_of(first))
     }
 
-    /// The spelling with which the bytes begin, of which these are the first eight, if it is known and as long as the last
-    /// one that was noted of those that begin with the telling ones.
+    /// The instruction with which the bytes begin, of which these are the first eight, if its spelling is known and as long
+    /// as the last one that was noted of those that begin with the telling ones.
     #[inline(always)]
-    fn find_by(&self, bytes: &[u8], first: u64, telling: u64) -> Option<Spelling>
+    fn find_by(&self, bytes: &[u8], first: u64, telling: u64) -> Option<(Insn, u32)>
         requires { to_le_bytes w64 first ≡ take 8 bytes.now }
-        ensures { (map : OpcodeMap) → All (IsSpelling map) self.now.spellings.items → IfSome result (λ s. StandsInFront map bytes.now (insn_spelled s)) }
+        ensures { (map : OpcodeMap) → AreSpellings map self.now → IfSome result (λ found. StandsInFront map bytes.now found.0) }
     {
         let len = *self.lengths.get(place_among(self.lengths.len(), telling))?;
+        if len > 8 {
+            return self.find_long(bytes, first, len);
+        }
         let front = upper_of(first, len)?;
         let spelling = *self.spellings.get(self.place_of(front))?;
         if spelling.front == front && spelling.len == len {
-            Some(spelling)
+            let op = spelling.op;
+            Some((Insn { len, op }, spelling.number))
         } else {
             None
         }
     }
 
-    /// Keeps the spelling with which the bytes begin, where it has at most eight, with the guessed number of its instruction.
+    /// The instruction of more than eight bytes, so many, with which the bytes begin, of which these are the first eight, if
+    /// its spelling is known.
+    fn find_long(&self, bytes: &[u8], first: u64, len: u8) -> Option<(Insn, u32)>
+        requires { to_le_bytes w64 first ≡ take 8 bytes.now }
+        ensures { (map : OpcodeMap) → AreSpellings map self.now → IfSome result (λ found. StandsInFront map bytes.now found.0) }
+    {
+        let back = last_eight(bytes, len)?;
+        let spelling = *self.long.get(self.long_place_of(first, back))?;
+        if spelling.front == first && spelling.back == back && spelling.len == len {
+            let op = spelling.op;
+            Some((Insn { len, op }, spelling.number))
+        } else {
+            None
+        }
+    }
+
+    /// Keeps the spelling with which the bytes begin, with the guessed number of its instruction.
     fn note(&mut self, bytes: &[u8], insn: Insn, number: u32)
-        ensures { (map : OpcodeMap) → All (IsSpelling map) self.old.spellings.items → StandsInFront map bytes.now insn → All (IsSpelling map) self.new.spellings.items }
+        ensures { (map : OpcodeMap) → AreSpellings map self.old → StandsInFront map bytes.now insn → AreSpellings map self.new }
     {
         if let Some(first) = first_eight(bytes) {
             note_length(&mut self.lengths, few_of(first), insn.len);
@@ -110,6 +164,17 @@ impl Known {
                 if place < self.spellings.len() {
                     self.spellings[place] = Spelling {
                         front,
+                        op: insn.op,
+                        number,
+                        len: insn.len,
+                    };
+                }
+            } else if let Some(back) = last_eight(bytes, insn.len) {
+                let place = self.long_place_of(first, back);
+                if place < self.long.len() {
+                    self.long[place] = LongSpelling {
+                        front: first,
+                        back,
                         op: insn.op,
                         number,
                         len: insn.len,
@@ -135,6 +200,20 @@ fn first_eight(bytes: &[u8]) -> Option<u64>
 {
     let first = bytes.first_chunk::<8>()?;
     Some(u64::from_le_bytes(*first))
+}
+
+/// The last eight of the first bytes, so many of them, where they are nine to fifteen.
+fn last_eight(bytes: &[u8], len: u8) -> Option<u64>
+    ensures { IfSome result (λ back. (8 < len) × (len ≤ 15) × (to_le_bytes w64 back ≡ take 8 (drop (len - 8) bytes.now))) }
+{
+    if len <= 8 || len > 15 {
+        return None;
+    }
+    let before = usize::from(len - 8);
+    if before > bytes.len() {
+        return None;
+    }
+    first_eight(&bytes[before..])
 }
 
 /// The lowest bytes of a number, so many of them, moved to its upper end.
@@ -184,19 +263,15 @@ pub(crate) fn read_insn(
 ) -> Result<Insn, TextFault>
     requires boundary { IsBoundary (read_by map body.now) off }
     requires inside { off < length body.now }
-    requires known { All (IsSpelling map) known.old.spellings.items }
-    ensures known { All (IsSpelling map) known.new.spellings.items }
+    requires known { AreSpellings map known.old }
+    ensures known { AreSpellings map known.new }
     ensures insn { IfOk result (λ insn. decoded map (drop off body.now) ≡ Ok insn) }
     ensures added { IfOk result (λ insn. insns.new ≡ insns.old ++ insn ∷ []) }
     ensures fault { IfErr result (IsTextFault (read_by map body.now)) }
 {
     let bytes = &body[off..];
-    if let Some(spelling) = known.find(bytes) {
-        let insn = Insn {
-            len: spelling.len,
-            op: spelling.op,
-        };
-        insns.push_guessed(insn, spelling.number)?;
+    if let Some((insn, number)) = known.find(bytes) {
+        insns.push_guessed(insn, number)?;
         return Ok(insn);
     }
     match decode(map, bytes) {

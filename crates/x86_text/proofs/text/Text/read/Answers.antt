@@ -36,7 +36,7 @@ all : (c : goal.After-loop-off) → IsKept (read_by c.args.map c.args.body.now) 
 all c = kept_all (read_by c.args.map c.args.body.now) c.loop-off.offsets.items c.loop-off.table_jumps.items c.args.insns.now c.loop-off.insns c.loop-off.off c.loop-off.invariant.0 c.loop-off-test.false (omega arith)
 
 -- and stays so when what was noted is gone
-all_read : (c : goal.After-drop-known-3) → IsKept (read_by c.args.map c.args.body.now) c.loop-off.offsets.items c.loop-off.table_jumps.items × (c.loop-off.insns ≡ c.args.insns.now ++ insns_of (read_by c.args.map c.args.body.now))
+all_read : (c : goal.After-drop-known-4) → IsKept (read_by c.args.map c.args.body.now) c.loop-off.offsets.items c.loop-off.table_jumps.items × (c.loop-off.insns ≡ c.args.insns.now ++ insns_of (read_by c.args.map c.args.body.now))
 all_read c = kept_all (read_by c.args.map c.args.body.now) c.loop-off.offsets.items c.loop-off.table_jumps.items c.args.insns.now c.loop-off.insns c.loop-off.off c.loop-off.invariant.0 c.loop-off-test.false (omega arith)
 
 pub returns-clause-code : goal.returns-clause-code
