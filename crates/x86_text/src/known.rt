@@ -1,78 +1,118 @@
 //! Reading instructions, where equal bytes were read before.
 
-ghost use Rattle.std.specs.Prelude.{◌≡◌, ◌++◌, ◌∷◌, ◌<◌, ◌≤◌, [], All, Ok, IfErr, IfOk, IfSome, length, drop, take};
+ghost use Rattle.std.specs.Prelude.{◌≡◌, true, ◌-◌, ◌<◌, ◌≤◌, Some, IfOk, IfSome, List, drop, take, slice_get};
 ghost use Rattle.std.specs.Int.{w64, to_le_bytes};
-ghost use Rattle.x86_map.specs.declared.map.Map.{Map as OpcodeMap};
-ghost use Rattle.x86_decode.specs.Decoding.{StandsInFront, decoded};
-ghost use Rattle.x86_text.specs.Code.{read_by, IsBoundary};
-ghost use Rattle.x86_text.specs.Known.{insn_spelled, upper_bytes, IsSpelling};
-ghost use Rattle.x86_text.specs.Refused.{IsTextFault};
+ghost use Rattle.operation_defs.specs.declared.insn.Insn.{Insn as AnInsn};
+ghost use Rattle.x86_decode.specs.Decoding.{StandsInFront};
+ghost use Rattle.x86_text.specs.Known.{upper_bytes, AreSpellings, IsKindInFront};
 
-use crate::fault::TextFault;
-use crate::insn_list::InsnList;
-use operation_defs::{Insn, Op};
 use ot_base::NoMemory;
 use std::alloc::Global;
-use x86_decode::{Map, decode};
+use x86_decode::Map;
 
 /// How many places there are for spellings at most.
-const MOST: usize = 16_384;
+const SPELLINGS: usize = 65_536;
 
-/// How many places there are for lengths.
-const LENGTHS: usize = 8_192;
+/// How many places there are for longer spellings at most.
+const LONG: usize = 2_048;
+
+/// How many places there are for lengths at most.
+const LENGTHS: usize = 32_768;
 
 /// An instruction of at most eight bytes, and how it is spelled.
 #[derive(Clone, Copy)]
 pub(crate) struct Spelling {
     /// Its bytes at the upper end of the number, the first of them lowest, and zeros below.
     pub(crate) front: u64,
-    /// What it does.
-    pub(crate) op: Op,
-    /// The number of such an instruction among those of the list that differ. It is a guess.
+    /// Its number among those of the list that differ.
     pub(crate) number: u32,
     /// How many bytes it has: none before one is noted.
     pub(crate) len: u8,
 }
 
-/// The spellings that were read last, of those with the same hash.
+/// An instruction of nine to fifteen bytes, and how it is spelled.
+#[derive(Clone, Copy)]
+pub(crate) struct LongSpelling {
+    /// Its first eight bytes: the first of them is the lowest of the number.
+    pub(crate) front: u64,
+    /// Its last eight bytes, in the same order. Some are of the first eight too.
+    pub(crate) back: u64,
+    /// Its number among those of the list that differ.
+    pub(crate) number: u32,
+    /// How many bytes it has: none before one is noted.
+    pub(crate) len: u8,
+}
+
+/// The spellings by a map that were read last, of those with the same hash.
 #[derive(Drop)]
 pub(crate) struct Known {
+    /// By which map they are read.
+    pub(crate) map: Map,
     /// For each hash of first bytes, how many bytes the last instruction has that was noted of those that begin so. It is a
     /// guess.
     lengths: Vec<u8>,
-    /// For each hash of a spelling, the last one that has it. Their count is a power of two.
+    /// For each hash of a spelling, the last one that has it.
     pub(crate) spellings: Vec<Spelling>,
+    /// In the same way, those of more than eight bytes.
+    pub(crate) long: Vec<LongSpelling>,
 }
 
 impl Known {
-    /// Room for the spellings of a body of so many bytes.
-    pub(crate) fn new(alloc: Global, size: usize) -> Result<Known, NoMemory>
-        ensures { IfOk result (λ known. (map : OpcodeMap) → All (IsSpelling map) known.spellings.items) }
+    /// Room for the spellings by a map of about so many instructions.
+    pub(crate) fn new(alloc: Global, map: Map, count: usize) -> Result<Known, NoMemory>
+        ensures { IfOk result (λ known. (kinds : List AnInsn) → AreSpellings kinds known) }
     {
-        let places = (size / 8).clamp(1, MOST).next_power_of_two();
         let none = Spelling {
             front: 0,
-            op: Op::Plain,
+            number: 0,
+            len: 0,
+        };
+        let no_long = LongSpelling {
+            front: 0,
+            back: 0,
             number: 0,
             len: 0,
         };
         Ok(Known {
-            lengths: vec![in alloc; 0; LENGTHS]?,
-            spellings: vec![in alloc; none; places]?,
+            map,
+            lengths: vec![in alloc; 0; count.min(LENGTHS)]?,
+            spellings: vec![in alloc; none; count.min(SPELLINGS)]?,
+            long: vec![in alloc; no_long; (count / 8).min(LONG)]?,
         })
+    }
+
+    /// Whether they are read by this map.
+    #[inline(always)]
+    pub(crate) fn is_by(&self, map: Map) -> bool
+        ensures { result ≡ true → self.now.map ≡ map }
+    {
+        matches!(
+            (self.map, map),
+            (Map::Base, Map::Base) | (Map::Whole, Map::Whole)
+        )
+    }
+
+    /// Whether there is room for the spellings by a map of about so many instructions.
+    pub(crate) fn has_room(&self, map: Map, count: usize) -> bool {
+        self.is_by(map) && self.spellings.len() >= count.min(SPELLINGS)
     }
 
     /// Where a spelling with these bytes is kept.
     #[inline(always)]
     fn place_of(&self, front: u64) -> usize {
-        let hash = front.wrapping_mul(0x9E37_79B9_7F4A_7C15) >> 48;
-        hash as usize & self.spellings.len().wrapping_sub(1)
+        place_among(self.spellings.len(), front)
     }
 
-    /// The spelling with which the bytes begin, if it is known.
+    /// Where a longer one with these first and last bytes is kept.
     #[inline(always)]
-    fn find(&self, bytes: &[u8]) -> Option<Spelling>
-        ensures { (map : OpcodeMap) → All (IsSpelling map) self.now.spellings.items → IfSome result (λ s. StandsInFront map bytes.now (insn_spelled s)) }
+    fn long_place_of(&self, front: u64, back: u64) -> usize {
+        place_among(self.long.len(), front ^ back)
+    }
+
+    /// The number of the instruction with which the bytes begin, if its spelling is known.
+    #[inline(always)]
+    pub(crate) fn find(&self, bytes: &[u8]) -> Option<u32>
+        ensures { (kinds : List AnInsn) → AreSpellings kinds self.now → IfSome result (IsKindInFront self.now.map kinds bytes.now) }
     {
         let first = first_eight(bytes)?;
         let by_few = self.find_by(bytes, first, few_of(first));
@@ -82,38 +122,61 @@ impl Known {
         self.find_by(bytes, first, four_of(first))
     }
 
-    /// The spelling with which the bytes begin, of which these are the first eight, if it is known and as long as the last
-    /// one that was noted of those that begin with the telling ones.
+    /// The number of the instruction with which the bytes begin, of which these are the first eight, if its spelling is known
+    /// and as long as the last one that was noted of those that begin with the telling ones.
     #[inline(always)]
-    fn find_by(&self, bytes: &[u8], first: u64, telling: u64) -> Option<Spelling>
+    fn find_by(&self, bytes: &[u8], first: u64, telling: u64) -> Option<u32>
         requires { to_le_bytes w64 first ≡ take 8 bytes.now }
-        ensures { (map : OpcodeMap) → All (IsSpelling map) self.now.spellings.items → IfSome result (λ s. StandsInFront map bytes.now (insn_spelled s)) }
+        ensures { (kinds : List AnInsn) → AreSpellings kinds self.now → IfSome result (IsKindInFront self.now.map kinds bytes.now) }
     {
-        let len = *self.lengths.get(length_place(telling))?;
+        let len = *self.lengths.get(place_among(self.lengths.len(), telling))?;
+        if len > 8 {
+            return self.find_long(bytes, first, len);
+        }
         let front = upper_of(first, len)?;
         let spelling = *self.spellings.get(self.place_of(front))?;
         if spelling.front == front && spelling.len == len {
-            Some(spelling)
+            Some(spelling.number)
         } else {
             None
         }
     }
 
-    /// Keeps the spelling with which the bytes begin, where it has at most eight, with the guessed number of its instruction.
-    fn note(&mut self, bytes: &[u8], insn: Insn, number: u32)
-        ensures { (map : OpcodeMap) → All (IsSpelling map) self.old.spellings.items → StandsInFront map bytes.now insn → All (IsSpelling map) self.new.spellings.items }
+    /// The number of the instruction of more than eight bytes, so many, with which the bytes begin, of which these are the
+    /// first eight, if its spelling is known.
+    fn find_long(&self, bytes: &[u8], first: u64, len: u8) -> Option<u32>
+        requires { to_le_bytes w64 first ≡ take 8 bytes.now }
+        ensures { (kinds : List AnInsn) → AreSpellings kinds self.now → IfSome result (IsKindInFront self.now.map kinds bytes.now) }
+    {
+        let back = last_eight(bytes, len)?;
+        let spelling = *self.long.get(self.long_place_of(first, back))?;
+        if spelling.front == first && spelling.back == back && spelling.len == len {
+            Some(spelling.number)
+        } else {
+            None
+        }
+    }
+
+    /// Keeps the spelling with which the bytes begin, so many of them, with the number of its instruction.
+    pub(crate) fn note(&mut self, bytes: &[u8], len: u8, number: u32)
+        ensures { (kinds : List AnInsn) (insn : AnInsn) → AreSpellings kinds self.old → slice_get kinds number ≡ Some insn → insn.len ≡ len → StandsInFront self.old.map bytes.now insn → AreSpellings kinds self.new }
     {
         if let Some(first) = first_eight(bytes) {
-            note_length(&mut self.lengths, few_of(first), insn.len);
-            note_length(&mut self.lengths, four_of(first), insn.len);
-            if let Some(front) = upper_of(first, insn.len) {
+            note_length(&mut self.lengths, few_of(first), len);
+            note_length(&mut self.lengths, four_of(first), len);
+            if let Some(front) = upper_of(first, len) {
                 let place = self.place_of(front);
                 if place < self.spellings.len() {
-                    self.spellings[place] = Spelling {
-                        front,
-                        op: insn.op,
+                    self.spellings[place] = Spelling { front, number, len };
+                }
+            } else if let Some(back) = last_eight(bytes, len) {
+                let place = self.long_place_of(first, back);
+                if place < self.long.len() {
+                    self.long[place] = LongSpelling {
+                        front: first,
+                        back,
                         number,
-                        len: insn.len,
+                        len,
                     };
                 }
             }
@@ -123,7 +186,7 @@ impl Known {
 
 /// Keeps how many bytes an instruction has that begins with these.
 fn note_length(lengths: &mut [u8], telling: u64, len: u8) {
-    let place = length_place(telling);
+    let place = place_among(lengths.len(), telling);
     if place < lengths.len() {
         lengths[place] = len;
     }
@@ -136,6 +199,20 @@ fn first_eight(bytes: &[u8]) -> Option<u64>
 {
     let first = bytes.first_chunk::<8>()?;
     Some(u64::from_le_bytes(*first))
+}
+
+/// The last eight of the first bytes, so many of them, where they are nine to fifteen.
+fn last_eight(bytes: &[u8], len: u8) -> Option<u64>
+    ensures { IfSome result (λ back. (8 < len) × (len ≤ 15) × (to_le_bytes w64 back ≡ take 8 (drop (len - 8) bytes.now))) }
+{
+    if len <= 8 || len > 15 {
+        return None;
+    }
+    let before = usize::from(len - 8);
+    if before > bytes.len() {
+        return None;
+    }
+    first_eight(&bytes[before..])
 }
 
 /// The lowest bytes of a number, so many of them, moved to its upper end.
@@ -167,48 +244,9 @@ fn four_of(first: u64) -> u64 {
     (first & 0xFFFF_FFFF) | (1 << 32)
 }
 
-/// Where the length of an instruction is kept that begins with these bytes.
+/// A hash of a number, below so many places. No contract says so.
 #[inline(always)]
-fn length_place(telling: u64) -> usize {
-    let hash = telling.wrapping_mul(0x9E37_79B9_7F4A_7C15) >> 48;
-    hash as usize & (LENGTHS - 1)
-}
-
-/// Reads the instruction at a boundary of a body, and adds it to a list. It is the one that `decode` gives.
-#[inline(always)]
-pub(crate) fn read_insn(
-    map: Map,
-    body: &[u8],
-    off: usize,
-    known: &mut Known,
-    insns: &mut InsnList,
-) -> Result<Insn, TextFault>
-    requires boundary { IsBoundary (read_by map body.now) off }
-    requires inside { off < length body.now }
-    requires known { All (IsSpelling map) known.old.spellings.items }
-    ensures known { All (IsSpelling map) known.new.spellings.items }
-    ensures insn { IfOk result (λ insn. decoded map (drop off body.now) ≡ Ok insn) }
-    ensures added { IfOk result (λ insn. insns.new ≡ insns.old ++ insn ∷ []) }
-    ensures fault { IfErr result (IsTextFault (read_by map body.now)) }
-{
-    let bytes = &body[off..];
-    if let Some(spelling) = known.find(bytes) {
-        let insn = Insn {
-            len: spelling.len,
-            op: spelling.op,
-        };
-        insns.push_guessed(insn, spelling.number)?;
-        return Ok(insn);
-    }
-    match decode(map, bytes) {
-        Ok(insn) => {
-            insns.push(insn)?;
-            known.note(bytes, insn, insns.last_number());
-            Ok(insn)
-        }
-        Err(why) => {
-            let off = off as u64;
-            Err(TextFault::At { off, why })
-        }
-    }
+fn place_among(places: usize, number: u64) -> usize {
+    let hash = number.wrapping_mul(0x9E37_79B9_7F4A_7C15) >> 32;
+    (hash.wrapping_mul(places as u64) >> 32) as usize
 }
