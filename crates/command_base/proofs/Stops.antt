@@ -217,34 +217,34 @@ no_faulty_line text line why right h =
 
 -- what holds of a stop that tells the first faulty line, and of want of memory, holds of a stop of the names file
 of_lists : (P : CommandStop → Type 0) (text : List ℕ) (s : CommandStop) → ((line : ℕ) (why : ListsWhy) → IsFirstFault text line why → P (stop.Refused (refusal.Lists (lists_fault.Line line why)))) → P stop.NoMemory → IsListsStop text s → P s
-of_lists P text (stop.Usage usage) told memory h = absurd h
-of_lists P text (stop.Missing told) told memory h = absurd h
-of_lists P text (stop.TooLong told at) told memory h = absurd h
-of_lists P text (stop.Refused (refusal.Malformed fault)) told memory h = absurd h
-of_lists P text (stop.Refused (refusal.Orc fault)) told memory h = absurd h
-of_lists P text (stop.Refused (refusal.Lists (lists_fault.Line line why))) told memory h = told line why h
-of_lists P text (stop.Refused (refusal.Lists lists_fault.NoMemory)) told memory h = absurd h
-of_lists P text (stop.Refused (refusal.Image fault)) told memory h = absurd h
-of_lists P text (stop.Refused (refusal.NoText sec)) told memory h = absurd h
-of_lists P text (stop.Refused (refusal.Unplaced fault)) told memory h = absurd h
-of_lists P text (stop.Refused (refusal.Unlinked told)) told memory h = absurd h
-of_lists P text (stop.Refused (refusal.Unflowed told)) told memory h = absurd h
-of_lists P text (stop.Refused (refusal.HasOrc sec)) told memory h = absurd h
-of_lists P text (stop.Refused (refusal.HasSites sec)) told memory h = absurd h
-of_lists P text (stop.Refused (refusal.Sites fault)) told memory h = absurd h
-of_lists P text (stop.Refused (refusal.HasFrames sec)) told memory h = absurd h
-of_lists P text (stop.Refused (refusal.Frames fault)) told memory h = absurd h
-of_lists P text (stop.Refused (refusal.TooMany what count)) told memory h = absurd h
-of_lists P text (stop.Refused (refusal.Layout fault)) told memory h = absurd h
-of_lists P text (stop.Refused (refusal.TooManyFiles count)) told memory h = absurd h
-of_lists P text (stop.Refused (refusal.Merge fault)) told memory h = absurd h
-of_lists P text (stop.Refused (refusal.Table fault)) told memory h = absurd h
-of_lists P text (stop.Refused (refusal.NoFunction function)) told memory h = absurd h
-of_lists P text (stop.PartMissing part told) told memory h = absurd h
-of_lists P text (stop.PartTooLong part told at) told memory h = absurd h
-of_lists P text (stop.PartRefused part why) told memory h = absurd h
-of_lists P text (stop.FileFault told) told memory h = absurd h
-of_lists P text stop.NoMemory told memory h = memory
+of_lists P text (stop.Usage usage) on_line on_memory h = absurd h
+of_lists P text (stop.Missing told) on_line on_memory h = absurd h
+of_lists P text (stop.TooLong told at) on_line on_memory h = absurd h
+of_lists P text (stop.Refused (refusal.Malformed fault)) on_line on_memory h = absurd h
+of_lists P text (stop.Refused (refusal.Orc fault)) on_line on_memory h = absurd h
+of_lists P text (stop.Refused (refusal.Lists (lists_fault.Line line why))) on_line on_memory h = on_line line why h
+of_lists P text (stop.Refused (refusal.Lists lists_fault.NoMemory)) on_line on_memory h = absurd h
+of_lists P text (stop.Refused (refusal.Image fault)) on_line on_memory h = absurd h
+of_lists P text (stop.Refused (refusal.NoText sec)) on_line on_memory h = absurd h
+of_lists P text (stop.Refused (refusal.Unplaced fault)) on_line on_memory h = absurd h
+of_lists P text (stop.Refused (refusal.Unlinked told)) on_line on_memory h = absurd h
+of_lists P text (stop.Refused (refusal.Unflowed told)) on_line on_memory h = absurd h
+of_lists P text (stop.Refused (refusal.HasOrc sec)) on_line on_memory h = absurd h
+of_lists P text (stop.Refused (refusal.HasSites sec)) on_line on_memory h = absurd h
+of_lists P text (stop.Refused (refusal.Sites fault)) on_line on_memory h = absurd h
+of_lists P text (stop.Refused (refusal.HasFrames sec)) on_line on_memory h = absurd h
+of_lists P text (stop.Refused (refusal.Frames fault)) on_line on_memory h = absurd h
+of_lists P text (stop.Refused (refusal.TooMany what count)) on_line on_memory h = absurd h
+of_lists P text (stop.Refused (refusal.Layout fault)) on_line on_memory h = absurd h
+of_lists P text (stop.Refused (refusal.TooManyFiles count)) on_line on_memory h = absurd h
+of_lists P text (stop.Refused (refusal.Merge fault)) on_line on_memory h = absurd h
+of_lists P text (stop.Refused (refusal.Table fault)) on_line on_memory h = absurd h
+of_lists P text (stop.Refused (refusal.NoFunction function)) on_line on_memory h = absurd h
+of_lists P text (stop.PartMissing part told) on_line on_memory h = absurd h
+of_lists P text (stop.PartTooLong part told at) on_line on_memory h = absurd h
+of_lists P text (stop.PartRefused part why) on_line on_memory h = absurd h
+of_lists P text (stop.FileFault told) on_line on_memory h = absurd h
+of_lists P text stop.NoMemory on_line on_memory h = on_memory
 
 -- so want of memory alone keeps it from being read
 lists_memory : (s : CommandStop) (text : List ℕ) → IsNamesFile text → IsListsStop text s → s ≡ stop.NoMemory
