@@ -62,6 +62,13 @@ followed_kind o n = by (is_listed o (point_at o n)) (ends_at_next o n) (is_strai
     by true false straight is = is
     by false false straight is = is
 
+-- none yet
+pub none_yet : (o : Coded) → AreKinds o [] 0
+none_yet o = record {
+  each = refl;
+  told = λ k inside. absurd (omega (arith, inside));
+}
+
 -- one kind more
 pub one_more : (o : Coded) (kinds : List Kind) (n : ℕ) (kind : Kind) → AreKinds o kinds n → kind ≡ kind_of o n → AreKinds o (kinds ++ kind ∷ []) (n + 1)
 one_more o kinds n kind all is = record {

@@ -8,7 +8,10 @@ use Rattle.special_sections.specs.declared.entries.BranchEntry.{BranchEntry}
 use Rattle.special_sections.specs.declared.entries.FixEntry.{FixEntry}
 use Rattle.special_sections.specs.Special.{special_of}
 use Rattle.alternatives.specs.declared.point.Point.{Point}
+use Rattle.operation_defs.specs.declared.op.Op.{Op}
+use Rattle.operation_defs.specs.declared.op.Op.TheVariants.{Ud2}
 use Rattle.flow_defs.specs.Coded.{Coded}
+use Rattle.flow_defs.specs.Marks.{has_relocated_offset}
 use Rattle.flow_defs.specs.Arrival.{decoded_insn, ends_at, is_dead_end, is_padding, is_ud2}
 use Rattle.flow_defs.specs.Code.{is_plain, point_at}
 use Rattle.flow_defs.specs.Edges.{fixups, is_some_place, static_targets}
@@ -16,7 +19,7 @@ use Rattle.object_points.specs.Places.{is_among, HaveSamePlaces}
 use Rattle.point_arrivals.specs.Kinds.{kind_of}
 use Rattle.point_arrivals.specs.Lists.{branch_places_of, fix_places_of, original_places_of, told_places_of}
 use Rattle.point_arrivals.specs.Marks.{is_listed}
-use Rattle.point_arrivals.specs.Straight.{end_of, ends_at_next, is_next_at, is_straight_insn}
+use Rattle.point_arrivals.specs.Straight.{end_of, ends_at_next, is_next_at, is_straight_insn, is_straight_op}
 use Rattle.point_arrivals.specs.declared.kind.Kind.TheVariants.{Unlisted}
 use Rattle.point_arrivals.proofs.Ending.{other_passes}
 use Rattle.point_arrivals.proofs.KindOf.{kind_by, kind_is, unlisted_is}
@@ -88,6 +91,21 @@ no_fixups : (o : Coded) (p : Point) → IsUntold o p.place → is_some_place (fi
 no_fixups o p none =
     ap (λ (fs : List FixEntry). is_some_place (if is_padding o p then [] else map (λ (f : FixEntry). f.fixup) fs)) (no_fix (special_of o.elf).fixes p.place none.fix)
     ∙ neither (is_padding o p)
+
+-- a straight instruction is no Ud2
+other_op : (op : Op) → is_straight_op op ≡ true → is_ud2 op ≡ false
+other_op Ud2 straight = absurd (false≢true straight)
+other_op op straight = refl
+
+pub straight_passes : (o : Coded) (n : ℕ) → is_straight_insn o n ≡ true → is_ud2 (decoded_insn o (point_at o n)).op ≡ false
+straight_passes o n is =
+    let p : Point = point_at o n in
+    other_op (decoded_insn o p).op (by (is_plain p) (is_straight_op (decoded_insn o p).op) (not (has_relocated_offset o p (decoded_insn o p))) is)
+  where
+    by : (plain straight still : Bool) → (plain && (straight && still)) ≡ true → straight ≡ true
+    by true true still h = refl
+    by true false still h = h
+    by false straight still h = absurd (false≢true h)
 
 -- nor does a point end there that is no Ud2
 module _ (o : Coded) (n : ℕ) (told : List Place) (same : HaveSamePlaces (told_places_of o) told) (other : is_ud2 (decoded_insn o (point_at o n)).op ≡ false) (here : is_among told (point_at o n).place ≡ false) (behind : is_among told (end_of o n) ≡ false) where

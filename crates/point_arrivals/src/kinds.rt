@@ -63,7 +63,7 @@ pub(crate) fn list_kinds(
     let told = lists.told_places(alloc)?;
     let mut kinds = Vec::with_capacity(alloc, count as usize)?;
     for n in 0..count {
-        kinds.push(kind_of(lists, &told, n))?;
+        kinds.push_reserved(kind_of(lists, &told, n));
     }
     Ok(kinds)
 }

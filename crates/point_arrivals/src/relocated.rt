@@ -29,6 +29,7 @@ fn has_stack_offset(op: Op) -> bool
 }
 
 /// Whether a relocation of any type but 0 begins at one of so many bytes of a point, where they stand.
+#[inline(never)]
 fn is_relocated_at(places: &PointPlaces<'_, '_, '_>, n: u32, len: u8) -> bool
     requires { n < length (points_of_object places.now) }
     ensures { result ≡ is_relocated_in places.now.elf (point_at places.now n).place len }

@@ -3,7 +3,7 @@
 ghost use Rattle.std.specs.Prelude.{◌≡◌, ◌<◌, ◌&&◌, length, not};
 ghost use Rattle.flow_defs.specs.Arrival.{decoded_insn};
 ghost use Rattle.flow_defs.specs.Code.{alternatives_of, is_plain, plain_point, point_at, points_of_object, same_point};
-ghost use Rattle.flow_defs.specs.Marks.{has_relocated_offset as has_relocated_offset_at};
+ghost use Rattle.flow_defs.specs.Marks.{has_relocated_offset as has_relocated_offset_at, has_stack_offset as has_stack_offset_op};
 ghost use Rattle.object_points.specs.Places.{HaveSamePlaces};
 ghost use Rattle.point_arrivals.specs.Lists.{original_places_of};
 ghost use Rattle.point_arrivals.specs.Low.{AreLow};
@@ -37,6 +37,33 @@ fn is_straight_op(op: Op) -> bool
     }
 }
 
+/// Whether an operation is straight, and none by a number of the stack.
+#[inline(always)]
+fn is_straight_without_offset(op: Op) -> bool
+    ensures { result ≡ (is_straight_operation op && not (has_stack_offset_op op)) }
+{
+    match op {
+        Op::Plain
+        | Op::Nop
+        | Op::Endbr
+        | Op::Push
+        | Op::PushBp
+        | Op::Pop
+        | Op::PopBp
+        | Op::Popf
+        | Op::Leave
+        | Op::SpOther
+        | Op::BpOther
+        | Op::IretNext
+        | Op::Int3
+        | Op::Stac
+        | Op::Clac
+        | Op::SubSp
+        | Op::SpReg => true,
+        _ => false,
+    }
+}
+
 /// Whether a point is the plain one at a place.
 #[inline(always)]
 fn is_plain_at(point: Point, place: Place) -> bool
@@ -48,10 +75,12 @@ fn is_plain_at(point: Point, place: Place) -> bool
 /// Whether the point with the next number is the plain one at a place.
 #[inline(always)]
 fn is_next_at(places: &PointPlaces<'_, '_, '_>, n: u32, place: Place) -> bool
+    requires { n < length (points_of_object places.now) }
     ensures { result ≡ is_next_point_at places.now n place }
 {
     let count = places.linked().sites().point_count();
-    n < count && n + 1 < count && is_plain_at(places.point(n + 1), place)
+    let next = n + 1;
+    next < count && is_plain_at(places.point(next), place)
 }
 
 /// Whether the operation of a point is straight, and no relocation changes a number of the stack there.
@@ -61,6 +90,9 @@ fn is_decoded_straight(places: &PointPlaces<'_, '_, '_>, n: u32) -> bool
     ensures { let p = point_at places.now n in result ≡ (is_straight_operation (decoded_insn places.now p).op && not (has_relocated_offset_at places.now p (decoded_insn places.now p))) }
 {
     let insn = places.decoded_insn(n);
+    if is_straight_without_offset(insn.op) {
+        return true;
+    }
     is_straight_op(insn.op) && !has_relocated_offset(places, n, insn)
 }
 
