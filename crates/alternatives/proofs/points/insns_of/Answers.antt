@@ -15,7 +15,7 @@ loop-point-preserved c = elim c.match-insn_of_point.branch [
       let before : List Insn = c.loop-point.insns in
       let some : Insn → Option Insn = λ insn. Some insn in
       let last : of (get_or points i c.point-item.result) ≡ Some w.in-Some.insn =
-        ap of (sym (c.point.ensures ∙ c.point-item.is)) ∙ sym c.insn_of_point.ensures ∙ w.in-Some.is in
+      ap of (sym (c.point.ensures ∙ c.point-item.is)) ∙ sym c.insn_of_point.ensures ∙ w.in-Some.is in
       ap (map some) (w.insns-is ∙ w.in_ok-push.ensures)
       ∙ map-append some before (w.in-Some.insn ∷ [])
       ∙ ap (λ insns. insns ++ Some w.in-Some.insn ∷ []) c.loop-point.invariant
