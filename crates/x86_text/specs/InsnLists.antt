@@ -2,8 +2,6 @@
 use Rattle.std.specs.Prelude.{ℕ, ◌<◌, List, length, map, slice_index_or, All}
 use Rattle.operation_defs.specs.declared.insn.Insn.{Insn}
 use Rattle.operation_defs.specs.declared.op.Op.TheVariants.{Plain}
-use Rattle.x86_text.specs.declared.known.Known.{Known}
-use Rattle.x86_text.specs.Known.{AreSpellings}
 
 -- the one with this number among these; where there is none, any
 abbrev pub kind_of : List Insn → ℕ → Insn
@@ -16,8 +14,3 @@ insns_numbered kinds numbers = map (kind_of kinds) numbers
 -- there is one with each of these numbers
 abbrev pub AreNumbers : List Insn → List ℕ → Type 0
 AreNumbers kinds numbers = All (λ n. n < length kinds) numbers
-
--- there is one with each of these numbers, and what is known of spellings is true of them
-pub record IsInsnList (kinds : List Insn) (numbers : List ℕ) (known : Known) : Type 0 where
-  pub numbered : AreNumbers kinds numbers
-  pub spelled : AreSpellings kinds known

@@ -8,6 +8,7 @@ ghost use Rattle.x86_text.specs.declared.fault.TextFault.TheVariants.{NoMemory};
 
 use crate::fault::TextFault;
 use crate::insn_list::InsnList;
+use crate::known::{Known, read_insn};
 use crate::placed::PlacedInsn;
 use operation_defs::{Insn, Op};
 use std::alloc::Global;
@@ -53,10 +54,10 @@ impl<'a> Text<'a> {
     {
         let mut offsets = Vec::new(alloc);
         let mut table_jumps = Vec::new(alloc);
-        insns.make_room(alloc, map, body.len())?;
+        let mut known = Known::new(alloc, body.len())?;
         let mut off = 0usize;
         while off < body.len() {
-            let insn = insns.read(map, body, off)?;
+            let insn = read_insn(map, body, off, &mut known, insns)?;
             offsets.push(off as u32)?;
             push_table_jump(&mut table_jumps, off as u64, insn)?;
             off += insn.len as usize;
